@@ -1,0 +1,46 @@
+-- Equality of documents, a part further on.
+use Rattle.std.proofs.Common.{◌≡◌, ℕ, ◌==◌, suc, ◌+◌, ◌<◌, ◌≤◌, Bool, true, false, ◌&&◌, List, [], ◌∷◌, length, get_or, drop, String, Global, string_bytes, bytes_eq, refl, sym, ap, ap₂, ◌∙◌}
+use Rattle.std.proofs.lemmas.List.{drop_more, drop_all}
+use Rattle.std.proofs.lemmas.Bool.{and_right}
+use Rattle.js_doc.specs.Coding.{to_text, to_items, to_members}
+use Rattle.js_doc.specs.Equality.{same, same_tree}
+use Rattle.js_doc.specs.Seen.{value_of, items_of, members_of}
+use Rattle.js_doc.specs.declared.doc.Doc.{Doc}
+
+pub same_text : (s t : List ℕ) → same_tree (to_text s) (to_text t) ≡ bytes_eq s t
+same_text [] [] = refl
+same_text [] (y ∷ t) = refl
+same_text (x ∷ s) [] = refl
+same_text (x ∷ s) (y ∷ t) = ap (λ b. (x == y) && b) (same_text s t)
+
+abbrev pub SameItems : List Doc → List Doc → Bool
+SameItems a b = same_tree (to_items (items_of a)) (to_items (items_of b))
+
+pub items_apart : (a b : List Doc) → (length a ≡ length b → ⊥) → false ≡ SameItems a b
+items_apart [] [] h = absurd (h refl)
+items_apart [] (y ∷ b) h = refl
+items_apart (x ∷ a) [] h = refl
+items_apart (x ∷ a) (y ∷ b) h = sym (and_right (same (value_of x) (value_of y)) (SameItems a b) (sym (items_apart a b (λ e. h (ap suc e)))))
+
+items_head : (x y : Doc) (a b : List Doc) (r : Bool) → same (value_of x) (value_of y) ≡ r → SameItems (x ∷ a) (y ∷ b) ≡ r && SameItems a b
+items_head x y a b r e = ap (λ c. c && SameItems a b) e
+
+-- the items at i decide, or those after them
+pub items_step : (a b : List Doc) (i : ℕ) (x y : Doc) (r : Bool) → i < length a → i < length b → get_or a i x ≡ x → get_or b i y ≡ y → same (value_of x) (value_of y) ≡ r
+    → SameItems (drop i a) (drop i b) ≡ r && SameItems (drop (i + 1) a) (drop (i + 1) b)
+items_step a b i x y r p q e f h =
+    ap₂ SameItems (drop_more a i x p ∙ ap (λ z. z ∷ drop (i + 1) a) e) (drop_more b i y q ∙ ap (λ z. z ∷ drop (i + 1) b) f) ∙ items_head x y (drop (i + 1) a) (drop (i + 1) b) r h
+
+pub items_end : (a b : List Doc) (i : ℕ) → length a ≤ i → length b ≤ i → SameItems (drop i a) (drop i b) ≡ true
+items_end a b i p q = ap₂ SameItems (drop_all i a p) (drop_all i b q)
+
+abbrev pub Entry : Type 0
+Entry = String Global × Doc
+
+abbrev pub SameEntries : List Entry → List Entry → Bool
+SameEntries a b = same_tree (to_members (members_of a)) (to_members (members_of b))
+
+-- the entries at the front decide, or those after them
+pub entries_step : (x y : Entry) (a b : List Entry) (r s : Bool) → bytes_eq (string_bytes x.0) (string_bytes y.0) ≡ r → same (value_of x.1) (value_of y.1) ≡ s
+    → SameEntries (x ∷ a) (y ∷ b) ≡ (r && s) && SameEntries a b
+entries_step x y a b r s e f = ap (λ c. c && SameEntries a b) (ap₂ (λ c d. c && d) (same_text (string_bytes x.0) (string_bytes y.0) ∙ e) f)

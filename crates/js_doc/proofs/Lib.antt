@@ -1,0 +1,10 @@
+pub mod Entries
+pub mod Alike
+pub mod Escapes
+pub mod Finding
+pub mod Ascending
+pub mod PointerTexts
+pub mod TextBytes
+pub mod FragmentBytes
+pub mod Named
+pub mod Smaller

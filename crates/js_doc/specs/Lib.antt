@@ -1,0 +1,15 @@
+pub mod Value
+pub mod Nesting
+pub mod Coding
+pub mod Whole
+pub mod Members
+pub mod Seen
+pub mod Falls
+pub mod Equality
+pub mod Pointer
+pub mod PointerReading
+pub mod Fragment
+pub mod Lookup
+pub mod Compact
+pub mod WholeNumbers
+pub mod Reading

@@ -1,0 +1,18 @@
+-- The tokens that a pointer's text is read as, byte by byte: None where it is no pointer's text.
+use Rattle.std.specs.Prelude.{ℕ, Bool, true, false, Option, Some, None, option_map, List, [], ◌∷◌, ◌++◌, if◌then◌else◌, ◌==◌}
+use Rattle.js_doc.specs.Pointer.{Tokens}
+
+-- after a `/`: the first token goes on from what was read of it; `tilde`: a `~` was read last
+abbrev pub tokens_of : Bool → List ℕ → List ℕ → Option Tokens
+tokens_of true token [] = None
+tokens_of false token [] = Some (token ∷ [])
+tokens_of true token (b ∷ bs) =
+    if b == 48 then tokens_of false (token ++ 126 ∷ []) bs else (if b == 49 then tokens_of false (token ++ 47 ∷ []) bs else None)
+tokens_of false token (b ∷ bs) =
+    if b == 126
+    then tokens_of true token bs
+    else (if b == 47 then option_map (λ p. token ∷ p) (tokens_of false [] bs) else tokens_of false (token ++ b ∷ []) bs)
+
+abbrev pub pointer_of : List ℕ → Option Tokens
+pointer_of [] = Some []
+pointer_of (b ∷ bs) = if b == 47 then tokens_of false [] bs else None

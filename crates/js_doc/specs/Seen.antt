@@ -1,0 +1,23 @@
+-- The value that a document is, and the parts of it.
+use Rattle.std.specs.Prelude.{ℕ, List, map, String, string_bytes}
+use Rattle.std.specs.declared.alloc.Global.{Global}
+use Rattle.js_doc.specs.Value.{Value, null, truth, whole, text, list, object, Items, Members, items, members}
+use Rattle.js_doc.specs.declared.doc.Doc.{Doc}
+use Rattle.js_doc.specs.declared.doc.Doc.TheVariants as doc
+
+abbrev pub value_of : Doc → Value
+value_of doc.Null = null
+value_of (doc.Truth b) = truth b
+value_of (doc.Whole w) = whole w
+value_of (doc.Text s) = text s
+value_of (doc.List vs) = list (items vs)
+value_of (doc.Members ms) = object (members ms)
+
+abbrev pub pair_of : String Global × Doc → List ℕ × Value
+pair_of e = (string_bytes e.0, value_of e.1)
+
+abbrev pub items_of : List Doc → Items
+items_of ds = items (map value_of ds)
+
+abbrev pub members_of : List (String Global × Doc) → Members
+members_of es = members (map pair_of es)

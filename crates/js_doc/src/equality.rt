@@ -1,0 +1,99 @@
+//! Equality of values (JSON Schema Core, section 4.2.2).
+ghost use Rattle.std.specs.Prelude.{◌≡◌, ◌↔◌, IsTrue};
+ghost use Rattle.js_doc.specs.Coding.{to_items, to_members};
+ghost use Rattle.js_doc.specs.Equality.{same, same_tree};
+ghost use Rattle.js_doc.specs.Seen.{value_of, items_of, members_of};
+
+use crate::doc::Doc;
+use std::collections::BTreeMap;
+
+impl PartialEq for Doc {
+    ghost use Rattle.js_doc.specs.Equality.{same, same-equivalence};
+    ghost use Rattle.js_doc.specs.Seen.{value_of};
+    ghost use Rattle.std.specs.Cmp.{partial_equiv_from_equiv, on_equiv};
+
+    ghost eq = { λ a b. same (value_of a) (value_of b) };
+
+    ghost laws = { partial_equiv_from_equiv (on_equiv value_of same-equivalence) };
+
+    /// Whether the values are equal. It takes no memory.
+    fn eq(&self, other: &Doc) -> bool
+        ensures value { result ≡ same (value_of self.now) (value_of other.now) }
+        ensures exact { IsTrue result ↔ (value_of self.now ≡ value_of other.now) }
+    {
+        equal(self, other)
+    }
+}
+
+impl Eq for Doc {
+    ghost use Rattle.js_doc.specs.Equality.{same-equivalence};
+    ghost use Rattle.js_doc.specs.Seen.{value_of};
+    ghost use Rattle.std.specs.Cmp.{on_equiv};
+
+    ghost laws = { on_equiv value_of same-equivalence };
+}
+
+#[cycle(equal)]
+fn equal(a: &Doc, b: &Doc) -> bool
+    ensures { result ≡ same (value_of a.now) (value_of b.now) }
+{
+    match a {
+        Doc::Null => matches!(b, Doc::Null),
+        Doc::Truth(x) => if let Doc::Truth(y) = b { x == y } else { false },
+        Doc::Whole(x) => if let Doc::Whole(y) = b {
+            x.value() == y.value()
+        } else {
+            false
+        },
+        Doc::Text(x) => if let Doc::Text(y) = b {
+            x.as_str() == y.as_str()
+        } else {
+            false
+        },
+        Doc::List(x) => if let Doc::List(y) = b {
+            equal_items(x.items.as_slice(), y.items.as_slice())
+        } else {
+            false
+        },
+        Doc::Members(x) => if let Doc::Members(y) = b {
+            equal_entries(&x.entries, &y.entries)
+        } else {
+            false
+        },
+    }
+}
+
+#[cycle(equal)]
+fn equal_items(a: &[Doc], b: &[Doc]) -> bool
+    ensures { result ≡ same_tree (to_items (items_of a.now)) (to_items (items_of b.now)) }
+{
+    if a.len() != b.len() {
+        return false;
+    }
+    for i in 0..a.len() {
+        if !equal(&a[i], &b[i]) {
+            return false;
+        }
+    }
+    true
+}
+
+#[cycle(equal)]
+fn equal_entries(a: &BTreeMap<String, Doc>, b: &BTreeMap<String, Doc>) -> bool
+    ensures { result
+        ≡ same_tree (to_members (members_of a.now.entries)) (to_members (members_of b.now.entries)) }
+{
+    let mut others = b.iter();
+    for (name, x) in a.iter() {
+        let Some((other_name, y)) = others.next() else {
+            return false;
+        };
+        if name != other_name {
+            return false;
+        }
+        if !equal(x, y) {
+            return false;
+        }
+    }
+    others.next().is_none()
+}

@@ -1,0 +1,72 @@
+ghost use Rattle.std.specs.Prelude.{◌≡◌, ◌↔◌, [], IsTrue, map, length};
+
+use crate::doc::Doc;
+use std::marker::Model;
+
+/// The items of an array, in order (RFC 8259, section 5).
+#[cycle(doc)]
+#[derive(Debug, Drop)]
+pub struct Items {
+    pub(crate) items: Vec<Doc>,
+}
+
+impl Model for Items {
+    ghost use Rattle.std.specs.Prelude.{map};
+    ghost use Rattle.js_doc.specs.Value.{Values};
+    ghost use Rattle.js_doc.specs.Nesting.{values_depth};
+    ghost use Rattle.js_doc.specs.Coding.{values_code};
+
+    ghost Value = { Values };
+
+    ghost coded = { values_code };
+
+    ghost use Rattle.js_doc.specs.Seen.{value_of};
+
+    ghost view = { λ l. map value_of l.items.items };
+
+    ghost size = { values_depth };
+
+    ghost use Rattle.js_doc.specs.Falls.{items_fall};
+
+    ghost size_decreases = { λ l h. items_fall l.items.items };
+}
+
+impl Items {
+    ghost use Rattle.js_doc.specs.Seen.{value_of};
+
+    /// The items of a vector.
+    pub fn new(items: Vec<Doc>) -> Items
+        ensures { result ≡ map value_of items.items }
+    {
+        Items { items }
+    }
+
+    /// How many items there are.
+    pub fn len(&self) -> usize
+        ensures { result ≡ length self.now }
+    {
+        self.items.len()
+    }
+
+    /// Whether there is no item.
+    pub fn is_empty(&self) -> bool
+        ensures { IsTrue result ↔ (self.now ≡ []) }
+    {
+        self.items.is_empty()
+    }
+
+    /// The items, lent.
+    pub fn as_slice(&self) -> &[Doc]
+        ensures { map value_of result.now ≡ self.now }
+    {
+        self.items.as_slice()
+    }
+
+    /// The vector that the items were made from.
+    pub fn into_vec(self) -> Vec<Doc>
+        ensures { map value_of result.items ≡ self }
+    {
+        let Items { items: vector } = self;
+        vector
+    }
+}

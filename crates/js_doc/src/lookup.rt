@@ -1,0 +1,61 @@
+//! What stands at a pointer in a value (RFC 6901, section 4).
+ghost use Rattle.std.specs.Prelude.{◌≡◌, ℕ, ◌<◌, ◌^◌, None, IfSome, option_map, decimal};
+ghost use Rattle.js_doc.specs.Seen.{value_of, items_of};
+ghost use Rattle.js_doc.specs.Lookup.{at, below, item_named};
+
+use crate::doc::Doc;
+use crate::pointer::Pointer;
+
+impl Doc {
+    /// The value that stands at the pointer, or None where none does. A token names an item by its index in
+    /// plain decimals, without a leading zero; `-` names none. It takes no memory.
+    pub fn at(&self, pointer: &Pointer) -> Option<&Doc>
+        ensures { option_map (λ d. value_of d.now) result ≡ at pointer.now (value_of self.now) }
+    {
+        let mut here = self;
+        for token in pointer.tokens() {
+            match below(here, token.as_str()) {
+                Some(doc) => here = doc,
+                None => return None,
+            }
+        }
+        Some(here)
+    }
+}
+
+// What stands one token further.
+fn below<'a>(doc: &'a Doc, token: &str) -> Option<&'a Doc>
+    ensures { option_map (λ d. value_of d.now) result ≡ below token.now (value_of doc.now) }
+{
+    match doc {
+        Doc::List(items) => item(items.items.as_slice(), token),
+        Doc::Members(members) => members.get(token),
+        _ => None,
+    }
+}
+
+fn item<'a>(docs: &'a [Doc], token: &str) -> Option<&'a Doc>
+    ensures { option_map (λ d. value_of d.now) result ≡ item_named token.now 0 (items_of docs.now) }
+{
+    let Some(n) = index(token) else {
+        return None;
+    };
+    if n < docs.len() { Some(&docs[n]) } else { None }
+}
+
+// The index that the token is in plain decimals.
+fn index(token: &str) -> Option<usize>
+    ensures some { IfSome result (λ n. token.now ≡ decimal n) }
+    ensures none { result ≡ None → (n : ℕ) → n < 2 ^ 64 → ¬ (token.now ≡ decimal n) }
+{
+    let n: usize = match token.parse() {
+        Ok(n) => n,
+        Err(_) => return None,
+    };
+    let mut buffer = itoa::Buffer::new();
+    if buffer.format(n) == token {
+        Some(n)
+    } else {
+        None
+    }
+}

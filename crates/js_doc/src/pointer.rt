@@ -1,0 +1,119 @@
+//! JSON Pointers (RFC 6901).
+ghost use Rattle.std.specs.Prelude.{◌≡◌, [], ◌∷◌, ◌++◌, OnOk, OnErr, IfOk, string_bytes};
+ghost use Rattle.js_doc.specs.Pointer.{escape, pointer_text};
+
+use crate::memory::Memory;
+use crate::string::Text;
+use std::alloc::Global;
+use std::marker::Model;
+
+/// A place in a value: the tokens on the way to it, from the root on. A token is a member's name, or an
+/// item's index in plain decimals. Contracts see it as the list of its tokens.
+#[derive(Debug, Drop)]
+pub struct Pointer {
+    tokens: Vec<Text>,
+}
+
+impl Model for Pointer {
+    ghost use Rattle.js_doc.specs.Pointer.{Tokens};
+
+    ghost Value = { Tokens };
+
+    ghost view = { λ p. p.tokens.items };
+}
+
+impl Pointer {
+    /// The pointer to the root. `push` takes its memory from `alloc`.
+    pub fn new(alloc: Global) -> Pointer
+        ensures { result ≡ [] }
+    {
+        Pointer {
+            tokens: Vec::new(alloc),
+        }
+    }
+
+    /// Goes one token further.
+    ///
+    /// # Errors
+    /// `Memory`; then the pointer is as it was.
+    pub fn push(&mut self, token: &str) -> Result<(), Memory>
+        ensures ok { OnOk result (self.new ≡ self.old ++ token.now ∷ []) }
+        ensures err { OnErr result (self.new ≡ self.old) }
+    {
+        let token = String::from_str(*self.tokens.allocator(), token)?;
+        self.push_token(Text::new(token))
+    }
+
+    pub(crate) fn push_token(&mut self, token: Text) -> Result<(), Memory>
+        ensures ok { OnOk result (self.new ≡ self.old ++ token ∷ []) }
+        ensures err { OnErr result (self.new ≡ self.old) }
+    {
+        self.tokens.push(token)?;
+        Ok(())
+    }
+
+    // Puts a token before the others.
+    pub(crate) fn prepend(&mut self, token: Text) -> Result<(), Memory>
+        ensures ok { OnOk result (self.new ≡ token ∷ self.old) }
+        ensures err { OnErr result (self.new ≡ self.old) }
+    {
+        self.tokens.insert(0, token)?;
+        Ok(())
+    }
+
+    /// The tokens, in order from the root on.
+    pub fn tokens(&self) -> &[Text]
+        ensures { result.now ≡ self.now }
+    {
+        self.tokens.as_slice()
+    }
+
+    /// The pointer's text: each token after a `/`, with `~` written `~0` and `/` written `~1`
+    /// (RFC 6901, section 3).
+    ///
+    /// # Errors
+    /// `Memory`.
+    pub fn text(&self, alloc: Global) -> Result<String, Memory>
+        ensures { IfOk result (λ s. string_bytes s ≡ pointer_text self.now) }
+    {
+        let mut text = String::new(alloc);
+        for token in self.tokens() {
+            text.push('/')?;
+            push_escaped(&mut text, token.as_str())?;
+        }
+        Ok(text)
+    }
+}
+
+fn push_escaped(out: &mut String, token: &str) -> Result<(), Memory>
+    ensures { OnOk result (string_bytes out.new ≡ string_bytes out.old ++ escape token.now) }
+{
+    for c in token.chars() {
+        match c {
+            '~' => out.push_str("~0")?,
+            '/' => out.push_str("~1")?,
+            _ => out.push(c)?,
+        }
+    }
+    Ok(())
+}
+
+impl PartialEq for Pointer {
+    ghost use Rattle.std.specs.Prelude.{nat_eq};
+    ghost use Rattle.std.specs.Cmp.{partial_equiv_from_equiv};
+    ghost use Rattle.std.specs.Cmp.Lexicographic.{pointwise, lists_equiv, nat_list_eq_equiv};
+
+    ghost eq = { pointwise (pointwise nat_eq) };
+
+    ghost laws = { partial_equiv_from_equiv (lists_equiv nat_list_eq_equiv) };
+
+    fn eq(&self, other: &Pointer) -> bool {
+        self.tokens == other.tokens
+    }
+}
+
+impl Eq for Pointer {
+    ghost use Rattle.std.specs.Cmp.Lexicographic.{lists_equiv, nat_list_eq_equiv};
+
+    ghost laws = { lists_equiv nat_list_eq_equiv };
+}
