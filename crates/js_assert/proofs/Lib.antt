@@ -1,0 +1,9 @@
+pub mod Named
+pub mod Names
+pub mod Repeated
+pub mod Sorted
+pub mod TypeForms
+pub mod EqualPairs
+pub mod Compiled
+pub mod Dependent
+pub mod Listed

@@ -1,0 +1,51 @@
+-- A name that is none of the keywords'.
+use Rattle.std.proofs.Common.{codes, ◌≡◌, ℕ, List, [], ◌∷◌, Bool, true, false, cond, Some, None, refl, sym, ap, ◌∙◌}
+use Rattle.std.specs.List.{AllByRecursion}
+use Rattle.std.specs.Str.{bytes_eq}
+use Rattle.std.proofs.lemmas.Slice.Eq.{bytes_eq-Decides}
+use Rattle.js_doc.specs.Value.{Value}
+use Rattle.js_assert.specs.Keyword.{Row, keywords, row_named, keyword_named}
+use Rattle.js_assert.specs.Form.{IsFaultOf, IsKeywordFault}
+use Rattle.js_assert.specs.declared.fault.KeywordFault.{KeywordFault}
+use Rattle.js_assert.specs.declared.fault.KeywordFault.TheVariants.{Memory, BadKeyword, NotAPattern, PatternTooLarge}
+use Rattle.js_assert.specs.declared.keyword.Keyword.{Keyword}
+use Rattle.js_assert.specs.declared.keyword.Keyword.TheVariants.{Pattern}
+
+not_true : (b : Bool) → (b ≡ true → ⊥) → b ≡ false
+not_true true h = absurd (h refl)
+not_true false h = refl
+
+none_named : (rows : List Row) (name : List ℕ) → AllByRecursion (λ row. name ≡ row.0 → ⊥) rows → None ≡ row_named rows name
+none_named [] name h = refl
+none_named (row ∷ rows) name h =
+    let apart : bytes_eq name row.0 ≡ false = not_true (bytes_eq name row.0) (λ e. h.0 ((bytes_eq-Decides name row.0).0 e)) in
+    none_named rows name h.1 ∙ sym (ap (λ b. cond b (Some row.1) (row_named rows name)) apart)
+
+pub other_name : (name : List ℕ) → AllByRecursion (λ row. name ≡ row.0 → ⊥) keywords → None ≡ keyword_named name
+unfolding keyword_named
+other_name name h = none_named keywords name h
+
+-- ---- the keyword `pattern`
+
+pattern_in : (rows : List Row) (name : List ℕ) → AllByRecursion (λ row. row.1 ≡ Pattern → row.0 ≡ codes "pattern") rows → row_named rows name ≡ Some Pattern → name ≡ codes "pattern"
+pattern_in [] name h e = absurd (cc)
+pattern_in (row ∷ rows) name h e = at _ refl (pattern_in rows name h.1) where
+  at : (b : Bool) → bytes_eq name row.0 ≡ b → (row_named rows name ≡ Some Pattern → name ≡ codes "pattern") → name ≡ codes "pattern"
+  at true is later = (bytes_eq-Decides name row.0).0 is ∙ h.0 (let f : Some row.1 ≡ Some Pattern = rw is at e in cc)
+  at false is later = later (rw is at e)
+
+pub pattern-named : (name : List ℕ) → keyword_named name ≡ Some Pattern → name ≡ codes "pattern"
+unfolding keyword_named
+pattern-named name e = pattern_in keywords name
+    (λ e. absurd (cc), (λ e. absurd (cc), (λ e. absurd (cc), (λ e. absurd (cc), (λ e. absurd (cc), (λ e. absurd (cc), (λ e. absurd (cc), (λ e. absurd (cc), (λ e. absurd (cc), (λ e. absurd (cc), (λ e. refl, (λ e. absurd (cc), (λ e. absurd (cc), (λ e. absurd (cc), (λ e. absurd (cc), (λ e. absurd (cc), (λ e. absurd (cc), (λ e. absurd (cc), (λ e. absurd (cc), (λ e. absurd (cc), tt))))))))))))))))))))
+    e
+
+pub named-pattern : keyword_named (codes "pattern") ≡ Some Pattern
+unfolding keyword_named
+named-pattern = refl
+
+pub fault-by_name : (name : List ℕ) (argument : Value) (k : Keyword) (f : KeywordFault) → keyword_named name ≡ Some k → IsFaultOf k argument f → IsKeywordFault name argument f
+fault-by_name name argument k Memory e h = tt
+fault-by_name name argument k BadKeyword e h = rw e h
+fault-by_name name argument k NotAPattern e h = (pattern-named name (e ∙ ap Some h.0), rw (e, h.0) h.1, h.2)
+fault-by_name name argument k PatternTooLarge e h = (pattern-named name (e ∙ ap Some h.0), rw (e, h.0) h.1, h.2)

@@ -1,0 +1,10 @@
+pub mod Keyword
+pub mod Argument
+pub mod Pattern
+pub mod Assertion
+pub mod Form
+pub mod ErrorText
+pub mod Names
+pub mod Types
+pub mod Dependences
+pub mod Seen

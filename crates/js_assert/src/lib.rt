@@ -1,0 +1,23 @@
+//! The keywords of JSON Schema that judge a value by themselves (Validation, section 6), and patterns.
+#![tactic(auto)]
+
+mod any_type;
+mod arrays;
+mod assertion;
+mod error_text;
+mod fault;
+mod form;
+mod instance_type;
+mod keyword;
+mod numbers;
+mod objects;
+mod pattern;
+mod reading;
+mod strings;
+#[cfg(test)]
+mod tests;
+mod unique;
+
+pub use assertion::Assertion;
+pub use fault::KeywordFault;
+pub use pattern::{Pattern, PatternFault};

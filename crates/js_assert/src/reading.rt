@@ -1,0 +1,42 @@
+//! A keyword's argument, read into what the keyword tests.
+ghost use Rattle.std.specs.Prelude.{IfOk, IfErr};
+ghost use Rattle.js_doc.specs.Seen.{value_of};
+ghost use Rattle.js_assert.specs.Form.{IsFaultOf};
+ghost use Rattle.js_assert.specs.Seen.{IsReadAs};
+
+use crate::assertion::Test;
+use crate::fault::KeywordFault;
+use crate::form;
+use crate::keyword::Keyword;
+use js_doc::Doc;
+use std::alloc::Global;
+
+pub(crate) fn test_of(alloc: Global, keyword: Keyword, argument: &Doc) -> Result<Test, KeywordFault>
+    ensures ok { IfOk result (IsReadAs keyword (value_of argument.now)) }
+    ensures refused { IfErr result (IsFaultOf keyword (value_of argument.now)) }
+{
+    match keyword {
+        Keyword::Type => Ok(Test::Type(form::types(alloc, argument)?)),
+        Keyword::Enum => Ok(Test::Enum(form::documents(alloc, argument)?)),
+        Keyword::Const => Ok(Test::Const(form::constant(alloc, argument)?)),
+        Keyword::MultipleOf => Ok(Test::MultipleOf(form::divisor(argument)?)),
+        Keyword::Maximum => Ok(Test::Maximum(form::number(argument)?)),
+        Keyword::ExclusiveMaximum => Ok(Test::ExclusiveMaximum(form::number(argument)?)),
+        Keyword::Minimum => Ok(Test::Minimum(form::number(argument)?)),
+        Keyword::ExclusiveMinimum => Ok(Test::ExclusiveMinimum(form::number(argument)?)),
+        Keyword::MaxLength => Ok(Test::MaxLength(form::count(argument)?)),
+        Keyword::MinLength => Ok(Test::MinLength(form::count(argument)?)),
+        Keyword::Pattern => Ok(Test::Pattern(form::pattern(alloc, argument)?)),
+        Keyword::MaxItems => Ok(Test::MaxItems(form::count(argument)?)),
+        Keyword::MinItems => Ok(Test::MinItems(form::count(argument)?)),
+        Keyword::UniqueItems => Ok(Test::UniqueItems(form::flag(argument)?)),
+        Keyword::MaxContains => Ok(Test::MaxContains(form::count(argument)?)),
+        Keyword::MinContains => Ok(Test::MinContains(form::count(argument)?)),
+        Keyword::MaxProperties => Ok(Test::MaxProperties(form::count(argument)?)),
+        Keyword::MinProperties => Ok(Test::MinProperties(form::count(argument)?)),
+        Keyword::Required => Ok(Test::Required(form::names(alloc, argument)?)),
+        Keyword::DependentRequired => {
+            Ok(Test::DependentRequired(form::dependences(alloc, argument)?))
+        }
+    }
+}
