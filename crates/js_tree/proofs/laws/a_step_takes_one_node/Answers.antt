@@ -1,0 +1,7 @@
+use Rattle.std.proofs.Common.{sym}
+use Rattle.js_tree.specs.Result.{noted}
+use Rattle.js_tree.proofs.Steps.{step_takes_one}
+use Rattle.js_tree.proofs.laws.a_step_takes_one_node.Goals as goal
+
+pub returns : goal.returns
+returns c = λ t u s. sym (step_takes_one noted s.1)

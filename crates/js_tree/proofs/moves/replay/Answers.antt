@@ -1,0 +1,33 @@
+use Rattle.std.proofs.Common.{◌≡◌, ◌∙◌, ◌<◌, ◌≤◌, sym, ap, Some, length, arith}
+use Rattle.std.proofs.lemmas.List.{take_all}
+use Rattle.js_tree.specs.Result.{noted, replayed}
+use Rattle.js_tree.specs.declared.moves.Rule.TheVariants.{Drop}
+use Rattle.js_tree.specs.declared.moves.Move.{Move}
+use Rattle.js_tree.proofs.MovesAreSteps.{replayed_normal, replayed_length, replayed_more}
+use Rattle.js_tree.proofs.moves.replay.Goals as goal
+use Rattle.js_tree.proofs.moves.replay.Goals.{After-loop-i}
+
+-- the move that a goal names past the end of the moves
+no_move : Move
+no_move = record { rule = Drop; position = 0 }
+
+pub returns-in-Err-clause-run : goal.returns-in-Err-clause-run
+unfolding no_move
+returns-in-Err-clause-run c =
+    let h : c.loop-i.i < length c.args.moves.now = omega arith in
+    (h, c.loop-i.invariant ∙ ap Some (sym c.in-Err.ensures.moved.1), replayed_more noted c.args.moves.now c.loop-i.i no_move c.args.tree c.loop-i.tree h c.loop-i.invariant ∙ c.in-Err.ensures.moved.0)
+
+pub loop-i-preserved : goal.loop-i-preserved
+unfolding no_move
+loop-i-preserved c =
+    let h : c.loop-i.i < length c.args.moves.now = omega arith in
+    replayed_more noted c.args.moves.now c.loop-i.i no_move c.args.tree c.loop-i.tree h c.loop-i.invariant ∙ c.in-Ok.ensures.moved
+
+whole : (c : After-loop-i) → replayed c.args.moves.now c.args.tree ≡ Some c.loop-i.tree
+whole c = let l : length c.args.moves.now ≤ c.loop-i.i = omega arith in rw (take_all c.loop-i.i c.args.moves.now l) at c.loop-i.invariant
+
+pub returns-clause-one_normal_form : goal.returns-clause-one_normal_form
+returns-clause-one_normal_form c = λ n. replayed_normal noted c.args.moves.now c.args.tree c.loop-i.tree (whole c) n
+
+pub returns-clause-length : goal.returns-clause-length
+returns-clause-length c = replayed_length noted c.args.moves.now c.args.tree c.loop-i.tree (whole c)

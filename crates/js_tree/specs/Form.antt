@@ -1,0 +1,83 @@
+-- The four output formats as JSON values (JSON Schema Core, section 12.4; the members of a node are those of 12.3).
+use Rattle.std.specs.Prelude.{ℕ, pos, Bool, true, false, not, List, [], ◌∷◌, ◌++◌, map, Option, Some, None, codes}
+use Rattle.js_doc.specs.Seen.{value_of}
+use Rattle.js_doc.specs.Value.{Value, truth, whole, text, list, object, items, members}
+use Rattle.js_tree.specs.Forest.{Forest, empty, tree, Rose}
+use Rattle.js_tree.specs.Result.{kept, pruned, units}
+use Rattle.js_tree.specs.declared.forms.Format.{Format}
+use Rattle.js_tree.specs.declared.forms.Format.TheVariants.{Flag, Basic, Detailed, Verbose}
+use Rattle.js_tree.specs.declared.note.Note.{Note}
+use Rattle.js_tree.specs.declared.note.Note.TheVariants as note
+use Rattle.js_tree.specs.declared.unit.Unit.{Unit}
+
+-- ---- notes
+
+abbrev pub error : Note → Option Value
+error (note.Error reason) = Some (text reason)
+error _ = None
+
+abbrev pub annotation : Note → Option Value
+annotation note.Silent = None
+annotation (note.Error reason) = None
+annotation (note.Value value) = Some (value_of value.now)
+annotation (note.Names names) = Some (list (items (map text names)))
+annotation (note.Index index) = Some (whole (pos index))
+annotation (note.Indexes indexes) = Some (list (items (map (λ index. whole (pos index)) indexes)))
+annotation note.Truth = Some (truth true)
+
+-- ---- a node
+
+-- the member, if there is a value
+abbrev pub given : List ℕ → Option Value → List (List ℕ × Value)
+given name None = []
+given name (Some value) = (name, value) ∷ []
+
+-- the value, if the test holds
+abbrev pub when : Bool → Option Value → Option Value
+when true value = value
+when false value = None
+
+-- the values as an array, if there are any
+abbrev pub array_of_some : List Value → Option Value
+array_of_some [] = None
+array_of_some (v ∷ vs) = Some (list (items (v ∷ vs)))
+
+-- a node over the values of its children, which stand under `annotations` where it passes, and under `errors` where it fails
+abbrev pub node : Unit → List Value → Value
+node u children =
+    object (members (
+    (codes "absoluteKeywordLocation", text u.absolute)
+    ∷ (given (codes "annotation") (annotation u.note)
+    ++ (given (codes "annotations") (when u.valid (array_of_some children))
+    ++ (given (codes "error") (error u.note)
+    ++ (given (codes "errors") (when (not u.valid) (array_of_some children))
+    ++ ((codes "instanceLocation", text u.instance) ∷ (codes "keywordLocation", text u.keyword) ∷ (codes "valid", truth u.valid) ∷ [])))))
+    ))
+
+abbrev pub nodes : Forest Unit → List Value
+nodes empty = []
+nodes (tree u below after) = node u (nodes below) ∷ nodes after
+
+-- ---- the formats
+
+-- the root node of the whole tree
+abbrev pub verbose : Rose Unit → Value
+verbose t = node t.root (nodes t.below)
+
+-- the verdict alone
+abbrev pub flag : Bool → Value
+flag valid = object (members ((codes "valid", truth valid) ∷ []))
+
+abbrev pub list_name : Bool → List ℕ
+list_name true = codes "annotations"
+list_name false = codes "errors"
+
+-- the verdict, and the units, each as a node without children, in an array, which is there when empty too
+abbrev pub unit_list : Rose Unit → Value
+unit_list t = object (members ((list_name t.root.valid, list (items (map (λ u. node u []) (units t)))) ∷ (codes "valid", truth t.root.valid) ∷ []))
+
+abbrev pub form : Format → Rose Unit → Value
+form Flag t = flag t.root.valid
+form Basic t = unit_list (pruned t)
+form Detailed t = verbose (kept (pruned t))
+form Verbose t = verbose t

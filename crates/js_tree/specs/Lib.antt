@@ -1,0 +1,11 @@
+pub mod Coding
+pub mod Forest
+pub mod Form
+pub mod Kept
+pub mod Moves
+pub mod Pruned
+pub mod Put
+pub mod Result
+pub mod Search
+pub mod Step
+pub mod Units

@@ -1,0 +1,53 @@
+-- Moves: a rule at a node, which is named by its number in preorder, the root's 0.
+use Rattle.std.specs.Prelude.{ℕ, zero, suc, ◌-◌, Bool, ltb, if◌then◌else◌, List, [], ◌∷◌, Option, Some, None}
+use Rattle.js_tree.specs.Forest.{Forest, empty, tree, Rose, node_count}
+use Rattle.js_tree.specs.declared.moves.Rule.{Rule}
+use Rattle.js_tree.specs.declared.moves.Rule.TheVariants.{Drop, Lift}
+use Rattle.js_tree.specs.declared.moves.Move.{Move}
+
+module _ {A B : Type 0} where
+  abbrev pub mapped : (A → B) → Option A → Option B
+  mapped f None = None
+  mapped f (Some x) = Some (f x)
+
+  abbrev pub chained : (A → Option B) → Option A → Option B
+  chained f None = None
+  chained f (Some x) = f x
+
+module _ {A : Type 0} (noted : A → Bool) where
+  -- without the first node, if it is a leaf without a note
+  abbrev pub without_leaf : A → Forest A → Forest A → Option (Forest A)
+  without_leaf a empty after = if noted a then None else Some after
+  without_leaf a (tree b below others) after = None
+
+  -- with its only child in the first node's place, if that has no note
+  abbrev pub with_only_child : A → Forest A → Forest A → Option (Forest A)
+  with_only_child a empty after = None
+  with_only_child a (tree b below empty) after = if noted a then None else Some (tree b below after)
+  with_only_child a (tree b below (tree c under others)) after = None
+
+  -- the rule at the first node of `tree a below after`
+  abbrev pub moved_first : Rule → A → Forest A → Forest A → Option (Forest A)
+  moved_first Drop = without_leaf
+  moved_first Lift = with_only_child
+
+  -- the rule at the node of that number, the first node's being 0
+  abbrev pub moved_at : Rule → Forest A → ℕ → Option (Forest A)
+  moved_at rule empty n = None
+  moved_at rule (tree a below after) zero = moved_first rule a below after
+  moved_at rule (tree a below after) (suc n) =
+      if ltb n (node_count below) then mapped (λ f. tree a f after) (moved_at rule below n) else mapped (λ f. tree a below f) (moved_at rule after (n - node_count below))
+
+  -- the same in a tree, whose root has the number 0 and stays
+  abbrev pub moved_below_root : Rule → ℕ → Rose A → Option (Rose A)
+  moved_below_root rule zero t = None
+  moved_below_root rule (suc n) t = mapped (λ f. record { root = t.root; below = f }) (moved_at rule t.below n)
+
+  -- the tree after the move, where it is possible
+  abbrev pub moved : Move → Rose A → Option (Rose A)
+  moved m t = moved_below_root m.rule m.position t
+
+  -- the tree after the moves, where each is possible in its turn
+  abbrev pub replayed : List Move → Rose A → Option (Rose A)
+  replayed [] t = Some t
+  replayed (m ∷ ms) t = chained (replayed ms) (moved m t)

@@ -1,0 +1,212 @@
+//! The output formats, as JSON values (Core, section 12.4).
+ghost use Rattle.std.specs.Prelude.{◌≡◌, [], ◌++◌, List, ℕ, IfOk, OnOk, codes, map, not, pos, true};
+ghost use Rattle.js_doc.specs.Members.{put};
+ghost use Rattle.js_doc.specs.Seen.{value_of};
+ghost use Rattle.js_doc.specs.Value.{text, list, whole, items};
+ghost use Rattle.js_tree.specs.Forest.{Rose, forest_of};
+ghost use Rattle.js_tree.specs.Form.{annotation, array_of_some, error, flag, form, list_name, node, nodes, unit_list, verbose, when};
+ghost use Rattle.js_tree.specs.Put.{put_given};
+ghost use Rattle.js_tree.specs.Result.{Normal, Run, pruned, units_below};
+ghost use Rattle.js_tree.specs.declared.forms.Format.TheVariants.{Detailed};
+ghost use Rattle.js_tree.specs.declared.unit.Unit.{Unit as OfUnit};
+
+use crate::condensing::condense;
+use crate::note::Note;
+use crate::pruning::prune;
+use crate::tree::Tree;
+use crate::unit::Unit;
+use js_doc::{Doc, Items, Members, Memory, Text, Whole};
+use std::alloc::Global;
+
+/// What of a result is shown (Core, section 12.4).
+#[derive(Clone, Copy, Debug, PartialEq, Eq)]
+pub enum Format {
+    /// The verdict alone (12.4.1).
+    Flag,
+    /// The verdict and the units of the pruned tree, in preorder (12.4.2).
+    Basic,
+    /// The condensed pruned tree (12.4.3).
+    Detailed,
+    /// The whole tree (12.4.4).
+    Verbose,
+}
+
+/// The document of a format, from the whole result tree. Its only refusal is Memory.
+pub fn form(alloc: Global, tree: Tree, format: Format) -> Result<Doc, Memory>
+    ensures form { IfOk result (λ doc. value_of doc ≡ form format tree.entry) }
+    ensures one_normal_form { format ≡ Detailed → IfOk result (λ doc. (end : Rose OfUnit) → Run (pruned tree.entry) end → Normal end → value_of doc ≡ verbose end) }
+{
+    match format {
+        Format::Flag => flag(alloc, tree.unit.valid),
+        Format::Basic => unit_list(alloc, &prune(tree)),
+        Format::Detailed => tree_doc(alloc, &condense(prune(tree))),
+        Format::Verbose => tree_doc(alloc, &tree),
+    }
+}
+
+/// The root node of the tree, with all its nodes below it. Its only refusal is Memory.
+#[cycle(tree_doc)]
+pub fn tree_doc(alloc: Global, tree: &Tree) -> Result<Doc, Memory>
+    ensures { IfOk result (λ doc. value_of doc ≡ verbose tree.now) }
+{
+    let children = tree_docs(alloc, tree.children.as_slice())?;
+    node(alloc, &tree.unit, children)
+}
+
+#[cycle(tree_doc)]
+fn tree_docs(alloc: Global, trees: &[Tree]) -> Result<Vec<Doc>, Memory>
+    ensures { IfOk result (λ docs. map value_of docs.items ≡ nodes (forest_of trees.now)) }
+{
+    let mut docs = Vec::with_capacity(alloc, trees.len())?;
+    for tree in trees {
+        docs.push(tree_doc(alloc, tree)?)?;
+    }
+    Ok(docs)
+}
+
+fn flag(alloc: Global, valid: bool) -> Result<Doc, Memory>
+    ensures { IfOk result (λ doc. value_of doc ≡ flag valid) }
+{
+    let mut members = Members::new(alloc);
+    put(alloc, &mut members, "valid", Doc::Truth(valid))?;
+    Ok(Doc::Members(members))
+}
+
+fn unit_list(alloc: Global, tree: &Tree) -> Result<Doc, Memory>
+    ensures { IfOk result (λ doc. value_of doc ≡ unit_list tree.now) }
+{
+    let mut docs = Vec::new(alloc);
+    if tree.unit.is_noted() {
+        docs.push(node(alloc, &tree.unit, Vec::new(alloc))?)?;
+    }
+    add_unit_docs(alloc, tree.children.as_slice(), &mut docs)?;
+    let valid = tree.unit.valid;
+    let mut members = Members::new(alloc);
+    put(
+        alloc,
+        &mut members,
+        list_name(valid),
+        Doc::List(Items::new(docs)),
+    )?;
+    put(alloc, &mut members, "valid", Doc::Truth(valid))?;
+    Ok(Doc::Members(members))
+}
+
+/// Adds the units with a note, in preorder, each as a node without children.
+fn add_unit_docs(alloc: Global, trees: &[Tree], docs: &mut Vec<Doc>) -> Result<(), Memory>
+    ensures { IfOk result (λ _. map value_of docs.new.items ≡ map value_of docs.old.items ++ map (λ u. node u []) (units_below (forest_of trees.now))) }
+{
+    for tree in trees {
+        if tree.unit.is_noted() {
+            docs.push(node(alloc, &tree.unit, Vec::new(alloc))?)?;
+        }
+        add_unit_docs(alloc, tree.children.as_slice(), docs)?;
+    }
+    Ok(())
+}
+
+/// A node over the documents of its children.
+fn node(alloc: Global, unit: &Unit, children: Vec<Doc>) -> Result<Doc, Memory>
+    ensures { IfOk result (λ doc. value_of doc ≡ node unit.now (map value_of children.items)) }
+{
+    let mut members = Members::new(alloc);
+    put_note(alloc, &mut members, &unit.note)?;
+    put_children(alloc, &mut members, unit.valid, children)?;
+    put_text(
+        alloc,
+        &mut members,
+        "absoluteKeywordLocation",
+        &unit.absolute,
+    )?;
+    put_text(alloc, &mut members, "instanceLocation", &unit.instance)?;
+    put_text(alloc, &mut members, "keywordLocation", &unit.keyword)?;
+    put(alloc, &mut members, "valid", Doc::Truth(unit.valid))?;
+    Ok(Doc::Members(members))
+}
+
+fn put_note(alloc: Global, members: &mut Members, note: &Note) -> Result<(), Memory>
+    ensures { OnOk result (members.new ≡ put_given (codes "error") (error note.now) (put_given (codes "annotation") (annotation note.now) members.old)) }
+{
+    match note {
+        Note::Silent => Ok(()),
+        Note::Error(reason) => put_text(alloc, members, "error", reason),
+        Note::Value(value) => put(alloc, members, "annotation", value.copy(alloc)?),
+        Note::Names(names) => put(
+            alloc,
+            members,
+            "annotation",
+            texts(alloc, names.as_slice())?,
+        ),
+        Note::Index(index) => put(
+            alloc,
+            members,
+            "annotation",
+            Doc::Whole(Whole::from_u64(*index)),
+        ),
+        Note::Indexes(indexes) => put(
+            alloc,
+            members,
+            "annotation",
+            wholes(alloc, indexes.as_slice())?,
+        ),
+        Note::Truth => put(alloc, members, "annotation", Doc::Truth(true)),
+    }
+}
+
+/// Puts the children, if there are any, under the name that the verdict wants.
+fn put_children(
+    alloc: Global,
+    members: &mut Members,
+    valid: bool,
+    children: Vec<Doc>,
+) -> Result<(), Memory>
+    ensures { OnOk result (members.new ≡ put_given (codes "errors") (when (not valid) (array_of_some (map value_of children.items))) (put_given (codes "annotations") (when valid (array_of_some (map value_of children.items))) members.old)) }
+{
+    if children.is_empty() {
+        return Ok(());
+    }
+    put(
+        alloc,
+        members,
+        list_name(valid),
+        Doc::List(Items::new(children)),
+    )
+}
+
+fn list_name(valid: bool) -> &'static str
+    ensures { result.now ≡ list_name valid }
+{
+    if valid { "annotations" } else { "errors" }
+}
+
+fn put_text(alloc: Global, members: &mut Members, name: &str, value: &Text) -> Result<(), Memory>
+    ensures { OnOk result (members.new ≡ put name.now (text value.now) members.old) }
+{
+    put(alloc, members, name, Doc::Text(value.copy()?))
+}
+
+fn put(alloc: Global, members: &mut Members, name: &str, doc: Doc) -> Result<(), Memory>
+    ensures { OnOk result (members.new ≡ put name.now (value_of doc) members.old) }
+{
+    members.put(String::from_str(alloc, name)?, doc)
+}
+
+fn texts(alloc: Global, names: &[&str]) -> Result<Doc, Memory>
+    ensures { IfOk result (λ doc. value_of doc ≡ list (items (map text (map (λ name. name.now) names.now)))) }
+{
+    let mut docs = Vec::with_capacity(alloc, names.len())?;
+    for name in names {
+        docs.push(Doc::Text(Text::new(String::from_str(alloc, name)?)))?;
+    }
+    Ok(Doc::List(Items::new(docs)))
+}
+
+fn wholes(alloc: Global, numbers: &[u64]) -> Result<Doc, Memory>
+    ensures { IfOk result (λ doc. value_of doc ≡ list (items (map (λ number. whole (pos number)) numbers.now))) }
+{
+    let mut docs = Vec::with_capacity(alloc, numbers.len())?;
+    for number in numbers {
+        docs.push(Doc::Whole(Whole::from_u64(*number)))?;
+    }
+    Ok(Doc::List(Items::new(docs)))
+}

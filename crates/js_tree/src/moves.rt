@@ -1,0 +1,136 @@
+//! Single moves of the two condensing rules, and runs of them.
+ghost use Rattle.std.specs.Prelude.{false, ◌≡◌, ◌+◌, ◌<◌, ◌≤◌, if◌then◌else◌, length, take, vec_len, MatchResult, IfOk};
+ghost use Rattle.js_tree.specs.Forest.{forest_of, node_count, empty, tree as node};
+ghost use Rattle.js_tree.specs.Moves.{with_only_child, moved_at};
+ghost use Rattle.js_tree.specs.Result.{noted, kept, Normal, Step, moved, replayed};
+ghost use Rattle.js_tree.specs.Search.{Searched};
+ghost use Rattle.js_tree.specs.declared.moves.Rule.TheVariants.{Drop};
+
+use crate::tree::Tree;
+
+/// What may be done to a node below the root that has no note.
+#[derive(Clone, Copy, Debug, PartialEq, Eq)]
+pub enum Rule {
+    /// The node goes, if it has no child.
+    Drop,
+    /// The node's child takes its place, if it has exactly one.
+    Lift,
+}
+
+/// A rule at a node, which is named by its number in preorder, the root's 0.
+#[derive(Clone, Copy, Debug, PartialEq, Eq)]
+pub struct Move {
+    pub rule: Rule,
+    pub position: usize,
+}
+
+/// The rule isn't possible at the node, or no node below the root has the number.
+#[derive(Clone, Copy, Debug, PartialEq, Eq)]
+pub struct NoMove;
+
+/// What became of a move that looks for its node in preorder.
+#[derive(Clone, Copy)]
+enum Search {
+    Made,
+    NotPossible,
+    /// The node is not among these: so many nodes after them it comes.
+    Further(usize),
+}
+
+/// Makes the move, or hands the tree back unchanged, where it isn't possible. Takes no memory, and time linear
+/// in the nodes up to its position.
+pub fn apply<'a>(tree: Tree<'a>, chosen: &Move) -> Result<Tree<'a>, (NoMove, Tree<'a>)>
+    ensures moved { MatchResult result (λ made. moved chosen.now tree.entry ≡ Some made) (λ refused. (moved chosen.now tree.entry ≡ None) × (refused.1 ≡ tree.entry)) }
+    ensures step { IfOk result (λ made. Step tree.entry made) }
+{
+    if chosen.position == 0 {
+        return Err((NoMove, tree));
+    }
+    let mut tree = tree;
+    match move_below(&mut tree, chosen.rule, chosen.position - 1) {
+        Search::Made => Ok(tree),
+        _ => Err((NoMove, tree)),
+    }
+}
+
+/// Makes the moves one after another, or answers the number of the first that wasn't possible, the first move's
+/// being 0, and the tree that it met. Takes no memory.
+pub fn replay<'a>(tree: Tree<'a>, moves: &[Move]) -> Result<Tree<'a>, (usize, Tree<'a>)>
+    ensures run { MatchResult result (λ end. replayed moves.now tree.entry ≡ Some end) (λ stop. (stop.0 < length moves.now) × (replayed (take stop.0 moves.now) tree.entry ≡ Some stop.1) × (replayed (take (stop.0 + 1) moves.now) tree.entry ≡ None)) }
+    ensures length { IfOk result (λ end. length moves.now + node_count end.below ≡ node_count tree.entry.below) }
+    ensures one_normal_form { IfOk result (λ end. Normal end → end ≡ kept tree.entry) }
+{
+    let mut tree = tree;
+    for i in 0..moves.len() {
+        match apply(tree, &moves[i]) {
+            Ok(next) => tree = next,
+            Err((_, met)) => return Err((i, met)),
+        }
+    }
+    Ok(tree)
+}
+
+#[cycle(moves)]
+fn move_below(tree: &mut Tree, rule: Rule, position: usize) -> Search
+    ensures root { tree.new.root ≡ tree.old.root }
+    ensures searched { Searched result rule position tree.old.below tree.new.below }
+{
+    let children = &mut tree.children;
+    move_among(&mut children.trees, rule, position)
+}
+
+#[cycle(moves)]
+fn move_among(trees: &mut Vec<Tree>, rule: Rule, position: usize) -> Search
+    ensures { Searched result rule position (forest_of trees.old.items) (forest_of trees.new.items) }
+{
+    let mut position = position;
+    for i in 0..trees.len() {
+        if position == 0 {
+            let made = match rule {
+                Rule::Drop => drop_leaf(trees, i),
+                Rule::Lift => lift_child(&mut trees[i]),
+            };
+            return if made {
+                Search::Made
+            } else {
+                Search::NotPossible
+            };
+        }
+        match move_below(&mut trees[i], rule, position - 1) {
+            Search::Further(rest) => position = rest,
+            end => return end,
+        }
+    }
+    Search::Further(position)
+}
+
+/// Takes the tree at the index away, if it is a leaf without a note.
+fn drop_leaf(trees: &mut Vec<Tree>, i: usize) -> bool
+    requires { i < vec_len trees.old }
+    ensures dropped { moved_at noted Drop (forest_of trees.old.items) (node_count (forest_of (take i trees.old.items))) ≡ (if result then Some (forest_of trees.new.items) else None) }
+    ensures unchanged { result ≡ false → trees.new.items ≡ trees.old.items }
+{
+    let tree = &trees[i];
+    if tree.unit.is_noted() || !tree.children.is_empty() {
+        return false;
+    }
+    drop(trees.remove(i));
+    true
+}
+
+/// Puts the node's only child in its place, if it has exactly one and no note.
+fn lift_child(tree: &mut Tree) -> bool
+    ensures lifted { with_only_child noted tree.old.root tree.old.below empty ≡ (if result then Some (node tree.new.root tree.new.below empty) else None) }
+    ensures unchanged { result ≡ false → tree.new ≡ tree.old }
+{
+    if tree.unit.is_noted() || tree.children.len() != 1 {
+        return false;
+    }
+    match tree.children.pop() {
+        Some(child) => {
+            *tree = child;
+            true
+        }
+        None => false,
+    }
+}

@@ -1,0 +1,33 @@
+//! The units of a tree that have a note.
+ghost use Rattle.std.specs.Prelude.{◌≡◌, ◌++◌, IfOk, map};
+ghost use Rattle.js_tree.specs.Forest.{forest_of};
+ghost use Rattle.js_tree.specs.Result.{units, units_below};
+
+use crate::tree::Tree;
+use crate::unit::Unit;
+use js_doc::Memory;
+use std::alloc::Global;
+
+/// The units with a note, in preorder, the root's among them. Its only refusal is Memory.
+pub fn units<'t, 'a>(alloc: Global, tree: &'t Tree<'a>) -> Result<Vec<&'t Unit<'a>>, Memory>
+    ensures { IfOk result (λ found. map (λ unit. unit.now) found.items ≡ units tree.now) }
+{
+    let mut found = Vec::new(alloc);
+    if tree.unit.is_noted() {
+        found.push(&tree.unit)?;
+    }
+    add_units(tree.children.as_slice(), &mut found)?;
+    Ok(found)
+}
+
+fn add_units<'t, 'a>(trees: &'t [Tree<'a>], found: &mut Vec<&'t Unit<'a>>) -> Result<(), Memory>
+    ensures { IfOk result (λ _. map (λ unit. unit.now) found.new.items ≡ map (λ unit. unit.now) found.old.items ++ units_below (forest_of trees.now)) }
+{
+    for tree in trees {
+        if tree.unit.is_noted() {
+            found.push(&tree.unit)?;
+        }
+        add_units(tree.children.as_slice(), found)?;
+    }
+    Ok(())
+}
