@@ -1,0 +1,12 @@
+pub mod Rows
+pub mod Added
+pub mod Keywords
+pub mod Scanning
+pub mod Scanned
+pub mod Listing
+pub mod Apart
+pub mod Named
+pub mod Stopping
+pub mod Passes
+pub mod Assertions
+pub mod BuiltNext

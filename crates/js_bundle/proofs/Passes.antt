@@ -1,0 +1,55 @@
+-- A pass over the places, one place more.
+use Rattle.std.proofs.Common.{◌≡◌, ℕ, ◌+◌, ◌<◌, List, [], ◌∷◌, ◌++◌, map, take, drop, get_or, length, sym, ap, ◌∙◌, subst, append_assoc, true, false, is_none, inl, Ok, Option, Some, None}
+use Rattle.std.specs.List.{flat_map}
+use Rattle.std.proofs.lemmas.List.{take_more, drop_more, map-append}
+use Rattle.js_bundle.specs.declared.scan.Site as rust
+use Rattle.js_bundle.specs.declared.reference.Reference.{Reference}
+use Rattle.js_bundle.specs.declared.refusal.Refusal.{Refusal}
+use Rattle.js_bundle.specs.declared.refusal.RefusalKind.TheVariants.{Unresolved}
+use Rattle.js_bundle.specs.declared.fault.Fault.{Fault}
+use Rattle.js_bundle.specs.declared.fault.Fault.TheVariants.{Memory, Refused}
+use Rattle.js_bundle.specs.Candidate.{Candidate, IsClear, IsStopped}
+use Rattle.js_bundle.specs.Finding.{number_named, pair_of, pairs_of, IsRefusal}
+use Rattle.js_bundle.specs.Leads.{Leads}
+use Rattle.js_bundle.specs.Names.{names, named, is_read}
+use Rattle.js_bundle.specs.Refusals.{at_joined_reference, refusal_at}
+use Rattle.js_bundle.specs.Url.{fragment}
+use Rattle.js_bundle.proofs.Named.{none_alike}
+use Rattle.js_doc.specs.Pointer.{Tokens}
+use Rattle.url.specs.Parts.{Parts}
+use Rattle.js_bundle.specs.Resource.{Site}
+use Rattle.js_bundle.specs.Scan.{site_of}
+
+pub map_drop_more : {A B : Type 0} (f : A → B) (xs : List A) (i : ℕ) (x : A) → i < length xs → x ≡ get_or xs i x → map f (drop i xs) ≡ f x ∷ map f (drop (i + 1) xs)
+map_drop_more f xs i x h e = ap (map f) (drop_more xs i x h) ∙ ap (λ y. f y ∷ map f (drop (i + 1) xs)) (sym e)
+
+pub leads_next : (f : Site → List Candidate) (ss : List rust.Site) (i : ℕ) (x : rust.Site) (whole : List Candidate) → i < length ss → x ≡ get_or ss i x
+    → Leads whole (flat_map f (map site_of (drop i ss))) → Leads whole (f (site_of x) ++ flat_map f (map site_of (drop (i + 1) ss)))
+leads_next f ss i x whole h e l = subst (λ r. Leads whole (flat_map f r)) (map_drop_more site_of ss i x h e) l
+
+pub pairs_next : (g : Site → Option ℕ) (ss : List rust.Site) (i : ℕ) (x : rust.Site) (old new all : List Reference) (t : Option ℕ) → i < length ss → x ≡ get_or ss i x
+    → new ≡ old ++ pair_of i t → t ≡ g (site_of x) → old ++ pairs_of g i (map site_of (drop i ss)) ≡ all
+    → new ++ pairs_of g (i + 1) (map site_of (drop (i + 1) ss)) ≡ all
+pairs_next g ss i x old new all t h e n m told =
+    let rest = pairs_of g (i + 1) (map site_of (drop (i + 1) ss)) in
+    ap (λ r. r ++ rest) n ∙ append_assoc old (pair_of i t) rest ∙ ap (λ o. old ++ (pair_of i o ++ rest)) m ∙ ap (λ r. old ++ pairs_of g i r) (sym (map_drop_more site_of ss i x h e)) ∙ told
+
+-- ---- one reference
+
+not_none : (all : List Site) (uri : Parts) (n : ℕ) → number_named all uri ≡ Some n → is_none (named all uri) ≡ false
+not_none all uri n e = sym (none_alike (names all uri) 0 all) ∙ ap is_none e
+
+is_lost : (all : List Site) (uri : Parts) → number_named all uri ≡ None → is_none (named all uri) ≡ true
+is_lost all uri e = sym (none_alike (names all uri) 0 all) ∙ ap is_none e
+
+pub found_clear : (all : List Site) (place : Site) (further : Tokens) (uri : Parts) (n : ℕ) → number_named all uri ≡ Some n → is_read (fragment uri) ≡ true
+    → IsClear (at_joined_reference all place further (Ok uri))
+found_clear all place further uri n e r = let some : is_none (named all uri) ≡ false = not_none all uri n e in rw (r, some) tt
+
+pub refused_one : (r : Refusal) (e : Fault) → IsRefusal r e → IsStopped (record { refusal = r; decided = true } ∷ []) e
+refused_one r Memory h = tt
+refused_one r (Refused s) h = inl h
+
+pub lost_stopped : (all : List Site) (place : Site) (further : Tokens) (uri : Parts) (e : Fault) → number_named all uri ≡ None → is_read (fragment uri) ≡ true
+    → IsRefusal (refusal_at place further Unresolved) e → IsStopped (at_joined_reference all place further (Ok uri)) e
+lost_stopped all place further uri e n r h = let lost : is_none (named all uri) ≡ true = is_lost all uri n in rw (r, lost) (refused_one (refusal_at place further Unresolved) e h)

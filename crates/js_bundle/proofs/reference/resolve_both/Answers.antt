@@ -1,0 +1,13 @@
+use Rattle.std.proofs.Common.{codes, map}
+use Rattle.std.proofs.lemmas.Result.{err_from_is_err_and}
+use Rattle.js_bundle.specs.Refusals.{at_reference}
+use Rattle.js_bundle.specs.Scan.{site_of}
+use Rattle.js_bundle.proofs.Stopping.{stopped_here}
+use Rattle.js_bundle.proofs.reference.resolve_both.Goals as goal
+
+pub returns-in_err-dynamic-clause-err : goal.returns-in_err-dynamic-clause-err
+returns-in_err-dynamic-clause-err c =
+    let p = err_from_is_err_and c.from_residual.result c.from_residual.ensures.1 in
+    let all = map site_of c.args.sites.now in
+    let place = site_of c.args.site.now in
+    rw (p.1, p.2) (stopped_here (at_reference all (codes "$dynamicRef") place) (at_reference all (codes "$ref") place) c.in_err-dynamic.field-0.0 c.in_err-dynamic.ensures.err)

@@ -1,0 +1,64 @@
+-- How the code finds places: by their numbers in the list.
+use Rattle.std.specs.Prelude.{◌≡◌, ℕ, ◌+◌, List, [], ◌∷◌, ◌++◌, Bool, true, false, not, ◌||◌, is_some, Option, Some, None, option_map, option_and_then}
+use Rattle.std.specs.Borrow.{Bor}
+use Rattle.std.specs.List.{position_from}
+use Rattle.url.specs.Parts.{Parts}
+use Rattle.js_doc.specs.Pointer.{Tokens}
+use Rattle.js_bundle.specs.declared.refusal.Refusal.{Refusal}
+use Rattle.js_bundle.specs.declared.fault.Fault.{Fault}
+use Rattle.js_bundle.specs.declared.fault.Fault.TheVariants.{Memory, Refused}
+use Rattle.js_bundle.specs.declared.reference.Reference.{Reference}
+use Rattle.js_bundle.specs.Keyword.{Text}
+use Rattle.js_bundle.specs.Names.{names, stands_at, by_anchor, by_dynamic_anchor, is_named_by, is_pointer}
+use Rattle.js_bundle.specs.declared.names.NameFault.{NameFault}
+use Rattle.js_bundle.specs.declared.names.NameFault.TheVariants as fault
+use Rattle.js_doc.specs.PointerReading.{pointer_of}
+use Rattle.std.specs.Option.{option_map_or}
+use Rattle.js_bundle.specs.Resource.{Site, joined}
+use Rattle.js_bundle.specs.Target.{reference}
+
+-- the number of the place that a URI names
+abbrev pub number_named : List Site → Parts → Option ℕ
+number_named all uri = position_from (names all uri) 0 all
+
+-- that of a reference's first target
+abbrev pub number_of_target : List Site → Text → Site → Option ℕ
+number_of_target all keyword place = option_and_then (number_named all) (reference keyword place)
+
+-- a place and the target of its reference, by their numbers
+abbrev pub pair_of : ℕ → Option ℕ → List Reference
+pair_of n None = []
+pair_of n (Some t) = record { place = n; target = t } ∷ []
+
+-- those of all places, of which the first has the number n
+abbrev pub pairs_of : (Site → Option ℕ) → ℕ → List Site → List Reference
+pairs_of f n [] = []
+pairs_of f n (s ∷ ss) = pair_of n (f s) ++ pairs_of f (n + 1) ss
+
+-- ---- the parts of it: by the root of the resource, if there is one
+
+abbrev pub number_below : List Site → Option Site → Tokens → Option ℕ
+number_below all root pointer = position_from (option_map_or (λ r. stands_at r.document (r.pointer ++ pointer)) root (λ _. false)) 0 all
+
+abbrev pub number_anchored : List Site → Option Site → Text → Option ℕ
+number_anchored all root name = position_from (option_map_or (λ r s. by_anchor r name s || by_dynamic_anchor r name s) root (λ _. false)) 0 all
+
+abbrev pub number_in : List Site → Option Site → Text → Option ℕ
+number_in all root f = position_from (option_map_or (λ r. is_named_by r f) root (λ _. false)) 0 all
+
+abbrev pub is_pointer_read : Text → Bool
+is_pointer_read f = not (is_pointer f) || is_some (pointer_of f)
+
+abbrev pub IfNotRead : NameFault → Type 0 → Type 0
+IfNotRead fault.Memory P = Unit {0}
+IfNotRead fault.NotRead P = P
+
+-- ---- a refusal, or want of memory
+
+abbrev pub IsRefusal : Refusal → Fault → Type 0
+IsRefusal r Memory = Unit {0}
+IsRefusal r (Refused s) = s ≡ r
+
+abbrev pub tokens_of : Option (Bor Text) → Tokens
+tokens_of None = []
+tokens_of (Some k) = k.now ∷ []

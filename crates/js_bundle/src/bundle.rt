@@ -1,0 +1,167 @@
+//! Bundles: schema documents, each under its URI.
+ghost use Rattle.std.specs.Prelude.{◌≡◌, ◌++◌, [], ◌∷◌, None, Ok, OnOk, OnErr, IfOk, IfErr, length};
+ghost use Rattle.url.specs.Parser.{parse_url};
+ghost use Rattle.js_doc.specs.Members.{NamesAscend};
+ghost use Rattle.js_doc.specs.Seen.{value_of};
+ghost use Rattle.js_bundle.specs.declared.refusal.RefusalKind.TheVariants.{Memory};
+ghost use Rattle.js_bundle.specs.Adding.{IsAdded, IsTaken, IsRefusedBy, IsUriOf, IsUriFault, refusal_of_read};
+ghost use Rattle.js_bundle.specs.Seen.{document_of};
+ghost use Rattle.js_bundle.specs.Url as spec;
+
+use crate::document::Document;
+use crate::refusal::{Refusal, RefusalKind};
+use crate::uri::{LONGEST, has_no_fragment, without_fragment};
+use js_doc::{Pointer, ReadFault, read};
+use std::alloc::Global;
+use std::marker::Model;
+use url::{ParseError, Url};
+
+/// A bundle has no more documents.
+const MOST_DOCUMENTS: usize = 1_000;
+
+/// Schema documents, each under the URI that it was handed in with (JSON Schema Core, section 9.1.1). Contracts
+/// see it as the list of its documents.
+#[derive(Drop)]
+pub struct Bundle {
+    documents: Vec<Document>,
+}
+
+impl Model for Bundle {
+    ghost use Rattle.std.specs.Prelude.{map};
+    ghost use Rattle.js_bundle.specs.Document.{Documents, documents_code};
+
+    ghost Value = { Documents };
+
+    ghost coded = { documents_code };
+
+    ghost use Rattle.js_bundle.specs.Seen.{document_of, AreOrdered};
+
+    ghost view = { λ b. map document_of b.documents.items };
+
+    ghost invariant = { λ b. AreOrdered (map document_of b.documents.items) };
+}
+
+impl Bundle {
+    /// A bundle without documents. `add` takes its memory from `alloc`.
+    pub fn new(alloc: Global) -> Bundle
+        ensures { result ≡ [] }
+    {
+        Bundle {
+            documents: Vec::new(alloc),
+        }
+    }
+
+    /// Adds the document that the bytes are the text of, under the URI, after the others. An empty fragment of
+    /// the URI is dropped.
+    ///
+    /// # Errors
+    /// In this order: `TooManyDocuments`, if there are 1,000 already; `UriTooLong`, if the URI has more than
+    /// 65,536 bytes; `BadUri`, if it is no absolute URL, or has a fragment that isn't empty; `NotJson`;
+    /// `NotWhole`, at the first number that isn't whole; `Memory` at any point. The refusal's document is the
+    /// number of documents held. The bundle is as it was.
+    pub fn add(&mut self, uri: &str, bytes: &[u8]) -> Result<(), Refusal>
+        ensures ok { OnOk result (IsAdded self.old uri.now bytes.now self.new) }
+        ensures refused { IfErr result (IsRefusedBy (length self.old) uri.now bytes.now) }
+        ensures err { OnErr result (self.new ≡ self.old) }
+    {
+        let alloc = *self.documents.allocator();
+        let document = taken(alloc, self.documents.len(), uri, bytes)?;
+        append(&mut self.documents, document)?;
+        Ok(())
+    }
+}
+
+fn append(documents: &mut Vec<Document>, document: Document) -> Result<(), Refusal>
+    ensures ok { OnOk result (documents.new.items ≡ documents.old.items ++ document ∷ []) }
+    ensures err { OnErr result (documents.new.items ≡ documents.old.items) }
+    ensures refused { IfErr result
+        (λ r. r ≡ record { document = length documents.old.items; place = []; kind = Memory }) }
+{
+    let held = documents.len();
+    let alloc = *documents.allocator();
+    match documents.push(document) {
+        Ok(()) => Ok(()),
+        Err(_) => Err(refused(alloc, held, RefusalKind::Memory)),
+    }
+}
+
+// The document, where it may stand beside so many others.
+fn taken(alloc: Global, held: usize, uri: &str, bytes: &[u8]) -> Result<Document, Refusal>
+    ensures ok { IfOk result (λ d. IsTaken held uri.now bytes.now (document_of d)) }
+    ensures ascends { IfOk result (λ d. NamesAscend (value_of d.root)) }
+    ensures err { IfErr result (IsRefusedBy held uri.now bytes.now) }
+{
+    if MOST_DOCUMENTS <= held {
+        return Err(refused(alloc, held, RefusalKind::TooManyDocuments));
+    }
+    if LONGEST < uri.len() {
+        return Err(refused(alloc, held, RefusalKind::UriTooLong));
+    }
+    let uri = match document_uri(alloc, uri) {
+        Ok(uri) => uri,
+        Err(UriFault::Memory) => return Err(refused(alloc, held, RefusalKind::Memory)),
+        Err(UriFault::Bad) => return Err(refused(alloc, held, RefusalKind::BadUri)),
+    };
+    match read(alloc, bytes) {
+        Ok(root) => Ok(Document { uri, root }),
+        Err(fault) => Err(unread(alloc, held, fault)),
+    }
+}
+
+fn refused(alloc: Global, document: usize, kind: RefusalKind) -> Refusal
+    ensures { result ≡ record { document = document; place = []; kind = kind } }
+{
+    Refusal {
+        document,
+        place: Pointer::new(alloc),
+        kind,
+    }
+}
+
+fn unread(alloc: Global, document: usize, fault: ReadFault) -> Refusal
+    ensures { result ≡ refusal_of_read document fault }
+{
+    match fault {
+        ReadFault::Memory => refused(alloc, document, RefusalKind::Memory),
+        ReadFault::NotJson => refused(alloc, document, RefusalKind::NotJson),
+        ReadFault::NotWhole(place) => Refusal {
+            document,
+            place,
+            kind: RefusalKind::NotWhole,
+        },
+    }
+}
+
+/// Why a text isn't a document's URI.
+#[derive(Clone, Copy)]
+pub(crate) enum UriFault {
+    Memory,
+    Bad,
+}
+
+// The URI under which a document is handed in.
+fn document_uri(alloc: Global, text: &str) -> Result<Url, UriFault>
+    ensures ok { IfOk result (λ u. IsUriOf text.now u) }
+    ensures err { IfErr result (IsUriFault (parse_url None text.now)) }
+{
+    match Url::parse(alloc, text) {
+        Ok(url) => unfragmented(url),
+        Err(ParseError::OutOfMemory) => Err(UriFault::Memory),
+        Err(ParseError::Overflow) => Err(UriFault::Memory),
+        Err(_) => Err(UriFault::Bad),
+    }
+}
+
+// The URL without its fragment, which is to be empty.
+fn unfragmented(url: Url) -> Result<Url, UriFault>
+    ensures ok { IfOk result (λ u. (spec.raw_fragment url ≡ []) × (u ≡ spec.without_fragment url)) }
+    ensures err { IfErr result (IsUriFault (Ok url)) }
+{
+    if !has_no_fragment(&url) {
+        return Err(UriFault::Bad);
+    }
+    match without_fragment(url) {
+        Ok(url) => Ok(url),
+        Err(_) => Err(UriFault::Memory),
+    }
+}

@@ -1,0 +1,26 @@
+//! Schema documents with their URIs: where schemas stand in them, what identifies them, what references lead to,
+//! and what is refused.
+#![tactic(auto)]
+
+mod built;
+mod bundle;
+mod check;
+mod document;
+mod fault;
+mod holding;
+mod keyword;
+pub mod laws;
+mod names;
+mod place;
+mod pointers;
+mod reference;
+mod refusal;
+mod scan;
+mod scope;
+#[cfg(test)]
+mod tests;
+mod uri;
+
+pub use bundle::Bundle;
+pub use place::{Place, Step};
+pub use refusal::{EntryFault, Refusal, RefusalKind};

@@ -1,0 +1,36 @@
+//! Copies of pointers.
+ghost use Rattle.std.specs.Prelude.{◌≡◌, [], ◌∷◌, ◌++◌, IfOk};
+
+use js_doc::{Memory, Pointer};
+use std::alloc::Global;
+
+/// A copy that shares no memory with the pointer.
+pub(crate) fn copy(alloc: Global, pointer: &Pointer) -> Result<Pointer, Memory>
+    ensures { IfOk result (λ p. p ≡ pointer.now) }
+{
+    let mut copy = Pointer::new(alloc);
+    for token in pointer.tokens() {
+        copy.push(token.as_str())?;
+    }
+    Ok(copy)
+}
+
+/// The pointer with one token more.
+pub(crate) fn further(alloc: Global, pointer: &Pointer, token: &str) -> Result<Pointer, Memory>
+    ensures { IfOk result (λ p. p ≡ pointer.now ++ token.now ∷ []) }
+{
+    let mut child = copy(alloc, pointer)?;
+    child.push(token)?;
+    Ok(child)
+}
+
+/// The pointer, gone on by another one.
+pub(crate) fn joined(alloc: Global, first: &Pointer, then: &Pointer) -> Result<Pointer, Memory>
+    ensures { IfOk result (λ p. p ≡ first.now ++ then.now) }
+{
+    let mut joined = copy(alloc, first)?;
+    for token in then.tokens() {
+        joined.push(token.as_str())?;
+    }
+    Ok(joined)
+}

@@ -1,0 +1,237 @@
+//! The scan: all places of the documents, in order.
+ghost use Rattle.std.specs.Prelude.{◌≡◌, [], ◌∷◌, ◌++◌, OnOk, IfOk, map};
+ghost use Rattle.js_doc.specs.Seen.{value_of};
+ghost use Rattle.js_doc.specs.Value as spec;
+ghost use Rattle.js_bundle.specs.Place.{holding};
+ghost use Rattle.js_bundle.specs.Scan.{SameFront, site_of, site_at, below, sites_held, sites_at, sites_of_keywords, sites_in_list, sites_of_items, sites_in_object, sites_of_members, scanned};
+ghost use Rattle.js_bundle.specs.Resource.{root_scope};
+ghost use Rattle.js_bundle.specs.Seen.{document_of};
+
+use crate::document::Document;
+use crate::holding::Holding;
+use crate::pointers::{copy, further};
+use crate::scope::{Scope, Scopes, scopes_at};
+use js_doc::{Doc, Members, Memory, Pointer};
+use std::alloc::Global;
+use std::rc::Rc;
+
+/// The scan lists no more places: one more than a bundle may have.
+const MOST_SITES: usize = 100_001;
+
+/// A place, as the scan finds it.
+#[derive(Drop)]
+pub(crate) struct Site<'a> {
+    pub(crate) document: usize,
+    pub(crate) pointer: Pointer,
+    /// The scope that the place is in.
+    pub(crate) above: Rc<Scope>,
+    /// Its own.
+    pub(crate) own: Rc<Scope>,
+    /// Whether its `$id` makes a base.
+    pub(crate) identifies: bool,
+    pub(crate) schema: &'a Doc,
+}
+
+// How a keyword's argument holds schemas.
+#[tactic(auto, unfolding(crate::specs::Place::holding))]
+fn holding_of(keyword: &str) -> Holding
+    ensures { result ≡ holding keyword.now }
+{
+    match keyword {
+        "not"
+        | "if"
+        | "then"
+        | "else"
+        | "items"
+        | "contains"
+        | "additionalProperties"
+        | "propertyNames"
+        | "unevaluatedItems"
+        | "unevaluatedProperties" => Holding::One,
+        "allOf" | "anyOf" | "oneOf" | "prefixItems" => Holding::Listed,
+        "$defs" | "definitions" | "properties" | "patternProperties" | "dependentSchemas" => {
+            Holding::Named
+        }
+        _ => Holding::Nothing,
+    }
+}
+
+// Lists one place, and answers the scope of what stands below it.
+fn add_site<'a>(
+    alloc: Global,
+    out: &mut Vec<Site<'a>>,
+    document: usize,
+    above: &Rc<Scope>,
+    pointer: &Pointer,
+    schema: &'a Doc,
+) -> Result<Rc<Scope>, Memory>
+    ensures added { OnOk result (map site_of out.new.items ≡ map site_of out.old.items
+        ++ site_at document above.now.value pointer.now (value_of schema.now) ∷ []) }
+    ensures below { IfOk result
+        (λ s. s.value ≡ below above.now.value pointer.now (value_of schema.now)) }
+{
+    let Scopes {
+        own,
+        below,
+        identifies,
+    } = scopes_at(alloc, above, pointer, schema)?;
+    out.push(Site {
+        document,
+        pointer: copy(alloc, pointer)?,
+        above: above.clone()?,
+        own,
+        identifies,
+        schema,
+    })?;
+    Ok(below)
+}
+
+#[cycle(scan)]
+fn scan_schema<'a>(
+    alloc: Global,
+    out: &mut Vec<Site<'a>>,
+    document: usize,
+    above: &Rc<Scope>,
+    pointer: &Pointer,
+    schema: &'a Doc,
+) -> Result<(), Memory>
+    ensures { OnOk result (SameFront (map site_of out.new.items) (map site_of out.old.items
+        ++ sites_at document above.now.value pointer.now (value_of schema.now))) }
+{
+    if MOST_SITES <= out.len() {
+        return Ok(());
+    }
+    let below = add_site(alloc, out, document, above, pointer, schema)?;
+    match schema {
+        Doc::Members(members) => scan_keywords(alloc, out, document, &below, pointer, members),
+        _ => Ok(()),
+    }
+}
+
+#[cycle(scan)]
+fn scan_keywords<'a>(
+    alloc: Global,
+    out: &mut Vec<Site<'a>>,
+    document: usize,
+    above: &Rc<Scope>,
+    pointer: &Pointer,
+    members: &'a Members,
+) -> Result<(), Memory>
+    ensures { OnOk result (SameFront (map site_of out.new.items) (map site_of out.old.items
+        ++ sites_of_keywords document above.now.value pointer.now (spec.members members.now))) }
+{
+    for (keyword, argument) in members.pairs() {
+        let at = further(alloc, pointer, keyword.as_str())?;
+        scan_held(
+            alloc,
+            out,
+            document,
+            above,
+            &at,
+            holding_of(keyword.as_str()),
+            argument,
+        )?;
+    }
+    Ok(())
+}
+
+#[cycle(scan)]
+fn scan_held<'a>(
+    alloc: Global,
+    out: &mut Vec<Site<'a>>,
+    document: usize,
+    above: &Rc<Scope>,
+    pointer: &Pointer,
+    held: Holding,
+    argument: &'a Doc,
+) -> Result<(), Memory>
+    ensures { OnOk result (SameFront (map site_of out.new.items) (map site_of out.old.items
+        ++ sites_held held (sites_at document above.now.value pointer.now (value_of argument.now))
+        (sites_in_list document above.now.value pointer.now (value_of argument.now))
+        (sites_in_object document above.now.value pointer.now (value_of argument.now)))) }
+{
+    match held {
+        Holding::One => scan_schema(alloc, out, document, above, pointer, argument),
+        Holding::Listed => match argument {
+            Doc::List(items) => scan_items(alloc, out, document, above, pointer, items.as_slice()),
+            _ => Ok(()),
+        },
+        Holding::Named => match argument {
+            Doc::Members(members) => scan_members(alloc, out, document, above, pointer, members),
+            _ => Ok(()),
+        },
+        Holding::Nothing => Ok(()),
+    }
+}
+
+#[cycle(scan)]
+fn scan_items<'a>(
+    alloc: Global,
+    out: &mut Vec<Site<'a>>,
+    document: usize,
+    above: &Rc<Scope>,
+    pointer: &Pointer,
+    schemas: &'a [Doc],
+) -> Result<(), Memory>
+    ensures { OnOk result (SameFront (map site_of out.new.items) (map site_of out.old.items
+        ++ sites_of_items document above.now.value pointer.now 0
+        (spec.items (map value_of schemas.now)))) }
+{
+    for i in 0..schemas.len() {
+        let token = i.to_string(alloc)?;
+        let at = further(alloc, pointer, token.as_str())?;
+        scan_schema(alloc, out, document, above, &at, &schemas[i])?;
+    }
+    Ok(())
+}
+
+#[cycle(scan)]
+fn scan_members<'a>(
+    alloc: Global,
+    out: &mut Vec<Site<'a>>,
+    document: usize,
+    above: &Rc<Scope>,
+    pointer: &Pointer,
+    members: &'a Members,
+) -> Result<(), Memory>
+    ensures { OnOk result (SameFront (map site_of out.new.items) (map site_of out.old.items
+        ++ sites_of_members document above.now.value pointer.now (spec.members members.now))) }
+{
+    for (name, schema) in members.pairs() {
+        let at = further(alloc, pointer, name.as_str())?;
+        scan_schema(alloc, out, document, above, &at, schema)?;
+    }
+    Ok(())
+}
+
+fn scan_document<'a>(
+    alloc: Global,
+    out: &mut Vec<Site<'a>>,
+    number: usize,
+    document: &'a Document,
+) -> Result<(), Memory>
+    ensures { OnOk result (SameFront (map site_of out.new.items) (map site_of out.old.items
+        ++ sites_at number (root_scope document.now.uri) [] (value_of document.now.root))) }
+{
+    let above = Scope::root(alloc, &document.uri)?;
+    scan_schema(
+        alloc,
+        out,
+        number,
+        &above,
+        &Pointer::new(alloc),
+        &document.root,
+    )
+}
+
+/// The places of the documents, in order: as many as a bundle may have, and one more.
+pub(crate) fn scan(alloc: Global, documents: &[Document]) -> Result<Vec<Site<'_>>, Memory>
+    ensures { IfOk result (λ v. map site_of v.items ≡ scanned (map document_of documents.now)) }
+{
+    let mut sites = Vec::new(alloc);
+    for number in 0..documents.len() {
+        scan_document(alloc, &mut sites, number, &documents[number])?;
+    }
+    sites.truncate(MOST_SITES);
+    Ok(sites)
+}

@@ -1,0 +1,147 @@
+//! Scopes: the resource that a schema stands in, and its base.
+ghost use Rattle.std.specs.Prelude.{◌≡◌, IfOk, unwrap_or, is_some, option_copied, option_map, option_and_then};
+ghost use Rattle.js_doc.specs.Seen.{value_of};
+ghost use Rattle.js_bundle.specs.Resource.{joined, identified, identified_by, root_scope, scope_or};
+ghost use Rattle.js_bundle.specs.Scan.{below, own_scope};
+ghost use Rattle.js_bundle.specs.Url as spec;
+
+use crate::keyword::{argument, as_text};
+use crate::pointers::copy;
+use crate::uri::{LONGEST, without_fragment};
+use js_doc::{Doc, Memory, Pointer};
+use std::alloc::Global;
+use std::rc::Rc;
+use url::{ParseError, Url};
+
+/// The resource that a schema stands in: the pointer of its root, and its base (JSON Schema Core, section 8.2.1).
+#[derive(Drop)]
+pub(crate) struct Scope {
+    pub(crate) resource: Pointer,
+    pub(crate) base: Url,
+}
+
+/// The scope of a place itself, and of what stands below it.
+#[derive(Drop)]
+pub(crate) struct Scopes {
+    pub(crate) own: Rc<Scope>,
+    pub(crate) below: Rc<Scope>,
+    /// Whether the `$id` makes a base.
+    pub(crate) identifies: bool,
+}
+
+impl Scope {
+    /// The scope of a document's root.
+    pub(crate) fn root(alloc: Global, uri: &Url) -> Result<Rc<Scope>, Memory>
+        ensures { IfOk result (λ s. s.value ≡ root_scope uri.now) }
+    {
+        Scope::new(Pointer::new(alloc), uri.clone()?, alloc)
+    }
+
+    fn new(resource: Pointer, base: Url, alloc: Global) -> Result<Rc<Scope>, Memory>
+        ensures { IfOk result (λ s. s.value ≡ record { resource = resource; base = base }) }
+    {
+        Ok(Rc::new(alloc, Scope { resource, base })?)
+    }
+}
+
+/// A text joined with a base. None if it is too long, or can't be joined.
+pub(crate) fn joined(base: &Url, text: &str) -> Result<Option<Url>, Memory>
+    ensures { IfOk result (λ u. u ≡ joined base.now text.now) }
+{
+    if LONGEST < text.len() {
+        return Ok(None);
+    }
+    match base.join(text) {
+        Ok(url) => Ok(Some(url)),
+        Err(ParseError::OutOfMemory) => Err(Memory),
+        Err(ParseError::Overflow) => Err(Memory),
+        Err(_) => Ok(None),
+    }
+}
+
+// A joined URL without its fragment.
+fn bare(url: Option<Url>) -> Result<Option<Url>, Memory>
+    ensures { IfOk result (λ u. u ≡ option_map spec.without_fragment url) }
+{
+    match url {
+        Some(url) => Ok(Some(without_fragment(url)?)),
+        None => Ok(None),
+    }
+}
+
+fn joined_text(base: &Url, text: Option<&str>) -> Result<Option<Url>, Memory>
+    ensures { IfOk result (λ u. u ≡ option_and_then (joined base.now) (option_copied text.entry)) }
+{
+    match text {
+        Some(text) => joined(base, text),
+        None => Ok(None),
+    }
+}
+
+// The base that an `$id` makes.
+fn identified_by(base: &Url, id: &Doc) -> Result<Option<Url>, Memory>
+    ensures { IfOk result (λ u. u ≡ identified_by base.now (value_of id.now)) }
+{
+    let url = joined_text(base, as_text(id))?;
+    bare(url)
+}
+
+// The scopes at a place whose `$id` makes this base, or none.
+fn scopes_by(
+    alloc: Global,
+    above: &Rc<Scope>,
+    pointer: &Pointer,
+    base: Option<Url>,
+) -> Result<Scopes, Memory>
+    ensures own { IfOk result
+        (λ s. s.own.value ≡ record { resource = pointer.now; base = unwrap_or base above.now.value.base }) }
+    ensures below { IfOk result (λ s. s.below.value ≡ scope_or base pointer.now above.now.value) }
+    ensures identifies { IfOk result (λ s. s.identifies ≡ is_some base) }
+{
+    let resource = copy(alloc, pointer)?;
+    match base {
+        Some(base) => {
+            let scope = Scope::new(resource, base, alloc)?;
+            Ok(Scopes {
+                own: scope.clone()?,
+                below: scope,
+                identifies: true,
+            })
+        }
+        None => {
+            let own = Scope::new(resource, above.base.clone()?, alloc)?;
+            Ok(Scopes {
+                own,
+                below: above.clone()?,
+                identifies: false,
+            })
+        }
+    }
+}
+
+/// The scopes at a schema that stands in the scope `above`.
+pub(crate) fn scopes_at(
+    alloc: Global,
+    above: &Rc<Scope>,
+    pointer: &Pointer,
+    schema: &Doc,
+) -> Result<Scopes, Memory>
+    ensures own { IfOk result
+        (λ s. s.own.value ≡ own_scope above.now.value pointer.now (value_of schema.now)) }
+    ensures below { IfOk result
+        (λ s. s.below.value ≡ below above.now.value pointer.now (value_of schema.now)) }
+    ensures identifies { IfOk result
+        (λ s. s.identifies ≡ is_some (identified above.now.value.base (value_of schema.now))) }
+{
+    match argument(schema, "$id") {
+        Some(id) => {
+            let base = identified_by(&above.base, id)?;
+            scopes_by(alloc, above, pointer, base)
+        }
+        None => Ok(Scopes {
+            own: above.clone()?,
+            below: above.clone()?,
+            identifies: false,
+        }),
+    }
+}
