@@ -1,0 +1,14 @@
+pub mod Kind
+pub mod Keywords
+pub mod Schemas
+pub mod Applications
+pub mod Passes
+pub mod Evaluated
+pub mod Verdict
+pub mod Note
+pub mod Location
+pub mod Result
+pub mod Size
+pub mod Laws
+pub mod Examples
+pub mod Seen

@@ -1,0 +1,29 @@
+-- Where a node of the result stands (JSON Schema Core, sections 12.3.1 and 12.3.3).
+use Rattle.std.specs.Prelude.{ℕ, List, [], ◌∷◌, ◌++◌, decimal}
+use Rattle.js_doc.specs.Pointer.{Tokens}
+use Rattle.js_eval.specs.Applications.{Application}
+use Rattle.js_eval.specs.Schemas.{Text, Step, Alone, Index, Name}
+
+pub record Location : Type 0 where
+  -- the way through the schemas, references included (12.3.1)
+  pub keyword : Tokens
+  -- the way through the instance (12.3.3)
+  pub instance : Tokens
+
+-- what a step adds to a pointer
+abbrev pub tokens : Step → Tokens
+tokens Alone = []
+tokens (Index i) = decimal i ∷ []
+tokens (Name name) = name ∷ []
+
+-- at the root of the schema and of the instance
+abbrev pub at_root : Location
+at_root = record { keyword = []; instance = [] }
+
+-- at the keyword of this name
+abbrev pub at_keyword : Location → Text → Location
+at_keyword at name = record { keyword = at.keyword ++ name ∷ []; instance = at.instance }
+
+-- from a keyword to an application that it asked for
+abbrev pub at_application : {Place : Type 0} → Location → Application Place → Location
+at_application at a = record { keyword = at.keyword ++ tokens a.step; instance = at.instance ++ tokens a.at }

@@ -1,0 +1,99 @@
+-- What a node of the result has to say: an error where it fails, an annotation where it passes, or nothing
+-- (JSON Schema Core, sections 7.7, 10 to 12.3.4). The standard leaves the texts of errors open, and asks for
+-- `prefixItems` and `contains` to be annotated by `true` where all items are: these are this project's own choices.
+use Rattle.std.specs.Prelude.{ℕ, List, [], ◌∷◌, ◌++◌, Bool, true, false, Option, Some, None, map, filter, length, codes, decimal}
+use Rattle.std.specs.Option.{option_map_or}
+use Rattle.js_doc.specs.Value.{Value, truth, list, object, Named}
+use Rattle.js_assert.specs.Argument.{entries}
+use Rattle.js_assert.specs.Assertion.{asserted}
+use Rattle.js_assert.specs.ErrorText as assertion
+use Rattle.js_eval.specs.Applications.{Application, among_names}
+use Rattle.js_eval.specs.Evaluated.{names_applied, indexes_applied}
+use Rattle.js_eval.specs.Keywords.{Keyword}
+use Rattle.js_eval.specs.Passes.{how_many}
+use Rattle.js_eval.specs.Schemas.{Text}
+use Rattle.js_eval.specs.declared.kind.Kind.{Kind}
+use Rattle.js_eval.specs.declared.kind.Kind.TheVariants.{Reference, DynamicReference, AllOf, AnyOf, OneOf, Not, If, Then, Else, DependentSchemas, PrefixItems, Items, Contains, Properties, PatternProperties, AdditionalProperties, PropertyNames, UnevaluatedItems, UnevaluatedProperties, Assertion, Annotation}
+
+-- an annotation that is an empty list of names or of indexes is one
+pub data Note : Type 0 where
+  silent : Note
+  error : Text → Note
+  -- the keyword's argument, as the schema has it
+  value : Value → Note
+  -- names of members, the largest index, indexes of items, and `true`
+  names : List Text → Note
+  index : ℕ → Note
+  indexes : List ℕ → Note
+  truly : Note
+
+-- ---- words of the tables
+
+abbrev pub error_or_none : Option Text → Note
+error_or_none None = silent
+error_or_none (Some text) = error text
+
+-- `true`, if it was applied to any item
+abbrev pub if_any : List ℕ → Note
+if_any [] = silent
+if_any (_ ∷ _) = truly
+
+-- the largest index, which is the last; none where there is none
+abbrev pub largest : List ℕ → Note
+largest [] = silent
+largest (i ∷ []) = index i
+largest (i ∷ j ∷ js) = largest (j ∷ js)
+
+-- a note on arrays alone, and one on objects alone
+abbrev pub on_array : Value → Note → Note
+on_array (list _) note = note
+on_array _ note = silent
+
+abbrev pub on_object : Value → Note → Note
+on_object (object _) note = note
+on_object _ note = silent
+
+-- the names of v's members that are among these, ascending, each once
+abbrev pub members_among : Value → List Text → List Text
+members_among v among = filter (λ name. among_names name among) (map (λ m. m.0) (entries v))
+
+-- ---- a keyword's note: the keyword k stands among its siblings, v is judged, and k asked for these applications, of which
+-- ---- those in `holding` hold.
+-- ---- `matching`: how many items of v match the adjacent `contains`.
+
+module _ {Place : Type 0} (siblings : Named) (v : Value) (matching : ℕ) (k : Keyword) (apps holding : List (Application Place)) where
+  -- where it fails (12.3.4); a keyword that fails because its applications do says nothing itself
+  abbrev pub error_of : Kind → Note
+  error_of AnyOf = error (codes "no branch holds")
+  error_of OneOf = error (decimal (length holding) ++ codes " branches hold")
+  error_of Not = error (codes "the subschema holds")
+  error_of Contains = error (codes "no matching item")
+  error_of Assertion = error_or_none (option_map_or (λ a. assertion.error a v matching) (asserted k.0 k.1 siblings) None)
+  error_of _ = silent
+
+  -- where it passes (10.3, 11)
+  abbrev pub annotation_of : Kind → Note
+  -- 10.3.1: the largest index that it was applied to; whether it was applied to any item; the indexes of those that match
+  annotation_of PrefixItems = largest (indexes_applied apps)
+  annotation_of Items = if_any (indexes_applied apps)
+  annotation_of Contains = on_array v (indexes (indexes_applied holding))
+  -- 10.3.2: the names of the members that it was applied to
+  annotation_of Properties = on_object v (names (names_applied apps))
+  annotation_of PatternProperties = on_object v (names (members_among v (names_applied apps)))
+  annotation_of AdditionalProperties = on_object v (names (names_applied apps))
+  -- 11
+  annotation_of UnevaluatedItems = if_any (indexes_applied apps)
+  annotation_of UnevaluatedProperties = on_object v (names (names_applied apps))
+  -- 6.5, 7.7: each keyword that does nothing else annotates its value
+  annotation_of Annotation = value k.1
+  annotation_of _ = silent
+
+  abbrev pub keyword_note : Bool → Kind → Note
+  keyword_note true κ = annotation_of κ
+  keyword_note false κ = error_of κ
+
+-- ---- a schema's note
+
+abbrev pub schema_note : Value → Note
+schema_note (truth false) = error (codes "false schema")
+schema_note _ = silent

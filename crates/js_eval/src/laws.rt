@@ -1,0 +1,35 @@
+//! Laws of the definitions. Each is the contract of a function that does nothing.
+ghost use Rattle.std.specs.Prelude.{List};
+ghost use Rattle.js_doc.specs.Value.{Value as JsonValue};
+ghost use Rattle.js_eval.specs.Examples.{Shown};
+ghost use Rattle.js_eval.specs.Laws.{AtMostOneResult, DepthIsLeast, LimitsAreExact, NoCircle, ResultExactlyIfSettled, SizeIsTotal, StaysSettled};
+ghost use Rattle.js_eval.specs.Schemas.{Schemas};
+
+/// What is settled within a number of schemas on a way is settled alike within each greater number.
+pub fn settled_stays<Place>()
+    ensures { (S : Schemas Place) (above : List Place) (place : Place) (v : JsonValue) → StaysSettled S above place v }
+{}
+
+/// At most one tree is the result, and there is one exactly if the place and the value are settled.
+pub fn one_result<Place>()
+    ensures most { (S : Schemas Place) (above : List Place) (place : Place) (v : JsonValue) → AtMostOneResult S above place v }
+    ensures exactly { (S : Schemas Place) (above : List Place) (place : Place) (v : JsonValue) → ResultExactlyIfSettled S above place v }
+{}
+
+/// The result's depth is the least number of schemas on a way within which it is settled, its size is told without it,
+/// and so are the limits.
+pub fn limits<Place>()
+    ensures depth { (S : Schemas Place) (above : List Place) (place : Place) (v : JsonValue) → DepthIsLeast S above place v }
+    ensures size { (S : Schemas Place) (above : List Place) (place : Place) (v : JsonValue) → SizeIsTotal S above place v }
+    ensures exact { (S : Schemas Place) (above : List Place) (place : Place) (v : JsonValue) → LimitsAreExact S above place v }
+{}
+
+/// Neither of the two unevaluated keywords hangs on what the other gives.
+pub fn no_circle<Place>()
+    ensures { (S : Schemas Place) (above : List Place) (place : Place) (v : JsonValue) → NoCircle S above place v }
+{}
+
+/// The definitions say of some schemas and instances what the standard says of them.
+pub fn examples()
+    ensures { Shown }
+{}

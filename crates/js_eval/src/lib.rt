@@ -1,0 +1,19 @@
+//! The result of JSON Schema: what each keyword asks for, verdicts, evaluated parts, notes, and the result tree.
+#![tactic(auto)]
+
+mod array_applications;
+mod evaluated;
+mod in_place_applications;
+mod keyword;
+mod kind;
+pub mod laws;
+mod object_applications;
+mod parts;
+mod passing;
+mod pattern_applications;
+mod schema_set;
+mod step;
+
+pub use kind::{Kind, kind_of};
+pub use schema_set::SchemaSet;
+pub use step::Step;
