@@ -1,0 +1,4 @@
+pub mod CauseLists
+pub mod Keywords
+pub mod Early
+pub mod Answering

@@ -1,0 +1,56 @@
+-- Causes of a fault, in the order in which they are looked for: the first that applies is answered.
+use Rattle.std.specs.Prelude.{◌≡◌, List, [], ◌∷◌, Result, Ok, Err, Bool, true, false, if◌then◌else◌, ◌⊎◌, ⊤}
+use Rattle.js_output.specs.declared.fault.Fault.{Fault}
+use Rattle.js_output.specs.declared.fault.Fault.TheVariants as fault
+
+-- A cause that applies. A given one may be answered or not: no definition decides it.
+pub record Cause : Type 0 where
+  pub fault : Fault
+  pub given : Bool
+
+abbrev pub Causes : Type 0
+Causes = List Cause
+
+-- a cause, where it applies
+abbrev pub cause : Bool → Fault → Causes
+cause applies f = if applies then record { fault = f; given = false } ∷ [] else []
+
+-- a given cause, where it applies
+abbrev pub given_cause : Bool → Fault → Causes
+given_cause applies f = if applies then record { fault = f; given = true } ∷ [] else []
+
+-- nothing stands against going on: a given cause may be passed over
+abbrev pub IsClear : Causes → Type 0
+IsClear [] = ⊤
+IsClear (c ∷ causes) = (c.given ≡ true) × IsClear causes
+
+-- the fault is that of the first cause, or of one that only given ones stand before
+abbrev pub IsFirst : Causes → Fault → Type 0
+IsFirst [] f = ⊥
+IsFirst (c ∷ causes) f = (c.fault ≡ f) ⊎ ((c.given ≡ true) × IsFirst causes f)
+
+-- what is answered where these causes stand before this verdict
+abbrev pub Concludes : Causes → Bool → Result Bool Fault → Type 0
+Concludes causes verdict (Ok valid) = IsClear causes × (verdict ≡ valid)
+Concludes causes verdict (Err f) = IsFirst causes f
+
+-- that, or want of memory, which may come at any time; no device is at fault here
+abbrev pub OrMemory : (Result Bool Fault → Type 0) → Result Bool Fault → Type 0
+OrMemory Expected (Err fault.Memory) = ⊤
+OrMemory Expected (Err fault.Read) = ⊥
+OrMemory Expected (Err fault.Write) = ⊥
+OrMemory Expected answer = Expected answer
+
+-- a fault by these causes, or want of memory
+abbrev pub FailsBy : Causes → Fault → Type 0
+FailsBy causes fault.Memory = ⊤
+FailsBy causes fault.Read = ⊥
+FailsBy causes fault.Write = ⊥
+FailsBy causes f = IsFirst causes f
+
+-- ---- going through causes
+
+-- the rest decides about the whole
+pub record Leads (whole rest : Causes) : Type 0 where
+  pub clear : IsClear rest → IsClear whole
+  pub first : (f : Fault) → IsFirst rest f → IsFirst whole f

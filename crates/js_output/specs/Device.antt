@@ -1,0 +1,27 @@
+-- A reader or a writer, with what is known of its calls.
+use Rattle.std.specs.Prelude.{◌≡◌, ℕ, Bool, List, ◌++◌, ⊤, refl, Option, Some, None}
+use Rattle.std.specs.Coded.{Coded, code_by, coded×, coded_ℕ, coded_bool}
+use Rattle.std.specs.Io.KnownBytes.{Appends}
+
+-- `failed` once a call has failed, and how many calls were made
+pub record Tracked (D : Type 0) : Type 0 where
+  pub device : D
+  pub failed : Bool
+  pub calls : ℕ
+
+abbrev pub tracked_code : {D : Type 0} → Coded D → Coded (Tracked D)
+tracked_code {D} d =
+    code_by (D × (Bool × ℕ)) (coded× d (coded× coded_bool coded_ℕ)) (λ t. (t.device, (t.failed, t.calls))) (λ p. record { device = p.0; failed = p.1.0; calls = p.1.1 }) (λ _. refl)
+
+-- the most bytes that are read of an input
+abbrev pub input_limit : ℕ
+input_limit = 16777216
+
+-- `bytes` are all that a reader has left, where it tells
+abbrev pub IsLeft : Option (List ℕ) → List ℕ → Type 0
+IsLeft None bytes = ⊤
+IsLeft (Some known) bytes = known ≡ bytes
+
+-- a beginning of `bytes` went out
+abbrev pub AppendsBeginning : Option (List ℕ) → Option (List ℕ) → List ℕ → Type 0
+AppendsBeginning old new bytes = (sent : List ℕ) × (unsent : List ℕ) × (bytes ≡ sent ++ unsent) × Appends old new sent

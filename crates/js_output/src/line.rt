@@ -1,0 +1,95 @@
+//! The line that a fault is told by.
+ghost use Rattle.std.specs.Prelude.{◌≡◌, IfOk, string_bytes};
+ghost use Rattle.js_output.specs.Line.{fault_line, refused_line, refused_at_line, instance_line, entry_line, suite_line, place_text};
+
+use crate::fault::{EntryFault, Fault, Refusal, RefusalKind, SuiteFault};
+use js_doc::{Doc, Memory, Pointer, ReadFault, Text, text};
+use std::alloc::Global;
+
+/// The one line, without a line feed, that tells a fault: what it is of, its place as JSON text
+/// where it has one, and its name. Want of memory is `failed: Memory` wherever it came.
+///
+/// # Errors
+/// `Memory`.
+pub fn refusal_line(alloc: Global, fault: &Fault) -> Result<String, Memory>
+    ensures { IfOk result (λ line. string_bytes line ≡ fault_line fault.now) }
+{
+    let line = match fault {
+        Fault::Memory => "failed: Memory",
+        Fault::Read => "failed: Read",
+        Fault::InputTooLarge => "refused: input: InputTooLarge",
+        Fault::Refused(refusal) => return refused(alloc, refusal),
+        Fault::Instance(fault) => return instance(alloc, fault),
+        Fault::Entry(fault) => return entry(alloc, *fault),
+        Fault::TooLarge => "refused: walk: TooLarge",
+        Fault::Suite(fault) => return suite(alloc, fault),
+        Fault::Write => "failed: Write",
+        Fault::NotYet => "refused: NotYet",
+    };
+    Ok(String::from_str(alloc, line)?)
+}
+
+fn refused(alloc: Global, refusal: &Refusal) -> Result<String, Memory>
+    ensures { IfOk result (λ line. string_bytes line
+        ≡ refused_line refusal.now.document refusal.now.place refusal.now.kind) }
+{
+    if let RefusalKind::Memory = refusal.kind {
+        return Ok(String::from_str(alloc, "failed: Memory")?);
+    }
+    refused_at(alloc, refusal)
+}
+
+fn refused_at(alloc: Global, refusal: &Refusal) -> Result<String, Memory>
+    ensures { IfOk result (λ line. string_bytes line
+        ≡ refused_at_line refusal.now.document refusal.now.place refusal.now.kind) }
+{
+    let Refusal {
+        document,
+        place,
+        kind,
+    } = refusal;
+    let place = quoted_place(alloc, place)?;
+    Ok(format!(in alloc; "refused: document {document} at {place}: {kind}")?)
+}
+
+fn instance(alloc: Global, fault: &ReadFault) -> Result<String, Memory>
+    ensures { IfOk result (λ line. string_bytes line ≡ instance_line fault.now) }
+{
+    match fault {
+        ReadFault::Memory => Ok(String::from_str(alloc, "failed: Memory")?),
+        ReadFault::NotJson => Ok(String::from_str(alloc, "refused: instance at \"\": NotJson")?),
+        ReadFault::NotWhole(place) => {
+            let place = quoted_place(alloc, place)?;
+            Ok(format!(in alloc; "refused: instance at {place}: NotWhole")?)
+        }
+    }
+}
+
+fn entry(alloc: Global, fault: EntryFault) -> Result<String, Memory>
+    ensures { IfOk result (λ line. string_bytes line ≡ entry_line fault) }
+{
+    match fault {
+        EntryFault::Memory => Ok(String::from_str(alloc, "failed: Memory")?),
+        _ => Ok(format!(in alloc; "refused: entry: {fault}")?),
+    }
+}
+
+fn suite(alloc: Global, fault: &SuiteFault) -> Result<String, Memory>
+    ensures { IfOk result (λ line. string_bytes line ≡ suite_line fault.now) }
+{
+    match fault {
+        SuiteFault::NotJson => Ok(String::from_str(alloc, "refused: suite at \"\": NotJson")?),
+        SuiteFault::BadSuite(place) => {
+            let place = quoted_place(alloc, place)?;
+            Ok(format!(in alloc; "refused: suite at {place}: BadSuite")?)
+        }
+    }
+}
+
+// The pointer's text as JSON text.
+fn quoted_place(alloc: Global, place: &Pointer) -> Result<String, Memory>
+    ensures { IfOk result (λ quoted. string_bytes quoted ≡ place_text place.now) }
+{
+    let place = place.text(alloc)?;
+    text(alloc, &Doc::Text(Text::new(place)))
+}

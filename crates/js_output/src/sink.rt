@@ -1,0 +1,107 @@
+// Writers that are asked no more once they have failed.
+ghost use Rattle.std.specs.Prelude.{◌≡◌, ◌≤◌, ◌<◌, ◌+◌, true, false, min, ◌^◌, ◌-◌, length, is_err, OnOk, IfErr};
+ghost use Rattle.std.specs.Io.KnownBytes.{Appends, Keeps};
+ghost use Rattle.js_output.specs.Device.{AppendsBeginning};
+
+use crate::Fault;
+use std::io::Write;
+use std::marker::Model;
+
+/// A writer that counts its calls. From the first write that answers an error or takes no byte of
+/// some, or the first flush that answers an error, it stands failed, and is called no more.
+#[derive(Drop)]
+pub struct Sink<W: Write> {
+    device: W,
+    failed: bool,
+    calls: u64,
+}
+
+impl<W: Write> Model for Sink<W> {
+    ghost use Rattle.js_output.specs.Device.{Tracked, tracked_code};
+
+    ghost Value = { Tracked W };
+
+    ghost coded = { tracked_code W.code };
+
+    ghost view = { λ s. record { device = s.device; failed = s.failed; calls = s.calls } };
+}
+
+impl<W: Write> Sink<W> {
+    /// A sink that was not called yet.
+    pub fn new(device: W) -> Sink<W>
+        ensures device { result.device ≡ device }
+        ensures failed { result.failed ≡ false }
+        ensures calls { result.calls ≡ 0 }
+    {
+        Sink {
+            device,
+            failed: false,
+            calls: 0,
+        }
+    }
+
+    /// Whether a call has failed.
+    pub fn failed(&self) -> bool
+        ensures { result ≡ self.now.failed }
+    {
+        self.failed
+    }
+
+    /// How often the device was called. The count stays at the greatest `u64`.
+    pub fn calls(&self) -> u64
+        ensures { result ≡ self.now.calls }
+    {
+        self.calls
+    }
+
+    /// Writes all of the bytes, one write after another, and stops at the first that fails. After
+    /// `Fault::Write` a beginning of them is out. A sink that stands failed answers it at once.
+    pub fn put(&mut self, bytes: &[u8]) -> Result<(), Fault>
+        ensures ok { OnOk result
+            (Appends (W.contents self.old.device) (W.contents self.new.device) bytes.now) }
+        ensures begins { AppendsBeginning (W.contents self.old.device)
+            (W.contents self.new.device) bytes.now }
+        ensures fault { IfErr result (λ e. e ≡ Fault.Write) }
+        ensures failed { self.new.failed ≡ is_err result }
+        ensures calls { self.new.calls ≤ self.old.calls + length bytes.now }
+        ensures grows { self.old.calls ≤ self.new.calls }
+        ensures stays { self.old.failed ≡ true → self.new ≡ self.old }
+    {
+        if self.failed {
+            return Err(Fault::Write);
+        }
+        let mut rest = bytes;
+        while !rest.is_empty() {
+            self.calls = self.calls.saturating_add(1);
+            match self.device.write(rest) {
+                Ok(0) | Err(_) => {
+                    self.failed = true;
+                    return Err(Fault::Write);
+                }
+                Ok(count) => rest = &rest[count..],
+            }
+        }
+        Ok(())
+    }
+
+    /// Has the device pass on what it holds back: one call of it, unless the sink stands failed
+    /// already. Answers `Fault::Write` exactly where the sink then stands failed.
+    pub fn flush(&mut self) -> Result<(), Fault>
+        ensures bytes { Keeps (W.contents self.old.device) (W.contents self.new.device) }
+        ensures fault { IfErr result (λ e. e ≡ Fault.Write) }
+        ensures failed { self.new.failed ≡ is_err result }
+        ensures called { self.old.failed ≡ false
+            → self.new.calls ≡ min (self.old.calls + 1) (2 ^ 64 - 1) }
+        ensures stays { self.old.failed ≡ true → self.new ≡ self.old }
+    {
+        if !self.failed {
+            self.calls = self.calls.saturating_add(1);
+            self.failed = self.device.flush().is_err();
+        }
+        if self.failed() {
+            Err(Fault::Write)
+        } else {
+            Ok(())
+        }
+    }
+}

@@ -1,0 +1,80 @@
+// Readers that are asked no more once they have failed.
+ghost use Rattle.std.specs.Prelude.{◌≡◌, ◌≤◌, ◌+◌, true, false, is_err, IfErr};
+ghost use Rattle.std.specs.Io.{ReadsAtMost};
+ghost use Rattle.std.specs.Io.KnownBytes.{ReadConsumes};
+
+use crate::Fault;
+use std::io::Read;
+use std::marker::Model;
+
+/// A reader that counts its calls. From the first one that answers an error it stands failed
+/// (`Interrupted` is an error too, and nothing is tried again), and is called no more.
+#[derive(Drop)]
+pub struct Source<R: Read> {
+    device: R,
+    failed: bool,
+    calls: u64,
+}
+
+impl<R: Read> Model for Source<R> {
+    ghost use Rattle.js_output.specs.Device.{Tracked, tracked_code};
+
+    ghost Value = { Tracked R };
+
+    ghost coded = { tracked_code R.code };
+
+    ghost view = { λ s. record { device = s.device; failed = s.failed; calls = s.calls } };
+}
+
+impl<R: Read> Source<R> {
+    /// A source that was not called yet.
+    pub fn new(device: R) -> Source<R>
+        ensures device { result.device ≡ device }
+        ensures failed { result.failed ≡ false }
+        ensures calls { result.calls ≡ 0 }
+    {
+        Source {
+            device,
+            failed: false,
+            calls: 0,
+        }
+    }
+
+    /// Whether a call has failed.
+    pub fn failed(&self) -> bool
+        ensures { result ≡ self.now.failed }
+    {
+        self.failed
+    }
+
+    /// How often the device was called. The count stays at the greatest `u64`.
+    pub fn calls(&self) -> u64
+        ensures { result ≡ self.now.calls }
+    {
+        self.calls
+    }
+
+    /// Calls the device once, unless the source stands failed.
+    pub(crate) fn read(&mut self, buffer: &mut [u8]) -> Result<usize, Fault>
+        ensures bound { ReadsAtMost result buffer.new }
+        ensures bytes { ReadConsumes (R.remaining self.old.device) (R.remaining self.new.device)
+            result buffer.new }
+        ensures fault { IfErr result (λ e. e ≡ Fault.Read) }
+        ensures failed { self.new.failed ≡ is_err result }
+        ensures calls { self.new.calls ≤ self.old.calls + 1 }
+        ensures grows { self.old.calls ≤ self.new.calls }
+        ensures stays { self.old.failed ≡ true → self.new ≡ self.old }
+    {
+        if self.failed {
+            return Err(Fault::Read);
+        }
+        self.calls = self.calls.saturating_add(1);
+        match self.device.read(buffer) {
+            Ok(count) => Ok(count),
+            Err(_) => {
+                self.failed = true;
+                Err(Fault::Read)
+            }
+        }
+    }
+}
