@@ -1,0 +1,74 @@
+//! The program `jschema`: a schema and an instance in, the verdict out.
+#![tactic(auto)]
+
+mod command;
+mod disk;
+mod words;
+
+use command::command;
+use disk::Disk;
+use js_output::{Sink, Source};
+use std::env;
+use std::io::ErrorKind;
+use std::process::ExitCode;
+
+fn main(rt: HostRuntime) -> ExitCode {
+    ExitCode::from(status(&rt))
+}
+
+fn status(rt: &HostRuntime) -> u8 {
+    let mut faults = Sink::new(rt.stderr());
+    let words = match words_given(rt) {
+        Ok(words) => words,
+        Err(NoWords::Memory) => return command::FAILED,
+        Err(NoWords::NoText) => {
+            let _ = faults.put(words::USAGE);
+            return command::MISUSED;
+        }
+    };
+    let mut lent = Vec::new(rt.alloc());
+    for word in &words {
+        if lent.push(word.as_str()).is_err() {
+            return command::FAILED;
+        }
+    }
+    let mut files = Disk::new(rt);
+    let mut input = Source::new(rt.stdin());
+    let mut out = Sink::new(rt.stdout());
+    command(
+        rt.alloc(),
+        lent.as_slice(),
+        &mut files,
+        &mut input,
+        &mut out,
+        &mut faults,
+    )
+}
+
+// Why the words can't be had: there was no memory, or one isn't UTF-8.
+#[derive(Drop)]
+enum NoWords {
+    Memory,
+    NoText,
+}
+
+// The words after the program's name.
+fn words_given(rt: &HostRuntime) -> Result<Vec<String>, NoWords> {
+    let all = match env::args(rt) {
+        Ok(all) => all,
+        Err(error) if error.kind() == ErrorKind::OutOfMemory => return Err(NoWords::Memory),
+        Err(_) => return Err(NoWords::NoText),
+    };
+    let mut words = Vec::new(rt.alloc());
+    for word in all.skip(1) {
+        if words.push(word).is_err() {
+            return Err(NoWords::Memory);
+        }
+    }
+    Ok(words)
+}
+
+#[cfg(test)]
+mod fakes;
+#[cfg(test)]
+mod tests;
