@@ -1,16 +1,12 @@
 -- Places by number, and what a text is read as.
-use Rattle.std.proofs.Common.{◌≡◌, ℕ, ◌+◌, List, [], ◌∷◌, ◌++◌, Bool, true, false, cond, not, is_none, is_some, Option, Some, None, option_and_then, slice_get, find, refl, sym, ap, ◌∙◌, subst, zero, suc, arith}
+use Rattle.std.proofs.Common.{◌≡◌, ℕ, ◌+◌, List, [], ◌∷◌, Bool, true, false, cond, is_none, Option, Some, None, find, refl, sym, ap, ◌∙◌}
 use Rattle.std.specs.List.{position_from}
-use Rattle.std.specs.Option.{option_map_or}
 use Rattle.std.specs.Str.{IsUtf8, is_utf8}
-use Rattle.std.proofs.lemmas.Str.{IsUtf8-from_is_utf8, is_utf8-from_IsUtf8}
+use Rattle.std.proofs.lemmas.Str.{IsUtf8-from_is_utf8}
 use Rattle.js_doc.specs.Pointer.{Tokens, pointer_text}
 use Rattle.js_doc.specs.PointerReading.{pointer_of}
 use Rattle.js_doc.proofs.PointerTexts.{pointer_of-text, pointer_of-sound}
 use Rattle.js_bundle.specs.Keyword.{Text}
-use Rattle.js_bundle.specs.Names.{is_pointer}
-use Rattle.js_bundle.specs.Resource.{Site}
-use Rattle.js_bundle.specs.Finding.{number_in, number_below, number_anchored}
 
 pub not_utf8 : (bs : List ℕ) → ¬ (IsUtf8 bs) → (b : Bool) → is_utf8 bs ≡ b → is_utf8 bs ≡ false
 not_utf8 bs h true e = absurd (h (IsUtf8-from_is_utf8 bs e))

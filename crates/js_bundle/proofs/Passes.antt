@@ -1,7 +1,7 @@
 -- A pass over the places, one place more.
-use Rattle.std.proofs.Common.{◌≡◌, ℕ, ◌+◌, ◌<◌, List, [], ◌∷◌, ◌++◌, map, take, drop, get_or, length, sym, ap, ◌∙◌, subst, append_assoc, true, false, is_none, inl, Ok, Option, Some, None}
+use Rattle.std.proofs.Common.{◌≡◌, ℕ, ◌+◌, ◌<◌, List, [], ◌∷◌, ◌++◌, map, drop, get_or, length, sym, ap, ◌∙◌, subst, append_assoc, true, false, is_none, inl, Ok, Option, Some, None}
 use Rattle.std.specs.List.{flat_map}
-use Rattle.std.proofs.lemmas.List.{take_more, drop_more, map-append}
+use Rattle.std.proofs.lemmas.List.{drop_more}
 use Rattle.js_bundle.specs.declared.scan.Site as rust
 use Rattle.js_bundle.specs.declared.reference.Reference.{Reference}
 use Rattle.js_bundle.specs.declared.refusal.Refusal.{Refusal}

@@ -1,5 +1,5 @@
 -- How the code finds places: by their numbers in the list.
-use Rattle.std.specs.Prelude.{◌≡◌, ℕ, ◌+◌, List, [], ◌∷◌, ◌++◌, Bool, true, false, not, ◌||◌, is_some, Option, Some, None, option_map, option_and_then}
+use Rattle.std.specs.Prelude.{◌≡◌, ℕ, ◌+◌, List, [], ◌∷◌, ◌++◌, Bool, false, not, ◌||◌, is_some, Option, Some, None, option_and_then}
 use Rattle.std.specs.Borrow.{Bor}
 use Rattle.std.specs.List.{position_from}
 use Rattle.url.specs.Parts.{Parts}
@@ -14,7 +14,7 @@ use Rattle.js_bundle.specs.declared.names.NameFault.{NameFault}
 use Rattle.js_bundle.specs.declared.names.NameFault.TheVariants as fault
 use Rattle.js_doc.specs.PointerReading.{pointer_of}
 use Rattle.std.specs.Option.{option_map_or}
-use Rattle.js_bundle.specs.Resource.{Site, joined}
+use Rattle.js_bundle.specs.Resource.{Site}
 use Rattle.js_bundle.specs.Target.{reference}
 
 -- the number of the place that a URI names

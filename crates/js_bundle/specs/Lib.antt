@@ -16,3 +16,4 @@ pub mod Seen
 pub mod Scan
 pub mod Finding
 pub mod Built
+pub mod Schemas

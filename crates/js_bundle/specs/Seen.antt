@@ -1,5 +1,4 @@
 -- What the code's documents are seen as.
-use Rattle.std.specs.Prelude.{List}
 use Rattle.std.specs.List.{AllByRecursion}
 use Rattle.js_doc.specs.Members.{NamesAscend}
 use Rattle.js_doc.specs.Seen.{value_of}

@@ -7,6 +7,7 @@ mod bundle;
 mod check;
 mod document;
 mod fault;
+mod first_pass;
 mod holding;
 mod keyword;
 pub mod laws;
