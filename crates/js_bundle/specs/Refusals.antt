@@ -120,10 +120,13 @@ at_keyword before place m =
     when (not (has_form m.0 m.1)) (decided place (m.0 ∷ []) BadKeyword)
     ++ (assertion_rules place m.0 m.1 ++ (on_text (text_rules before place m.0) m.1 ++ name_rules place m.0 m.1))
 
+-- of a place and its keywords
+abbrev pub at_site : List Site → Site → List Candidate
+at_site before place = at_place before place ++ flat_map (at_keyword before place) (keywords place.schema)
+
 abbrev pub first_pass : List Site → List Site → List Candidate
 first_pass before [] = []
-first_pass before (place ∷ rest) =
-    (at_place before place ++ flat_map (at_keyword before place) (keywords place.schema)) ++ first_pass (before ++ place ∷ []) rest
+first_pass before (place ∷ rest) = at_site before place ++ first_pass (before ++ place ∷ []) rest
 
 -- ---- the second pass: references, by place in scan order (section 8.2.3)
 
