@@ -1,16 +1,17 @@
 -- A pass over the places, one place more.
-use Rattle.std.proofs.Common.{◌≡◌, ℕ, ◌+◌, ◌<◌, List, [], ◌∷◌, ◌++◌, map, take, drop, get_or, length, sym, ap, ◌∙◌, subst, append_assoc, true, false, is_none, inl, Ok, Option, Some, None, arith}
+use Rattle.std.proofs.Common.{◌≡◌, ℕ, ◌+◌, ◌<◌, List, [], ◌∷◌, ◌++◌, map, take, drop, get_or, length, sym, ap, ap₂, ◌∙◌, subst, append_assoc, codes, Bool, true, false, is_none, inl, Ok, Option, Some, None, arith}
 use Rattle.std.specs.List.{flat_map}
 use Rattle.std.proofs.lemmas.List.{take_more, drop_more, map-append, length-take-le}
 use Rattle.js_bundle.specs.declared.scan.Site as rust
 use Rattle.js_bundle.specs.declared.reference.Reference.{Reference}
+use Rattle.js_bundle.specs.declared.reference.DynamicReference.{DynamicReference}
 use Rattle.js_bundle.specs.declared.refusal.Refusal.{Refusal}
 use Rattle.js_bundle.specs.declared.refusal.RefusalKind.TheVariants.{Unresolved}
 use Rattle.js_bundle.specs.declared.fault.Fault.{Fault}
 use Rattle.js_bundle.specs.declared.fault.Fault.TheVariants.{Memory, Refused}
 use Rattle.js_bundle.specs.Built.{numbered}
 use Rattle.js_bundle.specs.Candidate.{Candidate, IsClear, IsStopped}
-use Rattle.js_bundle.specs.Finding.{number_named, pair_of, pairs_of, IsRefusal}
+use Rattle.js_bundle.specs.Finding.{number_named, number_of_target, pair_of, pairs_of, goes_by_name, dynamic_of, dynamic_at, IsRefusal}
 use Rattle.js_bundle.specs.Leads.{Leads}
 use Rattle.js_bundle.specs.Names.{names, named, is_read}
 use Rattle.js_bundle.specs.Refusals.{at_joined_reference, refusal_at, at_site, first_pass}
@@ -59,6 +60,13 @@ pub pairs_next : (g : Site → Option ℕ) (ss : List rust.Site) (i : ℕ) (x : 
 pairs_next g ss i x old new all t h e n m told =
     let rest = pairs_of g (i + 1) (map site_of (drop (i + 1) ss)) in
     ap (λ r. r ++ rest) n ∙ append_assoc old (pair_of i t) rest ∙ ap (λ o. old ++ (pair_of i o ++ rest)) m ∙ ap (λ r. old ++ pairs_of g i r) (sym (map_drop_more site_of ss i x h e)) ∙ told
+
+pub dynamic_next : (all : List Site) (ss : List rust.Site) (i : ℕ) (x : rust.Site) (old new whole : List DynamicReference) (t : Option ℕ) (b : Bool) → i < length ss → x ≡ get_or ss i x
+    → new ≡ old ++ dynamic_of i t b → t ≡ number_of_target all (codes "$dynamicRef") (site_of x) → b ≡ goes_by_name all (site_of x)
+    → old ++ numbered (dynamic_at all) i (map site_of (drop i ss)) ≡ whole → new ++ numbered (dynamic_at all) (i + 1) (map site_of (drop (i + 1) ss)) ≡ whole
+dynamic_next all ss i x old new whole t b h e n m k told =
+    piece_next old new (dynamic_at all i (site_of x)) (numbered (dynamic_at all) (i + 1) (map site_of (drop (i + 1) ss))) whole (n ∙ ap₂ (λ u c. old ++ dynamic_of i u c) m k)
+    (subst (λ r. old ++ numbered (dynamic_at all) i r ≡ whole) (map_drop_more site_of ss i x h e) told)
 
 -- ---- one reference
 
