@@ -10,3 +10,4 @@ pub mod Stopping
 pub mod Passes
 pub mod Assertions
 pub mod BuiltNext
+pub mod Whole

@@ -16,4 +16,5 @@ pub mod Seen
 pub mod Scan
 pub mod Finding
 pub mod Built
+pub mod Spot
 pub mod Schemas

@@ -5,6 +5,7 @@
 mod built;
 mod bundle;
 mod check;
+mod checked;
 mod document;
 mod fault;
 mod first_pass;
