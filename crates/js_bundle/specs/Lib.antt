@@ -18,3 +18,4 @@ pub mod Finding
 pub mod Built
 pub mod Spot
 pub mod Schemas
+pub mod Finished
