@@ -11,3 +11,4 @@ pub mod Passes
 pub mod Assertions
 pub mod BuiltNext
 pub mod Whole
+pub mod Kept
