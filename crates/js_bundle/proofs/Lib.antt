@@ -5,6 +5,7 @@ pub mod Scanning
 pub mod Scanned
 pub mod Listing
 pub mod Apart
+pub mod Standing
 pub mod Named
 pub mod Stopping
 pub mod Passes
