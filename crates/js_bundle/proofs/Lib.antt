@@ -6,6 +6,8 @@ pub mod Scanned
 pub mod Listing
 pub mod Apart
 pub mod Standing
+pub mod Numbers
+pub mod Distinct
 pub mod Named
 pub mod Stopping
 pub mod Passes
