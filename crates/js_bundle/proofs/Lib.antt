@@ -8,6 +8,7 @@ pub mod Apart
 pub mod Standing
 pub mod Numbers
 pub mod Distinct
+pub mod Held
 pub mod Named
 pub mod Stopping
 pub mod Passes

@@ -148,7 +148,7 @@ all_join : {B : Type 0} (P : B → Type 0) (xs ys : List B) → AllByRecursion P
 all_join P [] ys h g = g
 all_join P (x ∷ xs) ys h g = (h.0, all_join P xs ys h.1 g)
 
-get_first : (k l : Text) (v : Value) (ms : Named) → get k ((l, v) ∷ ms) ≡ (if bytes_eq k l then Some v else get k ms)
+pub get_first : (k l : Text) (v : Value) (ms : Named) → get k ((l, v) ∷ ms) ≡ (if bytes_eq k l then Some v else get k ms)
 get_first k l v ms = sym (member_is k ((l, v) ∷ ms)) ∙ ap (λ x. if bytes_eq k l then Some v else x) (member_is k ms)
 
 -- `named` says which names make an assertion, and `make` what it is: no name of the type between is known here
