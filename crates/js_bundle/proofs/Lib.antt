@@ -14,3 +14,5 @@ pub mod Stopping
 pub mod Passes
 pub mod Assertions
 pub mod BuiltNext
+pub mod Whole
+pub mod Kept

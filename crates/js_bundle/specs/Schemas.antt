@@ -1,5 +1,6 @@
 -- What is asked of finished schemas. A place is told by its number in scan order.
-use Rattle.std.specs.Prelude.{◌≡◌, ℕ, ◌<◌, List, [], ◌∷◌, ◌++◌, Bool, true, false, Option, Some, None, option_and_then, option_map, find, decimal, bytes_eq, slice_get, length, map, Ok, Err, codes, if◌then◌else◌}
+use Rattle.std.specs.Prelude.{◌≡◌, ℕ, ◌<◌, List, [], ◌∷◌, ◌++◌, Bool, true, false, Option, Some, None, option_and_then, option_map, find, decimal, bytes_eq, slice_get, nat_lt, option_to_list, length, map, Ok, Err, codes, if◌then◌else◌}
+use Rattle.std.specs.Option.{option_map_or}
 use Rattle.url.specs.Parts.{Parts}
 use Rattle.url.specs.Parser.{Parsed, parse_url}
 use Rattle.js_doc.specs.Pointer.{Tokens}
@@ -12,7 +13,7 @@ use Rattle.js_bundle.specs.declared.refusal.EntryFault.{EntryFault}
 use Rattle.js_bundle.specs.declared.refusal.EntryFault.TheVariants as fault
 use Rattle.js_bundle.specs.Built.{numbered}
 use Rattle.js_bundle.specs.Document.{Documents}
-use Rattle.js_bundle.specs.Keyword.{Text, keywords, argument}
+use Rattle.js_bundle.specs.Keyword.{Text, keywords, argument, has}
 use Rattle.js_bundle.specs.Names.{stands_at, known_as, named, is_read}
 use Rattle.js_bundle.specs.Place.{holding}
 use Rattle.js_bundle.specs.Resource.{Site, sites}
@@ -23,6 +24,18 @@ use Rattle.js_bundle.specs.Url.{longest_uri, fragment}
 -- the place that has the number
 abbrev pub place_at : Documents → ℕ → Option Site
 place_at documents n = slice_get (sites documents) n
+
+abbrev pub is_place : Documents → ℕ → Bool
+is_place documents n = nat_lt n (length (sites documents))
+
+-- the place of this number has the keyword
+abbrev pub has_keyword : Text → Documents → ℕ → Bool
+has_keyword keyword documents n = option_map_or (λ place. has keyword place.schema) (place_at documents n) false
+
+-- the places of a path
+abbrev pub path_at : Documents → List ℕ → List Site
+path_at documents [] = []
+path_at documents (n ∷ path) = option_to_list (place_at documents n) ++ path_at documents path
 
 -- the number is that of a place which is found
 abbrev pub StandsFor : Documents → ℕ → Option Site → Type 0

@@ -21,6 +21,18 @@ pub(crate) struct Built {
     pub(crate) patterns: Vec<BuiltPattern>,
 }
 
+impl Built {
+    pub(crate) fn new(alloc: Global) -> Built
+        ensures assertions { result.assertions.items ≡ [] }
+        ensures patterns { result.patterns.items ≡ [] }
+    {
+        Built {
+            assertions: Vec::new(alloc),
+            patterns: Vec::new(alloc),
+        }
+    }
+}
+
 /// An assertion of a place, under its keyword.
 #[derive(Drop)]
 pub(crate) struct BuiltAssertion {

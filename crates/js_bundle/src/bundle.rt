@@ -5,11 +5,16 @@ ghost use Rattle.js_doc.specs.Members.{NamesAscend};
 ghost use Rattle.js_doc.specs.Seen.{value_of};
 ghost use Rattle.js_bundle.specs.declared.refusal.RefusalKind.TheVariants.{Memory};
 ghost use Rattle.js_bundle.specs.Adding.{IsAdded, IsTaken, IsRefusedBy, IsUriOf, IsUriFault, refusal_of_read};
+ghost use Rattle.js_bundle.specs.Candidate.{IsClear};
+ghost use Rattle.js_bundle.specs.Refusals.{candidates, refusals, IsRefusalOf, refusal_of};
 ghost use Rattle.js_bundle.specs.Seen.{document_of};
 ghost use Rattle.js_bundle.specs.Url as spec;
 
+use crate::checked::check_whole;
 use crate::document::Document;
+use crate::fault::Fault;
 use crate::refusal::{Refusal, RefusalKind};
+use crate::schemas::Schemas;
 use crate::uri::{LONGEST, has_no_fragment, without_fragment};
 use js_doc::{Pointer, ReadFault, read};
 use std::alloc::Global;
@@ -68,6 +73,44 @@ impl Bundle {
         let document = taken(alloc, self.documents.len(), uri, bytes)?;
         append(&mut self.documents, document)?;
         Ok(())
+    }
+}
+
+impl Bundle {
+    /// Checks the documents whole: each place with its keywords, then each reference (JSON Schema Core, sections 4.3,
+    /// 8 and 9.1).
+    ///
+    /// # Errors
+    /// The first refusal, with the bundle as it was. Places come in scan order: document by document, a schema
+    /// before those that it holds, by keyword ascending, then by index or name ascending. Of a place:
+    /// `TooManyPlaces`, where it is the 100,001st; `NotASchema`; `DuplicateUri` for a document's URI. Then of its
+    /// keywords, ascending: `BadKeyword`; `BadPattern` and `PatternTooLarge`; `UnknownDialect` (`$schema`); `UriTooLong`,
+    /// `BadId` and `DuplicateUri` (`$id`); `BadAnchor` and `DuplicateAnchor`. After all places, of each the
+    /// `$dynamicRef` and then the `$ref`: `UriTooLong`, `BadReference`, `Unresolved`. `Memory` may come at any point;
+    /// its document is 0, and its place the empty pointer.
+    pub fn finish(self, alloc: Global) -> Result<Schemas, (Refusal, Bundle)>
+        ensures ok { IfOk result (λ s. s ≡ self) }
+        ensures clear { OnOk result (IsClear (candidates self)) }
+        ensures none { OnOk result (refusals self ≡ []) }
+        ensures refused { IfErr result (λ p. IsRefusalOf self p.0) }
+        ensures back { IfErr result (λ p. p.1 ≡ self) }
+    {
+        match check_whole(alloc, self.documents.as_slice()) {
+            Ok(kept) => Ok(Schemas {
+                documents: self.documents,
+                kept,
+            }),
+            Err(fault) => Err((refusal_of(alloc, fault), self)),
+        }
+    }
+}
+
+fn refusal_of(alloc: Global, fault: Fault) -> Refusal
+    ensures { result ≡ refusal_of fault }
+{
+    match fault {
+        Fault::Memory => refused(alloc, 0, RefusalKind::Memory),
+        Fault::Refused(refusal) => refusal,
     }
 }
 

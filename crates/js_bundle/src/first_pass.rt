@@ -1,5 +1,5 @@
 //! The first pass: each place and its keywords, in scan order.
-ghost use Rattle.std.specs.Prelude.{◌≡◌, ◌++◌, [], ◌∷◌, not, length, map, take, OnOk, IfOk, IfErr};
+ghost use Rattle.std.specs.Prelude.{◌≡◌, ◌++◌, [], ◌∷◌, not, length, map, OnOk, IfOk, IfErr};
 ghost use Rattle.std.specs.List.{flat_map};
 ghost use Rattle.js_doc.specs.Seen.{value_of};
 ghost use Rattle.js_bundle.specs.declared.refusal.RefusalKind.TheVariants.{BadKeyword};
@@ -7,7 +7,7 @@ ghost use Rattle.js_bundle.specs.Built.{numbered, assertion_at, assertions_at, p
 ghost use Rattle.js_bundle.specs.Candidate.{IsClear, IsStopped};
 ghost use Rattle.js_bundle.specs.Form.{has_form};
 ghost use Rattle.js_bundle.specs.Keyword.{keywords};
-ghost use Rattle.js_bundle.specs.Refusals.{when, decided, on_text, text_rules, at_keyword, at_place, first_pass};
+ghost use Rattle.js_bundle.specs.Refusals.{when, decided, on_text, text_rules, at_keyword, at_site, first_pass};
 ghost use Rattle.js_bundle.specs.Scan.{site_of};
 
 use crate::built::{Built, keep_assertion, read_names};
@@ -102,4 +102,90 @@ fn check_keyword(
         keyword,
         argument,
     )
+}
+
+// The rules of all of a place's keywords, by name ascending.
+fn check_keywords(
+    alloc: Global,
+    built: &mut Built,
+    before: &[Site<'_>],
+    site: &Site<'_>,
+    members: &Members,
+) -> Result<(), Fault>
+    ensures clear { OnOk result (IsClear
+        (flat_map (at_keyword (map site_of before.now) (site_of site.now)) members.now)) }
+    ensures assertions { OnOk result (built.new.assertions.items ≡ built.old.assertions.items
+        ++ flat_map (assertion_at (length before.now) members.now) members.now) }
+    ensures patterns { OnOk result (built.new.patterns.items ≡ built.old.patterns.items
+        ++ flat_map (patterns_of (length before.now)) members.now) }
+    ensures err { IfErr result (IsStopped
+        (flat_map (at_keyword (map site_of before.now) (site_of site.now)) members.now)) }
+{
+    for (keyword, argument) in members.pairs() {
+        check_keyword(
+            alloc,
+            built,
+            before,
+            site,
+            keyword.as_str(),
+            argument,
+            members,
+        )?;
+    }
+    Ok(())
+}
+
+fn check_schema(
+    alloc: Global,
+    built: &mut Built,
+    before: &[Site<'_>],
+    site: &Site<'_>,
+) -> Result<(), Fault>
+    ensures clear { OnOk result (IsClear (flat_map
+        (at_keyword (map site_of before.now) (site_of site.now)) (keywords (site_of site.now).schema))) }
+    ensures assertions { OnOk result (built.new.assertions.items
+        ≡ built.old.assertions.items ++ assertions_at (length before.now) (site_of site.now)) }
+    ensures patterns { OnOk result (built.new.patterns.items
+        ≡ built.old.patterns.items ++ patterns_at (length before.now) (site_of site.now)) }
+    ensures err { IfErr result (IsStopped (flat_map
+        (at_keyword (map site_of before.now) (site_of site.now)) (keywords (site_of site.now).schema))) }
+{
+    match site.schema {
+        Doc::Members(members) => check_keywords(alloc, built, before, site, members),
+        _ => Ok(()),
+    }
+}
+
+// The rules of a place, and of its keywords.
+fn check_site(
+    alloc: Global,
+    built: &mut Built,
+    before: &[Site<'_>],
+    site: &Site<'_>,
+) -> Result<(), Fault>
+    ensures clear { OnOk result (IsClear (at_site (map site_of before.now) (site_of site.now))) }
+    ensures assertions { OnOk result (built.new.assertions.items
+        ≡ built.old.assertions.items ++ assertions_at (length before.now) (site_of site.now)) }
+    ensures patterns { OnOk result (built.new.patterns.items
+        ≡ built.old.patterns.items ++ patterns_at (length before.now) (site_of site.now)) }
+    ensures err { IfErr result (IsStopped (at_site (map site_of before.now) (site_of site.now))) }
+{
+    check_place(alloc, before, site)?;
+    check_schema(alloc, built, before, site)
+}
+
+/// The first pass. It answers what it has built of the keywords of all places.
+pub(crate) fn first_pass(alloc: Global, sites: &[Site<'_>]) -> Result<Built, Fault>
+    ensures clear { OnOk result (IsClear (first_pass [] (map site_of sites.now))) }
+    ensures assertions { IfOk result
+        (λ b. b.assertions.items ≡ numbered assertions_at 0 (map site_of sites.now)) }
+    ensures patterns { IfOk result
+        (λ b. b.patterns.items ≡ numbered patterns_at 0 (map site_of sites.now)) }
+    ensures err { IfErr result (IsStopped (first_pass [] (map site_of sites.now))) }
+{
+    let mut built = Built::new(alloc);
+    for i in 0..sites.len() {
+        check_site(alloc, &mut built, &sites[..i], &sites[i])?;
+    }
+    Ok(built)
 }

@@ -5,6 +5,7 @@
 mod built;
 mod bundle;
 mod check;
+mod checked;
 mod document;
 mod fault;
 mod first_pass;
@@ -17,6 +18,7 @@ mod pointers;
 mod reference;
 mod refusal;
 mod scan;
+mod schemas;
 mod scope;
 #[cfg(test)]
 mod tests;
@@ -25,3 +27,4 @@ mod uri;
 pub use bundle::Bundle;
 pub use place::{Place, Step};
 pub use refusal::{EntryFault, Refusal, RefusalKind};
+pub use schemas::Schemas;

@@ -1,0 +1,80 @@
+//! Finished schemas: places, and what stands there.
+ghost use Rattle.std.specs.Prelude.{◌≡◌, ◌++◌, Some, true, length, map, option_map, IfOk, string_bytes};
+ghost use Rattle.js_doc.specs.Seen.{value_of};
+ghost use Rattle.js_bundle.specs.Finding.{tokens_of};
+ghost use Rattle.js_bundle.specs.Location.{absolute, canonical};
+ghost use Rattle.js_bundle.specs.Schemas.{is_place, place_at, place_numbers, resources};
+ghost use Rattle.js_bundle.specs.Spot.{spot, spot_of};
+
+use crate::checked::{Checked, Spot};
+use crate::document::Document;
+use crate::place::Place;
+use crate::uri;
+use js_doc::{Doc, Memory, Pointer};
+use std::alloc::Global;
+use std::marker::Model;
+
+/// Schema documents that are checked: every keyword has its form, and every reference its target. Contracts see them as
+/// their documents; a place is told by its number in scan order.
+#[derive(Drop)]
+pub struct Schemas {
+    pub(crate) documents: Vec<Document>,
+    pub(crate) kept: Checked,
+}
+
+impl Model for Schemas {
+    ghost use Rattle.std.specs.Prelude.{map};
+    ghost use Rattle.js_bundle.specs.Document.{Documents, documents_code};
+
+    ghost Value = { Documents };
+
+    ghost coded = { documents_code };
+
+    ghost use Rattle.js_bundle.specs.Finished.{IsFinished};
+    ghost use Rattle.js_bundle.specs.Seen.{document_of};
+
+    ghost view = { λ s. map document_of s.documents.items };
+
+    ghost invariant = { λ s. IsFinished (map document_of s.documents.items) s.kept };
+}
+
+impl Schemas {
+    /// Whether the place is one of these schemas'. Each that a call of these schemas answers is.
+    pub fn has(&self, place: Place) -> bool
+        ensures { result ≡ is_place self.now place }
+    {
+        place.number < self.kept.spots.len()
+    }
+
+    // What is kept of a place.
+    pub(crate) fn spot(&self, place: Place) -> &Spot
+        requires { is_place self.now place ≡ true }
+        ensures { option_map spot (place_at self.now place) ≡ Some (spot_of result.now) }
+    {
+        &self.kept.spots[place.number]
+    }
+
+    /// The number of the place's document, the first one's 0.
+    pub fn document(&self, place: Place) -> usize
+        requires { is_place self.now place ≡ true }
+        ensures { option_map (λ s. s.document) (place_at self.now place) ≡ Some result }
+    {
+        self.spot(place).document
+    }
+
+    /// Where in its document the place stands.
+    pub fn pointer(&self, place: Place) -> &Pointer
+        requires { is_place self.now place ≡ true }
+        ensures { option_map (λ s. s.pointer) (place_at self.now place) ≡ Some result.now }
+    {
+        &self.spot(place).pointer
+    }
+
+    /// The canonical URI of the place's resource (JSON Schema Core, section 8.2.1).
+    pub fn resource(&self, place: Place) -> &str
+        requires { is_place self.now place ≡ true }
+        ensures { option_map canonical (place_at self.now place) ≡ Some result.now }
+    {
+        uri::text_of(&self.spot(place).own.base)
+    }
+}
