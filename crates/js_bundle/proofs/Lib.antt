@@ -12,6 +12,7 @@ pub mod Held
 pub mod Named
 pub mod Stopping
 pub mod Passes
+pub mod Targets
 pub mod Assertions
 pub mod BuiltNext
 pub mod Whole
