@@ -5,9 +5,14 @@ pub mod Scanning
 pub mod Scanned
 pub mod Listing
 pub mod Apart
+pub mod Standing
+pub mod Numbers
+pub mod Distinct
+pub mod Held
 pub mod Named
 pub mod Stopping
 pub mod Passes
+pub mod Targets
 pub mod Assertions
 pub mod BuiltNext
 pub mod Whole

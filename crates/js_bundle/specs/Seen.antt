@@ -2,6 +2,7 @@
 use Rattle.std.specs.List.{AllByRecursion}
 use Rattle.js_doc.specs.Members.{NamesAscend}
 use Rattle.js_doc.specs.Seen.{value_of}
+use Rattle.js_doc.specs.Short.{IsShort}
 use Rattle.js_bundle.specs.declared.document.Document as rust
 use Rattle.js_bundle.specs.Document.{Document, Documents}
 
@@ -11,3 +12,7 @@ document_of d = record { uri = d.uri; root = value_of d.root }
 -- the names of each object in a document ascend
 abbrev pub AreOrdered : Documents → Type 0
 AreOrdered documents = AllByRecursion (λ d. NamesAscend d.root) documents
+
+-- no list in a document has 2^64 items
+abbrev pub AreShort : Documents → Type 0
+AreShort documents = AllByRecursion (λ d. IsShort d.root) documents
