@@ -18,3 +18,4 @@ pub mod BuiltNext
 pub mod Whole
 pub mod Kept
 pub mod Finds
+pub mod Schema

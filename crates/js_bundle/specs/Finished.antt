@@ -7,11 +7,11 @@ use Rattle.js_bundle.specs.Document.{Documents}
 use Rattle.js_bundle.specs.Finding.{dynamic_at, number_of_target, pairs_of}
 use Rattle.js_bundle.specs.Refusals.{candidates}
 use Rattle.js_bundle.specs.Resource.{sites}
-use Rattle.js_bundle.specs.Seen.{AreOrdered}
+use Rattle.js_bundle.specs.Seen.{AreRead}
 use Rattle.js_bundle.specs.Spot.{spot, spot_of}
 
 pub record IsFinished (documents : Documents) (kept : Checked) : Type 0 where
-  pub ordered : AreOrdered documents
+  pub read : AreRead documents
   pub clear : IsClear (candidates documents)
   pub spots : map spot_of kept.spots.items ≡ map spot (sites documents)
   pub assertions : kept.built.assertions.items ≡ numbered assertions_at 0 (sites documents)

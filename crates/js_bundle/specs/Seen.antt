@@ -16,3 +16,8 @@ AreOrdered documents = AllByRecursion (λ d. NamesAscend d.root) documents
 -- no list in a document has 2^64 items
 abbrev pub AreShort : Documents → Type 0
 AreShort documents = AllByRecursion (λ d. IsShort d.root) documents
+
+-- the documents are as they are read
+pub record AreRead (documents : Documents) : Type 0 where
+  pub ordered : AreOrdered documents
+  pub short : AreShort documents

@@ -3,6 +3,7 @@ ghost use Rattle.std.specs.Prelude.{◌≡◌, ◌++◌, [], ◌∷◌, None, Ok
 ghost use Rattle.url.specs.Parser.{parse_url};
 ghost use Rattle.js_doc.specs.Members.{NamesAscend};
 ghost use Rattle.js_doc.specs.Seen.{value_of};
+ghost use Rattle.js_doc.specs.Short.{IsShort};
 ghost use Rattle.js_bundle.specs.declared.refusal.RefusalKind.TheVariants.{Memory};
 ghost use Rattle.js_bundle.specs.Adding.{IsAdded, IsTaken, IsRefusedBy, IsUriOf, IsUriFault, refusal_of_read};
 ghost use Rattle.js_bundle.specs.Candidate.{IsClear};
@@ -39,11 +40,11 @@ impl Model for Bundle {
 
     ghost coded = { documents_code };
 
-    ghost use Rattle.js_bundle.specs.Seen.{document_of, AreOrdered};
+    ghost use Rattle.js_bundle.specs.Seen.{document_of, AreRead};
 
     ghost view = { λ b. map document_of b.documents.items };
 
-    ghost invariant = { λ b. AreOrdered (map document_of b.documents.items) };
+    ghost invariant = { λ b. AreRead (map document_of b.documents.items) };
 }
 
 impl Bundle {
@@ -132,6 +133,7 @@ fn append(documents: &mut Vec<Document>, document: Document) -> Result<(), Refus
 fn taken(alloc: Global, held: usize, uri: &str, bytes: &[u8]) -> Result<Document, Refusal>
     ensures ok { IfOk result (λ d. IsTaken held uri.now bytes.now (document_of d)) }
     ensures ascends { IfOk result (λ d. NamesAscend (value_of d.root)) }
+    ensures short { IfOk result (λ d. IsShort (value_of d.root)) }
     ensures err { IfErr result (IsRefusedBy held uri.now bytes.now) }
 {
     if MOST_DOCUMENTS <= held {

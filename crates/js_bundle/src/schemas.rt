@@ -71,6 +71,19 @@ impl Schemas {
         &self.spot(place).pointer
     }
 
+    /// The schema that stands at the place.
+    pub fn schema(&self, place: Place) -> &Doc
+        requires { is_place self.now place ≡ true }
+        ensures { option_map (λ s. s.schema) (place_at self.now place) ≡ Some (value_of result.now) }
+    {
+        let spot = self.spot(place);
+        let root = &self.documents[spot.document].root;
+        match root.at(&spot.pointer) {
+            Some(schema) => schema,
+            None => root, // never: a place stands in its document
+        }
+    }
+
     /// The canonical URI of the place's resource (JSON Schema Core, section 8.2.1).
     pub fn resource(&self, place: Place) -> &str
         requires { is_place self.now place ≡ true }
