@@ -4,7 +4,9 @@ use Rattle.std.specs.List.{position_from}
 use Rattle.js_bundle.specs.declared.checked.Spot as rust
 use Rattle.js_bundle.specs.Document.{Documents}
 use Rattle.js_bundle.specs.Keyword.{Text}
-use Rattle.js_bundle.specs.Names.{stands_at}
+use Rattle.url.specs.Parts.{Parts}
+use Rattle.js_bundle.specs.Finding.{number_named}
+use Rattle.js_bundle.specs.Names.{stands_at, names, named}
 use Rattle.js_bundle.specs.Place.{holding}
 use Rattle.js_bundle.specs.Resource.{Site, sites}
 use Rattle.js_bundle.specs.Schemas.{place_at, StandsFor, Finds, Step, step_tokens, fits, below}
@@ -45,3 +47,15 @@ finds_below docs documents kept place above k s n same e here fit found =
     let test = stands_below (spot_of above) k s in
     below_of documents k s n (spot_of above) (place_at documents place) fit here
     (found ∙ ap (position_from test 0) (e ∙ ap (λ ds. map spot (sites ds)) same) ∙ position-map test spot 0 (sites documents))
+
+-- ---- what a URI names
+
+pub names_it : (docs documents : Documents) (listed : List Site) (uri : Parts) (n : ℕ) → docs ≡ documents → listed ≡ sites docs → Some n ≡ number_named listed uri
+    → StandsFor documents n (named (sites documents) uri)
+names_it docs documents listed uri n same is e =
+    finds_place documents (names (sites documents) uri) (Some n) (e ∙ ap (λ ss. number_named ss uri) (is ∙ ap sites same))
+
+pub names_none : (docs documents : Documents) (listed : List Site) (uri : Parts) → docs ≡ documents → listed ≡ sites docs → None ≡ number_named listed uri
+    → named (sites documents) uri ≡ None
+names_none docs documents listed uri same is e =
+    finds_place documents (names (sites documents) uri) None (e ∙ ap (λ ss. number_named ss uri) (is ∙ ap sites same))

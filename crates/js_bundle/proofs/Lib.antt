@@ -19,3 +19,4 @@ pub mod Whole
 pub mod Kept
 pub mod Finds
 pub mod Schema
+pub mod BuiltThere

@@ -83,3 +83,9 @@ pub whole_clear : (documents : Documents) (first second : List Site) → first �
     → IsClear (second_pass second) → IsClear (candidates documents)
 whole_clear documents first second is same h g =
     clear_append (first_pass [] (sites documents)) (second_pass (sites documents)) (subst (λ xs. IsClear (first_pass [] xs)) is h) (subst (λ xs. IsClear (second_pass xs)) same g)
+
+-- documents that aren't refused have no more places than are scanned
+pub scanned_whole : (documents : Documents) → IsClear (candidates documents) → scanned documents ≡ sites documents
+scanned_whole documents h =
+    let all : 0 + length (sites documents) ≤ most_places = few (sites documents) [] (clear_here (first_pass [] (sites documents)) (second_pass (sites documents)) h) (omega arith) in
+    scanned_is documents ∙ take_all most_sites (sites documents) (omega (arith, all))

@@ -102,6 +102,13 @@ abbrev pub IsReadEntry : Parsed Parts → Type 0
 IsReadEntry (Ok uri) = is_read (fragment uri) ≡ true
 IsReadEntry (Err e) = ⊥
 
+-- when a URI that is one is refused so
+abbrev pub IsNameFault : Documents → Parts → EntryFault → Type 0
+IsNameFault documents uri fault.Memory = Unit {0}
+IsNameFault documents uri fault.BadUri = is_read (fragment uri) ≡ false
+IsNameFault documents uri fault.Unresolved = (is_read (fragment uri) ≡ true) × (named (sites documents) uri ≡ None)
+IsNameFault documents uri fault.UriTooLong = ⊥
+
 -- when an entry is refused so, each fault after those above it; want of memory may come at any time
 abbrev pub IsEntryFault : Documents → Text → EntryFault → Type 0
 IsEntryFault documents uri fault.Memory = Unit {0}
