@@ -20,3 +20,4 @@ pub mod Kept
 pub mod Finds
 pub mod Schema
 pub mod BuiltThere
+pub mod Dynamic

@@ -8,6 +8,7 @@ mod bundle;
 mod check;
 mod checked;
 mod document;
+mod dynamic_target;
 mod entry;
 mod fault;
 mod first_pass;
