@@ -27,7 +27,7 @@ use Rattle.js_bundle.proofs.Targets.{first_target_there, number_is_target}
 
 -- ---- a search by numbers, one number on
 
-drop_at : {A : Type 0} (xs : List A) (i : ℕ) (x : A) → slice_get xs i ≡ Some x → drop i xs ≡ x ∷ drop (i + 1) xs
+pub drop_at : {A : Type 0} (xs : List A) (i : ℕ) (x : A) → slice_get xs i ≡ Some x → drop i xs ≡ x ∷ drop (i + 1) xs
 drop_at xs i x e = drop_more xs i x (slice_get_within xs i x e) ∙ ap (λ y. y ∷ drop (i + 1) xs) (get_or_from_slice_get xs i x x e)
 
 pub stop_at : {A : Type 0} (f : A → Bool) (xs : List A) (i : ℕ) (o : Option A) → slice_get xs i ≡ o → option_map f o ≡ Some true → position_from f i (drop i xs) ≡ Some i

@@ -21,3 +21,4 @@ pub mod Finds
 pub mod Schema
 pub mod BuiltThere
 pub mod Dynamic
+pub mod Known

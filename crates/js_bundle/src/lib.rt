@@ -21,6 +21,7 @@ mod place_keywords;
 mod pointers;
 mod reference;
 mod refusal;
+mod resources;
 mod scan;
 mod schemas;
 mod scope;
