@@ -1,7 +1,9 @@
 -- What is kept of a place.
-use Rattle.std.proofs.Common.{◌≡◌, ℕ, ◌<◌, List, map, length, get_or, slice_get, true, option_map, Some, sym, ap, ◌∙◌, subst}
+use Rattle.std.proofs.Common.{◌≡◌, ℕ, ◌<◌, List, map, length, get_or, slice_get, true, option_map, Some, sym, ap, ◌∙◌, subst, ◌+◌, [], ◌∷◌, ◌++◌, arith}
 use Rattle.std.proofs.lemmas.Bool.{ltb-true}
-use Rattle.std.proofs.lemmas.List.{length-map}
+use Rattle.std.proofs.lemmas.List.{length-map, map-id}
+use Rattle.std.proofs.lemmas.List.FromFn.{map-range_with_len_more}
+use Rattle.std.specs.List.{range_with_len}
 use Rattle.std.proofs.lemmas.Option.{slice_get-map, slice_get-get_or}
 use Rattle.js_bundle.specs.declared.checked.Spot as rust
 use Rattle.js_bundle.specs.Document.{Documents}
@@ -22,3 +24,9 @@ kept_spot docs documents kept n place x same number e there is =
     let here : option_map spot (place_at docs n) ≡ Some (spot_of x) =
     sym (slice_get-map spot (sites docs) n) ∙ ap (λ l. slice_get l n) (sym e) ∙ slice_get-map spot_of kept n ∙ ap (option_map spot_of) (slice_get-get_or kept n x within ∙ ap Some (sym is)) in
     subst (λ m. option_map spot (place_at documents m) ≡ Some (spot_of x)) number (subst (λ ds. option_map spot (place_at ds n) ≡ Some (spot_of x)) same here)
+
+-- ---- all numbers, one more
+
+pub one_more : (n : ℕ) → range_with_len 0 (n + 1) ≡ range_with_len 0 n ++ n ∷ []
+one_more n =
+    sym (map-id (range_with_len 0 (n + 1))) ∙ map-range_with_len_more (λ x. x) 0 n n (omega arith) ∙ ap (λ l. l ++ n ∷ []) (map-id (range_with_len 0 n))

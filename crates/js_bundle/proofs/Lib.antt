@@ -18,3 +18,4 @@ pub mod Assertions
 pub mod BuiltNext
 pub mod Whole
 pub mod Kept
+pub mod Finds

@@ -1,5 +1,6 @@
 -- What is asked of finished schemas. A place is told by its number in scan order.
 use Rattle.std.specs.Prelude.{◌≡◌, ℕ, ◌<◌, List, [], ◌∷◌, ◌++◌, Bool, true, false, Option, Some, None, option_and_then, option_map, find, decimal, bytes_eq, slice_get, nat_lt, option_to_list, length, map, Ok, Err, codes, if◌then◌else◌}
+use Rattle.std.specs.List.{range_with_len}
 use Rattle.std.specs.Option.{option_map_or}
 use Rattle.url.specs.Parts.{Parts}
 use Rattle.url.specs.Parser.{Parsed, parse_url}
@@ -112,7 +113,7 @@ IsEntryFault documents uri fault.Unresolved =
 -- ---- lists of all
 
 abbrev pub place_numbers : Documents → List ℕ
-place_numbers documents = numbered (λ n place. n ∷ []) 0 (sites documents)
+place_numbers documents = range_with_len 0 (length (sites documents))
 
 -- a document's URI and its root's base are told once, if they are the same
 abbrev pub told_once : List Text → List Text
@@ -121,5 +122,8 @@ told_once (uri ∷ []) = uri ∷ []
 told_once (uri ∷ base ∷ more) = if bytes_eq uri base then uri ∷ [] else uri ∷ base ∷ []
 
 -- the URIs of all resources, each with the number of its root
+abbrev pub resources_at : ℕ → Site → List (Text × ℕ)
+resources_at n place = map (λ uri. (uri, n)) (told_once (known_as place))
+
 abbrev pub resources : Documents → List (Text × ℕ)
-resources documents = numbered (λ n place. map (λ uri. (uri, n)) (told_once (known_as place))) 0 (sites documents)
+resources documents = numbered resources_at 0 (sites documents)

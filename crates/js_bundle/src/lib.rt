@@ -2,6 +2,7 @@
 //! and what is refused.
 #![tactic(auto)]
 
+mod below;
 mod built;
 mod bundle;
 mod check;

@@ -9,6 +9,7 @@ ghost use Rattle.js_bundle.specs.Spot.{spot, spot_of};
 use crate::checked::{Checked, Spot};
 use crate::document::Document;
 use crate::place::Place;
+use crate::pointers::{after, push_given};
 use crate::uri;
 use js_doc::{Doc, Memory, Pointer};
 use std::alloc::Global;
@@ -76,5 +77,45 @@ impl Schemas {
         ensures { option_map canonical (place_at self.now place) ≡ Some result.now }
     {
         uri::text_of(&self.spot(place).own.base)
+    }
+
+    /// The absolute location of the place, or of a keyword of it (JSON Schema Core, section 12.3.2): the canonical URI of
+    /// its resource, `#`, and the way from the resource's root as a fragment. A root's ends in a bare `#`.
+    ///
+    /// # Errors
+    /// `Memory`.
+    pub fn absolute(
+        &self,
+        alloc: Global,
+        place: Place,
+        keyword: Option<&str>,
+    ) -> Result<String, Memory>
+        requires { is_place self.now place ≡ true }
+        ensures { IfOk result (λ t. option_map (λ s. absolute s (tokens_of keyword.entry)) (place_at self.now place)
+            ≡ Some (string_bytes t)) }
+    {
+        let spot = self.spot(place);
+        let mut way = after(alloc, &spot.pointer, spot.own.resource.tokens().len())?;
+        push_given(&mut way, keyword)?;
+        let fragment = way.fragment(alloc)?;
+        let mut text = String::from_str(alloc, uri::text_of(&spot.own.base))?;
+        text.push('#')?;
+        text.push_str(fragment.as_str())?;
+        Ok(text)
+    }
+
+    /// All places, in scan order: document by document, a schema before those that it holds, these by keyword ascending and
+    /// then by index or by name ascending.
+    ///
+    /// # Errors
+    /// `Memory`.
+    pub fn places(&self, alloc: Global) -> Result<Vec<Place>, Memory>
+        ensures { IfOk result (λ v. v.items ≡ place_numbers self.now) }
+    {
+        let mut places = Vec::new(alloc);
+        for number in 0..self.kept.spots.len() {
+            places.push(Place { number })?;
+        }
+        Ok(places)
     }
 }
