@@ -1,8 +1,22 @@
 //! What each keyword says of values of each type, and the text of each error.
 use super::*;
 
+// A schema, its keyword, a value, and the text of the error that the value makes: empty where it makes none.
+type Row<'r> = (&'r str, &'r str, &'r str, &'r str);
+
+// Each row's value makes that error.
+fn tells(alloc: Global, rows: &[Row]) -> Result<(), Fail> {
+    for (schema, keyword, value, text) in rows {
+        let error = error_of(alloc, schema, keyword, value, 0);
+        if !error.is_ok_and(|e| e.as_str() == *text) {
+            return Err(Fail::new(format!(in alloc; "{schema} on {value}")?));
+        }
+    }
+    Ok(())
+}
+
 #[test]
-fn any_type(rt: HostRuntime) {
+fn types(rt: HostRuntime) -> Result<(), Fail> {
     let rows = [
         ("{\"type\":[\"integer\",\"null\"]}", "type", "1", ""),
         ("{\"type\":[\"integer\",\"null\"]}", "type", "null", ""),
@@ -23,6 +37,13 @@ fn any_type(rt: HostRuntime) {
         ("{\"type\":\"string\"}", "type", "{}", "type is object"),
         ("{\"type\":\"string\"}", "type", "[]", "type is array"),
         ("{\"type\":\"string\"}", "type", "1", "type is integer"),
+    ];
+    tells(rt.alloc(), &rows)
+}
+
+#[test]
+fn listed_values(rt: HostRuntime) -> Result<(), Fail> {
+    let rows = [
         ("{\"enum\":[]}", "enum", "0", "not a listed value"),
         ("{\"enum\":[[1],{\"a\":null}]}", "enum", "{\"a\":null}", ""),
         (
@@ -44,17 +65,11 @@ fn any_type(rt: HostRuntime) {
             "not the constant",
         ),
     ];
-    for (schema, keyword, value, text) in rows {
-        let error = error_of(rt.alloc(), schema, keyword, value, 0);
-        assert!(rt;
-            error.is_ok_and(|e| e.as_str() == text),
-            "{schema} on {value}"
-        );
-    }
+    tells(rt.alloc(), &rows)
 }
 
 #[test]
-fn numbers(rt: HostRuntime) {
+fn multiples(rt: HostRuntime) -> Result<(), Fail> {
     let rows = [
         ("{\"multipleOf\":4}", "multipleOf", "0", ""),
         ("{\"multipleOf\":4}", "multipleOf", "-8", ""),
@@ -71,6 +86,13 @@ fn numbers(rt: HostRuntime) {
             "-6",
             "not a multiple of 4",
         ),
+    ];
+    tells(rt.alloc(), &rows)
+}
+
+#[test]
+fn limits(rt: HostRuntime) -> Result<(), Fail> {
+    let rows = [
         (
             "{\"minimum\":-5,\"exclusiveMaximum\":5}",
             "minimum",
@@ -104,17 +126,11 @@ fn numbers(rt: HostRuntime) {
             "not greater than -5",
         ),
     ];
-    for (schema, keyword, value, text) in rows {
-        let error = error_of(rt.alloc(), schema, keyword, value, 0);
-        assert!(rt;
-            error.is_ok_and(|e| e.as_str() == text),
-            "{schema} on {value}"
-        );
-    }
+    tells(rt.alloc(), &rows)
 }
 
 #[test]
-fn ends_of_the_numbers(rt: HostRuntime) {
+fn ends_of_the_numbers(rt: HostRuntime) -> Result<(), Fail> {
     let rows = [
         (
             "{\"maximum\":18446744073709551615}",
@@ -153,17 +169,11 @@ fn ends_of_the_numbers(rt: HostRuntime) {
             "not a multiple of 3",
         ),
     ];
-    for (schema, keyword, value, text) in rows {
-        let error = error_of(rt.alloc(), schema, keyword, value, 0);
-        assert!(rt;
-            error.is_ok_and(|e| e.as_str() == text),
-            "{schema} on {value}"
-        );
-    }
+    tells(rt.alloc(), &rows)
 }
 
 #[test]
-fn strings(rt: HostRuntime) {
+fn strings(rt: HostRuntime) -> Result<(), Fail> {
     let rows = [
         ("{\"minLength\":2}", "minLength", "\"ab\"", ""),
         ("{\"minLength\":2}", "minLength", "1", ""),
@@ -184,17 +194,11 @@ fn strings(rt: HostRuntime) {
         ("{\"pattern\":\"a+b\"}", "pattern", "1", ""),
         ("{\"pattern\":\"a+b\"}", "pattern", "\"ba\"", "no match"),
     ];
-    for (schema, keyword, value, text) in rows {
-        let error = error_of(rt.alloc(), schema, keyword, value, 0);
-        assert!(rt;
-            error.is_ok_and(|e| e.as_str() == text),
-            "{schema} on {value}"
-        );
-    }
+    tells(rt.alloc(), &rows)
 }
 
 #[test]
-fn arrays(rt: HostRuntime) {
+fn counts_of_items(rt: HostRuntime) -> Result<(), Fail> {
     let rows = [
         ("{\"maxItems\":1}", "maxItems", "[1]", ""),
         ("{\"maxItems\":1}", "maxItems", "{}", ""),
@@ -211,6 +215,13 @@ fn arrays(rt: HostRuntime) {
             "[{},{}]",
             "2 items, at least 3",
         ),
+    ];
+    tells(rt.alloc(), &rows)
+}
+
+#[test]
+fn unique_items(rt: HostRuntime) -> Result<(), Fail> {
+    let rows = [
         (
             "{\"uniqueItems\":true}",
             "uniqueItems",
@@ -243,17 +254,11 @@ fn arrays(rt: HostRuntime) {
             "items 14 and 19 are equal",
         ),
     ];
-    for (schema, keyword, value, text) in rows {
-        let error = error_of(rt.alloc(), schema, keyword, value, 0);
-        assert!(rt;
-            error.is_ok_and(|e| e.as_str() == text),
-            "{schema} on {value}"
-        );
-    }
+    tells(rt.alloc(), &rows)
 }
 
 #[test]
-fn objects(rt: HostRuntime) {
+fn members_that_are_asked_for(rt: HostRuntime) -> Result<(), Fail> {
     let rows = [
         ("{\"required\":[\"a\"]}", "required", "[]", ""),
         ("{\"required\":[\"a\"]}", "required", "{\"a\":null}", ""),
@@ -293,6 +298,13 @@ fn objects(rt: HostRuntime) {
             "{\"a\":1,\"b\":2}",
             "missing: [\"c\",\"z\"]",
         ),
+    ];
+    tells(rt.alloc(), &rows)
+}
+
+#[test]
+fn counts_of_members(rt: HostRuntime) -> Result<(), Fail> {
+    let rows = [
         ("{\"maxProperties\":1}", "maxProperties", "{\"a\":1}", ""),
         (
             "{\"maxProperties\":1}",
@@ -308,13 +320,7 @@ fn objects(rt: HostRuntime) {
             "0 members, at least 1",
         ),
     ];
-    for (schema, keyword, value, text) in rows {
-        let error = error_of(rt.alloc(), schema, keyword, value, 0);
-        assert!(rt;
-            error.is_ok_and(|e| e.as_str() == text),
-            "{schema} on {value}"
-        );
-    }
+    tells(rt.alloc(), &rows)
 }
 
 // The items that match `contains` count only where it stands beside the keyword.
