@@ -6,3 +6,4 @@ pub mod NoCircle
 pub mod Examples
 pub mod NoRow
 pub mod Items
+pub mod AskedNothing

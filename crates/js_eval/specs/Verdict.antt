@@ -1,7 +1,7 @@
 -- Whether a value holds under a schema, and what of it is then evaluated (JSON Schema Core, sections 7.2 and 7.5 to 7.7).
 -- References may lead on without end, so all is said within a number n of schemas on a way: within 0 nothing is
 -- settled, and within n + 1 a schema is judged by what is known of its keywords' applications within n.
-use Rattle.std.specs.Prelude.{◌≡◌, ℕ, zero, suc, List, [], ◌∷◌, ◌++◌, Bool, true, false, not, ◌&&◌, Option, Some, None, option_map, map, filter, length, codes, if◌then◌else◌}
+use Rattle.std.specs.Prelude.{◌≡◌, ℕ, zero, suc, List, [], ◌∷◌, ◌++◌, Bool, true, false, not, ◌&&◌, Option, option_map, map, filter, length, codes, if◌then◌else◌}
 use Rattle.std.specs.List.{list_all, flat_map}
 use Rattle.std.specs.Option.{option_map_or}
 use Rattle.js_doc.specs.Value.{Value, truth, Named}

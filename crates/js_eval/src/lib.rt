@@ -2,11 +2,13 @@
 #![tactic(auto)]
 
 mod array_applications;
+mod asking;
 mod evaluated;
 mod in_place_applications;
 mod keyword;
 mod kind;
 pub mod laws;
+mod member_asking;
 mod object_applications;
 mod parts;
 mod passing;
