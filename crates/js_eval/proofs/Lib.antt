@@ -7,3 +7,5 @@ pub mod Examples
 pub mod NoRow
 pub mod Items
 pub mod AskedNothing
+pub mod Among
+pub mod Concluding

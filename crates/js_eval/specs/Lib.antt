@@ -12,3 +12,4 @@ pub mod Size
 pub mod Laws
 pub mod Examples
 pub mod Seen
+pub mod Judging

@@ -33,6 +33,8 @@ pub(crate) struct Spot<'s, 'a> {
 pub(crate) struct Facts<'s> {
     /// The verdict of the adjacent `if`, if there is one.
     pub condition: Option<bool>,
+    /// How many items match the adjacent `contains`; 0 where there is none.
+    pub matching: u64,
     /// The members that the others have evaluated.
     pub names: &'s [&'s str],
     /// The items that the others have evaluated.

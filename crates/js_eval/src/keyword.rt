@@ -1,6 +1,9 @@
 //! The keywords of a schema that have a node in its result, in the order of their nodes.
 ghost use Rattle.std.specs.Prelude.{◌≡◌, ◌++◌, IfOk, OnOk, filter, map};
+ghost use Rattle.js_assert.specs.Argument.{entries};
+ghost use Rattle.js_doc.specs.Members.{IsAscending};
 ghost use Rattle.js_doc.specs.Seen.{value_of};
+ghost use Rattle.js_eval.specs.Judging.{AreAmong};
 ghost use Rattle.js_eval.specs.Keywords as table;
 ghost use Rattle.js_eval.specs.Seen.{has_turn, keyword_of};
 ghost use Rattle.js_eval.specs.declared.keyword.Turn.TheVariants as turn;
@@ -32,7 +35,8 @@ pub(crate) enum Turn {
 /// # Errors
 /// `Memory`.
 pub(crate) fn keywords<'a>(alloc: Global, schema: &'a Doc) -> Result<Vec<Keyword<'a>>, Memory>
-    ensures { IfOk result (λ ks. map keyword_of ks.items ≡ table.keywords (value_of schema.now)) }
+    ensures all { IfOk result (λ ks. map keyword_of ks.items ≡ table.keywords (value_of schema.now)) }
+    ensures among { IfOk result (λ ks. AreAmong (entries (value_of schema.now)) (map keyword_of ks.items)) }
 {
     match members_in(schema) {
         Some(members) => in_order(alloc, members),
@@ -41,10 +45,12 @@ pub(crate) fn keywords<'a>(alloc: Global, schema: &'a Doc) -> Result<Vec<Keyword
 }
 
 fn in_order<'a>(alloc: Global, members: &'a Members) -> Result<Vec<Keyword<'a>>, Memory>
-    ensures { IfOk result (λ ks. map keyword_of ks.items
+    ensures ascending { IsAscending members.now }
+    ensures all { IfOk result (λ ks. map keyword_of ks.items
         ≡ filter (λ k. has_turn turn.First k.0) members.now
         ++ (filter (λ k. has_turn turn.Else k.0) members.now ++ filter (λ k. has_turn turn.Last k.0) members.now)) }
 {
+    let _ascending = members.pairs();
     let mut keywords = Vec::new(alloc);
     add(&mut keywords, members, Turn::First)?;
     add(&mut keywords, members, Turn::Else)?;

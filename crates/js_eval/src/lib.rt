@@ -5,7 +5,9 @@ mod array_applications;
 mod asking;
 mod evaluated;
 mod in_place_applications;
+mod judgement;
 mod keyword;
+mod keyword_judging;
 mod kind;
 pub mod laws;
 mod member_asking;
@@ -16,6 +18,7 @@ mod pattern_applications;
 mod schema_set;
 mod step;
 
+pub use judgement::Judgement;
 pub use kind::{Kind, kind_of};
 pub use schema_set::SchemaSet;
 pub use step::Step;

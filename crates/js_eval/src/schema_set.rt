@@ -1,11 +1,13 @@
 //! What a judgement asks of a set of schemas.
-ghost use Rattle.std.specs.Prelude.{◌≡◌, ℕ, IfOk};
+ghost use Rattle.std.specs.Prelude.{◌≡◌, ℕ, IfOk, option_map};
 ghost use Rattle.js_assert.specs.Pattern.{matches};
 ghost use Rattle.js_doc.specs.Seen.{value_of};
+ghost use Rattle.js_eval.specs.Judging.{assertion_in};
 ghost use Rattle.js_eval.specs.Schemas.{Schemas};
 ghost use Rattle.js_eval.specs.Seen.{step_of};
 
 use crate::step::Step;
+use js_assert::Assertion;
 use js_doc::{Doc, Memory};
 use std::alloc::Global;
 
@@ -28,6 +30,11 @@ pub trait SchemaSet {
     /// The place that the `$dynamicRef` of a place names, after all the places of a path that ends in it.
     fn dynamic_target(&self, place: usize, path: &[usize]) -> usize
         ensures { result ≡ (schemas self.now).dynamic_target path.now place };
+
+    /// The assertion that a keyword of a place makes; None where the place has no keyword of this name, or where it
+    /// isn't an assertion's.
+    fn assertion(&self, place: usize, keyword: &str) -> Option<&Assertion>
+        ensures { option_map (λ a. a.now) result ≡ assertion_in ((schemas self.now).schema place) keyword.now };
 
     /// Whether a pattern of the `patternProperties` of a place matches somewhere in a name.
     fn matches(
