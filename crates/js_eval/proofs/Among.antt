@@ -1,16 +1,16 @@
 -- Each of a schema's keywords is found by its name, since the names ascend.
-use Rattle.std.specs.Prelude.{◌≡◌, ℕ, zero, suc, ◌<◌, Bool, true, false, cond, List, [], ◌∷◌, ◌++◌, length, get_or, Option, Some, map, filter, refl}
+use Rattle.std.specs.Prelude.{◌≡◌, ℕ, zero, suc, ◌<◌, Bool, true, false, cond, List, [], ◌∷◌, ◌++◌, length, get_or, Some, map, filter, refl}
 use Rattle.std.specs.List.{AllByRecursion}
-use Rattle.std.specs.Ordering.{match_ordering, ordering_reverse}
+use Rattle.std.specs.Ordering.{ordering_reverse}
 use Rattle.std.specs.declared.cmp.Ordering.{Ordering}
 use Rattle.std.specs.declared.cmp.Ordering.TheVariants.{Less, Equal, Greater}
-use Rattle.std.proofs.Common.{sym, ◌∙◌, ap, arith}
+use Rattle.std.proofs.Common.{◌∙◌, ap, arith}
 use Rattle.std.proofs.lemmas.Cmp.{nat_list_cmp_total}
 use Rattle.js_doc.specs.Value.{Value, Named}
 use Rattle.js_doc.specs.Members.{get, name_cmp, IsBelowHead, IsAscending}
 use Rattle.js_assert.specs.Argument.{entries}
 use Rattle.js_eval.specs.Judging.{IsAmong, AreAmong}
-use Rattle.js_eval.specs.Keywords.{Keyword as Row, keywords, chosen, comes_first, comes_last, is_else}
+use Rattle.js_eval.specs.Keywords.{keywords, chosen, comes_first, comes_last, is_else}
 use Rattle.js_eval.specs.Seen.{keyword_of}
 use Rattle.js_eval.specs.declared.keyword.Keyword.{Keyword}
 

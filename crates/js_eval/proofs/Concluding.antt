@@ -1,6 +1,6 @@
 -- What a keyword gives, by what is known of all that it asks for.
-use Rattle.std.specs.Prelude.{◌≡◌, ℕ, Bool, true, false, cond, List, [], ◌∷◌, ◌++◌, map, filter, refl, Result, OnOk}
-use Rattle.std.proofs.Common.{sym, ◌∙◌, ap, Ok, Err}
+use Rattle.std.specs.Prelude.{◌≡◌, ℕ, Bool, cond, List, [], ◌∷◌, ◌++◌, map, filter, refl, Result, OnOk}
+use Rattle.std.proofs.Common.{ap, Ok, Err}
 use Rattle.js_doc.specs.Value.{Value}
 use Rattle.js_assert.specs.Argument.{entries}
 use Rattle.js_eval.specs.Applications.{Application}

@@ -9,3 +9,5 @@ pub mod Items
 pub mod AskedNothing
 pub mod Among
 pub mod Concluding
+pub mod Stages
+pub mod Closing

@@ -26,6 +26,11 @@ pub record Known (Place : Type 0) : Type 0 where
   pub names : List Place → Place → Value → List Text
   pub indexes : List Place → Place → Value → List ℕ
 
+-- `false` accepts nothing; `true`, and an object by itself, everything (section 4.3.2)
+abbrev pub accepts : Value → Bool
+accepts (truth b) = b
+accepts _ = true
+
 -- ---- a schema and its keywords, by what is known of their applications
 
 module _ {Place : Type 0} (S : Schemas Place) (known : Known Place) (above : List Place) (place : Place) (v : Value) where
@@ -104,11 +109,6 @@ module _ {Place : Type 0} (S : Schemas Place) (known : Known Place) (above : Lis
   keyword_settled k = list_all application_settled (asks k)
 
   -- ---- the schema
-
-  -- `false` accepts nothing; `true`, and an object by itself, everything (section 4.3.2)
-  abbrev pub accepts : Value → Bool
-  accepts (truth b) = b
-  accepts _ = true
 
   -- each application of its keywords is settled; `true` and `false` have no keywords
   abbrev pub schema_settled : Bool

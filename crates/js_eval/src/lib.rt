@@ -6,6 +6,7 @@ mod asking;
 mod evaluated;
 mod in_place_applications;
 mod judgement;
+mod judging;
 mod keyword;
 mod keyword_judging;
 mod kind;
@@ -19,6 +20,7 @@ mod schema_set;
 mod step;
 
 pub use judgement::Judgement;
+pub use judging::judge;
 pub use kind::{Kind, kind_of};
 pub use schema_set::SchemaSet;
 pub use step::Step;

@@ -1,11 +1,9 @@
-use Rattle.std.proofs.Common.{map, ap, ◌≡◌, ◌∙◌, subst, sym}
+use Rattle.std.proofs.Common.{subst, sym}
 use Rattle.std.proofs.lemmas.Result.{IfOk-weaker}
 use Rattle.js_assert.specs.Argument.{entries}
 use Rattle.js_doc.specs.Members.{IsAscending}
 use Rattle.js_doc.specs.Seen.{value_of}
 use Rattle.js_eval.specs.Judging.{AreAmong}
-use Rattle.js_eval.specs.Keywords as table
-use Rattle.js_eval.specs.Seen.{keyword_of}
 use Rattle.js_eval.proofs.Among.{keywords_among}
 use Rattle.js_eval.proofs.keyword.keywords.Goals as goal
 

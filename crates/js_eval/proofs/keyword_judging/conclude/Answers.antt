@@ -1,4 +1,4 @@
-use Rattle.std.proofs.Common.{◌≡◌, ap, sym, ◌∙◌, map}
+use Rattle.std.proofs.Common.{ap, map}
 use Rattle.std.proofs.lemmas.Result.{on_ok_weaker}
 use Rattle.js_eval.specs.Seen.{application_of, instance_of, keyword_of, texts_of}
 use Rattle.js_eval.proofs.Concluding.{always, named, indexed}
