@@ -1,11 +1,11 @@
 //! One keyword of a schema, judged by what is known of all that it asks for.
-ghost use Rattle.std.specs.Prelude.{◌≡◌, ◌++◌, ◌&&◌, ℕ, [], IfOk, OnOk, map};
+ghost use Rattle.std.specs.Prelude.{◌≡◌, ◌++◌, ◌&&◌, ℕ, [], true, IfOk, OnOk, map};
 ghost use Rattle.std.specs.Option.{option_map_or};
 ghost use Rattle.js_assert.specs.Argument.{entries};
-ghost use Rattle.js_assert.specs.Assertion.{asserted, says};
+ghost use Rattle.js_assert.specs.Assertion as assertion;
 ghost use Rattle.js_doc.specs.Seen.{value_of};
 ghost use Rattle.js_eval.specs.Judging as judging;
-ghost use Rattle.js_eval.specs.Judging.{AreKnown, IsAmong};
+ghost use Rattle.js_eval.specs.Judging.{AreKnown, IsAmong, assertion_in};
 ghost use Rattle.js_eval.specs.Kind.{kind};
 ghost use Rattle.js_eval.specs.Passes.{passes_of};
 ghost use Rattle.js_eval.specs.Seen.{application_of, instance_of, keyword_of, texts_of};
@@ -20,7 +20,6 @@ use crate::parts::{Instance, members_in};
 use crate::passing::passes;
 use crate::schema_set::SchemaSet;
 use crate::step::Application;
-use js_assert::Assertion;
 use js_doc::{Doc, Members, Memory, Text};
 use std::alloc::Global;
 
@@ -75,40 +74,42 @@ pub(crate) fn passes_at<S: SchemaSet>(
 {
     let none = Members::new(alloc);
     let siblings = siblings_at(schemas, node.place, &none);
-    let said = match schemas.assertion(node.place, keyword.name) {
-        Some(assertion) => says_it(alloc, assertion, node.value, matching)?,
-        None => true,
-    };
+    let said = says(alloc, schemas, node, keyword.name, matching)?;
     Ok(passes(kind_of(keyword.name), siblings, node.value, said, verdicts))
 }
 
-// Whether a value holds under an assertion.
-fn says_it(
+// Whether a value holds under the assertion that a keyword of a place makes, if it makes one.
+fn says<S: SchemaSet>(
     alloc: Global,
-    assertion: &Assertion,
-    value: Instance<'_>,
+    schemas: &S,
+    node: Node<'_, '_>,
+    keyword: &str,
     matching: u64,
 ) -> Result<bool, Memory>
-    ensures { IfOk result (λ b. b ≡ says assertion.now (instance_of value.entry) matching) }
+    ensures { IfOk result (λ b. b ≡ option_map_or (λ a. assertion.says a (instance_of node.entry.value) matching)
+        (assertion_in ((S.schemas schemas.now).schema node.entry.place) keyword.now) true) }
 {
-    match value {
-        Instance::Doc(doc) => holds_on(alloc, assertion, doc, matching),
+    match node.value {
+        Instance::Doc(doc) => says_of(alloc, schemas, node.place, keyword, doc, matching),
         Instance::Name(name) => {
             let name = Doc::Text(Text::new(String::from_str(alloc, name)?));
-            holds_on(alloc, assertion, &name, matching)
+            says_of(alloc, schemas, node.place, keyword, &name, matching)
         }
     }
 }
 
-fn holds_on(
+fn says_of<S: SchemaSet>(
     alloc: Global,
-    assertion: &Assertion,
+    schemas: &S,
+    place: usize,
+    keyword: &str,
     value: &Doc,
     matching: u64,
 ) -> Result<bool, Memory>
-    ensures { IfOk result (λ b. b ≡ says assertion.now (value_of value.now) matching) }
+    ensures { IfOk result (λ b. b ≡ option_map_or (λ a. assertion.says a (value_of value.now) matching)
+        (assertion_in ((S.schemas schemas.now).schema place) keyword.now) true) }
 {
-    match assertion.check(alloc, value, matching)? {
+    match schemas.check(alloc, place, keyword, value, matching)? {
         Some(_) => Ok(false),
         None => Ok(true),
     }

@@ -1,5 +1,6 @@
 //! What a judgement asks of a set of schemas.
-ghost use Rattle.std.specs.Prelude.{◌≡◌, ℕ, IfOk, option_map};
+ghost use Rattle.std.specs.Prelude.{◌≡◌, ℕ, IfOk, option_and_then, option_map, string_bytes};
+ghost use Rattle.js_assert.specs.ErrorText.{error};
 ghost use Rattle.js_assert.specs.Pattern.{matches};
 ghost use Rattle.js_doc.specs.Seen.{value_of};
 ghost use Rattle.js_eval.specs.Judging.{assertion_in};
@@ -7,7 +8,6 @@ ghost use Rattle.js_eval.specs.Schemas.{Schemas};
 ghost use Rattle.js_eval.specs.Seen.{step_of};
 
 use crate::step::Step;
-use js_assert::Assertion;
 use js_doc::{Doc, Memory};
 use std::alloc::Global;
 
@@ -31,10 +31,21 @@ pub trait SchemaSet {
     fn dynamic_target(&self, place: usize, path: &[usize]) -> usize
         ensures { result ≡ (schemas self.now).dynamic_target path.now place };
 
-    /// The assertion that a keyword of a place makes; None where the place has no keyword of this name, or where it
-    /// isn't an assertion's.
-    fn assertion(&self, place: usize, keyword: &str) -> Option<&Assertion>
-        ensures { option_map (λ a. a.now) result ≡ assertion_in ((schemas self.now).schema place) keyword.now };
+    /// The error of the assertion that a keyword of a place makes, of a value of which so many items match the adjacent
+    /// `contains`; None where the value holds, and where the place has no such keyword, or one that makes no assertion.
+    ///
+    /// # Errors
+    /// `Memory`.
+    fn check(
+        &self,
+        alloc: Global,
+        place: usize,
+        keyword: &str,
+        value: &Doc,
+        matching: u64,
+    ) -> Result<Option<String>, Memory>
+        ensures { IfOk result (λ e. option_map string_bytes e
+            ≡ option_and_then (λ a. error a (value_of value.now) matching) (assertion_in ((schemas self.now).schema place) keyword.now)) };
 
     /// Whether a pattern of the `patternProperties` of a place matches somewhere in a name.
     fn matches(
