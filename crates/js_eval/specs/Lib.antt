@@ -13,3 +13,4 @@ pub mod Laws
 pub mod Examples
 pub mod Seen
 pub mod Judging
+pub mod Rows

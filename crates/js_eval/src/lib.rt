@@ -18,6 +18,10 @@ mod passing;
 mod pattern_applications;
 mod schema_set;
 mod step;
+#[cfg(test)]
+mod table;
+#[cfg(test)]
+mod tests;
 
 pub use judgement::Judgement;
 pub use judging::judge;
