@@ -13,7 +13,6 @@ pub mod Named
 pub mod Stopping
 pub mod Passes
 pub mod Targets
-pub mod Asked
 pub mod Assertions
 pub mod BuiltNext
 pub mod Whole
