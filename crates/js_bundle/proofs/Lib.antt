@@ -1,4 +1,5 @@
 pub mod Rows
+pub mod OnLiterals
 pub mod Added
 pub mod Keywords
 pub mod Scanning

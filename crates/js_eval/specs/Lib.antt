@@ -1,6 +1,7 @@
 pub mod Kind
 pub mod Keywords
 pub mod Schemas
+pub mod Bundle
 pub mod Applications
 pub mod Passes
 pub mod Evaluated
