@@ -1,11 +1,8 @@
 -- What a bundle is once a document was taken in, or refused.
-use Rattle.std.proofs.Common.{◌≡◌, ℕ, ◌<◌, ◌≤◌, List, [], ◌∷◌, ◌++◌, map, length, Ok, Err, refl, sym, ap, ◌∙◌, subst}
-use Rattle.std.specs.List.{AllByRecursion}
+use Rattle.std.proofs.Common.{◌≡◌, ℕ, ◌<◌, ◌≤◌, List, [], ◌∷◌, ◌++◌, map, length, refl, sym, ap, ◌∙◌, subst}
 use Rattle.std.proofs.lemmas.List.{map-append, length-map}
 use Rattle.url.specs.Parts.{Parts}
-use Rattle.js_doc.specs.Members.{NamesAscend}
 use Rattle.js_doc.specs.Reading.{IsReadFault}
-use Rattle.js_doc.specs.Seen.{value_of}
 use Rattle.js_doc.specs.declared.reading.ReadFault.{ReadFault}
 use Rattle.js_doc.specs.declared.reading.ReadFault.TheVariants as read_fault
 use Rattle.js_bundle.specs.declared.refusal.Refusal.{Refusal}
@@ -14,7 +11,7 @@ use Rattle.js_bundle.specs.Adding.{most_documents, IsUriOf, IsTaken, IsAdded, Is
 use Rattle.js_bundle.specs.Document.{Documents}
 use Rattle.js_bundle.specs.Keyword.{Text}
 use Rattle.js_bundle.specs.Url.{longest_uri}
-use Rattle.js_bundle.specs.Seen.{document_of, AreOrdered}
+use Rattle.js_bundle.specs.Seen.{document_of}
 
 unread_at : (held : ℕ) (uri : Text) (bytes : List ℕ) (u : Parts) (fault : ReadFault) → held < most_documents → length uri ≤ longest_uri → IsUriOf uri u → IsReadFault bytes fault
     → IsRefusedBy held uri bytes (refusal_of_read held fault)
@@ -34,11 +31,3 @@ added old uri bytes d docs new seen push taken = (
   subst (λ n. IsTaken n uri bytes (document_of d)) (sym (length-map old document_of) ∙ ap length seen) taken,
   ap (map document_of) push ∙ map-append document_of old (d ∷ []) ∙ ap (λ ds. ds ++ document_of d ∷ []) seen,
 )
-
-all_last : (ds : Documents) (d : rust.Document) → AreOrdered ds → NamesAscend (value_of d.root) → AreOrdered (ds ++ document_of d ∷ [])
-all_last [] d h a = (a, tt)
-all_last (e ∷ ds) d h a = (h.0, all_last ds d h.1 a)
-
-pub ordered_more : (old : List rust.Document) (d : rust.Document) (new : List rust.Document) → new ≡ old ++ d ∷ [] → AreOrdered (map document_of old) → NamesAscend (value_of d.root)
-    → AreOrdered (map document_of new)
-ordered_more old d new push h a = subst (λ ds. AreOrdered ds) (sym (ap (map document_of) push ∙ map-append document_of old (d ∷ []))) (all_last (map document_of old) d h a)

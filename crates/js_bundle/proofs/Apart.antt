@@ -1,5 +1,5 @@
 -- No two of the listed places stand at one pointer.
-use Rattle.std.proofs.Common.{◌≡◌, ℕ, suc, ◌+◌, ◌<◌, ◌≤◌, ◌^◌, List, [], ◌∷◌, ◌++◌, inl, inr, length, decimal, Less, Equal, refl, sym, ap, ◌∙◌, subst, append_assoc, arith}
+use Rattle.std.proofs.Common.{◌≡◌, ℕ, suc, ◌+◌, ◌<◌, ◌≤◌, ◌^◌, List, [], ◌∷◌, ◌++◌, inl, inr, decimal, Less, Equal, refl, sym, ap, ◌∙◌, append_assoc, arith}
 use Rattle.std.specs.List.{AllByRecursion}
 use Rattle.std.specs.Cmp.{tied_itself}
 use Rattle.std.proofs.lemmas.Cmp.{nat_list_cmp_total}
@@ -8,22 +8,23 @@ use Rattle.std.proofs.lemmas.List.{append-nil}
 use Rattle.url.specs.Parts.{Parts}
 use Rattle.js_doc.specs.Members.{name_cmp, IsBelowFirst, NamesAscend, NamesAscendInItems, NamesAscendInMembers}
 use Rattle.js_doc.specs.Pointer.{Tokens}
+use Rattle.js_doc.specs.Short.{item_count, IsShort, AreShortItems, AreShortMembers}
 use Rattle.js_doc.specs.Value.{Value, null, truth, whole, text, list, object, Items, no_items, item, Members, no_members, member}
 use Rattle.js_bundle.specs.declared.holding.Holding.{Holding}
 use Rattle.js_bundle.specs.declared.holding.Holding.TheVariants.{One, Listed, Named, Nothing}
 use Rattle.js_bundle.specs.Keyword.{Text, pairs}
-use Rattle.js_bundle.specs.Place.{holding, values, Spot, Place, chosen, places_at, places_of_keywords, places_in_list, places_of_items, places_in_object, places_of_members}
-use Rattle.js_bundle.specs.PlaceLaws.{AreApart, IsShort, AreShortItems, AreShortMembers}
+use Rattle.js_bundle.specs.Place.{holding, Spot, Place, chosen, places_at, places_of_keywords, places_in_list, places_of_items, places_in_object, places_of_members}
+use Rattle.js_bundle.specs.PlaceLaws.{AreApart}
 use Rattle.js_bundle.proofs.Listing.{Among, all_append}
 
 -- ---- names and pointers
 
-below_all : (k : Text) (ms : Members) → IsBelowFirst k ms → NamesAscendInMembers ms → (l : Text) (w : Value) → Among (l, w) (pairs ms) → name_cmp k l ≡ Less
+pub below_all : (k : Text) (ms : Members) → IsBelowFirst k ms → NamesAscendInMembers ms → (l : Text) (w : Value) → Among (l, w) (pairs ms) → name_cmp k l ≡ Less
 below_all k no_members b a l w h = absurd h
 below_all k (member l' w' ms) b a l w (inl e) = ap (name_cmp k) (ap (λ m. m.0) e) ∙ b
 below_all k (member l' w' ms) b a l w (inr h) = nat_list_cmp_total.trans k l' l b (below_all l' ms a.0 a.2 l w h)
 
-less_apart : (k l : Text) → name_cmp k l ≡ Less → ¬ (k ≡ l)
+pub less_apart : (k l : Text) → name_cmp k l ≡ Less → ¬ (k ≡ l)
 less_apart k l h e =
     let same : name_cmp k l ≡ Equal = ap (λ x. name_cmp x l) e ∙ tied_itself nat_list_cmp_total l in
     absurd (cc)
@@ -54,7 +55,7 @@ pub record UnderItem (least most : ℕ) (p q : Tokens) : Type 0 where
   pub high : index < most
   pub starts : Starts (p ++ decimal index ∷ []) q
 
-all_as : (P Q : Place → Type 0) → ((t : Place) → P t → Q t) → (xs : List Place) → AllByRecursion P xs → AllByRecursion Q xs
+pub all_as : (P Q : Place → Type 0) → ((t : Place) → P t → Q t) → (xs : List Place) → AllByRecursion P xs → AllByRecursion Q xs
 all_as P Q f [] h = tt
 all_as P Q f (x ∷ xs) h = (f x h.0, all_as P Q f xs h.1)
 
@@ -97,17 +98,17 @@ module _ (number : ℕ) (uri : Parts) where
 
     starts_list : (v : Value) (above : List Spot) (p : Tokens) → AllByRecursion (At p) (places_in_list number uri above p v)
     starts_list (list vs) above p =
-        all_as (λ t. UnderItem 0 (0 + length (values vs)) p t.spot.pointer) (At p) (λ t u. shorter p (decimal u.index) t.spot.pointer u.starts) (places_of_items number uri above p 0 vs) (starts_items vs above p 0)
+        all_as (λ t. UnderItem 0 (0 + item_count vs) p t.spot.pointer) (At p) (λ t u. shorter p (decimal u.index) t.spot.pointer u.starts) (places_of_items number uri above p 0 vs) (starts_items vs above p 0)
     starts_list _ above p = tt
 
-    starts_items : (vs : Items) (above : List Spot) (p : Tokens) (i : ℕ) → AllByRecursion (λ t. UnderItem i (i + length (values vs)) p t.spot.pointer) (places_of_items number uri above p i vs)
+    starts_items : (vs : Items) (above : List Spot) (p : Tokens) (i : ℕ) → AllByRecursion (λ t. UnderItem i (i + item_count vs) p t.spot.pointer) (places_of_items number uri above p i vs)
     starts_items no_items above p i = tt
     starts_items (item v vs) above p i =
         let q = p ++ decimal i ∷ [] in
-        let most = i + length (values (item v vs)) in
+        let most = i + item_count (item v vs) in
         all_append (λ t. UnderItem i most p t.spot.pointer) (places_at number uri above q v) (places_of_items number uri above p (suc i) vs)
         (all_as (At q) (λ t. UnderItem i most p t.spot.pointer) (λ t s. record { index = i; low = omega arith; high = omega arith; starts = s }) (places_at number uri above q v) (starts_at v above q))
-        (all_as (λ t. UnderItem (suc i) (suc i + length (values vs)) p t.spot.pointer) (λ t. UnderItem i most p t.spot.pointer)
+        (all_as (λ t. UnderItem (suc i) (suc i + item_count vs) p t.spot.pointer) (λ t. UnderItem i most p t.spot.pointer)
         (λ t u. record { index = u.index; low = omega (arith, u.low); high = omega (arith, u.high); starts = u.starts }) (places_of_items number uri above p (suc i) vs) (starts_items vs above p (suc i)))
 
     starts_object : (v : Value) (above : List Spot) (p : Tokens) → AllByRecursion (At p) (places_in_object number uri above p v)
@@ -186,12 +187,12 @@ module _ (number : ℕ) (uri : Parts) where
     apart_list (list vs) above p a s = apart_items vs above p 0 a s.1 (omega (arith, s.0))
     apart_list _ above p a s = tt
 
-    apart_items : (vs : Items) (above : List Spot) (p : Tokens) (i : ℕ) → NamesAscendInItems vs → AreShortItems vs → i + length (values vs) ≤ 2 ^ 64 → AreApart (places_of_items number uri above p i vs)
+    apart_items : (vs : Items) (above : List Spot) (p : Tokens) (i : ℕ) → NamesAscendInItems vs → AreShortItems vs → i + item_count vs ≤ 2 ^ 64 → AreApart (places_of_items number uri above p i vs)
     apart_items no_items above p i a s h = tt
     apart_items (item v vs) above p i a s h =
         let q = p ++ decimal i ∷ [] in
-        let short : suc i + length (values vs) ≤ 2 ^ 64 = omega (arith, h) in
-        apart_append (At q) (λ t. UnderItem (suc i) (suc i + length (values vs)) p t.spot.pointer) (items_apart i (suc i + length (values vs)) p short) (places_at number uri above q v) (places_of_items number uri above p (suc i) vs)
+        let short : suc i + item_count vs ≤ 2 ^ 64 = omega (arith, h) in
+        apart_append (At q) (λ t. UnderItem (suc i) (suc i + item_count vs) p t.spot.pointer) (items_apart i (suc i + item_count vs) p short) (places_at number uri above q v) (places_of_items number uri above p (suc i) vs)
         (starts_at v above q) (starts_items vs above p (suc i)) (apart_at v above q a.0 s.0) (apart_items vs above p (suc i) a.1 s.1 short)
 
     apart_object : (v : Value) (above : List Spot) (p : Tokens) → NamesAscend v → IsShort v → AreApart (places_in_object number uri above p v)

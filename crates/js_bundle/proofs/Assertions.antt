@@ -1,7 +1,6 @@
 -- What the reading of an assertion says of the rules for it.
-use Rattle.std.proofs.Common.{◌≡◌, ℕ, List, [], ◌∷◌, ◌++◌, Bool, true, false, not, ◌&&◌, Option, Some, None, codes, bytes_eq, inl, refl, sym, ap, ◌∙◌, subst}
+use Rattle.std.proofs.Common.{◌≡◌, List, [], ◌∷◌, Bool, true, false, not, ◌&&◌, codes, bytes_eq, inl, refl, sym, ap, ◌∙◌, subst}
 use Rattle.std.specs.Option.{option_map_or}
-use Rattle.std.proofs.lemmas.Bool.{and_parts}
 use Rattle.js_doc.specs.Value.{Value, null, truth, whole, text, list, object}
 use Rattle.js_doc.proofs.Named.{is_text-sound}
 use Rattle.js_assert.specs.declared.fault.KeywordFault.TheVariants.{BadKeyword, NotAPattern, PatternTooLarge}

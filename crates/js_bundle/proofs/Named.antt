@@ -1,16 +1,16 @@
 -- Places by number, and what a text is read as.
-use Rattle.std.proofs.Common.{◌≡◌, ℕ, ◌+◌, List, [], ◌∷◌, ◌++◌, Bool, true, false, cond, not, is_none, is_some, Option, Some, None, option_and_then, slice_get, find, refl, sym, ap, ◌∙◌, subst, zero, suc, arith}
+use Rattle.std.proofs.Common.{◌≡◌, ℕ, ◌+◌, List, [], ◌∷◌, Bool, true, false, cond, is_none, Option, Some, None, option_map, option_and_then, slice_get, find, refl, sym, ap, ◌∙◌, add-one}
 use Rattle.std.specs.List.{position_from}
-use Rattle.std.specs.Option.{option_map_or}
 use Rattle.std.specs.Str.{IsUtf8, is_utf8}
-use Rattle.std.proofs.lemmas.Str.{IsUtf8-from_is_utf8, is_utf8-from_IsUtf8}
+use Rattle.std.proofs.lemmas.Str.{IsUtf8-from_is_utf8}
+use Rattle.url.specs.Parts.{Parts}
 use Rattle.js_doc.specs.Pointer.{Tokens, pointer_text}
 use Rattle.js_doc.specs.PointerReading.{pointer_of}
 use Rattle.js_doc.proofs.PointerTexts.{pointer_of-text, pointer_of-sound}
 use Rattle.js_bundle.specs.Keyword.{Text}
-use Rattle.js_bundle.specs.Names.{is_pointer}
+use Rattle.js_bundle.specs.Finding.{number_named}
+use Rattle.js_bundle.specs.Names.{names, named}
 use Rattle.js_bundle.specs.Resource.{Site}
-use Rattle.js_bundle.specs.Finding.{number_in, number_below, number_anchored}
 
 pub not_utf8 : (bs : List ℕ) → ¬ (IsUtf8 bs) → (b : Bool) → is_utf8 bs ≡ b → is_utf8 bs ≡ false
 not_utf8 bs h true e = absurd (h (IsUtf8-from_is_utf8 bs e))
@@ -40,3 +40,34 @@ none_alike f n (x ∷ xs) = by_test (f x) f n x xs (none_alike f (n + 1) xs)
         → is_none (cond b (Some n) (position_from f (n + 1) xs)) ≡ is_none (cond b (Some x) (find f xs))
     by_test true f n x xs e = refl
     by_test false f n x xs e = e
+
+-- ---- what stands at the number
+
+shifted : {A : Type 0} (f : A → Bool) (n : ℕ) (xs : List A) → position_from f (n + 1) xs ≡ option_map (λ i. i + 1) (position_from f n xs)
+shifted f n [] = refl
+shifted f n (x ∷ xs) = by_test (f x) f n xs (shifted f (n + 1) xs)
+  where
+    by_test : {A : Type 0} (b : Bool) (f : A → Bool) (n : ℕ) (xs : List A) → position_from f (n + 1 + 1) xs ≡ option_map (λ i. i + 1) (position_from f (n + 1) xs)
+        → cond b (Some (n + 1)) (position_from f (n + 1 + 1) xs) ≡ option_map (λ i. i + 1) (cond b (Some n) (position_from f (n + 1) xs))
+    by_test true f n xs e = refl
+    by_test false f n xs e = e
+
+get_next : {A : Type 0} (x : A) (xs : List A) (i : ℕ) → slice_get (x ∷ xs) (i + 1) ≡ slice_get xs i
+get_next x xs i = ap (slice_get (x ∷ xs)) (add-one i)
+
+get_later : {A : Type 0} (x : A) (xs : List A) (o : Option ℕ) → option_and_then (slice_get (x ∷ xs)) (option_map (λ i. i + 1) o) ≡ option_and_then (slice_get xs) o
+get_later x xs None = refl
+get_later x xs (Some i) = get_next x xs i
+
+pub found_at : {A : Type 0} (f : A → Bool) (xs : List A) → option_and_then (slice_get xs) (position_from f 0 xs) ≡ find f xs
+found_at f [] = refl
+found_at f (x ∷ xs) = by_test (f x) f x xs (ap (option_and_then (slice_get (x ∷ xs))) (shifted f 0 xs) ∙ get_later x xs (position_from f 0 xs) ∙ found_at f xs)
+  where
+    by_test : {A : Type 0} (b : Bool) (f : A → Bool) (x : A) (xs : List A) → option_and_then (slice_get (x ∷ xs)) (position_from f 1 xs) ≡ find f xs
+        → option_and_then (slice_get (x ∷ xs)) (cond b (Some 0) (position_from f 1 xs)) ≡ cond b (Some x) (find f xs)
+    by_test true f x xs e = refl
+    by_test false f x xs e = e
+
+pub target_at : (all : List Site) (r : Option Parts) → option_and_then (slice_get all) (option_and_then (number_named all) r) ≡ option_and_then (named all) r
+target_at all None = refl
+target_at all (Some uri) = found_at (names all uri) all

@@ -1,10 +1,10 @@
 -- The definitions on documents written out: each line is a worked example, and holds by computation.
-use Rattle.std.proofs.Common.{◌≡◌, ℕ, pos, List, [], ◌∷◌, ◌++◌, map, Bool, true, false, Option, Some, None, option_map, option_and_then, codes, refl, Ok, Err}
+use Rattle.std.proofs.Common.{◌≡◌, pos, List, [], ◌∷◌, ◌++◌, map, true, false, Option, Some, None, option_map, option_and_then, codes, refl}
 use Rattle.std.specs.List.{last_or, filter_map}
 use Rattle.url.proofs.OnLiterals.{url_on_literals}
-use Rattle.url.specs.Parser.{parse_url, Parsed}
+use Rattle.url.specs.Parser.{parse_url}
 use Rattle.url.specs.Parts.{Parts}
-use Rattle.js_doc.specs.Value.{Value, null, truth, text, list, object, items, members, whole}
+use Rattle.js_doc.specs.Value.{Value, truth, text, list, object, items, members, whole}
 use Rattle.js_assert.specs.Keyword.{keyword_named}
 use Rattle.js_bundle.specs.declared.refusal.Refusal.{Refusal}
 use Rattle.js_bundle.specs.declared.refusal.RefusalKind.TheVariants.{BadKeyword, NotASchema, BadId, BadAnchor, DuplicateUri, DuplicateAnchor, UnknownDialect, Unresolved, BadReference}
@@ -17,7 +17,6 @@ use Rattle.js_bundle.specs.Names.{named}
 use Rattle.js_bundle.specs.Location.{absolute}
 use Rattle.js_bundle.specs.Target.{target, dynamic_target}
 use Rattle.js_bundle.specs.Refusals.{refusals}
-use Rattle.std.specs.Option.{option_map_or}
 
 abbrev at_uri : Option Parts → Value → Documents
 at_uri (Some uri) root = record { uri = uri; root = root } ∷ []

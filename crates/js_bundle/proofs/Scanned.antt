@@ -8,9 +8,9 @@ use Rattle.js_doc.specs.Value.{Value, null, truth, whole, text, list, object, It
 use Rattle.js_bundle.specs.declared.holding.Holding.{Holding}
 use Rattle.js_bundle.specs.declared.holding.Holding.TheVariants.{One, Listed, Named, Nothing}
 use Rattle.js_bundle.specs.declared.scope.Scope.{Scope}
-use Rattle.js_bundle.specs.Document.{Document, Documents}
-use Rattle.js_bundle.specs.Place.{Spot, Place, holding, chosen, places_at, places_of_keywords, places_in_list, places_of_items, places_in_object, places_of_members, places_from, places}
-use Rattle.js_bundle.specs.Resource.{Site, site, sites, scope_below, root_scope}
+use Rattle.js_bundle.specs.Document.{Documents}
+use Rattle.js_bundle.specs.Place.{Spot, Place, holding, chosen, places_at, places_of_keywords, places_in_list, places_of_items, places_in_object, places_of_members, places_from}
+use Rattle.js_bundle.specs.Resource.{Site, site, scope_below, root_scope}
 use Rattle.js_bundle.specs.Scan.{site_at, sites_held, sites_at, sites_of_keywords, sites_in_list, sites_of_items, sites_in_object, sites_of_members, sites_from}
 
 fold_last : {A B : Type 0} (f : B → A → B) (b : B) (xs : List A) (x : A) → fold f b (xs ++ x ∷ []) ≡ f (fold f b xs) x

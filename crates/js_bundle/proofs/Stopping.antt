@@ -41,6 +41,10 @@ pub later_err : {A : Type 0} (xs ys : List Candidate) → IsClear xs → (r : Re
 later_err xs ys h (Ok u) g = tt
 later_err xs ys h (Err e) g = stopped_later xs ys e h g
 
+pub clear_from_ok : {A : Type 0} (xs ys : List Candidate) → IsClear xs → (r : Result A Fault) → OnOk r (IsClear ys) → OnOk r (IsClear (xs ++ ys))
+clear_from_ok xs ys h (Ok u) g = clear_append xs ys h g
+clear_from_ok xs ys h (Err e) g = tt
+
 pub clear_here : (xs ys : List Candidate) → IsClear (xs ++ ys) → IsClear xs
 clear_here [] ys h = tt
 clear_here (c ∷ xs) ys h = (h.0, clear_here xs ys h.1)

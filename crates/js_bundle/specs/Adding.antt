@@ -3,7 +3,6 @@ use Rattle.std.specs.Prelude.{◌≡◌, ℕ, ◌<◌, ◌≤◌, List, [], ◌�
 use Rattle.url.specs.Parts.{Parts}
 use Rattle.url.specs.Parser.{Parsed, parse_url}
 use Rattle.js_doc.specs.Pointer.{Tokens}
-use Rattle.js_doc.specs.Value.{Value}
 use Rattle.js_doc.specs.Reading.{IsReadAs, IsNotJson}
 use Rattle.js_bundle.specs.declared.refusal.Refusal.{Refusal}
 use Rattle.js_bundle.specs.declared.refusal.RefusalKind.{RefusalKind}

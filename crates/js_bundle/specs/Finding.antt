@@ -1,5 +1,5 @@
 -- How the code finds places: by their numbers in the list.
-use Rattle.std.specs.Prelude.{◌≡◌, ℕ, ◌+◌, List, [], ◌∷◌, ◌++◌, Bool, true, false, not, ◌||◌, is_some, Option, Some, None, option_map, option_and_then}
+use Rattle.std.specs.Prelude.{◌≡◌, ℕ, ◌+◌, List, [], ◌∷◌, ◌++◌, Bool, false, not, ◌||◌, is_some, Option, Some, None, option_and_then, unwrap_or, codes, if◌then◌else◌}
 use Rattle.std.specs.Borrow.{Bor}
 use Rattle.std.specs.List.{position_from}
 use Rattle.url.specs.Parts.{Parts}
@@ -8,14 +8,15 @@ use Rattle.js_bundle.specs.declared.refusal.Refusal.{Refusal}
 use Rattle.js_bundle.specs.declared.fault.Fault.{Fault}
 use Rattle.js_bundle.specs.declared.fault.Fault.TheVariants.{Memory, Refused}
 use Rattle.js_bundle.specs.declared.reference.Reference.{Reference}
-use Rattle.js_bundle.specs.Keyword.{Text}
+use Rattle.js_bundle.specs.declared.reference.DynamicReference.{DynamicReference}
+use Rattle.js_bundle.specs.Keyword.{Text, text_argument}
 use Rattle.js_bundle.specs.Names.{names, stands_at, by_anchor, by_dynamic_anchor, is_named_by, is_pointer}
 use Rattle.js_bundle.specs.declared.names.NameFault.{NameFault}
 use Rattle.js_bundle.specs.declared.names.NameFault.TheVariants as fault
 use Rattle.js_doc.specs.PointerReading.{pointer_of}
 use Rattle.std.specs.Option.{option_map_or}
-use Rattle.js_bundle.specs.Resource.{Site, joined}
-use Rattle.js_bundle.specs.Target.{reference}
+use Rattle.js_bundle.specs.Resource.{Site}
+use Rattle.js_bundle.specs.Target.{reference, first_target, is_dynamic, outermost}
 
 -- the number of the place that a URI names
 abbrev pub number_named : List Site → Parts → Option ℕ
@@ -34,6 +35,23 @@ pair_of n (Some t) = record { place = n; target = t } ∷ []
 abbrev pub pairs_of : (Site → Option ℕ) → ℕ → List Site → List Reference
 pairs_of f n [] = []
 pairs_of f n (s ∷ ss) = pair_of n (f s) ++ pairs_of f (n + 1) ss
+
+-- whether the fragment of a place's `$dynamicRef` is a name that `$dynamicAnchor` makes at its first target
+abbrev pub goes_by_name : List Site → Site → Bool
+goes_by_name all place =
+    option_map_or (is_dynamic (reference (codes "$dynamicRef") place)) (first_target all (codes "$dynamicRef") place) false
+
+abbrev pub dynamic_of : ℕ → Option ℕ → Bool → List DynamicReference
+dynamic_of n None by_name = []
+dynamic_of n (Some t) by_name = record { place = n; target = t; by_name = by_name } ∷ []
+
+abbrev pub dynamic_at : List Site → ℕ → Site → List DynamicReference
+dynamic_at all n place = dynamic_of n (number_of_target all (codes "$dynamicRef") place) (goes_by_name all place)
+
+-- where a first target leads in a dynamic scope: by its own name, where the reference goes by name
+abbrev pub by_scope : List Site → List Site → Bool → Site → Site
+by_scope all path by_name first =
+    if by_name then unwrap_or (option_and_then (λ name. outermost all name path) (text_argument (codes "$dynamicAnchor") first.schema)) first else first
 
 -- ---- the parts of it: by the root of the resource, if there is one
 

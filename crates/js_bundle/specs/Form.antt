@@ -1,7 +1,7 @@
 -- The form of each argument that isn't an assertion's (JSON Schema Core, sections 8, 10 and 11).
-use Rattle.std.specs.Prelude.{ℕ, List, [], ◌∷◌, Bool, true, false, codes, bytes_eq, if◌then◌else◌}
+use Rattle.std.specs.Prelude.{List, [], ◌∷◌, Bool, true, false, codes, bytes_eq, if◌then◌else◌}
 use Rattle.std.specs.List.{list_any}
-use Rattle.js_doc.specs.Value.{Value, truth, text, list, object, Items, no_items, item}
+use Rattle.js_doc.specs.Value.{Value, truth, text, list, object, item}
 use Rattle.js_bundle.specs.Keyword.{Text}
 use Rattle.js_bundle.specs.Place.{list_of_schemas, object_of_schemas}
 

@@ -16,3 +16,6 @@ pub mod Seen
 pub mod Scan
 pub mod Finding
 pub mod Built
+pub mod Schemas
+pub mod Spot
+pub mod Finished

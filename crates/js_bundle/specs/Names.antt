@@ -1,6 +1,6 @@
 -- Which place a URI names (JSON Schema Core, sections 8.2.1, 8.2.2 and 9.2.1): the URI without its fragment is that of
 -- a resource, and the fragment is a pointer from the resource's root, or a name that a place of the resource makes.
-use Rattle.std.specs.Prelude.{ℕ, List, [], ◌∷◌, ◌++◌, Bool, true, false, ◌&&◌, ◌||◌, ◌==◌, nat_le, nat_eq, not, Option, Some, None, is_some, option_map, codes, bytes_eq, find, if◌then◌else◌}
+use Rattle.std.specs.Prelude.{ℕ, List, [], ◌∷◌, ◌++◌, Bool, true, false, ◌&&◌, ◌||◌, ◌==◌, nat_le, not, Option, is_some, codes, bytes_eq, find, if◌then◌else◌}
 use Rattle.std.specs.List.{list_any, list_all}
 use Rattle.std.specs.Option.{option_map_or}
 use Rattle.std.specs.Str.{is_utf8}

@@ -1,11 +1,12 @@
 -- The list of places has exactly the places of the least set, each once.
-use Rattle.std.specs.Prelude.{◌≡◌, ℕ, ◌<◌, ◌^◌, List, [], ◌∷◌, ◌⊎◌, length}
+use Rattle.std.specs.Prelude.{◌≡◌, ℕ, List, [], ◌∷◌, ◌⊎◌}
 use Rattle.std.specs.List.{AllByRecursion}
 use Rattle.url.specs.Parts.{Parts}
 use Rattle.js_doc.specs.Members.{NamesAscend}
 use Rattle.js_doc.specs.Pointer.{Tokens}
-use Rattle.js_doc.specs.Value.{Value, null, truth, whole, text, list, object, Items, no_items, item, Members, no_members, member}
-use Rattle.js_bundle.specs.Place.{IsPlace, Place, places_at, values}
+use Rattle.js_doc.specs.Short.{IsShort}
+use Rattle.js_doc.specs.Value.{Value}
+use Rattle.js_bundle.specs.Place.{IsPlace, Place, places_at}
 
 -- the list has a place at the pointer, with this schema
 abbrev pub Lists : Tokens → Value → List Place → Type 0
@@ -26,23 +27,6 @@ abbrev pub ListsThePlaces : Type 0
 ListsThePlaces = (number : ℕ) (uri : Parts) (root : Value) → IsListOf root (places_at number uri [] [] root)
 
 -- ---- each once, in a value as it is read: the names of each object ascend, and no list has 2^64 items
-
-abbrev mutual
-  pub IsShort : Value → Type 0
-  IsShort null = Unit {0}
-  IsShort (truth b) = Unit {0}
-  IsShort (whole z) = Unit {0}
-  IsShort (text s) = Unit {0}
-  IsShort (list vs) = (length (values vs) < 2 ^ 64) × AreShortItems vs
-  IsShort (object ms) = AreShortMembers ms
-
-  pub AreShortItems : Items → Type 0
-  AreShortItems no_items = Unit {0}
-  AreShortItems (item v vs) = IsShort v × AreShortItems vs
-
-  pub AreShortMembers : Members → Type 0
-  AreShortMembers no_members = Unit {0}
-  AreShortMembers (member k v ms) = IsShort v × AreShortMembers ms
 
 abbrev pub ListsEachOnce : Type 0
 ListsEachOnce = (number : ℕ) (uri : Parts) (root : Value) → NamesAscend root → IsShort root → AreApart (places_at number uri [] [] root)

@@ -1,6 +1,6 @@
 -- What is refused, in order (JSON Schema Core, sections 4.3, 8 and 9.1): first each place with its keywords, then each
 -- reference. Each rule is a line.
-use Rattle.std.specs.Prelude.{◌≡◌, ℕ, List, [], ◌∷◌, ◌++◌, length, Bool, true, false, not, ◌&&◌, ◌||◌, ◌==◌, Option, Some, None, is_some, is_none, Ok, Err, nat_lt, nat_le, codes, bytes_eq, flat_map, if◌then◌else◌}
+use Rattle.std.specs.Prelude.{◌≡◌, ℕ, List, [], ◌∷◌, ◌++◌, length, Bool, true, false, not, ◌&&◌, ◌||◌, Option, Some, None, is_none, Ok, Err, nat_lt, nat_le, codes, bytes_eq, flat_map, ◌⊎◌, if◌then◌else◌}
 use Rattle.std.specs.List.{list_any}
 use Rattle.url.specs.Parts.{Parts}
 use Rattle.url.specs.Parser.{Parsed, parse_url}
@@ -10,8 +10,10 @@ use Rattle.js_assert.specs.Form as assertion
 use Rattle.js_assert.specs.Pattern.{is_in_grammar, nests_too_deep}
 use Rattle.js_bundle.specs.declared.refusal.Refusal.{Refusal}
 use Rattle.js_bundle.specs.declared.refusal.RefusalKind.{RefusalKind}
-use Rattle.js_bundle.specs.declared.refusal.RefusalKind.TheVariants.{UriTooLong, NotASchema, BadKeyword, BadPattern, PatternTooLarge, BadId, BadAnchor, UnknownDialect, DuplicateUri, DuplicateAnchor, TooManyPlaces, BadReference, Unresolved}
-use Rattle.js_bundle.specs.Candidate.{Candidate, decided_in}
+use Rattle.js_bundle.specs.declared.refusal.RefusalKind.TheVariants.{Memory, UriTooLong, NotASchema, BadKeyword, BadPattern, PatternTooLarge, BadId, BadAnchor, UnknownDialect, DuplicateUri, DuplicateAnchor, TooManyPlaces, BadReference, Unresolved}
+use Rattle.js_bundle.specs.declared.fault.Fault.{Fault}
+use Rattle.js_bundle.specs.declared.fault.Fault.TheVariants as fault
+use Rattle.js_bundle.specs.Candidate.{Candidate, IsFirst, decided_in}
 use Rattle.js_bundle.specs.Document.{Documents}
 use Rattle.js_bundle.specs.Keyword.{Text, keywords, text_argument}
 use Rattle.js_bundle.specs.Url.{longest_uri, without_fragment, printed, raw_fragment, fragment}
@@ -101,24 +103,32 @@ assertion_rules place k argument =
     when (not (assertion.has_form k argument)) (decided place (k ∷ []) BadKeyword)
     ++ (if is k (codes "pattern") then on_text (at_pattern place (k ∷ [])) argument else [])
 
--- of another keyword, by its name
-abbrev pub own_rules : List Site → Site → Text → Value → List Candidate
-own_rules before place k argument =
-    if is k (codes "$schema") then on_text (at_dialect place (k ∷ [])) argument
-    else (if is k (codes "$id") then on_text (at_id before place (k ∷ [])) argument
-    else (if is k (codes "$anchor") then on_text (at_anchor before place (k ∷ [])) argument
-    else (if is k (codes "$dynamicAnchor") then on_text (at_anchor before place (k ∷ [])) argument
-    else (if is k (codes "patternProperties") then flat_map (λ n. at_pattern place (k ∷ n.0 ∷ []) n.0) (keywords argument) else []))))
+-- of a text argument, by its keyword's name
+abbrev pub text_rules : List Site → Site → Text → Text → List Candidate
+text_rules before place k t =
+    if is k (codes "$schema") then at_dialect place (k ∷ []) t
+    else (if is k (codes "$id") then at_id before place (k ∷ []) t
+    else (if is k (codes "$anchor") then at_anchor before place (k ∷ []) t
+    else (if is k (codes "$dynamicAnchor") then at_anchor before place (k ∷ []) t else [])))
+
+-- of `patternProperties`: its names are patterns (section 10.3.2.2)
+abbrev pub name_rules : Site → Text → Value → List Candidate
+name_rules place k argument =
+    if is k (codes "patternProperties") then flat_map (λ n. at_pattern place (k ∷ n.0 ∷ []) n.0) (keywords argument) else []
 
 -- of a keyword, its form first
 abbrev pub at_keyword : List Site → Site → Text × Value → List Candidate
 at_keyword before place m =
-    when (not (has_form m.0 m.1)) (decided place (m.0 ∷ []) BadKeyword) ++ (assertion_rules place m.0 m.1 ++ own_rules before place m.0 m.1)
+    when (not (has_form m.0 m.1)) (decided place (m.0 ∷ []) BadKeyword)
+    ++ (assertion_rules place m.0 m.1 ++ (on_text (text_rules before place m.0) m.1 ++ name_rules place m.0 m.1))
+
+-- of a place and its keywords
+abbrev pub at_site : List Site → Site → List Candidate
+at_site before place = at_place before place ++ flat_map (at_keyword before place) (keywords place.schema)
 
 abbrev pub first_pass : List Site → List Site → List Candidate
 first_pass before [] = []
-first_pass before (place ∷ rest) =
-    (at_place before place ++ flat_map (at_keyword before place) (keywords place.schema)) ++ first_pass (before ++ place ∷ []) rest
+first_pass before (place ∷ rest) = at_site before place ++ first_pass (before ++ place ∷ []) rest
 
 -- ---- the second pass: references, by place in scan order (section 8.2.3)
 
@@ -150,3 +160,18 @@ candidates documents = first_pass [] (sites documents) ++ second_pass (sites doc
 -- the refusals of a list of documents: the first of them is answered
 abbrev pub refusals : Documents → List Refusal
 refusals documents = decided_in (candidates documents)
+
+-- want of memory is told of no place
+abbrev pub no_memory : Refusal
+no_memory = record { document = 0; place = []; kind = Memory }
+
+-- documents that are checked whole may be refused so: want of memory may come at any time
+abbrev pub IsRefusalOf : Documents → Refusal → Type 0
+IsRefusalOf documents r = (r ≡ no_memory) ⊎ IsFirst (candidates documents) r
+
+-- ---- words for the parts
+
+-- the refusal that is told of a check's fault
+abbrev pub refusal_of : Fault → Refusal
+refusal_of fault.Memory = no_memory
+refusal_of (fault.Refused r) = r

@@ -1,7 +1,6 @@
 -- The scan, with the scope of a place handed down to the places below it. `proofs/Scanned` shows that it lists the sites
 -- of the places, in their order.
-use Rattle.std.specs.Prelude.{◌≡◌, ℕ, suc, List, [], ◌∷◌, ◌++◌, take, decimal, codes, if◌then◌else◌, map, is_some}
-use Rattle.url.specs.Parts.{Parts}
+use Rattle.std.specs.Prelude.{◌≡◌, ℕ, suc, List, [], ◌∷◌, ◌++◌, take, decimal, codes, if◌then◌else◌, is_some}
 use Rattle.js_doc.specs.Pointer.{Tokens}
 use Rattle.js_doc.specs.Seen.{value_of}
 use Rattle.js_doc.specs.Value.{Value, list, object, Items, no_items, item, Members, no_members, member}
@@ -9,7 +8,7 @@ use Rattle.js_bundle.specs.declared.holding.Holding.{Holding}
 use Rattle.js_bundle.specs.declared.holding.Holding.TheVariants.{One, Listed, Named, Nothing}
 use Rattle.js_bundle.specs.declared.scope.Scope.{Scope}
 use Rattle.js_bundle.specs.declared.scan.Site as rust
-use Rattle.js_bundle.specs.Document.{Document, Documents}
+use Rattle.js_bundle.specs.Document.{Documents}
 use Rattle.js_bundle.specs.Keyword.{has}
 use Rattle.js_bundle.specs.Place.{holding}
 use Rattle.js_bundle.specs.Resource.{Site, sites, identified, scope_below, root_scope}

@@ -1,5 +1,5 @@
 -- What references lead to (JSON Schema Core, section 8.2.3).
-use Rattle.std.specs.Prelude.{ℕ, List, [], ◌∷◌, Bool, false, ◌&&◌, Option, Some, None, option_map, option_and_then, unwrap_or, codes, find, if◌then◌else◌}
+use Rattle.std.specs.Prelude.{List, [], ◌∷◌, Bool, false, ◌&&◌, Option, None, option_map, option_and_then, unwrap_or, codes, find, if◌then◌else◌}
 use Rattle.std.specs.Option.{option_or, option_map_or}
 use Rattle.url.specs.Parts.{Parts}
 use Rattle.js_bundle.specs.Keyword.{Text, text_argument}

@@ -1,5 +1,5 @@
 -- URIs, as `url` reads, joins and prints them (RFC 3986; URL Standard).
-use Rattle.std.specs.Prelude.{ℕ, List, [], Option, Some, None, Ok, Err, unwrap_or}
+use Rattle.std.specs.Prelude.{ℕ, [], Option, Some, None, Ok, Err, unwrap_or}
 use Rattle.percent_encoding.specs.Percent.{percent_decode}
 use Rattle.url.specs.Parts.{Parts, serialize}
 use Rattle.url.specs.Parser.{Parsed}

@@ -1,16 +1,45 @@
 //! What is built of keywords: assertions, and the patterns of `patternProperties`.
 ghost use Rattle.std.specs.Prelude.{◌≡◌, [], ◌∷◌, ◌++◌, map, flat_map, OnOk, IfOk, IfErr};
-ghost use Rattle.js_bundle.specs.Built.{pattern_at};
+ghost use Rattle.js_doc.specs.Seen.{value_of};
+ghost use Rattle.js_bundle.specs.Built.{assertion_of, pattern_at, patterns_of};
 ghost use Rattle.js_bundle.specs.Candidate.{IsClear, IsStopped};
-ghost use Rattle.js_bundle.specs.Refusals.{at_pattern};
+ghost use Rattle.js_bundle.specs.Keyword.{keywords};
+ghost use Rattle.js_bundle.specs.Refusals.{at_pattern, name_rules};
 ghost use Rattle.js_bundle.specs.Scan.{site_of};
 
 use crate::fault::{Fault, refuse_member};
 use crate::refusal::RefusalKind;
 use crate::scan::Site;
-use js_assert::{Pattern, PatternFault};
-use js_doc::{Members, Text};
+use js_assert::{Assertion, Pattern, PatternFault};
+use js_doc::{Doc, Members, Memory, Text};
 use std::alloc::Global;
+
+/// What the first pass builds of the places' keywords.
+#[derive(Drop)]
+pub(crate) struct Built {
+    pub(crate) assertions: Vec<BuiltAssertion>,
+    pub(crate) patterns: Vec<BuiltPattern>,
+}
+
+impl Built {
+    pub(crate) fn new(alloc: Global) -> Built
+        ensures assertions { result.assertions.items ≡ [] }
+        ensures patterns { result.patterns.items ≡ [] }
+    {
+        Built {
+            assertions: Vec::new(alloc),
+            patterns: Vec::new(alloc),
+        }
+    }
+}
+
+/// An assertion of a place, under its keyword.
+#[derive(Drop)]
+pub(crate) struct BuiltAssertion {
+    pub(crate) place: usize,
+    pub(crate) keyword: Text,
+    pub(crate) assertion: Assertion,
+}
 
 /// A pattern among the `patternProperties` of a place, under its name.
 #[derive(Drop)]
@@ -18,6 +47,26 @@ pub(crate) struct BuiltPattern {
     pub(crate) place: usize,
     pub(crate) name: Text,
     pub(crate) pattern: Pattern,
+}
+
+/// Keeps a place's assertion, if the keyword is one.
+pub(crate) fn keep_assertion(
+    out: &mut Vec<BuiltAssertion>,
+    place: usize,
+    keyword: &str,
+    assertion: Option<Assertion>,
+) -> Result<(), Memory>
+    ensures { OnOk result (out.new.items ≡ out.old.items ++ assertion_of place keyword.now assertion) }
+{
+    if let Some(assertion) = assertion {
+        let keyword = Text::new(String::from_str(*out.allocator(), keyword)?);
+        out.push(BuiltAssertion {
+            place,
+            keyword,
+            assertion,
+        })?;
+    }
+    Ok(())
 }
 
 fn read_pattern(alloc: Global, site: &Site<'_>, keyword: &str, name: &str) -> Result<Pattern, Fault>
@@ -63,4 +112,47 @@ pub(crate) fn read_patterns(
         })?;
     }
     Ok(())
+}
+
+/// Reads the names of an argument as patterns, where the keyword is `patternProperties`.
+pub(crate) fn read_names(
+    alloc: Global,
+    out: &mut Vec<BuiltPattern>,
+    number: usize,
+    site: &Site<'_>,
+    keyword: &str,
+    argument: &Doc,
+) -> Result<(), Fault>
+    ensures clear { OnOk result (IsClear
+        (name_rules (site_of site.now) keyword.now (value_of argument.now))) }
+    ensures built { OnOk result (out.new.items
+        ≡ out.old.items ++ patterns_of number (keyword.now, value_of argument.now)) }
+    ensures err { IfErr result (IsStopped
+        (name_rules (site_of site.now) keyword.now (value_of argument.now))) }
+{
+    match keyword {
+        "patternProperties" => read_names_of(alloc, out, number, site, keyword, argument),
+        _ => Ok(()),
+    }
+}
+
+fn read_names_of(
+    alloc: Global,
+    out: &mut Vec<BuiltPattern>,
+    number: usize,
+    site: &Site<'_>,
+    keyword: &str,
+    argument: &Doc,
+) -> Result<(), Fault>
+    ensures clear { OnOk result (IsClear
+        (flat_map (λ n. at_pattern (site_of site.now) (keyword.now ∷ n.0 ∷ []) n.0) (keywords (value_of argument.now)))) }
+    ensures built { OnOk result (out.new.items
+        ≡ out.old.items ++ map (pattern_at number) (keywords (value_of argument.now))) }
+    ensures err { IfErr result (IsStopped
+        (flat_map (λ n. at_pattern (site_of site.now) (keyword.now ∷ n.0 ∷ []) n.0) (keywords (value_of argument.now)))) }
+{
+    match argument {
+        Doc::Members(members) => read_patterns(alloc, out, number, site, keyword, members),
+        _ => Ok(()),
+    }
 }

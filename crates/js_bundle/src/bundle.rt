@@ -3,13 +3,19 @@ ghost use Rattle.std.specs.Prelude.{◌≡◌, ◌++◌, [], ◌∷◌, None, Ok
 ghost use Rattle.url.specs.Parser.{parse_url};
 ghost use Rattle.js_doc.specs.Members.{NamesAscend};
 ghost use Rattle.js_doc.specs.Seen.{value_of};
+ghost use Rattle.js_doc.specs.Short.{IsShort};
 ghost use Rattle.js_bundle.specs.declared.refusal.RefusalKind.TheVariants.{Memory};
 ghost use Rattle.js_bundle.specs.Adding.{IsAdded, IsTaken, IsRefusedBy, IsUriOf, IsUriFault, refusal_of_read};
+ghost use Rattle.js_bundle.specs.Candidate.{IsClear};
+ghost use Rattle.js_bundle.specs.Refusals.{candidates, refusals, IsRefusalOf, refusal_of};
 ghost use Rattle.js_bundle.specs.Seen.{document_of};
 ghost use Rattle.js_bundle.specs.Url as spec;
 
+use crate::checked::check_whole;
 use crate::document::Document;
+use crate::fault::Fault;
 use crate::refusal::{Refusal, RefusalKind};
+use crate::schemas::Schemas;
 use crate::uri::{LONGEST, has_no_fragment, without_fragment};
 use js_doc::{Pointer, ReadFault, read};
 use std::alloc::Global;
@@ -34,11 +40,11 @@ impl Model for Bundle {
 
     ghost coded = { documents_code };
 
-    ghost use Rattle.js_bundle.specs.Seen.{document_of, AreOrdered};
+    ghost use Rattle.js_bundle.specs.Seen.{document_of, AreRead};
 
     ghost view = { λ b. map document_of b.documents.items };
 
-    ghost invariant = { λ b. AreOrdered (map document_of b.documents.items) };
+    ghost invariant = { λ b. AreRead (map document_of b.documents.items) };
 }
 
 impl Bundle {
@@ -71,6 +77,44 @@ impl Bundle {
     }
 }
 
+impl Bundle {
+    /// Checks the documents whole: each place with its keywords, then each reference (JSON Schema Core, sections 4.3,
+    /// 8 and 9.1).
+    ///
+    /// # Errors
+    /// The first refusal, with the bundle as it was. Places come in scan order: document by document, a schema
+    /// before those that it holds, by keyword ascending, then by index or name ascending. Of a place:
+    /// `TooManyPlaces`, where it is the 100,001st; `NotASchema`; `DuplicateUri` for a document's URI. Then of its
+    /// keywords, ascending: `BadKeyword`; `BadPattern` and `PatternTooLarge`; `UnknownDialect` (`$schema`); `UriTooLong`,
+    /// `BadId` and `DuplicateUri` (`$id`); `BadAnchor` and `DuplicateAnchor`. After all places, of each the
+    /// `$dynamicRef` and then the `$ref`: `UriTooLong`, `BadReference`, `Unresolved`. `Memory` may come at any point;
+    /// its document is 0, and its place the empty pointer.
+    pub fn finish(self, alloc: Global) -> Result<Schemas, (Refusal, Bundle)>
+        ensures ok { IfOk result (λ s. s ≡ self) }
+        ensures clear { OnOk result (IsClear (candidates self)) }
+        ensures none { OnOk result (refusals self ≡ []) }
+        ensures refused { IfErr result (λ p. IsRefusalOf self p.0) }
+        ensures back { IfErr result (λ p. p.1 ≡ self) }
+    {
+        match check_whole(alloc, self.documents.as_slice()) {
+            Ok(kept) => Ok(Schemas {
+                documents: self.documents,
+                kept,
+            }),
+            Err(fault) => Err((refusal_of(alloc, fault), self)),
+        }
+    }
+}
+
+fn refusal_of(alloc: Global, fault: Fault) -> Refusal
+    ensures { result ≡ refusal_of fault }
+{
+    match fault {
+        Fault::Memory => refused(alloc, 0, RefusalKind::Memory),
+        Fault::Refused(refusal) => refusal,
+    }
+}
+
 fn append(documents: &mut Vec<Document>, document: Document) -> Result<(), Refusal>
     ensures ok { OnOk result (documents.new.items ≡ documents.old.items ++ document ∷ []) }
     ensures err { OnErr result (documents.new.items ≡ documents.old.items) }
@@ -89,6 +133,7 @@ fn append(documents: &mut Vec<Document>, document: Document) -> Result<(), Refus
 fn taken(alloc: Global, held: usize, uri: &str, bytes: &[u8]) -> Result<Document, Refusal>
     ensures ok { IfOk result (λ d. IsTaken held uri.now bytes.now (document_of d)) }
     ensures ascends { IfOk result (λ d. NamesAscend (value_of d.root)) }
+    ensures short { IfOk result (λ d. IsShort (value_of d.root)) }
     ensures err { IfErr result (IsRefusedBy held uri.now bytes.now) }
 {
     if MOST_DOCUMENTS <= held {

@@ -2,7 +2,7 @@
 ghost use Rattle.std.specs.Prelude.{◌≡◌, option_map, option_copied};
 ghost use Rattle.js_doc.specs.Members.{get};
 ghost use Rattle.js_doc.specs.Seen.{value_of};
-ghost use Rattle.js_bundle.specs.Keyword.{argument, as_text, text_argument};
+ghost use Rattle.js_bundle.specs.Keyword.{argument, as_text, has, text_argument};
 
 use js_doc::{Doc, Members};
 
@@ -14,6 +14,13 @@ pub(crate) fn argument<'a>(schema: &'a Doc, keyword: &str) -> Option<&'a Doc>
         Doc::Members(members) => member(members, keyword),
         _ => None,
     }
+}
+
+/// Whether the schema has the keyword.
+pub(crate) fn has(schema: &Doc, keyword: &str) -> bool
+    ensures { result ≡ has keyword.now (value_of schema.now) }
+{
+    argument(schema, keyword).is_some()
 }
 
 fn member<'a>(members: &'a Members, name: &str) -> Option<&'a Doc>

@@ -2,21 +2,30 @@
 //! and what is refused.
 #![tactic(auto)]
 
+mod below;
 mod built;
 mod bundle;
 mod check;
+mod checked;
 mod document;
+mod dynamic_target;
+mod entry;
 mod fault;
+mod first_pass;
 mod holding;
 mod keyword;
 pub mod laws;
 mod names;
 mod place;
+mod place_keywords;
 mod pointers;
 mod reference;
 mod refusal;
+mod resources;
 mod scan;
+mod schemas;
 mod scope;
+mod target;
 #[cfg(test)]
 mod tests;
 mod uri;
@@ -24,3 +33,4 @@ mod uri;
 pub use bundle::Bundle;
 pub use place::{Place, Step};
 pub use refusal::{EntryFault, Refusal, RefusalKind};
+pub use schemas::Schemas;

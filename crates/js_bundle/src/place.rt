@@ -3,7 +3,7 @@ use std::marker::Model;
 /// A place of finished schemas: where a schema stands. It is opaque, and means nothing for other schemas.
 #[derive(Clone, Copy, Debug, Drop)]
 pub struct Place {
-    number: usize,
+    pub(crate) number: usize,
 }
 
 impl Model for Place {

@@ -1,5 +1,6 @@
 //! Copies of pointers.
-ghost use Rattle.std.specs.Prelude.{◌≡◌, [], ◌∷◌, ◌++◌, IfOk};
+ghost use Rattle.std.specs.Prelude.{◌≡◌, [], ◌∷◌, ◌++◌, drop, IfOk, OnOk};
+ghost use Rattle.js_bundle.specs.Finding.{tokens_of};
 
 use js_doc::{Memory, Pointer};
 use std::alloc::Global;
@@ -33,4 +34,26 @@ pub(crate) fn joined(alloc: Global, first: &Pointer, then: &Pointer) -> Result<P
         joined.push(token.as_str())?;
     }
     Ok(joined)
+}
+
+/// What of the pointer comes after so many tokens.
+pub(crate) fn after(alloc: Global, pointer: &Pointer, count: usize) -> Result<Pointer, Memory>
+    ensures { IfOk result (λ p. p ≡ drop count pointer.now) }
+{
+    let mut rest = Pointer::new(alloc);
+    let tokens = pointer.tokens();
+    for i in count..tokens.len() {
+        rest.push(tokens[i].as_str())?;
+    }
+    Ok(rest)
+}
+
+/// Adds a token, if there is one.
+pub(crate) fn push_given(pointer: &mut Pointer, token: Option<&str>) -> Result<(), Memory>
+    ensures { OnOk result (pointer.new ≡ pointer.old ++ tokens_of token.entry) }
+{
+    if let Some(token) = token {
+        pointer.push(token)?;
+    }
+    Ok(())
 }

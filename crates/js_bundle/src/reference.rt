@@ -1,18 +1,23 @@
 //! The second pass: what references lead to.
-ghost use Rattle.std.specs.Prelude.{◌≡◌, [], ◌∷◌, ◌++◌, Some, Ok, OnOk, IfOk, IfErr, codes, map, option_and_then};
+ghost use Rattle.std.specs.Prelude.{◌≡◌, [], ◌∷◌, ◌++◌, Some, Ok, false, OnOk, IfOk, IfErr, codes, map, option_and_then, slice_get};
 ghost use Rattle.std.specs.List.{flat_map};
 ghost use Rattle.js_bundle.specs.Candidate.{IsClear, IsStopped};
-ghost use Rattle.js_bundle.specs.Finding.{number_named, number_of_target, pair_of, pairs_of};
+ghost use Rattle.std.specs.Option.{option_map_or};
+ghost use Rattle.js_bundle.specs.Built.{numbered};
+ghost use Rattle.js_bundle.specs.Finding.{number_named, number_of_target, pair_of, pairs_of, goes_by_name, dynamic_of, dynamic_at};
+ghost use Rattle.js_bundle.specs.Names.{makes};
 ghost use Rattle.js_bundle.specs.Refusals.{at_joined_reference, at_reference_text, at_reference, at_references, second_pass};
 ghost use Rattle.js_bundle.specs.Resource.{joined};
 ghost use Rattle.js_bundle.specs.Scan.{site_of};
+ghost use Rattle.js_bundle.specs.Target.{reference, is_dynamic};
 
 use crate::fault::{Fault, refuse};
 use crate::keyword::text_argument;
 use crate::names::{NameFault, place_named};
 use crate::refusal::RefusalKind;
 use crate::scan::Site;
-use crate::uri::LONGEST;
+use crate::scope::joined;
+use crate::uri::{self, LONGEST};
 use js_doc::Memory;
 use std::alloc::Global;
 use url::{ParseError, Url};
@@ -84,10 +89,58 @@ fn resolve(
     }
 }
 
+// Whether the place makes the name by `$dynamicAnchor`.
+fn makes_dynamically(site: &Site<'_>, name: &[u8]) -> bool
+    ensures { result ≡ makes (codes "$dynamicAnchor") name.now (site_of site.now) }
+{
+    match text_argument(site.schema, "$dynamicAnchor") {
+        Some(text) => name == text.as_bytes(),
+        None => false,
+    }
+}
+
+// Whether the reference's fragment is a name that `$dynamicAnchor` makes at its first target.
+fn is_dynamic(alloc: Global, site: &Site<'_>, first: &Site<'_>) -> Result<bool, Memory>
+    ensures { IfOk result (λ b. b
+        ≡ is_dynamic (reference (codes "$dynamicRef") (site_of site.now)) (site_of first.now)) }
+{
+    let Some(text) = text_argument(site.schema, "$dynamicRef") else {
+        return Ok(false);
+    };
+    match joined(&site.own.base, text)? {
+        Some(url) => {
+            let name = uri::fragment(alloc, &url)?;
+            Ok(makes_dynamically(first, name.as_slice()))
+        }
+        None => Ok(false),
+    }
+}
+
+// The same of a first target that is told by its number.
+fn goes_by_name(
+    alloc: Global,
+    sites: &[Site<'_>],
+    site: &Site<'_>,
+    first: Option<usize>,
+) -> Result<bool, Memory>
+    ensures { IfOk result (λ b. b ≡ option_map_or
+        (is_dynamic (reference (codes "$dynamicRef") (site_of site.now)))
+        (option_and_then (slice_get (map site_of sites.now)) first) false) }
+{
+    let Some(first) = first else {
+        return Ok(false);
+    };
+    match sites.get(first) {
+        Some(first) => is_dynamic(alloc, site, first),
+        None => Ok(false),
+    }
+}
+
 /// What the two references of a place name.
 #[derive(Clone, Copy)]
 struct Targets {
     dynamic: Option<usize>,
+    by_name: bool,
     plain: Option<usize>,
 }
 
@@ -95,13 +148,19 @@ fn resolve_both(alloc: Global, sites: &[Site<'_>], site: &Site<'_>) -> Result<Ta
     ensures clear { OnOk result (IsClear (at_references (map site_of sites.now) (site_of site.now))) }
     ensures dynamic { IfOk result
         (λ t. t.dynamic ≡ number_of_target (map site_of sites.now) (codes "$dynamicRef") (site_of site.now)) }
+    ensures by_name { IfOk result (λ t. t.by_name ≡ goes_by_name (map site_of sites.now) (site_of site.now)) }
     ensures plain { IfOk result
         (λ t. t.plain ≡ number_of_target (map site_of sites.now) (codes "$ref") (site_of site.now)) }
     ensures err { IfErr result (IsStopped (at_references (map site_of sites.now) (site_of site.now))) }
 {
     let dynamic = resolve(alloc, sites, site, "$dynamicRef")?;
+    let by_name = goes_by_name(alloc, sites, site, dynamic)?;
     let plain = resolve(alloc, sites, site, "$ref")?;
-    Ok(Targets { dynamic, plain })
+    Ok(Targets {
+        dynamic,
+        by_name,
+        plain,
+    })
 }
 
 /// A place and the target of its reference, by their numbers in scan order.
@@ -111,10 +170,19 @@ pub(crate) struct Reference {
     pub(crate) target: usize,
 }
 
-/// What the references of all places name: of each `$dynamicRef` its first target.
+/// A place and the first target of its `$dynamicRef`, by their numbers in scan order.
+#[derive(Clone, Copy, Drop)]
+pub(crate) struct DynamicReference {
+    pub(crate) place: usize,
+    pub(crate) target: usize,
+    /// Whether its fragment is a name that `$dynamicAnchor` makes at the target: then the dynamic scope decides.
+    pub(crate) by_name: bool,
+}
+
+/// What the references of all places name.
 #[derive(Drop)]
 pub(crate) struct References {
-    pub(crate) dynamic: Vec<Reference>,
+    pub(crate) dynamic: Vec<DynamicReference>,
     pub(crate) plain: Vec<Reference>,
 }
 
@@ -127,11 +195,29 @@ fn add(out: &mut Vec<Reference>, place: usize, target: Option<usize>) -> Result<
     Ok(())
 }
 
+fn add_dynamic(
+    out: &mut Vec<DynamicReference>,
+    place: usize,
+    target: Option<usize>,
+    by_name: bool,
+) -> Result<(), Memory>
+    ensures { OnOk result (out.new.items ≡ out.old.items ++ dynamic_of place target by_name) }
+{
+    if let Some(target) = target {
+        out.push(DynamicReference {
+            place,
+            target,
+            by_name,
+        })?;
+    }
+    Ok(())
+}
+
 /// Resolves all references.
 pub(crate) fn resolve_all(alloc: Global, sites: &[Site<'_>]) -> Result<References, Fault>
     ensures clear { OnOk result (IsClear (second_pass (map site_of sites.now))) }
-    ensures dynamic { IfOk result (λ r. r.dynamic.items ≡ pairs_of
-        (number_of_target (map site_of sites.now) (codes "$dynamicRef")) 0 (map site_of sites.now)) }
+    ensures dynamic { IfOk result (λ r. r.dynamic.items
+        ≡ numbered (dynamic_at (map site_of sites.now)) 0 (map site_of sites.now)) }
     ensures plain { IfOk result (λ r. r.plain.items ≡ pairs_of
         (number_of_target (map site_of sites.now) (codes "$ref")) 0 (map site_of sites.now)) }
     ensures err { IfErr result (IsStopped (second_pass (map site_of sites.now))) }
@@ -140,7 +226,7 @@ pub(crate) fn resolve_all(alloc: Global, sites: &[Site<'_>]) -> Result<Reference
     let mut plain = Vec::new(alloc);
     for i in 0..sites.len() {
         let targets = resolve_both(alloc, sites, &sites[i])?;
-        add(&mut dynamic, i, targets.dynamic)?;
+        add_dynamic(&mut dynamic, i, targets.dynamic, targets.by_name)?;
         add(&mut plain, i, targets.plain)?;
     }
     Ok(References { dynamic, plain })

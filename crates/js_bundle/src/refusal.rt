@@ -1,5 +1,5 @@
 //! Why documents and entries are refused.
-use js_doc::Pointer;
+use js_doc::{Memory, Pointer};
 use thiserror::Error;
 
 /// Which document is refused, where in it, and why.
@@ -64,4 +64,15 @@ pub enum EntryFault {
     UriTooLong,
     /// It names no place.
     Unresolved,
+}
+
+impl From<Memory> for EntryFault {
+    ghost use Rattle.std.specs.Prelude.{◌≡◌};
+    ghost use Rattle.js_bundle.specs.declared.refusal.EntryFault.TheVariants as fault;
+
+    ghost from_gives = { λ _ e. e ≡ fault.Memory };
+
+    fn from(_refused: Memory) -> EntryFault {
+        EntryFault::Memory
+    }
 }

@@ -32,9 +32,9 @@ pub(crate) struct Site<'a> {
     pub(crate) schema: &'a Doc,
 }
 
-// How a keyword's argument holds schemas.
+/// How a keyword's argument holds schemas.
 #[tactic(auto, unfolding(crate::specs::Place::holding))]
-fn holding_of(keyword: &str) -> Holding
+pub(crate) fn holding_of(keyword: &str) -> Holding
     ensures { result ≡ holding keyword.now }
 {
     match keyword {

@@ -3,6 +3,7 @@ pub mod Alike
 pub mod Escapes
 pub mod Finding
 pub mod Ascending
+pub mod Shortness
 pub mod PointerTexts
 pub mod TextBytes
 pub mod FragmentBytes

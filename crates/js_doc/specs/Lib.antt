@@ -3,6 +3,7 @@ pub mod Nesting
 pub mod Coding
 pub mod Whole
 pub mod Members
+pub mod Short
 pub mod Seen
 pub mod Falls
 pub mod Equality

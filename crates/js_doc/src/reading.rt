@@ -1,8 +1,9 @@
 //! From a text's bytes to a value (RFC 8259), by `serde_json`.
-ghost use Rattle.std.specs.Prelude.{◌≡◌, Ok, IfOk, IfErr, decimal, string_bytes};
+ghost use Rattle.std.specs.Prelude.{◌≡◌, ◌<◌, ◌^◌, Ok, IfOk, IfErr, decimal, string_bytes};
 ghost use Rattle.serde_json.specs.View.{view, number_view, items_view, members_view};
 ghost use Rattle.js_doc.specs.Value.{members};
 ghost use Rattle.js_doc.specs.Members.{NamesAscend, NamesAscendInItems, NamesAscendInMembers};
+ghost use Rattle.js_doc.specs.Short.{item_count, IsShort, AreShortItems, AreShortMembers};
 ghost use Rattle.js_doc.specs.Seen.{value_of, items_of};
 ghost use Rattle.js_doc.specs.WholeNumbers.{whole_number, value_in, items_in, members_in};
 ghost use Rattle.js_doc.specs.Reading.{IsReadAs, IsReadFault, Stops, Lifts};
@@ -74,13 +75,15 @@ impl ReadFault {
     }
 }
 
-/// The value that the bytes are the text of. The names of each of its objects ascend by their bytes, each once.
+/// The value that the bytes are the text of. The names of each of its objects ascend by their bytes, each once, and
+/// each of its lists has fewer than 2^64 items.
 ///
 /// # Errors
 /// See [`ReadFault`].
 pub fn read(alloc: Global, bytes: &[u8]) -> Result<Doc, ReadFault>
     ensures ok { IfOk result (λ d. IsReadAs bytes.now (Ok (value_of d))) }
     ensures ascends { IfOk result (λ d. NamesAscend (value_of d)) }
+    ensures short { IfOk result (λ d. IsShort (value_of d)) }
     ensures err { IfErr result (IsReadFault bytes.now) }
 {
     match Value::from_slice(alloc, bytes) {
@@ -100,6 +103,7 @@ pub fn read(alloc: Global, bytes: &[u8]) -> Result<Doc, ReadFault>
 pub fn from_value(alloc: Global, value: &Value) -> Result<Doc, ReadFault>
     ensures ok { IfOk result (λ d. value_in (view value.now) ≡ Ok (value_of d)) }
     ensures ascends { IfOk result (λ d. NamesAscend (value_of d)) }
+    ensures short { IfOk result (λ d. IsShort (value_of d)) }
     ensures err { IfErr result (λ e. Stops (value_in (view value.now)) e) }
 {
     convert(alloc, value)
@@ -108,6 +112,7 @@ pub fn from_value(alloc: Global, value: &Value) -> Result<Doc, ReadFault>
 fn convert_number(alloc: Global, number: &Number) -> Result<Doc, ReadFault>
     ensures ok { IfOk result (λ d. whole_number (number_view number.now) ≡ Ok (value_of d)) }
     ensures ascends { IfOk result (λ d. NamesAscend (value_of d)) }
+    ensures short { IfOk result (λ d. IsShort (value_of d)) }
     ensures err { IfErr result (λ e. Stops (whole_number (number_view number.now)) e) }
 {
     if let Some(n) = number.as_u64() {
@@ -123,6 +128,7 @@ fn convert_number(alloc: Global, number: &Number) -> Result<Doc, ReadFault>
 fn convert(alloc: Global, value: &Value) -> Result<Doc, ReadFault>
     ensures ok { IfOk result (λ d. value_in (view value.now) ≡ Ok (value_of d)) }
     ensures ascends { IfOk result (λ d. NamesAscend (value_of d)) }
+    ensures short { IfOk result (λ d. IsShort (value_of d)) }
     ensures err { IfErr result (λ e. Stops (value_in (view value.now)) e) }
 {
     match value {
@@ -146,6 +152,8 @@ fn convert_items(alloc: Global, values: &Vec<Value>) -> Result<Vec<Doc>, ReadFau
     ensures ok { IfOk result
         (λ v. items_in 0 (items_view values.now.items) ≡ Ok (items_of v.items)) }
     ensures ascends { IfOk result (λ v. NamesAscendInItems (items_of v.items)) }
+    ensures count { IfOk result (λ v. item_count (items_of v.items) < 2 ^ 64) }
+    ensures short { IfOk result (λ v. AreShortItems (items_of v.items)) }
     ensures err { IfErr result (λ e. Stops (items_in 0 (items_view values.now.items)) e) }
 {
     let mut docs = Vec::with_capacity(alloc, values.len())?;
@@ -165,6 +173,7 @@ fn convert_items(alloc: Global, values: &Vec<Value>) -> Result<Vec<Doc>, ReadFau
 fn convert_members(alloc: Global, map: &Map<String, Value>) -> Result<Members, ReadFault>
     ensures ok { IfOk result (λ m. members_in (members_view map.now.entries) ≡ Ok (members m)) }
     ensures ascends { IfOk result (λ m. NamesAscendInMembers (members m)) }
+    ensures short { IfOk result (λ m. AreShortMembers (members m)) }
     ensures err { IfErr result (λ e. Stops (members_in (members_view map.now.entries)) e) }
 {
     let mut members = Members::new(alloc);

@@ -1,4 +1,4 @@
-use Rattle.std.proofs.Common.{◌≡◌, [], ◌∷◌, ◌++◌, map, string_bytes, ap, ◌∙◌, subst}
+use Rattle.std.proofs.Common.{◌≡◌, [], ◌∷◌, ◌++◌, map, string_bytes, ◌∙◌, subst}
 use Rattle.std.specs.List.{flat_map}
 use Rattle.js_doc.specs.Seen.{value_of, pair_of}
 use Rattle.js_doc.specs.Value.{Value}

@@ -1,4 +1,4 @@
-use Rattle.std.proofs.Common.{◌+◌, ◌++◌, map, drop, arith, rules}
+use Rattle.std.proofs.Common.{map, arith}
 use Rattle.js_bundle.specs.Seen.{document_of}
 use Rattle.js_bundle.specs.Scan.{site_of, sites_from}
 use Rattle.js_bundle.proofs.Scanning.{document_next, scanned_all}

@@ -10,7 +10,9 @@ use Rattle.serde_json.specs.View.{view, items_view, members_view}
 use Rattle.js_doc.specs.WholeNumbers.{value_in, items_in, members_in}
 use Rattle.js_doc.specs.Members.{NamesAscendInItems, NamesAscendInMembers}
 use Rattle.js_doc.specs.Reading.{Stops, Lifts}
+use Rattle.js_doc.specs.Short.{AreShortItems, AreShortMembers}
 use Rattle.js_doc.proofs.Ascending.{items_ascend-push, members_ascend-put}
+use Rattle.js_doc.proofs.Shortness.{count_short, items_short-push, members_short-put}
 use Rattle.js_doc.proofs.Finding.{Entry, items_extend, items_stop, snoc_items_of, members_extend, members_stop, lifted_stops}
 use Rattle.js_doc.proofs.reading.+convert.Goals as goal
 
@@ -42,6 +44,7 @@ convert_items-loop-value-preserved t c =
           ∙ ap Ok (sym (snoc_items_of l.docs.items c.in-Ok.doc) ∙ ap items_of (sym pushed)),
       ap length pushed ∙ length_push l.docs.items c.in-Ok.doc ∙ ap (λ n. n + 1) l.invariant.1,
       subst (λ ds. NamesAscendInItems (items_of ds)) (sym pushed) (items_ascend-push l.docs.items c.in-Ok.doc l.invariant.2 c.in-Ok.ensures.ascends),
+      subst (λ ds. AreShortItems (items_of ds)) (sym pushed) (items_short-push l.docs.items c.in-Ok.doc l.invariant.3 c.in-Ok.ensures.short),
     )
 
 pub convert_members-loop-name-preserved : goal.convert_members-loop-name-preserved
@@ -56,6 +59,7 @@ convert_members-loop-name-preserved t c =
       all ∙ sym (append_assoc done (e ∷ []) left),
       members_extend done e left l.members _ l.invariant.2 c.in-Ok.ensures.ok (subst (λ es. IsStrictlySortedBy string_cmp (keys_of es)) all c.iter-name-items.ensures.ordered) ∙ ap (λ ns. Ok (members ns)) (ap (λ k. put k (value_of c.in-Ok.doc) l.members) (sym named) ∙ sym c.in_ok-put-in-Ok.ensures.ok),
       subst (λ ms. NamesAscendInMembers (members ms)) (sym c.in_ok-put-in-Ok.ensures.ok) (members_ascend-put (string_bytes c.in_ok-clone-in-Ok.field-0) (value_of c.in-Ok.doc) l.members l.invariant.3 c.in-Ok.ensures.ascends),
+      subst (λ ms. AreShortMembers (members ms)) (sym c.in_ok-put-in-Ok.ensures.ok) (members_short-put (string_bytes c.in_ok-clone-in-Ok.field-0) (value_of c.in-Ok.doc) l.members l.invariant.4 c.in-Ok.ensures.short),
     )
 
 pub convert_members-returns-in-Err-clause-err : goal.convert_members-returns-in-Err-clause-err
@@ -67,3 +71,6 @@ convert_members-returns-in-Err-clause-err t c =
     let all : c.args.map.now.entries ≡ done ++ e ∷ left = l.invariant.1 ∙ ap (λ es. done ++ es) c.in-Some.ensures.steps in
     lifted_stops _ (value_in (view e.1)) (string_bytes e.0) c.in-Err.fault c.lifted.result c.in-Err.ensures.err (subst (λ k. Lifts k c.in-Err.fault c.lifted.result) c.in_ok-token-in-Err.ensures c.lifted.ensures)
     (λ p is. ap (λ es. members_in (members_view es)) all ∙ members_stop done e left _ p l.invariant.2 is)
+
+pub convert_items-returns-clause-count : goal.convert_items-returns-clause-count
+convert_items-returns-clause-count t c = let v = c.loop-value.docs in count_short v.items (omega (arith, v.ok.0, v.ok.1, v.small))

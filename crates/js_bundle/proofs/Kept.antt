@@ -1,0 +1,32 @@
+-- What is kept of a place.
+use Rattle.std.proofs.Common.{◌≡◌, ℕ, ◌<◌, List, map, length, get_or, slice_get, true, option_map, Some, sym, ap, ◌∙◌, subst, ◌+◌, [], ◌∷◌, ◌++◌, arith}
+use Rattle.std.proofs.lemmas.Bool.{ltb-true}
+use Rattle.std.proofs.lemmas.List.{length-map, map-id}
+use Rattle.std.proofs.lemmas.List.FromFn.{map-range_with_len_more}
+use Rattle.std.specs.List.{range_with_len}
+use Rattle.std.proofs.lemmas.Option.{slice_get-map, slice_get-get_or}
+use Rattle.js_bundle.specs.declared.checked.Spot as rust
+use Rattle.js_bundle.specs.Document.{Documents}
+use Rattle.js_bundle.specs.Resource.{sites}
+use Rattle.js_bundle.specs.Schemas.{is_place, place_at}
+use Rattle.js_bundle.specs.Spot.{spot, spot_of}
+
+-- as many are kept as there are places
+pub as_many : (docs documents : Documents) (kept : List rust.Spot) → docs ≡ documents → map spot_of kept ≡ map spot (sites docs) → length kept ≡ length (sites documents)
+as_many docs documents kept same e =
+    sym (length-map kept spot_of) ∙ ap length e ∙ length-map (sites docs) spot ∙ ap (λ ds. length (sites ds)) same
+
+pub kept_spot : (docs documents : Documents) (kept : List rust.Spot) (n place : ℕ) (x : rust.Spot) → docs ≡ documents → n ≡ place → map spot_of kept ≡ map spot (sites docs)
+    → is_place documents place ≡ true → x ≡ get_or kept n x → option_map spot (place_at documents place) ≡ Some (spot_of x)
+kept_spot docs documents kept n place x same number e there is =
+    let within : n < length kept =
+    subst (λ m. m < length kept) (sym number) (subst (λ l. place < l) (sym (as_many docs documents kept same e)) (ltb-true place (length (sites documents)) there)) in
+    let here : option_map spot (place_at docs n) ≡ Some (spot_of x) =
+    sym (slice_get-map spot (sites docs) n) ∙ ap (λ l. slice_get l n) (sym e) ∙ slice_get-map spot_of kept n ∙ ap (option_map spot_of) (slice_get-get_or kept n x within ∙ ap Some (sym is)) in
+    subst (λ m. option_map spot (place_at documents m) ≡ Some (spot_of x)) number (subst (λ ds. option_map spot (place_at ds n) ≡ Some (spot_of x)) same here)
+
+-- ---- all numbers, one more
+
+pub one_more : (n : ℕ) → range_with_len 0 (n + 1) ≡ range_with_len 0 n ++ n ∷ []
+one_more n =
+    sym (map-id (range_with_len 0 (n + 1))) ∙ map-range_with_len_more (λ x. x) 0 n n (omega arith) ∙ ap (λ l. l ++ n ∷ []) (map-id (range_with_len 0 n))

@@ -1,0 +1,70 @@
+use Rattle.std.proofs.Common.{◌≡◌, codes, map, sym, ap, ◌∙◌}
+use Rattle.std.proofs.lemmas.Result.{err_from_is_err_and}
+use Rattle.js_bundle.specs.Built.{numbered, assertions_at, patterns_at}
+use Rattle.js_bundle.specs.Finding.{dynamic_at, number_of_target, pairs_of}
+use Rattle.js_bundle.specs.Resource.{sites}
+use Rattle.js_bundle.specs.Scan.{site_of}
+use Rattle.js_bundle.specs.Seen.{document_of}
+use Rattle.js_bundle.specs.Spot.{spot}
+use Rattle.js_bundle.proofs.Whole.{lists_all, first_stops, second_stops, whole_clear}
+use Rattle.js_bundle.proofs.checked.check_whole.Goals as goal
+
+pub returns-in_err-built-clause-err : goal.returns-in_err-built-clause-err
+returns-in_err-built-clause-err c =
+    let p = err_from_is_err_and c.from_residual-in_err-built.result c.from_residual-in_err-built.ensures.1 in
+    rw (p.1, p.2) (first_stops (map document_of c.args.documents.now) (map site_of c.as_slice.result.now) c.in_err-built.field-0.0
+    (ap (map site_of) c.as_slice.ensures.value ∙ c.in_ok-sites.ensures) c.in_err-built.ensures.err)
+
+pub returns-in_err-references-clause-err : goal.returns-in_err-references-clause-err
+returns-in_err-references-clause-err c =
+    let p = err_from_is_err_and c.from_residual-in_err-references.result c.from_residual-in_err-references.ensures.1 in
+    let ds = map document_of c.args.documents.now in
+    let first : map site_of c.as_slice.result.now ≡ sites ds =
+    lists_all ds (map site_of c.as_slice.result.now) (ap (map site_of) c.as_slice.ensures.value ∙ c.in_ok-sites.ensures) c.in_ok-built.ensures.clear in
+    let second : map site_of c.as_slice-2.result.now ≡ sites ds = ap (map site_of) (c.as_slice-2.ensures.value ∙ sym c.as_slice.ensures.value) ∙ first in
+    rw (p.1, p.2) (second_stops ds (map site_of c.as_slice.result.now) (map site_of c.as_slice-2.result.now) c.in_err-references.field-0.0 first second c.in_ok-built.ensures.clear c.in_err-references.ensures.err)
+
+pub returns-clause-clear : goal.returns-clause-clear
+returns-clause-clear c =
+    let ds = map document_of c.args.documents.now in
+    let first : map site_of c.as_slice.result.now ≡ sites ds =
+    lists_all ds (map site_of c.as_slice.result.now) (ap (map site_of) c.as_slice.ensures.value ∙ c.in_ok-sites.ensures) c.in_ok-built.ensures.clear in
+    let second : map site_of c.as_slice-2.result.now ≡ sites ds = ap (map site_of) (c.as_slice-2.ensures.value ∙ sym c.as_slice.ensures.value) ∙ first in
+    whole_clear ds (map site_of c.as_slice.result.now) (map site_of c.as_slice-2.result.now) first second c.in_ok-built.ensures.clear c.in_ok-references.ensures.clear
+
+pub returns-clause-spots : goal.returns-clause-spots
+returns-clause-spots c =
+    let ds = map document_of c.args.documents.now in
+    let first : map site_of c.as_slice.result.now ≡ sites ds =
+    lists_all ds (map site_of c.as_slice.result.now) (ap (map site_of) c.as_slice.ensures.value ∙ c.in_ok-sites.ensures) c.in_ok-built.ensures.clear in
+    c.in_ok-spots.ensures ∙ ap (map spot) (ap (map site_of) (sym c.as_slice.ensures.value) ∙ first)
+
+pub returns-clause-assertions : goal.returns-clause-assertions
+returns-clause-assertions c =
+    let ds = map document_of c.args.documents.now in
+    let first : map site_of c.as_slice.result.now ≡ sites ds =
+    lists_all ds (map site_of c.as_slice.result.now) (ap (map site_of) c.as_slice.ensures.value ∙ c.in_ok-sites.ensures) c.in_ok-built.ensures.clear in
+    c.in_ok-built.ensures.assertions ∙ ap (numbered assertions_at 0) first
+
+pub returns-clause-patterns : goal.returns-clause-patterns
+returns-clause-patterns c =
+    let ds = map document_of c.args.documents.now in
+    let first : map site_of c.as_slice.result.now ≡ sites ds =
+    lists_all ds (map site_of c.as_slice.result.now) (ap (map site_of) c.as_slice.ensures.value ∙ c.in_ok-sites.ensures) c.in_ok-built.ensures.clear in
+    c.in_ok-built.ensures.patterns ∙ ap (numbered patterns_at 0) first
+
+pub returns-clause-dynamic : goal.returns-clause-dynamic
+returns-clause-dynamic c =
+    let ds = map document_of c.args.documents.now in
+    let first : map site_of c.as_slice.result.now ≡ sites ds =
+    lists_all ds (map site_of c.as_slice.result.now) (ap (map site_of) c.as_slice.ensures.value ∙ c.in_ok-sites.ensures) c.in_ok-built.ensures.clear in
+    let second : map site_of c.as_slice-2.result.now ≡ sites ds = ap (map site_of) (c.as_slice-2.ensures.value ∙ sym c.as_slice.ensures.value) ∙ first in
+    c.in_ok-references.ensures.dynamic ∙ ap (λ ss. numbered (dynamic_at ss) 0 ss) second
+
+pub returns-clause-plain : goal.returns-clause-plain
+returns-clause-plain c =
+    let ds = map document_of c.args.documents.now in
+    let first : map site_of c.as_slice.result.now ≡ sites ds =
+    lists_all ds (map site_of c.as_slice.result.now) (ap (map site_of) c.as_slice.ensures.value ∙ c.in_ok-sites.ensures) c.in_ok-built.ensures.clear in
+    let second : map site_of c.as_slice-2.result.now ≡ sites ds = ap (map site_of) (c.as_slice-2.ensures.value ∙ sym c.as_slice.ensures.value) ∙ first in
+    c.in_ok-references.ensures.plain ∙ ap (λ ss. pairs_of (number_of_target ss (codes "$ref")) 0 ss) second

@@ -1,0 +1,19 @@
+use Rattle.std.proofs.Common.{◌≡◌, ◌++◌, map, length}
+use Rattle.std.specs.List.{flat_map}
+use Rattle.js_doc.specs.Seen.{pair_of}
+use Rattle.js_bundle.specs.Built.{assertion_at, patterns_of}
+use Rattle.js_bundle.specs.Leads.{Leads}
+use Rattle.js_bundle.specs.Refusals.{at_keyword}
+use Rattle.js_bundle.specs.Scan.{site_of}
+use Rattle.js_bundle.proofs.first_pass.check_keywords.Given as goal
+
+abbrev pub invariant-loop-keyword : goal.invariant-loop-keyword
+invariant-loop-keyword l =
+    let rules = at_keyword (map site_of l.before) (site_of l.site) in
+    let left = map pair_of l.keyword-iterator in
+    record {
+      leads : Leads (flat_map rules l.members) (flat_map rules left);
+      assertions : l.built.assertions.items ++ flat_map (assertion_at (length l.before) l.members) left
+          ≡ l.initial.built.assertions.items ++ flat_map (assertion_at (length l.before) l.members) l.members;
+      patterns : l.built.patterns.items ++ flat_map (patterns_of (length l.before)) left ≡ l.initial.built.patterns.items ++ flat_map (patterns_of (length l.before)) l.members;
+    }

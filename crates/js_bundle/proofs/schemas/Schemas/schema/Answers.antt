@@ -1,0 +1,27 @@
+use Rattle.std.proofs.Common.{◌<◌, sym, ◌∙◌, subst}
+use Rattle.js_bundle.specs.Schemas.{place_at}
+use Rattle.js_bundle.specs.Spot.{spot_of}
+use Rattle.js_bundle.proofs.Schema.{schema_there, at_index, some_there}
+use Rattle.js_bundle.proofs.schemas.Schemas.schema.Goals as goal
+
+pub index-requires : goal.index-requires
+index-requires c =
+    let items = c.self.inside.documents.items in
+    let x = spot_of c.spot-spot.result.now in
+    let there = schema_there items c.args.self.now c.args.place x c.self.view_is c.self.invariant.read c.spot-spot.ensures in
+    subst (λ n. x.document < n) (sym c.self.inside.documents.ok.0) there.within
+
+pub returns-in-Some : goal.returns-in-Some
+returns-in-Some c =
+    let items = c.self.inside.documents.items in
+    let x = spot_of c.spot-spot.result.now in
+    let there = schema_there items c.args.self.now c.args.place x c.self.view_is c.self.invariant.read c.spot-spot.ensures in
+    sym (at_index items x (place_at c.args.self.now c.args.place) c.index.result.now there c.index.ensures) ∙ sym c.in-Some.ensures
+
+pub returns-in-None : goal.returns-in-None
+returns-in-None c =
+    let items = c.self.inside.documents.items in
+    let x = spot_of c.spot-spot.result.now in
+    let there = schema_there items c.args.self.now c.args.place x c.self.view_is c.self.invariant.read c.spot-spot.ensures in
+    absurd (some_there items x (place_at c.args.self.now c.args.place) there c.spot-spot.ensures
+    (sym (at_index items x (place_at c.args.self.now c.args.place) c.index.result.now there c.index.ensures) ∙ sym c.in-None.ensures))

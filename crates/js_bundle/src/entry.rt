@@ -1,0 +1,53 @@
+//! Entries: the URI of the schema with which a judgement begins.
+ghost use Rattle.std.specs.Prelude.{◌≡◌, ◌≤◌, None, OnOk, IfOk, IfErr, length};
+ghost use Rattle.url.specs.Parser.{parse_url};
+ghost use Rattle.js_bundle.specs.Names.{named};
+ghost use Rattle.js_bundle.specs.Resource.{sites};
+ghost use Rattle.js_bundle.specs.Schemas.{entry, StandsFor, IsEntryFault, IsNameFault};
+ghost use Rattle.js_bundle.specs.Url.{longest_uri};
+
+use crate::names::{NameFault, place_named};
+use crate::place::Place;
+use crate::refusal::EntryFault;
+use crate::scan::scan;
+use crate::schemas::Schemas;
+use crate::uri::LONGEST;
+use std::alloc::Global;
+use url::{ParseError, Url};
+
+impl Schemas {
+    /// The place that the URI names (JSON Schema Core, sections 8.2.1, 8.2.2 and 9.2.1).
+    ///
+    /// # Errors
+    /// In this order: `UriTooLong`, if it has more than 65,536 bytes; `BadUri`, if it is no absolute URL, or its fragment
+    /// isn't read; `Unresolved`, if it names no place; `Memory` at any point.
+    pub fn entry(&self, alloc: Global, uri: &str) -> Result<Place, EntryFault>
+        ensures ok { IfOk result (λ p. StandsFor self.now p (entry self.now (parse_url None uri.now))) }
+        ensures short { OnOk result (length uri.now ≤ longest_uri) }
+        ensures err { IfErr result (IsEntryFault self.now uri.now) }
+    {
+        if LONGEST < uri.len() {
+            return Err(EntryFault::UriTooLong);
+        }
+        match Url::parse(alloc, uri) {
+            Ok(url) => self.place_of(alloc, url),
+            Err(ParseError::OutOfMemory) => Err(EntryFault::Memory),
+            Err(ParseError::Overflow) => Err(EntryFault::Memory),
+            Err(_) => Err(EntryFault::BadUri),
+        }
+    }
+
+    // The place that a URL names. The documents are scanned anew: an entry is looked for once a run.
+    fn place_of(&self, alloc: Global, url: Url) -> Result<Place, EntryFault>
+        ensures ok { IfOk result (λ p. StandsFor self.now p (named (sites self.now) url)) }
+        ensures err { IfErr result (IsNameFault self.now url) }
+    {
+        let sites = scan(alloc, self.documents.as_slice())?;
+        match place_named(alloc, sites.as_slice(), url) {
+            Ok(Some(number)) => Ok(Place { number }),
+            Ok(None) => Err(EntryFault::Unresolved),
+            Err(NameFault::NotRead) => Err(EntryFault::BadUri),
+            Err(NameFault::Memory) => Err(EntryFault::Memory),
+        }
+    }
+}

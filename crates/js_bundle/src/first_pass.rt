@@ -1,0 +1,191 @@
+//! The first pass: each place and its keywords, in scan order.
+ghost use Rattle.std.specs.Prelude.{◌≡◌, ◌++◌, [], ◌∷◌, not, length, map, OnOk, IfOk, IfErr};
+ghost use Rattle.std.specs.List.{flat_map};
+ghost use Rattle.js_doc.specs.Seen.{value_of};
+ghost use Rattle.js_bundle.specs.declared.refusal.RefusalKind.TheVariants.{BadKeyword};
+ghost use Rattle.js_bundle.specs.Built.{numbered, assertion_at, assertions_at, patterns_of, patterns_at};
+ghost use Rattle.js_bundle.specs.Candidate.{IsClear, IsStopped};
+ghost use Rattle.js_bundle.specs.Form.{has_form};
+ghost use Rattle.js_bundle.specs.Keyword.{keywords};
+ghost use Rattle.js_bundle.specs.Refusals.{when, decided, on_text, text_rules, at_keyword, at_site, first_pass};
+ghost use Rattle.js_bundle.specs.Scan.{site_of};
+
+use crate::built::{Built, keep_assertion, read_names};
+use crate::check::{check_anchor, check_dialect, check_id, check_place, is_formed, read_assertion};
+use crate::fault::{Fault, refuse};
+use crate::refusal::RefusalKind;
+use crate::scan::Site;
+use js_doc::{Doc, Members};
+use std::alloc::Global;
+
+fn check_form(alloc: Global, site: &Site<'_>, keyword: &str, argument: &Doc) -> Result<(), Fault>
+    ensures ok { OnOk result (IsClear (when (not (has_form keyword.now (value_of argument.now)))
+        (decided (site_of site.now) (keyword.now ∷ []) BadKeyword))) }
+    ensures err { IfErr result (IsStopped (when (not (has_form keyword.now (value_of argument.now)))
+        (decided (site_of site.now) (keyword.now ∷ []) BadKeyword))) }
+{
+    if is_formed(keyword, argument) {
+        Ok(())
+    } else {
+        Err(refuse(alloc, site, Some(keyword), RefusalKind::BadKeyword))
+    }
+}
+
+// The rules of a keyword whose argument is a text.
+fn check_text(
+    alloc: Global,
+    before: &[Site<'_>],
+    site: &Site<'_>,
+    keyword: &str,
+    text: &str,
+) -> Result<(), Fault>
+    ensures ok { OnOk result (IsClear
+        (text_rules (map site_of before.now) (site_of site.now) keyword.now text.now)) }
+    ensures err { IfErr result (IsStopped
+        (text_rules (map site_of before.now) (site_of site.now) keyword.now text.now)) }
+{
+    match keyword {
+        "$schema" => check_dialect(alloc, site, keyword, text),
+        "$id" => check_id(alloc, before, site, keyword, text),
+        "$anchor" => check_anchor(alloc, before, site, keyword, text),
+        "$dynamicAnchor" => check_anchor(alloc, before, site, keyword, text),
+        _ => Ok(()),
+    }
+}
+
+fn check_argument(
+    alloc: Global,
+    before: &[Site<'_>],
+    site: &Site<'_>,
+    keyword: &str,
+    argument: &Doc,
+) -> Result<(), Fault>
+    ensures ok { OnOk result (IsClear (on_text
+        (text_rules (map site_of before.now) (site_of site.now) keyword.now) (value_of argument.now))) }
+    ensures err { IfErr result (IsStopped (on_text
+        (text_rules (map site_of before.now) (site_of site.now) keyword.now) (value_of argument.now))) }
+{
+    match argument {
+        Doc::Text(text) => check_text(alloc, before, site, keyword, text.as_str()),
+        _ => Ok(()),
+    }
+}
+
+// The rules of a keyword, its form first.
+fn check_keyword(
+    alloc: Global,
+    built: &mut Built,
+    before: &[Site<'_>],
+    site: &Site<'_>,
+    keyword: &str,
+    argument: &Doc,
+    siblings: &Members,
+) -> Result<(), Fault>
+    ensures clear { OnOk result (IsClear
+        (at_keyword (map site_of before.now) (site_of site.now) (keyword.now, value_of argument.now))) }
+    ensures assertions { OnOk result (built.new.assertions.items ≡ built.old.assertions.items
+        ++ assertion_at (length before.now) siblings.now (keyword.now, value_of argument.now)) }
+    ensures patterns { OnOk result (built.new.patterns.items ≡ built.old.patterns.items
+        ++ patterns_of (length before.now) (keyword.now, value_of argument.now)) }
+    ensures err { IfErr result (IsStopped
+        (at_keyword (map site_of before.now) (site_of site.now) (keyword.now, value_of argument.now))) }
+{
+    check_form(alloc, site, keyword, argument)?;
+    let assertion = read_assertion(alloc, site, keyword, argument, siblings)?;
+    keep_assertion(&mut built.assertions, before.len(), keyword, assertion)?;
+    check_argument(alloc, before, site, keyword, argument)?;
+    read_names(
+        alloc,
+        &mut built.patterns,
+        before.len(),
+        site,
+        keyword,
+        argument,
+    )
+}
+
+// The rules of all of a place's keywords, by name ascending.
+fn check_keywords(
+    alloc: Global,
+    built: &mut Built,
+    before: &[Site<'_>],
+    site: &Site<'_>,
+    members: &Members,
+) -> Result<(), Fault>
+    ensures clear { OnOk result (IsClear
+        (flat_map (at_keyword (map site_of before.now) (site_of site.now)) members.now)) }
+    ensures assertions { OnOk result (built.new.assertions.items ≡ built.old.assertions.items
+        ++ flat_map (assertion_at (length before.now) members.now) members.now) }
+    ensures patterns { OnOk result (built.new.patterns.items ≡ built.old.patterns.items
+        ++ flat_map (patterns_of (length before.now)) members.now) }
+    ensures err { IfErr result (IsStopped
+        (flat_map (at_keyword (map site_of before.now) (site_of site.now)) members.now)) }
+{
+    for (keyword, argument) in members.pairs() {
+        check_keyword(
+            alloc,
+            built,
+            before,
+            site,
+            keyword.as_str(),
+            argument,
+            members,
+        )?;
+    }
+    Ok(())
+}
+
+fn check_schema(
+    alloc: Global,
+    built: &mut Built,
+    before: &[Site<'_>],
+    site: &Site<'_>,
+) -> Result<(), Fault>
+    ensures clear { OnOk result (IsClear (flat_map
+        (at_keyword (map site_of before.now) (site_of site.now)) (keywords (site_of site.now).schema))) }
+    ensures assertions { OnOk result (built.new.assertions.items
+        ≡ built.old.assertions.items ++ assertions_at (length before.now) (site_of site.now)) }
+    ensures patterns { OnOk result (built.new.patterns.items
+        ≡ built.old.patterns.items ++ patterns_at (length before.now) (site_of site.now)) }
+    ensures err { IfErr result (IsStopped (flat_map
+        (at_keyword (map site_of before.now) (site_of site.now)) (keywords (site_of site.now).schema))) }
+{
+    match site.schema {
+        Doc::Members(members) => check_keywords(alloc, built, before, site, members),
+        _ => Ok(()),
+    }
+}
+
+// The rules of a place, and of its keywords.
+fn check_site(
+    alloc: Global,
+    built: &mut Built,
+    before: &[Site<'_>],
+    site: &Site<'_>,
+) -> Result<(), Fault>
+    ensures clear { OnOk result (IsClear (at_site (map site_of before.now) (site_of site.now))) }
+    ensures assertions { OnOk result (built.new.assertions.items
+        ≡ built.old.assertions.items ++ assertions_at (length before.now) (site_of site.now)) }
+    ensures patterns { OnOk result (built.new.patterns.items
+        ≡ built.old.patterns.items ++ patterns_at (length before.now) (site_of site.now)) }
+    ensures err { IfErr result (IsStopped (at_site (map site_of before.now) (site_of site.now))) }
+{
+    check_place(alloc, before, site)?;
+    check_schema(alloc, built, before, site)
+}
+
+/// The first pass. It answers what it has built of the keywords of all places.
+pub(crate) fn first_pass(alloc: Global, sites: &[Site<'_>]) -> Result<Built, Fault>
+    ensures clear { OnOk result (IsClear (first_pass [] (map site_of sites.now))) }
+    ensures assertions { IfOk result
+        (λ b. b.assertions.items ≡ numbered assertions_at 0 (map site_of sites.now)) }
+    ensures patterns { IfOk result
+        (λ b. b.patterns.items ≡ numbered patterns_at 0 (map site_of sites.now)) }
+    ensures err { IfErr result (IsStopped (first_pass [] (map site_of sites.now))) }
+{
+    let mut built = Built::new(alloc);
+    for i in 0..sites.len() {
+        check_site(alloc, &mut built, &sites[..i], &sites[i])?;
+    }
+    Ok(built)
+}

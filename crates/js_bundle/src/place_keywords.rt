@@ -1,0 +1,98 @@
+//! What a place has by its keywords.
+ghost use Rattle.std.specs.Prelude.{◌≡◌, ◌&&◌, true, codes, find, bytes_eq, nat_eq, option_map, option_and_then};
+ghost use Rattle.js_bundle.specs.Schemas.{is_place, has_keyword, place_at, assertion, pattern};
+
+use crate::built::{BuiltAssertion, BuiltPattern};
+use crate::keyword::has;
+use crate::place::Place;
+use crate::schemas::Schemas;
+use js_assert::{Assertion, Pattern};
+
+impl Schemas {
+    /// The assertion that the keyword is at the place. None where the place hasn't the keyword, or it is no assertion
+    /// (JSON Schema Validation, section 6).
+    pub fn assertion(&self, place: Place, keyword: &str) -> Option<&Assertion>
+        requires { is_place self.now place ≡ true }
+        ensures { option_map (λ a. a.now) result ≡ option_and_then (assertion keyword.now) (place_at self.now place) }
+    {
+        match find_assertion(self.kept.built.assertions.as_slice(), place.number, keyword) {
+            Some(built) => Some(&built.assertion),
+            None => None,
+        }
+    }
+
+    /// The pattern of this name among the `patternProperties` of the place. None where there is none (JSON Schema Core,
+    /// section 10.3.2.2).
+    pub fn pattern(&self, place: Place, name: &str) -> Option<&Pattern>
+        requires { is_place self.now place ≡ true }
+        ensures { option_map (λ p. p.now) result ≡ option_and_then (pattern name.now) (place_at self.now place) }
+    {
+        match find_pattern(self.kept.built.patterns.as_slice(), place.number, name) {
+            Some(built) => Some(&built.pattern),
+            None => None,
+        }
+    }
+
+    /// Whether the place has a `$ref` (JSON Schema Core, section 8.2.3.1).
+    pub fn has_ref(&self, place: Place) -> bool
+        requires { is_place self.now place ≡ true }
+        ensures { result ≡ has_keyword (codes "$ref") self.now place }
+    {
+        self.has_keyword(place, "$ref")
+    }
+
+    /// Whether the place has a `$dynamicRef` (JSON Schema Core, section 8.2.3.2).
+    pub fn has_dynamic_ref(&self, place: Place) -> bool
+        requires { is_place self.now place ≡ true }
+        ensures { result ≡ has_keyword (codes "$dynamicRef") self.now place }
+    {
+        self.has_keyword(place, "$dynamicRef")
+    }
+
+    fn has_keyword(&self, place: Place, keyword: &str) -> bool
+        requires { is_place self.now place ≡ true }
+        ensures { result ≡ has_keyword keyword.now self.now place }
+    {
+        has(self.schema(place), keyword)
+    }
+}
+
+fn is_assertion_of(built: &BuiltAssertion, place: usize, keyword: &str) -> bool
+    ensures { result ≡ (nat_eq built.now.place place && bytes_eq keyword.now built.now.keyword) }
+{
+    built.place == place && keyword == built.keyword.as_str()
+}
+
+fn is_pattern_of(built: &BuiltPattern, place: usize, name: &str) -> bool
+    ensures { result ≡ (nat_eq built.now.place place && bytes_eq name.now built.now.name) }
+{
+    built.place == place && name == built.name.as_str()
+}
+
+fn find_assertion<'b>(
+    built: &'b [BuiltAssertion],
+    place: usize,
+    keyword: &str,
+) -> Option<&'b BuiltAssertion>
+    ensures { option_map (λ b. b.now) result
+        ≡ find (λ b. nat_eq b.place place && bytes_eq keyword.now b.keyword) built.now }
+{
+    for one in built {
+        if is_assertion_of(one, place, keyword) {
+            return Some(one);
+        }
+    }
+    None
+}
+
+fn find_pattern<'b>(built: &'b [BuiltPattern], place: usize, name: &str) -> Option<&'b BuiltPattern>
+    ensures { option_map (λ b. b.now) result
+        ≡ find (λ b. nat_eq b.place place && bytes_eq name.now b.name) built.now }
+{
+    for one in built {
+        if is_pattern_of(one, place, name) {
+            return Some(one);
+        }
+    }
+    None
+}

@@ -1,0 +1,134 @@
+//! Finished schemas: places, and what stands there.
+ghost use Rattle.std.specs.Prelude.{◌≡◌, ◌++◌, Some, true, length, map, option_map, IfOk, string_bytes};
+ghost use Rattle.js_doc.specs.Seen.{value_of};
+ghost use Rattle.js_bundle.specs.Finding.{tokens_of};
+ghost use Rattle.js_bundle.specs.Location.{absolute, canonical};
+ghost use Rattle.js_bundle.specs.Schemas.{is_place, place_at, place_numbers, resources};
+ghost use Rattle.js_bundle.specs.Spot.{spot, spot_of};
+
+use crate::checked::{Checked, Spot};
+use crate::document::Document;
+use crate::place::Place;
+use crate::pointers::{after, push_given};
+use crate::uri;
+use js_doc::{Doc, Memory, Pointer};
+use std::alloc::Global;
+use std::marker::Model;
+
+/// Schema documents that are checked: every keyword has its form, and every reference its target. Contracts see them as
+/// their documents; a place is told by its number in scan order.
+#[derive(Drop)]
+pub struct Schemas {
+    pub(crate) documents: Vec<Document>,
+    pub(crate) kept: Checked,
+}
+
+impl Model for Schemas {
+    ghost use Rattle.std.specs.Prelude.{map};
+    ghost use Rattle.js_bundle.specs.Document.{Documents, documents_code};
+
+    ghost Value = { Documents };
+
+    ghost coded = { documents_code };
+
+    ghost use Rattle.js_bundle.specs.Finished.{IsFinished};
+    ghost use Rattle.js_bundle.specs.Seen.{document_of};
+
+    ghost view = { λ s. map document_of s.documents.items };
+
+    ghost invariant = { λ s. IsFinished (map document_of s.documents.items) s.kept };
+}
+
+impl Schemas {
+    /// Whether the place is one of these schemas'. Each that a call of these schemas answers is.
+    pub fn has(&self, place: Place) -> bool
+        ensures { result ≡ is_place self.now place }
+    {
+        place.number < self.kept.spots.len()
+    }
+
+    // What is kept of a place.
+    pub(crate) fn spot(&self, place: Place) -> &Spot
+        requires { is_place self.now place ≡ true }
+        ensures { option_map spot (place_at self.now place) ≡ Some (spot_of result.now) }
+    {
+        &self.kept.spots[place.number]
+    }
+
+    /// The number of the place's document, the first one's 0.
+    pub fn document(&self, place: Place) -> usize
+        requires { is_place self.now place ≡ true }
+        ensures { option_map (λ s. s.document) (place_at self.now place) ≡ Some result }
+    {
+        self.spot(place).document
+    }
+
+    /// Where in its document the place stands.
+    pub fn pointer(&self, place: Place) -> &Pointer
+        requires { is_place self.now place ≡ true }
+        ensures { option_map (λ s. s.pointer) (place_at self.now place) ≡ Some result.now }
+    {
+        &self.spot(place).pointer
+    }
+
+    /// The schema that stands at the place.
+    pub fn schema(&self, place: Place) -> &Doc
+        requires { is_place self.now place ≡ true }
+        ensures { option_map (λ s. s.schema) (place_at self.now place) ≡ Some (value_of result.now) }
+    {
+        let spot = self.spot(place);
+        let root = &self.documents[spot.document].root;
+        match root.at(&spot.pointer) {
+            Some(schema) => schema,
+            None => root, // never: a place stands in its document
+        }
+    }
+
+    /// The canonical URI of the place's resource (JSON Schema Core, section 8.2.1).
+    pub fn resource(&self, place: Place) -> &str
+        requires { is_place self.now place ≡ true }
+        ensures { option_map canonical (place_at self.now place) ≡ Some result.now }
+    {
+        uri::text_of(&self.spot(place).own.base)
+    }
+
+    /// The absolute location of the place, or of a keyword of it (JSON Schema Core, section 12.3.2): the canonical URI of
+    /// its resource, `#`, and the way from the resource's root as a fragment. A root's ends in a bare `#`.
+    ///
+    /// # Errors
+    /// `Memory`.
+    pub fn absolute(
+        &self,
+        alloc: Global,
+        place: Place,
+        keyword: Option<&str>,
+    ) -> Result<String, Memory>
+        requires { is_place self.now place ≡ true }
+        ensures { IfOk result (λ t. option_map (λ s. absolute s (tokens_of keyword.entry)) (place_at self.now place)
+            ≡ Some (string_bytes t)) }
+    {
+        let spot = self.spot(place);
+        let mut way = after(alloc, &spot.pointer, spot.own.resource.tokens().len())?;
+        push_given(&mut way, keyword)?;
+        let fragment = way.fragment(alloc)?;
+        let mut text = String::from_str(alloc, uri::text_of(&spot.own.base))?;
+        text.push('#')?;
+        text.push_str(fragment.as_str())?;
+        Ok(text)
+    }
+
+    /// All places, in scan order: document by document, a schema before those that it holds, these by keyword ascending and
+    /// then by index or by name ascending.
+    ///
+    /// # Errors
+    /// `Memory`.
+    pub fn places(&self, alloc: Global) -> Result<Vec<Place>, Memory>
+        ensures { IfOk result (λ v. v.items ≡ place_numbers self.now) }
+    {
+        let mut places = Vec::new(alloc);
+        for number in 0..self.kept.spots.len() {
+            places.push(Place { number })?;
+        }
+        Ok(places)
+    }
+}
