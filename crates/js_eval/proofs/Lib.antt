@@ -11,3 +11,4 @@ pub mod Among
 pub mod Concluding
 pub mod Stages
 pub mod Closing
+pub mod Largest
