@@ -12,3 +12,4 @@ pub mod Concluding
 pub mod Stages
 pub mod Closing
 pub mod Bundled
+pub mod Largest

@@ -15,3 +15,4 @@ pub mod Examples
 pub mod Seen
 pub mod Judging
 pub mod Rows
+pub mod Noted
