@@ -1,5 +1,5 @@
 -- The texts of the items behind one, and what they tell of equal items.
-use Rattle.std.proofs.Common.{◌≡◌, ℕ, ◌+◌, ◌<◌, List, [], ◌∷◌, Bool, true, false, not, ◌||◌, cond, Option, Some, None, String, Global, string_bytes, map, length, get_or, drop, refl, sym, ap, ap₂, ◌∙◌}
+use Rattle.std.proofs.Common.{◌≡◌, ℕ, ◌+◌, ◌<◌, List, [], ◌∷◌, Bool, true, false, ◌||◌, cond, Some, None, String, Global, string_bytes, map, length, get_or, drop, refl, sym, ap, ap₂, ◌∙◌}
 use Rattle.std.proofs.lemmas.List.{drop_more}
 use Rattle.std.specs.Cmp.Lexicographic.{slice_cmp, texts_ties, nat_list_eq_equiv}
 use Rattle.std.specs.List.{list_any}

@@ -37,8 +37,8 @@ pub(crate) enum Test {
     DependentRequired(Vec<Dependence>),
 }
 
-/// A keyword that judges a value by itself, with its argument. Contracts see it as the keyword, the argument's
-/// value, and whether `contains` stands beside it.
+/// A keyword that judges a value by itself, with its argument (JSON Schema Validation, section 6). Contracts see it
+/// as the keyword, the argument's value, and whether `contains` stands beside it.
 #[derive(Debug, Drop)]
 pub struct Assertion {
     test: Test,

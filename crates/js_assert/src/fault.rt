@@ -3,7 +3,7 @@ ghost use Rattle.std.specs.Prelude.{◌≡◌};
 use js_doc::Memory;
 use std::alloc::{AllocError, AllocFailed};
 
-/// Why a keyword's argument isn't taken.
+/// Why a keyword's argument isn't taken (JSON Schema Validation, section 6).
 #[derive(Clone, Copy, Debug, PartialEq, Eq)]
 pub enum KeywordFault {
     /// 1: there was no memory.

@@ -194,7 +194,7 @@ fn dependences_of(alloc: Global, members: &Members) -> Result<Vec<Dependence>, K
     ensures form { IfOk result (λ v. list_all (λ m. is_list_of_names m.1) members.now ≡ true) }
     ensures refused { IfErr result (IsBadUnless (list_all (λ m. is_list_of_names m.1) members.now)) }
 {
-    let mut dependences = Vec::new(alloc);
+    let mut dependences = Vec::with_capacity(alloc, members.len())?;
     for (name, needs) in members.pairs() {
         let needs = names(alloc, needs)?;
         let name = Text::new(name.clone()?);

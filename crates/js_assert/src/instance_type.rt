@@ -5,6 +5,7 @@ ghost use Rattle.std.specs.List.{list_any};
 ghost use Rattle.js_assert.specs.Argument.{strings};
 ghost use Rattle.js_doc.specs.Seen.{value_of};
 ghost use Rattle.js_assert.specs.Assertion.{is_type_of};
+ghost use Rattle.js_assert.specs.Types.{type_name, types_value};
 
 use js_doc::Doc;
 
@@ -27,8 +28,6 @@ pub(crate) enum Types {
 }
 
 impl InstanceType {
-    ghost use Rattle.js_assert.specs.Types.{type_name};
-
     /// The type of this name.
     pub(crate) fn named(name: &str) -> Option<InstanceType>
         ensures some { IfSome result (λ t. type_name t ≡ name.now) }
@@ -63,8 +62,6 @@ impl InstanceType {
 }
 
 impl Types {
-    ghost use Rattle.js_assert.specs.Types.{types_value};
-
     /// Whether the value is of one of the types.
     pub(crate) fn take(&self, value: &Doc) -> bool
         ensures { result ≡ list_any (is_type_of (value_of value.now)) (strings (types_value self.now)) }
@@ -75,8 +72,6 @@ impl Types {
         }
     }
 }
-
-ghost use Rattle.js_assert.specs.Types.{type_name};
 
 fn is_of_any(types: &[InstanceType], value: &Doc) -> bool
     ensures { result ≡ list_any (λ t. is_type_of (value_of value.now) (type_name t)) types.now }

@@ -6,7 +6,7 @@ use regex::{Error, Regex};
 use std::alloc::Global;
 use std::marker::Model;
 
-/// Why a pattern isn't built.
+/// Why a pattern isn't built (JSON Schema Validation, section 6.3.3).
 #[derive(Clone, Copy, Debug, PartialEq, Eq)]
 pub enum PatternFault {
     /// 1: there was no memory.
@@ -18,7 +18,7 @@ pub enum PatternFault {
     PatternTooLarge,
 }
 
-/// A pattern, ready to search with. Contracts see it as its text.
+/// A pattern, ready to search with (JSON Schema Validation, section 6.3.3). Contracts see it as its text.
 #[derive(Debug, Drop)]
 pub struct Pattern {
     regex: Regex,

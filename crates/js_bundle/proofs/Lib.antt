@@ -13,6 +13,7 @@ pub mod Named
 pub mod Stopping
 pub mod Passes
 pub mod Targets
+pub mod Asked
 pub mod Assertions
 pub mod BuiltNext
 pub mod Whole
@@ -20,3 +21,5 @@ pub mod Kept
 pub mod Finds
 pub mod Schema
 pub mod BuiltThere
+pub mod Dynamic
+pub mod Known

@@ -14,8 +14,9 @@ use Rattle.js_assert.specs.Assertion.{Asserted}
 use Rattle.js_assert.specs.Keyword.{keyword_named}
 use Rattle.js_bundle.specs.declared.built.BuiltAssertion.{BuiltAssertion}
 use Rattle.js_bundle.specs.declared.built.BuiltPattern.{BuiltPattern}
+use Rattle.js_bundle.specs.declared.reference.DynamicReference.{DynamicReference}
 use Rattle.js_bundle.specs.Built.{numbered, assertion_of, assertions_at, pattern_at, patterns_of, patterns_at}
-use Rattle.js_bundle.specs.Finding.{pair_of, pairs_of}
+use Rattle.js_bundle.specs.Finding.{pair_of, pairs_of, number_of_target, goes_by_name, dynamic_of, dynamic_at}
 use Rattle.js_bundle.specs.Keyword.{Text, pairs, keywords, argument}
 use Rattle.js_bundle.specs.Resource.{Site}
 use Rattle.js_bundle.specs.Schemas.{assertion, pattern}
@@ -327,3 +328,28 @@ target_found f all i =
     ∙ ap (option_map (λ r. r.target)) (numbered_finds (λ j s. pair_of j (f s)) (λ r. nat_eq r.place i) i (λ j s n. other_pair i j (f s) n) all 0 i (omega arith))
     ∙ map_and_then (λ r. r.target) (λ s. find (λ r. nat_eq r.place i) (pair_of i (f s))) (slice_get all i)
     ∙ and_then_as (λ s. option_map (λ r. r.target) (find (λ r. nat_eq r.place i) (pair_of i (f s)))) f (λ s. that_pair i (f s)) (slice_get all i)
+
+-- ---- dynamic references
+
+abbrev the_dynamic : Text
+the_dynamic = codes "$dynamicRef"
+
+other_dynamic : (i j : ℕ) (o : Option ℕ) (b : Bool) → ¬ (j ≡ i) → find (λ r. nat_eq r.place i) (dynamic_of j o b) ≡ None
+other_dynamic i j None b n = refl
+other_dynamic i j (Some t) b n = let other : nat_eq j i ≡ false = ne_eqb j i n in rw other refl
+
+abbrev pub dynamic_as : ℕ → Bool → ℕ → DynamicReference
+dynamic_as i b t = record { place = i; target = t; by_name = b }
+
+that_dynamic : (i : ℕ) (o : Option ℕ) (b : Bool) → find (λ r. nat_eq r.place i) (dynamic_of i o b) ≡ option_map (dynamic_as i b) o
+that_dynamic i None b = refl
+that_dynamic i (Some t) b = let same : nat_eq i i ≡ true = nat_eq-refl i in rw same refl
+
+-- the first target of a place's `$dynamicRef`, and whether it goes by name, are what is found under the place's number
+pub dynamic_found : (known all : List Site) (i : ℕ)
+    → find (λ r. nat_eq r.place i) (numbered (dynamic_at known) 0 all)
+    ≡ option_and_then (λ s. option_map (λ t. record { place = i; target = t; by_name = goes_by_name known s }) (number_of_target known (codes "$dynamicRef") s)) (slice_get all i)
+dynamic_found known all i =
+    numbered_finds (dynamic_at known) (λ r. nat_eq r.place i) i (λ j s n. other_dynamic i j (number_of_target known the_dynamic s) (goes_by_name known s) n) all 0 i (omega arith)
+    ∙ and_then_as (λ s. find (λ r. nat_eq r.place i) (dynamic_at known i s)) (λ s. option_map (dynamic_as i (goes_by_name known s)) (number_of_target known the_dynamic s))
+    (λ s. that_dynamic i (number_of_target known the_dynamic s) (goes_by_name known s)) (slice_get all i)

@@ -1,5 +1,5 @@
 -- How the code finds places: by their numbers in the list.
-use Rattle.std.specs.Prelude.{◌≡◌, ℕ, ◌+◌, List, [], ◌∷◌, ◌++◌, Bool, false, not, ◌||◌, is_some, Option, Some, None, option_and_then, codes}
+use Rattle.std.specs.Prelude.{◌≡◌, ℕ, ◌+◌, List, [], ◌∷◌, ◌++◌, Bool, false, not, ◌||◌, is_some, Option, Some, None, option_and_then, unwrap_or, codes, if◌then◌else◌}
 use Rattle.std.specs.Borrow.{Bor}
 use Rattle.std.specs.List.{position_from}
 use Rattle.url.specs.Parts.{Parts}
@@ -9,14 +9,14 @@ use Rattle.js_bundle.specs.declared.fault.Fault.{Fault}
 use Rattle.js_bundle.specs.declared.fault.Fault.TheVariants.{Memory, Refused}
 use Rattle.js_bundle.specs.declared.reference.Reference.{Reference}
 use Rattle.js_bundle.specs.declared.reference.DynamicReference.{DynamicReference}
-use Rattle.js_bundle.specs.Keyword.{Text}
+use Rattle.js_bundle.specs.Keyword.{Text, text_argument}
 use Rattle.js_bundle.specs.Names.{names, stands_at, by_anchor, by_dynamic_anchor, is_named_by, is_pointer}
 use Rattle.js_bundle.specs.declared.names.NameFault.{NameFault}
 use Rattle.js_bundle.specs.declared.names.NameFault.TheVariants as fault
 use Rattle.js_doc.specs.PointerReading.{pointer_of}
 use Rattle.std.specs.Option.{option_map_or}
 use Rattle.js_bundle.specs.Resource.{Site}
-use Rattle.js_bundle.specs.Target.{reference, first_target, is_dynamic}
+use Rattle.js_bundle.specs.Target.{reference, first_target, is_dynamic, outermost}
 
 -- the number of the place that a URI names
 abbrev pub number_named : List Site → Parts → Option ℕ
@@ -47,6 +47,11 @@ dynamic_of n (Some t) by_name = record { place = n; target = t; by_name = by_nam
 
 abbrev pub dynamic_at : List Site → ℕ → Site → List DynamicReference
 dynamic_at all n place = dynamic_of n (number_of_target all (codes "$dynamicRef") place) (goes_by_name all place)
+
+-- where a first target leads in a dynamic scope: by its own name, where the reference goes by name
+abbrev pub by_scope : List Site → List Site → Bool → Site → Site
+by_scope all path by_name first =
+    if by_name then unwrap_or (option_and_then (λ name. outermost all name path) (text_argument (codes "$dynamicAnchor") first.schema)) first else first
 
 -- ---- the parts of it: by the root of the resource, if there is one
 

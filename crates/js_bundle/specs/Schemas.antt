@@ -1,5 +1,6 @@
 -- What is asked of finished schemas. A place is told by its number in scan order.
 use Rattle.std.specs.Prelude.{◌≡◌, ℕ, ◌<◌, List, [], ◌∷◌, ◌++◌, Bool, true, false, Option, Some, None, option_and_then, option_map, find, decimal, bytes_eq, slice_get, nat_lt, option_to_list, length, map, Ok, Err, codes, if◌then◌else◌}
+use Rattle.std.specs.Borrow.{Bor}
 use Rattle.std.specs.List.{range_with_len}
 use Rattle.std.specs.Option.{option_map_or}
 use Rattle.url.specs.Parts.{Parts}
@@ -134,3 +135,7 @@ resources_at n place = map (λ uri. (uri, n)) (told_once (known_as place))
 
 abbrev pub resources : Documents → List (Text × ℕ)
 resources documents = numbered resources_at 0 (sites documents)
+
+-- a URI that is lent, with a number
+abbrev pub lent : Bor Text × ℕ → Text × ℕ
+lent e = (e.0.now, e.1)

@@ -1,12 +1,13 @@
 -- A place without its schema, as finished schemas keep it.
-use Rattle.std.specs.Prelude.{ℕ, Bool, ◌&&◌, ◌==◌, ◌∷◌, ◌++◌}
+use Rattle.std.specs.Prelude.{ℕ, List, [], Bool, ◌&&◌, ◌==◌, ◌∷◌, ◌++◌, map, not, bytes_eq, Option, Some, None, if◌then◌else◌}
 use Rattle.js_doc.specs.Pointer.{Tokens}
 use Rattle.js_bundle.specs.declared.checked.Spot as rust
 use Rattle.js_bundle.specs.declared.scope.Scope.{Scope}
 use Rattle.js_bundle.specs.Keyword.{Text}
 use Rattle.js_bundle.specs.Names.{same_tokens}
 use Rattle.js_bundle.specs.Resource.{Site}
-use Rattle.js_bundle.specs.Schemas.{Step, step_tokens}
+use Rattle.js_bundle.specs.Schemas.{Step, step_tokens, told_once}
+use Rattle.js_bundle.specs.Url.{printed}
 
 pub record Spot : Type 0 where
   pub document : ℕ
@@ -25,3 +26,22 @@ spot_of s = record { document = s.document; pointer = s.pointer; above = s.above
 abbrev pub stands_below : Spot → Text → Step → Spot → Bool
 stands_below above keyword step place =
     place.document == above.document && same_tokens place.pointer (above.pointer ++ keyword ∷ step_tokens step)
+
+-- the URIs by which the place is known as the root of a resource
+abbrev pub known_at : Spot → List Text
+known_at place =
+    (if same_tokens place.pointer [] then printed place.above.base ∷ [] else []) ++ (if place.identifies then printed place.own.base ∷ [] else [])
+
+-- the document's URI, at its root
+abbrev pub document_uri : Spot → Option Text
+document_uri place = if same_tokens place.pointer [] then Some (printed place.above.base) else None
+
+-- what the `$id` makes, unless it is the document's URI at its root
+abbrev pub base_made : Spot → Option Text
+base_made place =
+    if place.identifies && not (same_tokens place.pointer [] && bytes_eq (printed place.above.base) (printed place.own.base)) then Some (printed place.own.base) else None
+
+-- with the place's number
+abbrev pub resource_of : ℕ → Option Text → List (Text × ℕ)
+resource_of n None = []
+resource_of n (Some uri) = (uri, n) ∷ []

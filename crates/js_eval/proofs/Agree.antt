@@ -1,5 +1,5 @@
 -- What is known within n is known alike within n + 1.
-use Rattle.std.specs.Prelude.{◌≡◌, ℕ, zero, suc, Bool, true, false, not, ◌&&◌, cond, List, [], ◌∷◌, ◌++◌, ◌+◌, ◌-◌, ◌≤◌, Option, Some, None, option_map, map, filter, length, codes, refl}
+use Rattle.std.specs.Prelude.{◌≡◌, ℕ, zero, suc, Bool, true, false, not, ◌&&◌, List, [], ◌∷◌, ◌++◌, ◌+◌, ◌-◌, ◌≤◌, Option, Some, None, option_map, map, filter, length, codes, refl}
 use Rattle.std.specs.List.{list_all, flat_map}
 use Rattle.std.specs.Option.{option_map_or}
 use Rattle.std.proofs.Common.{sym, ◌∙◌, ap, subst, arith}
@@ -9,16 +9,14 @@ use Rattle.js_doc.specs.Value.{Value, Named}
 use Rattle.js_doc.specs.Members.{get}
 use Rattle.js_assert.specs.Argument.{entries}
 use Rattle.js_eval.specs.Applications.{Application, application, asks_of}
-use Rattle.js_eval.specs.Evaluated.{names_of, indexes_of}
 use Rattle.js_eval.specs.Keywords.{Keyword, keywords, chosen, comes_first, comes_last, is_else}
 use Rattle.js_eval.specs.Kind.{kind, is_unevaluated}
-use Rattle.js_eval.specs.Passes.{passes_of}
 use Rattle.js_eval.specs.Schemas.{Text, Schemas, Alone}
 use Rattle.js_eval.specs.Verdict as verdict
 use Rattle.js_eval.specs.Verdict.{Known, next, nothing, within}
 use Rattle.js_eval.specs.declared.kind.Kind.{Kind}
 use Rattle.js_eval.specs.declared.kind.Kind.TheVariants.{UnevaluatedItems, UnevaluatedProperties, Contains}
-use Rattle.js_eval.proofs.Lists.{and_true, and_same, all_more, all_same, map_same, filter_same, flat_map_same, all_filtered, found}
+use Rattle.js_eval.proofs.Lists.{and_same, all_more, all_same, map_same, filter_same, flat_map_same, all_filtered, found}
 
 -- what the first has settled, the second knows alike
 pub record Agrees {Place : Type 0} (w x : Known Place) : Type 0 where

@@ -6,3 +6,8 @@ pub mod NoCircle
 pub mod Examples
 pub mod NoRow
 pub mod Items
+pub mod AskedNothing
+pub mod Among
+pub mod Concluding
+pub mod Stages
+pub mod Closing

@@ -1,12 +1,12 @@
 -- A result is as deep as the least number within which its place and value are settled, and it has as many nodes as
 -- are told without it.
-use Rattle.std.specs.Prelude.{◌≡◌, ℕ, zero, suc, ◌+◌, ◌<◌, ◌≤◌, max, ◌⊎◌, Bool, true, false, ◌&&◌, List, [], ◌∷◌, ◌++◌, sum_by, refl}
+use Rattle.std.specs.Prelude.{◌≡◌, ℕ, zero, suc, ◌+◌, ◌<◌, ◌≤◌, ◌⊎◌, Bool, true, false, ◌&&◌, List, [], ◌∷◌, ◌++◌, sum_by, refl}
 use Rattle.std.proofs.Common.{sym, ◌∙◌, ap, subst, arith, inl, inr}
 use Rattle.std.specs.List.{list_all}
 use Rattle.std.proofs.lemmas.Bool.{and_parts, cases_lt}
 use Rattle.std.proofs.lemmas.List.Sums.{sum_by-cons}
 use Rattle.js_doc.specs.Value.{Value}
-use Rattle.js_tree.specs.Forest.{Forest, empty, tree, Rose, node_count}
+use Rattle.js_tree.specs.Forest.{Forest, empty, tree, node_count}
 use Rattle.js_eval.specs.Applications.{Application}
 use Rattle.js_eval.specs.Keywords.{Keyword, keywords}
 use Rattle.js_eval.specs.Location.{Location, at_keyword, at_application}

@@ -1,7 +1,7 @@
 -- `unevaluatedItems` gives no names, and `unevaluatedProperties` no indexes.
-use Rattle.std.specs.Prelude.{◌≡◌, ℕ, Bool, true, false, not, ◌||◌, cond, List, [], ◌∷◌, ◌++◌, filter, refl}
+use Rattle.std.specs.Prelude.{◌≡◌, ℕ, Bool, true, false, not, ◌||◌, cond, List, [], ◌∷◌, filter, refl}
 use Rattle.std.specs.List.{flat_map}
-use Rattle.std.proofs.Common.{sym, ◌∙◌, ap}
+use Rattle.std.proofs.Common.{ap}
 use Rattle.js_doc.specs.Value.{Value}
 use Rattle.js_eval.specs.Applications.{Application}
 use Rattle.js_eval.specs.Evaluated.{names_of, indexes_of}

@@ -1,12 +1,11 @@
 -- A name that is in no row of the tables only annotates.
-use Rattle.std.specs.Prelude.{◌≡◌, ℕ, List, [], ◌∷◌, Bool, true, false, cond, Option, Some, None, is_some, refl}
+use Rattle.std.specs.Prelude.{◌≡◌, ℕ, List, [], ◌∷◌, Bool, true, false, cond, None, is_some, refl}
 use Rattle.std.proofs.Common.{sym, ◌∙◌, ap}
 use Rattle.std.specs.List.{AllByRecursion}
 use Rattle.std.specs.Str.{bytes_eq}
 use Rattle.std.proofs.lemmas.Slice.Eq.{bytes_eq-Decides}
 use Rattle.js_assert.specs.Keyword.{keyword_named, keywords}
 use Rattle.js_assert.proofs.Named.{other_name}
-use Rattle.js_eval.specs.declared.kind.Kind.{Kind}
 use Rattle.js_eval.specs.declared.kind.Kind.TheVariants.{Assertion, Annotation}
 use Rattle.js_eval.specs.Kind.{Row, kind, kind_in, applicators}
 

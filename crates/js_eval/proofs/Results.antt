@@ -1,17 +1,16 @@
 -- A place and a value have one result at most, and one if they are settled.
-use Rattle.std.specs.Prelude.{◌≡◌, ℕ, zero, suc, ◌+◌, ◌≤◌, max, Bool, true, false, ◌&&◌, List, [], ◌∷◌, ◌++◌, filter, refl}
-use Rattle.std.proofs.Common.{sym, ◌∙◌, ap, subst, arith}
+use Rattle.std.specs.Prelude.{◌≡◌, ℕ, zero, suc, max, true, List, [], ◌∷◌, ◌++◌, refl}
+use Rattle.std.proofs.Common.{sym, ◌∙◌, subst, arith}
 use Rattle.std.specs.List.{list_all}
 use Rattle.std.proofs.lemmas.Bool.{and_parts}
 use Rattle.js_doc.specs.Value.{Value}
-use Rattle.js_tree.specs.Forest.{Forest, empty, tree, Rose}
+use Rattle.js_tree.specs.Forest.{Forest, empty, tree}
 use Rattle.js_eval.specs.Applications.{Application}
 use Rattle.js_eval.specs.Keywords.{Keyword, keywords}
-use Rattle.js_eval.specs.Kind.{kind}
 use Rattle.js_eval.specs.Location.{Location, at_keyword, at_application}
 use Rattle.js_eval.specs.Result.{OutputUnit, ResultTree, schema_unit, keyword_unit, AreKeywordNodes, AreSchemaNodes, IsNode, IsResult}
 use Rattle.js_eval.specs.Schemas.{Schemas}
-use Rattle.js_eval.specs.Verdict.{Known, within, Settled, asks, passes, matching, keyword_settled, application_settled, application_holds, schema_settled}
+use Rattle.js_eval.specs.Verdict.{within, Settled, asks, keyword_settled}
 use Rattle.js_eval.proofs.Agree.{Agrees, within_agrees, up_to, asks_same, passes_same, matching_same, holding_same, schema_settled_same}
 
 module _ {Place : Type 0} (S : Schemas Place) where

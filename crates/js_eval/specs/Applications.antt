@@ -1,7 +1,7 @@
 -- What a keyword asks for: its schemas, each applied to a value (JSON Schema Core, sections 8.2.3, 10 and 11).
 -- On a value of a type that it doesn't speak of a keyword asks for nothing: such a value has no items, or no members.
 -- The order in which it asks is this project's own choice.
-use Rattle.std.specs.Prelude.{ℕ, suc, ◌==◌, List, [], ◌∷◌, Bool, true, false, not, ◌||◌, Option, Some, None, map, filter, length, nat_lt, nat_le, is_some, codes, if◌then◌else◌}
+use Rattle.std.specs.Prelude.{ℕ, suc, ◌==◌, List, [], ◌∷◌, Bool, false, not, ◌||◌, Option, Some, None, map, filter, length, nat_lt, nat_le, codes, if◌then◌else◌}
 use Rattle.std.specs.List.{list_any, flat_map}
 use Rattle.std.specs.Option.{option_map_or}
 use Rattle.std.specs.Str.{bytes_eq}

@@ -1,5 +1,5 @@
 -- Schemas and instances on which the definitions are seen to say what was meant.
-use Rattle.std.specs.Prelude.{ℕ, pos, List, [], ◌∷◌, ◌++◌, Bool, true, false, Option, Some, None, option_and_then, unwrap_or, get_or, drop, codes}
+use Rattle.std.specs.Prelude.{ℕ, pos, List, [], ◌∷◌, Bool, true, false, option_and_then, unwrap_or, get_or, drop, codes}
 use Rattle.js_doc.specs.PointerReading.{pointer_of}
 use Rattle.js_doc.specs.Lookup.{at}
 use Rattle.js_doc.specs.Value.{Value, null, truth, whole, text, list, object, items, members, Named}

@@ -1,5 +1,5 @@
 -- Laws of the definitions: that they say what they seem to say.
-use Rattle.std.specs.Prelude.{◌≡◌, ◌↔◌, ℕ, ◌≤◌, List, Bool, not, filter}
+use Rattle.std.specs.Prelude.{◌≡◌, ◌↔◌, ℕ, ◌≤◌, List, not, filter}
 use Rattle.std.specs.List.{flat_map}
 use Rattle.js_doc.specs.Value.{Value}
 use Rattle.js_eval.specs.Keywords.{keywords}

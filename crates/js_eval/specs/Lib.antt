@@ -12,3 +12,5 @@ pub mod Size
 pub mod Laws
 pub mod Examples
 pub mod Seen
+pub mod Judging
+pub mod Rows

@@ -1,5 +1,5 @@
 -- Where a node of the result stands (JSON Schema Core, sections 12.3.1 and 12.3.3).
-use Rattle.std.specs.Prelude.{ℕ, List, [], ◌∷◌, ◌++◌, decimal}
+use Rattle.std.specs.Prelude.{[], ◌∷◌, ◌++◌, decimal}
 use Rattle.js_doc.specs.Pointer.{Tokens}
 use Rattle.js_eval.specs.Applications.{Application}
 use Rattle.js_eval.specs.Schemas.{Text, Step, Alone, Index, Name}

@@ -10,10 +10,9 @@ use Rattle.js_assert.specs.ErrorText as assertion
 use Rattle.js_eval.specs.Applications.{Application, among_names}
 use Rattle.js_eval.specs.Evaluated.{names_applied, indexes_applied}
 use Rattle.js_eval.specs.Keywords.{Keyword}
-use Rattle.js_eval.specs.Passes.{how_many}
 use Rattle.js_eval.specs.Schemas.{Text}
 use Rattle.js_eval.specs.declared.kind.Kind.{Kind}
-use Rattle.js_eval.specs.declared.kind.Kind.TheVariants.{Reference, DynamicReference, AllOf, AnyOf, OneOf, Not, If, Then, Else, DependentSchemas, PrefixItems, Items, Contains, Properties, PatternProperties, AdditionalProperties, PropertyNames, UnevaluatedItems, UnevaluatedProperties, Assertion, Annotation}
+use Rattle.js_eval.specs.declared.kind.Kind.TheVariants.{AnyOf, OneOf, Not, PrefixItems, Items, Contains, Properties, PatternProperties, AdditionalProperties, UnevaluatedItems, UnevaluatedProperties, Assertion, Annotation}
 
 -- an annotation that is an empty list of names or of indexes is one
 pub data Note : Type 0 where

@@ -1,6 +1,6 @@
 -- Whether a keyword passes, by the verdicts of the applications that it asked for
 -- (JSON Schema Core, sections 8.2.3, 10 and 11; Validation, section 6).
-use Rattle.std.specs.Prelude.{ℕ, ◌==◌, List, [], ◌∷◌, Bool, true, false, not, ◌||◌, count_by, pos, codes}
+use Rattle.std.specs.Prelude.{ℕ, ◌==◌, List, Bool, true, false, not, ◌||◌, count_by, pos, codes}
 use Rattle.std.specs.List.{list_any, list_all}
 use Rattle.std.specs.Option.{option_map_or}
 use Rattle.js_doc.specs.Value.{Value, whole, Named}
@@ -10,7 +10,7 @@ use Rattle.js_assert.specs.Argument.{on_array}
 use Rattle.js_assert.specs.Assertion.{asserted, says}
 use Rattle.js_eval.specs.Keywords.{Keyword}
 use Rattle.js_eval.specs.declared.kind.Kind.{Kind}
-use Rattle.js_eval.specs.declared.kind.Kind.TheVariants.{Reference, DynamicReference, AllOf, AnyOf, OneOf, Not, If, Then, Else, DependentSchemas, PrefixItems, Items, Contains, Properties, PatternProperties, AdditionalProperties, PropertyNames, UnevaluatedItems, UnevaluatedProperties, Assertion, Annotation}
+use Rattle.js_eval.specs.declared.kind.Kind.TheVariants.{AnyOf, OneOf, Not, If, Contains, Assertion, Annotation}
 
 abbrev pub all : List Bool → Bool
 all verdicts = list_all (λ holds. holds) verdicts

@@ -1,7 +1,7 @@
 -- Whether a value holds under a schema, and what of it is then evaluated (JSON Schema Core, sections 7.2 and 7.5 to 7.7).
 -- References may lead on without end, so all is said within a number n of schemas on a way: within 0 nothing is
 -- settled, and within n + 1 a schema is judged by what is known of its keywords' applications within n.
-use Rattle.std.specs.Prelude.{◌≡◌, ℕ, zero, suc, List, [], ◌∷◌, ◌++◌, Bool, true, false, not, ◌&&◌, Option, Some, None, option_map, map, filter, length, codes, if◌then◌else◌}
+use Rattle.std.specs.Prelude.{◌≡◌, ℕ, zero, suc, List, [], ◌∷◌, ◌++◌, Bool, true, false, not, ◌&&◌, Option, option_map, map, filter, length, codes, if◌then◌else◌}
 use Rattle.std.specs.List.{list_all, flat_map}
 use Rattle.std.specs.Option.{option_map_or}
 use Rattle.js_doc.specs.Value.{Value, truth, Named}
@@ -25,6 +25,11 @@ pub record Known (Place : Type 0) : Type 0 where
   -- the members, and the items, of the value that it has evaluated
   pub names : List Place → Place → Value → List Text
   pub indexes : List Place → Place → Value → List ℕ
+
+-- `false` accepts nothing; `true`, and an object by itself, everything (section 4.3.2)
+abbrev pub accepts : Value → Bool
+accepts (truth b) = b
+accepts _ = true
 
 -- ---- a schema and its keywords, by what is known of their applications
 
@@ -104,11 +109,6 @@ module _ {Place : Type 0} (S : Schemas Place) (known : Known Place) (above : Lis
   keyword_settled k = list_all application_settled (asks k)
 
   -- ---- the schema
-
-  -- `false` accepts nothing; `true`, and an object by itself, everything (section 4.3.2)
-  abbrev pub accepts : Value → Bool
-  accepts (truth b) = b
-  accepts _ = true
 
   -- each application of its keywords is settled; `true` and `false` have no keywords
   abbrev pub schema_settled : Bool

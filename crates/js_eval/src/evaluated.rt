@@ -82,7 +82,7 @@ fn add_applied_names<'a>(
     Ok(())
 }
 
-fn add_each_name<'a>(names: &mut Vec<&'a str>, below: &[&'a str]) -> Result<(), Memory>
+pub(crate) fn add_each_name<'a>(names: &mut Vec<&'a str>, below: &[&'a str]) -> Result<(), Memory>
     ensures { OnOk result (texts_of names.new.items ≡ texts_of names.old.items ++ texts_of below.now) }
 {
     for name in below {
@@ -182,7 +182,7 @@ fn add_holding_indexes(
     Ok(())
 }
 
-fn add_each_index(indexes: &mut Vec<usize>, below: &[usize]) -> Result<(), Memory>
+pub(crate) fn add_each_index(indexes: &mut Vec<usize>, below: &[usize]) -> Result<(), Memory>
     ensures { OnOk result (indexes.new.items ≡ indexes.old.items ++ below.now) }
 {
     indexes.extend_from_slice(below)?;

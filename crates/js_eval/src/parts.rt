@@ -1,8 +1,10 @@
 //! The items and the members of a value.
-ghost use Rattle.std.specs.Prelude.{◌≡◌, [], MatchOption, map};
+ghost use Rattle.std.specs.Prelude.{◌≡◌, [], MatchOption, map, option_map};
 ghost use Rattle.js_assert.specs.Argument.{entries, values};
+ghost use Rattle.js_doc.specs.Members.{get};
 ghost use Rattle.js_doc.specs.Seen.{value_of};
 ghost use Rattle.js_eval.specs.Seen.{instance_of};
+ghost use Rattle.js_eval.specs.Verdict.{accepts};
 
 use js_doc::{Doc, Members};
 
@@ -52,5 +54,25 @@ pub(crate) fn members_in(doc: &Doc) -> Option<&Members>
     match doc {
         Doc::Members(members) => Some(members),
         _ => None,
+    }
+}
+
+/// The argument of the keyword of this name, where the schema has one.
+pub(crate) fn argument_in<'a>(schema: &'a Doc, name: &str) -> Option<&'a Doc>
+    ensures { option_map (λ d. value_of d.now) result ≡ get name.now (entries (value_of schema.now)) }
+{
+    match members_in(schema) {
+        Some(members) => members.get(name),
+        None => None,
+    }
+}
+
+/// The schema isn't `false`.
+pub(crate) fn is_accepting(schema: &Doc) -> bool
+    ensures { result ≡ accepts (value_of schema.now) }
+{
+    match schema {
+        Doc::Truth(accepts) => *accepts,
+        _ => true,
     }
 }

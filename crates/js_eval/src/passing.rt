@@ -4,7 +4,7 @@ ghost use Rattle.std.specs.Option.{option_map_or};
 ghost use Rattle.js_assert.specs.Argument.{on_array};
 ghost use Rattle.js_assert.specs.Assertion.{asserted, says};
 ghost use Rattle.js_eval.specs.Keywords as table;
-ghost use Rattle.js_eval.specs.Passes.{all, any, how_many, may_contain_none, passes_of};
+ghost use Rattle.js_eval.specs.Passes.{all, any, how_many as count, may_contain_none, passes_of};
 ghost use Rattle.js_eval.specs.Seen.{instance_of};
 
 use crate::kind::Kind;
@@ -48,9 +48,16 @@ fn holds_any(verdicts: &[bool]) -> bool
 }
 
 fn holds_once(verdicts: &[bool]) -> bool
-    ensures { result ≡ (how_many verdicts.now == 1) }
+    ensures { result ≡ (count verdicts.now == 1) }
 {
-    verdicts.iter().filter(|holds| **holds).count() == 1
+    how_many(verdicts) == 1
+}
+
+/// How many of the verdicts are true.
+pub(crate) fn how_many(verdicts: &[bool]) -> usize
+    ensures { result ≡ count verdicts.now }
+{
+    verdicts.iter().filter(|holds| **holds).count()
 }
 
 fn contains(siblings: &Members, value: Instance<'_>, verdicts: &[bool]) -> bool

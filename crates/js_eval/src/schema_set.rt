@@ -1,7 +1,9 @@
 //! What a judgement asks of a set of schemas.
-ghost use Rattle.std.specs.Prelude.{◌≡◌, ℕ, IfOk};
+ghost use Rattle.std.specs.Prelude.{◌≡◌, ℕ, IfOk, option_and_then, option_map, string_bytes};
+ghost use Rattle.js_assert.specs.ErrorText.{error};
 ghost use Rattle.js_assert.specs.Pattern.{matches};
 ghost use Rattle.js_doc.specs.Seen.{value_of};
+ghost use Rattle.js_eval.specs.Judging.{assertion_in};
 ghost use Rattle.js_eval.specs.Schemas.{Schemas};
 ghost use Rattle.js_eval.specs.Seen.{step_of};
 
@@ -28,6 +30,22 @@ pub trait SchemaSet {
     /// The place that the `$dynamicRef` of a place names, after all the places of a path that ends in it.
     fn dynamic_target(&self, place: usize, path: &[usize]) -> usize
         ensures { result ≡ (schemas self.now).dynamic_target path.now place };
+
+    /// The error of the assertion that a keyword of a place makes, of a value of which so many items match the adjacent
+    /// `contains`; None where the value holds, and where the place has no such keyword, or one that makes no assertion.
+    ///
+    /// # Errors
+    /// `Memory`.
+    fn check(
+        &self,
+        alloc: Global,
+        place: usize,
+        keyword: &str,
+        value: &Doc,
+        matching: u64,
+    ) -> Result<Option<String>, Memory>
+        ensures { IfOk result (λ e. option_map string_bytes e
+            ≡ option_and_then (λ a. error a (value_of value.now) matching) (assertion_in ((schemas self.now).schema place) keyword.now)) };
 
     /// Whether a pattern of the `patternProperties` of a place matches somewhere in a name.
     fn matches(

@@ -1,5 +1,5 @@
 -- Trees that are left are moved to the front of a list, one after another: what the front is then the forest of.
-use Rattle.std.proofs.Common.{◌≡◌, ℕ, zero, suc, ◌+◌, ◌≤◌, ◌<◌, Bool, true, false, ◌||◌, if◌then◌else◌, ◌⊎◌, inl, inr, List, [], ◌∷◌, ◌++◌, length, take, drop, get_or, set, refl, ap, sym, ◌∙◌, arith, add-one}
+use Rattle.std.proofs.Common.{◌≡◌, ℕ, zero, suc, ◌+◌, ◌≤◌, ◌<◌, Bool, true, false, if◌then◌else◌, ◌⊎◌, inl, inr, List, [], ◌∷◌, ◌++◌, length, take, drop, get_or, set, refl, ap, sym, ◌∙◌, arith, add-one}
 use Rattle.std.proofs.Math.Nat.{eq-or-lt_of_le}
 use Rattle.std.proofs.Math.Seq.{take-suc-set, take-suc}
 use Rattle.std.proofs.lemmas.List.{take-set, take-set-le, drop-set-lt, length-set}
@@ -7,10 +7,10 @@ use Rattle.std.proofs.lemmas.List.Edits.{swap_is}
 use Rattle.std.specs.List.{swap}
 use Rattle.js_tree.specs.Forest.{Forest, empty, tree, Rose, forest_of, ◌⊹◌, tree_count}
 use Rattle.js_tree.specs.Step.{at_least_two, stands}
-use Rattle.js_tree.specs.Kept.{noted_trees, is_kept, kept_below}
+use Rattle.js_tree.specs.Kept.{is_kept, kept_below}
 use Rattle.js_tree.specs.Pruned.{pruned_below}
 use Rattle.js_tree.proofs.Forests.{append-empty, append-append, forest_of-append, tree_count-forest_of}
-use Rattle.js_tree.proofs.Steps.{or_left, or_right, or-true}
+use Rattle.js_tree.proofs.Steps.{or_right}
 use Rattle.js_tree.proofs.KeptTree.{tree_count-kept_below}
 
 -- ---- a swap to the front

@@ -1,10 +1,10 @@
 -- The kept tree: a step leaves it as it was, a normal tree is its own, each tree is led to it, and it has the same units.
-use Rattle.std.proofs.Common.{◌≡◌, ℕ, zero, suc, ◌+◌, Bool, true, false, ◌||◌, if◌then◌else◌, List, [], ◌∷◌, ◌++◌, refl, ap, sym, ◌∙◌, arith, append_assoc}
+use Rattle.std.proofs.Common.{◌≡◌, ℕ, zero, suc, ◌+◌, Bool, true, false, ◌||◌, if◌then◌else◌, ◌∷◌, ◌++◌, refl, ap, sym, ◌∙◌, arith, append_assoc}
 use Rattle.js_tree.specs.Forest.{Forest, empty, tree, Rose, ◌⊹◌, tree_count}
 use Rattle.js_tree.specs.Step.{at_least_one, at_least_two, Step, dropped, lifted, inside, beside, Run, done, next, Normal, StepBelow, RunBelow, stands, all_stand}
 use Rattle.js_tree.specs.Kept.{noted_trees, is_kept, kept_below, kept}
 use Rattle.js_tree.specs.Units.{units_below, units}
-use Rattle.js_tree.proofs.Forests.{append-empty, append-append, tree_count-append, same_tree}
+use Rattle.js_tree.proofs.Forests.{append-empty, tree_count-append, same_tree}
 use Rattle.js_tree.proofs.Steps.{and_left, and_right, or_left, or_right, normal-all_stand, all_stand-normal, run_append, run_inside, run_beside}
 
 -- of one thing there are not two

@@ -2,10 +2,10 @@
 use Rattle.std.proofs.Common.{◌≡◌, ℕ, zero, suc, ◌+◌, ◌≤◌, ◌<◌, ◌-◌, Bool, true, false, ltb, if◌then◌else◌, List, [], ◌∷◌, ◌++◌, length, take, get_or, Option, Some, None, refl, ap, sym, ◌∙◌, arith, add-one}
 use Rattle.std.proofs.lemmas.Bool.{lt-ltb, ltb-true, le-ltb, ltb-false}
 use Rattle.std.proofs.Math.Seq.{take-suc}
-use Rattle.js_tree.specs.Forest.{Forest, empty, tree, Rose, ◌⊹◌, node_count}
-use Rattle.js_tree.specs.Step.{Step, dropped, lifted, inside, beside, Run, done, next, Normal, StepBelow, RunBelow}
+use Rattle.js_tree.specs.Forest.{Forest, empty, tree, Rose, node_count}
+use Rattle.js_tree.specs.Step.{Step, dropped, lifted, inside, beside, done, next, Normal, StepBelow, RunBelow}
 use Rattle.js_tree.specs.Kept.{kept}
-use Rattle.js_tree.specs.Moves.{mapped, chained, without_leaf, with_only_child, moved_first, moved_at, moved_below_root, moved, replayed}
+use Rattle.js_tree.specs.Moves.{mapped, chained, without_leaf, with_only_child, moved_at, moved_below_root, moved, replayed}
 use Rattle.js_tree.specs.declared.moves.Rule.{Rule}
 use Rattle.js_tree.specs.declared.moves.Rule.TheVariants.{Drop, Lift}
 use Rattle.js_tree.specs.declared.moves.Move.{Move}

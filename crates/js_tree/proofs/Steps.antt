@@ -1,8 +1,8 @@
 -- Steps, and the test of a forest that no step leaves.
-use Rattle.std.proofs.Common.{◌≡◌, ℕ, zero, suc, ◌+◌, ◌≤◌, ◌<◌, Bool, true, false, ◌||◌, ◌&&◌, leb, refl, ap, sym, ◌∙◌, arith}
+use Rattle.std.proofs.Common.{◌≡◌, ℕ, zero, suc, ◌+◌, ◌≤◌, ◌<◌, Bool, true, false, ◌||◌, ◌&&◌, leb, refl, arith}
 use Rattle.std.proofs.lemmas.Bool.{le-leb}
-use Rattle.js_tree.specs.Forest.{Forest, empty, tree, Rose, forest_of, node_count, tree_count}
-use Rattle.js_tree.specs.Step.{at_least_one, at_least_two, Step, dropped, lifted, inside, beside, Run, done, next, Normal, stands, all_stand}
+use Rattle.js_tree.specs.Forest.{Forest, empty, tree, node_count, tree_count}
+use Rattle.js_tree.specs.Step.{at_least_two, Step, dropped, lifted, inside, beside, Run, done, next, Normal, stands, all_stand}
 
 -- ---- tests
 

@@ -8,8 +8,8 @@ use crate::tree::{Tree, Trees};
 /// The one tree in which every run of the two rules ends that can't be continued: the root, each node with a note,
 /// and each node of which the trees of at least two children hold one. Takes no memory, and time linear in the tree.
 ///
-/// The rules, at any node below the root that has no note: drop it, if it has no child; put its child in its place,
-/// if it has exactly one.
+/// The rules (Core, section 12.4.3), at any node below the root that has no note: drop it, if it has no child; put its
+/// child in its place, if it has exactly one.
 pub fn condense(tree: Tree) -> Tree
     ensures kept { result ≡ kept tree.entry }
     ensures normal { Normal result }
@@ -17,9 +17,9 @@ pub fn condense(tree: Tree) -> Tree
     ensures once { kept result ≡ result }
     ensures units { units result ≡ units tree.entry }
 {
-    let mut tree = tree;
-    condense_children(&mut tree.children);
-    tree
+    let mut condensed = tree;
+    condense_children(&mut condensed.children);
+    condensed
 }
 
 #[cycle(condense)]
@@ -53,7 +53,9 @@ fn condense_one(tree: &mut Tree) -> bool
     ensures { kept_below (node tree.old.root tree.old.below empty) ≡ (if result then node tree.new.root tree.new.below empty else empty) }
 {
     condense_children(&mut tree.children);
-    if tree.stands() {
+    // Only now: what stood below the node may be gone.
+    let stays = tree.stands();
+    if stays {
         return true;
     }
     match tree.children.pop() {

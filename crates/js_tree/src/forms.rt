@@ -31,7 +31,10 @@ pub enum Format {
     Verbose,
 }
 
-/// The document of a format, from the whole result tree. Its only refusal is Memory.
+/// The document of a format (Core, section 12.4), from the whole result tree.
+///
+/// # Errors
+/// `Memory`.
 pub fn form(alloc: Global, tree: Tree, format: Format) -> Result<Doc, Memory>
     ensures form { IfOk result (λ doc. value_of doc ≡ form format tree.entry) }
     ensures one_normal_form { format ≡ Detailed → IfOk result (λ doc. (end : Rose OfUnit) → Run (pruned tree.entry) end → Normal end → value_of doc ≡ verbose end) }
@@ -44,7 +47,10 @@ pub fn form(alloc: Global, tree: Tree, format: Format) -> Result<Doc, Memory>
     }
 }
 
-/// The root node of the tree, with all its nodes below it. Its only refusal is Memory.
+/// The root node of the tree, with all its nodes below it (Core, section 12.4.4).
+///
+/// # Errors
+/// `Memory`.
 #[cycle(tree_doc)]
 pub fn tree_doc(alloc: Global, tree: &Tree) -> Result<Doc, Memory>
     ensures { IfOk result (λ doc. value_of doc ≡ verbose tree.now) }

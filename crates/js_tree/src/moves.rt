@@ -8,7 +8,7 @@ ghost use Rattle.js_tree.specs.declared.moves.Rule.TheVariants.{Drop};
 
 use crate::tree::Tree;
 
-/// What may be done to a node below the root that has no note.
+/// What may be done to a node below the root that has no note (Core, section 12.4.3).
 #[derive(Clone, Copy, Debug, PartialEq, Eq)]
 pub enum Rule {
     /// The node goes, if it has no child.
@@ -37,8 +37,11 @@ enum Search {
     Further(usize),
 }
 
-/// Makes the move, or hands the tree back unchanged, where it isn't possible. Takes no memory, and time linear
-/// in the nodes up to its position.
+/// Makes the move. Takes no memory, and time linear in the nodes up to its position and the siblings after it.
+///
+/// # Errors
+/// `NoMove` with the tree as it was, exactly where the rule isn't possible there or no node below the root has the
+/// number.
 pub fn apply<'a>(tree: Tree<'a>, chosen: &Move) -> Result<Tree<'a>, (NoMove, Tree<'a>)>
     ensures moved { MatchResult result (λ made. moved chosen.now tree.entry ≡ Some made) (λ refused. (moved chosen.now tree.entry ≡ None) × (refused.1 ≡ tree.entry)) }
     ensures step { IfOk result (λ made. Step tree.entry made) }
@@ -53,8 +56,10 @@ pub fn apply<'a>(tree: Tree<'a>, chosen: &Move) -> Result<Tree<'a>, (NoMove, Tre
     }
 }
 
-/// Makes the moves one after another, or answers the number of the first that wasn't possible, the first move's
-/// being 0, and the tree that it met. Takes no memory.
+/// Makes the moves one after another. Takes no memory.
+///
+/// # Errors
+/// The number of the first that isn't possible, the first move's being 0, and the tree that it met.
 pub fn replay<'a>(tree: Tree<'a>, moves: &[Move]) -> Result<Tree<'a>, (usize, Tree<'a>)>
     ensures run { MatchResult result (λ end. replayed moves.now tree.entry ≡ Some end) (λ stop. (stop.0 < length moves.now) × (replayed (take stop.0 moves.now) tree.entry ≡ Some stop.1) × (replayed (take (stop.0 + 1) moves.now) tree.entry ≡ None)) }
     ensures length { IfOk result (λ end. length moves.now + node_count end.below ≡ node_count tree.entry.below) }
@@ -62,12 +67,23 @@ pub fn replay<'a>(tree: Tree<'a>, moves: &[Move]) -> Result<Tree<'a>, (usize, Tr
 {
     let mut tree = tree;
     for i in 0..moves.len() {
-        match apply(tree, &moves[i]) {
-            Ok(next) => tree = next,
-            Err((_, met)) => return Err((i, met)),
-        }
+        tree = apply_numbered(tree, &moves[i], i)?;
     }
     Ok(tree)
+}
+
+/// Makes the move, or answers its number with the tree as it was.
+fn apply_numbered<'a>(
+    tree: Tree<'a>,
+    chosen: &Move,
+    number: usize,
+) -> Result<Tree<'a>, (usize, Tree<'a>)>
+    ensures { MatchResult result (λ made. moved chosen.now tree.entry ≡ Some made) (λ stop. (stop.0 ≡ number) × (moved chosen.now tree.entry ≡ None) × (stop.1 ≡ tree.entry)) }
+{
+    match apply(tree, chosen) {
+        Ok(made) => Ok(made),
+        Err((_, met)) => Err((number, met)),
+    }
 }
 
 #[cycle(moves)]

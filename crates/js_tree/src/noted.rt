@@ -8,7 +8,10 @@ use crate::unit::Unit;
 use js_doc::Memory;
 use std::alloc::Global;
 
-/// The units with a note, in preorder, the root's among them. Its only refusal is Memory.
+/// The units with a note, in preorder, the root's among them: what basic lists (Core, section 12.4.2).
+///
+/// # Errors
+/// `Memory`.
 pub fn units<'t, 'a>(alloc: Global, tree: &'t Tree<'a>) -> Result<Vec<&'t Unit<'a>>, Memory>
     ensures { IfOk result (λ found. map (λ unit. unit.now) found.items ≡ units tree.now) }
 {

@@ -5,7 +5,7 @@ ghost use Rattle.js_tree.specs.Result.{stands};
 use crate::unit::Unit;
 use std::marker::Model;
 
-/// A node of a result tree with all that stands below it. Contracts see a rose tree of units:
+/// A node of a result tree with all that stands below it (Core, section 12.4.4). Contracts see a rose tree of units:
 /// its root's unit, and the forest of its children.
 #[cycle(tree)]
 #[derive(Debug, Drop)]

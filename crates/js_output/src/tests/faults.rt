@@ -62,6 +62,10 @@ fn documents_are_refused_before_the_instance_is_read(rt: HostRuntime) -> Result<
             "refused: document 0 at \"/pattern\": BadPattern",
         ),
         (
+            "{\"pattern\":\"(?:(?:\\\\pL{100}){100}){100}\"}",
+            "refused: document 0 at \"/pattern\": PatternTooLarge",
+        ),
+        (
             "{\"pattern\":3}",
             "refused: document 0 at \"/pattern\": BadKeyword",
         ),

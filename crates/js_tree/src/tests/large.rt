@@ -116,7 +116,15 @@ fn children_left(alloc: Global, rows: &[Row]) -> Result<(usize, usize, usize), F
 }
 
 // How many children the root has after one leaf was dropped, if it can be.
-fn children_after(alloc: Global, rows: &[Row], position: usize) -> Result<usize, Fail> {
+fn children_after_move(alloc: Global, rows: &[Row], position: usize) -> Result<usize, Fail> {
+    match apply(outline(alloc, rows)?, &drop_at(position)) {
+        Ok(made) => Ok(made.children.len()),
+        Err((_refused, tree)) => Ok(tree.children.len()),
+    }
+}
+
+// The same by a run of that one move.
+fn children_after_run(alloc: Global, rows: &[Row], position: usize) -> Result<usize, Fail> {
     match replay(outline(alloc, rows)?, &[drop_at(position)]) {
         Ok(end) => Ok(end.children.len()),
         Err((_number, met)) => Ok(met.children.len()),
@@ -129,8 +137,11 @@ fn a_node_with_100_000_children(rt: HostRuntime) -> Result<(), Fail> {
     let rows = fan(alloc, 100_000)?;
     assert!(rt; has_one_unit(alloc, &rows)?);
     assert_eq!(rt; children_left(alloc, &rows)?, (100_000, 100_000, 1));
-    assert_eq!(rt; children_after(alloc, &rows, 99_999)?, 99_999);
-    assert_eq!(rt; children_after(alloc, &rows, 100_000)?, 100_000);
+    for (position, left) in [(1, 99_999), (99_999, 99_999), (100_000, 100_000)] {
+        assert_eq!(rt; children_after_move(alloc, &rows, position)?, left);
+        assert_eq!(rt; children_after_run(alloc, &rows, position)?, left);
+    }
+    assert!(rt; condenses_to_its_end(alloc, &rows)?);
     assert!(rt; is_listed(alloc, &rows)?);
     assert!(rt; formed(alloc, &rows, Format::Verbose)? == fan_text(alloc, 100_000)?);
     Ok(())

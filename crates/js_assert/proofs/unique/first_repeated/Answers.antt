@@ -1,7 +1,7 @@
-use Rattle.std.proofs.Common.{◌≡◌, ◌<◌, ◌≤◌, ◌+◌, ◌-◌, Bool, true, false, not, drop, length, get_or, string_bytes, refl, sym, ap, ◌∙◌, arith}
+use Rattle.std.proofs.Common.{◌≡◌, ◌<◌, ◌+◌, ◌-◌, Bool, true, false, not, drop, length, string_bytes, refl, sym, ap, ◌∙◌, arith}
 use Rattle.js_doc.specs.Compact.{compact}
 use Rattle.js_doc.specs.Seen.{value_of}
-use Rattle.js_assert.proofs.Repeated.{HasTexts, is_key, is_text, texts_more, skipped}
+use Rattle.js_assert.proofs.Repeated.{is_key, is_text, texts_more, skipped}
 use Rattle.js_assert.proofs.unique.first_repeated.Goals as goal
 
 new_from : (a b : Bool) → a ≡ not b → a ≡ true → b ≡ false

@@ -1,6 +1,6 @@
-use Rattle.std.proofs.Common.{refl, rules, sym, ◌∙◌, ap, ◌<◌, length}
+use Rattle.std.proofs.Common.{refl, sym}
 use Rattle.js_eval.specs.Seen.{application_of, is_chosen}
-use Rattle.js_eval.proofs.Items.{At, Rest, taken, left}
+use Rattle.js_eval.proofs.Items.{At, taken, left}
 use Rattle.js_eval.proofs.array_applications.on_items.Goals as goal
 use Rattle.js_eval.proofs.array_applications.on_items.Goals.{then-has+in_ok-push, else-has}
 

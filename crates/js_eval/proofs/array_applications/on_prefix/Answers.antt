@@ -1,8 +1,6 @@
-use Rattle.std.proofs.Common.{length, map}
+use Rattle.std.proofs.Common.{length}
 use Rattle.js_eval.specs.Applications.{application}
 use Rattle.js_eval.specs.Schemas.{Index}
-use Rattle.js_eval.specs.Seen.{application_of}
-use Rattle.js_doc.specs.Seen.{value_of}
 use Rattle.js_eval.proofs.Items.{beyond}
 use Rattle.js_eval.proofs.array_applications.on_prefix.Goals as goal
 

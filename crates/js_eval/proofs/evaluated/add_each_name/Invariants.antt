@@ -1,6 +1,5 @@
-use Rattle.std.proofs.Common.{◌≡◌, ◌++◌, map, drop}
-use Rattle.js_eval.specs.Evaluated.{names_applied, indexes_applied}
-use Rattle.js_eval.specs.Seen.{application_of, holding_by, texts_of}
+use Rattle.std.proofs.Common.{◌≡◌, ◌++◌, drop}
+use Rattle.js_eval.specs.Seen.{texts_of}
 use Rattle.js_eval.proofs.evaluated.add_each_name.Given as goal
 
 abbrev pub invariant-loop-name : goal.invariant-loop-name

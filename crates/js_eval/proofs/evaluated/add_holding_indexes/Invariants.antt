@@ -1,6 +1,6 @@
 use Rattle.std.proofs.Common.{◌≡◌, ◌++◌, map, drop}
-use Rattle.js_eval.specs.Evaluated.{names_applied, indexes_applied}
-use Rattle.js_eval.specs.Seen.{application_of, holding_by, texts_of}
+use Rattle.js_eval.specs.Evaluated.{indexes_applied}
+use Rattle.js_eval.specs.Seen.{application_of, holding_by}
 use Rattle.js_eval.proofs.evaluated.add_holding_indexes.Given as goal
 
 abbrev pub invariant-loop-application : goal.invariant-loop-application

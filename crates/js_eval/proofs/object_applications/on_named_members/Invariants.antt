@@ -1,9 +1,9 @@
-use Rattle.std.proofs.Common.{◌≡◌, ◌++◌, map, filter, not}
+use Rattle.std.proofs.Common.{◌≡◌, ◌++◌, map, filter}
 use Rattle.js_doc.specs.Seen.{pair_of}
 use Rattle.js_assert.specs.Argument.{has}
-use Rattle.js_eval.specs.Applications.{among_names, application}
+use Rattle.js_eval.specs.Applications.{application}
 use Rattle.js_eval.specs.Schemas as seen
-use Rattle.js_eval.specs.Seen.{application_of, instance_of, texts_of}
+use Rattle.js_eval.specs.Seen.{application_of}
 use Rattle.js_eval.proofs.object_applications.on_named_members.Given as goal
 
 abbrev pub invariant-loop-name : goal.invariant-loop-name

@@ -1,7 +1,5 @@
 use Rattle.std.proofs.Common.{◌≡◌, ◌++◌, ◌||◌, map, filter, not}
-use Rattle.std.specs.List.{flat_map, list_any}
 use Rattle.js_doc.specs.Seen.{pair_of}
-use Rattle.js_assert.specs.Pattern.{matches}
 use Rattle.js_eval.specs.Applications.{application, is_property, matches_pattern}
 use Rattle.js_eval.specs.Schemas as seen
 use Rattle.js_eval.specs.Seen.{application_of}

@@ -1,4 +1,4 @@
-use Rattle.std.proofs.Common.{◌≡◌, ◌∙◌, ◌<◌, ◌≢◌, sym, ap, inl, inr, [], length, arith, true, Some}
+use Rattle.std.proofs.Common.{◌≡◌, ◌∙◌, ◌<◌, sym, ap, inl, inr, length, arith, true, Some}
 use Rattle.js_tree.specs.Forest.{forest_of}
 use Rattle.js_tree.specs.Result.{noted}
 use Rattle.js_tree.proofs.Siblings.{not_dropped, dropped}

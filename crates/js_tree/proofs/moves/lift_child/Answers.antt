@@ -1,4 +1,4 @@
-use Rattle.std.proofs.Common.{◌≡◌, ◌∙◌, ◌≢◌, sym, inl, inr, length, arith}
+use Rattle.std.proofs.Common.{◌∙◌, ◌≢◌, sym, inl, inr, length, arith}
 use Rattle.js_tree.specs.Result.{noted}
 use Rattle.js_tree.proofs.Siblings.{no_only_child}
 use Rattle.js_tree.proofs.moves.lift_child.Goals as goal

@@ -1,5 +1,6 @@
 use Rattle.std.proofs.Common.{◌≡◌, ◌∙◌, ◌<◌, ◌≤◌, sym, ap, Some, length, arith}
 use Rattle.std.proofs.lemmas.List.{take_all}
+use Rattle.std.proofs.lemmas.Result.{err_from_is_err_and}
 use Rattle.js_tree.specs.Result.{noted, replayed}
 use Rattle.js_tree.specs.declared.moves.Rule.TheVariants.{Drop}
 use Rattle.js_tree.specs.declared.moves.Move.{Move}
@@ -11,17 +12,20 @@ use Rattle.js_tree.proofs.moves.replay.Goals.{After-loop-i}
 no_move : Move
 no_move = record { rule = Drop; position = 0 }
 
-pub returns-in-Err-clause-run : goal.returns-in-Err-clause-run
+pub returns-in_err-tree-clause-run : goal.returns-in_err-tree-clause-run
 unfolding no_move
-returns-in-Err-clause-run c =
+returns-in_err-tree-clause-run c =
+    let p = err_from_is_err_and c.from_residual.result c.from_residual.ensures.1 in
     let h : c.loop-i.i < length c.args.moves.now = omega arith in
-    (h, c.loop-i.invariant ∙ ap Some (sym c.in-Err.ensures.moved.1), replayed_more noted c.args.moves.now c.loop-i.i no_move c.args.tree c.loop-i.tree h c.loop-i.invariant ∙ c.in-Err.ensures.moved.0)
+    let e = c.in_err-tree.ensures in
+    let met = c.loop-i.invariant ∙ ap Some (sym e.2) in
+    rw (p.1, p.2, e.0) (h, met, replayed_more noted c.args.moves.now c.loop-i.i no_move c.args.tree c.loop-i.tree h c.loop-i.invariant ∙ e.1)
 
 pub loop-i-preserved : goal.loop-i-preserved
 unfolding no_move
 loop-i-preserved c =
     let h : c.loop-i.i < length c.args.moves.now = omega arith in
-    replayed_more noted c.args.moves.now c.loop-i.i no_move c.args.tree c.loop-i.tree h c.loop-i.invariant ∙ c.in-Ok.ensures.moved
+    replayed_more noted c.args.moves.now c.loop-i.i no_move c.args.tree c.loop-i.tree h c.loop-i.invariant ∙ c.in_ok-tree.ensures
 
 whole : (c : After-loop-i) → replayed c.args.moves.now c.args.tree ≡ Some c.loop-i.tree
 whole c = let l : length c.args.moves.now ≤ c.loop-i.i = omega arith in rw (take_all c.loop-i.i c.args.moves.now l) at c.loop-i.invariant

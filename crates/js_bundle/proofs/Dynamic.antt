@@ -1,0 +1,193 @@
+-- What a dynamic reference leads to.
+use Rattle.std.proofs.Common.{◌≡◌, ◌&&◌, ℕ, ◌+◌, ◌<◌, ◌≤◌, List, [], ◌∷◌, ◌++◌, Bool, true, false, not, if◌then◌else◌, Option, Some, None, option_map, option_and_then, option_to_list, unwrap_or, is_some, slice_get, find, nat_eq, bytes_eq, codes, drop, length, refl, sym, ap, ◌∙◌, subst, arith}
+use Rattle.std.specs.List.{position_from}
+use Rattle.std.specs.Option.{option_map_or, option_or}
+use Rattle.std.proofs.lemmas.Bool.{ltb-true, lt-ltb, ne_eqb}
+use Rattle.std.proofs.lemmas.List.{drop_more, drop_all}
+use Rattle.std.proofs.lemmas.Option.{slice_get_within, slice_get-get_or, get_or_from_slice_get}
+use Rattle.url.specs.Parts.{Parts}
+use Rattle.js_doc.specs.Value.{Value, null}
+use Rattle.js_doc.proofs.Named.{is_text-sound}
+use Rattle.js_bundle.specs.declared.reference.DynamicReference.{DynamicReference}
+use Rattle.js_bundle.specs.Built.{numbered}
+use Rattle.js_bundle.specs.Candidate.{IsClear}
+use Rattle.js_bundle.specs.Document.{Documents}
+use Rattle.js_bundle.specs.Finding.{number_of_target, goes_by_name, dynamic_of, dynamic_at, by_scope}
+use Rattle.js_bundle.specs.Keyword.{Text, has, text_argument}
+use Rattle.js_bundle.specs.Names.{belongs_to, makes}
+use Rattle.js_bundle.specs.Refusals.{candidates}
+use Rattle.js_bundle.specs.Resource.{Site, sites}
+use Rattle.js_bundle.specs.Schemas.{is_place, has_keyword, place_at, path_at, StandsFor, Finds}
+use Rattle.js_bundle.specs.Spot.{Spot, spot}
+use Rattle.js_bundle.specs.Target as spec
+use Rattle.js_bundle.specs.Url.{fragment}
+use Rattle.js_bundle.proofs.Finds.{finds_place}
+use Rattle.js_bundle.proofs.Numbers.{numbered_finds, nat_eq-refl}
+use Rattle.js_bundle.proofs.Targets.{first_target_there, number_is_target}
+
+-- ---- a search by numbers, one number on
+
+pub drop_at : {A : Type 0} (xs : List A) (i : ℕ) (x : A) → slice_get xs i ≡ Some x → drop i xs ≡ x ∷ drop (i + 1) xs
+drop_at xs i x e = drop_more xs i x (slice_get_within xs i x e) ∙ ap (λ y. y ∷ drop (i + 1) xs) (get_or_from_slice_get xs i x x e)
+
+pub stop_at : {A : Type 0} (f : A → Bool) (xs : List A) (i : ℕ) (o : Option A) → slice_get xs i ≡ o → option_map f o ≡ Some true → position_from f i (drop i xs) ≡ Some i
+stop_at f xs i None e h = absurd (cc)
+stop_at f xs i (Some x) e h = let passes : f x ≡ true = cc in rw (drop_at xs i x e) (rw passes refl)
+
+pub go_on : {A : Type 0} (f : A → Bool) (xs : List A) (i : ℕ) (o : Option A) → slice_get xs i ≡ o → option_map f o ≡ Some false
+    → position_from f i (drop i xs) ≡ position_from f (i + 1) (drop (i + 1) xs)
+go_on f xs i None e h = absurd (cc)
+go_on f xs i (Some x) e h = let fails : f x ≡ false = cc in rw (drop_at xs i x e) (rw fails refl)
+
+pub past_all : {A : Type 0} (f : A → Bool) (xs : List A) (i : ℕ) → length xs ≤ i → position_from f i (drop i xs) ≡ None
+past_all f xs i h = ap (position_from f i) (drop_all i xs h)
+
+-- ---- the name in the resource of a place
+
+anchored_by : (documents : Documents) (name : Text) (x : Spot) (n : Option ℕ) (o : Option Site) → option_map spot o ≡ Some x
+    → n ≡ position_from (λ t. belongs_to x.document x.own.resource t && makes (codes "$dynamicAnchor") name t) 0 (sites documents)
+    → Finds documents n (option_and_then (spec.dynamic_anchor (sites documents) name) o)
+anchored_by documents name x n None e h = absurd (cc)
+anchored_by documents name x n (Some s) e h =
+    let same : spot s ≡ x = cc in
+    finds_place documents (λ t. belongs_to s.document s.own.resource t && makes (codes "$dynamicAnchor") name t) n
+    (subst (λ y. n ≡ position_from (λ t. belongs_to y.document y.own.resource t && makes (codes "$dynamicAnchor") name t) 0 (sites documents)) (sym same) h)
+
+pub anchored : (documents : Documents) (name : Text) (place : ℕ) (x : Spot) (n : Option ℕ) → option_map spot (place_at documents place) ≡ Some x
+    → n ≡ position_from (λ t. belongs_to x.document x.own.resource t && makes (codes "$dynamicAnchor") name t) 0 (sites documents)
+    → Finds documents n (option_and_then (spec.dynamic_anchor (sites documents) name) (place_at documents place))
+anchored documents name place x n e h = anchored_by documents name x n (place_at documents place) e h
+
+-- ---- where a first target leads
+
+there : (documents : Documents) (n : ℕ) → is_place documents n ≡ true → (s : Site) × (place_at documents n ≡ Some s)
+there documents n h = by_length (sites documents) (ltb-true n (length (sites documents)) h)
+  where
+    by_length : (all : List Site) → n < length all → (s : Site) × (slice_get all n ≡ Some s)
+    by_length [] low = absurd (omega (arith, low))
+    by_length (x ∷ xs) low = (_, slice_get-get_or (x ∷ xs) n x low)
+
+pub led_first : (documents : Documents) (path : List Site) (b : Bool) (n : ℕ) → is_place documents n ≡ true → ((s : Site) → place_at documents n ≡ Some s → by_scope (sites documents) path b s ≡ s)
+    → StandsFor documents n (option_map (by_scope (sites documents) path b) (place_at documents n))
+led_first documents path b n h same =
+    let found = there documents n h in
+    (found.0, ap (option_map (by_scope (sites documents) path b)) found.1 ∙ ap Some (same found.0 found.1), found.1)
+
+not_so : (b : Bool) → not b ≡ true → b ≡ false
+not_so false e = refl
+not_so true e = absurd (cc)
+
+pub stays : (documents : Documents) (path : List Site) (b : Bool) (n : ℕ) → is_place documents n ≡ true → not b ≡ true
+    → StandsFor documents n (option_map (by_scope (sites documents) path b) (place_at documents n))
+stays documents path b n h e = led_first documents path b n h (λ s _. let plain : b ≡ false = not_so b e in rw plain refl)
+
+-- by its own name, which is the reference's fragment
+same_name : (all path : List Site) (f : Text) (o : Option Text) (first : Site) (b : Bool) → option_map_or (bytes_eq f) o false ≡ b
+    → (if b then unwrap_or (option_and_then (λ name. spec.outermost all name path) o) first else first) ≡ (if b then unwrap_or (spec.outermost all f path) first else first)
+same_name all path f o first false e = refl
+same_name all path f None first true e = absurd (cc)
+same_name all path f (Some t) first true e = ap (λ name. unwrap_or (spec.outermost all name path) first) (sym (is_text-sound f t e))
+
+scope_is : (all path : List Site) (u : Option Parts) (first : Site) → by_scope all path (spec.is_dynamic u first) first ≡ spec.dynamic_of all path u first
+scope_is all path None first = refl
+scope_is all path (Some u) first =
+    same_name all path (fragment u) (text_argument (codes "$dynamicAnchor") first.schema) first (makes (codes "$dynamicAnchor") (fragment u) first) refl
+
+-- ---- the reference that is kept of a place
+
+pub record IsReference (documents : Documents) (place : ℕ) (r : DynamicReference) : Type 0 where
+  pub site : Site
+  pub stands : place_at documents place ≡ Some site
+  pub first : Site
+  pub target : place_at documents r.target ≡ Some first
+  pub named : spec.first_target (sites documents) (codes "$dynamicRef") site ≡ Some first
+  pub by_name : r.by_name ≡ goes_by_name (sites documents) site
+
+other_reference : (i j : ℕ) (o : Option ℕ) (b : Bool) → ¬ (j ≡ i) → find (λ r. nat_eq r.place i) (dynamic_of j o b) ≡ None
+other_reference i j None b n = refl
+other_reference i j (Some t) b n = let other : nat_eq j i ≡ false = ne_eqb j i n in rw other refl
+
+that_reference : (i : ℕ) (o : Option ℕ) (b : Bool) → find (λ r. nat_eq r.place i) (dynamic_of i o b) ≡ option_map (λ t. record { place = i; target = t; by_name = b }) o
+that_reference i None b = refl
+that_reference i (Some t) b = let same : nat_eq i i ≡ true = nat_eq-refl i in rw same refl
+
+abbrev kept_by : List Site → ℕ → Option Site → Option DynamicReference
+kept_by all i None = None
+kept_by all i (Some s) = option_map (λ t. record { place = i; target = t; by_name = goes_by_name all s }) (number_of_target all (codes "$dynamicRef") s)
+
+kept_of : (all : List Site) (i : ℕ) (o : Option Site) → slice_get all i ≡ o
+    → find (λ r. nat_eq r.place i) (numbered (dynamic_at all) 0 all) ≡ kept_by all i o
+kept_of all i o e = sym_of o (numbered_finds (dynamic_at all) (λ r. nat_eq r.place i) i (λ j s n. other_reference i j (number_of_target all (codes "$dynamicRef") s) (goes_by_name all s) n) all 0 i (omega arith)) e
+  where
+    sym_of : (o : Option Site) → find (λ r. nat_eq r.place i) (numbered (dynamic_at all) 0 all) ≡ option_and_then (λ s. find (λ r. nat_eq r.place i) (dynamic_at all i s)) (slice_get all i)
+        → slice_get all i ≡ o
+        → find (λ r. nat_eq r.place i) (numbered (dynamic_at all) 0 all) ≡ kept_by all i o
+    sym_of None f e = f ∙ ap (option_and_then (λ s. find (λ r. nat_eq r.place i) (dynamic_at all i s))) e
+    sym_of (Some s) f e =
+        f ∙ ap (option_and_then (λ s. find (λ r. nat_eq r.place i) (dynamic_at all i s))) e ∙ that_reference i (number_of_target all (codes "$dynamicRef") s) (goes_by_name all s)
+
+reference_by : (documents : Documents) (i : ℕ) (r : DynamicReference) (o : Option Site) → place_at documents i ≡ o
+    → kept_by (sites documents) i o ≡ Some r
+    → IsReference documents i r
+reference_by documents i r None e h = absurd (cc)
+reference_by documents i r (Some s) e h = by_target (number_of_target (sites documents) (codes "$dynamicRef") s) refl h
+  where
+    by_target : (o : Option ℕ) → number_of_target (sites documents) (codes "$dynamicRef") s ≡ o
+        → option_map (λ t. record { place = i; target = t; by_name = goes_by_name (sites documents) s }) o ≡ Some r → IsReference documents i r
+    by_target None is h = absurd (cc)
+    by_target (Some t) is h =
+        let made : record { place = i; target = t; by_name = goes_by_name (sites documents) s } ≡ r = cc in
+        let found = number_is_target (sites documents) (codes "$dynamicRef") s t is in
+        record {
+          site = s;
+          stands = e;
+          first = found.place;
+          target = ap (λ q. place_at documents q.target) (sym made) ∙ found.stands;
+          named = found.target;
+          by_name = ap (λ q. q.by_name) (sym made);
+        }
+
+pub reference_is : (docs documents : Documents) (items : List DynamicReference) (n place : ℕ) (r : DynamicReference) → docs ≡ documents → n ≡ place
+    → items ≡ numbered (dynamic_at (sites docs)) 0 (sites docs) → Some r ≡ find (λ r. nat_eq r.place n) items → IsReference documents place r
+reference_is docs documents items n place r same number e h =
+    let test : DynamicReference → Bool = λ q. nat_eq q.place n in
+    let here : IsReference docs n r = reference_by docs n r (place_at docs n) refl (sym (kept_of (sites docs) n (place_at docs n) refl) ∙ sym (h ∙ ap (find test) e)) in
+    subst (λ ds. IsReference ds place r) same (subst (λ m. IsReference docs m r) number here)
+
+pub target_place : (documents : Documents) (place : ℕ) (r : DynamicReference) → IsReference documents place r → is_place documents r.target ≡ true
+target_place documents place r h = lt-ltb r.target (length (sites documents)) (slice_get_within (sites documents) r.target h.first h.target)
+
+pub led : (documents : Documents) (path : List Site) (place m : ℕ) (r : DynamicReference) → IsReference documents place r
+    → StandsFor documents m (option_map (by_scope (sites documents) path r.by_name) (place_at documents r.target))
+    → StandsFor documents m (option_and_then (spec.dynamic_target (sites documents) path) (place_at documents place))
+led documents path place m r h there =
+    let all = sites documents in
+    let u = spec.reference (codes "$dynamicRef") h.site in
+    let dynamic : r.by_name ≡ spec.is_dynamic u h.first = h.by_name ∙ ap (λ o. option_map_or (spec.is_dynamic u) o false) h.named in
+    let left : option_map (by_scope all path r.by_name) (place_at documents r.target) ≡ Some (spec.dynamic_of all path u h.first) =
+    ap (option_map (by_scope all path r.by_name)) h.target ∙ ap (λ b. Some (by_scope all path b h.first)) dynamic ∙ ap Some (scope_is all path u h.first) in
+    let right : option_and_then (spec.dynamic_target all path) (place_at documents place) ≡ Some (spec.dynamic_of all path u h.first) =
+    ap (option_and_then (spec.dynamic_target all path)) h.stands ∙ ap (option_map (spec.dynamic_of all path u)) h.named in
+    subst (λ o. StandsFor documents m o) (left ∙ sym right) there
+
+-- ---- there is one
+
+none_kept : (documents : Documents) (i : ℕ) (o : Option Site) → IsClear (candidates documents) → place_at documents i ≡ o → option_map_or (λ s. has (codes "$dynamicRef") s.schema) o false ≡ true
+    → ¬ (kept_by (sites documents) i o ≡ None)
+none_kept documents i None clear e has_it h = absurd (cc)
+none_kept documents i (Some s) clear e has_it h = by_target (number_of_target (sites documents) (codes "$dynamicRef") s) (first_target_there documents clear i s e has_it) h
+  where
+    made : ℕ → DynamicReference
+    made t = record { place = i; target = t; by_name = goes_by_name (sites documents) s }
+
+    by_target : (o : Option ℕ) → is_some o ≡ true → ¬ (option_map made o ≡ None)
+    by_target None some h = absurd (cc)
+    by_target (Some t) some h = absurd (cc)
+
+pub reference_missing : (docs documents : Documents) (items : List DynamicReference) (n place : ℕ) → docs ≡ documents → n ≡ place → IsClear (candidates docs)
+    → items ≡ numbered (dynamic_at (sites docs)) 0 (sites docs) → has_keyword (codes "$dynamicRef") documents place ≡ true → ¬ (None ≡ find (λ r. nat_eq r.place n) items)
+reference_missing docs documents items n place same number clear e has_it h =
+    let test : DynamicReference → Bool = λ q. nat_eq q.place n in
+    let here : has_keyword (codes "$dynamicRef") docs n ≡ true =
+    subst (λ m. has_keyword (codes "$dynamicRef") docs m ≡ true) (sym number) (subst (λ ds. has_keyword (codes "$dynamicRef") ds place ≡ true) (sym same) has_it) in
+    none_kept docs n (place_at docs n) clear refl here (sym (kept_of (sites docs) n (place_at docs n) refl) ∙ sym (h ∙ ap (find test) e))
