@@ -1,13 +1,19 @@
 //! What no contract says: that documents are judged as worked examples want it, and that each call succeeds where there
 //! is memory.
+ghost use Rattle.std.specs.Prelude.{◌≡◌, true, IfOk};
+ghost use Rattle.js_bundle.specs.Schemas.{is_place};
+
 mod adding;
+mod dynamic;
+mod entries;
 mod hostile;
 mod places;
 mod readings;
 mod refusals;
+mod targets;
 
 use super::*;
-use js_doc::Pointer;
+use js_doc::{Pointer, read, text};
 use std::alloc::Global;
 use std::test::Fail;
 
@@ -15,6 +21,37 @@ const URI: &str = "https://a.example/s";
 
 // A document's URI and its text.
 type Source<'s> = (&'s str, &'s str);
+
+// A resource within a resource.
+const EMBEDDED: &str =
+    r#"{"$id":"x","$defs":{"p":{"$id":"y","not":true}},"allOf":[{"$anchor":"q"}]}"#;
+
+const TREE: Source = (
+    "https://example.com/tree",
+    r##"{"$id":"https://example.com/tree","$dynamicAnchor":"node","type":"object","properties":{"data":true,"children":{"type":"array","items":{"$dynamicRef":"#node"}}}}"##,
+);
+
+const STRICT_TREE: Source = (
+    "https://example.com/strict-tree",
+    r#"{"$id":"https://example.com/strict-tree","$dynamicAnchor":"node","$ref":"tree","unevaluatedProperties":false}"#,
+);
+
+// Three documents of which each leads to the next, and a fourth; three give one name to a schema of their own.
+const SCOPES: [Source; 4] = [
+    (
+        "https://a.example/s",
+        r#"{"$ref":"m","$defs":{"x":{"$dynamicAnchor":"n","type":"integer"}}}"#,
+    ),
+    (
+        "https://a.example/m",
+        r#"{"$ref":"l","$defs":{"x":{"$dynamicAnchor":"n","type":"null"}}}"#,
+    ),
+    (
+        "https://a.example/l",
+        r##"{"$dynamicRef":"#n","$defs":{"x":{"$dynamicAnchor":"n","type":"string"}}}"##,
+    ),
+    ("https://a.example/t", r#"{"$dynamicRef":"l#n"}"#),
+];
 
 // A text of letters `a` after a beginning.
 fn letters(alloc: Global, beginning: &str, count: usize) -> Result<String, Fail> {
@@ -62,4 +99,30 @@ fn finished(alloc: Global, sources: &[Source]) -> Result<Schemas, Fail> {
         Ok(schemas) => Ok(schemas),
         Err((refusal, _)) => Err(Fail::from(refusal)),
     }
+}
+
+// The place that the URI names.
+fn at(alloc: Global, schemas: &Schemas, uri: &str) -> Result<Place, Fail>
+    ensures { IfOk result (λ p. is_place schemas.now p ≡ true) }
+{
+    let place = schemas.entry(alloc, uri)?;
+    if !schemas.has(place) {
+        return Err(Fail::from("an entry is a place"));
+    }
+    Ok(place)
+}
+
+// The absolute location of a place, or `none`.
+fn location(alloc: Global, schemas: &Schemas, place: Option<Place>) -> Result<String, Fail> {
+    match place {
+        Some(place) => location_of(alloc, schemas, place),
+        None => Ok(String::from_str(alloc, "none")?),
+    }
+}
+
+fn location_of(alloc: Global, schemas: &Schemas, place: Place) -> Result<String, Fail> {
+    if !schemas.has(place) {
+        return Err(Fail::from("it is no place"));
+    }
+    Ok(schemas.absolute(alloc, place, None)?)
 }
