@@ -1,15 +1,57 @@
+//! What no contract says: that documents are judged as worked examples want it, and that each call succeeds where there
+//! is memory.
+ghost use Rattle.std.specs.Prelude.{◌≡◌, true, IfOk};
+ghost use Rattle.js_bundle.specs.Schemas.{is_place};
+
+mod adding;
+mod dynamic;
+mod entries;
+mod hostile;
+mod places;
+mod readings;
+mod refusals;
+mod targets;
+
 use super::*;
-use js_doc::Pointer;
+use js_doc::{Pointer, read, text};
 use std::alloc::Global;
 use std::test::Fail;
 
-// What adding one document to a bundle is refused for.
-fn refused(bundle: &mut Bundle, uri: &str, source: &str) -> Option<RefusalKind> {
-    match bundle.add(uri, source.as_bytes()) {
-        Ok(()) => None,
-        Err(refusal) => Some(refusal.kind),
-    }
-}
+const URI: &str = "https://a.example/s";
+
+// A document's URI and its text.
+type Source<'s> = (&'s str, &'s str);
+
+// A resource within a resource.
+const EMBEDDED: &str =
+    r#"{"$id":"x","$defs":{"p":{"$id":"y","not":true}},"allOf":[{"$anchor":"q"}]}"#;
+
+const TREE: Source = (
+    "https://example.com/tree",
+    r##"{"$id":"https://example.com/tree","$dynamicAnchor":"node","type":"object","properties":{"data":true,"children":{"type":"array","items":{"$dynamicRef":"#node"}}}}"##,
+);
+
+const STRICT_TREE: Source = (
+    "https://example.com/strict-tree",
+    r#"{"$id":"https://example.com/strict-tree","$dynamicAnchor":"node","$ref":"tree","unevaluatedProperties":false}"#,
+);
+
+// Three documents of which each leads to the next, and a fourth; three give one name to a schema of their own.
+const SCOPES: [Source; 4] = [
+    (
+        "https://a.example/s",
+        r#"{"$ref":"m","$defs":{"x":{"$dynamicAnchor":"n","type":"integer"}}}"#,
+    ),
+    (
+        "https://a.example/m",
+        r#"{"$ref":"l","$defs":{"x":{"$dynamicAnchor":"n","type":"null"}}}"#,
+    ),
+    (
+        "https://a.example/l",
+        r##"{"$dynamicRef":"#n","$defs":{"x":{"$dynamicAnchor":"n","type":"string"}}}"##,
+    ),
+    ("https://a.example/t", r#"{"$dynamicRef":"l#n"}"#),
+];
 
 // A text of letters `a` after a beginning.
 fn letters(alloc: Global, beginning: &str, count: usize) -> Result<String, Fail> {
@@ -20,103 +62,67 @@ fn letters(alloc: Global, beginning: &str, count: usize) -> Result<String, Fail>
     Ok(text)
 }
 
-#[test]
-fn takes_documents_in(rt: HostRuntime) {
-    let mut bundle = Bundle::new(rt.alloc());
-    for (uri, source) in [
-        ("https://a.example/s", "true"),
-        ("https://a.example/s#", "{}"),
-        ("urn:a:b", "{\"$id\":3}"),
-        (" HTTPS://A.example/t\n", "[1]"),
-    ] {
-        assert_eq!(rt; refused(&mut bundle, uri, source), None, "at {uri}");
+fn bundle_of(alloc: Global, sources: &[Source]) -> Result<Bundle, Fail> {
+    let mut bundle = Bundle::new(alloc);
+    for (uri, text) in sources {
+        bundle.add(uri, text.as_bytes())?;
+    }
+    Ok(bundle)
+}
+
+fn line(alloc: Global, refusal: &Refusal) -> Result<String, Fail> {
+    let place = refusal.place.text(alloc)?;
+    let document = refusal.document;
+    let kind = refusal.kind;
+    Ok(format!(in alloc; "document {document} at {place}: {kind:?}")?)
+}
+
+// What finishing a bundle answers: which document is refused, where and why, or `finished`.
+fn outcome(alloc: Global, bundle: Bundle) -> Result<String, Fail> {
+    match bundle.finish(alloc) {
+        Ok(_) => Ok(String::from_str(alloc, "finished")?),
+        Err((refusal, _)) => line(alloc, &refusal),
     }
 }
 
-#[test]
-fn refuses_documents(rt: HostRuntime) {
-    let mut bundle = Bundle::new(rt.alloc());
-    for (uri, source, kind) in [
-        ("s", "true", RefusalKind::BadUri),
-        ("", "true", RefusalKind::BadUri),
-        ("https://a.example/s#x", "[1,", RefusalKind::BadUri),
-        ("http://[", "true", RefusalKind::BadUri),
-        ("https://a.example/s", "[1,", RefusalKind::NotJson),
-        ("https://a.example/s", "", RefusalKind::NotJson),
-        ("https://a.example/s", "{\"a\":1.5}", RefusalKind::NotWhole),
-    ] {
-        assert_eq!(rt; refused(&mut bundle, uri, source), Some(kind), "at {uri}");
+fn judged(alloc: Global, sources: &[Source]) -> Result<String, Fail> {
+    outcome(alloc, bundle_of(alloc, sources)?)
+}
+
+// The same of one document.
+fn told(alloc: Global, schema: &str) -> Result<String, Fail> {
+    judged(alloc, &[(URI, schema)])
+}
+
+fn finished(alloc: Global, sources: &[Source]) -> Result<Schemas, Fail> {
+    match bundle_of(alloc, sources)?.finish(alloc) {
+        Ok(schemas) => Ok(schemas),
+        Err((refusal, _)) => Err(Fail::from(refusal)),
     }
 }
 
-#[test]
-fn a_refusal_has_its_place(rt: HostRuntime) -> Result<(), Fail> {
-    let alloc = rt.alloc();
-    let mut bundle = Bundle::new(alloc);
-    assert_eq!(rt; refused(&mut bundle, "https://a.example/s", "true"), None);
-    let mut place = Pointer::new(alloc);
-    place.push("b")?;
-    place.push("1")?;
-    assert_eq!(rt;
-        bundle.add("https://a.example/t", b"{\"b\":[1,1.5],\"a\":2}"),
-        Err(Refusal {
-            document: 1,
-            place,
-            kind: RefusalKind::NotWhole,
-        })
-    );
-    assert_eq!(rt;
-        bundle.add("https://a.example/t", b"[1,"),
-        Err(Refusal {
-            document: 1,
-            place: Pointer::new(alloc),
-            kind: RefusalKind::NotJson,
-        })
-    );
-    Ok(())
-}
-
-#[test]
-fn uris_have_a_longest(rt: HostRuntime) -> Result<(), Fail> {
-    let alloc = rt.alloc();
-    let mut bundle = Bundle::new(alloc);
-    let longest = letters(alloc, "https://a.example/s", 65_517)?;
-    assert_eq!(rt; longest.len(), 65_536);
-    assert_eq!(rt; refused(&mut bundle, longest.as_str(), "true"), None);
-    let longer = letters(alloc, "https://a.example/s", 65_518)?;
-    assert_eq!(rt;
-        refused(&mut bundle, longer.as_str(), "[1,"),
-        Some(RefusalKind::UriTooLong)
-    );
-    let bad = letters(alloc, "", 65_537)?;
-    assert_eq!(rt;
-        refused(&mut bundle, bad.as_str(), "true"),
-        Some(RefusalKind::UriTooLong)
-    );
-    Ok(())
-}
-
-#[test]
-fn a_bundle_has_a_thousand_documents(rt: HostRuntime) -> Result<(), Fail> {
-    let alloc = rt.alloc();
-    let mut bundle = Bundle::new(alloc);
-    for number in 0..1_000 {
-        let uri = format!(in alloc; "https://a.example/{number}")?;
-        assert_eq!(rt; refused(&mut bundle, uri.as_str(), "true"), None);
+// The place that the URI names.
+fn at(alloc: Global, schemas: &Schemas, uri: &str) -> Result<Place, Fail>
+    ensures { IfOk result (λ p. is_place schemas.now p ≡ true) }
+{
+    let place = schemas.entry(alloc, uri)?;
+    if !schemas.has(place) {
+        return Err(Fail::from("an entry is a place"));
     }
-    assert_eq!(rt;
-        bundle.add("s", b"[1,"),
-        Err(Refusal {
-            document: 1_000,
-            place: Pointer::new(alloc),
-            kind: RefusalKind::TooManyDocuments,
-        })
-    );
-    Ok(())
+    Ok(place)
 }
 
-#[test]
-fn laws_are_called(_rt: HostRuntime) {
-    laws::the_list_has_the_places();
-    laws::the_list_has_each_once();
+// The absolute location of a place, or `none`.
+fn location(alloc: Global, schemas: &Schemas, place: Option<Place>) -> Result<String, Fail> {
+    match place {
+        Some(place) => location_of(alloc, schemas, place),
+        None => Ok(String::from_str(alloc, "none")?),
+    }
+}
+
+fn location_of(alloc: Global, schemas: &Schemas, place: Place) -> Result<String, Fail> {
+    if !schemas.has(place) {
+        return Err(Fail::from("it is no place"));
+    }
+    Ok(schemas.absolute(alloc, place, None)?)
 }

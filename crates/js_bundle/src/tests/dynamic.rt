@@ -1,0 +1,160 @@
+//! What dynamic references lead to in a dynamic scope.
+use super::*;
+
+// What the `$dynamicRef` of a path's last place leads to.
+fn target(alloc: Global, schemas: &Schemas, uris: &[&str]) -> Result<String, Fail> {
+    let mut path = Vec::new(alloc);
+    for uri in uris {
+        path.push(at(alloc, schemas, uri)?)?;
+    }
+    match path.last() {
+        Some(place) => target_in(alloc, schemas, *place, path.as_slice()),
+        None => Err(Fail::from("a path has a place")),
+    }
+}
+
+fn target_in(
+    alloc: Global,
+    schemas: &Schemas,
+    place: Place,
+    path: &[Place],
+) -> Result<String, Fail> {
+    if !schemas.has(place) {
+        return Err(Fail::from("it is a place"));
+    }
+    if !schemas.has_dynamic_ref(place) {
+        return Err(Fail::from("it has a dynamic reference"));
+    }
+    location(alloc, schemas, Some(schemas.dynamic_target(place, path)))
+}
+
+#[test]
+fn the_outermost_resource_with_the_name_decides(rt: HostRuntime) -> Result<(), Fail> {
+    let alloc = rt.alloc();
+    let schemas = finished(alloc, &SCOPES)?;
+    let s = "https://a.example/s";
+    let m = "https://a.example/m";
+    let l = "https://a.example/l";
+    let t = "https://a.example/t";
+    for (path, want) in [
+        ([s, m, l].as_slice(), "https://a.example/s#/$defs/x"),
+        ([m, l].as_slice(), "https://a.example/m#/$defs/x"),
+        ([l].as_slice(), "https://a.example/l#/$defs/x"),
+        ([t].as_slice(), "https://a.example/l#/$defs/x"),
+        ([t, m, l].as_slice(), "https://a.example/m#/$defs/x"),
+        ([m, s, m, l].as_slice(), "https://a.example/m#/$defs/x"),
+    ] {
+        assert_eq!(rt; target(alloc, &schemas, path)?.as_str(), want, "{path:?}");
+    }
+    Ok(())
+}
+
+#[test]
+fn a_strict_tree_has_strict_children(rt: HostRuntime) -> Result<(), Fail> {
+    let alloc = rt.alloc();
+    let schemas = finished(alloc, &[TREE, STRICT_TREE])?;
+    let strict = "https://example.com/strict-tree";
+    let tree = "https://example.com/tree";
+    let children = "https://example.com/tree#/properties/children";
+    let items = "https://example.com/tree#/properties/children/items";
+    for (path, want) in [
+        (
+            [tree, children, items].as_slice(),
+            "https://example.com/tree#",
+        ),
+        (
+            [strict, tree, children, items].as_slice(),
+            "https://example.com/strict-tree#",
+        ),
+        (
+            [strict, tree, children, items, strict, tree, children, items].as_slice(),
+            "https://example.com/strict-tree#",
+        ),
+    ] {
+        assert_eq!(rt; target(alloc, &schemas, path)?.as_str(), want, "{path:?}");
+    }
+    Ok(())
+}
+
+#[test]
+fn what_is_no_dynamic_anchor_decides_nothing(rt: HostRuntime) -> Result<(), Fail> {
+    let s = "https://a.example/s";
+    for (schema, want) in [
+        // a pointer
+        (
+            r#"{"$dynamicRef":"y#/$defs/x","$defs":{"o":{"$dynamicAnchor":"n","const":2},"y":{"$id":"y","$defs":{"x":{"$dynamicAnchor":"n","const":1}}}}}"#,
+            "https://a.example/y#/$defs/x",
+        ),
+        // an empty fragment
+        (
+            r#"{"$dynamicRef":"y","$defs":{"o":{"$dynamicAnchor":"n"},"y":{"$id":"y","$dynamicAnchor":"n"}}}"#,
+            "https://a.example/y#",
+        ),
+        // a name by `$anchor` at the first target
+        (
+            r#"{"$dynamicRef":"y#n","$defs":{"o":{"$dynamicAnchor":"n"},"y":{"$id":"y","$defs":{"x":{"$anchor":"n"}}}}}"#,
+            "https://a.example/y#/$defs/x",
+        ),
+    ] {
+        let schemas = finished(rt.alloc(), &[(URI, schema)])?;
+        assert_eq!(rt;
+            target(rt.alloc(), &schemas, &[s])?.as_str(),
+            want,
+            "{schema}"
+        );
+    }
+    Ok(())
+}
+
+#[test]
+fn a_plain_anchor_on_the_path_is_passed_over(rt: HostRuntime) -> Result<(), Fail> {
+    let alloc = rt.alloc();
+    let schema =
+        r##"{"$ref":"l","$defs":{"o":{"$anchor":"n"},"l":{"$id":"l","$dynamicRef":"#n","$defs":{"x":{"$dynamicAnchor":"n"}}}}}"##;
+    let schemas = finished(alloc, &[(URI, schema)])?;
+    assert_eq!(rt;
+        target(alloc, &schemas, &[URI, "https://a.example/l"])?.as_str(),
+        "https://a.example/l#/$defs/x"
+    );
+    Ok(())
+}
+
+#[test]
+fn a_dynamic_anchor_decides_by_its_name(rt: HostRuntime) -> Result<(), Fail> {
+    let s = "https://a.example/s";
+    for (schema, want) in [
+        // the entry's resource counts
+        (
+            r#"{"$dynamicRef":"y#n","$defs":{"o":{"$dynamicAnchor":"n"},"y":{"$id":"y","$dynamicAnchor":"n"}}}"#,
+            "https://a.example/s#/$defs/o",
+        ),
+        // the name may be escaped
+        (
+            r#"{"$dynamicRef":"y#%6E","$defs":{"o":{"$dynamicAnchor":"n"},"y":{"$id":"y","$dynamicAnchor":"n"}}}"#,
+            "https://a.example/s#/$defs/o",
+        ),
+        // the first target may have it by both keywords
+        (
+            r#"{"$dynamicRef":"y#n","$defs":{"o":{"$dynamicAnchor":"n"},"y":{"$id":"y","$anchor":"n","$dynamicAnchor":"n"}}}"#,
+            "https://a.example/s#/$defs/o",
+        ),
+        // another name is another anchor
+        (
+            r#"{"$dynamicRef":"y#n","$defs":{"o":{"$dynamicAnchor":"N"},"y":{"$id":"y","$dynamicAnchor":"n"}}}"#,
+            "https://a.example/y#",
+        ),
+        // a resource within is another resource
+        (
+            r#"{"$dynamicRef":"y#n","$defs":{"o":{"$id":"o","$dynamicAnchor":"n"},"y":{"$id":"y","$dynamicAnchor":"n"}}}"#,
+            "https://a.example/y#",
+        ),
+    ] {
+        let schemas = finished(rt.alloc(), &[(URI, schema)])?;
+        assert_eq!(rt;
+            target(rt.alloc(), &schemas, &[s])?.as_str(),
+            want,
+            "{schema}"
+        );
+    }
+    Ok(())
+}

@@ -1,0 +1,88 @@
+//! What the URI of an entry names.
+use super::*;
+
+// The absolute location of the place that a URI names, or the fault.
+fn entered(alloc: Global, schemas: &Schemas, uri: &str) -> Result<String, Fail> {
+    match schemas.entry(alloc, uri) {
+        Ok(place) => location(alloc, schemas, Some(place)),
+        Err(fault) => Ok(format!(in alloc; "{fault:?}")?),
+    }
+}
+
+#[test]
+fn entries_name_places(rt: HostRuntime) -> Result<(), Fail> {
+    let alloc = rt.alloc();
+    let schemas = finished(alloc, &[(URI, EMBEDDED)])?;
+    for (uri, want) in [
+        ("https://a.example/s", "https://a.example/x#"),
+        ("https://a.example/s#", "https://a.example/x#"),
+        ("https://a.example/x", "https://a.example/x#"),
+        ("https://a.example/s#/$defs/p", "https://a.example/y#"),
+        ("https://a.example/s#/%24defs/%70", "https://a.example/y#"),
+        ("https://a.example/x#/$defs/p", "https://a.example/y#"),
+        ("https://a.example/y", "https://a.example/y#"),
+        ("https://a.example/y#/not", "https://a.example/y#/not"),
+        (
+            "https://a.example/s#/$defs/p/not",
+            "https://a.example/y#/not",
+        ),
+        ("https://a.example/s#q", "https://a.example/x#/allOf/0"),
+        ("https://a.example/x#%71", "https://a.example/x#/allOf/0"),
+        (
+            " HTTPS://A.example/./s#\tq\n",
+            "https://a.example/x#/allOf/0",
+        ),
+        ("https://a.example/y#q", "Unresolved"),
+        ("https://a.example/y#/$defs/p", "Unresolved"),
+        ("https://a.example/s#/$defs", "Unresolved"),
+        ("https://a.example/s#r", "Unresolved"),
+        ("https://a.example/t", "Unresolved"),
+        ("x y", "BadUri"),
+        ("", "BadUri"),
+        ("https://a.example/s#/~2", "BadUri"),
+        ("https://a.example/s#%FF", "BadUri"),
+        ("https://a.example/t#/~2", "BadUri"),
+    ] {
+        assert_eq!(rt; entered(alloc, &schemas, uri)?.as_str(), want, "{uri}");
+    }
+    Ok(())
+}
+
+// Where two entries stand in their documents.
+fn stand(alloc: Global, first: &str, second: &str) -> Result<bool, Fail> {
+    let schemas = finished(alloc, &[(URI, EMBEDDED)])?;
+    let first = at(alloc, &schemas, first)?;
+    let second = at(alloc, &schemas, second)?;
+    Ok(
+        schemas.document(first) == schemas.document(second)
+            && schemas.pointer(first) == schemas.pointer(second),
+    )
+}
+
+#[test]
+fn two_entries_are_one_place(rt: HostRuntime) -> Result<(), Fail> {
+    let inner = "https://a.example/y";
+    assert!(rt; stand(rt.alloc(), "https://a.example/s#/$defs/p", inner)?);
+    assert!(rt; !stand(rt.alloc(), "https://a.example/s", inner)?);
+    Ok(())
+}
+
+#[test]
+fn entries_have_a_longest(rt: HostRuntime) -> Result<(), Fail> {
+    let alloc = rt.alloc();
+    let schemas = finished(alloc, &[(URI, EMBEDDED)])?;
+    for (beginning, count, want) in [
+        (URI, 65_517, "Unresolved"),
+        (URI, 65_518, "UriTooLong"),
+        ("", 65_536, "BadUri"),
+        ("", 65_537, "UriTooLong"),
+    ] {
+        let uri = letters(alloc, beginning, count)?;
+        assert_eq!(rt;
+            entered(alloc, &schemas, uri.as_str())?.as_str(),
+            want,
+            "{count}"
+        );
+    }
+    Ok(())
+}
