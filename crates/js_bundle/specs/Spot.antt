@@ -27,11 +27,6 @@ abbrev pub stands_below : Spot → Text → Step → Spot → Bool
 stands_below above keyword step place =
     place.document == above.document && same_tokens place.pointer (above.pointer ++ keyword ∷ step_tokens step)
 
--- the URIs by which the place is known as the root of a resource
-abbrev pub known_at : Spot → List Text
-known_at place =
-    (if same_tokens place.pointer [] then printed place.above.base ∷ [] else []) ++ (if place.identifies then printed place.own.base ∷ [] else [])
-
 -- the document's URI, at its root
 abbrev pub document_uri : Spot → Option Text
 document_uri place = if same_tokens place.pointer [] then Some (printed place.above.base) else None
