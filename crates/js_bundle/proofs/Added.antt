@@ -2,10 +2,7 @@
 use Rattle.std.proofs.Common.{◌≡◌, ℕ, ◌<◌, ◌≤◌, List, [], ◌∷◌, ◌++◌, map, length, refl, sym, ap, ◌∙◌, subst}
 use Rattle.std.proofs.lemmas.List.{map-append, length-map}
 use Rattle.url.specs.Parts.{Parts}
-use Rattle.js_doc.specs.Members.{NamesAscend}
-use Rattle.js_doc.specs.Short.{IsShort}
 use Rattle.js_doc.specs.Reading.{IsReadFault}
-use Rattle.js_doc.specs.Seen.{value_of}
 use Rattle.js_doc.specs.declared.reading.ReadFault.{ReadFault}
 use Rattle.js_doc.specs.declared.reading.ReadFault.TheVariants as read_fault
 use Rattle.js_bundle.specs.declared.refusal.Refusal.{Refusal}
@@ -14,7 +11,7 @@ use Rattle.js_bundle.specs.Adding.{most_documents, IsUriOf, IsTaken, IsAdded, Is
 use Rattle.js_bundle.specs.Document.{Documents}
 use Rattle.js_bundle.specs.Keyword.{Text}
 use Rattle.js_bundle.specs.Url.{longest_uri}
-use Rattle.js_bundle.specs.Seen.{document_of, AreOrdered, AreShort, AreRead}
+use Rattle.js_bundle.specs.Seen.{document_of}
 
 unread_at : (held : ℕ) (uri : Text) (bytes : List ℕ) (u : Parts) (fault : ReadFault) → held < most_documents → length uri ≤ longest_uri → IsUriOf uri u → IsReadFault bytes fault
     → IsRefusedBy held uri bytes (refusal_of_read held fault)

@@ -1,8 +1,6 @@
 -- What is found among what was built, and among the references.
 use Rattle.std.proofs.Common.{◌≡◌, ◌&&◌, ℕ, List, Bool, true, Option, Some, None, option_map, option_and_then, is_some, slice_get, find, nat_eq, bytes_eq, codes, false, refl, sym, ap, ◌∙◌, subst}
 use Rattle.std.specs.Option.{option_map_or}
-use Rattle.js_doc.specs.Members.{NamesAscend}
-use Rattle.js_assert.specs.Assertion.{Asserted}
 use Rattle.js_bundle.specs.declared.built.BuiltAssertion.{BuiltAssertion}
 use Rattle.js_bundle.specs.declared.built.BuiltPattern.{BuiltPattern}
 use Rattle.js_bundle.specs.declared.reference.Reference.{Reference}

@@ -1,28 +1,27 @@
 -- What a dynamic reference leads to.
-use Rattle.std.proofs.Common.{◌≡◌, ◌&&◌, ℕ, ◌+◌, ◌<◌, ◌≤◌, List, [], ◌∷◌, ◌++◌, Bool, true, false, not, if◌then◌else◌, Option, Some, None, option_map, option_and_then, option_to_list, unwrap_or, is_some, slice_get, find, nat_eq, bytes_eq, codes, drop, length, refl, sym, ap, ◌∙◌, subst, arith}
+use Rattle.std.proofs.Common.{◌≡◌, ◌&&◌, ℕ, ◌+◌, ◌<◌, ◌≤◌, List, [], ◌∷◌, Bool, true, false, not, if◌then◌else◌, Option, Some, None, option_map, option_and_then, unwrap_or, is_some, slice_get, find, nat_eq, bytes_eq, codes, drop, length, refl, sym, ap, ◌∙◌, subst, arith}
 use Rattle.std.specs.List.{position_from}
-use Rattle.std.specs.Option.{option_map_or, option_or}
-use Rattle.std.proofs.lemmas.Bool.{ltb-true, lt-ltb, ne_eqb}
+use Rattle.std.specs.Option.{option_map_or}
+use Rattle.std.proofs.lemmas.Bool.{ltb-true, lt-ltb}
 use Rattle.std.proofs.lemmas.List.{drop_more, drop_all}
 use Rattle.std.proofs.lemmas.Option.{slice_get_within, slice_get-get_or, get_or_from_slice_get}
 use Rattle.url.specs.Parts.{Parts}
-use Rattle.js_doc.specs.Value.{Value, null}
 use Rattle.js_doc.proofs.Named.{is_text-sound}
 use Rattle.js_bundle.specs.declared.reference.DynamicReference.{DynamicReference}
 use Rattle.js_bundle.specs.Built.{numbered}
 use Rattle.js_bundle.specs.Candidate.{IsClear}
 use Rattle.js_bundle.specs.Document.{Documents}
-use Rattle.js_bundle.specs.Finding.{number_of_target, goes_by_name, dynamic_of, dynamic_at, by_scope}
+use Rattle.js_bundle.specs.Finding.{number_of_target, goes_by_name, dynamic_at, by_scope}
 use Rattle.js_bundle.specs.Keyword.{Text, has, text_argument}
 use Rattle.js_bundle.specs.Names.{belongs_to, makes}
 use Rattle.js_bundle.specs.Refusals.{candidates}
 use Rattle.js_bundle.specs.Resource.{Site, sites}
-use Rattle.js_bundle.specs.Schemas.{is_place, has_keyword, place_at, path_at, StandsFor, Finds}
+use Rattle.js_bundle.specs.Schemas.{is_place, has_keyword, place_at, StandsFor, Finds}
 use Rattle.js_bundle.specs.Spot.{Spot, spot}
 use Rattle.js_bundle.specs.Target as spec
 use Rattle.js_bundle.specs.Url.{fragment}
 use Rattle.js_bundle.proofs.Finds.{finds_place}
-use Rattle.js_bundle.proofs.Numbers.{numbered_finds, nat_eq-refl}
+use Rattle.js_bundle.proofs.Numbers.{dynamic_as, dynamic_found}
 use Rattle.js_bundle.proofs.Targets.{first_target_there, number_is_target}
 
 -- ---- a search by numbers, one number on
@@ -103,28 +102,11 @@ pub record IsReference (documents : Documents) (place : ℕ) (r : DynamicReferen
   pub named : spec.first_target (sites documents) (codes "$dynamicRef") site ≡ Some first
   pub by_name : r.by_name ≡ goes_by_name (sites documents) site
 
-other_reference : (i j : ℕ) (o : Option ℕ) (b : Bool) → ¬ (j ≡ i) → find (λ r. nat_eq r.place i) (dynamic_of j o b) ≡ None
-other_reference i j None b n = refl
-other_reference i j (Some t) b n = let other : nat_eq j i ≡ false = ne_eqb j i n in rw other refl
-
-that_reference : (i : ℕ) (o : Option ℕ) (b : Bool) → find (λ r. nat_eq r.place i) (dynamic_of i o b) ≡ option_map (λ t. record { place = i; target = t; by_name = b }) o
-that_reference i None b = refl
-that_reference i (Some t) b = let same : nat_eq i i ≡ true = nat_eq-refl i in rw same refl
-
 abbrev kept_by : List Site → ℕ → Option Site → Option DynamicReference
-kept_by all i None = None
-kept_by all i (Some s) = option_map (λ t. record { place = i; target = t; by_name = goes_by_name all s }) (number_of_target all (codes "$dynamicRef") s)
+kept_by all i = option_and_then (λ s. option_map (dynamic_as i (goes_by_name all s)) (number_of_target all (codes "$dynamicRef") s))
 
-kept_of : (all : List Site) (i : ℕ) (o : Option Site) → slice_get all i ≡ o
-    → find (λ r. nat_eq r.place i) (numbered (dynamic_at all) 0 all) ≡ kept_by all i o
-kept_of all i o e = sym_of o (numbered_finds (dynamic_at all) (λ r. nat_eq r.place i) i (λ j s n. other_reference i j (number_of_target all (codes "$dynamicRef") s) (goes_by_name all s) n) all 0 i (omega arith)) e
-  where
-    sym_of : (o : Option Site) → find (λ r. nat_eq r.place i) (numbered (dynamic_at all) 0 all) ≡ option_and_then (λ s. find (λ r. nat_eq r.place i) (dynamic_at all i s)) (slice_get all i)
-        → slice_get all i ≡ o
-        → find (λ r. nat_eq r.place i) (numbered (dynamic_at all) 0 all) ≡ kept_by all i o
-    sym_of None f e = f ∙ ap (option_and_then (λ s. find (λ r. nat_eq r.place i) (dynamic_at all i s))) e
-    sym_of (Some s) f e =
-        f ∙ ap (option_and_then (λ s. find (λ r. nat_eq r.place i) (dynamic_at all i s))) e ∙ that_reference i (number_of_target all (codes "$dynamicRef") s) (goes_by_name all s)
+kept_of : (all : List Site) (i : ℕ) (o : Option Site) → slice_get all i ≡ o → find (λ r. nat_eq r.place i) (numbered (dynamic_at all) 0 all) ≡ kept_by all i o
+kept_of all i o e = dynamic_found all all i ∙ ap (kept_by all i) e
 
 reference_by : (documents : Documents) (i : ℕ) (r : DynamicReference) (o : Option Site) → place_at documents i ≡ o
     → kept_by (sites documents) i o ≡ Some r
@@ -133,10 +115,10 @@ reference_by documents i r None e h = absurd (cc)
 reference_by documents i r (Some s) e h = by_target (number_of_target (sites documents) (codes "$dynamicRef") s) refl h
   where
     by_target : (o : Option ℕ) → number_of_target (sites documents) (codes "$dynamicRef") s ≡ o
-        → option_map (λ t. record { place = i; target = t; by_name = goes_by_name (sites documents) s }) o ≡ Some r → IsReference documents i r
+        → option_map (dynamic_as i (goes_by_name (sites documents) s)) o ≡ Some r → IsReference documents i r
     by_target None is h = absurd (cc)
     by_target (Some t) is h =
-        let made : record { place = i; target = t; by_name = goes_by_name (sites documents) s } ≡ r = cc in
+        let made : dynamic_as i (goes_by_name (sites documents) s) t ≡ r = cc in
         let found = number_is_target (sites documents) (codes "$dynamicRef") s t is in
         record {
           site = s;
@@ -177,10 +159,7 @@ none_kept : (documents : Documents) (i : ℕ) (o : Option Site) → IsClear (can
 none_kept documents i None clear e has_it h = absurd (cc)
 none_kept documents i (Some s) clear e has_it h = by_target (number_of_target (sites documents) (codes "$dynamicRef") s) (first_target_there documents clear i s e has_it) h
   where
-    made : ℕ → DynamicReference
-    made t = record { place = i; target = t; by_name = goes_by_name (sites documents) s }
-
-    by_target : (o : Option ℕ) → is_some o ≡ true → ¬ (option_map made o ≡ None)
+    by_target : (o : Option ℕ) → is_some o ≡ true → ¬ (option_map (dynamic_as i (goes_by_name (sites documents) s)) o ≡ None)
     by_target None some h = absurd (cc)
     by_target (Some t) some h = absurd (cc)
 

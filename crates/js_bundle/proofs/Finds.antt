@@ -1,5 +1,5 @@
 -- The number that is found stands for the place that is found.
-use Rattle.std.proofs.Common.{◌≡◌, ℕ, ◌+◌, List, [], ◌∷◌, ◌++◌, Bool, true, false, cond, is_none, map, Option, Some, None, option_map, option_and_then, slice_get, find, refl, sym, ap, ◌∙◌, subst}
+use Rattle.std.proofs.Common.{◌≡◌, ℕ, ◌+◌, List, [], ◌∷◌, ◌++◌, Bool, true, false, if◌then◌else◌, cond, is_none, map, Option, Some, None, option_map, option_and_then, slice_get, find, refl, sym, ap, ◌∙◌, subst}
 use Rattle.std.specs.List.{position_from}
 use Rattle.js_bundle.specs.declared.checked.Spot as rust
 use Rattle.js_bundle.specs.Document.{Documents}
@@ -40,13 +40,29 @@ below_of documents k s n above (Some t) fit e h =
     let test = stands_at t.document (t.pointer ++ k ∷ step_tokens s) in
     rw fit (finds_place documents test n (subst (λ a. n ≡ position_from (λ u. stands_below a k s (spot u)) 0 (sites documents)) (sym same) h))
 
-pub finds_below : (docs documents : Documents) (kept : List rust.Spot) (place : ℕ) (above : rust.Spot) (k : Text) (s : Step) (n : Option ℕ) → docs ≡ documents
+finds_below : (docs documents : Documents) (kept : List rust.Spot) (place : ℕ) (above : rust.Spot) (k : Text) (s : Step) (n : Option ℕ) → docs ≡ documents
     → map spot_of kept ≡ map spot (sites docs) → option_map spot (place_at documents place) ≡ Some (spot_of above) → fits (holding k) s ≡ true
     → n ≡ position_from (stands_below (spot_of above) k s) 0 (map spot_of kept) → Finds documents n (option_and_then (λ t. below documents t k s) (place_at documents place))
 finds_below docs documents kept place above k s n same e here fit found =
     let test = stands_below (spot_of above) k s in
     below_of documents k s n (spot_of above) (place_at documents place) fit here
     (found ∙ ap (position_from test 0) (e ∙ ap (λ ds. map spot (sites ds)) same) ∙ position-map test spot 0 (sites documents))
+
+none_by : (documents : Documents) (k : Text) (s : Step) (o : Option Site) → fits (holding k) s ≡ false → option_and_then (λ t. below documents t k s) o ≡ None
+none_by documents k s None unfit = refl
+none_by documents k s (Some t) unfit = rw unfit refl
+
+pub finds_held : (docs documents : Documents) (kept : List rust.Spot) (place : ℕ) (above : rust.Spot) (k : Text) (s : Step) (n : Option ℕ) → docs ≡ documents
+    → map spot_of kept ≡ map spot (sites docs) → option_map spot (place_at documents place) ≡ Some (spot_of above)
+    → n ≡ (if fits (holding k) s then position_from (stands_below (spot_of above) k s) 0 (map spot_of kept) else None)
+    → Finds documents n (option_and_then (λ t. below documents t k s) (place_at documents place))
+finds_held docs documents kept place above k s n same e here found = by_fit (fits (holding k) s) refl found
+  where
+    by_fit : (b : Bool) → fits (holding k) s ≡ b → n ≡ (if b then position_from (stands_below (spot_of above) k s) 0 (map spot_of kept) else None)
+        → Finds documents n (option_and_then (λ t. below documents t k s) (place_at documents place))
+    by_fit true fit found = finds_below docs documents kept place above k s n same e here fit found
+    by_fit false unfit found =
+        subst (λ m. Finds documents m (option_and_then (λ t. below documents t k s) (place_at documents place))) (sym found) (none_by documents k s (place_at documents place) unfit)
 
 -- ---- what a URI names
 

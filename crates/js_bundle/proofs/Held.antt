@@ -1,5 +1,5 @@
 -- What a keyword of a place holds is a place, and is found below it.
-use Rattle.std.proofs.Common.{◌≡◌, ℕ, zero, suc, ◌+◌, List, [], ◌∷◌, ◌++◌, Bool, true, false, if◌then◌else◌, inl, inr, decimal, Some, None, option_map, slice_get, find, refl, sym, ap, ◌∙◌, subst, arith}
+use Rattle.std.proofs.Common.{◌≡◌, ℕ, zero, suc, ◌+◌, List, [], ◌∷◌, ◌++◌, Bool, true, false, if◌then◌else◌, inl, inr, decimal, Option, Some, None, option_map, option_and_then, slice_get, find, refl, sym, ap, ◌∙◌, subst, arith}
 use Rattle.std.specs.List.{position_from}
 use Rattle.std.specs.Str.{bytes_eq}
 use Rattle.std.proofs.lemmas.Option.{slice_get-map}
@@ -7,15 +7,14 @@ use Rattle.js_doc.specs.Members.{get}
 use Rattle.js_doc.specs.Pointer.{Tokens}
 use Rattle.js_doc.specs.Value.{Value}
 use Rattle.js_doc.proofs.Named.{is_text-sound}
-use Rattle.js_bundle.specs.declared.holding.Holding.TheVariants.{One, Listed, Named}
 use Rattle.js_bundle.specs.Document.{Document, Documents}
-use Rattle.js_bundle.specs.Keyword.{Text, keywords, argument}
+use Rattle.js_bundle.specs.Keyword.{Text, keywords}
 use Rattle.js_bundle.specs.Names.{stands_at}
-use Rattle.js_bundle.specs.Place.{holding, items_in, IsPlace, in_keyword, in_list, in_object, Place, places_at, places_from}
+use Rattle.js_bundle.specs.Place.{holding, IsPlace, in_keyword, in_list, in_object, Place, places_at, places_from}
 use Rattle.js_bundle.specs.PlaceLaws.{Lists}
 use Rattle.js_bundle.specs.Resource.{Site, site, sites}
-use Rattle.js_bundle.specs.Schemas.{Step, Alone, Index, Name, fits, step_tokens, below}
-use Rattle.js_bundle.specs.Seen.{AreOrdered, AreShort}
+use Rattle.js_bundle.specs.Schemas.{place_at, Finds, FindsSchema, Holds, Step, Alone, Index, Name, fits, step_tokens, below}
+use Rattle.js_bundle.specs.Seen.{AreOrdered, AreShort, AreRead}
 use Rattle.js_bundle.proofs.Listing.{Among, among-is, complete}
 use Rattle.js_bundle.proofs.Numbers.{get_first}
 use Rattle.js_bundle.proofs.Standing.{standing, of_document, all_at}
@@ -95,12 +94,6 @@ pub get_among : (k : Text) (u : Value) (ms : List (Text × Value)) → get k ms 
 get_among k u [] h = absurd (cc)
 get_among k u (m ∷ ms) h = among_by k m.0 m.1 u ms (bytes_eq k m.0) refl (sym (get_first k m.0 m.1 ms) ∙ h) (get_among k u ms)
 
--- what the keyword of this schema holds at the step
-abbrev pub Holds : Value → Text → Step → Value → Type 0
-Holds schema k Alone u = (holding k ≡ One) × (argument k schema ≡ Some u)
-Holds schema k (Index i) u = (holding k ≡ Listed) × ((l : Value) × (argument k schema ≡ Some l) × (slice_get (items_in l) i ≡ Some u))
-Holds schema k (Name n) u = (holding k ≡ Named) × ((l : Value) × (argument k schema ≡ Some l) × (argument n l ≡ Some u))
-
 held_fits : (schema : Value) (k : Text) (step : Step) (u : Value) → Holds schema k step u → fits (holding k) step ≡ true
 held_fits schema k Alone u h = ap (λ x. fits x Alone) h.0
 held_fits schema k (Index i) u h = ap (λ x. fits x (Index i)) h.0
@@ -146,3 +139,25 @@ held documents a h n s e k step u g =
       pointer = there.pointer;
       schema = there.schema;
     }
+
+-- ---- what is found by number
+
+held_by : (documents : Documents) → AreOrdered documents → AreShort documents → (place : ℕ) (k : Text) (step : Step) (r : Option ℕ) (o : Option Site) → o ≡ place_at documents place
+    → Finds documents r (option_and_then (λ s. below documents s k step) o) → (s : Site) (u : Value) → o ≡ Some s → Holds s.schema k step u → FindsSchema documents r u
+held_by documents a h place k step None o is f s u e g =
+    let there = held documents a h place s (sym is ∙ e) k step u g in
+    let none : below documents s k step ≡ None = sym (ap (option_and_then (λ t. below documents t k step)) e) ∙ f in
+    let some : below documents s k step ≡ Some there.place = there.found in
+    absurd (cc)
+held_by documents a h place k step (Some n) o is f s u e g =
+    let there = held documents a h place s (sym is ∙ e) k step u g in
+    let found : Some there.place ≡ Some f.0 = sym there.found ∙ sym (ap (option_and_then (λ t. below documents t k step)) e) ∙ f.1 in
+    let same : there.place ≡ f.0 = cc in
+    (f.0, f.2, ap (λ t. t.schema) (sym same) ∙ there.schema)
+
+pub held_found : (docs documents : Documents) → docs ≡ documents → AreRead docs → (place : ℕ) (k : Text) (step : Step) (r : Option ℕ)
+    → Finds documents r (option_and_then (λ s. below documents s k step) (place_at documents place)) → (s : Site) (u : Value) → place_at documents place ≡ Some s
+    → Holds s.schema k step u → FindsSchema documents r u
+held_found docs documents same h place k step r f s u e g =
+    let read : AreRead documents = subst (λ ds. AreRead ds) same h in
+    held_by documents read.ordered read.short place k step r (place_at documents place) refl f s u e g

@@ -1,5 +1,5 @@
 -- The resources, one place further on.
-use Rattle.std.proofs.Common.{◌≡◌, ◌&&◌, ℕ, ◌+◌, List, [], ◌∷◌, ◌++◌, Bool, true, false, not, if◌then◌else◌, Option, Some, None, option_map, map, slice_get, bytes_eq, drop, refl, sym, ap, ap₂, ◌∙◌, subst, append_assoc}
+use Rattle.std.proofs.Common.{◌≡◌, ◌&&◌, ℕ, ◌+◌, List, [], ◌∷◌, ◌++◌, Bool, true, false, not, if◌then◌else◌, Option, Some, None, option_map, map, bytes_eq, drop, refl, sym, ap, ◌∙◌, subst, append_assoc}
 use Rattle.js_bundle.specs.Built.{numbered}
 use Rattle.js_bundle.specs.Document.{Documents}
 use Rattle.js_bundle.specs.Keyword.{Text}

@@ -1,4 +1,5 @@
 pub mod Rows
+pub mod OnLiterals
 pub mod Added
 pub mod Keywords
 pub mod Scanning
@@ -13,7 +14,6 @@ pub mod Named
 pub mod Stopping
 pub mod Passes
 pub mod Targets
-pub mod Asked
 pub mod Assertions
 pub mod BuiltNext
 pub mod Whole

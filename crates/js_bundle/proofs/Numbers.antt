@@ -348,7 +348,7 @@ that_dynamic i (Some t) b = let same : nat_eq i i ≡ true = nat_eq-refl i in rw
 -- the first target of a place's `$dynamicRef`, and whether it goes by name, are what is found under the place's number
 pub dynamic_found : (known all : List Site) (i : ℕ)
     → find (λ r. nat_eq r.place i) (numbered (dynamic_at known) 0 all)
-    ≡ option_and_then (λ s. option_map (λ t. record { place = i; target = t; by_name = goes_by_name known s }) (number_of_target known (codes "$dynamicRef") s)) (slice_get all i)
+    ≡ option_and_then (λ s. option_map (dynamic_as i (goes_by_name known s)) (number_of_target known (codes "$dynamicRef") s)) (slice_get all i)
 dynamic_found known all i =
     numbered_finds (dynamic_at known) (λ r. nat_eq r.place i) i (λ j s n. other_dynamic i j (number_of_target known the_dynamic s) (goes_by_name known s) n) all 0 i (omega arith)
     ∙ and_then_as (λ s. find (λ r. nat_eq r.place i) (dynamic_at known i s)) (λ s. option_map (dynamic_as i (goes_by_name known s)) (number_of_target known the_dynamic s))

@@ -5,7 +5,7 @@ use Rattle.std.proofs.lemmas.List.{append-nil, take-append-drop, take_all, lengt
 use Rattle.std.specs.List.{flat_map}
 use Rattle.js_bundle.specs.declared.fault.Fault.{Fault}
 use Rattle.js_bundle.specs.declared.refusal.RefusalKind.TheVariants.{TooManyPlaces, NotASchema, DuplicateUri}
-use Rattle.js_bundle.specs.Candidate.{Candidate, IsClear, IsStopped}
+use Rattle.js_bundle.specs.Candidate.{IsClear, IsStopped}
 use Rattle.js_bundle.specs.Document.{Documents}
 use Rattle.js_bundle.specs.Form.{is_schema}
 use Rattle.js_bundle.specs.Keyword.{keywords}

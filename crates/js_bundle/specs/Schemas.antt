@@ -6,6 +6,7 @@ use Rattle.std.specs.Option.{option_map_or}
 use Rattle.url.specs.Parts.{Parts}
 use Rattle.url.specs.Parser.{Parsed, parse_url}
 use Rattle.js_doc.specs.Pointer.{Tokens}
+use Rattle.js_doc.specs.Value.{Value}
 use Rattle.js_assert.specs.Assertion.{Asserted, asserted}
 use Rattle.js_bundle.specs.declared.holding.Holding.{Holding}
 use Rattle.js_bundle.specs.declared.holding.Holding.TheVariants.{One, Listed, Named}
@@ -17,7 +18,7 @@ use Rattle.js_bundle.specs.Built.{numbered}
 use Rattle.js_bundle.specs.Document.{Documents}
 use Rattle.js_bundle.specs.Keyword.{Text, keywords, argument, has}
 use Rattle.js_bundle.specs.Names.{stands_at, known_as, named, is_read}
-use Rattle.js_bundle.specs.Place.{holding}
+use Rattle.js_bundle.specs.Place.{holding, items_in}
 use Rattle.js_bundle.specs.Resource.{Site, sites}
 use Rattle.js_bundle.specs.Url.{longest_uri, fragment}
 
@@ -77,6 +78,17 @@ step_tokens (Name name) = name ∷ []
 abbrev pub below : Documents → Site → Text → Step → Option Site
 below documents place keyword step =
     if fits (holding keyword) step then find (stands_at place.document (place.pointer ++ keyword ∷ step_tokens step)) (sites documents) else None
+
+-- the keyword of this schema holds a schema at the step
+abbrev pub Holds : Value → Text → Step → Value → Type 0
+Holds schema k Alone u = (holding k ≡ One) × (argument k schema ≡ Some u)
+Holds schema k (Index i) u = (holding k ≡ Listed) × ((l : Value) × (argument k schema ≡ Some l) × (slice_get (items_in l) i ≡ Some u))
+Holds schema k (Name n) u = (holding k ≡ Named) × ((l : Value) × (argument k schema ≡ Some l) × (argument n l ≡ Some u))
+
+-- a place is found, and this schema stands there
+abbrev pub FindsSchema : Documents → Option ℕ → Value → Type 0
+FindsSchema documents None u = ⊥
+FindsSchema documents (Some n) u = (place : Site) × (place_at documents n ≡ Some place) × (place.schema ≡ u)
 
 -- ---- what is built of a place's keywords
 

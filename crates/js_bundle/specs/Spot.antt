@@ -1,12 +1,12 @@
 -- A place without its schema, as finished schemas keep it.
-use Rattle.std.specs.Prelude.{ℕ, List, [], Bool, ◌&&◌, ◌==◌, ◌∷◌, ◌++◌, map, not, bytes_eq, Option, Some, None, if◌then◌else◌}
+use Rattle.std.specs.Prelude.{ℕ, List, [], Bool, ◌&&◌, ◌==◌, ◌∷◌, ◌++◌, not, bytes_eq, Option, Some, None, if◌then◌else◌}
 use Rattle.js_doc.specs.Pointer.{Tokens}
 use Rattle.js_bundle.specs.declared.checked.Spot as rust
 use Rattle.js_bundle.specs.declared.scope.Scope.{Scope}
 use Rattle.js_bundle.specs.Keyword.{Text}
 use Rattle.js_bundle.specs.Names.{same_tokens}
 use Rattle.js_bundle.specs.Resource.{Site}
-use Rattle.js_bundle.specs.Schemas.{Step, step_tokens, told_once}
+use Rattle.js_bundle.specs.Schemas.{Step, step_tokens}
 use Rattle.js_bundle.specs.Url.{printed}
 
 pub record Spot : Type 0 where

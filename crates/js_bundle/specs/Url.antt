@@ -2,7 +2,7 @@
 use Rattle.std.specs.Prelude.{ℕ, [], Option, Some, None, Ok, Err, unwrap_or}
 use Rattle.percent_encoding.specs.Percent.{percent_decode}
 use Rattle.url.specs.Parts.{Parts, serialize}
-use Rattle.url.specs.Parser.{Parsed}
+use Rattle.url.specs.Parser.{Parsed, parse_url}
 use Rattle.url.specs.Setters.{set_fragment}
 use Rattle.js_bundle.specs.Keyword.{Text}
 
@@ -30,3 +30,7 @@ fragment uri = percent_decode (raw_fragment uri)
 abbrev pub parsed : Parsed Parts → Option Parts
 parsed (Ok uri) = Some uri
 parsed (Err fault) = None
+
+-- the absolute URI that a text is
+abbrev pub uri_of : Text → Option Parts
+uri_of t = parsed (parse_url None t)

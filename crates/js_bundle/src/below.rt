@@ -1,9 +1,9 @@
 //! What the keywords of a place hold.
-ghost use Rattle.std.specs.Prelude.{◌≡◌, ◌++◌, [], ◌∷◌, true, find, map, option_map, option_and_then, bytes_eq, decimal};
+ghost use Rattle.std.specs.Prelude.{◌≡◌, ◌++◌, [], ◌∷◌, true, find, map, option_map, option_and_then, bytes_eq, decimal, None, Some, if◌then◌else◌};
 ghost use Rattle.std.specs.List.{position_from};
 ghost use Rattle.js_bundle.specs.Names.{same_tokens};
 ghost use Rattle.js_bundle.specs.Place.{holding};
-ghost use Rattle.js_bundle.specs.Schemas.{is_place, place_at, below, fits, step_of, step_tokens, Finds};
+ghost use Rattle.js_bundle.specs.Schemas.{is_place, place_at, below, fits, step_of, step_tokens, Finds, FindsSchema, Holds};
 ghost use Rattle.js_bundle.specs.Spot.{spot_of, stands_below};
 
 use crate::checked::Spot;
@@ -14,21 +14,35 @@ use crate::schemas::Schemas;
 use js_doc::Text;
 
 impl Schemas {
+    ghost use Rattle.js_doc.specs.Value.{Value};
+    ghost use Rattle.js_bundle.specs.Resource.{Site};
+
     /// The place to which a step leads through a keyword of the place: `Alone` where the keyword holds one schema, `Index`
     /// where it holds a list of them, `Name` where it holds an object of them (JSON Schema Core, sections 8.2.4, 10 and
-    /// 11). None where no place stands there, or the step isn't of the keyword's kind.
+    /// 11). None where no place stands there, or the step isn't of the keyword's kind; so never where the keyword holds a
+    /// schema at the step.
     pub fn below(&self, place: Place, keyword: &str, step: Step<'_>) -> Option<Place>
         requires { is_place self.now place ≡ true }
-        ensures { Finds self.now result
+        ensures found { Finds self.now result
             (option_and_then (λ s. below self.now s keyword.now (step_of step.entry)) (place_at self.now place)) }
+        ensures held { (s : Site) (u : Value) → place_at self.now place ≡ Some s
+            → Holds s.schema keyword.now (step_of step.entry) u → FindsSchema self.now result u }
     {
-        if !fits(holding_of(keyword), step) {
-            return None;
-        }
-        match number_below(self.kept.spots.as_slice(), self.spot(place), keyword, step) {
+        match number_held(self.kept.spots.as_slice(), self.spot(place), keyword, step) {
             Some(number) => Some(Place { number }),
             None => None,
         }
+    }
+}
+
+fn number_held(spots: &[Spot], above: &Spot, keyword: &str, step: Step<'_>) -> Option<usize>
+    ensures { result ≡ (if fits (holding keyword.now) (step_of step.entry) then position_from
+        (stands_below (spot_of above.now) keyword.now (step_of step.entry)) 0 (map spot_of spots.now) else None) }
+{
+    if fits(holding_of(keyword), step) {
+        number_below(spots, above, keyword, step)
+    } else {
+        None
     }
 }
 

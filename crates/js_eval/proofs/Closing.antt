@@ -26,7 +26,7 @@ counted : {A : Type 0} (holds : A → Bool) (apps : List A) → how_many (map ho
 counted holds apps = counted_from holds 0 apps
 
 -- so many of the verdicts are true as applications hold
-count_of : {A : Type 0} (holds : A → Bool) (apps : List A) (verdicts : List Bool) → verdicts ≡ map holds apps → how_many verdicts ≡ length (filter holds apps)
+pub count_of : {A : Type 0} (holds : A → Bool) (apps : List A) (verdicts : List Bool) → verdicts ≡ map holds apps → how_many verdicts ≡ length (filter holds apps)
 count_of holds apps verdicts e = ap how_many e ∙ (counted holds apps ∙ sym (length-filter holds apps))
 
 module _ {Place : Type 0} (S : Schemas Place) (above : List Place) (place : Place) (v : Value) where

@@ -22,7 +22,7 @@ always (Err e) p = tt
 taken_at : {A : Type 0} (b : Bool) (a : A) (kept others : List A) → kept ≡ others → cond b (a ∷ kept) kept ≡ cond b (a ∷ others) others
 taken_at b a kept others e = ap (λ r. cond b (a ∷ r) r) e
 
-holding_is : {A : Type 0} (holds : A → Bool) (apps : List A) → holding_by apps (map holds apps) ≡ filter holds apps
+pub holding_is : {A : Type 0} (holds : A → Bool) (apps : List A) → holding_by apps (map holds apps) ≡ filter holds apps
 holding_is holds [] = refl
 holding_is holds (a ∷ apps) = taken_at (holds a) a (holding_by apps (map holds apps)) (filter holds apps) (holding_is holds apps)
 

@@ -11,3 +11,5 @@ pub mod Among
 pub mod Concluding
 pub mod Stages
 pub mod Closing
+pub mod Bundled
+pub mod Largest

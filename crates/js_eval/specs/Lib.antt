@@ -1,6 +1,7 @@
 pub mod Kind
 pub mod Keywords
 pub mod Schemas
+pub mod Bundle
 pub mod Applications
 pub mod Passes
 pub mod Evaluated
@@ -14,3 +15,4 @@ pub mod Examples
 pub mod Seen
 pub mod Judging
 pub mod Rows
+pub mod Noted

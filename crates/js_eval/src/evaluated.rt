@@ -69,7 +69,7 @@ fn names_source(kind: Kind) -> Source
     }
 }
 
-fn add_applied_names<'a>(
+pub(crate) fn add_applied_names<'a>(
     names: &mut Vec<&'a str>,
     applications: &[Application<'a>],
 ) -> Result<(), Memory>
@@ -151,7 +151,7 @@ fn indexes_source(kind: Kind) -> Source
     }
 }
 
-fn add_applied_indexes(
+pub(crate) fn add_applied_indexes(
     indexes: &mut Vec<usize>,
     applications: &[Application<'_>],
 ) -> Result<(), Memory>
@@ -163,7 +163,7 @@ fn add_applied_indexes(
     Ok(())
 }
 
-fn add_holding_indexes(
+pub(crate) fn add_holding_indexes(
     indexes: &mut Vec<usize>,
     applications: &[Application<'_>],
     verdicts: &[bool],

@@ -12,6 +12,7 @@ mod keyword_judging;
 mod kind;
 pub mod laws;
 mod member_asking;
+mod noting;
 mod object_applications;
 mod parts;
 mod passing;

@@ -120,7 +120,7 @@ pub(crate) fn in_place_where_named<'a, S: SchemaSet>(
     Ok(applications)
 }
 
-fn is_among(name: &str, names: &[&str]) -> bool
+pub(crate) fn is_among(name: &str, names: &[&str]) -> bool
     ensures { result ≡ among_names name.now (texts_of names.now) }
 {
     for other in names {

@@ -278,349 +278,119 @@ fn schemas_applied_to_what_is_unevaluated(rt: HostRuntime) {
     }
 }
 
+// A reference that doesn't look at the path.
+fn leads(from: usize, to: usize) -> Reference {
+    Reference {
+        from,
+        seen: from,
+        to,
+    }
+}
+
+// Whether these verdicts are known of instances, each within its number of schemas.
+fn are_known(
+    alloc: Global,
+    schema: &str,
+    references: &[Reference],
+    entry: usize,
+    rows: &[(usize, &str, Option<bool>)],
+) -> Result<bool, Trouble> {
+    for (n, instance, known) in rows {
+        if verdict(alloc, schema, references, entry, *n, instance)? != *known {
+            return Ok(false);
+        }
+    }
+    Ok(true)
+}
+
+const POLYGON: &str =
+    "{\"$id\":\"https://example.com/polygon\",\"$schema\":\"https://json-schema.org/draft/2020-12/schema\",\"$defs\":{\"point\":{\"type\":\"object\",\"properties\":{\"x\":{\"type\":\"integer\"},\"y\":{\"type\":\"integer\"}},\"additionalProperties\":false,\"required\":[\"x\",\"y\"]}},\"type\":\"array\",\"items\":{\"$ref\":\"#/$defs/point\"},\"minItems\":3}";
+
 #[test]
-fn references(rt: HostRuntime) {
+fn polygon(rt: HostRuntime) {
     let rows = [
         (
-            "{\"$id\":\"https://example.com/polygon\",\"$schema\":\"https://json-schema.org/draft/2020-12/schema\",\"$defs\":{\"point\":{\"type\":\"object\",\"properties\":{\"x\":{\"type\":\"integer\"},\"y\":{\"type\":\"integer\"}},\"additionalProperties\":false,\"required\":[\"x\",\"y\"]}},\"type\":\"array\",\"items\":{\"$ref\":\"#/$defs/point\"},\"minItems\":3}",
-            [
-                Reference {
-                    from: 5,
-                    seen: 5,
-                    to: 1,
-                },
-                Reference {
-                    from: 5,
-                    seen: 5,
-                    to: 1,
-                },
-                Reference {
-                    from: 5,
-                    seen: 5,
-                    to: 1,
-                },
-            ],
-            0,
             4,
             "[{\"x\":0,\"y\":0},{\"x\":1,\"y\":0},{\"x\":0,\"y\":1}]",
             Some(true),
         ),
-        (
-            "{\"$id\":\"https://example.com/polygon\",\"$schema\":\"https://json-schema.org/draft/2020-12/schema\",\"$defs\":{\"point\":{\"type\":\"object\",\"properties\":{\"x\":{\"type\":\"integer\"},\"y\":{\"type\":\"integer\"}},\"additionalProperties\":false,\"required\":[\"x\",\"y\"]}},\"type\":\"array\",\"items\":{\"$ref\":\"#/$defs/point\"},\"minItems\":3}",
-            [
-                Reference {
-                    from: 5,
-                    seen: 5,
-                    to: 1,
-                },
-                Reference {
-                    from: 5,
-                    seen: 5,
-                    to: 1,
-                },
-                Reference {
-                    from: 5,
-                    seen: 5,
-                    to: 1,
-                },
-            ],
-            0,
-            4,
-            "[{\"x\":2,\"y\":1},{\"x\":1,\"z\":6}]",
-            Some(false),
-        ),
+        (4, "[{\"x\":2,\"y\":1},{\"x\":1,\"z\":6}]", Some(false)),
+    ];
+    assert!(rt; are_known(rt.alloc(), POLYGON, &[leads(5, 1)], 0, &rows) == Ok(true));
+}
+
+#[test]
+fn references(rt: HostRuntime) {
+    let places = [
         (
             "{\"$ref\":\"#/$defs/i\",\"maximum\":3,\"$defs\":{\"i\":{\"type\":\"integer\"}}}",
-            [
-                Reference {
-                    from: 0,
-                    seen: 0,
-                    to: 1,
-                },
-                Reference {
-                    from: 0,
-                    seen: 0,
-                    to: 1,
-                },
-                Reference {
-                    from: 0,
-                    seen: 0,
-                    to: 1,
-                },
-            ],
-            0,
-            4,
-            "3",
-            Some(true),
-        ),
-        (
-            "{\"$ref\":\"#/$defs/i\",\"maximum\":3,\"$defs\":{\"i\":{\"type\":\"integer\"}}}",
-            [
-                Reference {
-                    from: 0,
-                    seen: 0,
-                    to: 1,
-                },
-                Reference {
-                    from: 0,
-                    seen: 0,
-                    to: 1,
-                },
-                Reference {
-                    from: 0,
-                    seen: 0,
-                    to: 1,
-                },
-            ],
-            0,
-            4,
-            "4",
-            Some(false),
-        ),
-        (
-            "{\"$ref\":\"#/$defs/i\",\"maximum\":3,\"$defs\":{\"i\":{\"type\":\"integer\"}}}",
-            [
-                Reference {
-                    from: 0,
-                    seen: 0,
-                    to: 1,
-                },
-                Reference {
-                    from: 0,
-                    seen: 0,
-                    to: 1,
-                },
-                Reference {
-                    from: 0,
-                    seen: 0,
-                    to: 1,
-                },
-            ],
-            0,
-            4,
-            "null",
-            Some(false),
-        ),
-        (
-            "{\"$ref\":\"#q\",\"$defs\":{\"x\":{\"$anchor\":\"q\",\"const\":1}}}",
-            [
-                Reference {
-                    from: 0,
-                    seen: 0,
-                    to: 1,
-                },
-                Reference {
-                    from: 0,
-                    seen: 0,
-                    to: 1,
-                },
-                Reference {
-                    from: 0,
-                    seen: 0,
-                    to: 1,
-                },
-            ],
-            0,
-            4,
-            "1",
-            Some(true),
-        ),
-        (
-            "{\"$ref\":\"#q\",\"$defs\":{\"x\":{\"$anchor\":\"q\",\"const\":1}}}",
-            [
-                Reference {
-                    from: 0,
-                    seen: 0,
-                    to: 1,
-                },
-                Reference {
-                    from: 0,
-                    seen: 0,
-                    to: 1,
-                },
-                Reference {
-                    from: 0,
-                    seen: 0,
-                    to: 1,
-                },
-            ],
-            0,
-            4,
-            "2",
-            Some(false),
-        ),
-        (
-            "{\"$dynamicRef\":\"y#/$defs/x\",\"$defs\":{\"o\":{\"$dynamicAnchor\":\"n\",\"const\":2},\"y\":{\"$id\":\"y\",\"$defs\":{\"x\":{\"$dynamicAnchor\":\"n\",\"const\":1}}}}}",
-            [
-                Reference {
-                    from: 0,
-                    seen: 0,
-                    to: 3,
-                },
-                Reference {
-                    from: 0,
-                    seen: 0,
-                    to: 3,
-                },
-                Reference {
-                    from: 0,
-                    seen: 0,
-                    to: 3,
-                },
-            ],
-            0,
-            4,
-            "1",
-            Some(true),
-        ),
-        (
-            "{\"$dynamicRef\":\"y#/$defs/x\",\"$defs\":{\"o\":{\"$dynamicAnchor\":\"n\",\"const\":2},\"y\":{\"$id\":\"y\",\"$defs\":{\"x\":{\"$dynamicAnchor\":\"n\",\"const\":1}}}}}",
-            [
-                Reference {
-                    from: 0,
-                    seen: 0,
-                    to: 3,
-                },
-                Reference {
-                    from: 0,
-                    seen: 0,
-                    to: 3,
-                },
-                Reference {
-                    from: 0,
-                    seen: 0,
-                    to: 3,
-                },
-            ],
-            0,
-            4,
-            "2",
-            Some(false),
-        ),
-        (
-            "{\"$defs\":{\"strict\":{\"$id\":\"https://example.com/strict-tree\",\"$dynamicAnchor\":\"node\",\"$ref\":\"tree\",\"unevaluatedProperties\":false},\"tree\":{\"$id\":\"https://example.com/tree\",\"$dynamicAnchor\":\"node\",\"type\":\"object\",\"properties\":{\"data\":true,\"children\":{\"type\":\"array\",\"items\":{\"$dynamicRef\":\"#node\"}}}}}}",
-            [
-                Reference {
-                    from: 1,
-                    seen: 1,
-                    to: 3,
-                },
-                Reference {
-                    from: 5,
-                    seen: 1,
-                    to: 1,
-                },
-                Reference {
-                    from: 5,
-                    seen: 3,
-                    to: 3,
-                },
-            ],
-            3,
-            6,
-            "{\"children\":[{\"daat\":1}]}",
-            Some(true),
-        ),
-        (
-            "{\"$defs\":{\"strict\":{\"$id\":\"https://example.com/strict-tree\",\"$dynamicAnchor\":\"node\",\"$ref\":\"tree\",\"unevaluatedProperties\":false},\"tree\":{\"$id\":\"https://example.com/tree\",\"$dynamicAnchor\":\"node\",\"type\":\"object\",\"properties\":{\"data\":true,\"children\":{\"type\":\"array\",\"items\":{\"$dynamicRef\":\"#node\"}}}}}}",
-            [
-                Reference {
-                    from: 1,
-                    seen: 1,
-                    to: 3,
-                },
-                Reference {
-                    from: 5,
-                    seen: 1,
-                    to: 1,
-                },
-                Reference {
-                    from: 5,
-                    seen: 3,
-                    to: 3,
-                },
-            ],
             1,
-            6,
-            "{\"children\":[{\"daat\":1}]}",
-            Some(false),
+            [
+                (4, "3", Some(true)),
+                (4, "4", Some(false)),
+                (4, "null", Some(false)),
+            ],
+        ),
+        (
+            "{\"$ref\":\"#q\",\"$defs\":{\"x\":{\"$anchor\":\"q\",\"const\":1}}}",
+            1,
+            [
+                (4, "1", Some(true)),
+                (4, "2", Some(false)),
+                (4, "null", Some(false)),
+            ],
+        ),
+        (
+            "{\"$dynamicRef\":\"y#/$defs/x\",\"$defs\":{\"o\":{\"$dynamicAnchor\":\"n\",\"const\":2},\"y\":{\"$id\":\"y\",\"$defs\":{\"x\":{\"$dynamicAnchor\":\"n\",\"const\":1}}}}}",
+            3,
+            [
+                (4, "1", Some(true)),
+                (4, "2", Some(false)),
+                (4, "null", Some(false)),
+            ],
         ),
         (
             "{\"$ref\":\"#\"}",
-            [
-                Reference {
-                    from: 0,
-                    seen: 0,
-                    to: 0,
-                },
-                Reference {
-                    from: 0,
-                    seen: 0,
-                    to: 0,
-                },
-                Reference {
-                    from: 0,
-                    seen: 0,
-                    to: 0,
-                },
-            ],
             0,
-            8,
-            "0",
-            None,
-        ),
-        (
-            "{\"items\":{\"allOf\":[{\"$ref\":\"#\"}]}}",
-            [
-                Reference {
-                    from: 2,
-                    seen: 2,
-                    to: 0,
-                },
-                Reference {
-                    from: 2,
-                    seen: 2,
-                    to: 0,
-                },
-                Reference {
-                    from: 2,
-                    seen: 2,
-                    to: 0,
-                },
-            ],
-            0,
-            4,
-            "[[]]",
-            Some(true),
-        ),
-        (
-            "{\"items\":{\"allOf\":[{\"$ref\":\"#\"}]}}",
-            [
-                Reference {
-                    from: 2,
-                    seen: 2,
-                    to: 0,
-                },
-                Reference {
-                    from: 2,
-                    seen: 2,
-                    to: 0,
-                },
-                Reference {
-                    from: 2,
-                    seen: 2,
-                    to: 0,
-                },
-            ],
-            0,
-            3,
-            "[[]]",
-            None,
+            [(0, "0", None), (1, "0", None), (8, "0", None)],
         ),
     ];
-    for (schema, references, entry, n, instance, known) in rows {
-        let verdict = verdict(rt.alloc(), schema, &references, entry, n, instance);
-        assert!(rt; verdict == Ok(known), "{schema} on {instance}");
+    for (schema, to, rows) in places {
+        let told = are_known(rt.alloc(), schema, &[leads(0, to)], 0, &rows);
+        assert!(rt; told == Ok(true), "{schema}");
+    }
+}
+
+#[test]
+fn nested_arrays(rt: HostRuntime) {
+    let rows = [(4, "[[]]", Some(true)), (3, "[[]]", None)];
+    let schema = "{\"items\":{\"allOf\":[{\"$ref\":\"#\"}]}}";
+    assert!(rt; are_known(rt.alloc(), schema, &[leads(2, 0)], 0, &rows) == Ok(true));
+}
+
+// The strict tree, at place 1, and the tree, at place 3, whose children are at place 5.
+const TREES: &str =
+    "{\"$defs\":{\"strict\":{\"$id\":\"https://example.com/strict-tree\",\"$dynamicAnchor\":\"node\",\"$ref\":\"tree\",\"unevaluatedProperties\":false},\"tree\":{\"$id\":\"https://example.com/tree\",\"$dynamicAnchor\":\"node\",\"type\":\"object\",\"properties\":{\"data\":true,\"children\":{\"type\":\"array\",\"items\":{\"$dynamicRef\":\"#node\"}}}}}}";
+
+#[test]
+fn strict_tree(rt: HostRuntime) {
+    let references = [
+        leads(1, 3),
+        Reference {
+            from: 5,
+            seen: 1,
+            to: 1,
+        },
+        Reference {
+            from: 5,
+            seen: 3,
+            to: 3,
+        },
+    ];
+    for (entry, known) in [(3, true), (1, false)] {
+        let rows = [(6, "{\"children\":[{\"daat\":1}]}", Some(known))];
+        let told = are_known(rt.alloc(), TREES, &references, entry, &rows);
+        assert!(rt; told == Ok(true), "from {entry}");
     }
 }
 

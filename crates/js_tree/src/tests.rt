@@ -5,6 +5,7 @@ mod forms;
 mod hand_made;
 mod large;
 mod parts;
+mod worked_examples;
 
 use super::*;
 use js_doc::{Text, text};

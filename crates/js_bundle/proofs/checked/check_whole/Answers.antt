@@ -3,7 +3,7 @@ use Rattle.std.proofs.lemmas.Result.{err_from_is_err_and}
 use Rattle.js_bundle.specs.Built.{numbered, assertions_at, patterns_at}
 use Rattle.js_bundle.specs.Finding.{dynamic_at, number_of_target, pairs_of}
 use Rattle.js_bundle.specs.Resource.{sites}
-use Rattle.js_bundle.specs.Scan.{site_of, scanned}
+use Rattle.js_bundle.specs.Scan.{site_of}
 use Rattle.js_bundle.specs.Seen.{document_of}
 use Rattle.js_bundle.specs.Spot.{spot}
 use Rattle.js_bundle.proofs.Whole.{lists_all, first_stops, second_stops, whole_clear}

@@ -1,4 +1,4 @@
-use Rattle.std.proofs.Common.{◌≡◌, ◌++◌, [], ◌∷◌, map, length, string_bytes, subst}
+use Rattle.std.proofs.Common.{◌≡◌, ◌++◌, map, length, string_bytes, subst}
 use Rattle.std.specs.List.{flat_map}
 use Rattle.std.proofs.lemmas.Result.{err_from_is_err_and}
 use Rattle.js_doc.specs.Seen.{pair_of, value_of}

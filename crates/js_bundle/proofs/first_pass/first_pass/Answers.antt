@@ -1,4 +1,4 @@
-use Rattle.std.proofs.Common.{◌≡◌, ◌+◌, ◌++◌, [], map, take, drop, arith}
+use Rattle.std.proofs.Common.{◌+◌, [], map, take, drop, arith}
 use Rattle.std.proofs.lemmas.Result.{err_from_is_err_and}
 use Rattle.js_bundle.specs.Built.{numbered, assertions_at, patterns_at}
 use Rattle.js_bundle.specs.Refusals.{at_site, first_pass}

@@ -1,24 +1,35 @@
-use Rattle.std.proofs.Common.{◌≡◌, true, map, Some, None, ap, ◌∙◌}
+use Rattle.std.proofs.Common.{map, Some, None, if◌then◌else◌, ap, ◌∙◌}
 use Rattle.std.specs.List.{position_from}
 use Rattle.js_bundle.specs.Place.{holding}
 use Rattle.js_bundle.specs.Schemas.{fits, step_of}
 use Rattle.js_bundle.specs.Seen.{document_of}
 use Rattle.js_bundle.specs.Spot.{spot_of, stands_below}
-use Rattle.js_bundle.proofs.Finds.{finds_below}
+use Rattle.js_bundle.proofs.Finds.{finds_held}
+use Rattle.js_bundle.proofs.Held.{held_found}
 use Rattle.js_bundle.proofs.schemas.Schemas.below.Goals as goal
 
-pub returns-in-Some : goal.returns-in-Some
-returns-in-Some c =
+pub returns-in-Some-clause-found : goal.returns-in-Some-clause-found
+returns-in-Some-clause-found c =
     let k = c.args.keyword.now in
     let s = step_of c.args.step in
-    let fit : fits (holding k) s ≡ true = cc in
-    finds_below (map document_of c.self.inside.documents.items) c.args.self.now c.self.inside.kept.spots.items c.args.place c.spot.result.now k s (Some c.in-Some.number) c.self.view_is
-    c.self.invariant.spots c.spot.ensures fit (c.in-Some.ensures ∙ ap (λ l. position_from (stands_below (spot_of c.spot.result.now) k s) 0 (map spot_of l)) c.as_slice.ensures.value)
+    finds_held (map document_of c.self.inside.documents.items) c.args.self.now c.self.inside.kept.spots.items c.args.place c.spot.result.now k s (Some c.in-Some.number) c.self.view_is
+    c.self.invariant.spots c.spot.ensures
+    (c.in-Some.ensures ∙ ap (λ l. if fits (holding k) s then position_from (stands_below (spot_of c.spot.result.now) k s) 0 (map spot_of l) else None) c.as_slice.ensures.value)
 
-pub returns-in-None : goal.returns-in-None
-returns-in-None c =
+pub returns-in-None-clause-found : goal.returns-in-None-clause-found
+returns-in-None-clause-found c =
     let k = c.args.keyword.now in
     let s = step_of c.args.step in
-    let fit : fits (holding k) s ≡ true = cc in
-    finds_below (map document_of c.self.inside.documents.items) c.args.self.now c.self.inside.kept.spots.items c.args.place c.spot.result.now k s None c.self.view_is
-    c.self.invariant.spots c.spot.ensures fit (c.in-None.ensures ∙ ap (λ l. position_from (stands_below (spot_of c.spot.result.now) k s) 0 (map spot_of l)) c.as_slice.ensures.value)
+    finds_held (map document_of c.self.inside.documents.items) c.args.self.now c.self.inside.kept.spots.items c.args.place c.spot.result.now k s None c.self.view_is
+    c.self.invariant.spots c.spot.ensures
+    (c.in-None.ensures ∙ ap (λ l. if fits (holding k) s then position_from (stands_below (spot_of c.spot.result.now) k s) 0 (map spot_of l) else None) c.as_slice.ensures.value)
+
+pub returns-in-Some-clause-held : goal.returns-in-Some-clause-held
+returns-in-Some-clause-held c =
+    held_found (map document_of c.self.inside.documents.items) c.args.self.now c.self.view_is c.self.invariant.read c.args.place c.args.keyword.now (step_of c.args.step) (Some c.in-Some.number)
+    (returns-in-Some-clause-found c)
+
+pub returns-in-None-clause-held : goal.returns-in-None-clause-held
+returns-in-None-clause-held c =
+    held_found (map document_of c.self.inside.documents.items) c.args.self.now c.self.view_is c.self.invariant.read c.args.place c.args.keyword.now (step_of c.args.step) None
+    (returns-in-None-clause-found c)

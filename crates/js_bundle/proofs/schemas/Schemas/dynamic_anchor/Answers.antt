@@ -1,4 +1,4 @@
-use Rattle.std.proofs.Common.{◌≡◌, ◌&&◌, ◌≤◌, Bool, Some, None, map, length, codes, refl, sym, ◌∙◌, arith}
+use Rattle.std.proofs.Common.{◌&&◌, ◌≤◌, Bool, Some, None, map, length, codes, refl, sym, ◌∙◌, arith}
 use Rattle.js_bundle.specs.Names.{belongs_to, makes}
 use Rattle.js_bundle.specs.Resource.{Site, sites}
 use Rattle.js_bundle.specs.Schemas.{place_at}

@@ -1,6 +1,5 @@
-use Rattle.std.proofs.Common.{◌≡◌, ◌<◌, length, map, sym, ◌∙◌, subst}
+use Rattle.std.proofs.Common.{◌<◌, sym, ◌∙◌, subst}
 use Rattle.js_bundle.specs.Schemas.{place_at}
-use Rattle.js_bundle.specs.Seen.{document_of}
 use Rattle.js_bundle.specs.Spot.{spot_of}
 use Rattle.js_bundle.proofs.Schema.{schema_there, at_index, some_there}
 use Rattle.js_bundle.proofs.schemas.Schemas.schema.Goals as goal

@@ -1,4 +1,4 @@
-use Rattle.std.proofs.Common.{ℕ, ◌+◌, ◌*◌}
+use Rattle.std.proofs.Common.{◌+◌, ◌*◌}
 use Rattle.js_eval.proofs.table.Table.+adding.Given as goal
 
 abbrev pub decreases-add : goal.decreases-add

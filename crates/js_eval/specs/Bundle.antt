@@ -1,0 +1,24 @@
+-- The set of schemas that documents make: its places are those of the documents, and what it answers of them are
+-- js_bundle's definitions. In documents that aren't refused nothing has to stand in for a place that isn't found.
+use Rattle.std.specs.Prelude.{List, [], ◌∷◌, Option, Some, None, unwrap_or, option_to_list}
+use Rattle.js_bundle.specs.Document.{Documents}
+use Rattle.js_bundle.specs.Location.{absolute}
+use Rattle.js_bundle.specs.Resource.{Site, sites}
+use Rattle.js_bundle.specs.Schemas as bundle
+use Rattle.js_bundle.specs.Target.{target, dynamic_target}
+use Rattle.js_eval.specs.Schemas.{Schemas, Step, Alone, Index, Name}
+
+abbrev pub step_through : Step → bundle.Step
+step_through Alone = bundle.Alone
+step_through (Index i) = bundle.Index i
+step_through (Name name) = bundle.Name name
+
+abbrev pub schemas_of : Documents → Schemas Site
+schemas_of documents =
+  record {
+    schema = λ place. place.schema;
+    below = λ place keyword step. unwrap_or (bundle.below documents place keyword (step_through step)) place;
+    target = λ place. unwrap_or (target (sites documents) place) place;
+    dynamic_target = λ path place. unwrap_or (dynamic_target (sites documents) path place) place;
+    absolute = λ place keyword. absolute place (option_to_list keyword);
+  }
