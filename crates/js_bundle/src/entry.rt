@@ -1,10 +1,10 @@
 //! Entries: the URI of the schema with which a judgement begins.
-ghost use Rattle.std.specs.Prelude.{◌≡◌, ◌≤◌, None, OnOk, IfOk, IfErr, length};
+ghost use Rattle.std.specs.Prelude.{◌≡◌, ◌≤◌, true, None, OnOk, IfOk, IfErr, length};
 ghost use Rattle.url.specs.Parser.{parse_url};
-ghost use Rattle.js_bundle.specs.Names.{named};
+ghost use Rattle.js_bundle.specs.Names.{is_read, named};
 ghost use Rattle.js_bundle.specs.Resource.{sites};
-ghost use Rattle.js_bundle.specs.Schemas.{entry, StandsFor, IsEntryFault, IsNameFault};
-ghost use Rattle.js_bundle.specs.Url.{longest_uri};
+ghost use Rattle.js_bundle.specs.Schemas.{entry, StandsFor, IsEntryFault, IsNameFault, IsReadEntry};
+ghost use Rattle.js_bundle.specs.Url.{fragment, longest_uri};
 
 use crate::names::{NameFault, place_named};
 use crate::place::Place;
@@ -24,6 +24,7 @@ impl Schemas {
     pub fn entry(&self, alloc: Global, uri: &str) -> Result<Place, EntryFault>
         ensures ok { IfOk result (λ p. StandsFor self.now p (entry self.now (parse_url None uri.now))) }
         ensures short { OnOk result (length uri.now ≤ longest_uri) }
+        ensures read { OnOk result (IsReadEntry (parse_url None uri.now)) }
         ensures err { IfErr result (IsEntryFault self.now uri.now) }
     {
         if LONGEST < uri.len() {
@@ -40,6 +41,7 @@ impl Schemas {
     // The place that a URL names. The documents are scanned anew: an entry is looked for once a run.
     fn place_of(&self, alloc: Global, url: Url) -> Result<Place, EntryFault>
         ensures ok { IfOk result (λ p. StandsFor self.now p (named (sites self.now) url)) }
+        ensures read { OnOk result (is_read (fragment url) ≡ true) }
         ensures err { IfErr result (IsNameFault self.now url) }
     {
         let sites = scan(alloc, self.documents.as_slice())?;

@@ -2,13 +2,14 @@
 use Rattle.std.proofs.Common.{◌≡◌, ℕ, ◌<◌, ◌≤◌, List, [], ◌∷◌, ◌++◌, length, Option, Some, None, Result, Ok, Err, Bool, MatchBool, inl, refl, sym, ap, ◌∙◌, subst, arith, length-append}
 use Rattle.std.proofs.lemmas.Bool.{lt-ltb, le-ltb}
 use Rattle.std.specs.Io.KnownBytes.{Consumes, IsAtEnd}
-use Rattle.js_doc.specs.Value.{Value}
+use Rattle.js_bundle.specs.Resource.{Site}
+use Rattle.js_output.specs.Documents.{Documents, bundle_of}
+use Rattle.js_output.specs.Entry.{place_named}
 use Rattle.js_output.specs.Cause.{cause, IsClear, IsFirst, Concludes, OrMemory, FailsBy}
 use Rattle.js_output.specs.Device.{input_limit, IsLeft}
 use Rattle.js_output.specs.Input.{IsInputFault}
 use Rattle.js_output.specs.Reading.{reading}
-use Rattle.js_output.specs.Schema.{accepts}
-use Rattle.js_output.specs.Outcome.{Documents, early_causes, instance_causes, instance_text_causes, schema_of, value_or_null, VerdictOn, Outcome, Answers, IsEarlyOrMemory, IsReadOrEarly, OutcomeOfTexts, PairOutcome, first_line_feed, text_before, text_after}
+use Rattle.js_output.specs.Outcome.{beginning_causes, early_causes, instance_causes, instance_text_causes, walk_causes, verdict, value_or_null, TextVerdict, InstanceVerdict, Outcome, Answers, IsEarlyOrMemory, IsReadOrEarly, OutcomeOfTexts, PairOutcome, first_line_feed, text_before, text_after}
 use Rattle.js_output.specs.declared.fault.Fault.{Fault}
 use Rattle.js_output.specs.declared.fault.Fault.TheVariants as fault
 use Rattle.js_output.specs.declared.format.Format.{Format}
@@ -38,27 +39,26 @@ more_left (Some xs) (Some ys) taken more h = (xs, refl, omega (arith, ap length 
 -- ---- the verdict on the instance's bytes
 
 -- an input above the limit
-pub on_large : (schema : Value) (bytes : List ℕ) → input_limit < length bytes → VerdictOn schema bytes (Err fault.InputTooLarge)
-on_large schema bytes more =
+pub on_large : (format : Format) (entry : Option Site) (bytes : List ℕ) → input_limit < length bytes → InstanceVerdict format entry bytes (Err fault.InputTooLarge)
+on_large format entry bytes more =
     let e = lt-ltb input_limit (length bytes) more in
-    subst (λ t. IsFirst (cause t fault.InputTooLarge ++ instance_text_causes (reading bytes)) fault.InputTooLarge) (sym e) (inl refl)
+    subst (λ t. IsFirst ((cause t fault.InputTooLarge ++ instance_text_causes (reading bytes)) ++ walk_causes format entry) fault.InputTooLarge) (sym e) (inl refl)
 
 -- within the limit the text alone decides
-pub on_small : (schema : Value) (bytes : List ℕ) (answer : Result Bool Fault) → length bytes ≤ input_limit
-    → Concludes (instance_text_causes (reading bytes)) (accepts schema (value_or_null (reading bytes))) answer → VerdictOn schema bytes answer
-on_small schema bytes answer few h =
+pub on_small : (format : Format) (entry : Option Site) (bytes : List ℕ) (answer : Result Bool Fault) → length bytes ≤ input_limit
+    → TextVerdict format entry bytes answer → InstanceVerdict format entry bytes answer
+on_small format entry bytes answer few h =
     let e = le-ltb input_limit (length bytes) few in
-    subst (λ t. Concludes (cause t fault.InputTooLarge ++ instance_text_causes (reading bytes)) (accepts schema (value_or_null (reading bytes))) answer) (sym e) h
+    subst (λ t. Concludes ((cause t fault.InputTooLarge ++ instance_text_causes (reading bytes)) ++ walk_causes format entry) (verdict entry (value_or_null (reading bytes))) answer) (sym e) h
 
 -- an input was read whole
-pub answers-small : (schema : Value) (left : Option (List ℕ)) (bytes : List ℕ) (answer : Result Bool Fault) → IsLeft left bytes → length bytes ≤ input_limit
-    → OrMemory (Concludes (instance_text_causes (reading bytes)) (accepts schema (value_or_null (reading bytes)))) answer
-    → Answers (VerdictOn schema) [] left answer
-answers-small schema left bytes (Ok valid) is few h = (bytes, is, on_small schema bytes (Ok valid) few h)
-answers-small schema left bytes (Err fault.Memory) is few h = tt
-answers-small schema left bytes (Err fault.Read) is few h = absurd h
-answers-small schema left bytes (Err fault.Write) is few h = absurd h
-answers-small schema left bytes (Err f) is few h = (bytes, is, on_small schema bytes (Err f) few h)
+pub answers-small : (format : Format) (entry : Option Site) (left : Option (List ℕ)) (bytes : List ℕ) (answer : Result Bool Fault) → IsLeft left bytes → length bytes ≤ input_limit
+    → OrMemory (TextVerdict format entry bytes) answer → Answers (InstanceVerdict format entry) [] left answer
+answers-small format entry left bytes (Ok valid) is few h = (bytes, is, on_small format entry bytes (Ok valid) few h)
+answers-small format entry left bytes (Err fault.Memory) is few h = tt
+answers-small format entry left bytes (Err fault.Read) is few h = absurd h
+answers-small format entry left bytes (Err fault.Write) is few h = absurd h
+answers-small format entry left bytes (Err f) is few h = (bytes, is, on_small format entry bytes (Err f) few h)
 
 -- an input isn't read whole
 pub answers-input : (Expected : List ℕ → Result Bool Fault → Type 0) (old new : Option (List ℕ)) (e : Fault)
@@ -73,29 +73,31 @@ answers-input Expected old new _ over h large = absurd h
 -- ---- a run
 
 -- before the instance is read
-pub answers-early : (docs : Documents) (entry : List ℕ) (format : Format) (left : Option (List ℕ)) (e : Fault)
-    → FailsBy (early_causes docs entry format) e → Answers (Outcome docs entry format) (early_causes docs entry format) left (Err e)
-answers-early docs entry format left fault.Memory h = tt
-answers-early docs entry format left fault.Read h = absurd h
-answers-early docs entry format left fault.Write h = absurd h
-answers-early docs entry format left f h =
-    let (bytes, is) = some_left left in (bytes, is, first-append (early_causes docs entry format) (instance_causes bytes) f h)
+pub answers-early : (docs : Documents) (uri : List ℕ) (format : Format) (left : Option (List ℕ)) (e : Fault)
+    → FailsBy (beginning_causes docs uri) e → Answers (Outcome docs uri format) (early_causes docs uri format) left (Err e)
+answers-early docs uri format left fault.Memory h = tt
+answers-early docs uri format left fault.Read h = absurd h
+answers-early docs uri format left fault.Write h = absurd h
+answers-early docs uri format left f h =
+    let (bytes, is) = some_left left in
+    (bytes, is, first-append (early_causes docs uri format) (instance_causes bytes ++ walk_causes format (place_named (bundle_of docs) uri)) f h)
 
-outcome-late : (docs : Documents) (entry : List ℕ) (format : Format) (schema : Value) (bytes : List ℕ) (answer : Result Bool Fault)
-    → IsClear (early_causes docs entry format) → schema_of docs ≡ schema → VerdictOn schema bytes answer → Outcome docs entry format bytes answer
-outcome-late docs entry format schema bytes answer clear e h =
-    concludes-later (early_causes docs entry format) (instance_causes bytes) (accepts (schema_of docs) (value_or_null (reading bytes))) answer clear
-    (subst (λ v. VerdictOn v bytes answer) (sym e) h)
+outcome-late : (docs : Documents) (uri : List ℕ) (format : Format) (entry : Option Site) (bytes : List ℕ) (answer : Result Bool Fault)
+    → IsClear (beginning_causes docs uri) → entry ≡ place_named (bundle_of docs) uri → InstanceVerdict format entry bytes answer → Outcome docs uri format bytes answer
+outcome-late docs uri format entry bytes answer clear e h =
+    let begins = place_named (bundle_of docs) uri in
+    concludes-later (early_causes docs uri format) (instance_causes bytes ++ walk_causes format begins) (verdict begins (value_or_null (reading bytes))) answer clear
+    (subst (λ p. InstanceVerdict format p bytes answer) e h)
 
--- what comes of a checked schema is the outcome
-pub answers-late : (docs : Documents) (entry : List ℕ) (format : Format) (schema : Value) (left : Option (List ℕ)) (answer : Result Bool Fault)
-    → IsClear (early_causes docs entry format) → schema_of docs ≡ schema → Answers (VerdictOn schema) [] left answer
-    → Answers (Outcome docs entry format) (early_causes docs entry format) left answer
-answers-late docs entry format schema left (Err fault.Memory) clear e h = tt
-answers-late docs entry format schema left (Err fault.Read) clear e h = clear
-answers-late docs entry format schema left (Err fault.Write) clear e h = tt
-answers-late docs entry format schema left (Ok valid) clear e (bytes, is, h) = (bytes, is, outcome-late docs entry format schema bytes (Ok valid) clear e h)
-answers-late docs entry format schema left (Err f) clear e (bytes, is, h) = (bytes, is, outcome-late docs entry format schema bytes (Err f) clear e h)
+-- what comes of the entry is the outcome
+pub answers-late : (docs : Documents) (uri : List ℕ) (format : Format) (entry : Option Site) (left : Option (List ℕ)) (answer : Result Bool Fault)
+    → IsClear (beginning_causes docs uri) → entry ≡ place_named (bundle_of docs) uri → Answers (InstanceVerdict format entry) [] left answer
+    → Answers (Outcome docs uri format) (early_causes docs uri format) left answer
+answers-late docs uri format entry left (Err fault.Memory) clear e h = tt
+answers-late docs uri format entry left (Err fault.Read) clear e h = clear
+answers-late docs uri format entry left (Err fault.Write) clear e h = tt
+answers-late docs uri format entry left (Ok valid) clear e (bytes, is, h) = (bytes, is, outcome-late docs uri format entry bytes (Ok valid) clear e h)
+answers-late docs uri format entry left (Err f) clear e (bytes, is, h) = (bytes, is, outcome-late docs uri format entry bytes (Err f) clear e h)
 
 pub early-read_or_early : (e : Fault) → IsEarlyOrMemory e → IsReadOrEarly (Err e)
 early-read_or_early fault.Memory h = tt
@@ -104,24 +106,24 @@ early-read_or_early f h = h
 
 -- ---- a pair
 
-pub texts-early : (docs : Documents) (entry : List ℕ) (format : Format) (instance : List ℕ) (e : Fault)
-    → FailsBy (early_causes docs entry format) e → OrMemory (Outcome docs entry format instance) (Err e)
-texts-early docs entry format instance fault.Memory h = tt
-texts-early docs entry format instance fault.Read h = absurd h
-texts-early docs entry format instance fault.Write h = absurd h
-texts-early docs entry format instance f h = first-append (early_causes docs entry format) (instance_causes instance) f h
+pub texts-early : (docs : Documents) (uri : List ℕ) (format : Format) (instance : List ℕ) (e : Fault)
+    → FailsBy (beginning_causes docs uri) e → OrMemory (Outcome docs uri format instance) (Err e)
+texts-early docs uri format instance fault.Memory h = tt
+texts-early docs uri format instance fault.Read h = absurd h
+texts-early docs uri format instance fault.Write h = absurd h
+texts-early docs uri format instance f h =
+    first-append (early_causes docs uri format) (instance_causes instance ++ walk_causes format (place_named (bundle_of docs) uri)) f h
 
-pub texts-late : (docs : Documents) (entry : List ℕ) (format : Format) (schema : Value) (instance : List ℕ) (answer : Result Bool Fault)
-    → IsClear (early_causes docs entry format) → schema_of docs ≡ schema → length instance ≤ input_limit
-    → OrMemory (Concludes (instance_text_causes (reading instance)) (accepts schema (value_or_null (reading instance)))) answer
-    → OrMemory (Outcome docs entry format instance) answer
-texts-late docs entry format schema instance (Ok valid) clear is few h =
-    outcome-late docs entry format schema instance (Ok valid) clear is (on_small schema instance (Ok valid) few h)
-texts-late docs entry format schema instance (Err fault.Memory) clear is few h = tt
-texts-late docs entry format schema instance (Err fault.Read) clear is few h = absurd h
-texts-late docs entry format schema instance (Err fault.Write) clear is few h = absurd h
-texts-late docs entry format schema instance (Err f) clear is few h =
-    outcome-late docs entry format schema instance (Err f) clear is (on_small schema instance (Err f) few h)
+pub texts-late : (docs : Documents) (uri : List ℕ) (format : Format) (entry : Option Site) (instance : List ℕ) (answer : Result Bool Fault)
+    → IsClear (beginning_causes docs uri) → entry ≡ place_named (bundle_of docs) uri → length instance ≤ input_limit
+    → OrMemory (TextVerdict format entry instance) answer → OrMemory (Outcome docs uri format instance) answer
+texts-late docs uri format entry instance (Ok valid) clear is few h =
+    outcome-late docs uri format entry instance (Ok valid) clear is (on_small format entry instance (Ok valid) few h)
+texts-late docs uri format entry instance (Err fault.Memory) clear is few h = tt
+texts-late docs uri format entry instance (Err fault.Read) clear is few h = absurd h
+texts-late docs uri format entry instance (Err fault.Write) clear is few h = absurd h
+texts-late docs uri format entry instance (Err f) clear is few h =
+    outcome-late docs uri format entry instance (Err f) clear is (on_small format entry instance (Err f) few h)
 
 pub pair-over : (bytes : List ℕ) → input_limit < length bytes → PairOutcome bytes (Err fault.InputTooLarge)
 pair-over bytes more =

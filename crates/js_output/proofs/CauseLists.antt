@@ -1,6 +1,6 @@
 -- Lists of causes: one part after another.
-use Rattle.std.proofs.Common.{[], ◌∷◌, ◌++◌, Result, Ok, Err, Bool, inl, inr}
-use Rattle.js_output.specs.Cause.{Causes, IsClear, IsFirst, Concludes, FailsBy, Leads}
+use Rattle.std.proofs.Common.{◌≡◌, [], ◌∷◌, ◌++◌, Result, Ok, Err, Bool, true, false, inl, inr, refl, sym, subst}
+use Rattle.js_output.specs.Cause.{Causes, cause, IsClear, IsFirst, Concludes, FailsBy, Leads}
 use Rattle.js_output.specs.declared.fault.Fault.{Fault}
 use Rattle.js_output.specs.declared.fault.Fault.TheVariants as fault
 
@@ -46,3 +46,14 @@ leads_stop whole xs rest fault.Memory l h = tt
 leads_stop whole xs rest fault.Read l h = absurd h
 leads_stop whole xs rest fault.Write l h = absurd h
 leads_stop whole xs rest f l h = l.first f (first-append xs rest f h)
+
+-- ---- one cause, and those after it
+
+pub clear_past : (b : Bool) (f : Fault) (rest : Causes) → b ≡ false → IsClear rest → IsClear (cause b f ++ rest)
+clear_past b f rest e h = subst (λ t. IsClear (cause t f ++ rest)) (sym e) h
+
+pub first_here : (b : Bool) (f : Fault) (rest : Causes) → b ≡ true → IsFirst (cause b f ++ rest) f
+first_here b f rest e = subst (λ t. IsFirst (cause t f ++ rest) f) (sym e) (inl refl)
+
+pub first_past : (b : Bool) (f : Fault) (rest : Causes) (g : Fault) → b ≡ false → IsFirst rest g → IsFirst (cause b f ++ rest) g
+first_past b f rest g e h = subst (λ t. IsFirst (cause t f ++ rest) g) (sym e) h

@@ -1,4 +1,4 @@
 pub mod CauseLists
-pub mod Keywords
-pub mod Early
+pub mod Handed
+pub mod Sites
 pub mod Answering

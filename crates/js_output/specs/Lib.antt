@@ -2,7 +2,9 @@ pub mod Device
 pub mod Input
 pub mod Line
 pub mod Reading
-pub mod Schema
 pub mod Cause
+pub mod Documents
+pub mod Entry
+pub mod Schema
 pub mod Outcome
-pub mod Checked
+pub mod Places

@@ -6,10 +6,10 @@ use Rattle.js_doc.specs.declared.reading.ReadFault.{ReadFault}
 use Rattle.js_doc.specs.declared.reading.ReadFault.TheVariants as read
 use Rattle.js_output.specs.declared.fault.Fault.{Fault}
 use Rattle.js_output.specs.declared.fault.Fault.TheVariants as fault
-use Rattle.js_output.specs.declared.fault.RefusalKind.{RefusalKind}
-use Rattle.js_output.specs.declared.fault.RefusalKind.TheVariants as kind
-use Rattle.js_output.specs.declared.fault.EntryFault.{EntryFault}
-use Rattle.js_output.specs.declared.fault.EntryFault.TheVariants as entry
+use Rattle.js_bundle.specs.declared.refusal.RefusalKind.{RefusalKind}
+use Rattle.js_bundle.specs.declared.refusal.RefusalKind.TheVariants as kind
+use Rattle.js_bundle.specs.declared.refusal.EntryFault.{EntryFault}
+use Rattle.js_bundle.specs.declared.refusal.EntryFault.TheVariants as entry
 use Rattle.js_output.specs.declared.fault.SuiteFault.{SuiteFault}
 use Rattle.js_output.specs.declared.fault.SuiteFault.TheVariants as suite
 
@@ -32,12 +32,6 @@ kind_name kind.DuplicateAnchor = codes "DuplicateAnchor"
 kind_name kind.TooManyPlaces = codes "TooManyPlaces"
 kind_name kind.BadReference = codes "BadReference"
 kind_name kind.Unresolved = codes "Unresolved"
-
-abbrev pub entry_name : EntryFault → List ℕ
-entry_name entry.Memory = codes "Memory"
-entry_name entry.BadUri = codes "BadUri"
-entry_name entry.UriTooLong = codes "UriTooLong"
-entry_name entry.Unresolved = codes "Unresolved"
 
 -- want of memory is told alike, wherever it came
 abbrev pub failed_memory : List ℕ

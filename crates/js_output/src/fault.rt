@@ -1,10 +1,9 @@
 //! Why a run gives no verdict.
-ghost use Rattle.std.specs.Prelude.{◌≡◌, Some};
-ghost use Rattle.js_output.specs.Line.{kind_name, entry_name};
+ghost use Rattle.std.specs.Prelude.{◌≡◌};
 
+use js_bundle::{EntryFault, Refusal, RefusalKind};
 use js_doc::{Memory, Pointer, ReadFault};
 use std::alloc::{AllocError, AllocFailed};
-use std::fmt;
 use thiserror::Error;
 
 /// Why a run gives no verdict. The faults are numbered in this order, from 1.
@@ -22,13 +21,13 @@ pub enum Fault {
     #[error("refused: input: InputTooLarge")]
     InputTooLarge,
     /// A schema document is refused.
-    #[error("refused: document {}: {}", .0.document, .0.kind)]
+    #[error("refused: document {}", .0.document)]
     Refused(Refusal),
     /// The instance's text is refused.
     #[error("refused: instance")]
     Instance(ReadFault),
     /// The entry is refused.
-    #[error("refused: entry: {0}")]
+    #[error("refused: entry")]
     Entry(EntryFault),
     /// The result is nested too deep or has too many nodes.
     #[error("refused: walk: TooLarge")]
@@ -44,70 +43,6 @@ pub enum Fault {
     NotYet,
 }
 
-/// Which document is refused, where in it, and why.
-#[derive(Debug, Drop, PartialEq, Eq)]
-pub struct Refusal {
-    /// The document's number, the first one's 0.
-    pub document: usize,
-    /// Where in the document.
-    pub place: Pointer,
-    pub kind: RefusalKind,
-}
-
-/// Why a schema document is refused. The kinds are numbered in this order, from 1.
-#[derive(Clone, Copy, Debug, Drop, PartialEq, Eq)]
-pub enum RefusalKind {
-    /// A growth was refused.
-    Memory,
-    /// `serde_json` reads no value.
-    NotJson,
-    /// A number isn't a whole one from -2^63 to 2^64 - 1.
-    NotWhole,
-    /// The document's URI is no absolute URL, or has a fragment.
-    BadUri,
-    /// There are 1,000 documents already.
-    TooManyDocuments,
-    /// A URI, an `$id` or a reference has more than 65,536 bytes.
-    UriTooLong,
-    /// A schema is neither an object nor a boolean (Core, section 4.3).
-    NotASchema,
-    /// A keyword's argument hasn't its form.
-    BadKeyword,
-    /// A text is no pattern.
-    BadPattern,
-    /// A pattern is too large.
-    PatternTooLarge,
-    /// An `$id` can't be joined, or has a fragment (Core, section 8.2.1).
-    BadId,
-    /// The name of an `$anchor` or a `$dynamicAnchor` hasn't its form (Core, section 8.2.2).
-    BadAnchor,
-    /// The `$schema` is of another dialect (Core, section 8.1.1).
-    UnknownDialect,
-    /// Two resources have one URI.
-    DuplicateUri,
-    /// Two places of a resource have one name.
-    DuplicateAnchor,
-    /// There are more than 100,000 schemas.
-    TooManyPlaces,
-    /// A reference can't be joined, or its fragment isn't read (Core, section 8.2.3).
-    BadReference,
-    /// A reference names no schema.
-    Unresolved,
-}
-
-/// Why the entry is refused. The faults are numbered in this order, from 1.
-#[derive(Clone, Copy, Debug, Drop, PartialEq, Eq)]
-pub enum EntryFault {
-    /// A growth was refused.
-    Memory,
-    /// It is no absolute URL, or its fragment isn't read.
-    BadUri,
-    /// It has more than 65,536 bytes.
-    UriTooLong,
-    /// It names no schema.
-    Unresolved,
-}
-
 /// Why a suite's text is refused.
 #[derive(Debug, Drop, PartialEq, Eq)]
 pub enum SuiteFault {
@@ -115,46 +50,6 @@ pub enum SuiteFault {
     NotJson,
     /// The first value that is missing or of the wrong kind.
     BadSuite(Pointer),
-}
-
-impl fmt::Display for RefusalKind {
-    ghost output = { λ k. Some (kind_name k) };
-
-    fn fmt<W: fmt::Write>(&self, f: &mut fmt::Formatter<W>) -> fmt::Result {
-        match self {
-            RefusalKind::Memory => f.write_str("Memory"),
-            RefusalKind::NotJson => f.write_str("NotJson"),
-            RefusalKind::NotWhole => f.write_str("NotWhole"),
-            RefusalKind::BadUri => f.write_str("BadUri"),
-            RefusalKind::TooManyDocuments => f.write_str("TooManyDocuments"),
-            RefusalKind::UriTooLong => f.write_str("UriTooLong"),
-            RefusalKind::NotASchema => f.write_str("NotASchema"),
-            RefusalKind::BadKeyword => f.write_str("BadKeyword"),
-            RefusalKind::BadPattern => f.write_str("BadPattern"),
-            RefusalKind::PatternTooLarge => f.write_str("PatternTooLarge"),
-            RefusalKind::BadId => f.write_str("BadId"),
-            RefusalKind::BadAnchor => f.write_str("BadAnchor"),
-            RefusalKind::UnknownDialect => f.write_str("UnknownDialect"),
-            RefusalKind::DuplicateUri => f.write_str("DuplicateUri"),
-            RefusalKind::DuplicateAnchor => f.write_str("DuplicateAnchor"),
-            RefusalKind::TooManyPlaces => f.write_str("TooManyPlaces"),
-            RefusalKind::BadReference => f.write_str("BadReference"),
-            RefusalKind::Unresolved => f.write_str("Unresolved"),
-        }
-    }
-}
-
-impl fmt::Display for EntryFault {
-    ghost output = { λ e. Some (entry_name e) };
-
-    fn fmt<W: fmt::Write>(&self, f: &mut fmt::Formatter<W>) -> fmt::Result {
-        match self {
-            EntryFault::Memory => f.write_str("Memory"),
-            EntryFault::BadUri => f.write_str("BadUri"),
-            EntryFault::UriTooLong => f.write_str("UriTooLong"),
-            EntryFault::Unresolved => f.write_str("Unresolved"),
-        }
-    }
 }
 
 impl From<AllocError> for Fault {
@@ -184,5 +79,31 @@ impl From<Memory> for Fault {
 
     fn from(_refused: Memory) -> Fault {
         Fault::Memory
+    }
+}
+
+impl From<Refusal> for Fault {
+    ghost use Rattle.js_output.specs.Documents.{fault_by};
+
+    ghost from_gives = { λ r e. e ≡ fault_by r.kind r };
+
+    fn from(refusal: Refusal) -> Fault {
+        match refusal.kind {
+            RefusalKind::Memory => Fault::Memory,
+            _ => Fault::Refused(refusal),
+        }
+    }
+}
+
+impl From<EntryFault> for Fault {
+    ghost use Rattle.js_output.specs.Entry.{entry_fault_of};
+
+    ghost from_gives = { λ f e. e ≡ entry_fault_of f };
+
+    fn from(fault: EntryFault) -> Fault {
+        match fault {
+            EntryFault::Memory => Fault::Memory,
+            _ => Fault::Entry(fault),
+        }
     }
 }

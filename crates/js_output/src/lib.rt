@@ -1,24 +1,28 @@
 //! Bytes in, bytes out.
 #![tactic(auto)]
 
+mod documents;
+mod entry;
 mod fault;
 mod format;
 mod input;
+mod judging;
 mod line;
 mod pair;
-mod request;
+mod places;
 mod running;
-mod schema;
 mod sink;
 mod source;
 mod text;
 mod verdict;
 
-pub use fault::{EntryFault, Fault, Refusal, RefusalKind, SuiteFault};
+pub use fault::{Fault, SuiteFault};
 pub use format::Format;
 pub use input::read_all;
+pub use js_bundle::{EntryFault, Refusal, RefusalKind};
 pub use line::refusal_line;
 pub use pair::run_pair;
+pub use places::run_places;
 pub use running::run;
 pub use sink::Sink;
 pub use source::Source;

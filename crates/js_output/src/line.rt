@@ -1,8 +1,9 @@
 //! The line that a fault is told by.
 ghost use Rattle.std.specs.Prelude.{◌≡◌, IfOk, string_bytes};
-ghost use Rattle.js_output.specs.Line.{fault_line, refused_line, refused_at_line, instance_line, entry_line, suite_line, place_text};
+ghost use Rattle.js_output.specs.Line.{fault_line, kind_name, refused_line, refused_at_line, instance_line, entry_line, suite_line, place_text};
 
-use crate::fault::{EntryFault, Fault, Refusal, RefusalKind, SuiteFault};
+use crate::fault::{Fault, SuiteFault};
+use js_bundle::{EntryFault, Refusal, RefusalKind};
 use js_doc::{Doc, Memory, Pointer, ReadFault, Text, text};
 use std::alloc::Global;
 
@@ -49,7 +50,33 @@ fn refused_at(alloc: Global, refusal: &Refusal) -> Result<String, Memory>
         kind,
     } = refusal;
     let place = quoted_place(alloc, place)?;
+    let kind = kind_name(*kind);
     Ok(format!(in alloc; "refused: document {document} at {place}: {kind}")?)
+}
+
+fn kind_name(kind: RefusalKind) -> &'static str
+    ensures { result.now ≡ kind_name kind }
+{
+    match kind {
+        RefusalKind::Memory => "Memory",
+        RefusalKind::NotJson => "NotJson",
+        RefusalKind::NotWhole => "NotWhole",
+        RefusalKind::BadUri => "BadUri",
+        RefusalKind::TooManyDocuments => "TooManyDocuments",
+        RefusalKind::UriTooLong => "UriTooLong",
+        RefusalKind::NotASchema => "NotASchema",
+        RefusalKind::BadKeyword => "BadKeyword",
+        RefusalKind::BadPattern => "BadPattern",
+        RefusalKind::PatternTooLarge => "PatternTooLarge",
+        RefusalKind::BadId => "BadId",
+        RefusalKind::BadAnchor => "BadAnchor",
+        RefusalKind::UnknownDialect => "UnknownDialect",
+        RefusalKind::DuplicateUri => "DuplicateUri",
+        RefusalKind::DuplicateAnchor => "DuplicateAnchor",
+        RefusalKind::TooManyPlaces => "TooManyPlaces",
+        RefusalKind::BadReference => "BadReference",
+        RefusalKind::Unresolved => "Unresolved",
+    }
 }
 
 fn instance(alloc: Global, fault: &ReadFault) -> Result<String, Memory>
@@ -68,10 +95,13 @@ fn instance(alloc: Global, fault: &ReadFault) -> Result<String, Memory>
 fn entry(alloc: Global, fault: EntryFault) -> Result<String, Memory>
     ensures { IfOk result (λ line. string_bytes line ≡ entry_line fault) }
 {
-    match fault {
-        EntryFault::Memory => Ok(String::from_str(alloc, "failed: Memory")?),
-        _ => Ok(format!(in alloc; "refused: entry: {fault}")?),
-    }
+    let line = match fault {
+        EntryFault::Memory => "failed: Memory",
+        EntryFault::BadUri => "refused: entry: BadUri",
+        EntryFault::UriTooLong => "refused: entry: UriTooLong",
+        EntryFault::Unresolved => "refused: entry: Unresolved",
+    };
+    Ok(String::from_str(alloc, line)?)
 }
 
 fn suite(alloc: Global, fault: &SuiteFault) -> Result<String, Memory>

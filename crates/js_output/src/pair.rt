@@ -5,15 +5,18 @@ ghost use Rattle.js_output.specs.Device.{input_limit};
 ghost use Rattle.js_output.specs.Cause.{OrMemory};
 ghost use Rattle.js_output.specs.Outcome.{OutcomeOfTexts, PairOutcome, first_line_feed, text_before, text_after, flag_text, Answers, WritesBeginning};
 
+use crate::entry::entry_of;
 use crate::fault::Fault;
 use crate::format::Format;
 use crate::input::read_all;
-use crate::request::{SERVED_URI, checked_schema};
 use crate::sink::Sink;
 use crate::source::Source;
 use crate::verdict::{flag_text, verdict};
 use std::alloc::Global;
 use std::io::{Read, Write};
+
+/// Where the document of a pair stands.
+const PAIR_URI: &str = "https://a.example/s";
 
 /// Runs a pair in one input: the bytes before the first line feed are the one document, which
 /// stands at `https://a.example/s` and is the entry; the bytes after it are the instance, none
@@ -85,7 +88,7 @@ fn judged_texts(alloc: Global, document: &[u8], instance: &[u8]) -> Result<bool,
     requires { length instance.now ≤ input_limit }
     ensures { OrMemory (OutcomeOfTexts document.now instance.now) result }
 {
-    let docs = [(SERVED_URI, document)];
-    let schema = checked_schema(alloc, &docs, SERVED_URI, Format::Flag)?;
-    verdict(alloc, &schema, instance)
+    let docs = [(PAIR_URI, document)];
+    let entry = entry_of(alloc, &docs, PAIR_URI)?;
+    verdict(alloc, &entry, Format::Flag, instance)
 }

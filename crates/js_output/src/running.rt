@@ -1,16 +1,15 @@
 //! From documents and an instance to the verdict's text.
 ghost use Rattle.std.specs.Prelude.{◌≡◌, ◌≢◌, ◌≤◌, ◌+◌, [], true, false, IfOk, IfErr, OnOk, IsErrOf};
 ghost use Rattle.std.specs.Io.KnownBytes.{Appends};
-ghost use Rattle.js_doc.specs.Value.{Value};
-ghost use Rattle.js_output.specs.Checked.{IsSchema};
+ghost use Rattle.js_bundle.specs.Schemas.{is_place, place_at};
 ghost use Rattle.js_output.specs.Device.{input_limit};
-ghost use Rattle.js_output.specs.Outcome.{early_causes, Outcome, VerdictOn, documents_of, flag_text, Answers, IsEarly, IsReadOrEarly, WritesBeginning};
+ghost use Rattle.js_output.specs.Documents.{documents_of};
+ghost use Rattle.js_output.specs.Outcome.{early_causes, Outcome, InstanceVerdict, flag_text, Answers, IsEarly, IsReadOrEarly, WritesBeginning};
 
+use crate::entry::{Entry, entry_of};
 use crate::fault::Fault;
 use crate::format::Format;
 use crate::input::read_all;
-use crate::request::checked_schema;
-use crate::schema::Schema;
 use crate::sink::Sink;
 use crate::source::Source;
 use crate::verdict::{flag_text, verdict};
@@ -20,16 +19,16 @@ use std::io::{Read, Write};
 /// Whether the schema that the entry names accepts the instance. Writes what the format tells of
 /// it, and a line feed (JSON Schema Core, section 12.4).
 ///
-/// Each document is handed in with its URI; nothing is fetched. In this stage one document at
-/// `https://a.example/s` is served, with that entry and the format flag, and of its keywords the
-/// assertions (JSON Schema Validation, section 6).
+/// Each document is handed in with its URI; nothing is fetched. In this stage the format flag is
+/// served, and an entry whose keywords are assertions (JSON Schema Validation, section 6), beside
+/// those that identify schemas, hold them for reference, or comment.
 ///
 /// # Errors
-/// The first that applies, of: `NotYet` for what isn't served; the refusal of the document's text;
-/// that of its schema, and of its keywords ascending, where one that isn't served is `NotYet`;
-/// `Read` and `InputTooLarge` of the instance's source; the refusal of the instance's text; `Write`.
-/// `Memory` may come at any point before the first write. After `Write` a beginning of the text is
-/// out, and after any other fault nothing is.
+/// The first that applies, of: the refusal of a document, in their order, and the first refusal of
+/// all; that of the entry; `Read` and `InputTooLarge` of the instance's source; the refusal of the
+/// instance's text; `NotYet` for what isn't served; `Write`. `Memory` may come at any point before
+/// the first write. After `Write` a beginning of the text is out, and after any other fault nothing
+/// is.
 pub fn run<R: Read, W: Write>(
     alloc: Global,
     docs: &[(&str, &[u8])],
@@ -84,18 +83,21 @@ fn judged<R: Read>(
     ensures stays { instance.old.failed ≡ true → instance.new ≡ instance.old }
     ensures silent { IfErr result (λ e. e ≢ Fault.Write) }
 {
-    let schema = checked_schema(alloc, docs, entry, format)?;
-    verdict_of(alloc, &schema, instance)
+    let entry = entry_of(alloc, docs, entry)?;
+    verdict_of(alloc, &entry, format, instance)
 }
 
-// Whether a checked schema accepts the instance that the source gives.
+// Whether the schema at the entry accepts the instance that the source gives.
 fn verdict_of<R: Read>(
     alloc: Global,
-    schema: &Schema,
+    entry: &Entry,
+    format: Format,
     instance: &mut Source<R>,
 ) -> Result<bool, Fault>
-    ensures answer { (value : Value) → IsSchema value schema.now
-        → Answers (VerdictOn value) [] (R.remaining instance.old.device) result }
+    requires { is_place entry.now.schemas entry.now.place ≡ true }
+    ensures answer { Answers
+        (InstanceVerdict format (place_at entry.now.schemas entry.now.place)) []
+        (R.remaining instance.old.device) result }
     ensures late { IfErr result (λ e. IsEarly e → ⊥) }
     ensures read { IsErrOf result Fault.Read → instance.new.failed ≡ true }
     ensures failed { instance.new.failed ≡ true → IsReadOrEarly result }
@@ -104,5 +106,5 @@ fn verdict_of<R: Read>(
     ensures silent { IfErr result (λ e. e ≢ Fault.Write) }
 {
     let bytes = read_all(alloc, instance)?;
-    verdict(alloc, schema, bytes.as_slice())
+    verdict(alloc, entry, format, bytes.as_slice())
 }

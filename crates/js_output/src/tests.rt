@@ -1,5 +1,7 @@
 mod devices;
+mod entries;
 mod faults;
+mod places;
 mod running;
 mod verdicts;
 
@@ -9,13 +11,29 @@ use std::test::Fail;
 
 const URI: &str = "https://a.example/s";
 
-/// What a run writes, or the line of its fault.
+/// What a run writes, or the line of its fault, for one document that is the entry.
 fn told(alloc: Global, schema: &str, instance: &[u8]) -> Result<String, Fail> {
-    let docs = [(URI, schema.as_bytes())];
+    told_of(
+        alloc,
+        &[(URI, schema.as_bytes())],
+        URI,
+        Format::Flag,
+        instance,
+    )
+}
+
+/// What a run writes, or the line of its fault.
+fn told_of(
+    alloc: Global,
+    docs: &[(&str, &[u8])],
+    entry: &str,
+    format: Format,
+    instance: &[u8],
+) -> Result<String, Fail> {
     let mut written = Vec::new(alloc);
     let mut out = Sink::new(&mut written);
     let mut source = Source::new(instance);
-    let answer = run(alloc, &docs, URI, &mut source, Format::Flag, &mut out);
+    let answer = run(alloc, docs, entry, &mut source, format, &mut out);
     drop(out);
     match answer {
         Ok(_) => Ok(String::from_utf8(written).map_err(|_| "no text")?),

@@ -1,8 +1,6 @@
 // Which fault comes, and the line of each.
-use crate::tests::{URI, line_of, told};
-use crate::{
-    EntryFault, Fault, Format, Refusal, RefusalKind, Sink, Source, SuiteFault, refusal_line, run,
-};
+use crate::tests::{URI, line_of, told, told_of};
+use crate::{EntryFault, Fault, Format, Refusal, RefusalKind, SuiteFault, refusal_line};
 use js_doc::{Pointer, ReadFault};
 use std::test::Fail;
 
@@ -55,8 +53,35 @@ fn documents_are_refused_before_the_instance_is_read(rt: HostRuntime) -> Result<
             "{\"const\":1,\"type\":{}}",
             "refused: document 0 at \"/type\": BadKeyword",
         ),
-        ("{\"not\":true}", "refused: NotYet"),
-        ("{\"not\":true,\"type\":[]}", "refused: NotYet"),
+        (
+            "{\"not\":true,\"type\":[]}",
+            "refused: document 0 at \"/type\": BadKeyword",
+        ),
+        (
+            "{\"enum\":[{\"$id\":\"https://a.example/x\"}],\"$ref\":\"https://a.example/x\"}",
+            "refused: document 0 at \"/$ref\": Unresolved",
+        ),
+        (
+            "{\"$id\":\"x#y\"}",
+            "refused: document 0 at \"/$id\": BadId",
+        ),
+        (
+            "{\"not\":3,\"type\":[]}",
+            "refused: document 0 at \"/type\": BadKeyword",
+        ),
+        ("{\"not\":3}", "refused: document 0 at \"/not\": NotASchema"),
+        (
+            "{\"$anchor\":\"a\",\"not\":{\"$dynamicAnchor\":\"a\"}}",
+            "refused: document 0 at \"/not/$dynamicAnchor\": DuplicateAnchor",
+        ),
+        (
+            "{\"$schema\":\"x\"}",
+            "refused: document 0 at \"/$schema\": UnknownDialect",
+        ),
+        (
+            "{\"$ref\":\"#/~\"}",
+            "refused: document 0 at \"/$ref\": BadReference",
+        ),
         (
             "{\"pattern\":\"(\"}",
             "refused: document 0 at \"/pattern\": BadPattern",
@@ -81,7 +106,6 @@ fn documents_are_refused_before_the_instance_is_read(rt: HostRuntime) -> Result<
             "{\"maxLength\":-1}",
             "refused: document 0 at \"/maxLength\": BadKeyword",
         ),
-        ("{\"type\":\"null\",\"z\":1}", "refused: NotYet"),
     ] {
         assert_eq!(rt; told(rt.alloc(), schema, b"[")?.as_str(), want, "{schema}");
     }
@@ -89,33 +113,60 @@ fn documents_are_refused_before_the_instance_is_read(rt: HostRuntime) -> Result<
 }
 
 #[test]
-fn what_is_not_served_comes_before_all_else(rt: HostRuntime) -> Result<(), Fail> {
-    let bad = b"{".as_slice();
-    let none: [(&str, &[u8]); 0] = [];
-    let one = [(URI, bad)];
-    let two = [(URI, bad), ("https://a.example/t", bad)];
-    let elsewhere = [("https://a.example/t", bad)];
-    let with_fragment = [("https://a.example/s#", bad)];
-    for (docs, entry, format) in [
-        (none.as_slice(), URI, Format::Flag),
-        (two.as_slice(), URI, Format::Flag),
-        (elsewhere.as_slice(), "https://a.example/t", Format::Flag),
-        (with_fragment.as_slice(), URI, Format::Flag),
-        (one.as_slice(), "https://a.example/s#", Format::Flag),
-        (one.as_slice(), "", Format::Flag),
-        (one.as_slice(), URI, Format::Basic),
-        (one.as_slice(), URI, Format::Detailed),
-        (one.as_slice(), URI, Format::Verbose),
+fn what_is_not_served_comes_after_the_instance(rt: HostRuntime) -> Result<(), Fail> {
+    let not_yet = "refused: NotYet";
+    let not_json = "refused: instance at \"\": NotJson";
+    for (schema, format, instance, want) in [
+        ("{\"properties\":{}}", Format::Flag, "1", not_yet),
+        ("{\"properties\":{}}", Format::Flag, "[1,", not_json),
+        ("{\"not\":true}", Format::Flag, "1", not_yet),
+        ("{\"contains\":true}", Format::Flag, "[]", not_yet),
+        ("{\"title\":\"t\"}", Format::Flag, "1", not_yet),
+        ("{\"type\":\"null\",\"z\":1}", Format::Flag, "null", not_yet),
+        ("{}", Format::Basic, "1", not_yet),
+        ("true", Format::Detailed, "1", not_yet),
+        ("{}", Format::Verbose, "1", not_yet),
+        ("{}", Format::Verbose, "[1,", not_json),
     ] {
-        let mut source = Source::new(b"null".as_slice());
-        let mut out = Sink::new(Vec::new(rt.alloc()));
-        let answer = run(rt.alloc(), docs, entry, &mut source, format, &mut out);
-        assert!(rt;
-            matches!(&answer, Err(Fault::NotYet)),
-            "{entry} as {format:?}"
+        let docs = [(URI, schema.as_bytes())];
+        assert_eq!(rt;
+            told_of(rt.alloc(), &docs, URI, format, instance.as_bytes())?.as_str(),
+            want,
+            "{schema} on {instance}"
         );
-        assert_eq!(rt; source.calls(), 0);
-        assert_eq!(rt; out.calls(), 0);
+    }
+    Ok(())
+}
+
+#[test]
+fn two_documents_have_one_uri(rt: HostRuntime) -> Result<(), Fail> {
+    let text = b"{\"$id\":\"https://a.example/x\"}".as_slice();
+    let docs = [(URI, text), ("https://a.example/t", text)];
+    assert_eq!(rt;
+        told_of(rt.alloc(), &docs, URI, Format::Flag, b"1")?.as_str(),
+        "refused: document 1 at \"/$id\": DuplicateUri"
+    );
+    Ok(())
+}
+
+#[test]
+fn documents_are_refused_in_their_order(rt: HostRuntime) -> Result<(), Fail> {
+    for (uri, first, second, want) in [
+        ("x", "true", "[", "refused: document 0 at \"\": BadUri"),
+        (URI, "3", "[", "refused: document 1 at \"\": NotJson"),
+        (URI, "[", "1.5", "refused: document 0 at \"\": NotJson"),
+        (URI, "3", "4", "refused: document 0 at \"\": NotASchema"),
+        (URI, "true", "4", "refused: document 1 at \"\": NotASchema"),
+    ] {
+        let docs = [
+            (uri, first.as_bytes()),
+            ("https://a.example/t", second.as_bytes()),
+        ];
+        assert_eq!(rt;
+            told_of(rt.alloc(), &docs, "x", Format::Verbose, b"[")?.as_str(),
+            want,
+            "{first} and {second}"
+        );
     }
     Ok(())
 }

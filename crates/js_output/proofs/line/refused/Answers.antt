@@ -1,7 +1,7 @@
 use Rattle.std.proofs.Common.{◌≡◌, false, refl}
 use Rattle.js_output.specs.Line.{wants_memory}
-use Rattle.js_output.specs.declared.fault.RefusalKind.{RefusalKind}
-use Rattle.js_output.specs.declared.fault.RefusalKind.TheVariants as kind
+use Rattle.js_bundle.specs.declared.refusal.RefusalKind.{RefusalKind}
+use Rattle.js_bundle.specs.declared.refusal.RefusalKind.TheVariants as kind
 use Rattle.js_output.proofs.line.refused.Goals as goal
 
 other_kind : (k : RefusalKind) → (k ≡ kind.Memory → ⊥) → wants_memory k ≡ false

@@ -1,0 +1,90 @@
+-- Schema documents that are handed in, each with its URI (JSON Schema Core, section 9.1.1): what they are taken in as, and
+-- what is refused of them, in order.
+use Rattle.std.specs.Prelude.{ℕ, ◌+◌, List, [], ◌∷◌, ◌++◌, length, Option, Some, None, is_none, option_and_then, option_to_list, Result, Ok, Err, not, true, nat_lt, nat_le, map, flat_map, if◌then◌else◌}
+use Rattle.std.proofs.Common.{Bor}
+use Rattle.url.specs.Parts.{Parts}
+use Rattle.url.specs.Parser.{parse_url}
+use Rattle.js_doc.specs.Value.{Value}
+use Rattle.js_doc.specs.declared.reading.ReadFault.{ReadFault}
+use Rattle.js_bundle.specs.declared.refusal.Refusal.{Refusal}
+use Rattle.js_bundle.specs.declared.refusal.RefusalKind.{RefusalKind}
+use Rattle.js_bundle.specs.declared.refusal.RefusalKind.TheVariants as kind
+use Rattle.js_bundle.specs.Adding.{most_documents, refusal_of_read}
+use Rattle.js_bundle.specs.Candidate.{Candidate}
+use Rattle.js_bundle.specs.Document.{Document}
+use Rattle.js_bundle.specs.Document as bundle
+use Rattle.js_bundle.specs.Refusals.{candidates, is_empty}
+use Rattle.js_bundle.specs.Url.{longest_uri, without_fragment, raw_fragment, parsed}
+use Rattle.js_output.specs.Cause.{Cause, Causes, cause}
+use Rattle.js_output.specs.Reading.{reading}
+use Rattle.js_output.specs.declared.fault.Fault.{Fault}
+use Rattle.js_output.specs.declared.fault.Fault.TheVariants as fault
+
+-- documents by their URIs
+abbrev pub Documents : Type 0
+Documents = List (List ℕ × List ℕ)
+
+-- of documents that are lent
+abbrev pub documents_of : List (Bor (List ℕ) × Bor (List ℕ)) → Documents
+documents_of documents = map (λ d. (d.0.now, d.1.now)) documents
+
+-- ---- what they are taken in as
+
+-- the URI without its fragment, which is to be empty
+abbrev pub unfragmented : Parts → Option Parts
+unfragmented uri = if is_empty (raw_fragment uri) then Some (without_fragment uri) else None
+
+-- the URI that a text is, as an absolute one
+abbrev pub document_uri : List ℕ → Option Parts
+document_uri t = option_and_then unfragmented (parsed (parse_url None t))
+
+abbrev pub document_under : Option Parts → Result Value ReadFault → Option Document
+document_under (Some uri) (Ok root) = Some (record { uri = uri; root = root })
+document_under _ _ = None
+
+-- the document that is taken in, where its URI and its text are read
+abbrev pub taken : List ℕ × List ℕ → Option Document
+taken d = document_under (document_uri d.0) (reading d.1)
+
+abbrev pub bundle_of : Documents → bundle.Documents
+bundle_of documents = flat_map (λ d. option_to_list (taken d)) documents
+
+-- ---- what is refused of one beside so many others
+
+abbrev pub refused : ℕ → RefusalKind → Fault
+refused held kind = fault.Refused (record { document = held; place = []; kind = kind })
+
+abbrev pub text_causes : ℕ → Result Value ReadFault → Causes
+text_causes held (Ok v) = []
+text_causes held (Err e) = cause true (fault.Refused (refusal_of_read held e))
+
+abbrev pub document_causes : ℕ → List ℕ × List ℕ → Causes
+document_causes held d =
+    cause (nat_le most_documents held) (refused held kind.TooManyDocuments)
+    ++ (cause (nat_lt longest_uri (length d.0)) (refused held kind.UriTooLong)
+    ++ (cause (is_none (document_uri d.0)) (refused held kind.BadUri)
+    ++ text_causes held (reading d.1)))
+
+-- ---- what is refused of all
+
+-- one after another
+abbrev pub adding_causes : ℕ → Documents → Causes
+adding_causes held [] = []
+adding_causes held (d ∷ ds) = document_causes held d ++ adding_causes (held + 1) ds
+
+-- of them whole: the refusals of a list of documents, of which a given one may be passed over
+abbrev pub cause_of : Candidate → Cause
+cause_of c = record { fault = fault.Refused c.refusal; given = not c.decided }
+
+unfoldable pub bundle_causes : bundle.Documents → Causes
+bundle_causes documents = map cause_of (candidates documents)
+
+abbrev pub documents_causes : Documents → Causes
+documents_causes documents = adding_causes 0 documents ++ bundle_causes (bundle_of documents)
+
+-- ---- words for the parts
+
+-- want of memory is one fault, wherever it came
+abbrev pub fault_by : RefusalKind → Refusal → Fault
+fault_by kind.Memory r = fault.Memory
+fault_by _ r = fault.Refused r

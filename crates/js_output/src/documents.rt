@@ -1,0 +1,46 @@
+//! From the documents that are handed in to finished schemas.
+ghost use Rattle.std.specs.Prelude.{◌≡◌, length, OnOk, IfOk, IfErr};
+ghost use Rattle.js_bundle.specs.Adding.{IsAdded};
+ghost use Rattle.js_output.specs.Cause.{IsClear, FailsBy};
+ghost use Rattle.js_output.specs.Documents.{documents_of, bundle_of, document_causes, bundle_causes, documents_causes};
+ghost use Rattle.js_output.specs.Outcome.{IsEarlyOrMemory};
+
+use crate::fault::Fault;
+use js_bundle::{Bundle, Schemas};
+use std::alloc::Global;
+
+/// The documents' schemas, finished, or the first refusal of a document, and then of all.
+pub(crate) fn finished(alloc: Global, docs: &[(&str, &[u8])]) -> Result<Schemas, Fault>
+    ensures ok { IfOk result (λ s. s ≡ bundle_of (documents_of docs.now)) }
+    ensures clear { OnOk result (IsClear (documents_causes (documents_of docs.now))) }
+    ensures err { IfErr result (FailsBy (documents_causes (documents_of docs.now))) }
+    ensures early { IfErr result IsEarlyOrMemory }
+{
+    let mut bundle = Bundle::new(alloc);
+    for document in docs {
+        add(&mut bundle, document.0, document.1)?;
+    }
+    finish(alloc, bundle)
+}
+
+fn add(bundle: &mut Bundle, uri: &str, bytes: &[u8]) -> Result<(), Fault>
+    ensures ok { OnOk result (IsAdded bundle.old uri.now bytes.now bundle.new) }
+    ensures err { IfErr result
+        (FailsBy (document_causes (length bundle.old) (uri.now, bytes.now))) }
+    ensures early { IfErr result IsEarlyOrMemory }
+{
+    bundle.add(uri, bytes)?;
+    Ok(())
+}
+
+fn finish(alloc: Global, bundle: Bundle) -> Result<Schemas, Fault>
+    ensures ok { IfOk result (λ s. s ≡ bundle) }
+    ensures clear { OnOk result (IsClear (bundle_causes bundle)) }
+    ensures err { IfErr result (FailsBy (bundle_causes bundle)) }
+    ensures early { IfErr result IsEarlyOrMemory }
+{
+    match bundle.finish(alloc) {
+        Ok(schemas) => Ok(schemas),
+        Err((refusal, _bundle)) => Err(Fault::from(refusal)),
+    }
+}

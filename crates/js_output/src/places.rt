@@ -1,0 +1,87 @@
+//! The places of documents, told by their absolute locations.
+ghost use Rattle.std.specs.Prelude.{◌≡◌, ◌≢◌, ◌≤◌, ◌+◌, true, false, length, string_bytes, OnOk, IfOk, IfErr, IsErrOf};
+ghost use Rattle.std.specs.Io.KnownBytes.{Appends};
+ghost use Rattle.js_bundle.specs.Resource.{sites};
+ghost use Rattle.js_output.specs.Cause.{IsClear, FailsBy};
+ghost use Rattle.js_output.specs.Device.{AppendsBeginning};
+ghost use Rattle.js_output.specs.Documents.{documents_of, documents_causes};
+ghost use Rattle.js_output.specs.Outcome.{IsEarlyOrMemory};
+ghost use Rattle.js_output.specs.Places.{lines_of, places_of, places_text, TellsPlaces};
+
+use crate::documents::finished;
+use crate::fault::Fault;
+use crate::sink::Sink;
+use js_bundle::Schemas;
+use js_doc::Memory;
+use std::alloc::Global;
+use std::io::Write;
+
+/// Writes the absolute location of each place of the documents and a line feed, in scan order
+/// (JSON Schema Core, section 12.3.2), and answers how many places there are.
+///
+/// Each document is handed in with its URI; nothing is fetched.
+///
+/// # Errors
+/// The first that applies, of: the refusal of a document, in their order; the first refusal of all;
+/// `Write`. `Memory` may come at any point before the first write. After `Write` a beginning of the
+/// text is out, and after any other fault nothing is.
+pub fn run_places<W: Write>(
+    alloc: Global,
+    docs: &[(&str, &[u8])],
+    out: &mut Sink<W>,
+) -> Result<u64, Fault>
+    ensures answer { TellsPlaces (documents_of docs.now) result }
+
+    // The whole text is written, and nothing else.
+    ensures text { OnOk result (Appends (W.contents out.old.device)
+        (W.contents out.new.device) (places_text (documents_of docs.now))) }
+    ensures whole { OnOk result (out.new.failed ≡ false) }
+    ensures write { IsErrOf result Fault.Write → out.new.failed ≡ true }
+    ensures beginning { IsErrOf result Fault.Write
+        → AppendsBeginning (W.contents out.old.device) (W.contents out.new.device)
+        (places_text (documents_of docs.now)) }
+    ensures nothing { IfErr result (λ e. e ≢ Fault.Write → out.new ≡ out.old) }
+    ensures writes { out.new.calls
+        ≤ out.old.calls + length (places_text (documents_of docs.now)) }
+    ensures sink_stays { out.old.failed ≡ true → out.new ≡ out.old }
+{
+    let told = told_places(alloc, docs)?;
+    out.put(told.text.as_bytes())?;
+    Ok(told.count)
+}
+
+// What is told of places, and of how many.
+#[derive(Drop)]
+struct Told {
+    text: String,
+    count: u64,
+}
+
+fn told_places(alloc: Global, docs: &[(&str, &[u8])]) -> Result<Told, Fault>
+    ensures text { IfOk result (λ t.
+        string_bytes t.text ≡ places_text (documents_of docs.now)) }
+    ensures count { IfOk result (λ t. t.count ≡ length (places_of (documents_of docs.now))) }
+    ensures clear { OnOk result (IsClear (documents_causes (documents_of docs.now))) }
+    ensures err { IfErr result (FailsBy (documents_causes (documents_of docs.now))) }
+    ensures early { IfErr result IsEarlyOrMemory }
+{
+    let schemas = finished(alloc, docs)?;
+    Ok(told_of(alloc, &schemas)?)
+}
+
+fn told_of(alloc: Global, schemas: &Schemas) -> Result<Told, Memory>
+    ensures text { IfOk result (λ t. string_bytes t.text ≡ lines_of (sites schemas.now)) }
+    ensures count { IfOk result (λ t. t.count ≡ length (sites schemas.now)) }
+{
+    let places = schemas.places(alloc)?;
+    let mut text = String::new(alloc);
+    for place in places.as_slice() {
+        let location = schemas.absolute(alloc, *place, None)?;
+        text.push_str(location.as_str())?;
+        text.push('\n')?;
+    }
+    Ok(Told {
+        text,
+        count: places.len() as u64,
+    })
+}
