@@ -7,12 +7,12 @@ use Rattle.js_doc.specs.Value.{Value}
 use Rattle.js_doc.specs.Members.{get}
 use Rattle.js_assert.specs.Argument.{entries}
 use Rattle.js_eval.specs.Applications.{Application, application, indexed}
-use Rattle.js_eval.specs.Judging.{AreJudged, AreKnown, IsKnown}
+use Rattle.js_eval.specs.Judging.{AreJudged, AreKnown}
 use Rattle.js_eval.specs.Keywords.{Keyword, keywords}
 use Rattle.js_eval.specs.Kind.{kind, is_unevaluated}
 use Rattle.js_eval.specs.Passes.{how_many}
 use Rattle.js_eval.specs.Schemas.{Text, Schemas, Alone, Index}
-use Rattle.js_eval.specs.Seen.{texts_of}
+use Rattle.js_eval.specs.Seen.{IsKnown, texts_of}
 use Rattle.js_eval.specs.Verdict as verdict
 use Rattle.js_eval.specs.Verdict.{Known, accepts, within}
 use Rattle.js_eval.specs.declared.judgement.Judgement.{Judgement}

@@ -1,11 +1,9 @@
 -- What the stages of the plain program give (of private functions), in the words of Verdict.
 use Rattle.std.specs.Prelude.{◌≡◌, ℕ, List, [], ◌∷◌, ◌++◌, Bool, Option, Some, map, filter}
 use Rattle.std.specs.List.{list_all, flat_map, AllByRecursion}
-use Rattle.std.specs.Option.{option_and_then}
 use Rattle.js_doc.specs.Value.{Value, Named}
 use Rattle.js_doc.specs.Members.{get}
 use Rattle.js_assert.specs.Argument.{entries}
-use Rattle.js_assert.specs.Assertion.{Asserted, asserted}
 use Rattle.js_eval.specs.Applications.{Application, asks_of}
 use Rattle.js_eval.specs.Keywords.{Keyword}
 use Rattle.js_eval.specs.Kind.{kind}
@@ -14,10 +12,6 @@ use Rattle.js_eval.specs.Seen.{texts_of}
 use Rattle.js_eval.specs.declared.judgement.Judgement.{Judgement}
 use Rattle.js_eval.specs.declared.judgement.Together.{Together}
 use Rattle.js_eval.specs.Verdict.{Known, application_settled, application_holds, passes_by, names_by, indexes_by}
-
--- the assertion that the keyword of this name makes in a schema
-abbrev pub assertion_in : Value → Text → Option Asserted
-assertion_in schema name = option_and_then (λ argument. asserted name argument (entries schema)) (get name (entries schema))
 
 -- the keyword stands among these
 abbrev pub IsAmong : Named → Keyword → Type 0
@@ -80,10 +74,3 @@ module _ {Place : Type 0} (S : Schemas Place) (known : Known Place) (above : Lis
       pub holds : j.holds ≡ list_all passing ks
       pub names : texts_of j.names.items ≡ flat_map naming ks
       pub indexes : j.indexes.items ≡ flat_map indexing ks
-
--- j is what is known of a place on a value, to which these places led
-pub record IsKnown {Place : Type 0} (known : Known Place) (above : List Place) (place : Place) (v : Value) (j : Judgement) : Type 0 where
-  pub settled : j.settled ≡ known.settled above place v
-  pub holds : j.holds ≡ known.holds above place v
-  pub names : texts_of j.names.items ≡ known.names above place v
-  pub indexes : j.indexes.items ≡ known.indexes above place v

@@ -1,14 +1,15 @@
 -- Whether a keyword passes, by the verdicts of the applications that it asked for
 -- (JSON Schema Core, sections 8.2.3, 10 and 11; Validation, section 6).
-use Rattle.std.specs.Prelude.{ℕ, ◌==◌, List, Bool, true, false, not, ◌||◌, count_by, pos, codes}
+use Rattle.std.specs.Prelude.{ℕ, ◌==◌, List, Bool, true, false, not, ◌||◌, Option, count_by, pos, codes}
 use Rattle.std.specs.List.{list_any, list_all}
-use Rattle.std.specs.Option.{option_map_or}
+use Rattle.std.specs.Option.{option_and_then, option_map_or}
 use Rattle.js_doc.specs.Value.{Value, whole, Named}
 use Rattle.js_doc.specs.Equality.{same}
 use Rattle.js_doc.specs.Members.{get}
-use Rattle.js_assert.specs.Argument.{on_array}
-use Rattle.js_assert.specs.Assertion.{asserted, says}
+use Rattle.js_assert.specs.Argument.{entries, on_array}
+use Rattle.js_assert.specs.Assertion.{Asserted, asserted, says}
 use Rattle.js_eval.specs.Keywords.{Keyword}
+use Rattle.js_eval.specs.Schemas.{Text}
 use Rattle.js_eval.specs.declared.kind.Kind.{Kind}
 use Rattle.js_eval.specs.declared.kind.Kind.TheVariants.{AnyOf, OneOf, Not, If, Contains, Assertion, Annotation}
 
@@ -25,6 +26,10 @@ how_many verdicts = count_by (λ holds. holds) verdicts
 -- the adjacent `minContains` is 0 (10.3.1.3; Validation, 6.4.5)
 abbrev pub may_contain_none : Named → Bool
 may_contain_none siblings = option_map_or (λ argument. same argument (whole (pos 0))) (get (codes "minContains") siblings) false
+
+-- the assertion that the keyword of this name makes in a schema
+abbrev pub assertion_in : Value → Text → Option Asserted
+assertion_in schema name = option_and_then (λ argument. asserted name argument (entries schema)) (get name (entries schema))
 
 -- ---- the table: the keyword k stands among its siblings, v is judged, and these are the verdicts of what k asked for.
 -- ---- `matching`: how many items of v match the adjacent `contains`.

@@ -1,11 +1,13 @@
 -- What the parts of the code are seen as.
-use Rattle.std.specs.Prelude.{ℕ, List, [], ◌∷◌, Bool, not, nat_le, map, cond}
+use Rattle.std.specs.Prelude.{◌≡◌, ℕ, List, [], ◌∷◌, Bool, not, nat_le, map, cond}
 use denote.Ref.{Bor}
 use Rattle.js_doc.specs.Seen.{value_of}
 use Rattle.js_doc.specs.Value.{Value, text}
 use Rattle.js_eval.specs.Applications as apps
 use Rattle.js_eval.specs.Keywords as table
 use Rattle.js_eval.specs.Schemas as schemas
+use Rattle.js_eval.specs.Verdict.{Known}
+use Rattle.js_eval.specs.declared.judgement.Judgement.{Judgement}
 use Rattle.js_eval.specs.declared.keyword.Keyword.{Keyword}
 use Rattle.js_eval.specs.declared.keyword.Turn.{Turn}
 use Rattle.js_eval.specs.declared.keyword.Turn.TheVariants.{First, Else, Last}
@@ -57,3 +59,10 @@ abbrev pub holding_by : {A : Type 0} → List A → List Bool → List A
 holding_by [] verdicts = []
 holding_by (a ∷ apps) [] = []
 holding_by (a ∷ apps) (b ∷ verdicts) = cond b (a ∷ holding_by apps verdicts) (holding_by apps verdicts)
+
+-- j is what is known of a place on a value, to which these places led
+pub record IsKnown {Place : Type 0} (known : Known Place) (above : List Place) (place : Place) (v : Value) (j : Judgement) : Type 0 where
+  pub settled : j.settled ≡ known.settled above place v
+  pub holds : j.holds ≡ known.holds above place v
+  pub names : texts_of j.names.items ≡ known.names above place v
+  pub indexes : j.indexes.items ≡ known.indexes above place v

@@ -3,8 +3,8 @@ ghost use Rattle.std.specs.Prelude.{◌≡◌, ◌++◌, ◌&&◌, ◌∷◌, []
 ghost use Rattle.js_assert.specs.Argument.{entries};
 ghost use Rattle.js_doc.specs.Seen.{value_of};
 ghost use Rattle.js_eval.specs.Judging as judging;
-ghost use Rattle.js_eval.specs.Judging.{AreAmong, AreJudged, AreKnown, IsAmong, IsKnown};
-ghost use Rattle.js_eval.specs.Seen.{application_of, instance_of, keyword_of, texts_of};
+ghost use Rattle.js_eval.specs.Judging.{AreAmong, AreJudged, AreKnown, IsAmong};
+ghost use Rattle.js_eval.specs.Seen.{IsKnown, application_of, instance_of, keyword_of, texts_of};
 ghost use Rattle.js_eval.specs.Verdict as verdict;
 ghost use Rattle.js_eval.specs.Verdict.{within};
 
@@ -185,7 +185,7 @@ fn judge_keyword<'a, S: SchemaSet>(
 
 // What is known of all these applications.
 #[cycle(judging)]
-fn judge_each<'a, S: SchemaSet>(
+pub(crate) fn judge_each<'a, S: SchemaSet>(
     alloc: Global,
     schemas: &'a S,
     n: usize,

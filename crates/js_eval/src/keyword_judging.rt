@@ -5,9 +5,9 @@ ghost use Rattle.js_assert.specs.Argument.{entries};
 ghost use Rattle.js_assert.specs.Assertion as assertion;
 ghost use Rattle.js_doc.specs.Seen.{value_of};
 ghost use Rattle.js_eval.specs.Judging as judging;
-ghost use Rattle.js_eval.specs.Judging.{AreKnown, IsAmong, assertion_in};
+ghost use Rattle.js_eval.specs.Judging.{AreKnown, IsAmong};
 ghost use Rattle.js_eval.specs.Kind.{kind};
-ghost use Rattle.js_eval.specs.Passes.{passes_of};
+ghost use Rattle.js_eval.specs.Passes.{assertion_in, passes_of};
 ghost use Rattle.js_eval.specs.Seen.{application_of, instance_of, keyword_of, texts_of};
 ghost use Rattle.js_eval.specs.Verdict.{Known, indexes_by, names_by, passes_by};
 

@@ -12,6 +12,8 @@ mod keyword_judging;
 mod kind;
 pub mod laws;
 mod member_asking;
+#[cfg(test)]
+mod note_tests;
 mod noting;
 mod object_applications;
 mod parts;

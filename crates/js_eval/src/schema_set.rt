@@ -3,7 +3,7 @@ ghost use Rattle.std.specs.Prelude.{◌≡◌, ℕ, IfOk, option_and_then, optio
 ghost use Rattle.js_assert.specs.ErrorText.{error};
 ghost use Rattle.js_assert.specs.Pattern.{matches};
 ghost use Rattle.js_doc.specs.Seen.{value_of};
-ghost use Rattle.js_eval.specs.Judging.{assertion_in};
+ghost use Rattle.js_eval.specs.Passes.{assertion_in};
 ghost use Rattle.js_eval.specs.Schemas.{Schemas};
 ghost use Rattle.js_eval.specs.Seen.{step_of};
 

@@ -4,9 +4,10 @@ use js_doc::{Memory, ReadFault, read};
 use std::alloc::Global;
 
 #[derive(Debug, PartialEq, Eq, Drop)]
-enum Trouble {
+pub(crate) enum Trouble {
     Memory,
     NotJson,
+    NoSchema,
 }
 
 impl From<Memory> for Trouble {

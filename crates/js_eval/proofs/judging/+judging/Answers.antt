@@ -3,9 +3,9 @@ use Rattle.std.proofs.lemmas.Result.{on_ok_weaker}
 use Rattle.js_assert.specs.Argument.{entries}
 use Rattle.js_doc.specs.Members.{get}
 use Rattle.js_doc.specs.Seen.{value_of}
-use Rattle.js_eval.specs.Judging.{IsAmong, AreAmong, IsKnown}
+use Rattle.js_eval.specs.Judging.{IsAmong, AreAmong}
 use Rattle.js_eval.specs.Kind.{is_unevaluated, kind}
-use Rattle.js_eval.specs.Seen.{application_of, instance_of, keyword_of, texts_of}
+use Rattle.js_eval.specs.Seen.{IsKnown, application_of, instance_of, keyword_of, texts_of}
 use Rattle.js_eval.specs.Verdict.{within}
 use Rattle.js_eval.proofs.Among.{among_at, all_of_filter}
 use Rattle.js_eval.proofs.Closing.{known_within, nothing_within, matching_is}
