@@ -80,6 +80,29 @@ fn keywords_have_absolute_locations(rt: HostRuntime) -> Result<(), Fail> {
 }
 
 #[test]
+fn resources_in_scan_order(rt: HostRuntime) -> Result<(), Fail> {
+    let alloc = rt.alloc();
+    let itself = r#"{"$id":"https://a.example/t"}"#;
+    let schemas = finished(alloc, &[(URI, EMBEDDED), ("https://a.example/t", itself)])?;
+    let wanted = [
+        (URI, "https://a.example/x#"),
+        ("https://a.example/x", "https://a.example/x#"),
+        ("https://a.example/y", "https://a.example/y#"),
+        ("https://a.example/t", "https://a.example/t#"),
+    ];
+    let resources = schemas.resources(alloc)?;
+    assert_eq!(rt; resources.len(), wanted.len());
+    for ((uri, place), (wanted_uri, wanted_root)) in resources.iter().zip(wanted.iter()) {
+        assert_eq!(rt; *uri, *wanted_uri);
+        assert_eq!(rt;
+            location_of(alloc, &schemas, *place)?.as_str(),
+            *wanted_root
+        );
+    }
+    Ok(())
+}
+
+#[test]
 fn steps_lead_below(rt: HostRuntime) -> Result<(), Fail> {
     let alloc = rt.alloc();
     let inner = "https://a.example/y";
