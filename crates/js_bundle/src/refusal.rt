@@ -1,6 +1,5 @@
 //! Why documents and entries are refused.
 use js_doc::{Memory, Pointer};
-use thiserror::Error;
 
 /// Which document is refused, where in it, and why.
 #[derive(Debug, Drop, PartialEq, Eq)]
