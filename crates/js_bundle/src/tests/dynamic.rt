@@ -78,7 +78,6 @@ fn a_strict_tree_has_strict_children(rt: HostRuntime) -> Result<(), Fail> {
 
 #[test]
 fn what_is_no_dynamic_anchor_decides_nothing(rt: HostRuntime) -> Result<(), Fail> {
-    let s = "https://a.example/s";
     for (schema, want) in [
         // a pointer
         (
@@ -98,7 +97,7 @@ fn what_is_no_dynamic_anchor_decides_nothing(rt: HostRuntime) -> Result<(), Fail
     ] {
         let schemas = finished(rt.alloc(), &[(URI, schema)])?;
         assert_eq!(rt;
-            target(rt.alloc(), &schemas, &[s])?.as_str(),
+            target(rt.alloc(), &schemas, &[URI])?.as_str(),
             want,
             "{schema}"
         );
@@ -121,7 +120,6 @@ fn a_plain_anchor_on_the_path_is_passed_over(rt: HostRuntime) -> Result<(), Fail
 
 #[test]
 fn a_dynamic_anchor_decides_by_its_name(rt: HostRuntime) -> Result<(), Fail> {
-    let s = "https://a.example/s";
     for (schema, want) in [
         // the entry's resource counts
         (
@@ -151,7 +149,7 @@ fn a_dynamic_anchor_decides_by_its_name(rt: HostRuntime) -> Result<(), Fail> {
     ] {
         let schemas = finished(rt.alloc(), &[(URI, schema)])?;
         assert_eq!(rt;
-            target(rt.alloc(), &schemas, &[s])?.as_str(),
+            target(rt.alloc(), &schemas, &[URI])?.as_str(),
             want,
             "{schema}"
         );

@@ -86,3 +86,27 @@ fn entries_have_a_longest(rt: HostRuntime) -> Result<(), Fail> {
     }
     Ok(())
 }
+
+#[test]
+fn documents_are_known_as_url_prints_them(rt: HostRuntime) -> Result<(), Fail> {
+    let alloc = rt.alloc();
+    for uri in [
+        "https://a.example/s",
+        "https://a.example/s#",
+        " HTTPS://A.example/s\n",
+        "https://a.example:443/t/../s",
+    ] {
+        let schemas = finished(alloc, &[(uri, "true")])?;
+        assert_eq!(rt;
+            entered(alloc, &schemas, uri)?.as_str(),
+            "https://a.example/s#",
+            "{uri}"
+        );
+        assert_eq!(rt;
+            entered(alloc, &schemas, URI)?.as_str(),
+            "https://a.example/s#",
+            "{uri}"
+        );
+    }
+    Ok(())
+}

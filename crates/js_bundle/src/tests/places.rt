@@ -38,6 +38,51 @@ fn places_in_scan_order(rt: HostRuntime) -> Result<(), Fail> {
 }
 
 #[test]
+fn each_keyword_that_holds_schemas_has_its_places(rt: HostRuntime) -> Result<(), Fail> {
+    let alloc = rt.alloc();
+    let source = r#"{
+        "not":{},"if":{},"then":{},"else":{},"items":{},"contains":{},"additionalProperties":{},"propertyNames":{},
+        "unevaluatedItems":{},"unevaluatedProperties":{},
+        "allOf":[{},{}],"anyOf":[{}],"oneOf":[{}],"prefixItems":[{}],
+        "$defs":{"b":{},"a":{}},"definitions":{"a":{}},"properties":{"a":{}},"patternProperties":{"a":{}},
+        "dependentSchemas":{"a":{}},
+        "const":{},"enum":[{}],"default":{},"examples":[{}],"contentSchema":{},"dependencies":{"a":{}},"$vocabulary":{}
+    }"#;
+    let schemas = finished(alloc, &[(URI, source)])?;
+    let wanted = [
+        "",
+        "/$defs/a",
+        "/$defs/b",
+        "/additionalProperties",
+        "/allOf/0",
+        "/allOf/1",
+        "/anyOf/0",
+        "/contains",
+        "/definitions/a",
+        "/dependentSchemas/a",
+        "/else",
+        "/if",
+        "/items",
+        "/not",
+        "/oneOf/0",
+        "/patternProperties/a",
+        "/prefixItems/0",
+        "/properties/a",
+        "/propertyNames",
+        "/then",
+        "/unevaluatedItems",
+        "/unevaluatedProperties",
+    ];
+    let places = schemas.places(alloc)?;
+    assert_eq!(rt; places.len(), wanted.len());
+    for (place, pointer) in places.iter().zip(wanted.iter()) {
+        let want = format!(in alloc; "https://a.example/s#{pointer}")?;
+        assert_eq!(rt; location_of(alloc, &schemas, *place)?, want);
+    }
+    Ok(())
+}
+
+#[test]
 fn places_are_of_their_schemas(rt: HostRuntime) -> Result<(), Fail> {
     let alloc = rt.alloc();
     let many = finished(alloc, &[(URI, EMBEDDED)])?;
