@@ -1,4 +1,4 @@
-//! What no contract says: the trees of the worked rows, the bytes of each form, every run of all small trees,
+//! What no contract says: the trees of worked examples, the bytes of each form, every run of all small trees,
 //! and that deep and wide trees find stack, time and memory.
 mod every_run;
 mod forms;
