@@ -15,10 +15,10 @@ step_through (Name name) = bundle.Name name
 
 abbrev pub schemas_of : Documents → Schemas Site
 schemas_of documents =
-  record {
-    schema = λ place. place.schema;
-    below = λ place keyword step. unwrap_or (bundle.below documents place keyword (step_through step)) place;
-    target = λ place. unwrap_or (target (sites documents) place) place;
-    dynamic_target = λ path place. unwrap_or (dynamic_target (sites documents) path place) place;
-    absolute = λ place keyword. absolute place (option_to_list keyword);
-  }
+    record {
+      schema = λ place. place.schema;
+      below = λ place keyword step. unwrap_or (bundle.below documents place keyword (step_through step)) place;
+      target = λ place. unwrap_or (target (sites documents) place) place;
+      dynamic_target = λ path place. unwrap_or (dynamic_target (sites documents) path place) place;
+      absolute = λ place keyword. absolute place (option_to_list keyword);
+    }
