@@ -1,6 +1,6 @@
 -- From what `regex` promises to what a pattern says.
 use Rattle.std.specs.Prelude.{◌≡◌, ◌≢◌, ℕ, ◌<◌, ◌≤◌, Bool, true, false, not, ◌&&◌, List, Option, Some, None, is_some, chars, All, IfSome, IsSomeAnd, refl, length}
-use Rattle.std.proofs.Common.{sym, ◌∙◌, ap, arith, inl, inr}
+use Rattle.std.proofs.Common.{sym, ◌∙◌, ap, subst, arith, inl, inr}
 use Rattle.std.proofs.lemmas.Bool.Decides.{nat_tests}
 use Rattle.regex.specs.Patterns.{find_str, default_config, SameCaptures, Re}
 use Rattle.regex.specs.Strings.{regex_source, regex_pattern}
@@ -13,7 +13,7 @@ use Rattle.regex_syntax.specs.declared.error.ErrorKind.{ErrorKind}
 use Rattle.regex_syntax.specs.declared.error.ErrorKind.TheVariants.{OutOfMemory}
 use Rattle.regex_syntax.proofs.CapturesLemmas.{find_str_alike, spans}
 use Rattle.regex_syntax.proofs.Written.{is_some-option_map}
-use Rattle.js_assert.specs.Pattern.{reading, is_deep, is_found, is_pattern, matches, IsCompiled}
+use Rattle.js_assert.specs.Pattern.{reading, is_deep, is_found, is_in_grammar, nests_too_deep, is_pattern, matches, IsCompiled}
 
 abbrev Read : Type 0
 Read = Option (Nested Re × Names)
@@ -37,9 +37,21 @@ pub pattern_is : (pattern : List ℕ) → IsPattern default_config pattern → i
 unfolding Reads reading
 pattern_is pattern h = shallow (read default_config (chars pattern)) _ h.1 h.2
 
-pub compiled_is : (r : Regex) → IsCompiled r → is_pattern (regex_source r) ≡ true
+compiled_is : (r : Regex) → IsCompiled r → is_pattern (regex_source r) ≡ true
 unfolding Reads reading
 compiled_is r h = shallow (read default_config (chars (regex_source r))) (regex_pattern r) _ (rw h.config at h.read)
+
+pub built_is : (pattern : List ℕ) (r : Regex) → regex_source r ≡ pattern → IsCompiled r → is_pattern pattern ≡ true
+built_is pattern r e h = subst (λ s. is_pattern s ≡ true) e (compiled_is r h)
+
+and_not : (a b : Bool) → a && not b ≡ true → b ≡ false
+and_not true true e = absurd (cc)
+and_not true false e = refl
+and_not false b e = absurd (cc)
+
+-- a pattern that nests too deep is none
+pub shallow_is : (pattern : List ℕ) → is_pattern pattern ≡ true → nests_too_deep pattern ≡ false
+shallow_is pattern e = and_not (is_in_grammar pattern) (nests_too_deep pattern) e
 
 found_alike : (o : Read) (a : Re) (names : Names) (hay : List ℕ) → All (λ x. x < 256) hay → IsSomeAnd o (λ (re, found). (re.depth ≤ 250) × SameCaptures a re.value × (names ≡ found) × (group_count a ≤ length names)) → is_some (find_str a hay 0) ≡ is_found o hay
 found_alike None a names hay small h = absurd h

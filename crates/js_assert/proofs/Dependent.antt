@@ -1,45 +1,38 @@
 -- Dependences between members, one dependence further.
-use Rattle.std.proofs.Common.{◌≡◌, ℕ, ◌+◌, ◌<◌, List, [], ◌∷◌, ◌++◌, Bool, true, false, ◌&&◌, cond, map, length, get_or, drop, Some, None, refl, sym, ap, ap₂, ◌∙◌}
+use Rattle.std.proofs.Common.{◌≡◌, ℕ, ◌+◌, ◌<◌, List, [], ◌∷◌, ◌++◌, Bool, true, false, ◌&&◌, cond, map, length, get_or, drop, refl, sym, ap, ap₂, ◌∙◌}
 use Rattle.std.proofs.lemmas.List.{drop_more}
 use Rattle.std.proofs.lemmas.List.Elements.{filter-append}
 use Rattle.std.specs.List.{list_all}
-use Rattle.js_doc.specs.Value.{Value, Named, text, object, members}
-use Rattle.js_assert.specs.Argument.{has, named, strings}
-use Rattle.js_assert.specs.Assertion.{has_each, implies}
+use Rattle.js_doc.specs.Value.{Value, Named, object, members}
+use Rattle.js_doc.specs.Members.{has_name}
+use Rattle.js_assert.specs.Argument.{strings}
+use Rattle.js_assert.specs.Assertion.{has_each, implies, says_by}
 use Rattle.js_assert.specs.Dependences.{dependence_of}
-use Rattle.js_assert.specs.ErrorText.{asked, without, sorted_with, missing, error_of}
+use Rattle.js_assert.specs.ErrorText.{asked, without, sorted_with}
 use Rattle.js_assert.specs.declared.keyword.Keyword.TheVariants.{DependentRequired}
 use Rattle.js_assert.specs.declared.objects.Dependence.{Dependence}
-use Rattle.js_assert.proofs.Listed.{named_members, strings_names}
+use Rattle.js_doc.proofs.PartLists.{member_list-members}
+use Rattle.js_assert.proofs.Listed.{strings_names}
 use Rattle.js_assert.proofs.Sorted.{sorted_with-append}
 
 abbrev is_met : Named → List ℕ × Value → Bool
-is_met ms d = implies (has d.0 ms) (has_each (strings d.1) ms)
+is_met ms d = implies (has_name d.0 ms) (has_each (strings d.1) ms)
 
 abbrev pub meets : Named → Dependence → Bool
-meets ms d = implies (has d.name ms) (has_each d.needs.items ms)
+meets ms d = implies (has_name d.name ms) (has_each d.needs.items ms)
 
 same_met : (ms : Named) (d : Dependence) → is_met ms (dependence_of d) ≡ meets ms d
-same_met ms d = ap (λ names. implies (has d.name ms) (has_each names ms)) (strings_names d.needs.items)
+same_met ms d = ap (λ names. implies (has_name d.name ms) (has_each names ms)) (strings_names d.needs.items)
 
 met_each : (ms : Named) (ds : List Dependence) → list_all (is_met ms) (map dependence_of ds) ≡ list_all (meets ms) ds
 met_each ms [] = refl
 met_each ms (d ∷ ds) = ap₂ (λ a b. a && b) (same_met ms d) (met_each ms ds)
 
-all_met : (ms : Named) (ds : List Dependence) (b : Bool) → b ≡ list_all (meets ms) ds → list_all (is_met (named (members ms))) (named (members (map dependence_of ds))) ≡ b
-all_met ms ds b e = ap₂ (λ ns xs. list_all (is_met ns) xs) (named_members ms) (named_members (map dependence_of ds)) ∙ met_each ms ds ∙ sym e
-
-pub no_error : (ms : Named) (ds : List Dependence) (b : Bool) → b ≡ list_all (meets ms) ds → b ≡ true → None ≡ error_of DependentRequired (object (members (map dependence_of ds))) false (object (members ms)) 0
-no_error ms ds b e h = let all = all_met ms ds b e ∙ h in rw all
-
-pub an_error : (ms : Named) (ds : List Dependence) (b : Bool) → b ≡ list_all (meets ms) ds → b ≡ false
-    → Some (missing (map text (sorted_with [] (without ms (asked ms (map dependence_of ds)))))) ≡ error_of DependentRequired (object (members (map dependence_of ds))) false (object (members ms)) 0
-an_error ms ds b e h =
-    let all = all_met ms ds b e ∙ h in
-    rw all (ap₂ (λ ns xs. Some (missing (map text (sorted_with [] (without ns (asked ns xs)))))) (sym (named_members ms)) (sym (named_members (map dependence_of ds))))
+pub all_met : (ms : Named) (ds : List Dependence) (b : Bool) → b ≡ list_all (meets ms) ds → b ≡ says_by (object (members (map dependence_of ds))) false (object (members ms)) 0 DependentRequired
+all_met ms ds b e = e ∙ (sym (met_each ms ds) ∙ sym (ap₂ (λ ns xs. list_all (is_met ns) xs) (member_list-members ms) (member_list-members (map dependence_of ds))))
 
 -- a dependence whose name is a member's asks for its names
-pub asked_more : (ms : Named) (ds : List Dependence) (i : ℕ) (d : Dependence) (old new : List (List ℕ)) → i < length ds → d ≡ get_or ds i d → has d.name ms ≡ true → new ≡ sorted_with old (without ms d.needs.items)
+pub asked_more : (ms : Named) (ds : List Dependence) (i : ℕ) (d : Dependence) (old new : List (List ℕ)) → i < length ds → d ≡ get_or ds i d → has_name d.name ms ≡ true → new ≡ sorted_with old (without ms d.needs.items)
     → sorted_with new (without ms (asked ms (map dependence_of (drop (i + 1) ds)))) ≡ sorted_with old (without ms (asked ms (map dependence_of (drop i ds))))
 asked_more ms ds i d old new low here present put =
     let rest = asked ms (map dependence_of (drop (i + 1) ds)) in

@@ -3,10 +3,10 @@ use Rattle.std.proofs.Common.{◌≡◌, ℕ, ◌+◌, Bool, true, false, not, �
 use Rattle.std.specs.List.{list_any}
 use Rattle.js_doc.specs.Value.{Value, Values, truth, list, items}
 use Rattle.js_doc.specs.Equality.{same}
-use Rattle.js_assert.specs.Assertion.{is_unique}
-use Rattle.js_assert.specs.ErrorText.{first_equal, pair_or, equal_pair, pair_text, error_of}
+use Rattle.js_assert.specs.Assertion.{is_unique, says_by}
+use Rattle.js_assert.specs.ErrorText.{first_equal, pair_or, equal_pair}
 use Rattle.js_assert.specs.declared.keyword.Keyword.TheVariants.{UniqueItems}
-use Rattle.js_assert.proofs.Listed.{listed_items}
+use Rattle.js_doc.proofs.PartLists.{item_list-items}
 
 first_at : (b : Bool) (n : ℕ) (more : Option ℕ) → is_some (if b then Some n else more) ≡ b || is_some more
 first_at true n more = refl
@@ -25,8 +25,5 @@ unique_pair n [] = refl
 unique_pair n (v ∷ vs) =
     ap₂ (λ a b. not a && b) (any_first v (n + 1) vs) (unique_pair (n + 1) vs) ∙ sym (pair_here n (first_equal v (n + 1) vs) (equal_pair (n + 1) vs))
 
-pub no_pair : (vs : Values) → None ≡ equal_pair 0 vs → None ≡ error_of UniqueItems (truth true) false (list (items vs)) 0
-no_pair vs e = let u : is_unique vs ≡ true = unique_pair 0 vs ∙ ap is_none (sym e) in rw (listed_items vs, u)
-
-pub a_pair : (vs : Values) (p : ℕ × ℕ) → Some p ≡ equal_pair 0 vs → Some (pair_text (Some p)) ≡ error_of UniqueItems (truth true) false (list (items vs)) 0
-a_pair vs p e = let u : is_unique vs ≡ false = unique_pair 0 vs ∙ ap is_none (sym e) in rw (listed_items vs, u) (ap (λ o. Some (pair_text o)) e)
+pub unique_is : (vs : Values) (o : Option (ℕ × ℕ)) → o ≡ equal_pair 0 vs → is_none o ≡ says_by (truth true) false (list (items vs)) 0 UniqueItems
+unique_is vs o e = ap is_none e ∙ (sym (unique_pair 0 vs) ∙ ap is_unique (sym (item_list-items vs)))

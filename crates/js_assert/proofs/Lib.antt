@@ -7,3 +7,5 @@ pub mod EqualPairs
 pub mod Compiled
 pub mod Dependent
 pub mod Listed
+pub mod Counting
+pub mod Telling

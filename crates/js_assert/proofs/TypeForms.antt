@@ -1,31 +1,56 @@
--- The form of the argument of `type`.
-use Rattle.std.proofs.Common.{◌≡◌, ℕ, List, [], ◌∷◌, true, false, not, ◌&&◌, map, refl, sym, ap, ap₂, ◌∙◌}
-use Rattle.std.specs.List.{list_all}
+-- Types that are named one after another.
+use Rattle.std.proofs.Common.{◌≡◌, ℕ, ◌+◌, ◌<◌, List, [], ◌∷◌, ◌++◌, Bool, true, false, not, ◌&&◌, ◌||◌, map, length, get_or, drop, refl, sym, ap, ap₂, ◌∙◌}
+use Rattle.std.proofs.lemmas.List.{drop_more}
+use Rattle.std.specs.List.{list_any}
+use Rattle.std.specs.Str.{bytes_eq}
+use Rattle.js_doc.specs.Seen.{value_of}
+use Rattle.js_doc.proofs.PartLists.{item_list-items}
 use Rattle.js_doc.specs.Value.{Value, Values, text, list, items}
-use Rattle.js_assert.specs.Argument.{listed}
-use Rattle.js_assert.specs.Form.{is_empty, is_list_of_names, is_type, is_type_name}
-use Rattle.js_assert.specs.Names.{names_value}
-use Rattle.js_assert.proofs.Listed.{listed_items, strings_names}
+use Rattle.js_doc.specs.declared.doc.Doc.{Doc}
+use Rattle.js_assert.specs.Form.{are_new_types, is_empty, is_type, is_type_name}
+use Rattle.js_assert.specs.Types.{type_name}
+use Rattle.js_assert.specs.declared.instance_type.InstanceType.{InstanceType}
+use Rattle.js_assert.proofs.Listed.{list_any-map}
 
--- a list of the names is a form of `type` where it isn't empty and the names are types'
-is_type-names : (names : List (List ℕ)) → is_type (names_value names) ≡ not (is_empty (map text names)) && (is_list_of_names (names_value names) && list_all is_type_name names)
-is_type-names names =
-    ap₂ (λ vs ss. not (is_empty vs) && (is_list_of_names (names_value names) && list_all is_type_name ss)) (listed_items (map text names)) (strings_names names)
+-- ---- one that is taken
+
+one_more : (seen : List (List ℕ)) (v : Value) (vs : Values) (name : List ℕ) → v ≡ text name → is_type_name name ≡ true → list_any (bytes_eq name) seen ≡ false
+    → are_new_types seen (v ∷ vs) ≡ are_new_types (seen ++ name ∷ []) vs
+one_more seen v vs name e known fresh = rw (e, known, fresh)
+
+pub types_more : (seen : List (List ℕ)) (ds : List Doc) (i : ℕ) (d : Doc) (name : List ℕ) → i < length ds → d ≡ get_or ds i d → value_of d ≡ text name → is_type_name name ≡ true → list_any (bytes_eq name) seen ≡ false
+    → are_new_types seen (map value_of (drop i ds)) ≡ are_new_types (seen ++ name ∷ []) (map value_of (drop (i + 1) ds))
+types_more seen ds i d name low here e known fresh =
+    ap (λ xs. are_new_types seen (map value_of xs)) (drop_more ds i d low)
+    ∙ one_more seen (value_of (get_or ds i d)) (map value_of (drop (i + 1) ds)) name (ap value_of (sym here) ∙ e) known fresh
+
+-- ---- one that isn't
+
+twice : (seen : List (List ℕ)) (v : Value) (vs : Values) (name : List ℕ) → v ≡ text name → list_any (bytes_eq name) seen ≡ true → are_new_types seen (v ∷ vs) ≡ false
+twice seen v vs name e h = rw (e, h)
+
+at_first : (seen : List (List ℕ)) (ds : List Doc) (i : ℕ) (d : Doc) → i < length ds → d ≡ get_or ds i d → are_new_types seen (map value_of (drop i ds)) ≡ are_new_types seen (value_of d ∷ map value_of (drop (i + 1) ds))
+at_first seen ds i d low here = ap (λ xs. are_new_types seen (map value_of xs)) (drop_more ds i d low ∙ ap (λ e. e ∷ drop (i + 1) ds) (sym here))
+
+pub refused_twice : (all : Bool) (seen : List (List ℕ)) (ds : List Doc) (i : ℕ) (d : Doc) (name : List ℕ) → all ≡ are_new_types seen (map value_of (drop i ds)) → i < length ds → d ≡ get_or ds i d → value_of d ≡ text name
+    → list_any (bytes_eq name) seen ≡ true → all ≡ false
+refused_twice all seen ds i d name rest low here e h = rest ∙ at_first seen ds i d low here ∙ twice seen (value_of d) (map value_of (drop (i + 1) ds)) name e h
+
+-- ---- a type is among others exactly if its name is among theirs
+
+any_alike : (p q : InstanceType → Bool) (ts : List InstanceType) → ((t : InstanceType) → p t ≡ q t) → list_any p ts ≡ list_any q ts
+any_alike p q [] h = refl
+any_alike p q (t ∷ ts) h = ap₂ (λ a b. a || b) (h t) (any_alike p q ts h)
+
+pub named_among : (same : InstanceType → Bool) (one : InstanceType) (name : List ℕ) (ts : List InstanceType) → ((t : InstanceType) → same t ≡ bytes_eq (type_name one) (type_name t)) → type_name one ≡ name
+    → list_any (bytes_eq name) (map type_name ts) ≡ list_any same ts
+named_among same one name ts h e = list_any-map type_name (bytes_eq name) ts ∙ any_alike (λ t. bytes_eq name (type_name t)) same ts (λ t. ap (λ n. bytes_eq n (type_name t)) (sym e) ∙ sym (h t))
+
+-- ---- the whole list
 
 filled : (vs : Values) → (vs ≡ [] → ⊥) → is_empty vs ≡ false
 filled [] h = absurd (h refl)
 filled (v ∷ vs) h = refl
 
-unlisted : (vs ws : Values) → list (items vs) ≡ list (items ws) → vs ≡ ws
-unlisted vs ws e = sym (listed_items vs) ∙ ap values e ∙ listed_items ws
-  where
-    values : Value → Values
-    values (list vs) = listed vs
-    values _ = []
-
-pub named_types : (v : Value) (vs : Values) (names : List (List ℕ)) → v ≡ list (items vs) → (vs ≡ [] → ⊥) → v ≡ names_value names → is_list_of_names v ≡ true → is_type v ≡ list_all is_type_name names
-named_types v vs names is some read form =
-    let same : vs ≡ map text names = unlisted vs (map text names) (sym is ∙ read) in
-    let full : is_empty (map text names) ≡ false = ap is_empty (sym same) ∙ filled vs some in
-    let listed : is_list_of_names (names_value names) ≡ true = ap is_list_of_names (sym read) ∙ form in
-    ap is_type read ∙ is_type-names names ∙ ap₂ (λ a b. not a && (b && list_all is_type_name names)) full listed
+pub list_type : (vs : Values) → (vs ≡ [] → ⊥) → is_type (list (items vs)) ≡ are_new_types [] vs
+list_type vs some = ap (λ ws. not (is_empty ws) && are_new_types [] ws) (item_list-items vs) ∙ ap (λ b. not b && are_new_types [] vs) (filled vs some)

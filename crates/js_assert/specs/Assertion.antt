@@ -7,7 +7,9 @@ use Rattle.std.specs.Coded.{Coded, code_by, coded×, coded_bool}
 use Rattle.js_doc.specs.Value.{Value, null, truth, whole, text, list, object, Named}
 use Rattle.js_doc.specs.Coding.{value_code}
 use Rattle.js_doc.specs.Equality.{same}
-use Rattle.js_assert.specs.Argument.{flag, number, string, values, entries, strings, on_number, on_string, on_array, on_object, has}
+use Rattle.js_doc.specs.Members.{has_name}
+use Rattle.js_doc.specs.Parts.{items_of, members_of}
+use Rattle.js_assert.specs.Argument.{flag, number, string, strings, on_number, on_string, on_array, on_object}
 use Rattle.js_assert.specs.Keyword.{keyword_named}
 use Rattle.js_assert.specs.Pattern.{matches}
 use Rattle.js_assert.specs.declared.keyword.Keyword.{Keyword}
@@ -27,7 +29,7 @@ asserted_code keyword_code =
 -- the assertion of a keyword among its siblings; none, where its name is none of the twenty
 abbrev pub asserted : List ℕ → Value → Named → Option Asserted
 asserted name argument siblings =
-    option_map (λ k. record { keyword = k; argument = argument; beside_contains = has (codes "contains") siblings }) (keyword_named name)
+    option_map (λ k. record { keyword = k; argument = argument; beside_contains = has_name (codes "contains") siblings }) (keyword_named name)
 
 -- ---- words of the table
 
@@ -54,7 +56,7 @@ is_unique [] = true
 is_unique (v ∷ vs) = not (list_any (same v) vs) && is_unique vs
 
 abbrev pub has_each : List (List ℕ) → Named → Bool
-has_each names ms = list_all (λ name. has name ms) names
+has_each names ms = list_all (λ name. has_name name ms) names
 
 abbrev pub implies : Bool → Bool → Bool
 implies a b = not a || b
@@ -66,7 +68,7 @@ module _ (argument : Value) (beside_contains : Bool) (v : Value) (matching : ℕ
   abbrev pub says_by : Keyword → Bool
   -- values of each type
   says_by «Type» = list_any (is_type_of v) (strings argument)  -- 6.1.1
-  says_by Enum = list_any (λ w. same w v) (values argument)  -- 6.1.2
+  says_by Enum = list_any (λ w. same w v) (items_of argument)  -- 6.1.2
   says_by Const = same argument v  -- 6.1.3
   -- numbers
   says_by MultipleOf = on_number v (divides (number argument))  -- 6.2.1
@@ -88,7 +90,7 @@ module _ (argument : Value) (beside_contains : Bool) (v : Value) (matching : ℕ
   says_by MaxProperties = on_object v (λ ms. int_le (pos (length ms)) (number argument))  -- 6.5.1
   says_by MinProperties = on_object v (λ ms. int_le (number argument) (pos (length ms)))  -- 6.5.2
   says_by Required = on_object v (has_each (strings argument))  -- 6.5.3
-  says_by DependentRequired = on_object v (λ ms. list_all (λ d. implies (has d.0 ms) (has_each (strings d.1) ms)) (entries argument))  -- 6.5.4
+  says_by DependentRequired = on_object v (λ ms. list_all (λ d. implies (has_name d.0 ms) (has_each (strings d.1) ms)) (members_of argument))  -- 6.5.4
 
 -- what the assertion says of v, of which so many items match the adjacent `contains`
 abbrev pub says : Asserted → Value → ℕ → Bool

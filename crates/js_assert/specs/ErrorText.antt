@@ -1,14 +1,15 @@
 -- The texts of the errors. The standard leaves them open: all of this file is this project's own choice.
-use Rattle.std.specs.Prelude.{ℕ, ◌+◌, ℤ, List, [], ◌∷◌, ◌++◌, Bool, not, Option, Some, None, map, filter, length, codes, decimal, if◌then◌else◌}
+use Rattle.std.specs.Prelude.{ℕ, ◌+◌, ℤ, List, [], ◌∷◌, ◌++◌, not, Option, Some, None, map, filter, length, codes, decimal, if◌then◌else◌}
 use Rattle.std.specs.Fmt.{signed_decimal}
 use Rattle.std.specs.List.{flat_map}
 use Rattle.std.specs.BTreeSet.{insert_key}
 use Rattle.js_doc.specs.Value.{Value, null, truth, whole, text, list, object, Named, items}
 use Rattle.js_doc.specs.Compact.{compact}
 use Rattle.js_doc.specs.Equality.{same}
-use Rattle.js_doc.specs.Members.{name_cmp}
-use Rattle.js_assert.specs.Argument.{number, string, values, entries, strings, has}
-use Rattle.js_assert.specs.Assertion.{Asserted, says_by, characters}
+use Rattle.js_doc.specs.Members.{name_cmp, has_name}
+use Rattle.js_doc.specs.Parts.{items_of, members_of}
+use Rattle.js_assert.specs.Argument.{number, string, strings}
+use Rattle.js_assert.specs.Assertion.{Asserted, says, characters}
 use Rattle.js_assert.specs.declared.keyword.Keyword.{Keyword}
 use Rattle.js_assert.specs.declared.keyword.Keyword.TheVariants.{«Type», Enum, Const, MultipleOf, Maximum, ExclusiveMaximum, Minimum, ExclusiveMinimum, MaxLength, MinLength, Pattern, MaxItems, MinItems, UniqueItems, MaxContains, MinContains, MaxProperties, MinProperties, Required, DependentRequired}
 
@@ -50,11 +51,11 @@ pair_text (Some p) = codes "items " ++ (decimal p.0 ++ (codes " and " ++ (decima
 
 -- those of the names that are no member's, in their order
 abbrev pub without : Named → List (List ℕ) → List (List ℕ)
-without ms names = filter (λ name. not (has name ms)) names
+without ms names = filter (λ name. not (has_name name ms)) names
 
 -- the names that the members present ask for, one after another
 abbrev pub asked : Named → Named → List (List ℕ)
-asked ms dependences = flat_map (λ d. if has d.0 ms then strings d.1 else []) dependences
+asked ms dependences = flat_map (λ d. if has_name d.0 ms then strings d.1 else []) dependences
 
 -- the names and those in `sorted`, ascending by their bytes, each once
 abbrev pub sorted_with : List (List ℕ) → List (List ℕ) → List (List ℕ)
@@ -80,21 +81,21 @@ module _ (argument : Value) (v : Value) (matching : ℕ) where
   text_by MaxLength = counted (characters (string v)) (codes " characters, at most ") (number argument)
   text_by MinLength = counted (characters (string v)) (codes " characters, at least ") (number argument)
   text_by Pattern = codes "no match"
-  text_by MaxItems = counted (length (values v)) (codes " items, at most ") (number argument)
-  text_by MinItems = counted (length (values v)) (codes " items, at least ") (number argument)
-  text_by UniqueItems = pair_text (equal_pair 0 (values v))
+  text_by MaxItems = counted (length (items_of v)) (codes " items, at most ") (number argument)
+  text_by MinItems = counted (length (items_of v)) (codes " items, at least ") (number argument)
+  text_by UniqueItems = pair_text (equal_pair 0 (items_of v))
   text_by MaxContains = counted matching (codes " matching items, at most ") (number argument)
   text_by MinContains = counted matching (codes " matching items, at least ") (number argument)
-  text_by MaxProperties = counted (length (entries v)) (codes " members, at most ") (number argument)
-  text_by MinProperties = counted (length (entries v)) (codes " members, at least ") (number argument)
-  text_by Required = missing (map text (without (entries v) (strings argument)))
-  text_by DependentRequired = missing (map text (sorted_with [] (without (entries v) (asked (entries v) (entries argument)))))
+  text_by MaxProperties = counted (length (members_of v)) (codes " members, at most ") (number argument)
+  text_by MinProperties = counted (length (members_of v)) (codes " members, at least ") (number argument)
+  text_by Required = missing (map text (without (members_of v) (strings argument)))
+  text_by DependentRequired = missing (map text (sorted_with [] (without (members_of v) (asked (members_of v) (members_of argument)))))
 
--- the error of a keyword with this argument, beside `contains` or not, at v, of which so many items match the
--- adjacent `contains`; none where it holds
-abbrev pub error_of : Keyword → Value → Bool → Value → ℕ → Option (List ℕ)
-error_of keyword argument beside_contains v matching =
-    if says_by argument beside_contains v matching keyword then None else Some (text_by argument v matching keyword)
+-- the text of the error that v makes, where the assertion doesn't hold, if so many of its items match the adjacent
+-- `contains`
+abbrev pub error_text : Asserted → Value → ℕ → List ℕ
+error_text a v matching = text_by a.argument v matching a.keyword
 
+-- the error that v makes; none where the assertion holds
 abbrev pub error : Asserted → Value → ℕ → Option (List ℕ)
-error a v matching = error_of a.keyword a.argument a.beside_contains v matching
+error a v matching = if says a v matching then None else Some (error_text a v matching)

@@ -1,11 +1,12 @@
 -- Which arguments the keywords take (JSON Schema Validation, section 6). A fraction is no number here, and no list
 -- that is asked to have no repeats may have one.
-use Rattle.std.specs.Prelude.{◌≡◌, ℕ, ℤ, pos, List, [], ◌∷◌, ◌++◌, Bool, true, false, not, ◌&&◌, codes, int_le, int_lt}
+use Rattle.std.specs.Prelude.{◌≡◌, ℕ, ℤ, pos, List, [], ◌∷◌, ◌++◌, Bool, true, false, not, ◌&&◌, map, codes, int_le, int_lt}
 use Rattle.std.specs.List.{list_any, list_all}
 use Rattle.std.specs.Option.{option_map_or}
 use Rattle.std.specs.Str.{bytes_eq}
 use Rattle.js_doc.specs.Value.{Value, truth, whole, text, list, object}
-use Rattle.js_assert.specs.Argument.{listed, named, string, strings}
+use Rattle.js_doc.specs.Parts.{item_list, member_list}
+use Rattle.js_assert.specs.Argument.{string}
 use Rattle.js_assert.specs.Keyword.{keyword_named}
 use Rattle.js_assert.specs.Pattern.{is_pattern}
 use Rattle.js_assert.specs.declared.fault.KeywordFault.{KeywordFault}
@@ -53,12 +54,12 @@ are_new_names seen (v ∷ vs) = is_new_name seen v && are_new_names (seen ++ str
 
 -- a list of strings without repeats
 abbrev pub is_list_of_names : Value → Bool
-is_list_of_names (list vs) = are_new_names [] (listed vs)
+is_list_of_names (list vs) = are_new_names [] (item_list vs)
 is_list_of_names _ = false
 
 -- an object of such lists
 abbrev pub is_object_of_names : Value → Bool
-is_object_of_names (object ms) = list_all (λ m. is_list_of_names m.1) (named ms)
+is_object_of_names (object ms) = list_all (λ m. is_list_of_names m.1) (member_list ms)
 is_object_of_names _ = false
 
 abbrev pub type_names : List (List ℕ)
@@ -68,10 +69,14 @@ type_names =
 abbrev pub is_type_name : List ℕ → Bool
 is_type_name s = list_any (bytes_eq s) type_names
 
+-- names of types, none twice, and none of those seen before
+abbrev pub are_new_types : List (List ℕ) → List Value → Bool
+are_new_types seen vs = are_new_names seen vs && list_all is_type_name (map string vs)
+
 -- a type's name, or a list of such names that is not empty, without repeats
 abbrev pub is_type : Value → Bool
 is_type (text s) = is_type_name s
-is_type (list vs) = not (is_empty (listed vs)) && (is_list_of_names (list vs) && list_all is_type_name (strings (list vs)))
+is_type (list vs) = not (is_empty (item_list vs)) && are_new_types [] (item_list vs)
 is_type _ = false
 
 -- ---- the table

@@ -8,3 +8,4 @@ pub mod Names
 pub mod Types
 pub mod Dependences
 pub mod Seen
+pub mod Laws

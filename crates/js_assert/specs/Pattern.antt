@@ -1,8 +1,9 @@
 -- What a text says as a pattern (JSON Schema Validation, section 6.3.3), in the dialect of `regex`.
 use Rattle.std.specs.Prelude.{◌≡◌, ℕ, Bool, true, false, List, Option, Some, None, is_some, chars, nat_lt, not, ◌&&◌}
 use Rattle.regex.specs.Patterns.{find_str, default_config, Re}
-use Rattle.regex.specs.Strings.{regex_config, IsReadFromSource}
+use Rattle.regex.specs.Strings.{regex_config, regex_pattern, matcher_pattern, IsReadFromSource}
 use Rattle.regex.specs.declared.string.regex.Regex.{Regex}
+use Rattle.regex.specs.declared.string.matcher.Matcher.{Matcher}
 use Rattle.regex_syntax.specs.Brackets.{Nested}
 use Rattle.regex_syntax.specs.Grammar.{read, Names}
 use Rattle.js_assert.specs.declared.pattern.PatternFault.{PatternFault}
@@ -44,3 +45,8 @@ IsPatternFault pattern PatternTooLarge = is_pattern pattern ≡ true
 pub record IsCompiled (r : Regex) : Type 0 where
   pub config : regex_config r ≡ default_config
   pub read : IsReadFromSource r
+
+-- a matcher searches for what was compiled
+pub record IsSearchedBy (r : Regex) (m : Matcher) : Type 0 where
+  pub compiled : IsCompiled r
+  pub same : matcher_pattern m ≡ regex_pattern r

@@ -1,101 +1,71 @@
 //! The assertions on arrays (JSON Schema Validation, section 6.4). A value of another type passes.
-ghost use Rattle.std.specs.Prelude.{◌≡◌, IfOk, false, option_map, string_bytes, pos, Some};
+ghost use Rattle.std.specs.Prelude.{◌≡◌, IfOk, false, pos, length};
 ghost use Rattle.js_doc.specs.Seen.{value_of};
 ghost use Rattle.js_doc.specs.Value.{truth, whole};
-ghost use Rattle.js_assert.specs.ErrorText.{error_of, pair_text};
+ghost use Rattle.js_doc.specs.Parts.{items_of};
+ghost use Rattle.js_assert.specs.Assertion.{says_by};
 
-use crate::error_text::{counted_unless, put_number};
 use crate::keyword::Keyword;
 use crate::unique::least_equal_pair;
 use js_doc::{Doc, Memory};
 use std::alloc::Global;
 
-#[tactic(auto, using(crate::proofs::Listed::listed_items))]
-pub(crate) fn max_items(alloc: Global, limit: u64, value: &Doc) -> Result<Option<String>, Memory>
-    ensures { IfOk result (λ e. option_map string_bytes e
-        ≡ error_of Keyword.MaxItems (whole (pos limit)) false (value_of value.now) 0) }
+#[tactic(auto, using(crate::proofs::Listed::array_rules))]
+pub(crate) fn max_items(limit: u64, value: &Doc) -> bool
+    ensures { result ≡ says_by (whole (pos limit)) false (value_of value.now) 0 Keyword.MaxItems }
 {
-    let Doc::List(items) = value else {
-        return Ok(None);
-    };
-    let count = items.len() as u64;
-    counted_unless(alloc, count <= limit, count, " items, at most ", limit)
-}
-
-#[tactic(auto, using(crate::proofs::Listed::listed_items))]
-pub(crate) fn min_items(alloc: Global, limit: u64, value: &Doc) -> Result<Option<String>, Memory>
-    ensures { IfOk result (λ e. option_map string_bytes e
-        ≡ error_of Keyword.MinItems (whole (pos limit)) false (value_of value.now) 0) }
-{
-    let Doc::List(items) = value else {
-        return Ok(None);
-    };
-    let count = items.len() as u64;
-    counted_unless(alloc, limit <= count, count, " items, at least ", limit)
-}
-
-pub(crate) fn unique_items(
-    alloc: Global,
-    asked: bool,
-    value: &Doc,
-) -> Result<Option<String>, Memory>
-    ensures { IfOk result (λ e. option_map string_bytes e
-        ≡ error_of Keyword.UniqueItems (truth asked) false (value_of value.now) 0) }
-{
-    let Doc::List(items) = value else {
-        return Ok(None);
-    };
-    if !asked {
-        return Ok(None);
-    }
-    let pair = least_equal_pair(alloc, items.as_slice())?;
-    match pair {
-        Some((i, j)) => Ok(Some(equal_text(alloc, i, j)?)),
-        None => Ok(None),
+    match value {
+        Doc::List(items) => items.len() as u64 <= limit,
+        _ => true,
     }
 }
 
-fn equal_text(alloc: Global, i: usize, j: usize) -> Result<String, Memory>
-    ensures { IfOk result (λ s. string_bytes s ≡ pair_text (Some (i, j))) }
+#[tactic(auto, using(crate::proofs::Listed::array_rules))]
+pub(crate) fn min_items(limit: u64, value: &Doc) -> bool
+    ensures { result ≡ says_by (whole (pos limit)) false (value_of value.now) 0 Keyword.MinItems }
 {
-    let mut text = String::from_str(alloc, "items ")?;
-    put_number(&mut text, i)?;
-    text.push_str(" and ")?;
-    put_number(&mut text, j)?;
-    text.push_str(" are equal")?;
-    Ok(text)
+    match value {
+        Doc::List(items) => limit <= items.len() as u64,
+        _ => true,
+    }
 }
 
-pub(crate) fn max_contains(
-    alloc: Global,
-    limit: u64,
-    beside_contains: bool,
-    value: &Doc,
-    matching: u64,
-) -> Result<Option<String>, Memory>
-    ensures { IfOk result (λ e. option_map string_bytes e
-        ≡ error_of Keyword.MaxContains (whole (pos limit)) beside_contains (value_of value.now) matching) }
+pub(crate) fn unique_items(alloc: Global, asked: bool, value: &Doc) -> Result<bool, Memory>
+    ensures { IfOk result (λ b. b ≡ says_by (truth asked) false (value_of value.now) 0 Keyword.UniqueItems) }
 {
-    let Doc::List(_) = value else {
-        return Ok(None);
-    };
-    let holds = !beside_contains || matching <= limit;
-    counted_unless(alloc, holds, matching, " matching items, at most ", limit)
+    match value {
+        Doc::List(items) if asked => Ok(least_equal_pair(alloc, items.as_slice())?.is_none()),
+        _ => Ok(true),
+    }
 }
 
-pub(crate) fn min_contains(
-    alloc: Global,
-    limit: u64,
-    beside_contains: bool,
-    value: &Doc,
-    matching: u64,
-) -> Result<Option<String>, Memory>
-    ensures { IfOk result (λ e. option_map string_bytes e
-        ≡ error_of Keyword.MinContains (whole (pos limit)) beside_contains (value_of value.now) matching) }
+pub(crate) fn max_contains(limit: u64, beside_contains: bool, value: &Doc, matching: u64) -> bool
+    ensures { result
+        ≡ says_by (whole (pos limit)) beside_contains (value_of value.now) matching Keyword.MaxContains }
 {
-    let Doc::List(_) = value else {
-        return Ok(None);
-    };
-    let holds = !beside_contains || limit <= matching;
-    counted_unless(alloc, holds, matching, " matching items, at least ", limit)
+    match value {
+        Doc::List(_) => !beside_contains || matching <= limit,
+        _ => true,
+    }
+}
+
+pub(crate) fn min_contains(limit: u64, beside_contains: bool, value: &Doc, matching: u64) -> bool
+    ensures { result
+        ≡ says_by (whole (pos limit)) beside_contains (value_of value.now) matching Keyword.MinContains }
+{
+    match value {
+        Doc::List(_) => !beside_contains || limit <= matching,
+        _ => true,
+    }
+}
+
+/// How many items the value has, if it is an array.
+#[tactic(auto, using(crate::proofs::Listed::array_rules))]
+pub(crate) fn item_count(value: &Doc) -> u64
+    ensures { result ≡ length (items_of (value_of value.now)) }
+{
+    match value {
+        Doc::List(items) => items.len() as u64,
+        _ => 0,
+    }
 }

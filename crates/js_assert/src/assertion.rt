@@ -1,5 +1,6 @@
 ghost use Rattle.std.specs.Prelude.{◌≡◌, IfOk, IfErr, true, codes, option_map, string_bytes};
 
+use crate::error_text::text_of;
 use crate::fault::KeywordFault;
 use crate::instance_type::Types;
 use crate::keyword::Keyword;
@@ -66,8 +67,8 @@ impl Model for Assertion {
 impl Assertion {
     ghost use Rattle.js_doc.specs.Seen.{value_of};
     ghost use Rattle.js_assert.specs.Argument.{string};
-    ghost use Rattle.js_assert.specs.Assertion.{asserted};
-    ghost use Rattle.js_assert.specs.ErrorText.{error};
+    ghost use Rattle.js_assert.specs.Assertion.{asserted, says};
+    ghost use Rattle.js_assert.specs.ErrorText.{error, error_text};
     ghost use Rattle.js_assert.specs.Form.{has_form, IsKeywordFault};
     ghost use Rattle.js_assert.specs.Pattern.{is_pattern};
 
@@ -101,42 +102,61 @@ impl Assertion {
         }))
     }
 
-    /// The text of the error that the value makes, or None where the assertion holds. `matching` counts the items
-    /// of an array that match the adjacent `contains`; only `maxContains` and `minContains` look at it, and only
-    /// if there is such a `contains`.
+    /// Whether the value meets the assertion. `matching` counts the items of an array that match the adjacent
+    /// `contains`; only `maxContains` and `minContains` look at it, and only if there is such a `contains`.
+    ///
+    /// # Errors
+    /// `Memory`: only `pattern` and `uniqueItems` want some.
+    pub fn holds(&self, alloc: Global, value: &Doc, matching: u64) -> Result<bool, Memory>
+        ensures { IfOk result (λ b. b ≡ says self.now (value_of value.now) matching) }
+    {
+        let beside = self.beside_contains;
+        match &self.test {
+            Test::Type(types) => Ok(types.take(value)),
+            Test::Enum(docs) => Ok(any_type::enumeration(docs.as_slice(), value)),
+            Test::Const(doc) => Ok(doc == value),
+            Test::MultipleOf(divisor) => Ok(numbers::multiple_of(*divisor, value)),
+            Test::Maximum(limit) => Ok(numbers::maximum(*limit, value)),
+            Test::ExclusiveMaximum(limit) => Ok(numbers::exclusive_maximum(*limit, value)),
+            Test::Minimum(limit) => Ok(numbers::minimum(*limit, value)),
+            Test::ExclusiveMinimum(limit) => Ok(numbers::exclusive_minimum(*limit, value)),
+            Test::MaxLength(limit) => Ok(strings::max_length(*limit, value)),
+            Test::MinLength(limit) => Ok(strings::min_length(*limit, value)),
+            Test::Pattern(pattern) => strings::pattern(alloc, pattern, value),
+            Test::MaxItems(limit) => Ok(arrays::max_items(*limit, value)),
+            Test::MinItems(limit) => Ok(arrays::min_items(*limit, value)),
+            Test::UniqueItems(asked) => arrays::unique_items(alloc, *asked, value),
+            Test::MaxContains(limit) => Ok(arrays::max_contains(*limit, beside, value, matching)),
+            Test::MinContains(limit) => Ok(arrays::min_contains(*limit, beside, value, matching)),
+            Test::MaxProperties(limit) => Ok(objects::max_properties(*limit, value)),
+            Test::MinProperties(limit) => Ok(objects::min_properties(*limit, value)),
+            Test::Required(names) => Ok(objects::required(names.as_slice(), value)),
+            Test::DependentRequired(dependences) => {
+                Ok(objects::dependent_required(dependences.as_slice(), value))
+            }
+        }
+    }
+
+    /// The text of the error that the value makes where it doesn't meet the assertion. Whether it does isn't asked.
+    ///
+    /// # Errors
+    /// `Memory`.
+    pub fn error(&self, alloc: Global, value: &Doc, matching: u64) -> Result<String, Memory>
+        ensures { IfOk result (λ s. string_bytes s ≡ error_text self.now (value_of value.now) matching) }
+    {
+        text_of(alloc, &self.test, value, matching)
+    }
+
+    /// The error's text, or None where the value meets the assertion.
     ///
     /// # Errors
     /// `Memory`.
     pub fn check(&self, alloc: Global, value: &Doc, matching: u64) -> Result<Option<String>, Memory>
         ensures { IfOk result (λ e. option_map string_bytes e ≡ error self.now (value_of value.now) matching) }
     {
-        match &self.test {
-            Test::Type(types) => any_type::types(alloc, types, value),
-            Test::Enum(docs) => any_type::enumeration(alloc, docs.as_slice(), value),
-            Test::Const(doc) => any_type::constant(alloc, doc, value),
-            Test::MultipleOf(divisor) => numbers::multiple_of(alloc, *divisor, value),
-            Test::Maximum(limit) => numbers::maximum(alloc, *limit, value),
-            Test::ExclusiveMaximum(limit) => numbers::exclusive_maximum(alloc, *limit, value),
-            Test::Minimum(limit) => numbers::minimum(alloc, *limit, value),
-            Test::ExclusiveMinimum(limit) => numbers::exclusive_minimum(alloc, *limit, value),
-            Test::MaxLength(limit) => strings::max_length(alloc, *limit, value),
-            Test::MinLength(limit) => strings::min_length(alloc, *limit, value),
-            Test::Pattern(pattern) => strings::pattern(alloc, pattern, value),
-            Test::MaxItems(limit) => arrays::max_items(alloc, *limit, value),
-            Test::MinItems(limit) => arrays::min_items(alloc, *limit, value),
-            Test::UniqueItems(asked) => arrays::unique_items(alloc, *asked, value),
-            Test::MaxContains(limit) => {
-                arrays::max_contains(alloc, *limit, self.beside_contains, value, matching)
-            }
-            Test::MinContains(limit) => {
-                arrays::min_contains(alloc, *limit, self.beside_contains, value, matching)
-            }
-            Test::MaxProperties(limit) => objects::max_properties(alloc, *limit, value),
-            Test::MinProperties(limit) => objects::min_properties(alloc, *limit, value),
-            Test::Required(names) => objects::required(alloc, names.as_slice(), value),
-            Test::DependentRequired(dependences) => {
-                objects::dependent_required(alloc, dependences.as_slice(), value)
-            }
+        if self.holds(alloc, value, matching)? {
+            return Ok(None);
         }
+        Ok(Some(self.error(alloc, value, matching)?))
     }
 }

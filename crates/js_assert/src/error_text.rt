@@ -1,65 +1,114 @@
 //! The texts of the errors. The standard leaves them open: they are this project's own.
-ghost use Rattle.std.specs.Prelude.{◌≡◌, ◌++◌, IfOk, OnOk, None, Some, option_map, if◌then◌else◌, string_bytes, pos};
-ghost use Rattle.js_assert.specs.ErrorText.{numbered, counted};
+ghost use Rattle.std.specs.Prelude.{◌≡◌, ◌++◌, IfOk, OnOk, string_bytes, pos, Some};
+ghost use Rattle.js_doc.specs.Seen.{value_of};
+ghost use Rattle.js_doc.specs.Parts.{items_of};
+ghost use Rattle.js_assert.specs.ErrorText.{numbered, counted, equal_pair, pair_text, text_by};
+ghost use Rattle.js_assert.specs.Seen.{keyword_of, argument_of};
 
+use crate::any_type::type_text;
+use crate::arrays::item_count;
+use crate::assertion::Test;
+use crate::missing::{missing_of, missing_of_all};
+use crate::objects::member_count;
+use crate::strings::length;
+use crate::unique::least_equal_pair;
 use itoa::{Buffer, Integer};
-use js_doc::Memory;
+use js_doc::{Doc, Memory};
 use std::alloc::Global;
 
-/// The words, where the test fails.
-pub(crate) fn words_unless(
+/// The text of the error that the value makes, where it doesn't meet the test.
+pub(crate) fn text_of(
     alloc: Global,
-    holds: bool,
-    words: &str,
-) -> Result<Option<String>, Memory>
-    ensures { IfOk result (λ e. option_map string_bytes e ≡ (if holds then None else Some words.now)) }
+    test: &Test,
+    value: &Doc,
+    matching: u64,
+) -> Result<String, Memory>
+    ensures { IfOk result (λ s. string_bytes s
+        ≡ text_by (argument_of test.now) (value_of value.now) matching (keyword_of test.now)) }
 {
-    if holds {
-        return Ok(None);
+    match test {
+        Test::Type(_) => words(alloc, type_text(value)),
+        Test::Enum(_) => words(alloc, "not a listed value"),
+        Test::Const(_) => words(alloc, "not the constant"),
+        Test::MultipleOf(divisor) => numbered(
+            alloc,
+            "not a multiple of ",
+            i128::from(divisor.get()),
+        ),
+        Test::Maximum(limit) => numbered(alloc, "greater than ", limit.value()),
+        Test::ExclusiveMaximum(limit) => numbered(alloc, "not less than ", limit.value()),
+        Test::Minimum(limit) => numbered(alloc, "less than ", limit.value()),
+        Test::ExclusiveMinimum(limit) => numbered(alloc, "not greater than ", limit.value()),
+        Test::MaxLength(limit) => counted(alloc, length(value), " characters, at most ", *limit),
+        Test::MinLength(limit) => counted(alloc, length(value), " characters, at least ", *limit),
+        Test::Pattern(_) => words(alloc, "no match"),
+        Test::MaxItems(limit) => counted(alloc, item_count(value), " items, at most ", *limit),
+        Test::MinItems(limit) => counted(alloc, item_count(value), " items, at least ", *limit),
+        Test::UniqueItems(_) => equal_items(alloc, value),
+        Test::MaxContains(limit) => counted(alloc, matching, " matching items, at most ", *limit),
+        Test::MinContains(limit) => counted(alloc, matching, " matching items, at least ", *limit),
+        Test::MaxProperties(limit) => {
+            counted(alloc, member_count(value), " members, at most ", *limit)
+        }
+        Test::MinProperties(limit) => {
+            counted(alloc, member_count(value), " members, at least ", *limit)
+        }
+        Test::Required(names) => missing_of(alloc, names.as_slice(), value),
+        Test::DependentRequired(dependences) => {
+            missing_of_all(alloc, dependences.as_slice(), value)
+        }
     }
-    Ok(Some(String::from_str(alloc, words)?))
 }
 
-/// The words and then the number, where the test fails.
-pub(crate) fn numbered_unless(
-    alloc: Global,
-    holds: bool,
-    words: &str,
-    number: i128,
-) -> Result<Option<String>, Memory>
-    ensures { IfOk result (λ e.
-        option_map string_bytes e ≡ (if holds then None else Some (numbered words.now number))) }
+fn words(alloc: Global, words: &str) -> Result<String, Memory>
+    ensures { IfOk result (λ s. string_bytes s ≡ words.now) }
 {
-    if holds {
-        return Ok(None);
-    }
+    Ok(String::from_str(alloc, words)?)
+}
+
+fn numbered(alloc: Global, words: &str, number: i128) -> Result<String, Memory>
+    ensures { IfOk result (λ s. string_bytes s ≡ numbered words.now number) }
+{
     let mut text = String::from_str(alloc, words)?;
     put_number(&mut text, number)?;
-    Ok(Some(text))
+    Ok(text)
 }
 
-/// The count, the words and then the limit, where the test fails.
-pub(crate) fn counted_unless(
-    alloc: Global,
-    holds: bool,
-    count: u64,
-    words: &str,
-    limit: u64,
-) -> Result<Option<String>, Memory>
-    ensures { IfOk result (λ e.
-        option_map string_bytes e ≡ (if holds then None else Some (counted count words.now (pos limit)))) }
+fn counted(alloc: Global, count: u64, words: &str, limit: u64) -> Result<String, Memory>
+    ensures { IfOk result (λ s. string_bytes s ≡ counted count words.now (pos limit)) }
 {
-    if holds {
-        return Ok(None);
-    }
     let mut text = String::new(alloc);
     put_number(&mut text, count)?;
     text.push_str(words)?;
     put_number(&mut text, limit)?;
-    Ok(Some(text))
+    Ok(text)
 }
 
-pub(crate) fn put_number<I: Integer>(out: &mut String, number: I) -> Result<(), Memory>
+// The least pair of equal items, by their positions.
+fn equal_items(alloc: Global, value: &Doc) -> Result<String, Memory>
+    ensures { IfOk result (λ s. string_bytes s ≡ pair_text (equal_pair 0 (items_of (value_of value.now)))) }
+{
+    let Doc::List(items) = value else {
+        return Ok(String::new(alloc));
+    };
+    match least_equal_pair(alloc, items.as_slice())? {
+        Some(pair) => equal_text(alloc, pair),
+        None => Ok(String::new(alloc)),
+    }
+}
+
+fn equal_text(alloc: Global, pair: (usize, usize)) -> Result<String, Memory>
+    ensures { IfOk result (λ s. string_bytes s ≡ pair_text (Some pair)) }
+{
+    let mut text = String::from_str(alloc, "items ")?;
+    put_number(&mut text, pair.0)?;
+    text.push_str(" and ")?;
+    put_number(&mut text, pair.1)?;
+    text.push_str(" are equal")?;
+    Ok(text)
+}
+
+fn put_number<I: Integer>(out: &mut String, number: I) -> Result<(), Memory>
     ensures { OnOk result (string_bytes out.new ≡ string_bytes out.old ++ I.text number) }
 {
     let mut buffer = Buffer::new();

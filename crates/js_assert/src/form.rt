@@ -3,7 +3,7 @@ ghost use Rattle.std.specs.Prelude.{◌≡◌, IfOk, IfErr, true, false, pos, ma
 ghost use Rattle.std.specs.Int.NonZero.{non_zero_u64_get};
 ghost use Rattle.js_doc.specs.Seen.{value_of};
 ghost use Rattle.js_doc.specs.Value.{truth, whole, text, list, object, items, members};
-ghost use Rattle.js_assert.specs.Form.{is_flag, is_number, is_number_above, is_count, is_string, is_list, is_list_of_names, is_object_of_names, is_type, is_type_name, are_new_names, IsFaultOf, IsBadUnless};
+ghost use Rattle.js_assert.specs.Form.{is_flag, is_number, is_number_above, is_count, is_string, is_list, is_list_of_names, is_object_of_names, is_type, are_new_types, are_new_names, IsFaultOf, IsBadUnless};
 ghost use Rattle.js_assert.specs.Names.{names_value};
 ghost use Rattle.js_assert.specs.Dependences.{dependence_of};
 ghost use Rattle.js_assert.specs.Types.{type_name, types_value};
@@ -155,23 +155,28 @@ pub(crate) fn types(alloc: Global, argument: &Doc) -> Result<Types, KeywordFault
             if items.is_empty() {
                 return Err(KeywordFault::BadKeyword);
             }
-            let names = names(alloc, argument)?;
-            Ok(Types::Several(types_named(alloc, names.as_slice())?))
+            Ok(Types::Several(distinct_types(alloc, items.as_slice())?))
         }
         _ => Err(KeywordFault::BadKeyword),
     }
 }
 
-fn types_named(alloc: Global, names: &[Text]) -> Result<Vec<InstanceType>, KeywordFault>
-    ensures ok { IfOk result (λ v. map type_name v.items ≡ names.now) }
-    ensures form { IfOk result (λ v. list_all is_type_name names.now ≡ true) }
-    ensures refused { IfErr result (IsBadUnless (list_all is_type_name names.now)) }
+fn distinct_types(alloc: Global, docs: &[Doc]) -> Result<Vec<InstanceType>, KeywordFault>
+    ensures ok { IfOk result (λ v. map value_of docs.now ≡ map text (map type_name v.items)) }
+    ensures form { IfOk result (λ v. are_new_types [] (map value_of docs.now) ≡ true) }
+    ensures refused { IfErr result (IsBadUnless (are_new_types [] (map value_of docs.now))) }
 {
-    let mut types = Vec::with_capacity(alloc, names.len())?;
-    for name in names {
+    let mut types = Vec::with_capacity(alloc, docs.len())?;
+    for doc in docs {
+        let Doc::Text(name) = doc else {
+            return Err(KeywordFault::BadKeyword);
+        };
         let Some(one) = InstanceType::named(name.as_str()) else {
             return Err(KeywordFault::BadKeyword);
         };
+        if types.as_slice().contains(&one) {
+            return Err(KeywordFault::BadKeyword);
+        }
         types.push(one)?;
     }
     Ok(types)

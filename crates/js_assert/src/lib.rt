@@ -9,10 +9,13 @@ mod fault;
 mod form;
 mod instance_type;
 mod keyword;
+pub mod laws;
+mod missing;
 mod numbers;
 mod objects;
 mod pattern;
 mod reading;
+mod searcher;
 mod strings;
 #[cfg(test)]
 mod tests;
@@ -21,3 +24,4 @@ mod unique;
 pub use assertion::Assertion;
 pub use fault::KeywordFault;
 pub use pattern::{Pattern, PatternFault};
+pub use searcher::Searcher;

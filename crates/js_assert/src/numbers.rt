@@ -1,80 +1,56 @@
 //! The assertions on numbers (JSON Schema Validation, section 6.2). A value of another type passes.
-ghost use Rattle.std.specs.Prelude.{◌≡◌, IfOk, false, option_map, string_bytes, pos};
+ghost use Rattle.std.specs.Prelude.{◌≡◌, false, pos};
 ghost use Rattle.std.specs.Int.NonZero.{non_zero_u64_get};
 ghost use Rattle.js_doc.specs.Seen.{value_of};
 ghost use Rattle.js_doc.specs.Value.{whole};
-ghost use Rattle.js_assert.specs.ErrorText.{error_of};
+ghost use Rattle.js_assert.specs.Assertion.{says_by};
 
-use crate::error_text::numbered_unless;
 use crate::keyword::Keyword;
-use js_doc::{Doc, Memory, Whole};
-use std::alloc::Global;
+use js_doc::{Doc, Whole};
 use std::num::NonZeroU64;
 
-pub(crate) fn multiple_of(
-    alloc: Global,
-    divisor: NonZeroU64,
-    value: &Doc,
-) -> Result<Option<String>, Memory>
-    ensures { IfOk result (λ e. option_map string_bytes e
-        ≡ error_of Keyword.MultipleOf (whole (pos (non_zero_u64_get divisor))) false (value_of value.now) 0) }
+pub(crate) fn multiple_of(divisor: NonZeroU64, value: &Doc) -> bool
+    ensures { result
+        ≡ says_by (whole (pos (non_zero_u64_get divisor))) false (value_of value.now) 0 Keyword.MultipleOf }
 {
-    let Doc::Whole(number) = value else {
-        return Ok(None);
-    };
-    let divisor = divisor.get();
-    let rest = number.value().unsigned_abs() % u128::from(divisor);
-    numbered_unless(alloc, rest == 0, "not a multiple of ", i128::from(divisor))
+    match value {
+        Doc::Whole(number) => number.value().unsigned_abs() % u128::from(divisor.get()) == 0,
+        _ => true,
+    }
 }
 
-pub(crate) fn maximum(alloc: Global, limit: Whole, value: &Doc) -> Result<Option<String>, Memory>
-    ensures { IfOk result (λ e. option_map string_bytes e
-        ≡ error_of Keyword.Maximum (whole limit) false (value_of value.now) 0) }
+pub(crate) fn maximum(limit: Whole, value: &Doc) -> bool
+    ensures { result ≡ says_by (whole limit) false (value_of value.now) 0 Keyword.Maximum }
 {
-    let Doc::Whole(number) = value else {
-        return Ok(None);
-    };
-    let limit = limit.value();
-    numbered_unless(alloc, number.value() <= limit, "greater than ", limit)
+    match value {
+        Doc::Whole(number) => number.value() <= limit.value(),
+        _ => true,
+    }
 }
 
-pub(crate) fn exclusive_maximum(
-    alloc: Global,
-    limit: Whole,
-    value: &Doc,
-) -> Result<Option<String>, Memory>
-    ensures { IfOk result (λ e. option_map string_bytes e
-        ≡ error_of Keyword.ExclusiveMaximum (whole limit) false (value_of value.now) 0) }
+pub(crate) fn exclusive_maximum(limit: Whole, value: &Doc) -> bool
+    ensures { result ≡ says_by (whole limit) false (value_of value.now) 0 Keyword.ExclusiveMaximum }
 {
-    let Doc::Whole(number) = value else {
-        return Ok(None);
-    };
-    let limit = limit.value();
-    numbered_unless(alloc, number.value() < limit, "not less than ", limit)
+    match value {
+        Doc::Whole(number) => number.value() < limit.value(),
+        _ => true,
+    }
 }
 
-pub(crate) fn minimum(alloc: Global, limit: Whole, value: &Doc) -> Result<Option<String>, Memory>
-    ensures { IfOk result (λ e. option_map string_bytes e
-        ≡ error_of Keyword.Minimum (whole limit) false (value_of value.now) 0) }
+pub(crate) fn minimum(limit: Whole, value: &Doc) -> bool
+    ensures { result ≡ says_by (whole limit) false (value_of value.now) 0 Keyword.Minimum }
 {
-    let Doc::Whole(number) = value else {
-        return Ok(None);
-    };
-    let limit = limit.value();
-    numbered_unless(alloc, limit <= number.value(), "less than ", limit)
+    match value {
+        Doc::Whole(number) => limit.value() <= number.value(),
+        _ => true,
+    }
 }
 
-pub(crate) fn exclusive_minimum(
-    alloc: Global,
-    limit: Whole,
-    value: &Doc,
-) -> Result<Option<String>, Memory>
-    ensures { IfOk result (λ e. option_map string_bytes e
-        ≡ error_of Keyword.ExclusiveMinimum (whole limit) false (value_of value.now) 0) }
+pub(crate) fn exclusive_minimum(limit: Whole, value: &Doc) -> bool
+    ensures { result ≡ says_by (whole limit) false (value_of value.now) 0 Keyword.ExclusiveMinimum }
 {
-    let Doc::Whole(number) = value else {
-        return Ok(None);
-    };
-    let limit = limit.value();
-    numbered_unless(alloc, limit < number.value(), "not greater than ", limit)
+    match value {
+        Doc::Whole(number) => limit.value() < number.value(),
+        _ => true,
+    }
 }

@@ -1,6 +1,9 @@
 //! Patterns, in the dialect of `regex` (JSON Schema Validation, section 6.3.3).
-ghost use Rattle.std.specs.Prelude.{◌≡◌, IfOk, IfErr, true};
+ghost use Rattle.std.specs.Prelude.{◌≡◌, IfOk, IfErr, true, false};
+ghost use Rattle.regex.specs.Strings.{regex_source};
+ghost use Rattle.js_assert.specs.Pattern.{IsCompiled};
 
+use crate::searcher::Searcher;
 use js_doc::Memory;
 use regex::{Error, Regex};
 use std::alloc::Global;
@@ -18,10 +21,11 @@ pub enum PatternFault {
     PatternTooLarge,
 }
 
-/// A pattern, ready to search with (JSON Schema Validation, section 6.3.3). Contracts see it as its text.
+/// A compiled pattern (JSON Schema Validation, section 6.3.3). Contracts see it as its text.
 #[derive(Debug, Drop)]
 pub struct Pattern {
-    regex: Regex,
+    // A regex is large, and most keywords hold something small.
+    regex: Box<Regex>,
 }
 
 impl Model for Pattern {
@@ -31,31 +35,42 @@ impl Model for Pattern {
 
     ghost Value = { List ℕ };
 
-    ghost view = { λ p. regex_source p.regex };
+    ghost view = { λ p. regex_source p.regex.value };
 
-    ghost invariant = { λ p. IsCompiled p.regex };
+    ghost invariant = { λ p. IsCompiled p.regex.value };
 }
 
 impl Pattern {
-    ghost use Rattle.js_assert.specs.Pattern.{is_pattern, matches, IsPatternFault};
+    ghost use Rattle.js_assert.specs.Pattern.{is_pattern, nests_too_deep, matches, IsPatternFault};
 
     /// The pattern of this text.
     ///
     /// # Errors
     /// `Memory`; `NotAPattern` only where the grammar of `regex` reads no pattern in the text, or one that nests
-    /// deeper than it takes; `PatternTooLarge` only for a pattern.
+    /// deeper than it takes; `PatternTooLarge` only for a pattern. A pattern that nests too deep is always refused.
     pub fn new(alloc: Global, text: &str) -> Result<Pattern, PatternFault>
         ensures ok { IfOk result (λ p. p ≡ text.now) }
         ensures read { IfOk result (λ _. is_pattern text.now ≡ true) }
+        ensures shallow { IfOk result (λ _. nests_too_deep text.now ≡ false) }
         ensures refused { IfErr result (IsPatternFault text.now) }
     {
         match Regex::new(alloc, text) {
-            Ok(regex) => Ok(Pattern { regex }),
+            Ok(regex) => boxed(alloc, regex),
             Err(Error::Syntax(_)) => Err(PatternFault::NotAPattern),
             Err(Error::OutOfMemory) => Err(PatternFault::Memory),
             Err(Error::CompiledTooBig) => Err(PatternFault::PatternTooLarge),
             Err(Error::Internal) => Err(PatternFault::PatternTooLarge),
         }
+    }
+
+    /// What searches with the pattern: for many texts, make it once.
+    ///
+    /// # Errors
+    /// `Memory`.
+    pub fn searcher(&self, alloc: Global) -> Result<Searcher<'_>, Memory>
+        ensures { IfOk result (λ s. s ≡ self.now) }
+    {
+        Searcher::new(alloc, &self.regex)
     }
 
     /// Whether the pattern matches somewhere in the text.
@@ -65,7 +80,18 @@ impl Pattern {
     pub fn holds(&self, alloc: Global, text: &str) -> Result<bool, Memory>
         ensures { IfOk result (λ b. b ≡ matches self.now text.now) }
     {
-        let mut matcher = self.regex.matcher(alloc)?;
-        Ok(matcher.is_match(text))
+        let mut searcher = self.searcher(alloc)?;
+        Ok(searcher.holds(text))
+    }
+}
+
+fn boxed(alloc: Global, regex: Regex) -> Result<Pattern, PatternFault>
+    requires { IsCompiled regex }
+    ensures ok { IfOk result (λ p. p ≡ regex_source regex) }
+    ensures refused { IfErr result (λ e. e ≡ PatternFault.Memory) }
+{
+    match Box::new(alloc, regex) {
+        Ok(regex) => Ok(Pattern { regex }),
+        Err(_) => Err(PatternFault::Memory),
     }
 }

@@ -6,8 +6,13 @@ use Rattle.js_doc.specs.Reading.{IsReadFault}
 use Rattle.js_doc.specs.declared.reading.ReadFault.{ReadFault}
 use Rattle.js_doc.specs.declared.reading.ReadFault.TheVariants as read_fault
 use Rattle.js_bundle.specs.declared.refusal.Refusal.{Refusal}
+use Rattle.js_bundle.specs.declared.refusal.RefusalKind.{RefusalKind}
+use Rattle.js_bundle.specs.declared.refusal.RefusalKind.TheVariants as kind
 use Rattle.js_bundle.specs.declared.document.Document as rust
-use Rattle.js_bundle.specs.Adding.{most_documents, IsUriOf, IsTaken, IsAdded, IsRefusedBy, refusal_of_read}
+use Rattle.js_doc.specs.Pointer.{Tokens}
+use Rattle.js_doc.specs.Seen.{value_of}
+use Rattle.js_doc.specs.declared.doc.Doc.{Doc}
+use Rattle.js_bundle.specs.Adding.{most_documents, IsUriOf, IsTaken, IsAdded, IsUnder, IsAddedAs, IsKind, IsRefusedBy, IsUriKind, IsUriRefusedBy, refusal_of_read}
 use Rattle.js_bundle.specs.Document.{Documents}
 use Rattle.js_bundle.specs.Keyword.{Text}
 use Rattle.js_bundle.specs.Url.{longest_uri}
@@ -30,4 +35,37 @@ added old uri bytes d docs new seen push taken = (
   document_of d,
   subst (λ n. IsTaken n uri bytes (document_of d)) (sym (length-map old document_of) ∙ ap length seen) taken,
   ap (map document_of) push ∙ map-append document_of old (d ∷ []) ∙ ap (λ ds. ds ++ document_of d ∷ []) seen,
+)
+
+-- ---- by the URI alone
+
+kind_of_uri : (held : ℕ) (uri : Text) (bytes : List ℕ) (place : Tokens) (k : RefusalKind) → IsUriKind held uri place k → IsKind held uri bytes place k
+kind_of_uri held uri bytes place kind.Memory h = h
+kind_of_uri held uri bytes place kind.NotJson h = absurd h
+kind_of_uri held uri bytes place kind.NotWhole h = absurd h
+kind_of_uri held uri bytes place kind.BadUri h = h
+kind_of_uri held uri bytes place kind.TooManyDocuments h = h
+kind_of_uri held uri bytes place kind.UriTooLong h = h
+kind_of_uri held uri bytes place kind.NotASchema h = absurd h
+kind_of_uri held uri bytes place kind.BadKeyword h = absurd h
+kind_of_uri held uri bytes place kind.BadPattern h = absurd h
+kind_of_uri held uri bytes place kind.PatternTooLarge h = absurd h
+kind_of_uri held uri bytes place kind.BadId h = absurd h
+kind_of_uri held uri bytes place kind.BadAnchor h = absurd h
+kind_of_uri held uri bytes place kind.UnknownDialect h = absurd h
+kind_of_uri held uri bytes place kind.DuplicateUri h = absurd h
+kind_of_uri held uri bytes place kind.DuplicateAnchor h = absurd h
+kind_of_uri held uri bytes place kind.TooManyPlaces h = absurd h
+kind_of_uri held uri bytes place kind.BadReference h = absurd h
+kind_of_uri held uri bytes place kind.Unresolved h = absurd h
+
+pub refused_by_uri : (held : ℕ) (uri : Text) (bytes : List ℕ) (r : Refusal) → IsUriRefusedBy held uri r → IsRefusedBy held uri bytes r
+refused_by_uri held uri bytes r h = (h.0, kind_of_uri held uri bytes r.place r.kind h.1)
+
+pub added_as : (old : List rust.Document) (uri : Text) (u : Parts) (root : Doc) (docs : Documents) (new : List rust.Document) → map document_of old ≡ docs
+    → new ≡ old ++ record { uri = u; root = root } ∷ [] → IsUnder (length old) uri u → IsAddedAs docs uri (value_of root) (map document_of new)
+added_as old uri u root docs new seen push under = (
+  u,
+  subst (λ n. IsUnder n uri u) (sym (length-map old document_of) ∙ ap length seen) under,
+  ap (map document_of) push ∙ map-append document_of old (record { uri = u; root = root } ∷ []) ∙ ap (λ ds. ds ++ record { uri = u; root = value_of root } ∷ []) seen,
 )

@@ -22,12 +22,12 @@ use Rattle.js_doc.specs.Pointer.{Tokens}
 use Rattle.js_bundle.proofs.Stopping.{stopped_here}
 use Rattle.js_bundle.proofs.Passes.{refused_one}
 
-abbrev at_bools : Bool → Bool → Site → Tokens → List Candidate
-at_bools true true place further = given place further kind.BadPattern
-at_bools true false place further = given place further kind.PatternTooLarge
+abbrev pub at_bools : Bool → Bool → Site → Tokens → List Candidate
+at_bools true true place further = given false place further kind.BadPattern
+at_bools true false place further = given true place further kind.PatternTooLarge
 at_bools false d place further = decided place further kind.BadPattern
 
-at_pattern-is : (g d : Bool) (place : Site) (further : Tokens) (t : Text) → is_in_grammar t ≡ g → nests_too_deep t ≡ d → at_pattern place further t ≡ at_bools g d place further
+pub at_pattern-is : (g d : Bool) (place : Site) (further : Tokens) (t : Text) → is_in_grammar t ≡ g → nests_too_deep t ≡ d → at_pattern place further t ≡ at_bools g d place further
 at_pattern-is true true place further t e f = rw (e, f)
 at_pattern-is true false place further t e f = rw (e, f)
 at_pattern-is false d place further t e f = rw e
@@ -36,7 +36,7 @@ at_pattern-is false d place further t e f = rw e
 
 clear_bools : (g d : Bool) (place : Site) (further : Tokens) → g && not d ≡ true → IsClear (at_bools g d place further)
 clear_bools true true place further e = absurd (cc)
-clear_bools true false place further e = (refl, tt)
+clear_bools true false place further e = ((refl, refl), tt)
 clear_bools false d place further e = absurd (cc)
 
 pub clear_pattern : (place : Site) (further : Tokens) (t : Text) → is_pattern t ≡ true → IsClear (at_pattern place further t)
@@ -73,18 +73,18 @@ stopped_form place k argument e h r =
 string_formed : (k : Text) (v : Value) → k ≡ codes "pattern" → assertion.has_form k v ≡ is_string v
 string_formed k v e = ap (λ x. assertion.has_form x v) e ∙ ap (λ o. option_map_or (takes v) o true) named-pattern
 
-given_one : (place : Site) (further : Tokens) (what : RefusalKind) (e : Fault) → IsRefusal (refusal_at place further what) e → IsStopped (given place further what) e
-given_one place further what Memory h = tt
-given_one place further what (Refused s) h = inl h
+given_one : (b : Bool) (place : Site) (further : Tokens) (what : RefusalKind) (e : Fault) → IsRefusal (refusal_at place further what) e → IsStopped (given b place further what) e
+given_one b place further what Memory h = tt
+given_one b place further what (Refused s) h = inl h
 
 bad_bools : (g d : Bool) (place : Site) (further : Tokens) (e : Fault) → g && not d ≡ false → IsRefusal (refusal_at place further kind.BadPattern) e → IsStopped (at_bools g d place further) e
-bad_bools true true place further e h r = given_one place further kind.BadPattern e r
+bad_bools true true place further e h r = given_one false place further kind.BadPattern e r
 bad_bools true false place further e h r = absurd (cc)
 bad_bools false d place further e h r = refused_one (refusal_at place further kind.BadPattern) e r
 
 large_bools : (g d : Bool) (place : Site) (further : Tokens) (e : Fault) → g && not d ≡ true → IsRefusal (refusal_at place further kind.PatternTooLarge) e → IsStopped (at_bools g d place further) e
 large_bools true true place further e h r = absurd (cc)
-large_bools true false place further e h r = given_one place further kind.PatternTooLarge e r
+large_bools true false place further e h r = given_one true place further kind.PatternTooLarge e r
 large_bools false d place further e h r = absurd (cc)
 
 pub bad_pattern : (place : Site) (further : Tokens) (t : Text) (e : Fault) → is_pattern t ≡ false → IsRefusal (refusal_at place further kind.BadPattern) e → IsStopped (at_pattern place further t) e

@@ -7,7 +7,7 @@ use Rattle.js_doc.proofs.Named.{is_text-refl, is_text-sound}
 use Rattle.js_bundle.specs.Document.{Documents}
 use Rattle.js_bundle.specs.Names.{same_tokens, stands_at}
 use Rattle.js_bundle.specs.Place.{Place, places_at, places_from}
-use Rattle.js_bundle.specs.PlaceLaws.{AreApart}
+use Rattle.js_bundle.specs.PlaceLaws.{AreApart, AreDistinct, Differ}
 use Rattle.js_bundle.specs.Resource.{Site, site, sites}
 use Rattle.js_bundle.specs.Seen.{AreOrdered, AreShort}
 use Rattle.js_bundle.proofs.Listing.{all_append}
@@ -41,13 +41,6 @@ pub stands_itself : (s : Site) → stands_at s.document s.pointer s ≡ true
 stands_itself s = rw (nat_eq-refl s.document, tokens-refl s.pointer) refl
 
 -- ---- no two of the listed places stand at one pointer of one document
-
-abbrev pub Differ : Place → Place → Type 0
-Differ t s = t.document ≡ s.document → ¬ (t.spot.pointer ≡ s.spot.pointer)
-
-abbrev pub AreDistinct : List Place → Type 0
-AreDistinct [] = Unit {0}
-AreDistinct (t ∷ ts) = AllByRecursion (λ s. Differ t s) ts × AreDistinct ts
 
 distinct_apart : (xs : List Place) → AreApart xs → AreDistinct xs
 distinct_apart [] h = tt

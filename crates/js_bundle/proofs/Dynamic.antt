@@ -1,5 +1,5 @@
 -- What a dynamic reference leads to.
-use Rattle.std.proofs.Common.{◌≡◌, ◌&&◌, ℕ, ◌+◌, ◌<◌, ◌≤◌, List, [], ◌∷◌, Bool, true, false, not, if◌then◌else◌, Option, Some, None, option_map, option_and_then, unwrap_or, is_some, slice_get, find, nat_eq, bytes_eq, codes, drop, length, refl, sym, ap, ◌∙◌, subst, arith}
+use Rattle.std.proofs.Common.{◌≡◌, ◌&&◌, ℕ, ◌+◌, ◌<◌, ◌≤◌, List, [], ◌∷◌, Bool, true, false, not, if◌then◌else◌, map, Option, Some, None, option_map, option_and_then, unwrap_or, is_some, slice_get, find, nat_eq, bytes_eq, codes, drop, length, refl, sym, ap, ◌∙◌, subst, arith}
 use Rattle.std.specs.List.{position_from}
 use Rattle.std.specs.Option.{option_map_or}
 use Rattle.std.proofs.lemmas.Bool.{ltb-true, lt-ltb}
@@ -8,10 +8,9 @@ use Rattle.std.proofs.lemmas.Option.{slice_get_within, slice_get-get_or, get_or_
 use Rattle.url.specs.Parts.{Parts}
 use Rattle.js_doc.proofs.Named.{is_text-sound}
 use Rattle.js_bundle.specs.declared.reference.DynamicReference.{DynamicReference}
-use Rattle.js_bundle.specs.Built.{numbered}
 use Rattle.js_bundle.specs.Candidate.{IsClear}
 use Rattle.js_bundle.specs.Document.{Documents}
-use Rattle.js_bundle.specs.Finding.{number_of_target, goes_by_name, dynamic_at, by_scope}
+use Rattle.js_bundle.specs.Finding.{number_of_target, goes_by_name, dynamic_as, dynamic_at, under_number, by_scope}
 use Rattle.js_bundle.specs.Keyword.{Text, has, text_argument}
 use Rattle.js_bundle.specs.Names.{belongs_to, makes}
 use Rattle.js_bundle.specs.Refusals.{candidates}
@@ -21,7 +20,7 @@ use Rattle.js_bundle.specs.Spot.{Spot, spot}
 use Rattle.js_bundle.specs.Target as spec
 use Rattle.js_bundle.specs.Url.{fragment}
 use Rattle.js_bundle.proofs.Finds.{finds_place}
-use Rattle.js_bundle.proofs.Numbers.{dynamic_as, dynamic_found}
+use Rattle.js_bundle.proofs.BuiltThere.{kept_under}
 use Rattle.js_bundle.proofs.Targets.{first_target_there, number_is_target}
 
 -- ---- a search by numbers, one number on
@@ -102,23 +101,19 @@ pub record IsReference (documents : Documents) (place : ℕ) (r : DynamicReferen
   pub named : spec.first_target (sites documents) (codes "$dynamicRef") site ≡ Some first
   pub by_name : r.by_name ≡ goes_by_name (sites documents) site
 
-abbrev kept_by : List Site → ℕ → Option Site → Option DynamicReference
-kept_by all i = option_and_then (λ s. option_map (dynamic_as i (goes_by_name all s)) (number_of_target all (codes "$dynamicRef") s))
-
-kept_of : (all : List Site) (i : ℕ) (o : Option Site) → slice_get all i ≡ o → find (λ r. nat_eq r.place i) (numbered (dynamic_at all) 0 all) ≡ kept_by all i o
-kept_of all i o e = dynamic_found all all i ∙ ap (kept_by all i) e
+abbrev dynamic_in : Documents → Site → Option DynamicReference
+dynamic_in documents = dynamic_at (sites documents)
 
 reference_by : (documents : Documents) (i : ℕ) (r : DynamicReference) (o : Option Site) → place_at documents i ≡ o
-    → kept_by (sites documents) i o ≡ Some r
-    → IsReference documents i r
+    → option_and_then (dynamic_in documents) o ≡ Some r → IsReference documents i r
 reference_by documents i r None e h = absurd (cc)
 reference_by documents i r (Some s) e h = by_target (number_of_target (sites documents) (codes "$dynamicRef") s) refl h
   where
     by_target : (o : Option ℕ) → number_of_target (sites documents) (codes "$dynamicRef") s ≡ o
-        → option_map (dynamic_as i (goes_by_name (sites documents) s)) o ≡ Some r → IsReference documents i r
+        → option_map (dynamic_as (goes_by_name (sites documents) s)) o ≡ Some r → IsReference documents i r
     by_target None is h = absurd (cc)
     by_target (Some t) is h =
-        let made : dynamic_as i (goes_by_name (sites documents) s) t ≡ r = cc in
+        let made : dynamic_as (goes_by_name (sites documents) s) t ≡ r = cc in
         let found = number_is_target (sites documents) (codes "$dynamicRef") s t is in
         record {
           site = s;
@@ -129,12 +124,10 @@ reference_by documents i r (Some s) e h = by_target (number_of_target (sites doc
           by_name = ap (λ q. q.by_name) (sym made);
         }
 
-pub reference_is : (docs documents : Documents) (items : List DynamicReference) (n place : ℕ) (r : DynamicReference) → docs ≡ documents → n ≡ place
-    → items ≡ numbered (dynamic_at (sites docs)) 0 (sites docs) → Some r ≡ find (λ r. nat_eq r.place n) items → IsReference documents place r
+pub reference_is : (docs documents : Documents) (items : List (Option DynamicReference)) (n place : ℕ) (r : DynamicReference) → docs ≡ documents → n ≡ place
+    → items ≡ map (dynamic_in docs) (sites docs) → Some r ≡ under_number items n → IsReference documents place r
 reference_is docs documents items n place r same number e h =
-    let test : DynamicReference → Bool = λ q. nat_eq q.place n in
-    let here : IsReference docs n r = reference_by docs n r (place_at docs n) refl (sym (kept_of (sites docs) n (place_at docs n) refl) ∙ sym (h ∙ ap (find test) e)) in
-    subst (λ ds. IsReference ds place r) same (subst (λ m. IsReference docs m r) number here)
+    reference_by documents place r (place_at documents place) refl (sym (kept_under dynamic_in docs documents items n place (Some r) same number e h))
 
 pub target_place : (documents : Documents) (place : ℕ) (r : DynamicReference) → IsReference documents place r → is_place documents r.target ≡ true
 target_place documents place r h = lt-ltb r.target (length (sites documents)) (slice_get_within (sites documents) r.target h.first h.target)
@@ -155,18 +148,15 @@ led documents path place m r h there =
 -- ---- there is one
 
 none_kept : (documents : Documents) (i : ℕ) (o : Option Site) → IsClear (candidates documents) → place_at documents i ≡ o → option_map_or (λ s. has (codes "$dynamicRef") s.schema) o false ≡ true
-    → ¬ (kept_by (sites documents) i o ≡ None)
+    → ¬ (option_and_then (dynamic_in documents) o ≡ None)
 none_kept documents i None clear e has_it h = absurd (cc)
 none_kept documents i (Some s) clear e has_it h = by_target (number_of_target (sites documents) (codes "$dynamicRef") s) (first_target_there documents clear i s e has_it) h
   where
-    by_target : (o : Option ℕ) → is_some o ≡ true → ¬ (option_map (dynamic_as i (goes_by_name (sites documents) s)) o ≡ None)
+    by_target : (o : Option ℕ) → is_some o ≡ true → ¬ (option_map (dynamic_as (goes_by_name (sites documents) s)) o ≡ None)
     by_target None some h = absurd (cc)
     by_target (Some t) some h = absurd (cc)
 
-pub reference_missing : (docs documents : Documents) (items : List DynamicReference) (n place : ℕ) → docs ≡ documents → n ≡ place → IsClear (candidates docs)
-    → items ≡ numbered (dynamic_at (sites docs)) 0 (sites docs) → has_keyword (codes "$dynamicRef") documents place ≡ true → ¬ (None ≡ find (λ r. nat_eq r.place n) items)
+pub reference_missing : (docs documents : Documents) (items : List (Option DynamicReference)) (n place : ℕ) → docs ≡ documents → n ≡ place → IsClear (candidates docs)
+    → items ≡ map (dynamic_in docs) (sites docs) → has_keyword (codes "$dynamicRef") documents place ≡ true → ¬ (None ≡ under_number items n)
 reference_missing docs documents items n place same number clear e has_it h =
-    let test : DynamicReference → Bool = λ q. nat_eq q.place n in
-    let here : has_keyword (codes "$dynamicRef") docs n ≡ true =
-    subst (λ m. has_keyword (codes "$dynamicRef") docs m ≡ true) (sym number) (subst (λ ds. has_keyword (codes "$dynamicRef") ds place ≡ true) (sym same) has_it) in
-    none_kept docs n (place_at docs n) clear refl here (sym (kept_of (sites docs) n (place_at docs n) refl) ∙ sym (h ∙ ap (find test) e))
+    none_kept documents place (place_at documents place) (subst (λ ds. IsClear (candidates ds)) same clear) refl has_it (sym (kept_under dynamic_in docs documents items n place None same number e h))

@@ -1,11 +1,10 @@
 -- The resources, one place further on.
 use Rattle.std.proofs.Common.{◌≡◌, ◌&&◌, ℕ, ◌+◌, List, [], ◌∷◌, ◌++◌, Bool, true, false, not, if◌then◌else◌, Option, Some, None, option_map, map, bytes_eq, drop, refl, sym, ap, ◌∙◌, subst, append_assoc}
-use Rattle.js_bundle.specs.Built.{numbered}
 use Rattle.js_bundle.specs.Document.{Documents}
 use Rattle.js_bundle.specs.Keyword.{Text}
 use Rattle.js_bundle.specs.Names.{same_tokens}
 use Rattle.js_bundle.specs.Resource.{Site, sites}
-use Rattle.js_bundle.specs.Schemas.{place_at, told_once, resources_at}
+use Rattle.js_bundle.specs.Schemas.{place_at, numbered, told_once, resources_at}
 use Rattle.js_bundle.specs.Spot.{Spot, spot, document_uri, base_made, resource_of}
 use Rattle.js_bundle.specs.Url.{printed}
 use Rattle.js_bundle.proofs.Dynamic.{drop_at}

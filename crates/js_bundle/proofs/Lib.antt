@@ -9,12 +9,15 @@ pub mod Apart
 pub mod Standing
 pub mod Numbers
 pub mod Distinct
+pub mod AllPlaces
 pub mod Held
 pub mod Named
 pub mod Stopping
 pub mod Passes
 pub mod Targets
+pub mod OneName
 pub mod Assertions
+pub mod Depth
 pub mod BuiltNext
 pub mod Whole
 pub mod Kept

@@ -1,17 +1,14 @@
 -- A pass over the places, one place more.
-use Rattle.std.proofs.Common.{◌≡◌, ℕ, ◌+◌, ◌<◌, List, [], ◌∷◌, ◌++◌, map, take, drop, get_or, length, sym, ap, ap₂, ◌∙◌, subst, append_assoc, codes, Bool, true, false, is_none, inl, Ok, Option, Some, None, arith}
+use Rattle.std.proofs.Common.{◌≡◌, ℕ, ◌+◌, ◌<◌, List, [], ◌∷◌, ◌++◌, map, take, drop, get_or, length, sym, ap, ap₂, ◌∙◌, subst, append_assoc, codes, Bool, true, false, is_none, inl, Ok, Option, Some, None, option_map, arith}
 use Rattle.std.specs.List.{flat_map}
-use Rattle.std.proofs.lemmas.List.{take_more, drop_more, map-append, length-take-le}
+use Rattle.std.proofs.lemmas.List.{take_more, drop_more, map-append}
 use Rattle.js_bundle.specs.declared.scan.Site as rust
-use Rattle.js_bundle.specs.declared.reference.Reference.{Reference}
-use Rattle.js_bundle.specs.declared.reference.DynamicReference.{DynamicReference}
 use Rattle.js_bundle.specs.declared.refusal.Refusal.{Refusal}
 use Rattle.js_bundle.specs.declared.refusal.RefusalKind.TheVariants.{Unresolved}
 use Rattle.js_bundle.specs.declared.fault.Fault.{Fault}
 use Rattle.js_bundle.specs.declared.fault.Fault.TheVariants.{Memory, Refused}
-use Rattle.js_bundle.specs.Built.{numbered}
 use Rattle.js_bundle.specs.Candidate.{Candidate, IsClear, IsStopped}
-use Rattle.js_bundle.specs.Finding.{number_named, number_of_target, pair_of, pairs_of, goes_by_name, dynamic_of, dynamic_at, IsRefusal}
+use Rattle.js_bundle.specs.Finding.{number_named, number_of_target, goes_by_name, dynamic_as, dynamic_at, IsRefusal}
 use Rattle.js_bundle.specs.Leads.{Leads}
 use Rattle.js_bundle.specs.Names.{names, named, is_read}
 use Rattle.js_bundle.specs.Refusals.{at_joined_reference, refusal_at, at_site, first_pass}
@@ -42,11 +39,12 @@ site_next ss i x whole h e l =
     subst (λ b. Leads whole (at_site before (site_of x) ++ first_pass b after)) (sym (map_take_more site_of ss i x h e))
     (subst (λ r. Leads whole (first_pass before r)) (map_drop_more site_of ss i x h e) l)
 
-pub numbered_next : {B : Type 0} (f : ℕ → Site → List B) (ss : List rust.Site) (i : ℕ) (x : rust.Site) (old new all : List B) → i < length ss → x ≡ get_or ss i x
-    → new ≡ old ++ f (length (take i ss)) (site_of x) → old ++ numbered f i (map site_of (drop i ss)) ≡ all → new ++ numbered f (i + 1) (map site_of (drop (i + 1) ss)) ≡ all
-numbered_next f ss i x old new all h e n told =
-    piece_next old new (f i (site_of x)) (numbered f (i + 1) (map site_of (drop (i + 1) ss))) all
-    (n ∙ ap (λ k. old ++ f k (site_of x)) (length-take-le i ss (omega (arith, h)))) (subst (λ r. old ++ numbered f i r ≡ all) (map_drop_more site_of ss i x h e) told)
+-- what is kept of one place more
+pub column_next : {A B : Type 0} (g : A → B) (f : Site → B) (ss : List rust.Site) (i : ℕ) (x : rust.Site) (old new : List A) (a : A) (all : List B) → i < length ss → x ≡ get_or ss i x
+    → new ≡ old ++ a ∷ [] → g a ≡ f (site_of x) → map g old ++ map f (map site_of (drop i ss)) ≡ all → map g new ++ map f (map site_of (drop (i + 1) ss)) ≡ all
+column_next g f ss i x old new a all h e n m told =
+    piece_next (map g old) (map g new) (f (site_of x) ∷ []) (map f (map site_of (drop (i + 1) ss))) all (ap (map g) n ∙ map-append g old (a ∷ []) ∙ ap (λ b. map g old ++ b ∷ []) m)
+    (subst (λ r. map g old ++ map f r ≡ all) (map_drop_more site_of ss i x h e) told)
 
 -- ---- the second pass, one place more
 
@@ -54,19 +52,15 @@ pub leads_next : (f : Site → List Candidate) (ss : List rust.Site) (i : ℕ) (
     → Leads whole (flat_map f (map site_of (drop i ss))) → Leads whole (f (site_of x) ++ flat_map f (map site_of (drop (i + 1) ss)))
 leads_next f ss i x whole h e l = subst (λ r. Leads whole (flat_map f r)) (map_drop_more site_of ss i x h e) l
 
-pub pairs_next : (g : Site → Option ℕ) (ss : List rust.Site) (i : ℕ) (x : rust.Site) (old new all : List Reference) (t : Option ℕ) → i < length ss → x ≡ get_or ss i x
-    → new ≡ old ++ pair_of i t → t ≡ g (site_of x) → old ++ pairs_of g i (map site_of (drop i ss)) ≡ all
-    → new ++ pairs_of g (i + 1) (map site_of (drop (i + 1) ss)) ≡ all
-pairs_next g ss i x old new all t h e n m told =
-    let rest = pairs_of g (i + 1) (map site_of (drop (i + 1) ss)) in
-    ap (λ r. r ++ rest) n ∙ append_assoc old (pair_of i t) rest ∙ ap (λ o. old ++ (pair_of i o ++ rest)) m ∙ ap (λ r. old ++ pairs_of g i r) (sym (map_drop_more site_of ss i x h e)) ∙ told
+-- what one place more gives
+pub place_next : {B : Type 0} (f : Site → B) (ss : List rust.Site) (i : ℕ) (x : rust.Site) (old new : List B) (b : B) (all : List B) → i < length ss → x ≡ get_or ss i x
+    → new ≡ old ++ b ∷ [] → b ≡ f (site_of x) → old ++ map f (map site_of (drop i ss)) ≡ all → new ++ map f (map site_of (drop (i + 1) ss)) ≡ all
+place_next f ss i x old new b all h e n m told =
+    piece_next old new (f (site_of x) ∷ []) (map f (map site_of (drop (i + 1) ss))) all (n ∙ ap (λ y. old ++ y ∷ []) m) (subst (λ r. old ++ map f r ≡ all) (map_drop_more site_of ss i x h e) told)
 
-pub dynamic_next : (all : List Site) (ss : List rust.Site) (i : ℕ) (x : rust.Site) (old new whole : List DynamicReference) (t : Option ℕ) (b : Bool) → i < length ss → x ≡ get_or ss i x
-    → new ≡ old ++ dynamic_of i t b → t ≡ number_of_target all (codes "$dynamicRef") (site_of x) → b ≡ goes_by_name all (site_of x)
-    → old ++ numbered (dynamic_at all) i (map site_of (drop i ss)) ≡ whole → new ++ numbered (dynamic_at all) (i + 1) (map site_of (drop (i + 1) ss)) ≡ whole
-dynamic_next all ss i x old new whole t b h e n m k told =
-    piece_next old new (dynamic_at all i (site_of x)) (numbered (dynamic_at all) (i + 1) (map site_of (drop (i + 1) ss))) whole (n ∙ ap₂ (λ u c. old ++ dynamic_of i u c) m k)
-    (subst (λ r. old ++ numbered (dynamic_at all) i r ≡ whole) (map_drop_more site_of ss i x h e) told)
+pub dynamic_same : (all : List Site) (place : Site) (b : Bool) (t : Option ℕ) → b ≡ goes_by_name all place → t ≡ number_of_target all (codes "$dynamicRef") place
+    → option_map (dynamic_as b) t ≡ dynamic_at all place
+dynamic_same all place b t e f = ap₂ (λ c o. option_map (dynamic_as c) o) e f
 
 -- ---- one reference
 
@@ -80,7 +74,7 @@ pub found_clear : (all : List Site) (place : Site) (further : Tokens) (uri : Par
     → IsClear (at_joined_reference all place further (Ok uri))
 found_clear all place further uri n e r = let some : is_none (named all uri) ≡ false = not_none all uri n e in rw (r, some) tt
 
-pub refused_one : (r : Refusal) (e : Fault) → IsRefusal r e → IsStopped (record { refusal = r; decided = true } ∷ []) e
+pub refused_one : (r : Refusal) (e : Fault) → IsRefusal r e → IsStopped (record { refusal = r; decided = true; allowed = false } ∷ []) e
 refused_one r Memory h = tt
 refused_one r (Refused s) h = inl h
 

@@ -6,6 +6,7 @@ use Rattle.js_doc.specs.Value.{Value, items, Members, member}
 use Rattle.js_doc.specs.Seen.{value_of}
 use Rattle.js_doc.specs.declared.doc.Doc.{Doc}
 use Rattle.js_bundle.specs.declared.holding.Holding.{Holding}
+use Rattle.js_bundle.specs.declared.holding.Holding.TheVariants.{Nothing}
 use Rattle.js_bundle.specs.declared.scope.Scope.{Scope}
 use Rattle.std.specs.List.{take-map}
 use Rattle.js_bundle.specs.declared.document.Document as rust
@@ -15,7 +16,7 @@ use Rattle.js_bundle.specs.Resource.{Site, root_scope}
 use Rattle.js_bundle.specs.Seen.{document_of}
 use Rattle.js_bundle.proofs.Scanned.{kept_from}
 use Rattle.js_bundle.specs.Place.{holding}
-use Rattle.js_bundle.specs.Scan.{SameFront, most_sites, sites_held, sites_at, sites_of_keywords, sites_in_list, sites_in_object, sites_of_items, sites_of_members, sites_from, site_of, scanned}
+use Rattle.js_bundle.specs.Scan.{SameFront, most_sites, sites_held, sites_at, sites_of_keyword, sites_of_keywords, sites_in_list, sites_in_object, sites_of_items, sites_of_members, sites_from, site_of, scanned}
 
 take_append : {A : Type 0} (n : ℕ) (xs zs ys : List A) → take n xs ≡ take n zs → take n (xs ++ ys) ≡ take n (zs ++ ys)
 take_append zero xs zs ys e = refl
@@ -54,14 +55,21 @@ front_next old new piece rest whole h g =
 pub site_then : (old mid new : List Site) (s : Site) (rest : List Site) → mid ≡ old ++ s ∷ [] → SameFront new (mid ++ rest) → SameFront new (old ++ s ∷ rest)
 site_then old mid new s rest e h = subst (λ x. SameFront new x) (ap (λ m. m ++ rest) e ∙ append_assoc old (s ∷ []) rest) h
 
-pub keyword_next : (d : ℕ) (a : Scope) (p : Tokens) (k : Text) (u : Value) (ms : Members) (h : Holding) (at : Tokens) (old new whole : List Site)
-    → h ≡ holding k → at ≡ p ++ k ∷ []
-    → SameFront new (old ++ sites_held h (sites_at d a at u) (sites_in_list d a at u) (sites_in_object d a at u))
-    → SameFront (old ++ sites_of_keywords d a p (member k u ms)) whole → SameFront (new ++ sites_of_keywords d a p ms) whole
-keyword_next d a p k u ms h at old new whole eh ea n w =
+-- what a keyword holds, under its pointer
+pub keyword_held : (d : ℕ) (a : Scope) (p : Tokens) (k : Text) (u : Value) (h : Holding) (at : Tokens) (old new : List Site) → h ≡ holding k → at ≡ p ++ k ∷ []
+    → SameFront new (old ++ sites_held h (sites_at d a at u) (sites_in_list d a at u) (sites_in_object d a at u)) → SameFront new (old ++ sites_of_keyword d a p k u)
+keyword_held d a p k u h at old new eh ea n =
     let piece = λ (g : Holding) (q : Tokens). sites_held g (sites_at d a q u) (sites_in_list d a q u) (sites_in_object d a q u) in
-    front_next old new (piece (holding k) (p ++ k ∷ [])) (sites_of_keywords d a p ms) whole
-    (subst (λ x. SameFront new (old ++ x)) (ap (λ g. piece g at) eh ∙ ap (piece (holding k)) ea) n) w
+    subst (λ x. SameFront new (old ++ x)) (ap (λ g. piece g at) eh ∙ ap (piece (holding k)) ea) n
+
+pub nothing_held : (d : ℕ) (a : Scope) (p : Tokens) (k : Text) (u : Value) (old : List Site) → Nothing ≡ holding k → SameFront old (old ++ sites_of_keyword d a p k u)
+nothing_held d a p k u old e = keyword_held d a p k u Nothing (p ++ k ∷ []) old old e refl (front_same old (old ++ []) (sym (append-nil old)))
+
+pub keyword_next : (d : ℕ) (a : Scope) (p : Tokens) (k l : Text) (u : Value) (ms : Members) (old new whole : List Site) → l ≡ k
+    → SameFront new (old ++ sites_of_keyword d a p l u)
+    → SameFront (old ++ sites_of_keywords d a p (member k u ms)) whole → SameFront (new ++ sites_of_keywords d a p ms) whole
+keyword_next d a p k l u ms old new whole e n w =
+    front_next old new (sites_of_keyword d a p k u) (sites_of_keywords d a p ms) whole (subst (λ m. SameFront new (old ++ sites_of_keyword d a p m u)) e n) w
 
 pub member_next : (d : ℕ) (a : Scope) (p : Tokens) (k : Text) (u : Value) (ms : Members) (at : Tokens) (old new whole : List Site)
     → at ≡ p ++ k ∷ [] → SameFront new (old ++ sites_at d a at u)

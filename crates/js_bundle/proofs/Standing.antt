@@ -155,7 +155,7 @@ place_stands root p v a s (in_object p' v' k l n u q h e m b is) =
 
 module _ (number : ℕ) (uri : Parts) where
   abbrev pub OfThis : Place → Type 0
-  OfThis t = t.document ≡ number
+  OfThis t = (t.document ≡ number) × (t.uri ≡ uri)
 
   chosen_of : (h : Holding) (a b c : List Place) → AllByRecursion OfThis a → AllByRecursion OfThis b → AllByRecursion OfThis c → AllByRecursion OfThis (chosen h a b c)
   chosen_of One a b c f g k = f
@@ -164,20 +164,20 @@ module _ (number : ℕ) (uri : Parts) where
   chosen_of Nothing a b c f g k = tt
 
   mutual
-    pub of_document : (v : Value) (above : List Spot) (p : Tokens) → AllByRecursion OfThis (places_at number uri above p v)
-    of_document null above p = (refl, tt)
-    of_document (truth b) above p = (refl, tt)
-    of_document (whole z) above p = (refl, tt)
-    of_document (text s) above p = (refl, tt)
-    of_document (list vs) above p = (refl, tt)
-    of_document (object ms) above p = (refl, of_keywords ms (above ++ record { pointer = p; schema = object ms } ∷ []) p)
+    pub of_source : (v : Value) (above : List Spot) (p : Tokens) → AllByRecursion OfThis (places_at number uri above p v)
+    of_source null above p = ((refl, refl), tt)
+    of_source (truth b) above p = ((refl, refl), tt)
+    of_source (whole z) above p = ((refl, refl), tt)
+    of_source (text s) above p = ((refl, refl), tt)
+    of_source (list vs) above p = ((refl, refl), tt)
+    of_source (object ms) above p = ((refl, refl), of_keywords ms (above ++ record { pointer = p; schema = object ms } ∷ []) p)
 
     of_keywords : (ms : Members) (above : List Spot) (p : Tokens) → AllByRecursion OfThis (places_of_keywords number uri above p ms)
     of_keywords no_members above p = tt
     of_keywords (member k v ms) above p =
         let q = p ++ k ∷ [] in
         all_append OfThis (chosen (holding k) (places_at number uri above q v) (places_in_list number uri above q v) (places_in_object number uri above q v)) (places_of_keywords number uri above p ms)
-        (chosen_of (holding k) (places_at number uri above q v) (places_in_list number uri above q v) (places_in_object number uri above q v) (of_document v above q) (of_list v above q) (of_object v above q))
+        (chosen_of (holding k) (places_at number uri above q v) (places_in_list number uri above q v) (places_in_object number uri above q v) (of_source v above q) (of_list v above q) (of_object v above q))
         (of_keywords ms above p)
 
     of_list : (v : Value) (above : List Spot) (p : Tokens) → AllByRecursion OfThis (places_in_list number uri above p v)
@@ -187,7 +187,7 @@ module _ (number : ℕ) (uri : Parts) where
     of_items : (vs : Items) (above : List Spot) (p : Tokens) (i : ℕ) → AllByRecursion OfThis (places_of_items number uri above p i vs)
     of_items no_items above p i = tt
     of_items (item v vs) above p i =
-        all_append OfThis (places_at number uri above (p ++ decimal i ∷ []) v) (places_of_items number uri above p (suc i) vs) (of_document v above (p ++ decimal i ∷ [])) (of_items vs above p (suc i))
+        all_append OfThis (places_at number uri above (p ++ decimal i ∷ []) v) (places_of_items number uri above p (suc i) vs) (of_source v above (p ++ decimal i ∷ [])) (of_items vs above p (suc i))
 
     of_object : (v : Value) (above : List Spot) (p : Tokens) → AllByRecursion OfThis (places_in_object number uri above p v)
     of_object (object ms) above p = of_members ms above p
@@ -196,7 +196,10 @@ module _ (number : ℕ) (uri : Parts) where
     of_members : (ms : Members) (above : List Spot) (p : Tokens) → AllByRecursion OfThis (places_of_members number uri above p ms)
     of_members no_members above p = tt
     of_members (member n v ms) above p =
-        all_append OfThis (places_at number uri above (p ++ n ∷ []) v) (places_of_members number uri above p ms) (of_document v above (p ++ n ∷ [])) (of_members ms above p)
+        all_append OfThis (places_at number uri above (p ++ n ∷ []) v) (places_of_members number uri above p ms) (of_source v above (p ++ n ∷ [])) (of_members ms above p)
+
+pub of_document : (number : ℕ) (uri : Parts) (v : Value) (above : List Spot) (p : Tokens) → AllByRecursion (λ t. t.document ≡ number) (places_at number uri above p v)
+of_document number uri v above p = all_as (OfThis number uri) (λ t. t.document ≡ number) (λ t e. e.0) (places_at number uri above p v) (of_source number uri v above p)
 
 -- the place is one of its document, which stands among these, where the first has the number n
 pub record IsOf (n : ℕ) (ds : Documents) (t : Place) : Type 0 where
@@ -208,7 +211,7 @@ pub record IsOf (n : ℕ) (ds : Documents) (t : Place) : Type 0 where
   pub ascends : NamesAscend document.root
   pub short : IsShort document.root
 
-both_all : (P Q R : Place → Type 0) → ((t : Place) → P t → Q t → R t) → (xs : List Place) → AllByRecursion P xs → AllByRecursion Q xs → AllByRecursion R xs
+pub both_all : (P Q R : Place → Type 0) → ((t : Place) → P t → Q t → R t) → (xs : List Place) → AllByRecursion P xs → AllByRecursion Q xs → AllByRecursion R xs
 both_all P Q R f [] h g = tt
 both_all P Q R f (x ∷ xs) h g = (f x h.0 g.0, both_all P Q R f xs h.1 g.1)
 

@@ -17,7 +17,7 @@ first_here (c ∷ xs) ys r (inr h) = inr (h.0, first_here xs ys r h.1)
 
 pub first_later : (xs ys : List Candidate) (r : Refusal) → IsClear xs → IsFirst ys r → IsFirst (xs ++ ys) r
 first_later [] ys r h g = g
-first_later (c ∷ xs) ys r h g = inr (h.0, first_later xs ys r h.1 g)
+first_later (c ∷ xs) ys r h g = inr (h.0.0, first_later xs ys r h.1 g)
 
 pub stopped_here : (xs ys : List Candidate) (e : Fault) → IsStopped xs e → IsStopped (xs ++ ys) e
 stopped_here xs ys Memory h = tt
@@ -53,7 +53,7 @@ pub clear_there : (xs ys : List Candidate) → IsClear (xs ++ ys) → IsClear ys
 clear_there [] ys h = h
 clear_there (c ∷ xs) ys h = clear_there xs ys h.1
 
--- a list is clear exactly if none of its refusals is decided
+-- where a list is clear none of its refusals is decided
 pub none_decided : (cs : List Candidate) → IsClear cs → decided_in cs ≡ []
 none_decided [] h = refl
-none_decided (c ∷ cs) h = rw h.0 (none_decided cs h.1)
+none_decided (c ∷ cs) h = rw h.0.0 (none_decided cs h.1)

@@ -26,14 +26,14 @@ use Rattle.js_bundle.proofs.Stopping.{clear_here, clear_there}
 
 -- ---- what is clear at one of several
 
-never : (place : Site) (further : Tokens) (kind : RefusalKind) → ¬ (IsClear (decided place further kind))
-never place further kind h = let no : true ≡ false = h.0 in absurd (cc)
+pub never : (place : Site) (further : Tokens) (kind : RefusalKind) → ¬ (IsClear (decided place further kind))
+never place further kind h = let no : true ≡ false = h.0.0 in absurd (cc)
 
-not_when : (b : Bool) (place : Site) (further : Tokens) (kind : RefusalKind) → IsClear (when b (decided place further kind)) → b ≡ false
+pub not_when : (b : Bool) (place : Site) (further : Tokens) (kind : RefusalKind) → IsClear (when b (decided place further kind)) → b ≡ false
 not_when false place further kind h = refl
 not_when true place further kind h = absurd (never place further kind h)
 
-clear_among : {A : Type 0} (f : A → List Candidate) (xs : List A) (x : A) → IsClear (flat_map f xs) → Among x xs → IsClear (f x)
+pub clear_among : {A : Type 0} (f : A → List Candidate) (xs : List A) (x : A) → IsClear (flat_map f xs) → Among x xs → IsClear (f x)
 clear_among f [] x h a = absurd a
 clear_among f (y ∷ xs) x h (inl e) = subst (λ z. IsClear (f z)) (sym e) (clear_here (f y) (flat_map f xs) h)
 clear_among f (y ∷ xs) x h (inr a) = clear_among f xs x (clear_there (f y) (flat_map f xs) h) a

@@ -27,7 +27,7 @@ first_append before (x ∷ xs) ys =
 
 not_full : (place : Site) (b : Bool) → IsClear (when b (decided place [] TooManyPlaces)) → b ≡ false
 not_full place false h = refl
-not_full place true h = let no : true ≡ false = h.0 in absurd (cc)
+not_full place true h = let no : true ≡ false = h.0.0 in absurd (cc)
 
 room : (before : List Site) (place : Site) → IsClear (at_site before place) → length before < most_places
 room before place h =

@@ -3,6 +3,7 @@ use Rattle.std.specs.Prelude.{◌≡◌, ℕ, ◌<◌, ◌≤◌, List, [], ◌�
 use Rattle.url.specs.Parts.{Parts}
 use Rattle.url.specs.Parser.{Parsed, parse_url}
 use Rattle.js_doc.specs.Pointer.{Tokens}
+use Rattle.js_doc.specs.Value.{Value}
 use Rattle.js_doc.specs.Reading.{IsReadAs, IsNotJson}
 use Rattle.js_bundle.specs.declared.refusal.Refusal.{Refusal}
 use Rattle.js_bundle.specs.declared.refusal.RefusalKind.{RefusalKind}
@@ -54,6 +55,30 @@ IsKind held uri bytes place _ = ⊥
 -- a refusal carries the number that the document would have had
 abbrev pub IsRefusedBy : ℕ → Text → List ℕ → Refusal → Type 0
 IsRefusedBy held uri bytes r = (r.document ≡ held) × IsKind held uri bytes r.place r.kind
+
+-- ---- a value that is handed in, with its URI
+
+-- it is taken in beside so many others, under this URI
+pub record IsUnder (held : ℕ) (uri : Text) (under : Parts) : Type 0 where
+  pub room : held < most_documents
+  pub short : length uri ≤ longest_uri
+  pub is : IsUriOf uri under
+
+-- it stands after the others
+abbrev pub IsAddedAs : Documents → Text → Value → Documents → Type 0
+IsAddedAs old uri root new =
+    (under : Parts) × IsUnder (length old) uri under × (new ≡ old ++ record { uri = under; root = root } ∷ [])
+
+-- when a refusal of each kind comes, each kind after those above it
+abbrev pub IsUriKind : ℕ → Text → Tokens → RefusalKind → Type 0
+IsUriKind held uri place TooManyDocuments = (place ≡ []) × (most_documents ≤ held)
+IsUriKind held uri place UriTooLong = (place ≡ []) × (held < most_documents) × (longest_uri < length uri)
+IsUriKind held uri place BadUri = (place ≡ []) × (held < most_documents) × (length uri ≤ longest_uri) × IsBad (parse_url None uri)
+IsUriKind held uri place Memory = place ≡ []
+IsUriKind held uri place _ = ⊥
+
+abbrev pub IsUriRefusedBy : ℕ → Text → Refusal → Type 0
+IsUriRefusedBy held uri r = (r.document ≡ held) × IsUriKind held uri r.place r.kind
 
 -- ---- words for the parts
 

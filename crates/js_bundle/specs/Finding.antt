@@ -1,5 +1,5 @@
 -- How the code finds places: by their numbers in the list.
-use Rattle.std.specs.Prelude.{◌≡◌, ℕ, ◌+◌, List, [], ◌∷◌, ◌++◌, Bool, false, not, ◌||◌, is_some, Option, Some, None, option_and_then, unwrap_or, codes, if◌then◌else◌}
+use Rattle.std.specs.Prelude.{◌≡◌, ℕ, ◌+◌, List, [], ◌∷◌, ◌++◌, Bool, false, not, ◌||◌, is_some, Option, Some, None, option_map, option_and_then, slice_get, unwrap_or, codes, if◌then◌else◌}
 use Rattle.std.specs.Borrow.{Bor}
 use Rattle.std.specs.List.{position_from}
 use Rattle.url.specs.Parts.{Parts}
@@ -7,7 +7,6 @@ use Rattle.js_doc.specs.Pointer.{Tokens}
 use Rattle.js_bundle.specs.declared.refusal.Refusal.{Refusal}
 use Rattle.js_bundle.specs.declared.fault.Fault.{Fault}
 use Rattle.js_bundle.specs.declared.fault.Fault.TheVariants.{Memory, Refused}
-use Rattle.js_bundle.specs.declared.reference.Reference.{Reference}
 use Rattle.js_bundle.specs.declared.reference.DynamicReference.{DynamicReference}
 use Rattle.js_bundle.specs.Keyword.{Text, text_argument}
 use Rattle.js_bundle.specs.Names.{names, stands_at, by_anchor, by_dynamic_anchor, is_named_by, is_pointer}
@@ -26,27 +25,21 @@ number_named all uri = position_from (names all uri) 0 all
 abbrev pub number_of_target : List Site → Text → Site → Option ℕ
 number_of_target all keyword place = option_and_then (number_named all) (reference keyword place)
 
--- a place and the target of its reference, by their numbers
-abbrev pub pair_of : ℕ → Option ℕ → List Reference
-pair_of n None = []
-pair_of n (Some t) = record { place = n; target = t } ∷ []
-
--- those of all places, of which the first has the number n
-abbrev pub pairs_of : (Site → Option ℕ) → ℕ → List Site → List Reference
-pairs_of f n [] = []
-pairs_of f n (s ∷ ss) = pair_of n (f s) ++ pairs_of f (n + 1) ss
-
 -- whether the fragment of a place's `$dynamicRef` is a name that `$dynamicAnchor` makes at its first target
 abbrev pub goes_by_name : List Site → Site → Bool
 goes_by_name all place =
     option_map_or (is_dynamic (reference (codes "$dynamicRef") place)) (first_target all (codes "$dynamicRef") place) false
 
-abbrev pub dynamic_of : ℕ → Option ℕ → Bool → List DynamicReference
-dynamic_of n None by_name = []
-dynamic_of n (Some t) by_name = record { place = n; target = t; by_name = by_name } ∷ []
+abbrev pub dynamic_as : Bool → ℕ → DynamicReference
+dynamic_as by_name target = record { target = target; by_name = by_name }
 
-abbrev pub dynamic_at : List Site → ℕ → Site → List DynamicReference
-dynamic_at all n place = dynamic_of n (number_of_target all (codes "$dynamicRef") place) (goes_by_name all place)
+-- the first target of a place's `$dynamicRef`, and whether it goes by name
+abbrev pub dynamic_at : List Site → Site → Option DynamicReference
+dynamic_at all place = option_map (dynamic_as (goes_by_name all place)) (number_of_target all (codes "$dynamicRef") place)
+
+-- what a list with an entry for each place has under the number of one
+abbrev pub under_number : {A : Type 0} → List (Option A) → ℕ → Option A
+under_number column n = option_and_then (λ o. o) (slice_get column n)
 
 -- where a first target leads in a dynamic scope: by its own name, where the reference goes by name
 abbrev pub by_scope : List Site → List Site → Bool → Site → Site

@@ -11,6 +11,7 @@ pub mod Form
 pub mod Candidate
 pub mod Leads
 pub mod Refusals
+pub mod Depth
 pub mod Adding
 pub mod Seen
 pub mod Scan
@@ -19,3 +20,4 @@ pub mod Built
 pub mod Schemas
 pub mod Spot
 pub mod Finished
+pub mod NameLaws

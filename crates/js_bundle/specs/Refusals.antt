@@ -28,10 +28,10 @@ abbrev pub refusal_at : Site → Tokens → RefusalKind → Refusal
 refusal_at place further kind = record { document = place.document; place = place.pointer ++ further; kind = kind }
 
 abbrev pub decided : Site → Tokens → RefusalKind → List Candidate
-decided place further kind = record { refusal = refusal_at place further kind; decided = true } ∷ []
+decided place further kind = record { refusal = refusal_at place further kind; decided = true; allowed = false } ∷ []
 
-abbrev pub given : Site → Tokens → RefusalKind → List Candidate
-given place further kind = record { refusal = refusal_at place further kind; decided = false } ∷ []
+abbrev pub given : Bool → Site → Tokens → RefusalKind → List Candidate
+given allowed place further kind = record { refusal = refusal_at place further kind; decided = false; allowed = allowed } ∷ []
 
 abbrev pub when : Bool → List Candidate → List Candidate
 when condition candidates = if condition then candidates else []
@@ -91,10 +91,11 @@ abbrev pub on_text : (Text → List Candidate) → Value → List Candidate
 on_text rule (text t) = rule t
 on_text rule _ = []
 
--- of a pattern: no pattern by the grammar of `regex` is refused, and so may one be that nests too deep or is too large
+-- Of a pattern: one that the grammar of `regex` doesn't read is refused. So is one that nests too deep, then or later, and
+-- one that is too large may be.
 abbrev pub at_pattern : Site → Tokens → Text → List Candidate
 at_pattern place further t =
-    if is_in_grammar t then (if nests_too_deep t then given place further BadPattern else given place further PatternTooLarge)
+    if is_in_grammar t then (if nests_too_deep t then given false place further BadPattern else given true place further PatternTooLarge)
     else decided place further BadPattern
 
 -- of an assertion: the form of its argument, and of `pattern` its pattern (JSON Schema Validation, section 6)

@@ -9,7 +9,7 @@ use Rattle.js_bundle.specs.declared.holding.Holding.TheVariants.{One, Listed, Na
 use Rattle.js_bundle.specs.declared.scope.Scope.{Scope}
 use Rattle.js_bundle.specs.declared.scan.Site as rust
 use Rattle.js_bundle.specs.Document.{Documents}
-use Rattle.js_bundle.specs.Keyword.{has}
+use Rattle.js_bundle.specs.Keyword.{Text, has}
 use Rattle.js_bundle.specs.Place.{holding}
 use Rattle.js_bundle.specs.Resource.{Site, sites, identified, scope_below, root_scope}
 
@@ -59,6 +59,10 @@ abbrev mutual
   pub sites_of_members : ℕ → Scope → Tokens → Members → List Site
   sites_of_members d above p no_members = []
   sites_of_members d above p (member n v ms) = sites_at d above (p ++ n ∷ []) v ++ sites_of_members d above p ms
+
+-- the sites of what one keyword holds
+abbrev pub sites_of_keyword : ℕ → Scope → Tokens → Text → Value → List Site
+sites_of_keyword d above p k v = sites_held (holding k) (sites_at d above (p ++ k ∷ []) v) (sites_in_list d above (p ++ k ∷ []) v) (sites_in_object d above (p ++ k ∷ []) v)
 
 abbrev pub sites_from : ℕ → Documents → List Site
 sites_from n [] = []

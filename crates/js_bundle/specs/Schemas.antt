@@ -1,5 +1,5 @@
 -- What is asked of finished schemas. A place is told by its number in scan order.
-use Rattle.std.specs.Prelude.{◌≡◌, ℕ, ◌<◌, List, [], ◌∷◌, ◌++◌, Bool, true, false, Option, Some, None, option_and_then, option_map, find, decimal, bytes_eq, slice_get, nat_lt, option_to_list, length, map, Ok, Err, codes, if◌then◌else◌}
+use Rattle.std.specs.Prelude.{◌≡◌, ℕ, ◌+◌, ◌<◌, List, [], ◌∷◌, ◌++◌, Bool, true, false, Option, Some, None, option_and_then, option_map, find, decimal, bytes_eq, slice_get, nat_lt, option_to_list, length, map, Ok, Err, codes, if◌then◌else◌}
 use Rattle.std.specs.Borrow.{Bor}
 use Rattle.std.specs.List.{range_with_len}
 use Rattle.std.specs.Option.{option_map_or}
@@ -14,7 +14,6 @@ use Rattle.js_bundle.specs.declared.place.Step as rust
 use Rattle.js_bundle.specs.declared.place.Step.TheVariants as rust_step
 use Rattle.js_bundle.specs.declared.refusal.EntryFault.{EntryFault}
 use Rattle.js_bundle.specs.declared.refusal.EntryFault.TheVariants as fault
-use Rattle.js_bundle.specs.Built.{numbered}
 use Rattle.js_bundle.specs.Document.{Documents}
 use Rattle.js_bundle.specs.Keyword.{Text, keywords, argument, has}
 use Rattle.js_bundle.specs.Names.{stands_at, known_as, named, is_read}
@@ -134,6 +133,11 @@ IsEntryFault documents uri fault.Unresolved =
 
 abbrev pub place_numbers : Documents → List ℕ
 place_numbers documents = range_with_len 0 (length (sites documents))
+
+-- what each of a list gives by its number, one after another, where the first has the number n
+abbrev pub numbered : {A B : Type 0} → (ℕ → A → List B) → ℕ → List A → List B
+numbered f n [] = []
+numbered f n (x ∷ xs) = f n x ++ numbered f (n + 1) xs
 
 -- a document's URI and its root's base are told once, if they are the same
 abbrev pub told_once : List Text → List Text

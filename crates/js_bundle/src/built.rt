@@ -14,7 +14,7 @@ use js_assert::{Assertion, Pattern, PatternFault};
 use js_doc::{Doc, Members, Memory, Text};
 use std::alloc::Global;
 
-/// What the first pass builds of the places' keywords.
+/// What is built of a place's keywords.
 #[derive(Drop)]
 pub(crate) struct Built {
     pub(crate) assertions: Vec<BuiltAssertion>,
@@ -33,38 +33,31 @@ impl Built {
     }
 }
 
-/// An assertion of a place, under its keyword.
+/// An assertion, under its keyword.
 #[derive(Drop)]
 pub(crate) struct BuiltAssertion {
-    pub(crate) place: usize,
     pub(crate) keyword: Text,
     pub(crate) assertion: Assertion,
 }
 
-/// A pattern among the `patternProperties` of a place, under its name.
+/// A pattern among the `patternProperties`, under its name.
 #[derive(Drop)]
 pub(crate) struct BuiltPattern {
-    pub(crate) place: usize,
     pub(crate) name: Text,
     pub(crate) pattern: Pattern,
 }
 
-/// Keeps a place's assertion, if the keyword is one.
+/// Keeps a keyword's assertion, if it is one.
 pub(crate) fn keep_assertion(
     out: &mut Vec<BuiltAssertion>,
-    place: usize,
     keyword: &str,
     assertion: Option<Assertion>,
 ) -> Result<(), Memory>
-    ensures { OnOk result (out.new.items ≡ out.old.items ++ assertion_of place keyword.now assertion) }
+    ensures { OnOk result (out.new.items ≡ out.old.items ++ assertion_of keyword.now assertion) }
 {
     if let Some(assertion) = assertion {
         let keyword = Text::new(String::from_str(*out.allocator(), keyword)?);
-        out.push(BuiltAssertion {
-            place,
-            keyword,
-            assertion,
-        })?;
+        out.push(BuiltAssertion { keyword, assertion })?;
     }
     Ok(())
 }
@@ -92,21 +85,19 @@ fn read_pattern(alloc: Global, site: &Site<'_>, keyword: &str, name: &str) -> Re
 pub(crate) fn read_patterns(
     alloc: Global,
     out: &mut Vec<BuiltPattern>,
-    number: usize,
     site: &Site<'_>,
     keyword: &str,
     members: &Members,
 ) -> Result<(), Fault>
     ensures clear { OnOk result (IsClear
         (flat_map (λ n. at_pattern (site_of site.now) (keyword.now ∷ n.0 ∷ []) n.0) members.now)) }
-    ensures built { OnOk result (out.new.items ≡ out.old.items ++ map (pattern_at number) members.now) }
+    ensures built { OnOk result (out.new.items ≡ out.old.items ++ map pattern_at members.now) }
     ensures err { IfErr result (IsStopped
         (flat_map (λ n. at_pattern (site_of site.now) (keyword.now ∷ n.0 ∷ []) n.0) members.now)) }
 {
     for (name, _) in members.pairs() {
         let pattern = read_pattern(alloc, site, keyword, name.as_str())?;
         out.push(BuiltPattern {
-            place: number,
             name: Text::new(name.clone()?),
             pattern,
         })?;
@@ -118,7 +109,6 @@ pub(crate) fn read_patterns(
 pub(crate) fn read_names(
     alloc: Global,
     out: &mut Vec<BuiltPattern>,
-    number: usize,
     site: &Site<'_>,
     keyword: &str,
     argument: &Doc,
@@ -126,12 +116,12 @@ pub(crate) fn read_names(
     ensures clear { OnOk result (IsClear
         (name_rules (site_of site.now) keyword.now (value_of argument.now))) }
     ensures built { OnOk result (out.new.items
-        ≡ out.old.items ++ patterns_of number (keyword.now, value_of argument.now)) }
+        ≡ out.old.items ++ patterns_of (keyword.now, value_of argument.now)) }
     ensures err { IfErr result (IsStopped
         (name_rules (site_of site.now) keyword.now (value_of argument.now))) }
 {
     match keyword {
-        "patternProperties" => read_names_of(alloc, out, number, site, keyword, argument),
+        "patternProperties" => read_names_of(alloc, out, site, keyword, argument),
         _ => Ok(()),
     }
 }
@@ -139,7 +129,6 @@ pub(crate) fn read_names(
 fn read_names_of(
     alloc: Global,
     out: &mut Vec<BuiltPattern>,
-    number: usize,
     site: &Site<'_>,
     keyword: &str,
     argument: &Doc,
@@ -147,12 +136,12 @@ fn read_names_of(
     ensures clear { OnOk result (IsClear
         (flat_map (λ n. at_pattern (site_of site.now) (keyword.now ∷ n.0 ∷ []) n.0) (keywords (value_of argument.now)))) }
     ensures built { OnOk result (out.new.items
-        ≡ out.old.items ++ map (pattern_at number) (keywords (value_of argument.now))) }
+        ≡ out.old.items ++ map pattern_at (keywords (value_of argument.now))) }
     ensures err { IfErr result (IsStopped
         (flat_map (λ n. at_pattern (site_of site.now) (keyword.now ∷ n.0 ∷ []) n.0) (keywords (value_of argument.now)))) }
 {
     match argument {
-        Doc::Members(members) => read_patterns(alloc, out, number, site, keyword, members),
+        Doc::Members(members) => read_patterns(alloc, out, site, keyword, members),
         _ => Ok(()),
     }
 }

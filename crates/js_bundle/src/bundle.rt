@@ -5,8 +5,9 @@ ghost use Rattle.js_doc.specs.Members.{NamesAscend};
 ghost use Rattle.js_doc.specs.Seen.{value_of};
 ghost use Rattle.js_doc.specs.Short.{IsShort};
 ghost use Rattle.js_bundle.specs.declared.refusal.RefusalKind.TheVariants.{Memory};
-ghost use Rattle.js_bundle.specs.Adding.{IsAdded, IsTaken, IsRefusedBy, IsUriOf, IsUriFault, refusal_of_read};
+ghost use Rattle.js_bundle.specs.Adding.{IsAdded, IsAddedAs, IsTaken, IsUnder, IsRefusedBy, IsUriRefusedBy, IsUriOf, IsUriFault, refusal_of_read};
 ghost use Rattle.js_bundle.specs.Candidate.{IsClear};
+ghost use Rattle.js_bundle.specs.Depth.{NoneTooDeep};
 ghost use Rattle.js_bundle.specs.Refusals.{candidates, refusals, IsRefusalOf, refusal_of};
 ghost use Rattle.js_bundle.specs.Seen.{document_of};
 ghost use Rattle.js_bundle.specs.Url as spec;
@@ -17,7 +18,7 @@ use crate::fault::Fault;
 use crate::refusal::{Refusal, RefusalKind};
 use crate::schemas::Schemas;
 use crate::uri::{LONGEST, has_no_fragment, without_fragment};
-use js_doc::{Pointer, ReadFault, read};
+use js_doc::{Doc, Pointer, ReadFault, read};
 use std::alloc::Global;
 use std::marker::Model;
 use url::{ParseError, Url};
@@ -75,6 +76,27 @@ impl Bundle {
         append(&mut self.documents, document)?;
         Ok(())
     }
+
+    /// Adds the value under the URI, after the others, as `add` adds the one that it reads.
+    ///
+    /// # Errors
+    /// In this order: `TooManyDocuments`, `UriTooLong` and `BadUri`, as of `add`; `Memory` at any point. The value is
+    /// handed back, and the bundle is as it was.
+    pub fn add_doc(&mut self, uri: &str, root: Doc) -> Result<(), (Refusal, Doc)>
+        ensures ok { OnOk result (IsAddedAs self.old uri.now (value_of root) self.new) }
+        ensures refused { IfErr result (λ p. IsUriRefusedBy (length self.old) uri.now p.0) }
+        ensures back { IfErr result (λ p. p.1 ≡ root) }
+        ensures err { OnErr result (self.new ≡ self.old) }
+    {
+        root.lawful();
+        let alloc = *self.documents.allocator();
+        let uri = match taken_uri(alloc, self.documents.len(), uri) {
+            Ok(uri) => uri,
+            Err(refusal) => return Err((refusal, root)),
+        };
+        put(&mut self.documents, uri, root)?;
+        Ok(())
+    }
 }
 
 impl Bundle {
@@ -88,11 +110,13 @@ impl Bundle {
     /// keywords, ascending: `BadKeyword`; `BadPattern` and `PatternTooLarge`; `UnknownDialect` (`$schema`); `UriTooLong`,
     /// `BadId` and `DuplicateUri` (`$id`); `BadAnchor` and `DuplicateAnchor`. After all places, of each the
     /// `$dynamicRef` and then the `$ref`: `UriTooLong`, `BadReference`, `Unresolved`. `Memory` may come at any point;
-    /// its document is 0, and its place the empty pointer.
+    /// its document is 0, and its place the empty pointer. A pattern that nests too deep for `regex` is always refused, as
+    /// `BadPattern`; no definition says when one is too large.
     pub fn finish(self, alloc: Global) -> Result<Schemas, (Refusal, Bundle)>
         ensures ok { IfOk result (λ s. s ≡ self) }
         ensures clear { OnOk result (IsClear (candidates self)) }
         ensures none { OnOk result (refusals self ≡ []) }
+        ensures shallow { OnOk result (NoneTooDeep self) }
         ensures refused { IfErr result (λ p. IsRefusalOf self p.0) }
         ensures back { IfErr result (λ p. p.1 ≡ self) }
     {
@@ -129,6 +153,22 @@ fn append(documents: &mut Vec<Document>, document: Document) -> Result<(), Refus
     }
 }
 
+// The same, with the value handed back.
+fn put(documents: &mut Vec<Document>, uri: Url, root: Doc) -> Result<(), (Refusal, Doc)>
+    ensures ok { OnOk result (documents.new.items ≡ documents.old.items ++ record { uri = uri; root = root } ∷ []) }
+    ensures err { OnErr result (documents.new.items ≡ documents.old.items) }
+    ensures refused { IfErr result
+        (λ p. p.0 ≡ record { document = length documents.old.items; place = []; kind = Memory }) }
+    ensures back { IfErr result (λ p. p.1 ≡ root) }
+{
+    let held = documents.len();
+    let alloc = *documents.allocator();
+    match documents.push(Document { uri, root }) {
+        Ok(()) => Ok(()),
+        Err(failed) => Err((refused(alloc, held, RefusalKind::Memory), failed.value.root)),
+    }
+}
+
 // The document, where it may stand beside so many others.
 fn taken(alloc: Global, held: usize, uri: &str, bytes: &[u8]) -> Result<Document, Refusal>
     ensures ok { IfOk result (λ d. IsTaken held uri.now bytes.now (document_of d)) }
@@ -136,20 +176,28 @@ fn taken(alloc: Global, held: usize, uri: &str, bytes: &[u8]) -> Result<Document
     ensures short { IfOk result (λ d. IsShort (value_of d.root)) }
     ensures err { IfErr result (IsRefusedBy held uri.now bytes.now) }
 {
+    let uri = taken_uri(alloc, held, uri)?;
+    match read(alloc, bytes) {
+        Ok(root) => Ok(Document { uri, root }),
+        Err(fault) => Err(unread(alloc, held, fault)),
+    }
+}
+
+// A document's URI, where it may stand beside so many others.
+fn taken_uri(alloc: Global, held: usize, uri: &str) -> Result<Url, Refusal>
+    ensures ok { IfOk result (λ u. IsUnder held uri.now u) }
+    ensures err { IfErr result (IsUriRefusedBy held uri.now) }
+{
     if MOST_DOCUMENTS <= held {
         return Err(refused(alloc, held, RefusalKind::TooManyDocuments));
     }
     if LONGEST < uri.len() {
         return Err(refused(alloc, held, RefusalKind::UriTooLong));
     }
-    let uri = match document_uri(alloc, uri) {
-        Ok(uri) => uri,
-        Err(UriFault::Memory) => return Err(refused(alloc, held, RefusalKind::Memory)),
-        Err(UriFault::Bad) => return Err(refused(alloc, held, RefusalKind::BadUri)),
-    };
-    match read(alloc, bytes) {
-        Ok(root) => Ok(Document { uri, root }),
-        Err(fault) => Err(unread(alloc, held, fault)),
+    match document_uri(alloc, uri) {
+        Ok(uri) => Ok(uri),
+        Err(UriFault::Memory) => Err(refused(alloc, held, RefusalKind::Memory)),
+        Err(UriFault::Bad) => Err(refused(alloc, held, RefusalKind::BadUri)),
     }
 }
 

@@ -1,8 +1,9 @@
 //! The check of documents as a whole.
 ghost use Rattle.std.specs.Prelude.{◌≡◌, ◌++◌, [], ◌∷◌, codes, map, OnOk, IfOk, IfErr};
-ghost use Rattle.js_bundle.specs.Built.{numbered, assertions_at, patterns_at};
+ghost use Rattle.js_bundle.specs.Built.{assertions_at, assertions_in, patterns_at, patterns_in};
 ghost use Rattle.js_bundle.specs.Candidate.{IsClear, IsStopped};
-ghost use Rattle.js_bundle.specs.Finding.{dynamic_at, number_of_target, pairs_of};
+ghost use Rattle.js_bundle.specs.Finding.{dynamic_at, number_of_target};
+ghost use Rattle.js_bundle.specs.Location.{location};
 ghost use Rattle.js_bundle.specs.Refusals.{candidates};
 ghost use Rattle.js_bundle.specs.Resource.{sites};
 ghost use Rattle.js_bundle.specs.Scan.{site_of};
@@ -13,10 +14,11 @@ use crate::built::Built;
 use crate::document::Document;
 use crate::fault::Fault;
 use crate::first_pass::first_pass;
+use crate::location::locations_of;
 use crate::reference::{References, resolve_all};
 use crate::scan::{Site, scan};
 use crate::scope::Scope;
-use js_doc::{Memory, Pointer};
+use js_doc::{Memory, Pointer, Text};
 use std::alloc::Global;
 use std::rc::Rc;
 
@@ -37,8 +39,10 @@ pub(crate) struct Spot {
 #[derive(Drop)]
 pub(crate) struct Checked {
     pub(crate) spots: Vec<Spot>,
-    pub(crate) built: Built,
+    pub(crate) built: Vec<Built>,
     pub(crate) references: References,
+    /// The absolute location of each.
+    pub(crate) locations: Vec<Text>,
 }
 
 fn spots_of(alloc: Global, sites: Vec<Site<'_>>) -> Result<Vec<Spot>, Memory>
@@ -70,24 +74,28 @@ pub(crate) fn check_whole(alloc: Global, documents: &[Document]) -> Result<Check
     ensures clear { OnOk result (IsClear (candidates (map document_of documents.now))) }
     ensures spots { IfOk result
         (λ c. map spot_of c.spots.items ≡ map spot (sites (map document_of documents.now))) }
-    ensures assertions { IfOk result (λ c. c.built.assertions.items
-        ≡ numbered assertions_at 0 (sites (map document_of documents.now))) }
-    ensures patterns { IfOk result (λ c. c.built.patterns.items
-        ≡ numbered patterns_at 0 (sites (map document_of documents.now))) }
+    ensures assertions { IfOk result (λ c. map assertions_in c.built.items
+        ≡ map assertions_at (sites (map document_of documents.now))) }
+    ensures patterns { IfOk result (λ c. map patterns_in c.built.items
+        ≡ map patterns_at (sites (map document_of documents.now))) }
     ensures dynamic { IfOk result (λ c. c.references.dynamic.items
-        ≡ numbered (dynamic_at (sites (map document_of documents.now))) 0 (sites (map document_of documents.now))) }
+        ≡ map (dynamic_at (sites (map document_of documents.now))) (sites (map document_of documents.now))) }
     ensures plain { IfOk result (λ c. c.references.plain.items
-        ≡ pairs_of (number_of_target (sites (map document_of documents.now)) (codes "$ref")) 0
+        ≡ map (number_of_target (sites (map document_of documents.now)) (codes "$ref"))
         (sites (map document_of documents.now))) }
+    ensures locations { IfOk result (λ c. c.locations.items
+        ≡ map location (sites (map document_of documents.now))) }
     ensures err { IfErr result (IsStopped (candidates (map document_of documents.now))) }
 {
     let sites = scan(alloc, documents)?;
     let built = first_pass(alloc, sites.as_slice())?;
     let references = resolve_all(alloc, sites.as_slice())?;
+    let locations = locations_of(alloc, sites.as_slice())?;
     let spots = spots_of(alloc, sites)?;
     Ok(Checked {
         spots,
         built,
         references,
+        locations,
     })
 }

@@ -1,7 +1,7 @@
 //! What dynamic references lead to (JSON Schema Core, sections 7.1 and 8.2.3.2).
-ghost use Rattle.std.specs.Prelude.{◌≡◌, ◌&&◌, true, false, codes, find, bytes_eq, nat_eq, option_map, option_and_then};
+ghost use Rattle.std.specs.Prelude.{◌≡◌, ◌&&◌, true, false, codes, bytes_eq, nat_eq, option_map, option_and_then};
 ghost use Rattle.std.specs.Option.{option_map_or};
-ghost use Rattle.js_bundle.specs.Finding.{by_scope};
+ghost use Rattle.js_bundle.specs.Finding.{by_scope, under_number};
 ghost use Rattle.js_doc.specs.Seen.{value_of};
 ghost use Rattle.js_bundle.specs.Keyword.{text_argument};
 ghost use Rattle.js_bundle.specs.Names.{makes, belongs_to, same_tokens};
@@ -26,7 +26,7 @@ impl Schemas {
         ensures { StandsFor self.now result (option_and_then
             (dynamic_target (sites self.now) (path_at self.now path.now)) (place_at self.now place)) }
     {
-        match find_reference(self.kept.references.dynamic.as_slice(), place.number) {
+        match reference_under(self.kept.references.dynamic.as_slice(), place.number) {
             Some(reference) => self.led_to(reference, path),
             None => place, // never: each reference of finished schemas has its target
         }
@@ -110,13 +110,15 @@ fn makes_dynamically(schema: &Doc, name: &str) -> bool
     }
 }
 
-fn find_reference(references: &[DynamicReference], place: usize) -> Option<DynamicReference>
-    ensures { result ≡ find (λ r. nat_eq r.place place) references.now }
+// The reference that is kept under a place's number.
+fn reference_under(
+    references: &[Option<DynamicReference>],
+    place: usize,
+) -> Option<DynamicReference>
+    ensures { result ≡ under_number references.now place }
 {
-    for reference in references {
-        if reference.place == place {
-            return Some(*reference);
-        }
+    match references.get(place) {
+        Some(reference) => *reference,
+        None => None,
     }
-    None
 }

@@ -1,9 +1,9 @@
 //! The first pass: each place and its keywords, in scan order.
-ghost use Rattle.std.specs.Prelude.{◌≡◌, ◌++◌, [], ◌∷◌, not, length, map, OnOk, IfOk, IfErr};
+ghost use Rattle.std.specs.Prelude.{◌≡◌, ◌++◌, [], ◌∷◌, not, map, OnOk, IfOk, IfErr};
 ghost use Rattle.std.specs.List.{flat_map};
 ghost use Rattle.js_doc.specs.Seen.{value_of};
 ghost use Rattle.js_bundle.specs.declared.refusal.RefusalKind.TheVariants.{BadKeyword};
-ghost use Rattle.js_bundle.specs.Built.{numbered, assertion_at, assertions_at, patterns_of, patterns_at};
+ghost use Rattle.js_bundle.specs.Built.{assertion_at, assertions_at, assertions_in, patterns_of, patterns_at, patterns_in};
 ghost use Rattle.js_bundle.specs.Candidate.{IsClear, IsStopped};
 ghost use Rattle.js_bundle.specs.Form.{has_form};
 ghost use Rattle.js_bundle.specs.Keyword.{keywords};
@@ -84,47 +84,38 @@ fn check_keyword(
     ensures clear { OnOk result (IsClear
         (at_keyword (map site_of before.now) (site_of site.now) (keyword.now, value_of argument.now))) }
     ensures assertions { OnOk result (built.new.assertions.items ≡ built.old.assertions.items
-        ++ assertion_at (length before.now) siblings.now (keyword.now, value_of argument.now)) }
+        ++ assertion_at siblings.now (keyword.now, value_of argument.now)) }
     ensures patterns { OnOk result (built.new.patterns.items ≡ built.old.patterns.items
-        ++ patterns_of (length before.now) (keyword.now, value_of argument.now)) }
+        ++ patterns_of (keyword.now, value_of argument.now)) }
     ensures err { IfErr result (IsStopped
         (at_keyword (map site_of before.now) (site_of site.now) (keyword.now, value_of argument.now))) }
 {
     check_form(alloc, site, keyword, argument)?;
     let assertion = read_assertion(alloc, site, keyword, argument, siblings)?;
-    keep_assertion(&mut built.assertions, before.len(), keyword, assertion)?;
+    keep_assertion(&mut built.assertions, keyword, assertion)?;
     check_argument(alloc, before, site, keyword, argument)?;
-    read_names(
-        alloc,
-        &mut built.patterns,
-        before.len(),
-        site,
-        keyword,
-        argument,
-    )
+    read_names(alloc, &mut built.patterns, site, keyword, argument)
 }
 
 // The rules of all of a place's keywords, by name ascending.
 fn check_keywords(
     alloc: Global,
-    built: &mut Built,
     before: &[Site<'_>],
     site: &Site<'_>,
     members: &Members,
-) -> Result<(), Fault>
+) -> Result<Built, Fault>
     ensures clear { OnOk result (IsClear
         (flat_map (at_keyword (map site_of before.now) (site_of site.now)) members.now)) }
-    ensures assertions { OnOk result (built.new.assertions.items ≡ built.old.assertions.items
-        ++ flat_map (assertion_at (length before.now) members.now) members.now) }
-    ensures patterns { OnOk result (built.new.patterns.items ≡ built.old.patterns.items
-        ++ flat_map (patterns_of (length before.now)) members.now) }
+    ensures assertions { IfOk result (λ b. b.assertions.items ≡ flat_map (assertion_at members.now) members.now) }
+    ensures patterns { IfOk result (λ b. b.patterns.items ≡ flat_map patterns_of members.now) }
     ensures err { IfErr result (IsStopped
         (flat_map (at_keyword (map site_of before.now) (site_of site.now)) members.now)) }
 {
+    let mut built = Built::new(alloc);
     for (keyword, argument) in members.pairs() {
         check_keyword(
             alloc,
-            built,
+            &mut built,
             before,
             site,
             keyword.as_str(),
@@ -132,60 +123,47 @@ fn check_keywords(
             members,
         )?;
     }
-    Ok(())
+    Ok(built)
 }
 
-fn check_schema(
-    alloc: Global,
-    built: &mut Built,
-    before: &[Site<'_>],
-    site: &Site<'_>,
-) -> Result<(), Fault>
+fn check_schema(alloc: Global, before: &[Site<'_>], site: &Site<'_>) -> Result<Built, Fault>
     ensures clear { OnOk result (IsClear (flat_map
         (at_keyword (map site_of before.now) (site_of site.now)) (keywords (site_of site.now).schema))) }
-    ensures assertions { OnOk result (built.new.assertions.items
-        ≡ built.old.assertions.items ++ assertions_at (length before.now) (site_of site.now)) }
-    ensures patterns { OnOk result (built.new.patterns.items
-        ≡ built.old.patterns.items ++ patterns_at (length before.now) (site_of site.now)) }
+    ensures assertions { IfOk result (λ b. b.assertions.items ≡ assertions_at (site_of site.now)) }
+    ensures patterns { IfOk result (λ b. b.patterns.items ≡ patterns_at (site_of site.now)) }
     ensures err { IfErr result (IsStopped (flat_map
         (at_keyword (map site_of before.now) (site_of site.now)) (keywords (site_of site.now).schema))) }
 {
     match site.schema {
-        Doc::Members(members) => check_keywords(alloc, built, before, site, members),
-        _ => Ok(()),
+        Doc::Members(members) => check_keywords(alloc, before, site, members),
+        _ => Ok(Built::new(alloc)),
     }
 }
 
 // The rules of a place, and of its keywords.
-fn check_site(
-    alloc: Global,
-    built: &mut Built,
-    before: &[Site<'_>],
-    site: &Site<'_>,
-) -> Result<(), Fault>
+fn check_site(alloc: Global, before: &[Site<'_>], site: &Site<'_>) -> Result<Built, Fault>
     ensures clear { OnOk result (IsClear (at_site (map site_of before.now) (site_of site.now))) }
-    ensures assertions { OnOk result (built.new.assertions.items
-        ≡ built.old.assertions.items ++ assertions_at (length before.now) (site_of site.now)) }
-    ensures patterns { OnOk result (built.new.patterns.items
-        ≡ built.old.patterns.items ++ patterns_at (length before.now) (site_of site.now)) }
+    ensures assertions { IfOk result (λ b. b.assertions.items ≡ assertions_at (site_of site.now)) }
+    ensures patterns { IfOk result (λ b. b.patterns.items ≡ patterns_at (site_of site.now)) }
     ensures err { IfErr result (IsStopped (at_site (map site_of before.now) (site_of site.now))) }
 {
     check_place(alloc, before, site)?;
-    check_schema(alloc, built, before, site)
+    check_schema(alloc, before, site)
 }
 
-/// The first pass. It answers what it has built of the keywords of all places.
-pub(crate) fn first_pass(alloc: Global, sites: &[Site<'_>]) -> Result<Built, Fault>
+/// The first pass. It answers, for each place, what it has built of the keywords.
+pub(crate) fn first_pass(alloc: Global, sites: &[Site<'_>]) -> Result<Vec<Built>, Fault>
     ensures clear { OnOk result (IsClear (first_pass [] (map site_of sites.now))) }
     ensures assertions { IfOk result
-        (λ b. b.assertions.items ≡ numbered assertions_at 0 (map site_of sites.now)) }
+        (λ v. map assertions_in v.items ≡ map assertions_at (map site_of sites.now)) }
     ensures patterns { IfOk result
-        (λ b. b.patterns.items ≡ numbered patterns_at 0 (map site_of sites.now)) }
+        (λ v. map patterns_in v.items ≡ map patterns_at (map site_of sites.now)) }
     ensures err { IfErr result (IsStopped (first_pass [] (map site_of sites.now))) }
 {
-    let mut built = Built::new(alloc);
+    let mut all = Vec::new(alloc);
     for i in 0..sites.len() {
-        check_site(alloc, &mut built, &sites[..i], &sites[i])?;
+        let built = check_site(alloc, &sites[..i], &sites[i])?;
+        all.push(built)?;
     }
-    Ok(built)
+    Ok(all)
 }

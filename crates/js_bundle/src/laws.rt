@@ -1,8 +1,9 @@
 //! Laws of the definitions that this crate's contracts speak of. Calling one does nothing.
-ghost use Rattle.js_bundle.specs.PlaceLaws.{ListsThePlaces, ListsEachOnce};
+ghost use Rattle.js_bundle.specs.NameLaws.{NamesOneResource, NamesOnePlace};
+ghost use Rattle.js_bundle.specs.PlaceLaws.{ListsThePlaces, ListsEachOnce, ListsTheirPlaces, ListsTheirsOnce};
 
-/// The list of places has exactly the places: the least set that has a document's root and is closed under what
-/// keywords hold.
+/// The list of a document's places has exactly the places: the least set that has the document's root and is closed
+/// under what keywords hold.
 pub fn the_list_has_the_places()
     ensures { ListsThePlaces }
 {}
@@ -10,4 +11,25 @@ pub fn the_list_has_the_places()
 /// It has each once.
 pub fn the_list_has_each_once()
     ensures { ListsEachOnce }
+{}
+
+/// The list of a bundle's places has exactly the places of its documents, each under its document's number and URI.
+pub fn the_list_has_the_places_of_all()
+    ensures { ListsTheirPlaces }
+{}
+
+/// It has each once: no two stand at one pointer of one document.
+pub fn the_list_has_each_of_all_once()
+    ensures { ListsTheirsOnce }
+{}
+
+/// In documents that are accepted one resource at most has a URI (JSON Schema Core, section 8.2.1).
+pub fn a_uri_names_one_resource()
+    ensures { NamesOneResource }
+{}
+
+/// In documents that are accepted a URI names one place at most, by a pointer or by an anchor (JSON Schema Core,
+/// sections 8.2.2 and 9.2.1).
+pub fn a_uri_names_one_place()
+    ensures { NamesOnePlace }
 {}

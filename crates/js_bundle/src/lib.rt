@@ -15,6 +15,7 @@ mod first_pass;
 mod holding;
 mod keyword;
 pub mod laws;
+mod location;
 mod names;
 mod place;
 mod place_keywords;

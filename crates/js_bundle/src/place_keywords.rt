@@ -1,5 +1,5 @@
 //! What a place has by its keywords.
-ghost use Rattle.std.specs.Prelude.{◌≡◌, ◌&&◌, true, codes, find, bytes_eq, nat_eq, option_map, option_and_then};
+ghost use Rattle.std.specs.Prelude.{◌≡◌, true, codes, find, bytes_eq, option_map, option_and_then};
 ghost use Rattle.js_bundle.specs.Schemas.{is_place, has_keyword, place_at, assertion, pattern};
 
 use crate::built::{BuiltAssertion, BuiltPattern};
@@ -15,7 +15,7 @@ impl Schemas {
         requires { is_place self.now place ≡ true }
         ensures { option_map (λ a. a.now) result ≡ option_and_then (assertion keyword.now) (place_at self.now place) }
     {
-        match find_assertion(self.kept.built.assertions.as_slice(), place.number, keyword) {
+        match find_assertion(self.built(place).assertions.as_slice(), keyword) {
             Some(built) => Some(&built.assertion),
             None => None,
         }
@@ -27,7 +27,7 @@ impl Schemas {
         requires { is_place self.now place ≡ true }
         ensures { option_map (λ p. p.now) result ≡ option_and_then (pattern name.now) (place_at self.now place) }
     {
-        match find_pattern(self.kept.built.patterns.as_slice(), place.number, name) {
+        match find_pattern(self.built(place).patterns.as_slice(), name) {
             Some(built) => Some(&built.pattern),
             None => None,
         }
@@ -57,40 +57,22 @@ impl Schemas {
     }
 }
 
-fn is_assertion_of(built: &BuiltAssertion, place: usize, keyword: &str) -> bool
-    ensures { result ≡ (nat_eq built.now.place place && bytes_eq keyword.now built.now.keyword) }
-{
-    built.place == place && keyword == built.keyword.as_str()
-}
-
-fn is_pattern_of(built: &BuiltPattern, place: usize, name: &str) -> bool
-    ensures { result ≡ (nat_eq built.now.place place && bytes_eq name.now built.now.name) }
-{
-    built.place == place && name == built.name.as_str()
-}
-
-fn find_assertion<'b>(
-    built: &'b [BuiltAssertion],
-    place: usize,
-    keyword: &str,
-) -> Option<&'b BuiltAssertion>
-    ensures { option_map (λ b. b.now) result
-        ≡ find (λ b. nat_eq b.place place && bytes_eq keyword.now b.keyword) built.now }
+fn find_assertion<'b>(built: &'b [BuiltAssertion], keyword: &str) -> Option<&'b BuiltAssertion>
+    ensures { option_map (λ b. b.now) result ≡ find (λ b. bytes_eq keyword.now b.keyword) built.now }
 {
     for one in built {
-        if is_assertion_of(one, place, keyword) {
+        if keyword == one.keyword.as_str() {
             return Some(one);
         }
     }
     None
 }
 
-fn find_pattern<'b>(built: &'b [BuiltPattern], place: usize, name: &str) -> Option<&'b BuiltPattern>
-    ensures { option_map (λ b. b.now) result
-        ≡ find (λ b. nat_eq b.place place && bytes_eq name.now b.name) built.now }
+fn find_pattern<'b>(built: &'b [BuiltPattern], name: &str) -> Option<&'b BuiltPattern>
+    ensures { option_map (λ b. b.now) result ≡ find (λ b. bytes_eq name.now b.name) built.now }
 {
     for one in built {
-        if is_pattern_of(one, place, name) {
+        if name == one.name.as_str() {
             return Some(one);
         }
     }

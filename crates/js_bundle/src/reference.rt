@@ -1,10 +1,9 @@
 //! The second pass: what references lead to.
-ghost use Rattle.std.specs.Prelude.{◌≡◌, [], ◌∷◌, ◌++◌, Some, Ok, false, OnOk, IfOk, IfErr, codes, map, option_and_then, slice_get};
+ghost use Rattle.std.specs.Prelude.{◌≡◌, [], ◌∷◌, ◌++◌, Some, Ok, false, OnOk, IfOk, IfErr, codes, map, option_map, option_and_then, slice_get};
 ghost use Rattle.std.specs.List.{flat_map};
 ghost use Rattle.js_bundle.specs.Candidate.{IsClear, IsStopped};
 ghost use Rattle.std.specs.Option.{option_map_or};
-ghost use Rattle.js_bundle.specs.Built.{numbered};
-ghost use Rattle.js_bundle.specs.Finding.{number_named, number_of_target, pair_of, pairs_of, goes_by_name, dynamic_of, dynamic_at};
+ghost use Rattle.js_bundle.specs.Finding.{number_named, number_of_target, goes_by_name, dynamic_as, dynamic_at};
 ghost use Rattle.js_bundle.specs.Names.{makes};
 ghost use Rattle.js_bundle.specs.Refusals.{at_joined_reference, at_reference_text, at_reference, at_references, second_pass};
 ghost use Rattle.js_bundle.specs.Resource.{joined};
@@ -163,71 +162,46 @@ fn resolve_both(alloc: Global, sites: &[Site<'_>], site: &Site<'_>) -> Result<Ta
     })
 }
 
-/// A place and the target of its reference, by their numbers in scan order.
-#[derive(Clone, Copy, Drop)]
-pub(crate) struct Reference {
-    pub(crate) place: usize,
-    pub(crate) target: usize,
-}
-
-/// A place and the first target of its `$dynamicRef`, by their numbers in scan order.
+/// The first target of a `$dynamicRef`, by its number in scan order.
 #[derive(Clone, Copy, Drop)]
 pub(crate) struct DynamicReference {
-    pub(crate) place: usize,
     pub(crate) target: usize,
     /// Whether its fragment is a name that `$dynamicAnchor` makes at the target: then the dynamic scope decides.
     pub(crate) by_name: bool,
 }
 
-/// What the references of all places name.
+/// What the references of each place name, in scan order.
 #[derive(Drop)]
 pub(crate) struct References {
-    pub(crate) dynamic: Vec<DynamicReference>,
-    pub(crate) plain: Vec<Reference>,
+    pub(crate) dynamic: Vec<Option<DynamicReference>>,
+    /// The numbers of the targets of `$ref`.
+    pub(crate) plain: Vec<Option<usize>>,
 }
 
-fn add(out: &mut Vec<Reference>, place: usize, target: Option<usize>) -> Result<(), Memory>
-    ensures { OnOk result (out.new.items ≡ out.old.items ++ pair_of place target) }
+fn dynamic_of(target: Option<usize>, by_name: bool) -> Option<DynamicReference>
+    ensures { result ≡ option_map (dynamic_as by_name) target }
 {
-    if let Some(target) = target {
-        out.push(Reference { place, target })?;
+    match target {
+        Some(target) => Some(DynamicReference { target, by_name }),
+        None => None,
     }
-    Ok(())
-}
-
-fn add_dynamic(
-    out: &mut Vec<DynamicReference>,
-    place: usize,
-    target: Option<usize>,
-    by_name: bool,
-) -> Result<(), Memory>
-    ensures { OnOk result (out.new.items ≡ out.old.items ++ dynamic_of place target by_name) }
-{
-    if let Some(target) = target {
-        out.push(DynamicReference {
-            place,
-            target,
-            by_name,
-        })?;
-    }
-    Ok(())
 }
 
 /// Resolves all references.
 pub(crate) fn resolve_all(alloc: Global, sites: &[Site<'_>]) -> Result<References, Fault>
     ensures clear { OnOk result (IsClear (second_pass (map site_of sites.now))) }
     ensures dynamic { IfOk result (λ r. r.dynamic.items
-        ≡ numbered (dynamic_at (map site_of sites.now)) 0 (map site_of sites.now)) }
-    ensures plain { IfOk result (λ r. r.plain.items ≡ pairs_of
-        (number_of_target (map site_of sites.now) (codes "$ref")) 0 (map site_of sites.now)) }
+        ≡ map (dynamic_at (map site_of sites.now)) (map site_of sites.now)) }
+    ensures plain { IfOk result (λ r. r.plain.items
+        ≡ map (number_of_target (map site_of sites.now) (codes "$ref")) (map site_of sites.now)) }
     ensures err { IfErr result (IsStopped (second_pass (map site_of sites.now))) }
 {
     let mut dynamic = Vec::new(alloc);
     let mut plain = Vec::new(alloc);
     for i in 0..sites.len() {
         let targets = resolve_both(alloc, sites, &sites[i])?;
-        add_dynamic(&mut dynamic, i, targets.dynamic, targets.by_name)?;
-        add(&mut plain, i, targets.plain)?;
+        dynamic.push(dynamic_of(targets.dynamic, targets.by_name))?;
+        plain.push(targets.plain)?;
     }
     Ok(References { dynamic, plain })
 }

@@ -3,7 +3,7 @@ ghost use Rattle.std.specs.Prelude.{◌≡◌, [], ◌∷◌, ◌++◌, OnOk, If
 ghost use Rattle.js_doc.specs.Seen.{value_of};
 ghost use Rattle.js_doc.specs.Value as spec;
 ghost use Rattle.js_bundle.specs.Place.{holding};
-ghost use Rattle.js_bundle.specs.Scan.{SameFront, site_of, site_at, below, sites_held, sites_at, sites_of_keywords, sites_in_list, sites_of_items, sites_in_object, sites_of_members, scanned};
+ghost use Rattle.js_bundle.specs.Scan.{SameFront, site_of, site_at, below, sites_held, sites_at, sites_of_keyword, sites_of_keywords, sites_in_list, sites_of_items, sites_in_object, sites_of_members, scanned};
 ghost use Rattle.js_bundle.specs.Resource.{root_scope};
 ghost use Rattle.js_bundle.specs.Seen.{document_of};
 
@@ -121,18 +121,39 @@ fn scan_keywords<'a>(
         ++ sites_of_keywords document above.now.value pointer.now (spec.members members.now))) }
 {
     for (keyword, argument) in members.pairs() {
-        let at = further(alloc, pointer, keyword.as_str())?;
-        scan_held(
+        scan_keyword(
             alloc,
             out,
             document,
             above,
-            &at,
-            holding_of(keyword.as_str()),
+            pointer,
+            keyword.as_str(),
             argument,
         )?;
     }
     Ok(())
+}
+
+#[cycle(scan)]
+fn scan_keyword<'a>(
+    alloc: Global,
+    out: &mut Vec<Site<'a>>,
+    document: usize,
+    above: &Rc<Scope>,
+    pointer: &Pointer,
+    keyword: &str,
+    argument: &'a Doc,
+) -> Result<(), Memory>
+    ensures { OnOk result (SameFront (map site_of out.new.items) (map site_of out.old.items
+        ++ sites_of_keyword document above.now.value pointer.now keyword.now (value_of argument.now))) }
+{
+    // Most keywords hold no schema: then no pointer is made.
+    let held = holding_of(keyword);
+    if matches!(held, Holding::Nothing) {
+        return Ok(());
+    }
+    let at = further(alloc, pointer, keyword)?;
+    scan_held(alloc, out, document, above, &at, held, argument)
 }
 
 #[cycle(scan)]

@@ -1,15 +1,18 @@
 //! Finished schemas: places, and what stands there.
 ghost use Rattle.std.specs.Prelude.{◌≡◌, ◌++◌, Some, true, length, map, option_map, IfOk, string_bytes};
 ghost use Rattle.js_doc.specs.Seen.{value_of};
+ghost use Rattle.js_bundle.specs.Built.{assertions_at, assertions_in, patterns_at, patterns_in};
 ghost use Rattle.js_bundle.specs.Finding.{tokens_of};
-ghost use Rattle.js_bundle.specs.Location.{absolute, canonical};
+ghost use Rattle.js_bundle.specs.Location.{absolute, canonical, location};
 ghost use Rattle.js_bundle.specs.Schemas.{is_place, place_at, place_numbers, resources};
+ghost use Rattle.js_bundle.specs.Seen.{AreRead};
 ghost use Rattle.js_bundle.specs.Spot.{spot, spot_of};
 
+use crate::built::Built;
 use crate::checked::{Checked, Spot};
 use crate::document::Document;
+use crate::location::absolute;
 use crate::place::Place;
-use crate::pointers::{after, push_given};
 use crate::uri;
 use js_doc::{Doc, Memory, Pointer};
 use std::alloc::Global;
@@ -53,6 +56,16 @@ impl Schemas {
         ensures { option_map spot (place_at self.now place) ≡ Some (spot_of result.now) }
     {
         &self.kept.spots[place.number]
+    }
+
+    // What is built of a place's keywords.
+    pub(crate) fn built(&self, place: Place) -> &Built
+        requires { is_place self.now place ≡ true }
+        ensures assertions { option_map assertions_at (place_at self.now place) ≡ Some (assertions_in result.now) }
+        ensures patterns { option_map patterns_at (place_at self.now place) ≡ Some (patterns_in result.now) }
+        ensures read { AreRead self.now }
+    {
+        &self.kept.built[place.number]
     }
 
     /// The number of the place's document, the first one's 0.
@@ -108,13 +121,15 @@ impl Schemas {
             ≡ Some (string_bytes t)) }
     {
         let spot = self.spot(place);
-        let mut way = after(alloc, &spot.pointer, spot.own.resource.tokens().len())?;
-        push_given(&mut way, keyword)?;
-        let fragment = way.fragment(alloc)?;
-        let mut text = String::from_str(alloc, uri::text_of(&spot.own.base))?;
-        text.push('#')?;
-        text.push_str(fragment.as_str())?;
-        Ok(text)
+        absolute(alloc, &spot.own, &spot.pointer, keyword)
+    }
+
+    /// The absolute location of the place, lent.
+    pub fn absolute_of(&self, place: Place) -> &str
+        requires { is_place self.now place ≡ true }
+        ensures { option_map location (place_at self.now place) ≡ Some result.now }
+    {
+        self.kept.locations[place.number].as_str()
     }
 
     /// All places, in scan order: document by document, a schema before those that it holds, these by keyword ascending and

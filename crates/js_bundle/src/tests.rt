@@ -8,12 +8,11 @@ mod dynamic;
 mod entries;
 mod hostile;
 mod places;
-mod readings;
 mod refusals;
 mod targets;
 
 use super::*;
-use js_doc::{Pointer, read, text};
+use js_doc::{Doc, Pointer, read, text};
 use std::alloc::Global;
 use std::test::Fail;
 

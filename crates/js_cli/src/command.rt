@@ -1,11 +1,12 @@
 //! The program's work, over files and devices of any make.
-ghost use Rattle.std.specs.Prelude.{◌≡◌, ◌≢◌, ◌≤◌, ◌<◌, ◌⊎◌, ◌↔◌, ◌==◌, ◌++◌, ◌∷◌, [], false, IfOk, IfErr, OnOk, IfSome, string_bytes};
-ghost use Rattle.std.specs.Io.KnownBytes.{Appends, Keeps};
-ghost use Rattle.js_output.specs.Device.{AppendsBeginning};
+ghost use Rattle.std.specs.Prelude.{◌≡◌, ◌≢◌, ◌≤◌, ◌<◌, ◌⊎◌, ◌↔◌, ◌==◌, ◌++◌, ◌∷◌, [], ℕ, List, Option, None, false, IfOk, IfErr, OnOk, IfSome, IsErrOf, string_bytes};
+ghost use Rattle.std.specs.Io.KnownBytes.{Keeps};
+ghost use Rattle.js_output.specs.Device.{AppendsBeginning, IsLeft};
+ghost use Rattle.js_output.specs.Input.{IsInputFault};
 ghost use Rattle.js_output.specs.Line.{fault_line};
-ghost use Rattle.js_output.specs.Outcome.{flag_text};
 ghost use Rattle.js_output.specs.declared.fault.Fault.{Fault};
 ghost use Rattle.js_cli.specs.Words.{is_served, usage_line, words_of};
+ghost use Rattle.js_cli.specs.Answer.{CheckOutcome, TaskOutcome, WordsOutcome, Performs, IsTold, IsBegun};
 ghost use Rattle.js_cli.specs.Status.{fault_status};
 
 use crate::words::{Check, Task, USAGE, task_of};
@@ -30,11 +31,17 @@ pub const FAILED: u8 = 4;
 
 /// Files by their paths.
 pub trait Files {
+    // What a file holds, by its path, where that is known. Of a disk nothing is.
+    ghost held: { Self → List ℕ → Option (List ℕ) } = { λ _ _. None };
+
     /// All bytes of a file.
     ///
     /// # Errors
     /// `Memory`; `Read`, also where the file isn't opened; `InputTooLarge`.
-    fn take(&mut self, path: &str) -> Result<Vec<u8>, Fault>;
+    fn take(&mut self, path: &str) -> Result<Vec<u8>, Fault>
+        ensures bytes { IfOk result (λ bytes. IsLeft (held self.old path.now) bytes.items) }
+        ensures faults { IfErr result IsInputFault }
+        ensures stays { held self.new ≡ held self.old };
 }
 
 /// Does what the words ask for, and answers the program's status.
@@ -55,12 +62,21 @@ pub fn command<F: Files, R: Read, W: Write, V: Write>(
     ensures named { result ≤ 4 }
     ensures misused { (result ≡ 2) ↔ (is_served (words_of words.now) ≡ false) }
 
-    // 0 tells that the instance is valid, and 1 that it isn't, as the output does.
-    ensures verdict { result < 2 → Appends (W.contents out.old.device)
-        (W.contents out.new.device) (flag_text (result == 0)) }
+    // 0 tells that what the words ask for, by what the files and the input hold, comes to a valid
+    // instance, and 1 that it comes to an invalid one, as the output's text does, which went out.
+    ensures verdict { result < 2 → IsTold
+        (WordsOutcome (words_of words.now) (F.held files.old) (R.remaining input.old.device))
+        (result == 0) (W.contents out.old.device) (W.contents out.new.device) }
     ensures whole { result < 2 → out.new.failed ≡ false }
     ensures nothing { (result ≡ 2) ⊎ (result ≡ 3)
         → Keeps (W.contents out.old.device) (W.contents out.new.device) }
+
+    // Where something failed, nothing went out, or a beginning of such a text.
+    ensures beginning { result ≡ 4
+        → Keeps (W.contents out.old.device) (W.contents out.new.device)
+        ⊎ IsBegun
+        (WordsOutcome (words_of words.now) (F.held files.old) (R.remaining input.old.device))
+        (W.contents out.old.device) (W.contents out.new.device) }
 
     // What is told of anything else, or a beginning of it.
     ensures quiet { result < 2 → faults.new ≡ faults.old }
@@ -75,9 +91,7 @@ pub fn command<F: Files, R: Read, W: Write, V: Write>(
         let _ = out.flush();
         return MISUSED;
     };
-    let answer = perform(alloc, task, files, input, out);
-    let flushed = out.flush();
-    match answer.and_then(|valid| flushed.map(|()| valid)) {
+    match perform_whole(alloc, task, files, input, out) {
         Ok(true) => VALID,
         Ok(false) => INVALID,
         Err(fault) => {
@@ -87,6 +101,31 @@ pub fn command<F: Files, R: Read, W: Write, V: Write>(
     }
 }
 
+// Flushes the output at the end; a fault there counts only where none came before.
+fn perform_whole<F: Files, R: Read, W: Write>(
+    alloc: Global,
+    task: Task,
+    files: &mut F,
+    input: &mut Source<R>,
+    out: &mut Sink<W>,
+) -> Result<bool, Fault>
+    ensures told { IfOk result (λ valid. IsTold
+        (TaskOutcome (F.held files.old) (R.remaining input.old.device) task.entry) valid
+        (W.contents out.old.device) (W.contents out.new.device)) }
+    ensures whole { OnOk result (out.new.failed ≡ false) }
+    ensures nothing { IfErr result (λ e. e ≢ Fault.Write
+        → Keeps (W.contents out.old.device) (W.contents out.new.device)) }
+    ensures beginning { IsErrOf result Fault.Write → IsBegun
+        (TaskOutcome (F.held files.old) (R.remaining input.old.device) task.entry)
+        (W.contents out.old.device) (W.contents out.new.device) }
+{
+    let answer = perform(alloc, task, files, input, out);
+    let flushed = out.flush();
+    let valid = answer?;
+    flushed?;
+    Ok(valid)
+}
+
 fn perform<F: Files, R: Read, W: Write>(
     alloc: Global,
     task: Task,
@@ -94,9 +133,9 @@ fn perform<F: Files, R: Read, W: Write>(
     input: &mut Source<R>,
     out: &mut Sink<W>,
 ) -> Result<bool, Fault>
-    ensures text { IfOk result (λ valid. Appends (W.contents out.old.device)
-        (W.contents out.new.device) (flag_text valid)) }
-    ensures whole { OnOk result (out.new.failed ≡ false) }
+    ensures answer { Performs
+        (TaskOutcome (F.held files.old) (R.remaining input.old.device) task.entry)
+        W.contents out.old out.new result }
     ensures nothing { IfErr result (λ e. e ≢ Fault.Write → out.new ≡ out.old) }
 {
     match task {
@@ -111,9 +150,8 @@ fn perform_check<F: Files, W: Write>(
     files: &mut F,
     out: &mut Sink<W>,
 ) -> Result<bool, Fault>
-    ensures text { IfOk result (λ valid. Appends (W.contents out.old.device)
-        (W.contents out.new.device) (flag_text valid)) }
-    ensures whole { OnOk result (out.new.failed ≡ false) }
+    ensures answer { Performs
+        (CheckOutcome (F.held files.old) check.entry) W.contents out.old out.new result }
     ensures nothing { IfErr result (λ e. e ≢ Fault.Write → out.new ≡ out.old) }
 {
     let document = files.take(check.file)?;

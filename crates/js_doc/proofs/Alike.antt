@@ -4,7 +4,7 @@ use Rattle.std.proofs.lemmas.List.{drop_more, drop_all}
 use Rattle.std.proofs.lemmas.Bool.{and_right}
 use Rattle.js_doc.specs.Coding.{to_text, to_items, to_members}
 use Rattle.js_doc.specs.Equality.{same, same_tree}
-use Rattle.js_doc.specs.Seen.{value_of, items_of, members_of}
+use Rattle.js_doc.specs.Seen.{value_of, items_seen, members_seen}
 use Rattle.js_doc.specs.declared.doc.Doc.{Doc}
 
 pub same_text : (s t : List ℕ) → same_tree (to_text s) (to_text t) ≡ bytes_eq s t
@@ -14,7 +14,7 @@ same_text (x ∷ s) [] = refl
 same_text (x ∷ s) (y ∷ t) = ap (λ b. (x == y) && b) (same_text s t)
 
 abbrev pub SameItems : List Doc → List Doc → Bool
-SameItems a b = same_tree (to_items (items_of a)) (to_items (items_of b))
+SameItems a b = same_tree (to_items (items_seen a)) (to_items (items_seen b))
 
 pub items_apart : (a b : List Doc) → (length a ≡ length b → ⊥) → false ≡ SameItems a b
 items_apart [] [] h = absurd (h refl)
@@ -38,7 +38,7 @@ abbrev pub Entry : Type 0
 Entry = String Global × Doc
 
 abbrev pub SameEntries : List Entry → List Entry → Bool
-SameEntries a b = same_tree (to_members (members_of a)) (to_members (members_of b))
+SameEntries a b = same_tree (to_members (members_seen a)) (to_members (members_seen b))
 
 -- the entries at the front decide, or those after them
 pub entries_step : (x y : Entry) (a b : List Entry) (r s : Bool) → bytes_eq (string_bytes x.0) (string_bytes y.0) ≡ r → same (value_of x.1) (value_of y.1) ≡ s

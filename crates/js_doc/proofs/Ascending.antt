@@ -4,10 +4,10 @@ use Rattle.std.proofs.lemmas.Cmp.{nat_list_cmp_total}
 use Rattle.std.specs.Ordering.{match_ordering, ordering_reverse}
 use Rattle.js_doc.specs.Value.{Value, Named, members}
 use Rattle.js_doc.specs.Members.{name_cmp, put, IsBelowFirst, NamesAscend, NamesAscendInItems, NamesAscendInMembers}
-use Rattle.js_doc.specs.Seen.{value_of, items_of}
+use Rattle.js_doc.specs.Seen.{value_of, items_seen}
 use Rattle.js_doc.specs.declared.doc.Doc.{Doc}
 
-pub items_ascend-push : (ds : List Doc) (d : Doc) → NamesAscendInItems (items_of ds) → NamesAscend (value_of d) → NamesAscendInItems (items_of (ds ++ d ∷ []))
+pub items_ascend-push : (ds : List Doc) (d : Doc) → NamesAscendInItems (items_seen ds) → NamesAscend (value_of d) → NamesAscendInItems (items_seen (ds ++ d ∷ []))
 items_ascend-push [] d s h = (h, tt)
 items_ascend-push (e ∷ ds) d s h = (s.0, items_ascend-push ds d s.1 h)
 

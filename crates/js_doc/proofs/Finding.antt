@@ -12,9 +12,9 @@ use Rattle.serde_json.specs.declared.value.Value.{Value}
 use Rattle.js_doc.specs.Value as doc
 use Rattle.js_doc.specs.Value.{Items, no_items, item, Members, no_members, member, members}
 use Rattle.js_doc.specs.Members.{put}
-use Rattle.js_doc.specs.Seen.{value_of, items_of}
+use Rattle.js_doc.specs.Seen.{value_of, items_seen}
 use Rattle.js_doc.specs.WholeNumbers.{Found, under, found_both, value_in, items_in, members_in}
-use Rattle.js_doc.specs.Reading.{Stops, Lifts}
+use Rattle.js_doc.specs.Reading.{IsConversionFault, Lifts}
 use Rattle.js_doc.specs.declared.doc.Doc.{Doc}
 use Rattle.js_doc.specs.declared.reading.ReadFault.{ReadFault}
 use Rattle.js_doc.specs.declared.reading.ReadFault.TheVariants.{Memory, NotJson, NotWhole}
@@ -46,9 +46,9 @@ abbrev pub snoc : Items → doc.Value → Items
 snoc no_items v = item v no_items
 snoc (item w vs) v = item w (snoc vs v)
 
-pub snoc_items_of : (ds : List Doc) (d : Doc) → items_of (ds ++ d ∷ []) ≡ snoc (items_of ds) (value_of d)
-snoc_items_of [] d = refl
-snoc_items_of (e ∷ ds) d = ap (item (value_of e)) (snoc_items_of ds d)
+pub snoc_items_seen : (ds : List Doc) (d : Doc) → items_seen (ds ++ d ∷ []) ≡ snoc (items_seen ds) (value_of d)
+snoc_items_seen [] d = refl
+snoc_items_seen (e ∷ ds) d = ap (item (value_of e)) (snoc_items_seen ds d)
 
 pub items_extend : (n : ℕ) (done : List Value) (v : Value) (vs : Items) (x : doc.Value) → items_in n (items_view done) ≡ Ok vs → value_in (view v) ≡ Ok x
     → items_in n (items_view (done ++ v ∷ [])) ≡ Ok (snoc vs x)
@@ -115,8 +115,8 @@ place_or d Memory = d
 place_or d NotJson = d
 place_or d (NotWhole p) = p
 
-pub lifted_stops : {A : Type 0} (found : Found A) (d : Found doc.Value) (token : List ℕ) (old new : ReadFault) → Stops d old → Lifts token old new
-    → ((p : List (List ℕ)) → d ≡ Err p → found ≡ Err (token ∷ p)) → Stops found new
+pub lifted_stops : {A : Type 0} (found : Found A) (d : Found doc.Value) (token : List ℕ) (old new : ReadFault) → IsConversionFault d old → Lifts token old new
+    → ((p : List (List ℕ)) → d ≡ Err p → found ≡ Err (token ∷ p)) → IsConversionFault found new
 lifted_stops found d token old Memory s l up = tt
-lifted_stops found d token old NotJson s l up = subst (Stops d) l s
-lifted_stops found d token old (NotWhole q) s l up = up l.0 (subst (Stops d) l.1 s) ∙ ap Err (sym l.2)
+lifted_stops found d token old NotJson s l up = subst (IsConversionFault d) l s
+lifted_stops found d token old (NotWhole q) s l up = up l.0 (subst (IsConversionFault d) l.1 s) ∙ ap Err (sym l.2)

@@ -1,4 +1,8 @@
+pub mod BytesGone
+pub mod QuotedRuns
 pub mod Entries
+pub mod CompactPieces
+pub mod PartLists
 pub mod Alike
 pub mod Escapes
 pub mod Finding
@@ -7,5 +11,7 @@ pub mod Shortness
 pub mod PointerTexts
 pub mod TextBytes
 pub mod FragmentBytes
+pub mod TokenBytes
 pub mod Named
+pub mod FiniteMaps
 pub mod Smaller

@@ -7,7 +7,7 @@ use Rattle.std.proofs.lemmas.Bool.{and_parts, eqb-true}
 use Rattle.std.proofs.lemmas.Fmt.{decimal_injective}
 use Rattle.js_doc.specs.Value.{Value, members}
 use Rattle.js_doc.specs.Members.{get}
-use Rattle.js_doc.specs.Seen.{value_of, items_of}
+use Rattle.js_doc.specs.Seen.{value_of, items_seen}
 use Rattle.js_doc.specs.Lookup.{is_text, item_named, member_named}
 use Rattle.js_doc.specs.declared.doc.Doc.{Doc}
 
@@ -36,14 +36,14 @@ member_is token (m ∷ ms) =
 
 -- ---- items
 
-here : (token : List ℕ) (d : Doc) (ds : List Doc) (k : ℕ) → token ≡ decimal k → item_named token k (items_of (d ∷ ds)) ≡ Some (value_of d)
+here : (token : List ℕ) (d : Doc) (ds : List Doc) (k : ℕ) → token ≡ decimal k → item_named token k (items_seen (d ∷ ds)) ≡ Some (value_of d)
 here token d ds k is = let e : is_text token (decimal k) ≡ true = ap (λ x. is_text x (decimal k)) is ∙ is_text-refl (decimal k) in rw e
 
-passed : (token : List ℕ) (d : Doc) (ds : List Doc) (k : ℕ) (b : Bool) → is_text token (decimal k) ≡ b → (token ≡ decimal k → ⊥) → item_named token k (items_of (d ∷ ds)) ≡ item_named token (k + 1) (items_of ds)
+passed : (token : List ℕ) (d : Doc) (ds : List Doc) (k : ℕ) (b : Bool) → is_text token (decimal k) ≡ b → (token ≡ decimal k → ⊥) → item_named token k (items_seen (d ∷ ds)) ≡ item_named token (k + 1) (items_seen ds)
 passed token d ds k true e h = absurd (h (is_text-sound token (decimal k) e))
 passed token d ds k false e h = rw e
 
-pub named_at : (token : List ℕ) (ds : List Doc) (k n : ℕ) (x : Doc) → token ≡ decimal (k + n) → n < length ds → k + n < 2 ^ 64 → item_named token k (items_of ds) ≡ Some (value_of (get_or ds n x))
+pub named_at : (token : List ℕ) (ds : List Doc) (k n : ℕ) (x : Doc) → token ≡ decimal (k + n) → n < length ds → k + n < 2 ^ 64 → item_named token k (items_seen ds) ≡ Some (value_of (get_or ds n x))
 named_at token [] k n x is h small = absurd (omega arith)
 named_at token (d ∷ ds) k zero x is h small = let same : k + 0 ≡ k = omega arith in here token d ds k (is ∙ ap decimal same)
 named_at token (d ∷ ds) k (suc n) x is h small =
@@ -51,7 +51,7 @@ named_at token (d ∷ ds) k (suc n) x is h small =
     let other : token ≡ decimal k → ⊥ = λ e. let m : k + suc n ≡ k = decimal_injective (k + suc n) k (omega arith) (omega arith) (sym is ∙ e) in omega arith in
     passed token d ds k (is_text token (decimal k)) refl other ∙ named_at token ds (k + 1) n x (is ∙ ap decimal same) (omega arith) (omega arith)
 
-pub named_none : (token : List ℕ) (ds : List Doc) (k : ℕ) → ((n : ℕ) → n < k + length ds → token ≡ decimal n → ⊥) → item_named token k (items_of ds) ≡ None
+pub named_none : (token : List ℕ) (ds : List Doc) (k : ℕ) → ((n : ℕ) → n < k + length ds → token ≡ decimal n → ⊥) → item_named token k (items_seen ds) ≡ None
 named_none token [] k h = refl
 named_none token (d ∷ ds) k h =
     passed token d ds k (is_text token (decimal k)) refl (h k (omega arith)) ∙ named_none token ds (k + 1) (λ n l. h n (omega arith))

@@ -123,7 +123,7 @@ append_at b bs ys true s e f h = rw (e) (ap (λ x. 126 ∷ 48 ∷ x) h)
 append_at b bs ys false true e f h = rw (e, f) (ap (λ x. 126 ∷ 49 ∷ x) h)
 append_at b bs ys false false e f h = rw (e, f) (ap (λ x. b ∷ x) h)
 
-escape-append : (xs ys : List ℕ) → escape (xs ++ ys) ≡ escape xs ++ escape ys
+pub escape-append : (xs ys : List ℕ) → escape (xs ++ ys) ≡ escape xs ++ escape ys
 escape-append [] ys = refl
 escape-append (b ∷ bs) ys = append_at b bs ys _ _ refl refl (escape-append bs ys)
 

@@ -4,17 +4,17 @@ use Rattle.std.specs.Ordering.{match_ordering}
 use Rattle.js_doc.specs.Value.{Value, Named, members}
 use Rattle.js_doc.specs.Members.{name_cmp, put}
 use Rattle.js_doc.specs.Short.{item_count, IsShort, AreShortItems, AreShortMembers}
-use Rattle.js_doc.specs.Seen.{value_of, items_of}
+use Rattle.js_doc.specs.Seen.{value_of, items_seen}
 use Rattle.js_doc.specs.declared.doc.Doc.{Doc}
 
-count_items : (ds : List Doc) → item_count (items_of ds) ≡ length ds
+count_items : (ds : List Doc) → item_count (items_seen ds) ≡ length ds
 count_items [] = refl
 count_items (d ∷ ds) = ap suc (count_items ds)
 
-pub count_short : (ds : List Doc) → length ds < 2 ^ 64 → item_count (items_of ds) < 2 ^ 64
+pub count_short : (ds : List Doc) → length ds < 2 ^ 64 → item_count (items_seen ds) < 2 ^ 64
 count_short ds h = subst (λ n. n < 2 ^ 64) (sym (count_items ds)) h
 
-pub items_short-push : (ds : List Doc) (d : Doc) → AreShortItems (items_of ds) → IsShort (value_of d) → AreShortItems (items_of (ds ++ d ∷ []))
+pub items_short-push : (ds : List Doc) (d : Doc) → AreShortItems (items_seen ds) → IsShort (value_of d) → AreShortItems (items_seen (ds ++ d ∷ []))
 items_short-push [] d s h = (h, tt)
 items_short-push (e ∷ ds) d s h = (s.0, items_short-push ds d s.1 h)
 

@@ -3,7 +3,7 @@ use Rattle.std.specs.Prelude.{ℕ, Bool, List, [], ◌∷◌, ◌||◌, ◌==◌
 use Rattle.std.specs.Char.{is_ascii_alphanumeric}
 use Rattle.std.specs.List.{list_any}
 use Rattle.percent_encoding.specs.Percent.{percent_encode_byte}
-use Rattle.js_doc.specs.Pointer.{Tokens, pointer_text}
+use Rattle.js_doc.specs.Pointer.{Tokens, token_text, pointer_text}
 
 -- what stands in a fragment as it is, beside letters and digits
 abbrev pub marks : List ℕ
@@ -18,3 +18,7 @@ fragment_byte b = if stands b then b ∷ [] else percent_encode_byte b
 
 abbrev pub fragment_text : Tokens → List ℕ
 fragment_text tokens = flat_map fragment_byte (pointer_text tokens)
+
+-- of a token alone
+abbrev pub fragment_token : List ℕ → List ℕ
+fragment_token token = flat_map fragment_byte (token_text token)

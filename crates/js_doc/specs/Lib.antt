@@ -3,7 +3,9 @@ pub mod Nesting
 pub mod Coding
 pub mod Whole
 pub mod Members
+pub mod Parts
 pub mod Short
+pub mod Lawful
 pub mod Seen
 pub mod Falls
 pub mod Equality
@@ -12,5 +14,7 @@ pub mod PointerReading
 pub mod Fragment
 pub mod Lookup
 pub mod Compact
+pub mod BytesOut
+pub mod Escapes
 pub mod WholeNumbers
 pub mod Reading

@@ -1,5 +1,5 @@
 -- Members as a finite map: each name once, in ascending order of its bytes (JSON Schema Core, section 4.2.1).
-use Rattle.std.specs.Prelude.{◌≡◌, ℕ, List, [], ◌∷◌, Option, Some, None}
+use Rattle.std.specs.Prelude.{◌≡◌, ℕ, List, [], ◌∷◌, Bool, Option, Some, None, is_some}
 use Rattle.std.specs.Ordering.{nat_cmp, match_ordering}
 use Rattle.std.specs.Cmp.Lexicographic.{slice_cmp}
 use Rattle.std.specs.declared.cmp.Ordering.{Ordering}
@@ -13,6 +13,10 @@ name_cmp = slice_cmp nat_cmp
 abbrev pub get : {A : Type 0} → List ℕ → List (List ℕ × A) → Option A
 get k [] = None
 get k (m ∷ ms) = match_ordering (name_cmp k m.0) (get k ms) (Some m.1) (get k ms)
+
+-- the name is one of these members'
+abbrev pub has_name : {A : Type 0} → List ℕ → List (List ℕ × A) → Bool
+has_name k ms = is_some (get k ms)
 
 -- the members with v under k: a value that stood there is replaced
 abbrev pub put : {A : Type 0} → List ℕ → A → List (List ℕ × A) → List (List ℕ × A)

@@ -9,7 +9,10 @@ abbrev pub escape : List ℕ → List ℕ
 escape [] = []
 escape (b ∷ bs) = if b == 126 then 126 ∷ 48 ∷ escape bs else (if b == 47 then 126 ∷ 49 ∷ escape bs else b ∷ escape bs)
 
--- each token after a `/`
+-- a token after a `/`
+abbrev pub token_text : List ℕ → List ℕ
+token_text token = 47 ∷ escape token
+
 abbrev pub pointer_text : Tokens → List ℕ
 pointer_text [] = []
-pointer_text (token ∷ tokens) = 47 ∷ (escape token ++ pointer_text tokens)
+pointer_text (token ∷ tokens) = token_text token ++ pointer_text tokens

@@ -1,6 +1,6 @@
 -- The tokens that a pointer's text is read as, byte by byte: None where it is no pointer's text.
-use Rattle.std.specs.Prelude.{ℕ, Bool, true, false, Option, Some, None, option_map, List, [], ◌∷◌, ◌++◌, if◌then◌else◌, ◌==◌}
-use Rattle.js_doc.specs.Pointer.{Tokens}
+use Rattle.std.specs.Prelude.{◌≡◌, ℕ, Bool, true, false, Option, Some, None, option_map, List, [], ◌∷◌, ◌++◌, if◌then◌else◌, ◌==◌}
+use Rattle.js_doc.specs.Pointer.{Tokens, pointer_text}
 
 -- after a `/`: the first token goes on from what was read of it; `tilde`: a `~` was read last
 abbrev pub tokens_of : Bool → List ℕ → List ℕ → Option Tokens
@@ -16,3 +16,11 @@ tokens_of false token (b ∷ bs) =
 abbrev pub pointer_of : List ℕ → Option Tokens
 pointer_of [] = Some []
 pointer_of (b ∷ bs) = if b == 47 then tokens_of false [] bs else None
+
+-- ---- why it is the reading: each pointer's text is read as the pointer, and what is read as a pointer is its text
+
+abbrev pub ReadsBack : Type 0
+ReadsBack = (p : Tokens) → pointer_of (pointer_text p) ≡ Some p
+
+abbrev pub ReadsNoMore : Type 0
+ReadsNoMore = (text : List ℕ) (p : Tokens) → pointer_of text ≡ Some p → pointer_text p ≡ text

@@ -22,10 +22,10 @@ IsReadFault bytes NotJson = IsNotJson bytes
 IsReadFault bytes (NotWhole place) = IsReadAs bytes (Err place)
 
 -- when each fault comes where a value is there already: NotJson never does
-abbrev pub Stops : {A : Type 0} → Found A → ReadFault → Type 0
-Stops found Memory = Unit {0}
-Stops found NotJson = ⊥
-Stops found (NotWhole place) = found ≡ Err place
+abbrev pub IsConversionFault : {A : Type 0} → Found A → ReadFault → Type 0
+IsConversionFault found Memory = Unit {0}
+IsConversionFault found NotJson = ⊥
+IsConversionFault found (NotWhole place) = found ≡ Err place
 
 -- the new fault is the old one, as seen from one level further up
 abbrev pub Lifts : List ℕ → ReadFault → ReadFault → Type 0

@@ -16,8 +16,8 @@ value_of (doc.Members ms) = object (members ms)
 abbrev pub pair_of : String Global × Doc → List ℕ × Value
 pair_of e = (string_bytes e.0, value_of e.1)
 
-abbrev pub items_of : List Doc → Items
-items_of ds = items (map value_of ds)
+abbrev pub items_seen : List Doc → Items
+items_seen ds = items (map value_of ds)
 
-abbrev pub members_of : List (String Global × Doc) → Members
-members_of es = members (map pair_of es)
+abbrev pub members_seen : List (String Global × Doc) → Members
+members_seen es = members (map pair_of es)

@@ -1,3 +1,6 @@
+ghost use Rattle.js_doc.specs.Lawful.{IsLawful};
+ghost use Rattle.js_doc.specs.Seen.{value_of};
+
 use crate::items::Items;
 use crate::members::Members;
 use crate::string::Text;
@@ -14,4 +17,18 @@ pub enum Doc {
     Text(Text),
     List(Items),
     Members(Members),
+}
+
+impl Doc {
+    /// Tells a proof what holds of each value: at each level an object's names ascend by their bytes, each once, and a
+    /// list has fewer than 2^64 items. It does nothing.
+    pub fn lawful(&self)
+        ensures { IsLawful (value_of self.now) }
+    {
+        match self {
+            Doc::List(items) => items.lawful(),
+            Doc::Members(members) => members.lawful(),
+            _ => {}
+        }
+    }
 }

@@ -2,7 +2,7 @@
 ghost use Rattle.std.specs.Prelude.{◌≡◌, ◌↔◌, IsTrue};
 ghost use Rattle.js_doc.specs.Coding.{to_items, to_members};
 ghost use Rattle.js_doc.specs.Equality.{same, same_tree};
-ghost use Rattle.js_doc.specs.Seen.{value_of, items_of, members_of};
+ghost use Rattle.js_doc.specs.Seen.{value_of, items_seen, members_seen};
 
 use crate::doc::Doc;
 use std::collections::BTreeMap;
@@ -65,7 +65,7 @@ fn equal(a: &Doc, b: &Doc) -> bool
 
 #[cycle(equal)]
 fn equal_items(a: &[Doc], b: &[Doc]) -> bool
-    ensures { result ≡ same_tree (to_items (items_of a.now)) (to_items (items_of b.now)) }
+    ensures { result ≡ same_tree (to_items (items_seen a.now)) (to_items (items_seen b.now)) }
 {
     if a.len() != b.len() {
         return false;
@@ -81,7 +81,7 @@ fn equal_items(a: &[Doc], b: &[Doc]) -> bool
 #[cycle(equal)]
 fn equal_entries(a: &BTreeMap<String, Doc>, b: &BTreeMap<String, Doc>) -> bool
     ensures { result
-        ≡ same_tree (to_members (members_of a.now.entries)) (to_members (members_of b.now.entries)) }
+        ≡ same_tree (to_members (members_seen a.now.entries)) (to_members (members_seen b.now.entries)) }
 {
     let mut others = b.iter();
     for (name, x) in a.iter() {

@@ -1,18 +1,18 @@
 //! Pointers as fragments of URIs (RFC 6901, section 6; RFC 3986, section 3.5).
 ghost use Rattle.std.specs.Prelude.{◌≡◌, ◌≢◌, Err, IfOk, string_bytes};
 ghost use Rattle.js_doc.specs.Pointer.{Tokens, pointer_text};
-ghost use Rattle.js_doc.specs.declared.parsing.PointerFault.TheVariants.{BadPointer};
+ghost use Rattle.js_doc.specs.declared.pointer_reading.PointerFault.TheVariants.{BadPointer};
 
 use crate::memory::Memory;
-use crate::parsing::PointerFault;
 use crate::pointer::Pointer;
+use crate::pointer_reading::PointerFault;
 use percent_encoding::{
     AsciiSet, CONTROLS, DecodeError, ascii_set, percent_decode, utf8_percent_encode,
 };
 use std::alloc::Global;
 
 // What a fragment escapes, beside the bytes outside ASCII.
-const ESCAPED: AsciiSet = ascii_set!(
+pub(crate) const ESCAPED: AsciiSet = ascii_set!(
     CONTROLS
         .add(b' ')
         .add(b'"')
@@ -41,7 +41,8 @@ impl Pointer {
     /// # Errors
     /// `Memory`.
     pub fn fragment(&self, alloc: Global) -> Result<String, Memory>
-        ensures { IfOk result (λ s. string_bytes s ≡ fragment_text self.now) }
+        ensures text { IfOk result (λ s. string_bytes s ≡ fragment_text self.now) }
+        ensures utf8 { IfOk result (λ s. IsUtf8 (pointer_text self.now)) }
     {
         let text = self.text(alloc)?;
         let mut fragment = String::new(alloc);

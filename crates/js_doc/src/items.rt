@@ -24,6 +24,12 @@ impl Model for Items {
 
     ghost view = { λ l. map value_of l.items.items };
 
+    ghost use Rattle.js_doc.specs.Lawful.{IsLawful};
+    ghost use Rattle.js_doc.specs.Seen.{items_seen};
+    ghost use Rattle.js_doc.specs.Value.{list};
+
+    ghost invariant = { λ l. IsLawful (list (items_seen l.items.items)) };
+
     ghost size = { values_depth };
 
     ghost use Rattle.js_doc.specs.Falls.{items_fall};
@@ -33,12 +39,23 @@ impl Model for Items {
 
 impl Items {
     ghost use Rattle.js_doc.specs.Seen.{value_of};
+    ghost use Rattle.js_doc.specs.Lawful.{IsLawful};
+    ghost use Rattle.js_doc.specs.Value.{list, items};
 
     /// The items of a vector.
     pub fn new(items: Vec<Doc>) -> Items
         ensures { result ≡ map value_of items.items }
     {
+        for doc in &items {
+            doc.lawful();
+        }
         Items { items }
+    }
+
+    pub(crate) fn lawful(&self)
+        ensures { IsLawful (list (items self.now)) }
+    {
+        let _ = &self.items;
     }
 
     /// How many items there are.

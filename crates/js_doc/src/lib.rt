@@ -1,30 +1,38 @@
 //! JSON values whose numbers are whole, read from bytes and written to text, and JSON Pointers.
 #![tactic(auto)]
 
+mod bytes_out;
+mod conversion;
 mod copying;
 mod doc;
 mod equality;
 mod fragment;
 mod items;
+pub mod laws;
 mod lookup;
 mod members;
 mod memory;
-mod parsing;
 mod pointer;
+mod pointer_reading;
 mod printing;
+mod quoting;
 mod reading;
 mod string;
 #[cfg(test)]
 mod tests;
+mod token;
 mod whole;
 
+pub use bytes_out::{Out, Stopped};
 pub use doc::Doc;
 pub use items::Items;
 pub use members::Members;
 pub use memory::Memory;
-pub use parsing::PointerFault;
 pub use pointer::Pointer;
-pub use printing::text;
+pub use pointer_reading::PointerFault;
+pub use printing::{put_number, put_text, text};
+pub use quoting::{push_string, put_string};
 pub use reading::{ReadFault, from_value, read};
 pub use string::Text;
+pub use token::{push_fragment_token, push_token};
 pub use whole::Whole;

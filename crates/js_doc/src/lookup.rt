@@ -1,6 +1,6 @@
 //! What stands at a pointer in a value (RFC 6901, section 4).
 ghost use Rattle.std.specs.Prelude.{◌≡◌, ℕ, ◌<◌, ◌^◌, None, IfSome, option_map, decimal};
-ghost use Rattle.js_doc.specs.Seen.{value_of, items_of};
+ghost use Rattle.js_doc.specs.Seen.{value_of, items_seen};
 ghost use Rattle.js_doc.specs.Lookup.{at, below, item_named};
 
 use crate::doc::Doc;
@@ -35,7 +35,7 @@ fn below<'a>(doc: &'a Doc, token: &str) -> Option<&'a Doc>
 }
 
 fn item<'a>(docs: &'a [Doc], token: &str) -> Option<&'a Doc>
-    ensures { option_map (λ d. value_of d.now) result ≡ item_named token.now 0 (items_of docs.now) }
+    ensures { option_map (λ d. value_of d.now) result ≡ item_named token.now 0 (items_seen docs.now) }
 {
     let Some(n) = index(token) else {
         return None;

@@ -29,6 +29,12 @@ impl Model for Members {
 
     ghost view = { λ m. map pair_of m.entries.entries };
 
+    ghost use Rattle.js_doc.specs.Lawful.{IsLawful};
+    ghost use Rattle.js_doc.specs.Seen.{members_seen};
+    ghost use Rattle.js_doc.specs.Value.{object};
+
+    ghost invariant = { λ m. IsLawful (object (members_seen m.entries.entries)) };
+
     ghost size = { named_depth };
 
     ghost use Rattle.js_doc.specs.Falls.{members_fall};
@@ -38,6 +44,8 @@ impl Model for Members {
 
 impl Members {
     ghost use Rattle.js_doc.specs.Seen.{value_of, pair_of};
+    ghost use Rattle.js_doc.specs.Lawful.{IsLawful};
+    ghost use Rattle.js_doc.specs.Value.{object, members};
 
     /// No members. `put` takes its memory from `alloc`.
     pub fn new(alloc: Global) -> Members
@@ -85,7 +93,14 @@ impl Members {
         ensures ok { OnOk result (self.new ≡ put (string_bytes name) (value_of doc) self.old) }
         ensures err { OnErr result (self.new ≡ self.old) }
     {
+        doc.lawful();
         drop(self.entries.insert(name, doc)?);
         Ok(())
+    }
+
+    pub(crate) fn lawful(&self)
+        ensures { IsLawful (object (members self.now)) }
+    {
+        let _ = &self.entries;
     }
 }

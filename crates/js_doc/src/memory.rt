@@ -1,3 +1,4 @@
+use crate::bytes_out::Stopped;
 use std::alloc::{AllocError, AllocFailed};
 
 /// Memory was wanted and there was none: a growth was refused.
@@ -12,6 +13,12 @@ impl From<AllocError> for Memory {
 
 impl<T: Drop> From<AllocFailed<T>> for Memory {
     fn from(_refused: AllocFailed<T>) -> Memory {
+        Memory
+    }
+}
+
+impl From<Stopped> for Memory {
+    fn from(_stopped: Stopped) -> Memory {
         Memory
     }
 }

@@ -1,9 +1,10 @@
 //! JSON Pointers (RFC 6901).
 ghost use Rattle.std.specs.Prelude.{◌≡◌, [], ◌∷◌, ◌++◌, OnOk, OnErr, IfOk, string_bytes};
-ghost use Rattle.js_doc.specs.Pointer.{escape, pointer_text};
+ghost use Rattle.js_doc.specs.Pointer.{pointer_text};
 
 use crate::memory::Memory;
 use crate::string::Text;
+use crate::token::push_token;
 use std::alloc::Global;
 use std::marker::Model;
 
@@ -41,10 +42,10 @@ impl Pointer {
         ensures err { OnErr result (self.new ≡ self.old) }
     {
         let token = String::from_str(*self.tokens.allocator(), token)?;
-        self.push_token(Text::new(token))
+        self.push_text(Text::new(token))
     }
 
-    pub(crate) fn push_token(&mut self, token: Text) -> Result<(), Memory>
+    pub(crate) fn push_text(&mut self, token: Text) -> Result<(), Memory>
         ensures ok { OnOk result (self.new ≡ self.old ++ token ∷ []) }
         ensures err { OnErr result (self.new ≡ self.old) }
     {
@@ -78,24 +79,10 @@ impl Pointer {
     {
         let mut text = String::new(alloc);
         for token in self.tokens() {
-            text.push('/')?;
-            push_escaped(&mut text, token.as_str())?;
+            push_token(&mut text, token.as_str())?;
         }
         Ok(text)
     }
-}
-
-fn push_escaped(out: &mut String, token: &str) -> Result<(), Memory>
-    ensures { OnOk result (string_bytes out.new ≡ string_bytes out.old ++ escape token.now) }
-{
-    for c in token.chars() {
-        match c {
-            '~' => out.push_str("~0")?,
-            '/' => out.push_str("~1")?,
-            _ => out.push(c)?,
-        }
-    }
-    Ok(())
 }
 
 impl PartialEq for Pointer {

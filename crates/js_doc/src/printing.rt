@@ -1,13 +1,16 @@
 //! A value's compact text (RFC 8259, section 2).
-ghost use Rattle.std.specs.Prelude.{◌≡◌, ◌++◌, IfOk, OnOk, false, string_bytes};
+ghost use Rattle.std.specs.Prelude.{◌≡◌, IfOk, false, string_bytes};
 ghost use Rattle.std.specs.Fmt.{signed_decimal};
-ghost use Rattle.js_doc.specs.Seen.{value_of, items_of, members_of};
-ghost use Rattle.js_doc.specs.Compact.{quoted, compact, compact_items, compact_members};
+ghost use Rattle.js_doc.specs.Value.{list, object};
+ghost use Rattle.js_doc.specs.Seen.{value_of, items_seen, members_seen};
+ghost use Rattle.js_doc.specs.Compact.{compact, comma_if};
+ghost use Rattle.js_doc.specs.BytesOut.{Puts};
 
+use crate::bytes_out::{Out, Stopped};
 use crate::doc::Doc;
 use crate::memory::Memory;
+use crate::quoting::put_string;
 use crate::whole::Whole;
-use serde_json::Value;
 use std::alloc::Global;
 use std::collections::BTreeMap;
 
@@ -20,93 +23,73 @@ pub fn text(alloc: Global, doc: &Doc) -> Result<String, Memory>
     ensures { IfOk result (λ s. string_bytes s ≡ compact (value_of doc.now)) }
 {
     let mut out = String::new(alloc);
-    put(alloc, &mut out, doc)?;
+    put_text(doc, &mut out)?;
     Ok(out)
 }
 
-fn put_quoted(alloc: Global, out: &mut String, text: &str) -> Result<(), Memory>
-    ensures { OnOk result (string_bytes out.new ≡ string_bytes out.old ++ quoted text.now) }
-{
-    let value = Value::String(String::from_str(alloc, text)?);
-    let quoted = value.to_string(alloc)?;
-    out.push_str(quoted.as_str())?;
-    Ok(())
-}
-
-fn put_whole(out: &mut String, whole: Whole) -> Result<(), Memory>
-    ensures { OnOk result (string_bytes out.new ≡ string_bytes out.old ++ signed_decimal whole) }
-{
-    let mut buffer = itoa::Buffer::new();
-    out.push_str(buffer.format(whole.value()))?;
-    Ok(())
-}
-
-fn put_str(out: &mut String, text: &str) -> Result<(), Memory>
-    ensures { OnOk result (string_bytes out.new ≡ string_bytes out.old ++ text.now) }
-{
-    out.push_str(text)?;
-    Ok(())
-}
-
-#[cycle(put)]
-fn put(alloc: Global, out: &mut String, doc: &Doc) -> Result<(), Memory>
-    ensures { OnOk result (string_bytes out.new ≡ string_bytes out.old ++ compact (value_of doc.now)) }
+/// Puts the bytes of the value's compact text. It takes no memory.
+///
+/// # Errors
+/// `Stopped`; then a beginning of the text has gone out.
+#[cycle(put_text)]
+pub fn put_text<O: Out>(doc: &Doc, out: &mut O) -> Result<(), Stopped>
+    ensures { Puts (O.progress out.old) (O.progress out.new) (compact (value_of doc.now)) result }
 {
     match doc {
-        Doc::Null => put_str(out, "null"),
-        Doc::Truth(true) => put_str(out, "true"),
-        Doc::Truth(false) => put_str(out, "false"),
-        Doc::Whole(whole) => put_whole(out, *whole),
-        Doc::Text(text) => put_quoted(alloc, out, text.as_str()),
-        Doc::List(items) => {
-            out.push('[')?;
-            put_items(alloc, out, items.items.as_slice())
-        }
-        Doc::Members(members) => {
-            out.push('{')?;
-            put_entries(alloc, out, &members.entries)
-        }
+        Doc::Null => out.put(b"null"),
+        Doc::Truth(true) => out.put(b"true"),
+        Doc::Truth(false) => out.put(b"false"),
+        Doc::Whole(whole) => put_number(*whole, out),
+        Doc::Text(text) => put_string(text.as_str(), out),
+        Doc::List(items) => put_items(items.items.as_slice(), out),
+        Doc::Members(members) => put_members(&members.entries, out),
     }
 }
 
-// The items and the closing bracket.
-#[cycle(put)]
-fn put_items(alloc: Global, out: &mut String, docs: &[Doc]) -> Result<(), Memory>
-    ensures { OnOk result
-        (string_bytes out.new ≡ string_bytes out.old ++ compact_items false (items_of docs.now)) }
+/// Puts the number in plain decimals. It takes no memory.
+///
+/// # Errors
+/// `Stopped`; then a beginning has gone out.
+pub fn put_number<O: Out>(number: Whole, out: &mut O) -> Result<(), Stopped>
+    ensures { Puts (O.progress out.old) (O.progress out.new) (signed_decimal number) result }
 {
+    let mut buffer = itoa::Buffer::new();
+    out.put(buffer.format(number.value()).as_bytes())
+}
+
+#[cycle(put_text)]
+fn put_items<O: Out>(docs: &[Doc], out: &mut O) -> Result<(), Stopped>
+    ensures { Puts (O.progress out.old) (O.progress out.new) (compact (list (items_seen docs.now))) result }
+{
+    out.put(b"[")?;
     let mut later = false;
     for doc in docs {
-        if later {
-            out.push(',')?;
-        }
-        put(alloc, out, doc)?;
+        put_comma(later, out)?;
+        put_text(doc, out)?;
         later = true;
     }
-    out.push(']')?;
-    Ok(())
+    out.put(b"]")
 }
 
-// The members and the closing brace.
-#[cycle(put)]
-fn put_entries(
-    alloc: Global,
-    out: &mut String,
-    entries: &BTreeMap<String, Doc>,
-) -> Result<(), Memory>
-    ensures { OnOk result (string_bytes out.new
-        ≡ string_bytes out.old ++ compact_members false (members_of entries.now.entries)) }
+#[cycle(put_text)]
+fn put_members<O: Out>(entries: &BTreeMap<String, Doc>, out: &mut O) -> Result<(), Stopped>
+    ensures { Puts (O.progress out.old) (O.progress out.new) (compact (object (members_seen entries.now.entries))) result }
 {
+    out.put(b"{")?;
     let mut later = false;
     for (name, doc) in entries.iter() {
-        if later {
-            out.push(',')?;
-        }
-        put_quoted(alloc, out, name.as_str())?;
-        out.push(':')?;
-        put(alloc, out, doc)?;
+        put_comma(later, out)?;
+        put_string(name.as_str(), out)?;
+        out.put(b":")?;
+        put_text(doc, out)?;
         later = true;
     }
-    out.push('}')?;
-    Ok(())
+    out.put(b"}")
+}
+
+// A comma, where something stands before.
+fn put_comma<O: Out>(later: bool, out: &mut O) -> Result<(), Stopped>
+    ensures { Puts (O.progress out.old) (O.progress out.new) (comma_if later) result }
+{
+    if later { out.put(b",") } else { Ok(()) }
 }

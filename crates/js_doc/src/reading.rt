@@ -1,13 +1,14 @@
 //! From a text's bytes to a value (RFC 8259), by `serde_json`.
-ghost use Rattle.std.specs.Prelude.{◌≡◌, ◌<◌, ◌^◌, Ok, IfOk, IfErr, decimal, string_bytes};
+ghost use Rattle.std.specs.Prelude.{◌≡◌, Ok, IfOk, IfErr, decimal, string_bytes};
 ghost use Rattle.serde_json.specs.View.{view, number_view, items_view, members_view};
 ghost use Rattle.js_doc.specs.Value.{members};
-ghost use Rattle.js_doc.specs.Members.{NamesAscend, NamesAscendInItems, NamesAscendInMembers};
-ghost use Rattle.js_doc.specs.Short.{item_count, IsShort, AreShortItems, AreShortMembers};
-ghost use Rattle.js_doc.specs.Seen.{value_of, items_of};
+ghost use Rattle.js_doc.specs.Members.{NamesAscend};
+ghost use Rattle.js_doc.specs.Short.{IsShort};
+ghost use Rattle.js_doc.specs.Seen.{value_of, items_seen};
 ghost use Rattle.js_doc.specs.WholeNumbers.{whole_number, value_in, items_in, members_in};
-ghost use Rattle.js_doc.specs.Reading.{IsReadAs, IsReadFault, Stops, Lifts};
+ghost use Rattle.js_doc.specs.Reading.{IsReadAs, IsReadFault, IsConversionFault, Lifts};
 
+use crate::conversion::moved;
 use crate::doc::Doc;
 use crate::items::Items;
 use crate::members::Members;
@@ -62,7 +63,7 @@ impl From<Memory> for ReadFault {
 
 impl ReadFault {
     // The fault as the value above it tells it.
-    fn lifted(self, token: Text) -> ReadFault
+    pub(crate) fn lifted(self, token: Text) -> ReadFault
         ensures { Lifts token self result }
     {
         match self {
@@ -87,7 +88,11 @@ pub fn read(alloc: Global, bytes: &[u8]) -> Result<Doc, ReadFault>
     ensures err { IfErr result (IsReadFault bytes.now) }
 {
     match Value::from_slice(alloc, bytes) {
-        Ok(value) => from_value(alloc, &value),
+        Ok(value) => {
+            let doc = moved(alloc, value)?;
+            doc.lawful();
+            Ok(doc)
+        }
         Err(error) => if error.is_memory() {
             Err(ReadFault::Memory)
         } else {
@@ -104,16 +109,16 @@ pub fn from_value(alloc: Global, value: &Value) -> Result<Doc, ReadFault>
     ensures ok { IfOk result (λ d. value_in (view value.now) ≡ Ok (value_of d)) }
     ensures ascends { IfOk result (λ d. NamesAscend (value_of d)) }
     ensures short { IfOk result (λ d. IsShort (value_of d)) }
-    ensures err { IfErr result (λ e. Stops (value_in (view value.now)) e) }
+    ensures err { IfErr result (λ e. IsConversionFault (value_in (view value.now)) e) }
 {
-    convert(alloc, value)
+    let doc = convert(alloc, value)?;
+    doc.lawful();
+    Ok(doc)
 }
 
-fn convert_number(alloc: Global, number: &Number) -> Result<Doc, ReadFault>
+pub(crate) fn convert_number(alloc: Global, number: &Number) -> Result<Doc, ReadFault>
     ensures ok { IfOk result (λ d. whole_number (number_view number.now) ≡ Ok (value_of d)) }
-    ensures ascends { IfOk result (λ d. NamesAscend (value_of d)) }
-    ensures short { IfOk result (λ d. IsShort (value_of d)) }
-    ensures err { IfErr result (λ e. Stops (whole_number (number_view number.now)) e) }
+    ensures err { IfErr result (λ e. IsConversionFault (whole_number (number_view number.now)) e) }
 {
     if let Some(n) = number.as_u64() {
         return Ok(Doc::Whole(Whole::from_u64(n)));
@@ -127,9 +132,7 @@ fn convert_number(alloc: Global, number: &Number) -> Result<Doc, ReadFault>
 #[cycle(convert)]
 fn convert(alloc: Global, value: &Value) -> Result<Doc, ReadFault>
     ensures ok { IfOk result (λ d. value_in (view value.now) ≡ Ok (value_of d)) }
-    ensures ascends { IfOk result (λ d. NamesAscend (value_of d)) }
-    ensures short { IfOk result (λ d. IsShort (value_of d)) }
-    ensures err { IfErr result (λ e. Stops (value_in (view value.now)) e) }
+    ensures err { IfErr result (λ e. IsConversionFault (value_in (view value.now)) e) }
 {
     match value {
         Value::Null => Ok(Doc::Null),
@@ -150,11 +153,8 @@ fn convert(alloc: Global, value: &Value) -> Result<Doc, ReadFault>
 #[cycle(convert)]
 fn convert_items(alloc: Global, values: &Vec<Value>) -> Result<Vec<Doc>, ReadFault>
     ensures ok { IfOk result
-        (λ v. items_in 0 (items_view values.now.items) ≡ Ok (items_of v.items)) }
-    ensures ascends { IfOk result (λ v. NamesAscendInItems (items_of v.items)) }
-    ensures count { IfOk result (λ v. item_count (items_of v.items) < 2 ^ 64) }
-    ensures short { IfOk result (λ v. AreShortItems (items_of v.items)) }
-    ensures err { IfErr result (λ e. Stops (items_in 0 (items_view values.now.items)) e) }
+        (λ v. items_in 0 (items_view values.now.items) ≡ Ok (items_seen v.items)) }
+    ensures err { IfErr result (λ e. IsConversionFault (items_in 0 (items_view values.now.items)) e) }
 {
     let mut docs = Vec::with_capacity(alloc, values.len())?;
     for value in values {
@@ -172,9 +172,7 @@ fn convert_items(alloc: Global, values: &Vec<Value>) -> Result<Vec<Doc>, ReadFau
 #[cycle(convert)]
 fn convert_members(alloc: Global, map: &Map<String, Value>) -> Result<Members, ReadFault>
     ensures ok { IfOk result (λ m. members_in (members_view map.now.entries) ≡ Ok (members m)) }
-    ensures ascends { IfOk result (λ m. NamesAscendInMembers (members m)) }
-    ensures short { IfOk result (λ m. AreShortMembers (members m)) }
-    ensures err { IfErr result (λ e. Stops (members_in (members_view map.now.entries)) e) }
+    ensures err { IfErr result (λ e. IsConversionFault (members_in (members_view map.now.entries)) e) }
 {
     let mut members = Members::new(alloc);
     for (name, value) in map.iter() {
@@ -189,7 +187,7 @@ fn convert_members(alloc: Global, map: &Map<String, Value>) -> Result<Members, R
     Ok(members)
 }
 
-fn index_token(alloc: Global, index: usize) -> Result<Text, AllocError>
+pub(crate) fn index_token(alloc: Global, index: usize) -> Result<Text, AllocError>
     ensures { IfOk result (λ t. t ≡ decimal index) }
 {
     let text = index.to_string(alloc)?;

@@ -291,3 +291,73 @@ fn values_are_looked_up(rt: HostRuntime) -> Result<(), Fail> {
     assert!(rt; value.at(&root) == Some(&value));
     Ok(())
 }
+
+// Takes so many bytes, and stops then.
+#[derive(Drop)]
+struct Few {
+    taken: Vec<u8>,
+    left: usize,
+}
+
+impl Out for Few {
+    ghost use Rattle.std.specs.Prelude.{Some, true};
+
+    ghost progress = { λ f. record { gone = Some f.taken.items; calls = 0; stopped = true } };
+
+    fn put(&mut self, bytes: &[u8]) -> Result<(), Stopped> {
+        if bytes.len() <= self.left {
+            self.taken.extend_from_slice(bytes)?;
+            self.left -= bytes.len();
+            return Ok(());
+        }
+        self.taken.extend_from_slice(&bytes[..self.left])?;
+        self.left = 0;
+        Err(Stopped)
+    }
+}
+
+#[test]
+fn text_goes_out_piece_by_piece(rt: HostRuntime) -> Result<(), Fail> {
+    for source in [
+        "[null,true,false,-12,{}]",
+        "{\"a\\\"\\n\\u0001\\\\\":[\"\\u00e9\\ud834\\udd1e\\t\",[]],\"b\":{\"c\":0}}",
+    ] {
+        let value = doc(rt.alloc(), source)?;
+        let whole = text(rt.alloc(), &value)?;
+        for left in 0..=whole.len() {
+            let taken = Vec::new(rt.alloc());
+            let mut few = Few { taken, left };
+            let all = put_text(&value, &mut few).is_ok();
+            assert_eq!(rt; all, left == whole.len(), "{left} of {source}");
+            assert_eq!(rt; few.taken.len(), left, "{left} of {source}");
+            let begins = whole.as_bytes().starts_with(few.taken.as_slice());
+            assert!(rt; begins, "{left} of {source}");
+        }
+    }
+    Ok(())
+}
+
+#[test]
+fn tokens_and_strings_are_pushed(rt: HostRuntime) -> Result<(), Fail> {
+    for (token, pointer, fragment, string) in [
+        ("", "/", "/", "\"\""),
+        ("a/b~", "/a~1b~0", "/a~1b~0", "\"a/b~\""),
+        (
+            "~1 %\"\u{e9}\n",
+            "/~01 %\"\u{e9}\n",
+            "/~01%20%25%22%C3%A9%0A",
+            "\"~1 %\\\"\u{e9}\\n\"",
+        ),
+    ] {
+        let mut out = String::new(rt.alloc());
+        push_token(&mut out, token)?;
+        assert_eq!(rt; out.as_str(), pointer, "{token}");
+        out.clear();
+        push_fragment_token(&mut out, token)?;
+        assert_eq!(rt; out.as_str(), fragment, "{token}");
+        out.clear();
+        push_string(&mut out, token)?;
+        assert_eq!(rt; out.as_str(), string, "{token}");
+    }
+    Ok(())
+}

@@ -1,18 +1,22 @@
 -- Each of a schema's keywords is found by its name, since the names ascend.
-use Rattle.std.specs.Prelude.{◌≡◌, ℕ, zero, suc, ◌<◌, Bool, true, false, cond, List, [], ◌∷◌, ◌++◌, length, get_or, Some, map, filter, refl}
+use Rattle.std.specs.Prelude.{◌≡◌, Bool, true, false, cond, List, [], ◌∷◌, ◌++◌, ℕ, Some, filter, refl}
 use Rattle.std.specs.List.{AllByRecursion}
 use Rattle.std.specs.Ordering.{ordering_reverse}
 use Rattle.std.specs.declared.cmp.Ordering.{Ordering}
 use Rattle.std.specs.declared.cmp.Ordering.TheVariants.{Less, Equal, Greater}
-use Rattle.std.proofs.Common.{◌∙◌, ap, arith}
+use Rattle.std.proofs.Common.{◌∙◌, ap}
 use Rattle.std.proofs.lemmas.Cmp.{nat_list_cmp_total}
 use Rattle.js_doc.specs.Value.{Value, Named}
 use Rattle.js_doc.specs.Members.{get, name_cmp, IsBelowHead, IsAscending}
 use Rattle.js_assert.specs.Argument.{entries}
-use Rattle.js_eval.specs.Judging.{IsAmong, AreAmong}
-use Rattle.js_eval.specs.Keywords.{keywords, chosen, comes_first, comes_last, is_else}
-use Rattle.js_eval.specs.Seen.{keyword_of}
-use Rattle.js_eval.specs.declared.keyword.Keyword.{Keyword}
+use Rattle.js_eval.specs.Keywords.{Keyword, keywords, chosen, comes_first, comes_last, is_else}
+
+-- the keyword stands among these
+abbrev pub IsAmong : Named → Keyword → Type 0
+IsAmong siblings k = get k.0 siblings ≡ Some k.1
+
+abbrev pub AreAmong : Named → List Keyword → Type 0
+AreAmong siblings ks = AllByRecursion (IsAmong siblings) ks
 
 -- ---- lists of which each element is so
 
@@ -74,8 +78,3 @@ keywords_among schema a =
     (all_of_both (IsAmong (entries schema)) (chosen is_else schema) (chosen comes_last schema)
     (all_of_filter (IsAmong (entries schema)) (λ k. is_else k.0) (entries schema) each)
     (all_of_filter (IsAmong (entries schema)) (λ k. comes_last k.0) (entries schema) each))
-
-pub among_at : (siblings : Named) (ks : List Keyword) (i : ℕ) (d : Keyword) → i < length ks → AreAmong siblings (map keyword_of ks) → IsAmong siblings (keyword_of (get_or ks i d))
-among_at siblings [] i d lt h = absurd (omega arith)
-among_at siblings (k ∷ ks) zero d lt h = h.0
-among_at siblings (k ∷ ks) (suc i) d lt h = among_at siblings ks i d (omega arith) h.1

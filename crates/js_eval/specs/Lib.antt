@@ -2,6 +2,7 @@ pub mod Kind
 pub mod Keywords
 pub mod Schemas
 pub mod Bundle
+pub mod Sited
 pub mod Applications
 pub mod Passes
 pub mod Evaluated
@@ -13,6 +14,10 @@ pub mod Size
 pub mod Laws
 pub mod Examples
 pub mod Seen
-pub mod Judging
-pub mod Rows
-pub mod Noted
+pub mod Applied
+pub mod Cursors
+pub mod Asked
+pub mod Walked
+pub mod Walk
+pub mod KeywordsLeft
+pub mod ResultExamples

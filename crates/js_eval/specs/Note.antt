@@ -7,24 +7,13 @@ use Rattle.js_doc.specs.Value.{Value, truth, list, object, Named}
 use Rattle.js_assert.specs.Argument.{entries}
 use Rattle.js_assert.specs.Assertion.{asserted}
 use Rattle.js_assert.specs.ErrorText as assertion
+pub use Rattle.js_tree.specs.Note.{Note, silent, error, value, names, index, indexes, truly}
 use Rattle.js_eval.specs.Applications.{Application, among_names}
 use Rattle.js_eval.specs.Evaluated.{names_applied, indexes_applied}
 use Rattle.js_eval.specs.Keywords.{Keyword}
 use Rattle.js_eval.specs.Schemas.{Text}
 use Rattle.js_eval.specs.declared.kind.Kind.{Kind}
 use Rattle.js_eval.specs.declared.kind.Kind.TheVariants.{AnyOf, OneOf, Not, PrefixItems, Items, Contains, Properties, PatternProperties, AdditionalProperties, UnevaluatedItems, UnevaluatedProperties, Assertion, Annotation}
-
--- an annotation that is an empty list of names or of indexes is one
-pub data Note : Type 0 where
-  silent : Note
-  error : Text → Note
-  -- the keyword's argument, as the schema has it
-  value : Value → Note
-  -- names of members, the largest index, indexes of items, and `true`
-  names : List Text → Note
-  index : ℕ → Note
-  indexes : List ℕ → Note
-  truly : Note
 
 -- ---- words of the tables
 

@@ -4,25 +4,17 @@
 use Rattle.std.specs.Prelude.{◌≡◌, ℕ, suc, ◌≤◌, max, List, [], ◌∷◌, ◌++◌, Bool, Some, None, filter}
 use Rattle.js_doc.specs.Pointer.{pointer_text}
 use Rattle.js_doc.specs.Value.{Value}
-use Rattle.js_tree.specs.Forest.{Forest, empty, tree, Rose, node_count}
+use Rattle.js_tree.specs.Forest.{Forest, empty, tree, node_count}
+use Rattle.js_tree.specs.Note.{Note}
+pub use Rattle.js_tree.specs.OutputUnit.{OutputUnit}
+pub use Rattle.js_tree.specs.Result.{ResultTree}
 use Rattle.js_eval.specs.Applications.{Application}
 use Rattle.js_eval.specs.Keywords.{Keyword, keywords}
 use Rattle.js_eval.specs.Kind.{kind}
 use Rattle.js_eval.specs.Location.{Location, at_keyword, at_application}
-use Rattle.js_eval.specs.Note.{Note, keyword_note, schema_note}
+use Rattle.js_eval.specs.Note.{keyword_note, schema_note}
 use Rattle.js_eval.specs.Schemas.{Text, Schemas}
 use Rattle.js_eval.specs.Verdict.{within, siblings, matching, asks, passes, application_holds, Settled}
-
--- an output unit (section 12.3)
-pub record OutputUnit : Type 0 where
-  pub valid : Bool
-  pub keyword : Text
-  pub absolute : Text
-  pub instance : Text
-  pub note : Note
-
-abbrev pub ResultTree : Type 0
-ResultTree = Rose OutputUnit
 
 -- ---- the units, by what is known within n
 

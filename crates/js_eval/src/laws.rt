@@ -3,6 +3,7 @@ ghost use Rattle.std.specs.Prelude.{List};
 ghost use Rattle.js_doc.specs.Value.{Value as JsonValue};
 ghost use Rattle.js_eval.specs.Examples.{Shown};
 ghost use Rattle.js_eval.specs.Laws.{AtMostOneResult, DepthIsLeast, LimitsAreExact, NoCircle, ResultExactlyIfSettled, SizeIsTotal, StaysSettled};
+ghost use Rattle.js_eval.specs.ResultExamples.{GiveTheseResults};
 ghost use Rattle.js_eval.specs.Schemas.{Schemas};
 
 /// What is settled within a number of schemas on a way is settled alike within each greater number.
@@ -32,4 +33,10 @@ pub fn no_circle<Place>()
 /// The definitions say of some schemas and instances what the standard says of them.
 pub fn examples()
     ensures { Shown }
+{}
+
+/// Documents and instances give whole results, told node by node; 256 schemas on a way are within the limit, and a chain of so many
+/// isn't settled within one less.
+pub fn results()
+    ensures { GiveTheseResults }
 {}

@@ -1,33 +1,27 @@
 //! The result of JSON Schema: what each keyword asks for, verdicts, evaluated parts, notes, and the result tree.
 #![tactic(auto)]
 
-mod array_applications;
-mod asking;
-mod evaluated;
-mod in_place_applications;
-mod judgement;
-mod judging;
+mod applied;
+mod bundled;
+mod collecting;
+mod counted;
+mod cursor;
+mod here;
+mod into;
+mod item_cursor;
 mod keyword;
-mod keyword_judging;
+mod keyword_cursor;
 mod kind;
 pub mod laws;
-mod member_asking;
-#[cfg(test)]
-mod note_tests;
-mod noting;
-mod object_applications;
+mod member_cursor;
 mod parts;
-mod passing;
-mod pattern_applications;
-mod schema_set;
-mod step;
-#[cfg(test)]
-mod table;
-#[cfg(test)]
-mod tests;
+mod pattern_cursor;
+mod start;
+mod start_items;
+mod start_members;
+mod telling;
+mod walking;
 
-pub use judgement::Judgement;
-pub use judging::judge;
+pub use into::{verdict, walk, walk_into};
 pub use kind::{Kind, kind_of};
-pub use schema_set::SchemaSet;
-pub use step::Step;
+pub use walking::WalkFault;

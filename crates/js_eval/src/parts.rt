@@ -1,4 +1,4 @@
-//! The items and the members of a value.
+//! A value that is judged, steps down to its parts, a schema applied to one.
 ghost use Rattle.std.specs.Prelude.{◌≡◌, [], MatchOption, map, option_map};
 ghost use Rattle.js_assert.specs.Argument.{entries, values};
 ghost use Rattle.js_doc.specs.Members.{get};
@@ -6,6 +6,7 @@ ghost use Rattle.js_doc.specs.Seen.{value_of};
 ghost use Rattle.js_eval.specs.Seen.{instance_of};
 ghost use Rattle.js_eval.specs.Verdict.{accepts};
 
+use js_bundle::Place;
 use js_doc::{Doc, Members};
 
 /// What is judged: a value of the instance, or the name of one of its members.
@@ -15,7 +16,41 @@ pub(crate) enum Instance<'a> {
     Name(&'a str),
 }
 
+/// One step down: to the value itself, to an item, to a member.
+#[derive(Clone, Copy)]
+pub(crate) enum Step<'a> {
+    /// To the value itself.
+    Alone,
+    /// To the item at this index.
+    Index(usize),
+    /// To the member of this name.
+    Name(&'a str),
+}
+
+/// A schema applied to a value.
+#[derive(Clone, Copy)]
+pub(crate) struct Applied<'a> {
+    /// The place of the schema.
+    pub place: Place,
+    /// The step to it from the keyword.
+    pub step: Step<'a>,
+    /// The step to the value from the instance that the keyword is judged on.
+    pub at: Step<'a>,
+    /// The value.
+    pub value: Instance<'a>,
+}
+
 impl<'a> Instance<'a> {
+    /// The value of the instance, where it is no name.
+    pub fn doc(self) -> Option<&'a Doc>
+        ensures { MatchOption result (Unit {0}) (λ d. value_of d.now ≡ instance_of self.entry) }
+    {
+        match self {
+            Instance::Doc(doc) => Some(doc),
+            Instance::Name(_) => None,
+        }
+    }
+
     /// The items, none where it is no array.
     pub fn items(self) -> &'a [Doc]
         ensures { map value_of result.now ≡ values (instance_of self.entry) }

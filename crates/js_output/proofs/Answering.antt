@@ -1,19 +1,17 @@
 -- What a run answers, by where it stops.
-use Rattle.std.proofs.Common.{◌≡◌, ℕ, ◌<◌, ◌≤◌, List, [], ◌∷◌, ◌++◌, length, Option, Some, None, Result, Ok, Err, Bool, MatchBool, inl, refl, sym, ap, ◌∙◌, subst, arith, length-append}
+use Rattle.std.proofs.Common.{◌≡◌, ℕ, ◌<◌, ◌≤◌, List, [], ◌∷◌, ◌++◌, length, Option, Some, None, Result, Ok, Err, Bool, true, false, MatchBool, inl, inr, refl, sym, ap, ◌∙◌, subst, arith, length-append}
 use Rattle.std.proofs.lemmas.Bool.{lt-ltb, le-ltb}
 use Rattle.std.specs.Io.KnownBytes.{Consumes, IsAtEnd}
 use Rattle.js_bundle.specs.Resource.{Site}
 use Rattle.js_output.specs.Documents.{Documents, bundle_of}
 use Rattle.js_output.specs.Entry.{place_named}
-use Rattle.js_output.specs.Cause.{cause, IsClear, IsFirst, Concludes, OrMemory, FailsBy}
-use Rattle.js_output.specs.Device.{input_limit, IsLeft}
+use Rattle.js_output.specs.Cause.{Causes, IsClear, FailsBy}
+use Rattle.js_output.specs.Device.{Tracked, input_limit, IsLeft, Sends, SendsBeginning}
 use Rattle.js_output.specs.Input.{IsInputFault}
-use Rattle.js_output.specs.Reading.{reading}
-use Rattle.js_output.specs.Outcome.{beginning_causes, early_causes, instance_causes, instance_text_causes, walk_causes, verdict, value_or_null, TextVerdict, InstanceVerdict, Outcome, Answers, IsEarlyOrMemory, IsReadOrEarly, OutcomeOfTexts, PairOutcome, first_line_feed, text_before, text_after}
+use Rattle.js_output.specs.Outcome.{beginning_causes, Output, flag_output, flag_text, TextOutcome, InstanceOutcome, After, Outcome, Tells, Answers, OutcomeOfVerdict, IsEarlyOrMemory, IsReadOrEarly, OutcomeOfTexts, PairOutcome, first_line_feed, text_before, text_after}
 use Rattle.js_output.specs.declared.fault.Fault.{Fault}
 use Rattle.js_output.specs.declared.fault.Fault.TheVariants as fault
 use Rattle.js_output.specs.declared.format.Format.{Format}
-use Rattle.js_output.proofs.CauseLists.{first-append, concludes-later}
 
 -- ---- the bytes that a source has left
 
@@ -36,68 +34,97 @@ more_left None new taken more h = (taken, tt, more)
 more_left (Some xs) None taken more h = absurd h
 more_left (Some xs) (Some ys) taken more h = (xs, refl, omega (arith, ap length h, length-append taken ys))
 
--- ---- the verdict on the instance's bytes
+-- ---- what is told of one outcome, and of another that follows from it
 
--- an input above the limit
-pub on_large : (format : Format) (entry : Option Site) (bytes : List ℕ) → input_limit < length bytes → InstanceVerdict format entry bytes (Err fault.InputTooLarge)
+pub tells-map : {D : Type 0} (P Q : Result Output Fault → Type 0) (taken : D → Option (List ℕ)) (old new : Tracked D) (answer : Result Bool Fault)
+    → ((outcome : Result Output Fault) → P outcome → Q outcome) → Tells P taken old new answer → Tells Q taken old new answer
+tells-map P Q taken old new (Ok valid) f (output, h, is, sent) = (output, f (Ok output) h, is, sent)
+tells-map P Q taken old new (Err fault.Memory) f h = tt
+tells-map P Q taken old new (Err fault.Read) f h = absurd h
+tells-map P Q taken old new (Err fault.Write) f (output, h, begun) = (output, f (Ok output) h, begun)
+tells-map P Q taken old new (Err e) f h = f (Err e) h
+
+-- the verdict came, and its text went out
+pub tells-sent : {D : Type 0} (P : Result Output Fault → Type 0) (taken : D → Option (List ℕ)) (old new : Tracked D) (valid : Bool)
+    → OutcomeOfVerdict P (Ok valid) → Sends taken old new (flag_text valid) → Tells P taken old new (Ok valid)
+tells-sent P taken old new valid h sent = (flag_output valid, h, refl, sent)
+
+-- the verdict came, and the sink failed
+pub tells-begun : {D : Type 0} (P : Result Output Fault → Type 0) (taken : D → Option (List ℕ)) (old new : Tracked D) (valid : Bool)
+    → OutcomeOfVerdict P (Ok valid) → SendsBeginning taken old new (flag_text valid) → Tells P taken old new (Err fault.Write)
+tells-begun P taken old new valid h begun = (flag_output valid, h, begun)
+
+-- no verdict came
+pub tells-fault : {D : Type 0} (P : Result Output Fault → Type 0) (taken : D → Option (List ℕ)) (old new : Tracked D) (e : Fault)
+    → OutcomeOfVerdict P (Err e) → Tells P taken old new (Err e)
+tells-fault P taken old new fault.Memory h = tt
+tells-fault P taken old new fault.Read h = absurd h
+tells-fault P taken old new fault.Write h = absurd h
+tells-fault P taken old new e h = h
+
+-- ---- an input that is read
+
+-- it is read whole
+pub answers-told : {D : Type 0} (P : List ℕ → Result Output Fault → Type 0) (left : Option (List ℕ)) (bytes : List ℕ) (taken : D → Option (List ℕ)) (old new : Tracked D) (answer : Result Bool Fault)
+    → IsLeft left bytes → Tells (P bytes) taken old new answer → Answers P [] left taken old new answer
+answers-told P left bytes taken old new (Ok valid) is h = (bytes, is, h)
+answers-told P left bytes taken old new (Err fault.Memory) is h = tt
+answers-told P left bytes taken old new (Err fault.Read) is h = absurd h
+answers-told P left bytes taken old new (Err fault.Write) is h = (bytes, is, h)
+answers-told P left bytes taken old new (Err e) is h = (bytes, is, h)
+
+-- it isn't
+pub answers-input : {D : Type 0} (P : List ℕ → Result Output Fault → Type 0) (old_left new_left : Option (List ℕ)) (taken : D → Option (List ℕ)) (old new : Tracked D) (e : Fault)
+    → ((bytes : List ℕ) → input_limit < length bytes → P bytes (Err fault.InputTooLarge)) → IsInputFault e
+    → (e ≡ fault.InputTooLarge → (read : List ℕ) × (input_limit < length read) × Consumes old_left new_left read) → Answers P [] old_left taken old new (Err e)
+answers-input P old_left new_left taken old new fault.Memory over h large = tt
+answers-input P old_left new_left taken old new fault.Read over h large = tt
+answers-input P old_left new_left taken old new fault.InputTooLarge over h large =
+    let (read, more, consumed) = large refl in let (bytes, is, many) = more_left old_left new_left read more consumed in (bytes, is, over bytes many)
+answers-input P old_left new_left taken old new _ over h large = absurd h
+
+-- ---- an instance, by its size
+
+pub on_large : (format : Format) (entry : Option Site) (bytes : List ℕ) → input_limit < length bytes → InstanceOutcome format entry bytes (Err fault.InputTooLarge)
 on_large format entry bytes more =
-    let e = lt-ltb input_limit (length bytes) more in
-    subst (λ t. IsFirst ((cause t fault.InputTooLarge ++ instance_text_causes (reading bytes)) ++ walk_causes format entry) fault.InputTooLarge) (sym e) (inl refl)
+    subst (λ t. MatchBool t (◌≡◌ {A = Result Output Fault} (Err fault.InputTooLarge) (Err fault.InputTooLarge)) (TextOutcome format entry bytes (Err fault.InputTooLarge))) (sym (lt-ltb input_limit (length bytes) more)) refl
 
 -- within the limit the text alone decides
-pub on_small : (format : Format) (entry : Option Site) (bytes : List ℕ) (answer : Result Bool Fault) → length bytes ≤ input_limit
-    → TextVerdict format entry bytes answer → InstanceVerdict format entry bytes answer
-on_small format entry bytes answer few h =
-    let e = le-ltb input_limit (length bytes) few in
-    subst (λ t. Concludes ((cause t fault.InputTooLarge ++ instance_text_causes (reading bytes)) ++ walk_causes format entry) (verdict entry (value_or_null (reading bytes))) answer) (sym e) h
+pub on_small : (format : Format) (entry : Option Site) (bytes : List ℕ) → length bytes ≤ input_limit
+    → (outcome : Result Output Fault) → TextOutcome format entry bytes outcome → InstanceOutcome format entry bytes outcome
+on_small format entry bytes few outcome h =
+    subst (λ t. MatchBool t (outcome ≡ Err fault.InputTooLarge) (TextOutcome format entry bytes outcome)) (sym (le-ltb input_limit (length bytes) few)) h
 
--- an input was read whole
-pub answers-small : (format : Format) (entry : Option Site) (left : Option (List ℕ)) (bytes : List ℕ) (answer : Result Bool Fault) → IsLeft left bytes → length bytes ≤ input_limit
-    → OrMemory (TextVerdict format entry bytes) answer → Answers (InstanceVerdict format entry) [] left answer
-answers-small format entry left bytes (Ok valid) is few h = (bytes, is, on_small format entry bytes (Ok valid) few h)
-answers-small format entry left bytes (Err fault.Memory) is few h = tt
-answers-small format entry left bytes (Err fault.Read) is few h = absurd h
-answers-small format entry left bytes (Err fault.Write) is few h = absurd h
-answers-small format entry left bytes (Err f) is few h = (bytes, is, on_small format entry bytes (Err f) few h)
+-- ---- after the causes of what comes before
 
--- an input isn't read whole
-pub answers-input : (Expected : List ℕ → Result Bool Fault → Type 0) (old new : Option (List ℕ)) (e : Fault)
-    → ((bytes : List ℕ) → input_limit < length bytes → Expected bytes (Err fault.InputTooLarge)) → IsInputFault e
-    → (e ≡ fault.InputTooLarge → (taken : List ℕ) × (input_limit < length taken) × Consumes old new taken) → Answers Expected [] old (Err e)
-answers-input Expected old new fault.Memory over h large = tt
-answers-input Expected old new fault.Read over h large = tt
-answers-input Expected old new fault.InputTooLarge over h large =
-    let (taken, more, consumed) = large refl in let (bytes, is, many) = more_left old new taken more consumed in (bytes, is, over bytes many)
-answers-input Expected old new _ over h large = absurd h
+after-clear : (causes : Causes) (Then : Result Output Fault → Type 0) → IsClear causes → (outcome : Result Output Fault) → Then outcome → After causes Then outcome
+after-clear causes Then clear (Ok output) h = (clear, h)
+after-clear causes Then clear (Err e) h = inr (clear, h)
 
--- ---- a run
+-- a cause stands before the instance
+pub answers-early : {D : Type 0} (docs : Documents) (uri : List ℕ) (format : Format) (left : Option (List ℕ)) (taken : D → Option (List ℕ)) (old new : Tracked D) (e : Fault)
+    → FailsBy (beginning_causes docs uri) e → Answers (Outcome docs uri format) (beginning_causes docs uri) left taken old new (Err e)
+answers-early docs uri format left taken old new fault.Memory h = tt
+answers-early docs uri format left taken old new fault.Read h = absurd h
+answers-early docs uri format left taken old new fault.Write h = absurd h
+answers-early docs uri format left taken old new e h = let (bytes, is) = some_left left in (bytes, is, inl h)
 
--- before the instance is read
-pub answers-early : (docs : Documents) (uri : List ℕ) (format : Format) (left : Option (List ℕ)) (e : Fault)
-    → FailsBy (beginning_causes docs uri) e → Answers (Outcome docs uri format) (early_causes docs uri format) left (Err e)
-answers-early docs uri format left fault.Memory h = tt
-answers-early docs uri format left fault.Read h = absurd h
-answers-early docs uri format left fault.Write h = absurd h
-answers-early docs uri format left f h =
-    let (bytes, is) = some_left left in
-    (bytes, is, first-append (early_causes docs uri format) (instance_causes bytes ++ walk_causes format (place_named (bundle_of docs) uri)) f h)
-
-outcome-late : (docs : Documents) (uri : List ℕ) (format : Format) (entry : Option Site) (bytes : List ℕ) (answer : Result Bool Fault)
-    → IsClear (beginning_causes docs uri) → entry ≡ place_named (bundle_of docs) uri → InstanceVerdict format entry bytes answer → Outcome docs uri format bytes answer
-outcome-late docs uri format entry bytes answer clear e h =
-    let begins = place_named (bundle_of docs) uri in
-    concludes-later (early_causes docs uri format) (instance_causes bytes ++ walk_causes format begins) (verdict begins (value_or_null (reading bytes))) answer clear
-    (subst (λ p. InstanceVerdict format p bytes answer) e h)
+outcome-late : (docs : Documents) (uri : List ℕ) (format : Format) (entry : Option Site) → IsClear (beginning_causes docs uri) → entry ≡ place_named (bundle_of docs) uri
+    → (bytes : List ℕ) (outcome : Result Output Fault) → InstanceOutcome format entry bytes outcome → Outcome docs uri format bytes outcome
+outcome-late docs uri format entry clear e bytes outcome h =
+    after-clear (beginning_causes docs uri) (InstanceOutcome format (place_named (bundle_of docs) uri) bytes) clear outcome (subst (λ p. InstanceOutcome format p bytes outcome) e h)
 
 -- what comes of the entry is the outcome
-pub answers-late : (docs : Documents) (uri : List ℕ) (format : Format) (entry : Option Site) (left : Option (List ℕ)) (answer : Result Bool Fault)
-    → IsClear (beginning_causes docs uri) → entry ≡ place_named (bundle_of docs) uri → Answers (InstanceVerdict format entry) [] left answer
-    → Answers (Outcome docs uri format) (early_causes docs uri format) left answer
-answers-late docs uri format entry left (Err fault.Memory) clear e h = tt
-answers-late docs uri format entry left (Err fault.Read) clear e h = clear
-answers-late docs uri format entry left (Err fault.Write) clear e h = tt
-answers-late docs uri format entry left (Ok valid) clear e (bytes, is, h) = (bytes, is, outcome-late docs uri format entry bytes (Ok valid) clear e h)
-answers-late docs uri format entry left (Err f) clear e (bytes, is, h) = (bytes, is, outcome-late docs uri format entry bytes (Err f) clear e h)
+pub answers-late : {D : Type 0} (docs : Documents) (uri : List ℕ) (format : Format) (entry : Option Site) (left : Option (List ℕ)) (taken : D → Option (List ℕ)) (old new : Tracked D) (answer : Result Bool Fault)
+    → IsClear (beginning_causes docs uri) → entry ≡ place_named (bundle_of docs) uri → Answers (InstanceOutcome format entry) [] left taken old new answer
+    → Answers (Outcome docs uri format) (beginning_causes docs uri) left taken old new answer
+answers-late docs uri format entry left taken old new (Err fault.Memory) clear e h = tt
+answers-late docs uri format entry left taken old new (Err fault.Read) clear e h = clear
+answers-late docs uri format entry left taken old new (Ok valid) clear e (bytes, is, h) =
+    (bytes, is, tells-map (InstanceOutcome format entry bytes) (Outcome docs uri format bytes) taken old new (Ok valid) (outcome-late docs uri format entry clear e bytes) h)
+answers-late docs uri format entry left taken old new (Err fault.Write) clear e (bytes, is, h) =
+    (bytes, is, tells-map (InstanceOutcome format entry bytes) (Outcome docs uri format bytes) taken old new (Err fault.Write) (outcome-late docs uri format entry clear e bytes) h)
+answers-late docs uri format entry left taken old new (Err f) clear e (bytes, is, h) = (bytes, is, outcome-late docs uri format entry clear e bytes (Err f) h)
 
 pub early-read_or_early : (e : Fault) → IsEarlyOrMemory e → IsReadOrEarly (Err e)
 early-read_or_early fault.Memory h = tt
@@ -106,42 +133,28 @@ early-read_or_early f h = h
 
 -- ---- a pair
 
-pub texts-early : (docs : Documents) (uri : List ℕ) (format : Format) (instance : List ℕ) (e : Fault)
-    → FailsBy (beginning_causes docs uri) e → OrMemory (Outcome docs uri format instance) (Err e)
-texts-early docs uri format instance fault.Memory h = tt
-texts-early docs uri format instance fault.Read h = absurd h
-texts-early docs uri format instance fault.Write h = absurd h
-texts-early docs uri format instance f h =
-    first-append (early_causes docs uri format) (instance_causes instance ++ walk_causes format (place_named (bundle_of docs) uri)) f h
+pub texts-early : {D : Type 0} (docs : Documents) (uri : List ℕ) (format : Format) (instance : List ℕ) (taken : D → Option (List ℕ)) (old new : Tracked D) (e : Fault)
+    → FailsBy (beginning_causes docs uri) e → Tells (Outcome docs uri format instance) taken old new (Err e)
+texts-early docs uri format instance taken old new fault.Memory h = tt
+texts-early docs uri format instance taken old new fault.Read h = absurd h
+texts-early docs uri format instance taken old new fault.Write h = absurd h
+texts-early docs uri format instance taken old new e h = inl h
 
-pub texts-late : (docs : Documents) (uri : List ℕ) (format : Format) (entry : Option Site) (instance : List ℕ) (answer : Result Bool Fault)
+pub texts-late : {D : Type 0} (docs : Documents) (uri : List ℕ) (format : Format) (entry : Option Site) (instance : List ℕ) (taken : D → Option (List ℕ)) (old new : Tracked D) (answer : Result Bool Fault)
     → IsClear (beginning_causes docs uri) → entry ≡ place_named (bundle_of docs) uri → length instance ≤ input_limit
-    → OrMemory (TextVerdict format entry instance) answer → OrMemory (Outcome docs uri format instance) answer
-texts-late docs uri format entry instance (Ok valid) clear is few h =
-    outcome-late docs uri format entry instance (Ok valid) clear is (on_small format entry instance (Ok valid) few h)
-texts-late docs uri format entry instance (Err fault.Memory) clear is few h = tt
-texts-late docs uri format entry instance (Err fault.Read) clear is few h = absurd h
-texts-late docs uri format entry instance (Err fault.Write) clear is few h = absurd h
-texts-late docs uri format entry instance (Err f) clear is few h =
-    outcome-late docs uri format entry instance (Err f) clear is (on_small format entry instance (Err f) few h)
+    → Tells (TextOutcome format entry instance) taken old new answer → Tells (Outcome docs uri format instance) taken old new answer
+texts-late docs uri format entry instance taken old new answer clear e few h =
+    tells-map (TextOutcome format entry instance) (Outcome docs uri format instance) taken old new answer
+    (λ outcome told. outcome-late docs uri format entry clear e instance outcome (on_small format entry instance few outcome told)) h
 
 pub pair-over : (bytes : List ℕ) → input_limit < length bytes → PairOutcome bytes (Err fault.InputTooLarge)
 pair-over bytes more =
     let at = first_line_feed bytes in
-    subst (λ t. MatchBool t (◌≡◌ {A = Result Bool Fault} (Err fault.InputTooLarge) (Err fault.InputTooLarge)) (OutcomeOfTexts (text_before at bytes) (text_after at bytes) (Err fault.InputTooLarge))) (sym (lt-ltb input_limit (length bytes) more)) refl
+    subst (λ t. MatchBool t (◌≡◌ {A = Result Output Fault} (Err fault.InputTooLarge) (Err fault.InputTooLarge)) (OutcomeOfTexts (text_before at bytes) (text_after at bytes) (Err fault.InputTooLarge))) (sym (lt-ltb input_limit (length bytes) more)) refl
 
-pair-within : (bytes : List ℕ) (answer : Result Bool Fault) → length bytes ≤ input_limit
-    → OutcomeOfTexts (text_before (first_line_feed bytes) bytes) (text_after (first_line_feed bytes) bytes) answer → PairOutcome bytes answer
-pair-within bytes answer few h =
+-- within the limit its two texts decide
+pub pair-within : (bytes : List ℕ) → length bytes ≤ input_limit → (outcome : Result Output Fault)
+    → OutcomeOfTexts (text_before (first_line_feed bytes) bytes) (text_after (first_line_feed bytes) bytes) outcome → PairOutcome bytes outcome
+pair-within bytes few outcome h =
     let at = first_line_feed bytes in
-    subst (λ t. MatchBool t (answer ≡ Err fault.InputTooLarge) (OutcomeOfTexts (text_before at bytes) (text_after at bytes) answer)) (sym (le-ltb input_limit (length bytes) few)) h
-
--- an input was read whole, and its two texts were judged
-pub answers-pair : (left : Option (List ℕ)) (bytes : List ℕ) (answer : Result Bool Fault) → IsLeft left bytes → length bytes ≤ input_limit
-    → OrMemory (OutcomeOfTexts (text_before (first_line_feed bytes) bytes) (text_after (first_line_feed bytes) bytes)) answer
-    → Answers PairOutcome [] left answer
-answers-pair left bytes (Ok valid) is few h = (bytes, is, pair-within bytes (Ok valid) few h)
-answers-pair left bytes (Err fault.Memory) is few h = tt
-answers-pair left bytes (Err fault.Read) is few h = absurd h
-answers-pair left bytes (Err fault.Write) is few h = absurd h
-answers-pair left bytes (Err f) is few h = (bytes, is, pair-within bytes (Err f) few h)
+    subst (λ t. MatchBool t (outcome ≡ Err fault.InputTooLarge) (OutcomeOfTexts (text_before at bytes) (text_after at bytes) outcome)) (sym (le-ltb input_limit (length bytes) few)) h

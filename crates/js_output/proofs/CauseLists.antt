@@ -1,6 +1,6 @@
 -- Lists of causes: one part after another.
-use Rattle.std.proofs.Common.{◌≡◌, [], ◌∷◌, ◌++◌, Result, Ok, Err, Bool, true, false, inl, inr, refl, sym, subst}
-use Rattle.js_output.specs.Cause.{Causes, cause, IsClear, IsFirst, Concludes, FailsBy, Leads}
+use Rattle.std.proofs.Common.{◌≡◌, [], ◌∷◌, ◌++◌, Bool, true, false, inl, inr, refl, sym, subst}
+use Rattle.js_output.specs.Cause.{Causes, cause, IsClear, IsFirst, FailsBy, Leads}
 use Rattle.js_output.specs.declared.fault.Fault.{Fault}
 use Rattle.js_output.specs.declared.fault.Fault.TheVariants as fault
 
@@ -28,10 +28,6 @@ fails-later xs ys fault.Memory p h = tt
 fails-later xs ys fault.Read p h = absurd h
 fails-later xs ys fault.Write p h = absurd h
 fails-later xs ys f p h = first-later xs ys f p h
-
-pub concludes-later : (xs ys : Causes) (verdict : Bool) (answer : Result Bool Fault) → IsClear xs → Concludes ys verdict answer → Concludes (xs ++ ys) verdict answer
-concludes-later xs ys verdict (Ok valid) p h = (clear-append xs ys p h.0, h.1)
-concludes-later xs ys verdict (Err f) p h = first-later xs ys f p h
 
 -- ---- a loop over parts: the rest decides about the whole
 

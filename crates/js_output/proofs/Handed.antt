@@ -166,7 +166,7 @@ finished_fails held n docs e end t h =
 
 clear_of : (cs : List Candidate) → candidate.IsClear cs → IsClear (map cause_of cs)
 clear_of [] h = tt
-clear_of (c ∷ cs) (given, h) = (ap not given, clear_of cs h)
+clear_of (c ∷ cs) h = (ap not h.0.0, clear_of cs h.1)
 
 first_of : (cs : List Candidate) (r : Refusal) → candidate.IsFirst cs r → IsFirst (map cause_of cs) (fault.Refused r)
 first_of [] r h = absurd h

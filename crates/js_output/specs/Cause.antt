@@ -1,5 +1,5 @@
 -- Causes of a fault, in the order in which they are looked for: the first that applies is answered.
-use Rattle.std.specs.Prelude.{◌≡◌, List, [], ◌∷◌, Result, Ok, Err, Bool, true, false, if◌then◌else◌, ◌⊎◌, ⊤}
+use Rattle.std.specs.Prelude.{◌≡◌, List, [], ◌∷◌, Bool, true, false, if◌then◌else◌, ◌⊎◌, ⊤}
 use Rattle.js_output.specs.declared.fault.Fault.{Fault}
 use Rattle.js_output.specs.declared.fault.Fault.TheVariants as fault
 
@@ -28,18 +28,6 @@ IsClear (c ∷ causes) = (c.given ≡ true) × IsClear causes
 abbrev pub IsFirst : Causes → Fault → Type 0
 IsFirst [] f = ⊥
 IsFirst (c ∷ causes) f = (c.fault ≡ f) ⊎ ((c.given ≡ true) × IsFirst causes f)
-
--- what is answered where these causes stand before this verdict
-abbrev pub Concludes : Causes → Bool → Result Bool Fault → Type 0
-Concludes causes verdict (Ok valid) = IsClear causes × (verdict ≡ valid)
-Concludes causes verdict (Err f) = IsFirst causes f
-
--- that, or want of memory, which may come at any time; no device is at fault here
-abbrev pub OrMemory : (Result Bool Fault → Type 0) → Result Bool Fault → Type 0
-OrMemory Expected (Err fault.Memory) = ⊤
-OrMemory Expected (Err fault.Read) = ⊥
-OrMemory Expected (Err fault.Write) = ⊥
-OrMemory Expected answer = Expected answer
 
 -- a fault by these causes, or want of memory
 abbrev pub FailsBy : Causes → Fault → Type 0

@@ -1,5 +1,5 @@
 -- A reader or a writer, with what is known of its calls.
-use Rattle.std.specs.Prelude.{◌≡◌, ℕ, Bool, List, ◌++◌, ⊤, refl, Option, Some, None}
+use Rattle.std.specs.Prelude.{◌≡◌, ℕ, ◌+◌, ◌≤◌, Bool, true, false, List, ◌++◌, length, ⊤, refl, Option, Some, None}
 use Rattle.std.specs.Coded.{Coded, code_by, coded×, coded_ℕ, coded_bool}
 use Rattle.std.specs.Io.KnownBytes.{Appends}
 
@@ -25,3 +25,13 @@ IsLeft (Some known) bytes = known ≡ bytes
 -- a beginning of `bytes` went out
 abbrev pub AppendsBeginning : Option (List ℕ) → Option (List ℕ) → List ℕ → Type 0
 AppendsBeginning old new bytes = (sent : List ℕ) × (unsent : List ℕ) × (bytes ≡ sent ++ unsent) × Appends old new sent
+
+-- ---- what a sink did with a text, by what its writer has taken, where that tells
+
+-- the text went out, in at most a call a byte
+abbrev pub Sends : {D : Type 0} → (D → Option (List ℕ)) → Tracked D → Tracked D → List ℕ → Type 0
+Sends taken old new text = Appends (taken old.device) (taken new.device) text × (new.failed ≡ false) × (new.calls ≤ old.calls + length text)
+
+-- the sink stands failed, and a beginning went out
+abbrev pub SendsBeginning : {D : Type 0} → (D → Option (List ℕ)) → Tracked D → Tracked D → List ℕ → Type 0
+SendsBeginning taken old new text = AppendsBeginning (taken old.device) (taken new.device) text × (new.failed ≡ true) × (new.calls ≤ old.calls + length text)

@@ -1,5 +1,5 @@
 // A whole input.
-ghost use Rattle.std.specs.Prelude.{◌≡◌, ◌≤◌, ◌<◌, ◌+◌, ◌↔◌, ℕ, List, true, length, IfOk, IfErr, OnOk, IsErrOf};
+ghost use Rattle.std.specs.Prelude.{◌≡◌, ◌≤◌, ◌<◌, ◌+◌, ◌-◌, ◌^◌, min, false, ◌↔◌, ℕ, List, true, length, IfOk, IfErr, OnOk, IsErrOf};
 ghost use Rattle.std.specs.Io.KnownBytes.{Consumes, IsAtEnd};
 ghost use Rattle.js_output.specs.Device.{input_limit};
 ghost use Rattle.js_output.specs.Input.{IsInputFault};
@@ -29,7 +29,8 @@ pub fn read_all<R: Read>(alloc: Global, source: &mut Source<R>) -> Result<Vec<u8
     ensures faults { IfErr result IsInputFault }
     ensures read { IsErrOf result Fault.Read ↔ (source.new.failed ≡ true) }
     ensures calls { source.new.calls ≤ source.old.calls + (input_limit + 1) }
-    ensures grows { source.old.calls ≤ source.new.calls }
+    ensures called { source.old.failed ≡ false
+        → min (source.old.calls + 1) (2 ^ 64 - 1) ≤ source.new.calls }
     ensures stays { source.old.failed ≡ true → source.new ≡ source.old }
 {
     let mut bytes = Vec::new(alloc);

@@ -1,10 +1,9 @@
-//! From documents and an instance to the verdict's text.
-ghost use Rattle.std.specs.Prelude.{◌≡◌, ◌≢◌, ◌≤◌, ◌+◌, [], true, false, IfOk, IfErr, OnOk, IsErrOf};
-ghost use Rattle.std.specs.Io.KnownBytes.{Appends};
+//! From documents and an instance to the output's text.
+ghost use Rattle.std.specs.Prelude.{◌≡◌, ◌≢◌, ◌≤◌, ◌+◌, [], true, false, min, ◌^◌, ◌-◌, IfOk, IfErr, OnOk, IsErrOf};
 ghost use Rattle.js_bundle.specs.Schemas.{is_place, place_at};
 ghost use Rattle.js_output.specs.Device.{input_limit};
 ghost use Rattle.js_output.specs.Documents.{documents_of};
-ghost use Rattle.js_output.specs.Outcome.{early_causes, Outcome, InstanceVerdict, flag_text, Answers, IsEarly, IsReadOrEarly, WritesBeginning};
+ghost use Rattle.js_output.specs.Outcome.{beginning_causes, Outcome, InstanceOutcome, Answers, IsEarly, IsReadOrEarly};
 
 use crate::entry::{Entry, entry_of};
 use crate::fault::Fault;
@@ -12,7 +11,7 @@ use crate::format::Format;
 use crate::input::read_all;
 use crate::sink::Sink;
 use crate::source::Source;
-use crate::verdict::{flag_text, verdict};
+use crate::verdict::tell_text;
 use std::alloc::Global;
 use std::io::{Read, Write};
 
@@ -37,9 +36,10 @@ pub fn run<R: Read, W: Write>(
     format: Format,
     out: &mut Sink<W>,
 ) -> Result<bool, Fault>
+    // These are the instance's bytes, this is their outcome, and its text went out.
     ensures answer { Answers (Outcome (documents_of docs.now) entry.now format)
-        (early_causes (documents_of docs.now) entry.now format)
-        (R.remaining instance.old.device) result }
+        (beginning_causes (documents_of docs.now) entry.now)
+        (R.remaining instance.old.device) W.contents out.old out.new result }
 
     // The instance is read where no fault comes before it.
     ensures unread { IfErr result (λ e. IsEarly e → instance.new ≡ instance.old) }
@@ -48,63 +48,34 @@ pub fn run<R: Read, W: Write>(
     ensures reads { instance.new.calls ≤ instance.old.calls + (input_limit + 1) }
     ensures source_stays { instance.old.failed ≡ true → instance.new ≡ instance.old }
 
-    // The verdict's text is written, and nothing else.
-    ensures text { IfOk result (λ valid. Appends (W.contents out.old.device)
-        (W.contents out.new.device) (flag_text valid)) }
-    ensures whole { OnOk result (out.new.failed ≡ false) }
-    ensures write { IsErrOf result Fault.Write → out.new.failed ≡ true }
-    ensures beginning { IsErrOf result Fault.Write
-        → WritesBeginning (Outcome (documents_of docs.now) entry.now format)
-        (R.remaining instance.old.device) (W.contents out.old.device)
-        (W.contents out.new.device) }
+    // Nothing goes out where there is no output.
     ensures nothing { IfErr result (λ e. e ≢ Fault.Write → out.new ≡ out.old) }
-    ensures writes { out.new.calls ≤ out.old.calls + 16 }
     ensures sink_stays { out.old.failed ≡ true → out.new ≡ out.old }
 {
-    let valid = judged(alloc, docs, entry, instance, format)?;
-    out.put(flag_text(valid))?;
-    Ok(valid)
-}
-
-fn judged<R: Read>(
-    alloc: Global,
-    docs: &[(&str, &[u8])],
-    entry: &str,
-    instance: &mut Source<R>,
-    format: Format,
-) -> Result<bool, Fault>
-    ensures answer { Answers (Outcome (documents_of docs.now) entry.now format)
-        (early_causes (documents_of docs.now) entry.now format)
-        (R.remaining instance.old.device) result }
-    ensures unread { IfErr result (λ e. IsEarly e → instance.new ≡ instance.old) }
-    ensures read { IsErrOf result Fault.Read → instance.new.failed ≡ true }
-    ensures failed { instance.new.failed ≡ true → IsReadOrEarly result }
-    ensures reads { instance.new.calls ≤ instance.old.calls + (input_limit + 1) }
-    ensures stays { instance.old.failed ≡ true → instance.new ≡ instance.old }
-    ensures silent { IfErr result (λ e. e ≢ Fault.Write) }
-{
     let entry = entry_of(alloc, docs, entry)?;
-    verdict_of(alloc, &entry, format, instance)
+    tell_instance(alloc, &entry, format, instance, out)
 }
 
-// Whether the schema at the entry accepts the instance that the source gives.
-fn verdict_of<R: Read>(
+// What comes of the instance that the source gives.
+fn tell_instance<R: Read, W: Write>(
     alloc: Global,
     entry: &Entry,
     format: Format,
     instance: &mut Source<R>,
+    out: &mut Sink<W>,
 ) -> Result<bool, Fault>
     requires { is_place entry.now.schemas entry.now.place ≡ true }
     ensures answer { Answers
-        (InstanceVerdict format (place_at entry.now.schemas entry.now.place)) []
-        (R.remaining instance.old.device) result }
+        (InstanceOutcome format (place_at entry.now.schemas entry.now.place)) []
+        (R.remaining instance.old.device) W.contents out.old out.new result }
     ensures late { IfErr result (λ e. IsEarly e → ⊥) }
     ensures read { IsErrOf result Fault.Read → instance.new.failed ≡ true }
     ensures failed { instance.new.failed ≡ true → IsReadOrEarly result }
     ensures reads { instance.new.calls ≤ instance.old.calls + (input_limit + 1) }
-    ensures stays { instance.old.failed ≡ true → instance.new ≡ instance.old }
-    ensures silent { IfErr result (λ e. e ≢ Fault.Write) }
+    ensures source_stays { instance.old.failed ≡ true → instance.new ≡ instance.old }
+    ensures nothing { IfErr result (λ e. e ≢ Fault.Write → out.new ≡ out.old) }
+    ensures sink_stays { out.old.failed ≡ true → out.new ≡ out.old }
 {
     let bytes = read_all(alloc, instance)?;
-    verdict(alloc, entry, format, bytes.as_slice())
+    tell_text(alloc, entry, format, bytes.as_slice(), out)
 }

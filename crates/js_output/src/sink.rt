@@ -1,5 +1,5 @@
 // Writers that are asked no more once they have failed.
-ghost use Rattle.std.specs.Prelude.{◌≡◌, ◌≤◌, ◌<◌, ◌+◌, true, false, min, ◌^◌, ◌-◌, length, is_err, OnOk, IfErr};
+ghost use Rattle.std.specs.Prelude.{◌≡◌, ◌≤◌, ◌<◌, ◌+◌, true, false, min, ◌^◌, ◌-◌, take, length, is_err, OnOk, OnErr, IfOk, IfErr};
 ghost use Rattle.std.specs.Io.KnownBytes.{Appends, Keeps};
 ghost use Rattle.js_output.specs.Device.{AppendsBeginning};
 
@@ -64,7 +64,8 @@ impl<W: Write> Sink<W> {
         ensures fault { IfErr result (λ e. e ≡ Fault.Write) }
         ensures failed { self.new.failed ≡ is_err result }
         ensures calls { self.new.calls ≤ self.old.calls + length bytes.now }
-        ensures grows { self.old.calls ≤ self.new.calls }
+        ensures called { self.old.failed ≡ false → 0 < length bytes.now
+            → min (self.old.calls + 1) (2 ^ 64 - 1) ≤ self.new.calls }
         ensures stays { self.old.failed ≡ true → self.new ≡ self.old }
     {
         if self.failed {
@@ -72,16 +73,36 @@ impl<W: Write> Sink<W> {
         }
         let mut rest = bytes;
         while !rest.is_empty() {
-            self.calls = self.calls.saturating_add(1);
-            match self.device.write(rest) {
-                Ok(0) | Err(_) => {
-                    self.failed = true;
-                    return Err(Fault::Write);
-                }
-                Ok(count) => rest = &rest[count..],
-            }
+            let count = self.write(rest)?;
+            rest = &rest[count..];
         }
         Ok(())
+    }
+
+    // Calls the device once with bytes, of which it has to take some.
+    fn write(&mut self, bytes: &[u8]) -> Result<usize, Fault>
+        requires some { 0 < length bytes.now }
+        requires stands { self.old.failed ≡ false }
+        ensures some { IfOk result (λ count. 0 < count) }
+        ensures within { IfOk result (λ count. count ≤ length bytes.now) }
+        ensures bytes { IfOk result (λ count. Appends (W.contents self.old.device)
+            (W.contents self.new.device) (take count bytes.now)) }
+        ensures kept { OnErr result
+            (Keeps (W.contents self.old.device) (W.contents self.new.device)) }
+        ensures fault { IfErr result (λ e. e ≡ Fault.Write) }
+        ensures failed { self.new.failed ≡ is_err result }
+        ensures called { self.new.calls ≡ min (self.old.calls + 1) (2 ^ 64 - 1) }
+        ensures calls { self.new.calls ≤ self.old.calls + 1 }
+        ensures grows { self.old.calls ≤ self.new.calls }
+    {
+        self.calls = self.calls.saturating_add(1);
+        match self.device.write(bytes) {
+            Ok(0) | Err(_) => {
+                self.failed = true;
+                Err(Fault::Write)
+            }
+            Ok(count) => Ok(count),
+        }
     }
 
     /// Has the device pass on what it holds back: one call of it, unless the sink stands failed

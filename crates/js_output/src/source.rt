@@ -1,5 +1,5 @@
 // Readers that are asked no more once they have failed.
-ghost use Rattle.std.specs.Prelude.{◌≡◌, ◌≤◌, ◌+◌, true, false, is_err, IfErr};
+ghost use Rattle.std.specs.Prelude.{◌≡◌, ◌≤◌, ◌<◌, ◌+◌, ◌-◌, ◌^◌, min, true, false, is_err, IfErr};
 ghost use Rattle.std.specs.Io.{ReadsAtMost};
 ghost use Rattle.std.specs.Io.KnownBytes.{ReadConsumes};
 
@@ -61,6 +61,8 @@ impl<R: Read> Source<R> {
             result buffer.new }
         ensures fault { IfErr result (λ e. e ≡ Fault.Read) }
         ensures failed { self.new.failed ≡ is_err result }
+        ensures called { self.old.failed ≡ false
+            → self.new.calls ≡ min (self.old.calls + 1) (2 ^ 64 - 1) }
         ensures calls { self.new.calls ≤ self.old.calls + 1 }
         ensures grows { self.old.calls ≤ self.new.calls }
         ensures stays { self.old.failed ≡ true → self.new ≡ self.old }

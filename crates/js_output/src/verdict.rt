@@ -1,43 +1,67 @@
-//! From the instance's bytes to the verdict, and to its text.
-ghost use Rattle.std.specs.Prelude.{◌≡◌, true, IfErr};
+//! From the instance's text to the verdict, and to what is written of it.
+ghost use Rattle.std.specs.Prelude.{◌≡◌, ◌≢◌, true, IfErr, IfOk};
 ghost use Rattle.js_doc.specs.Seen.{value_of};
 ghost use Rattle.js_bundle.specs.Schemas.{is_place, place_at};
-ghost use Rattle.js_output.specs.Cause.{Concludes, OrMemory};
-ghost use Rattle.js_output.specs.Outcome.{walk_causes, verdict, TextVerdict, flag_text, is_flag, IsLateOrMemory};
+ghost use Rattle.js_output.specs.Outcome.{ValueOutcome, TextOutcome, Tells, OutcomeOfVerdict, flag_text, is_flag, IsLateOrMemory, IsJudgingFault};
 
 use crate::entry::Entry;
 use crate::fault::Fault;
 use crate::format::Format;
 use crate::judging::{accepts, is_served};
+use crate::sink::Sink;
 use crate::text::value_from;
 use js_doc::{Doc, ReadFault};
 use std::alloc::Global;
+use std::io::Write;
 
-/// Whether the schema at the entry accepts the instance whose text these bytes are.
-pub(crate) fn verdict(
+/// Judges the instance whose text these bytes are by the schema at the entry, and writes what the
+/// format tells of it.
+pub(crate) fn tell_text<W: Write>(
     alloc: Global,
     entry: &Entry,
     format: Format,
     bytes: &[u8],
+    out: &mut Sink<W>,
 ) -> Result<bool, Fault>
     requires { is_place entry.now.schemas entry.now.place ≡ true }
-    ensures answer { OrMemory (TextVerdict format (place_at entry.now.schemas entry.now.place)
-        bytes.now) result }
-    ensures kind { IfErr result IsLateOrMemory }
+    ensures answer { Tells (TextOutcome format (place_at entry.now.schemas entry.now.place)
+        bytes.now) W.contents out.old out.new result }
+    ensures late { IfErr result IsLateOrMemory }
+    ensures nothing { IfErr result (λ e. e ≢ Fault.Write → out.new ≡ out.old) }
+    ensures sink_stays { out.old.failed ≡ true → out.new ≡ out.old }
 {
     match value_from(alloc, bytes) {
-        Ok(instance) => judge(alloc, entry, format, &instance),
+        Ok(instance) => tell_value(alloc, entry, format, &instance, out),
         Err(ReadFault::Memory) => Err(Fault::Memory),
         Err(fault) => Err(Fault::Instance(fault)),
     }
 }
 
+fn tell_value<W: Write>(
+    alloc: Global,
+    entry: &Entry,
+    format: Format,
+    instance: &Doc,
+    out: &mut Sink<W>,
+) -> Result<bool, Fault>
+    requires { is_place entry.now.schemas entry.now.place ≡ true }
+    ensures answer { Tells (ValueOutcome format (place_at entry.now.schemas entry.now.place)
+        (value_of instance.now)) W.contents out.old out.new result }
+    ensures late { IfErr result IsLateOrMemory }
+    ensures nothing { IfErr result (λ e. e ≢ Fault.Write → out.new ≡ out.old) }
+    ensures sink_stays { out.old.failed ≡ true → out.new ≡ out.old }
+{
+    let valid = judge(alloc, entry, format, instance)?;
+    out.put(flag_text(valid))?;
+    Ok(valid)
+}
+
 fn judge(alloc: Global, entry: &Entry, format: Format, instance: &Doc) -> Result<bool, Fault>
     requires { is_place entry.now.schemas entry.now.place ≡ true }
-    ensures answer { OrMemory
-        (Concludes (walk_causes format (place_at entry.now.schemas entry.now.place))
-        (verdict (place_at entry.now.schemas entry.now.place) (value_of instance.now))) result }
-    ensures kind { IfErr result IsLateOrMemory }
+    ensures answer { OutcomeOfVerdict
+        (ValueOutcome format (place_at entry.now.schemas entry.now.place)
+        (value_of instance.now)) result }
+    ensures late { IfErr result IsJudgingFault }
 {
     if !(is_flag(format) && is_served(&entry.schemas, entry.place)) {
         return Err(Fault::NotYet);
@@ -52,7 +76,7 @@ fn is_flag(format: Format) -> bool
 }
 
 /// What the flag format tells of a verdict (JSON Schema Core, section 12.4.1), and a line feed.
-pub(crate) fn flag_text(valid: bool) -> &'static [u8]
+fn flag_text(valid: bool) -> &'static [u8]
     ensures { result.now ≡ flag_text valid }
 {
     if valid {

@@ -1,7 +1,14 @@
+pub mod BoxedTold
 pub mod Compaction
+pub mod FlagText
+pub mod FlatTold
+pub mod Marks
 pub mod Forests
 pub mod KeptTree
 pub mod MovesAreSteps
+pub mod NotedRows
 pub mod Searching
 pub mod Siblings
 pub mod Steps
+pub mod Telling
+pub mod VerdictTold

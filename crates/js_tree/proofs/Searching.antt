@@ -2,17 +2,17 @@
 use Rattle.std.proofs.Common.{◌≡◌, ◌≢◌, ℕ, zero, suc, ◌+◌, ◌≤◌, ◌<◌, ◌-◌, List, length, take, get_or, set, None, refl, ap, sym, ◌∙◌, arith}
 use Rattle.js_tree.specs.Forest.{Rose, node_count, forest_of}
 use Rattle.js_tree.specs.Moves.{moved_at, moved_below_root}
-use Rattle.js_tree.specs.Result.{noted, moved}
+use Rattle.js_tree.specs.OutputUnit.{noted}
+use Rattle.js_tree.specs.Result.{ResultTree, moved}
 use Rattle.js_tree.specs.Search.{Searched}
 use Rattle.js_tree.specs.declared.moves.Move.{Move}
 use Rattle.js_tree.specs.declared.moves.Rule.{Rule}
-use Rattle.js_tree.specs.declared.unit.Unit.{Unit}
 use Rattle.js_tree.specs.declared.moves.Search.{Search}
 use Rattle.js_tree.specs.declared.moves.Search.TheVariants.{Made, NotPossible, Further}
 use Rattle.js_tree.proofs.Forests.{same_tree, replaced_by_same, nodes_through_le}
 use Rattle.js_tree.proofs.Siblings.{moved_inside, not_moved_inside, moved_at_none}
 
-pub searched_child : (found : Search) (rule : Rule) (ts : List (Rose Unit)) (i n m : ℕ) (old new : Rose Unit) → i < length ts → old ≡ get_or ts i old → node_count (forest_of (take i ts)) + suc n ≡ m → new.root ≡ old.root
+pub searched_child : (found : Search) (rule : Rule) (ts : List (ResultTree)) (i n m : ℕ) (old new : ResultTree) → i < length ts → old ≡ get_or ts i old → node_count (forest_of (take i ts)) + suc n ≡ m → new.root ≡ old.root
     → ((rest : ℕ) → found ≡ Further rest → ⊥) → Searched found rule n old.below new.below → Searched found rule m (forest_of ts) (forest_of (set ts i new))
 searched_child Made rule ts i n m old new h v e o not s =
     rw (← e) (moved_inside noted rule ts i n old new h (o ∙ ap (λ t. t.root) v) (ap (λ t. moved_at noted rule t.below n) (sym v) ∙ s))
@@ -25,11 +25,11 @@ searched_child NotPossible rule ts i n m old new h v e o not s =
     )
 searched_child (Further rest) rule ts i n m old new h v e o not s = absurd (not rest refl)
 
-not_moved_at : (n : ℕ) (rule : Rule) (t : Rose Unit) → n ≢ 0 → moved_at noted rule t.below (n - 1) ≡ None → moved_below_root noted rule n t ≡ None
+not_moved_at : (n : ℕ) (rule : Rule) (t : ResultTree) → n ≢ 0 → moved_at noted rule t.below (n - 1) ≡ None → moved_below_root noted rule n t ≡ None
 not_moved_at zero rule t l e = refl
 not_moved_at (suc n) rule t l e = let d : suc n - 1 ≡ n = omega arith in let k = rw d at e in rw k refl
 
-pub not_made : (found : Search) (m : Move) (t u : Rose Unit) → m.position ≢ 0 → (found ≡ Made → ⊥) → u.root ≡ t.root → Searched found m.rule (m.position - 1) t.below u.below → (moved m t ≡ None) × (u ≡ t)
+pub not_made : (found : Search) (m : Move) (t u : ResultTree) → m.position ≢ 0 → (found ≡ Made → ⊥) → u.root ≡ t.root → Searched found m.rule (m.position - 1) t.below u.below → (moved m t ≡ None) × (u ≡ t)
 not_made Made m t u p not o s = absurd (not refl)
 not_made NotPossible m t u p not o s = (not_moved_at m.position m.rule t p s.1, same_tree t u o s.2)
 not_made (Further rest) m t u p not o s =

@@ -1,5 +1,5 @@
 -- Ordered trees over any label, and trees side by side.
-use Rattle.std.specs.Prelude.{ℕ, suc, ◌+◌, ◌≤◌, List, [], ◌∷◌}
+use Rattle.std.specs.Prelude.{ℕ, suc, ◌+◌, ◌≤◌, max, List, [], ◌∷◌}
 use Rattle.std.proofs.Common.{arith}
 use denote.Param.Weighed.{most}
 
@@ -33,6 +33,11 @@ node_count (tree a below after) = suc (node_count below + node_count after)
 abbrev pub tree_count : {A : Type 0} → Forest A → ℕ
 tree_count empty = 0
 tree_count (tree a below after) = suc (tree_count after)
+
+-- how many nodes stand on the longest way down
+abbrev pub height : {A : Type 0} → Forest A → ℕ
+height empty = 0
+height (tree a below after) = max (suc (height below)) (height after)
 
 -- a tree is smaller than the forest that it stands in
 pub most_le-node_count : {A : Type 0} → (ts : List (Rose A)) → most (λ t. (node_count t.below + node_count t.below + 2) + 1) ts ≤ node_count (forest_of ts) + node_count (forest_of ts) + 1

@@ -1,29 +1,27 @@
 -- The four output formats as JSON values (JSON Schema Core, section 12.4; the members of a node are those of 12.3).
 use Rattle.std.specs.Prelude.{ℕ, pos, Bool, true, false, not, List, [], ◌∷◌, ◌++◌, map, Option, Some, None, codes}
-use Rattle.js_doc.specs.Seen.{value_of}
 use Rattle.js_doc.specs.Value.{Value, truth, whole, text, list, object, items, members}
-use Rattle.js_tree.specs.Forest.{Forest, empty, tree, Rose}
-use Rattle.js_tree.specs.Result.{kept, pruned, units}
+use Rattle.js_tree.specs.Forest.{Forest, empty, tree}
 use Rattle.js_tree.specs.declared.forms.Format.{Format}
 use Rattle.js_tree.specs.declared.forms.Format.TheVariants.{Flag, Basic, Detailed, Verbose}
-use Rattle.js_tree.specs.declared.note.Note.{Note}
-use Rattle.js_tree.specs.declared.note.Note.TheVariants as note
-use Rattle.js_tree.specs.declared.unit.Unit.{Unit}
+use Rattle.js_tree.specs.Note as note
+use Rattle.js_tree.specs.OutputUnit.{OutputUnit}
+use Rattle.js_tree.specs.Result.{ResultTree, kept, pruned, units}
 
 -- ---- notes
 
-abbrev pub error : Note → Option Value
-error (note.Error reason) = Some (text reason)
+abbrev pub error : note.Note → Option Value
+error (note.error reason) = Some (text reason)
 error _ = None
 
-abbrev pub annotation : Note → Option Value
-annotation note.Silent = None
-annotation (note.Error reason) = None
-annotation (note.Value value) = Some (value_of value.now)
-annotation (note.Names names) = Some (list (items (map text names)))
-annotation (note.Index index) = Some (whole (pos index))
-annotation (note.Indexes indexes) = Some (list (items (map (λ index. whole (pos index)) indexes)))
-annotation note.Truth = Some (truth true)
+abbrev pub annotation : note.Note → Option Value
+annotation note.silent = None
+annotation (note.error reason) = None
+annotation (note.value value) = Some value
+annotation (note.names names) = Some (list (items (map text names)))
+annotation (note.index index) = Some (whole (pos index))
+annotation (note.indexes indexes) = Some (list (items (map (λ index. whole (pos index)) indexes)))
+annotation note.truly = Some (truth true)
 
 -- ---- a node
 
@@ -43,7 +41,7 @@ array_of_some [] = None
 array_of_some (v ∷ vs) = Some (list (items (v ∷ vs)))
 
 -- a node over the values of its children, which stand under `annotations` where it passes, and under `errors` where it fails
-abbrev pub node : Unit → List Value → Value
+abbrev pub node : OutputUnit → List Value → Value
 node u children =
     object (members (
     (codes "absoluteKeywordLocation", text u.absolute)
@@ -54,14 +52,14 @@ node u children =
     ++ ((codes "instanceLocation", text u.instance) ∷ (codes "keywordLocation", text u.keyword) ∷ (codes "valid", truth u.valid) ∷ [])))))
     ))
 
-abbrev pub nodes : Forest Unit → List Value
+abbrev pub nodes : Forest OutputUnit → List Value
 nodes empty = []
 nodes (tree u below after) = node u (nodes below) ∷ nodes after
 
 -- ---- the formats
 
 -- the root node of the whole tree
-abbrev pub verbose : Rose Unit → Value
+abbrev pub verbose : ResultTree → Value
 verbose t = node t.root (nodes t.below)
 
 -- the verdict alone
@@ -73,10 +71,10 @@ list_name true = codes "annotations"
 list_name false = codes "errors"
 
 -- the verdict, and the units, each as a node without children, in an array, which is there when empty too
-abbrev pub unit_list : Rose Unit → Value
+abbrev pub unit_list : ResultTree → Value
 unit_list t = object (members ((list_name t.root.valid, list (items (map (λ u. node u []) (units t)))) ∷ (codes "valid", truth t.root.valid) ∷ []))
 
-abbrev pub form : Format → Rose Unit → Value
+abbrev pub form : Format → ResultTree → Value
 form Flag t = flag t.root.valid
 form Basic t = unit_list (pruned t)
 form Detailed t = verbose (kept (pruned t))

@@ -3,12 +3,12 @@ ghost use Rattle.std.specs.Prelude.{◌≡◌, [], ◌++◌, List, ℕ, IfOk, On
 ghost use Rattle.js_doc.specs.Members.{put};
 ghost use Rattle.js_doc.specs.Seen.{value_of};
 ghost use Rattle.js_doc.specs.Value.{text, list, whole, items};
-ghost use Rattle.js_tree.specs.Forest.{Rose, forest_of};
+ghost use Rattle.js_tree.specs.Forest.{forest_of};
 ghost use Rattle.js_tree.specs.Form.{annotation, array_of_some, error, flag, form, list_name, node, nodes, unit_list, verbose, when};
 ghost use Rattle.js_tree.specs.Put.{put_given};
-ghost use Rattle.js_tree.specs.Result.{Normal, Run, pruned, units_below};
+ghost use Rattle.js_tree.specs.Result.{ResultTree, Normal, Run, pruned, units_below};
+ghost use Rattle.js_tree.specs.Seen.{note_of};
 ghost use Rattle.js_tree.specs.declared.forms.Format.TheVariants.{Detailed};
-ghost use Rattle.js_tree.specs.declared.unit.Unit.{Unit as OfUnit};
 
 use crate::condensing::condense;
 use crate::note::Note;
@@ -37,7 +37,7 @@ pub enum Format {
 /// `Memory`.
 pub fn form(alloc: Global, tree: Tree, format: Format) -> Result<Doc, Memory>
     ensures form { IfOk result (λ doc. value_of doc ≡ form format tree.entry) }
-    ensures one_normal_form { format ≡ Detailed → IfOk result (λ doc. (end : Rose OfUnit) → Run (pruned tree.entry) end → Normal end → value_of doc ≡ verbose end) }
+    ensures one_normal_form { format ≡ Detailed → IfOk result (λ doc. (end : ResultTree) → Run (pruned tree.entry) end → Normal end → value_of doc ≡ verbose end) }
 {
     match format {
         Format::Flag => flag(alloc, tree.unit.valid),
@@ -131,7 +131,7 @@ fn node(alloc: Global, unit: &Unit, children: Vec<Doc>) -> Result<Doc, Memory>
 }
 
 fn put_note(alloc: Global, members: &mut Members, note: &Note) -> Result<(), Memory>
-    ensures { OnOk result (members.new ≡ put_given (codes "error") (error note.now) (put_given (codes "annotation") (annotation note.now) members.old)) }
+    ensures { OnOk result (members.new ≡ put_given (codes "error") (error (note_of note.now)) (put_given (codes "annotation") (annotation (note_of note.now)) members.old)) }
 {
     match note {
         Note::Silent => Ok(()),

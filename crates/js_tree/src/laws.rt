@@ -1,41 +1,56 @@
 //! Laws of result trees. Each is the contract of a function that does nothing.
 ghost use Rattle.std.specs.Prelude.{◌≡◌, ◌+◌, ◌↔◌, List, Some, length};
-ghost use Rattle.js_tree.specs.Forest.{Rose, node_count};
-ghost use Rattle.js_tree.specs.Result.{Normal, Run, Step, kept, moved, replayed};
+ghost use Rattle.js_tree.specs.Forest.{node_count};
+ghost use Rattle.js_tree.specs.Holding.{BoxedHolds, FlatHolds, VerdictHolds};
+ghost use Rattle.js_tree.specs.Result.{ResultTree, Normal, Run, Step, kept, moved, replayed};
 ghost use Rattle.js_tree.specs.declared.moves.Move.{Move};
-ghost use Rattle.js_tree.specs.declared.unit.Unit.{Unit as OfUnit};
 
 use crate::tree::Tree;
 
 /// A step anywhere leaves the kept tree as it was.
 pub fn a_step_leaves_the_kept_tree()
-    ensures { (t u : Rose OfUnit) → Step t u → kept u ≡ kept t }
+    ensures { (t u : ResultTree) → Step t u → kept u ≡ kept t }
 {}
 
 /// A normal tree is its own kept tree.
 pub fn a_normal_tree_is_its_kept_tree()
-    ensures { (t : Rose OfUnit) → Normal t → kept t ≡ t }
+    ensures { (t : ResultTree) → Normal t → kept t ≡ t }
 {}
 
 /// The steps of a tree are its possible moves.
 pub fn steps_are_moves()
-    ensures { (t u : Rose OfUnit) → Step t u ↔ ((m : Move) × (moved m t ≡ Some u)) }
+    ensures { (t u : ResultTree) → Step t u ↔ ((m : Move) × (moved m t ≡ Some u)) }
 {}
 
 /// A step takes one node away.
 pub fn a_step_takes_one_node()
-    ensures { (t u : Rose OfUnit) → Step t u → node_count u.below + 1 ≡ node_count t.below }
+    ensures { (t u : ResultTree) → Step t u → node_count u.below + 1 ≡ node_count t.below }
 {}
 
 /// From each tree a run leads to its kept tree, which is normal.
 pub fn the_kept_tree_is_reached()
-    ensures reached { (t : Rose OfUnit) → Run t (kept t) }
-    ensures normal { (t : Rose OfUnit) → Normal (kept t) }
+    ensures reached { (t : ResultTree) → Run t (kept t) }
+    ensures normal { (t : ResultTree) → Normal (kept t) }
 {}
 
 /// Every run that ends in a normal tree ends in the kept tree.
 pub fn normal_ends_are_the_kept_tree()
-    ensures { (t u : Rose OfUnit) → Run t u → Normal u → u ≡ kept t }
+    ensures { (t u : ResultTree) → Run t u → Normal u → u ≡ kept t }
+{}
+
+/// After the events of a tree whose nodes stand on fewer than 2^64 levels, `Verdict` holds its root's verdict.
+pub fn a_verdict_is_the_roots()
+    ensures { VerdictHolds }
+{}
+
+/// After the events of a tree `Boxed` holds the tree.
+pub fn a_boxed_tree_is_the_tree()
+    ensures { BoxedHolds }
+{}
+
+/// After the events of a tree `Flat` holds its flat form, and no node is open.
+pub fn rows_are_the_flat_form()
+    ensures { FlatHolds }
 {}
 
 /// The root alone, which is normal: so a contract that asks for no more than a normal answer lets it through.

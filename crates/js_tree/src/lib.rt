@@ -1,24 +1,38 @@
 //! Result trees of JSON Schema: pruning, condensing to one normal form, and the four output forms.
 #![tactic(auto)]
 
+mod boxed;
+mod collector;
+mod compacting;
 mod condensing;
+mod flat;
 mod forms;
 pub mod laws;
 mod moves;
 mod note;
 mod noted;
+mod noted_rows;
 mod pruning;
+mod putting;
 mod tree;
 mod unit;
+mod verdict;
 
+pub use boxed::Boxed;
+pub use collector::{Collector, Head};
+pub use compacting::{flat_condense, flat_prune};
 pub use condensing::{condense, is_normal};
+pub use flat::{Flat, Row};
 pub use forms::{Format, form, tree_doc};
 pub use moves::{Move, NoMove, Rule, apply, replay};
 pub use note::{Indexes, Names, Note};
 pub use noted::units;
+pub use noted_rows::flat_units;
 pub use pruning::prune;
+pub use putting::put_flag;
 pub use tree::{Tree, Trees};
 pub use unit::Unit;
+pub use verdict::Verdict;
 
 #[cfg(test)]
 mod tests;

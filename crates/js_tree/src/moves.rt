@@ -2,7 +2,8 @@
 ghost use Rattle.std.specs.Prelude.{false, ◌≡◌, ◌+◌, ◌<◌, ◌≤◌, if◌then◌else◌, length, take, vec_len, MatchResult, IfOk};
 ghost use Rattle.js_tree.specs.Forest.{forest_of, node_count, empty, tree as node};
 ghost use Rattle.js_tree.specs.Moves.{with_only_child, moved_at};
-ghost use Rattle.js_tree.specs.Result.{noted, kept, Normal, Step, moved, replayed};
+ghost use Rattle.js_tree.specs.OutputUnit.{noted};
+ghost use Rattle.js_tree.specs.Result.{kept, Normal, Step, moved, replayed};
 ghost use Rattle.js_tree.specs.Search.{Searched};
 ghost use Rattle.js_tree.specs.declared.moves.Rule.TheVariants.{Drop};
 

@@ -1,6 +1,7 @@
 //! What a node of a result tree has to say: its error or its annotation.
 ghost use Rattle.std.specs.Prelude.{◌≡◌, List, ℕ, map};
-ghost use Rattle.js_tree.specs.Result.{speaks};
+ghost use Rattle.js_tree.specs.Note.{speaks};
+ghost use Rattle.js_tree.specs.Seen.{note_of};
 
 use js_doc::{Doc, Text};
 use std::marker::Model;
@@ -101,7 +102,7 @@ impl Indexes {
 impl<'a> Note<'a> {
     /// There is an error or an annotation; an annotation that is an empty list is one.
     pub fn is_some(&self) -> bool
-        ensures { result ≡ speaks self.now }
+        ensures { result ≡ speaks (note_of self.now) }
     {
         !matches!(self, Note::Silent)
     }

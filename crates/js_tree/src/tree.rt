@@ -25,16 +25,14 @@ pub struct Trees<'a> {
 
 impl<'a> Model for Tree<'a> {
     ghost use Rattle.js_tree.specs.Forest.{Rose, forest_of, node_count};
-    ghost use Rattle.js_tree.specs.declared.unit.Unit.{Unit};
+    ghost use Rattle.js_tree.specs.OutputUnit.{OutputUnit};
     ghost use Rattle.std.proofs.Common.{arith, ◌+◌};
 
-    ghost Value = { Rose Unit };
+    ghost Value = { Rose OutputUnit };
 
-    ghost use Rattle.js_tree.specs.Coding.{rose_code};
-    ghost use Rattle.js_doc.specs.contracts.doc.Doc as doc;
-    ghost use Rattle.std.specs.Coded.{codes};
+    ghost use Rattle.js_tree.specs.Coding.{rose_code, unit_code};
 
-    ghost coded = { rose_code (Prim.hlevel (codes, doc.the_row.coded)) };
+    ghost coded = { rose_code unit_code };
 
     ghost view = { λ t. record { root = t.unit; below = forest_of t.children } };
 
@@ -45,17 +43,16 @@ impl<'a> Model for Tree<'a> {
 
 impl<'a> Model for Trees<'a> {
     ghost use Rattle.js_tree.specs.Forest.{Rose, forest_of, node_count, most_le-node_count};
-    ghost use Rattle.js_tree.specs.declared.unit.Unit.{Unit};
+    ghost use Rattle.js_tree.specs.OutputUnit.{OutputUnit};
     ghost use Rattle.std.proofs.Common.{arith, ◌+◌};
     ghost use Rattle.std.specs.Prelude.{List};
 
-    ghost Value = { List (Rose Unit) };
+    ghost Value = { List (Rose OutputUnit) };
 
-    ghost use Rattle.js_tree.specs.Coding.{rose_code};
-    ghost use Rattle.js_doc.specs.contracts.doc.Doc as doc;
-    ghost use Rattle.std.specs.Coded.{codes, coded_list};
+    ghost use Rattle.js_tree.specs.Coding.{rose_code, unit_code};
+    ghost use Rattle.std.specs.Coded.{coded_list};
 
-    ghost coded = { coded_list (rose_code (Prim.hlevel (codes, doc.the_row.coded))) };
+    ghost coded = { coded_list (rose_code unit_code) };
 
     ghost view = { λ ts. ts.trees.items };
 

@@ -23,22 +23,6 @@ fn takes_documents_in(rt: HostRuntime) {
 }
 
 #[test]
-fn refuses_documents(rt: HostRuntime) {
-    let mut bundle = Bundle::new(rt.alloc());
-    for (uri, source, kind) in [
-        ("s", "true", RefusalKind::BadUri),
-        ("", "true", RefusalKind::BadUri),
-        ("https://a.example/s#x", "[1,", RefusalKind::BadUri),
-        ("http://[", "true", RefusalKind::BadUri),
-        ("https://a.example/s", "[1,", RefusalKind::NotJson),
-        ("https://a.example/s", "", RefusalKind::NotJson),
-        ("https://a.example/s", "{\"a\":1.5}", RefusalKind::NotWhole),
-    ] {
-        assert_eq!(rt; refused(&mut bundle, uri, source), Some(kind), "at {uri}");
-    }
-}
-
-#[test]
 fn a_refusal_has_its_place(rt: HostRuntime) -> Result<(), Fail> {
     let alloc = rt.alloc();
     let mut bundle = Bundle::new(alloc);
@@ -72,15 +56,30 @@ fn uris_have_a_longest(rt: HostRuntime) -> Result<(), Fail> {
     let longest = letters(alloc, "https://a.example/s", 65_517)?;
     assert_eq!(rt; longest.len(), 65_536);
     assert_eq!(rt; refused(&mut bundle, longest.as_str(), "true"), None);
-    let longer = letters(alloc, "https://a.example/s", 65_518)?;
-    assert_eq!(rt;
-        refused(&mut bundle, longer.as_str(), "[1,"),
-        Some(RefusalKind::UriTooLong)
-    );
-    let bad = letters(alloc, "", 65_537)?;
-    assert_eq!(rt;
-        refused(&mut bundle, bad.as_str(), "true"),
-        Some(RefusalKind::UriTooLong)
-    );
     Ok(())
+}
+
+// What handing one value to a bundle is refused for. The value comes back.
+fn value_refused(bundle: &mut Bundle, uri: &str, value: Doc) -> Option<RefusalKind> {
+    match bundle.add_doc(uri, value) {
+        Ok(()) => None,
+        Err((refusal, _)) => Some(refusal.kind),
+    }
+}
+
+#[test]
+fn takes_values_in(rt: HostRuntime) {
+    let mut bundle = Bundle::new(rt.alloc());
+    for (uri, kind) in [
+        ("https://a.example/s", None),
+        ("urn:a:b#", None),
+        ("s", Some(RefusalKind::BadUri)),
+        ("https://a.example/s#x", Some(RefusalKind::BadUri)),
+    ] {
+        assert_eq!(rt;
+            value_refused(&mut bundle, uri, Doc::Truth(true)),
+            kind,
+            "at {uri}"
+        );
+    }
 }

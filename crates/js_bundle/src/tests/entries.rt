@@ -68,26 +68,6 @@ fn two_entries_are_one_place(rt: HostRuntime) -> Result<(), Fail> {
 }
 
 #[test]
-fn entries_have_a_longest(rt: HostRuntime) -> Result<(), Fail> {
-    let alloc = rt.alloc();
-    let schemas = finished(alloc, &[(URI, EMBEDDED)])?;
-    for (beginning, count, want) in [
-        (URI, 65_517, "Unresolved"),
-        (URI, 65_518, "UriTooLong"),
-        ("", 65_536, "BadUri"),
-        ("", 65_537, "UriTooLong"),
-    ] {
-        let uri = letters(alloc, beginning, count)?;
-        assert_eq!(rt;
-            entered(alloc, &schemas, uri.as_str())?.as_str(),
-            want,
-            "{count}"
-        );
-    }
-    Ok(())
-}
-
-#[test]
 fn documents_are_known_as_url_prints_them(rt: HostRuntime) -> Result<(), Fail> {
     let alloc = rt.alloc();
     for uri in [

@@ -287,4 +287,8 @@ fn patterns_of_places(rt: HostRuntime) -> Result<(), Fail> {
 fn laws_are_called(_rt: HostRuntime) {
     laws::the_list_has_the_places();
     laws::the_list_has_each_once();
+    laws::the_list_has_the_places_of_all();
+    laws::the_list_has_each_of_all_once();
+    laws::a_uri_names_one_resource();
+    laws::a_uri_names_one_place();
 }

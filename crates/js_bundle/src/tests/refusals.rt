@@ -1,202 +1,54 @@
-//! What finishing refuses, where, and in which order.
+//! What finishing accepts and refuses. What it refuses of one document is shown on the built program (`rows/`).
 use super::*;
 
 const OTHER: &str = "https://a.example/t";
 
-#[test]
-fn the_first_refusal_is_answered(rt: HostRuntime) -> Result<(), Fail> {
-    for (schema, want) in [
-        (
-            r#"{"enum":[{"$id":"https://a.example/x"}],"$ref":"https://a.example/x"}"#,
-            "document 0 at /$ref: Unresolved",
-        ),
-        (
-            r#"{"const":{"$id":"https://a.example/x"},"$ref":"https://a.example/x"}"#,
-            "document 0 at /$ref: Unresolved",
-        ),
-        (r#"{"type":[]}"#, "document 0 at /type: BadKeyword"),
-        (r#"{"$id":"x#y"}"#, "document 0 at /$id: BadId"),
-        (r#"{"not":3,"type":[]}"#, "document 0 at /type: BadKeyword"),
-        (r#"{"not":3}"#, "document 0 at /not: NotASchema"),
-        (
-            r#"{"$anchor":"a","not":{"$dynamicAnchor":"a"}}"#,
-            "document 0 at /not/$dynamicAnchor: DuplicateAnchor",
-        ),
-        (
-            r#"{"$schema":"x"}"#,
-            "document 0 at /$schema: UnknownDialect",
-        ),
-        (r#"{"pattern":"("}"#, "document 0 at /pattern: BadPattern"),
-        (
-            r#"{"patternProperties":{"a":true,"(":true,")":true}}"#,
-            "document 0 at /patternProperties/(: BadPattern",
-        ),
-    ] {
-        assert_eq!(rt; told(rt.alloc(), schema)?.as_str(), want, "{schema}");
-    }
-    Ok(())
-}
+const OPAQUE: &str = "urn:a:b";
 
 #[test]
-fn refusals_come_in_scan_order(rt: HostRuntime) -> Result<(), Fail> {
-    for (schema, want) in [
-        (r#"{"type":[],"$id":"x#y"}"#, "document 0 at /$id: BadId"),
+fn accepted_schemas(rt: HostRuntime) -> Result<(), Fail> {
+    for (uri, schema) in [
         (
-            r#"{"$id":"x#y","$anchor":"1a"}"#,
-            "document 0 at /$anchor: BadAnchor",
-        ),
-        (
-            r#"{"not":3,"allOf":[true,3]}"#,
-            "document 0 at /allOf/1: NotASchema",
-        ),
-        (
-            r#"{"$defs":{"b":3,"a":3}}"#,
-            "document 0 at /$defs/a: NotASchema",
-        ),
-        (
-            r#"{"anyOf":[{},{},3,{},{},{},{},{},{},{},3]}"#,
-            "document 0 at /anyOf/2: NotASchema",
-        ),
-        (
-            r#"{"if":{"then":{"type":[]}},"items":3}"#,
-            "document 0 at /if/then/type: BadKeyword",
-        ),
-        (r#"{"$ref":"t","not":3}"#, "document 0 at /not: NotASchema"),
-        (
-            r#"{"$ref":"t","$dynamicRef":"t"}"#,
-            "document 0 at /$dynamicRef: Unresolved",
-        ),
-        (
-            r#"{"$ref":"t","$defs":{"a":{"$dynamicRef":"t"}}}"#,
-            "document 0 at /$ref: Unresolved",
-        ),
-    ] {
-        assert_eq!(rt; told(rt.alloc(), schema)?.as_str(), want, "{schema}");
-    }
-    Ok(())
-}
-
-#[test]
-fn arguments_have_their_form(rt: HostRuntime) -> Result<(), Fail> {
-    for (schema, want) in [
-        (r#"{"$schema":3}"#, "document 0 at /$schema: BadKeyword"),
-        (r#"{"$id":3}"#, "document 0 at /$id: BadKeyword"),
-        (r#"{"$ref":[]}"#, "document 0 at /$ref: BadKeyword"),
-        (
-            r#"{"$dynamicRef":null}"#,
-            "document 0 at /$dynamicRef: BadKeyword",
-        ),
-        (r#"{"$anchor":true}"#, "document 0 at /$anchor: BadKeyword"),
-        (
-            r#"{"$dynamicAnchor":{}}"#,
-            "document 0 at /$dynamicAnchor: BadKeyword",
-        ),
-        (r#"{"allOf":[]}"#, "document 0 at /allOf: BadKeyword"),
-        (r#"{"anyOf":{}}"#, "document 0 at /anyOf: BadKeyword"),
-        (r#"{"oneOf":[]}"#, "document 0 at /oneOf: BadKeyword"),
-        (
-            r#"{"prefixItems":true}"#,
-            "document 0 at /prefixItems: BadKeyword",
-        ),
-        (r#"{"$defs":[]}"#, "document 0 at /$defs: BadKeyword"),
-        (
-            r#"{"definitions":true}"#,
-            "document 0 at /definitions: BadKeyword",
-        ),
-        (
-            r#"{"properties":[]}"#,
-            "document 0 at /properties: BadKeyword",
-        ),
-        (
-            r#"{"patternProperties":"a"}"#,
-            "document 0 at /patternProperties: BadKeyword",
-        ),
-        (
-            r#"{"dependentSchemas":[]}"#,
-            "document 0 at /dependentSchemas: BadKeyword",
-        ),
-        (
-            r#"{"multipleOf":0}"#,
-            "document 0 at /multipleOf: BadKeyword",
-        ),
-        (
-            r#"{"required":["a","a"]}"#,
-            "document 0 at /required: BadKeyword",
-        ),
-        (r#"{"items":[true]}"#, "document 0 at /items: NotASchema"),
-        (
-            r#"{"definitions":{"a":"b"}}"#,
-            "document 0 at /definitions/a: NotASchema",
-        ),
-        (
-            r#"{"unevaluatedItems":null}"#,
-            "document 0 at /unevaluatedItems: NotASchema",
-        ),
-        (
+            URI,
             r#"{"properties":{},"$defs":{},"enum":[],"$vocabulary":3,"$comment":[],"title":3,"contentSchema":3}"#,
-            "finished",
         ),
-    ] {
-        assert_eq!(rt; told(rt.alloc(), schema)?.as_str(), want, "{schema}");
-    }
-    Ok(())
-}
-
-#[test]
-fn one_dialect_is_served(rt: HostRuntime) -> Result<(), Fail> {
-    for (schema, want) in [
         (
+            URI,
             r#"{"$schema":"https://json-schema.org/draft/2020-12/schema"}"#,
-            "finished",
         ),
         (
+            URI,
             r#"{"$schema":"https://json-schema.org/draft/2020-12/schema#"}"#,
-            "finished",
         ),
+        (URI, r#"{"$id":"https://a.example/s"}"#),
+        (URI, r#"{"$anchor":"a","not":{"$anchor":"a","$id":"y"}}"#),
         (
-            r#"{"$schema":"https://json-schema.org/draft/2020-12/schema##"}"#,
-            "document 0 at /$schema: UnknownDialect",
-        ),
-        (
-            r#"{"$schema":"http://json-schema.org/draft-07/schema#"}"#,
-            "document 0 at /$schema: UnknownDialect",
-        ),
-    ] {
-        assert_eq!(rt; told(rt.alloc(), schema)?.as_str(), want, "{schema}");
-    }
-    Ok(())
-}
-
-#[test]
-fn uris_and_names_are_made_once(rt: HostRuntime) -> Result<(), Fail> {
-    for (schema, want) in [
-        (r#"{"$id":"https://a.example/s"}"#, "finished"),
-        (
-            r#"{"$id":"x","not":{"$id":"x"}}"#,
-            "document 0 at /not/$id: DuplicateUri",
-        ),
-        (
-            r#"{"$id":"x","not":{"$id":"s"}}"#,
-            "document 0 at /not/$id: DuplicateUri",
-        ),
-        (
-            r#"{"$anchor":"a","not":{"$anchor":"a"}}"#,
-            "document 0 at /not/$anchor: DuplicateAnchor",
-        ),
-        (
-            r#"{"$dynamicAnchor":"a","not":{"$dynamicAnchor":"a"}}"#,
-            "document 0 at /not/$dynamicAnchor: DuplicateAnchor",
-        ),
-        (
-            r#"{"$anchor":"a","not":{"$anchor":"a","$id":"y"}}"#,
-            "finished",
-        ),
-        (
+            URI,
             r#"{"$anchor":"a","not":{"$id":"y","not":{"$anchor":"a"}}}"#,
-            "finished",
         ),
+        // one place may have a name by both keywords
+        (URI, r#"{"$anchor":"a","$dynamicAnchor":"a"}"#),
+        (URI, r#"{"$anchor":"_"}"#),
+        (URI, r#"{"$anchor":"Z9-_.z"}"#),
+        (URI, r##"{"not":{"$ref":"#"}}"##),
+        (URI, r##"{"$ref":"#","type":"string"}"##),
+        (URI, r##"{"$ref":"#/$defs/%61","$defs":{"a":{"const":1}}}"##),
+        // a fragment is that of the joined reference, decoded
+        (URI, r##"{"$ref":"#ab","not":{"$anchor":"ab"}}"##),
+        (URI, r##"{"$ref":"#%61b","not":{"$anchor":"ab"}}"##),
+        (URI, r##"{"$ref":"#%61%62","not":{"$anchor":"ab"}}"##),
+        (URI, r##"{"$ref":"#a\tb","not":{"$anchor":"ab"}}"##),
+        (URI, r##"{"$ref":"#a\nb","not":{"$anchor":"ab"}}"##),
+        (URI, r##"{"$ref":" #ab\r\n ","not":{"$anchor":"ab"}}"##),
+        (URI, r##"{"$ref":"#/n\tot","not":{}}"##),
+        (URI, r##"{"$ref":"#/%24defs/%78","$defs":{"x":{}}}"##),
+        // an opaque base joins fragments alone
+        (OPAQUE, r##"{"$ref":"#/not","not":true}"##),
+        (OPAQUE, r##"{"$ref":"#"}"##),
+        (OPAQUE, r#"{"$ref":"urn:a:b"}"#),
     ] {
-        assert_eq!(rt; told(rt.alloc(), schema)?.as_str(), want, "{schema}");
+        let answer = judged(rt.alloc(), &[(uri, schema)])?;
+        assert_eq!(rt; answer.as_str(), "finished", "{schema}");
     }
     Ok(())
 }

@@ -1,14 +1,16 @@
-use Rattle.std.proofs.Common.{Some, sym, ap, ◌∙◌}
+use Rattle.std.proofs.Common.{◌≡◌, Bool, true, false, not, Option, Some, None, is_some, is_none, refl, ap, ◌∙◌}
 use Rattle.js_assert.specs.ErrorText.{equal_pair}
-use Rattle.js_assert.proofs.EqualPairs.{no_pair, a_pair}
+use Rattle.js_assert.proofs.EqualPairs.{unique_is}
 use Rattle.js_assert.proofs.arrays.unique_items.Goals as goal
 
-pub returns-in_ok-equal_text-in-Some : goal.returns-in_ok-equal_text-in-Some
-returns-in_ok-equal_text-in-Some c =
-    let found = sym c.in-Some.is ∙ c.in_ok-pair.ensures ∙ ap (equal_pair 0) c.as_slice.ensures in
-    rw (c.in-List.is, c.if-not-asked.false) (ap Some c.in_ok-equal_text-in-Some.ensures ∙ a_pair c.in-List.items (c.in-Some.i, c.in-Some.j) found)
+turned : {A : Type 0} (o : Option A) (b : Bool) → is_some o ≡ not b → b ≡ is_none o
+turned None true e = refl
+turned None false e = absurd (cc)
+turned (Some x) true e = absurd (cc)
+turned (Some x) false e = refl
 
-pub returns-in-None : goal.returns-in-None
-returns-in-None c =
-    let found = sym c.in-None.is ∙ c.in_ok-pair.ensures ∙ ap (equal_pair 0) c.as_slice.ensures in
-    rw (c.in-List.is, c.if-not-asked.false) (no_pair c.in-List.items found)
+pub returns-in_ok-least_equal_pair-in-List : goal.returns-in_ok-least_equal_pair-in-List
+returns-in_ok-least_equal_pair-in-List c =
+    let o = c.in_ok-least_equal_pair-in-List.field-0 in
+    let found = c.in_ok-least_equal_pair-in-List.ensures ∙ ap (equal_pair 0) c.as_slice.ensures in
+    rw (c.in-List.is, c.if-asked.true) (turned o c.is_none.result c.is_none.ensures ∙ unique_is c.in-List.items o found)

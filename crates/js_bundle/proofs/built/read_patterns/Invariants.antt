@@ -14,5 +14,5 @@ invariant-loop-name l =
     let f = λ (n : Text × Value). at_pattern (site_of l.site) (l.keyword ∷ n.0 ∷ []) n.0 in
     record {
       leads : Leads (flat_map f l.members) (flat_map f (map pair_of l.name-iterator));
-      built : l.out.items ++ map (pattern_at l.number) (map pair_of l.name-iterator) ≡ l.initial.out.items ++ map (pattern_at l.number) l.members;
+      built : l.out.items ++ map pattern_at (map pair_of l.name-iterator) ≡ l.initial.out.items ++ map pattern_at l.members;
     }

@@ -1,6 +1,13 @@
-use Rattle.js_bundle.proofs.Added.{unread_refused}
+use Rattle.std.proofs.lemmas.Result.{err_from_is_err_and}
+use Rattle.js_bundle.proofs.Added.{refused_by_uri, unread_refused}
 use Rattle.js_bundle.proofs.bundle.taken.Goals as goal
+
+pub returns-in_err-uri-clause-err : goal.returns-in_err-uri-clause-err
+returns-in_err-uri-clause-err c =
+    let p = err_from_is_err_and c.from_residual.result c.from_residual.ensures.1 in
+    rw (p.1, p.2) (refused_by_uri c.args.held c.args.uri.now c.args.bytes.now c.in_err-uri.field-0.0 c.in_err-uri.ensures.err)
 
 pub returns-in-Err-clause-err : goal.returns-in-Err-clause-err
 returns-in-Err-clause-err c =
-    unread_refused c.args.held c.args.uri.now c.args.bytes.now c.in-Ok.uri c.in-Err.fault c.unread.result c.unread.ensures c.if-held-ge-MOST_DOCUMENTS.false c.if-uri-gt-LONGEST.false c.in-Ok.ensures.ok c.in-Err.ensures.err
+    let u = c.in_ok-uri.ensures.ok in
+    unread_refused c.args.held c.args.uri.now c.args.bytes.now c.in_ok-uri.uri c.in-Err.fault c.unread.result c.unread.ensures u.room u.short u.is c.in-Err.ensures.err

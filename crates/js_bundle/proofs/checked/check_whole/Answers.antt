@@ -1,7 +1,8 @@
 use Rattle.std.proofs.Common.{◌≡◌, codes, map, sym, ap, ◌∙◌}
 use Rattle.std.proofs.lemmas.Result.{err_from_is_err_and}
-use Rattle.js_bundle.specs.Built.{numbered, assertions_at, patterns_at}
-use Rattle.js_bundle.specs.Finding.{dynamic_at, number_of_target, pairs_of}
+use Rattle.js_bundle.specs.Built.{assertions_at, patterns_at}
+use Rattle.js_bundle.specs.Finding.{dynamic_at, number_of_target}
+use Rattle.js_bundle.specs.Location.{location}
 use Rattle.js_bundle.specs.Resource.{sites}
 use Rattle.js_bundle.specs.Scan.{site_of}
 use Rattle.js_bundle.specs.Seen.{document_of}
@@ -44,14 +45,14 @@ returns-clause-assertions c =
     let ds = map document_of c.args.documents.now in
     let first : map site_of c.as_slice.result.now ≡ sites ds =
     lists_all ds (map site_of c.as_slice.result.now) (ap (map site_of) c.as_slice.ensures.value ∙ c.in_ok-sites.ensures) c.in_ok-built.ensures.clear in
-    c.in_ok-built.ensures.assertions ∙ ap (numbered assertions_at 0) first
+    c.in_ok-built.ensures.assertions ∙ ap (map assertions_at) first
 
 pub returns-clause-patterns : goal.returns-clause-patterns
 returns-clause-patterns c =
     let ds = map document_of c.args.documents.now in
     let first : map site_of c.as_slice.result.now ≡ sites ds =
     lists_all ds (map site_of c.as_slice.result.now) (ap (map site_of) c.as_slice.ensures.value ∙ c.in_ok-sites.ensures) c.in_ok-built.ensures.clear in
-    c.in_ok-built.ensures.patterns ∙ ap (numbered patterns_at 0) first
+    c.in_ok-built.ensures.patterns ∙ ap (map patterns_at) first
 
 pub returns-clause-dynamic : goal.returns-clause-dynamic
 returns-clause-dynamic c =
@@ -59,7 +60,7 @@ returns-clause-dynamic c =
     let first : map site_of c.as_slice.result.now ≡ sites ds =
     lists_all ds (map site_of c.as_slice.result.now) (ap (map site_of) c.as_slice.ensures.value ∙ c.in_ok-sites.ensures) c.in_ok-built.ensures.clear in
     let second : map site_of c.as_slice-2.result.now ≡ sites ds = ap (map site_of) (c.as_slice-2.ensures.value ∙ sym c.as_slice.ensures.value) ∙ first in
-    c.in_ok-references.ensures.dynamic ∙ ap (λ ss. numbered (dynamic_at ss) 0 ss) second
+    c.in_ok-references.ensures.dynamic ∙ ap (λ ss. map (dynamic_at ss) ss) second
 
 pub returns-clause-plain : goal.returns-clause-plain
 returns-clause-plain c =
@@ -67,4 +68,12 @@ returns-clause-plain c =
     let first : map site_of c.as_slice.result.now ≡ sites ds =
     lists_all ds (map site_of c.as_slice.result.now) (ap (map site_of) c.as_slice.ensures.value ∙ c.in_ok-sites.ensures) c.in_ok-built.ensures.clear in
     let second : map site_of c.as_slice-2.result.now ≡ sites ds = ap (map site_of) (c.as_slice-2.ensures.value ∙ sym c.as_slice.ensures.value) ∙ first in
-    c.in_ok-references.ensures.plain ∙ ap (λ ss. pairs_of (number_of_target ss (codes "$ref")) 0 ss) second
+    c.in_ok-references.ensures.plain ∙ ap (λ ss. map (number_of_target ss (codes "$ref")) ss) second
+
+pub returns-clause-locations : goal.returns-clause-locations
+returns-clause-locations c =
+    let ds = map document_of c.args.documents.now in
+    let first : map site_of c.as_slice.result.now ≡ sites ds =
+    lists_all ds (map site_of c.as_slice.result.now) (ap (map site_of) c.as_slice.ensures.value ∙ c.in_ok-sites.ensures) c.in_ok-built.ensures.clear in
+    let third : map site_of c.as_slice-3.result.now ≡ sites ds = ap (map site_of) (c.as_slice-3.ensures.value ∙ sym c.as_slice.ensures.value) ∙ first in
+    c.in_ok-locations.ensures ∙ ap (map location) third

@@ -1,4 +1,4 @@
-use Rattle.std.proofs.Common.{◌≡◌, ◌++◌, map, length, string_bytes, subst}
+use Rattle.std.proofs.Common.{◌≡◌, ◌++◌, map, string_bytes, subst}
 use Rattle.std.specs.List.{flat_map}
 use Rattle.std.proofs.lemmas.Result.{err_from_is_err_and}
 use Rattle.js_doc.specs.Seen.{pair_of, value_of}
@@ -25,11 +25,10 @@ returns-in_err-check_keyword-clause-err c =
 pub loop-keyword-preserved : goal.loop-keyword-preserved
 loop-keyword-preserved c =
     let l = c.loop-keyword in
-    let n = length c.args.before.now in
     let all = c.args.members.now in
     let f = at_keyword (map site_of c.args.before.now) (site_of c.args.site.now) in
-    let g = assertion_at n all in
-    let h = patterns_of n in
+    let g = assertion_at all in
+    let h = patterns_of in
     let key = string_bytes c.in-Some.keyword.now in
     let v = value_of c.in-Some.argument.now in
     let rest = map pair_of c.next.new.self in
@@ -38,10 +37,10 @@ loop-keyword-preserved c =
     record {
       leads = leads_past (flat_map f all) (f (key, v)) (flat_map f rest) (subst (λ es. Leads (flat_map f all) (flat_map f (map pair_of es))) c.in-Some.ensures.steps l.invariant.leads)
           (subst (λ k. IsClear (f (k, v))) c.as_str.ensures.value c.in_ok-check_keyword.ensures.clear);
-      assertions = piece_next old.assertions.items new.assertions.items (g (key, v)) (flat_map g rest) (c.args.built.now.assertions.items ++ flat_map g all)
+      assertions = piece_next old.assertions.items new.assertions.items (g (key, v)) (flat_map g rest) (flat_map g all)
           (subst (λ k. new.assertions.items ≡ old.assertions.items ++ g (k, v)) c.as_str.ensures.value c.in_ok-check_keyword.ensures.assertions)
-          (subst (λ es. old.assertions.items ++ flat_map g (map pair_of es) ≡ c.args.built.now.assertions.items ++ flat_map g all) c.in-Some.ensures.steps l.invariant.assertions);
-      patterns = piece_next old.patterns.items new.patterns.items (h (key, v)) (flat_map h rest) (c.args.built.now.patterns.items ++ flat_map h all)
+          (subst (λ es. old.assertions.items ++ flat_map g (map pair_of es) ≡ flat_map g all) c.in-Some.ensures.steps l.invariant.assertions);
+      patterns = piece_next old.patterns.items new.patterns.items (h (key, v)) (flat_map h rest) (flat_map h all)
           (subst (λ k. new.patterns.items ≡ old.patterns.items ++ h (k, v)) c.as_str.ensures.value c.in_ok-check_keyword.ensures.patterns)
-          (subst (λ es. old.patterns.items ++ flat_map h (map pair_of es) ≡ c.args.built.now.patterns.items ++ flat_map h all) c.in-Some.ensures.steps l.invariant.patterns);
+          (subst (λ es. old.patterns.items ++ flat_map h (map pair_of es) ≡ flat_map h all) c.in-Some.ensures.steps l.invariant.patterns);
     }

@@ -1,4 +1,4 @@
-use Rattle.std.proofs.Common.{◌≡◌, ◌++◌, map, length}
+use Rattle.std.proofs.Common.{◌≡◌, ◌++◌, map}
 use Rattle.std.specs.List.{flat_map}
 use Rattle.js_doc.specs.Seen.{pair_of}
 use Rattle.js_bundle.specs.Built.{assertion_at, patterns_of}
@@ -13,7 +13,6 @@ invariant-loop-keyword l =
     let left = map pair_of l.keyword-iterator in
     record {
       leads : Leads (flat_map rules l.members) (flat_map rules left);
-      assertions : l.built.assertions.items ++ flat_map (assertion_at (length l.before) l.members) left
-          ≡ l.initial.built.assertions.items ++ flat_map (assertion_at (length l.before) l.members) l.members;
-      patterns : l.built.patterns.items ++ flat_map (patterns_of (length l.before)) left ≡ l.initial.built.patterns.items ++ flat_map (patterns_of (length l.before)) l.members;
+      assertions : l.built.assertions.items ++ flat_map (assertion_at l.members) left ≡ flat_map (assertion_at l.members) l.members;
+      patterns : l.built.patterns.items ++ flat_map patterns_of left ≡ flat_map patterns_of l.members;
     }

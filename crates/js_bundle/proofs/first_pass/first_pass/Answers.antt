@@ -1,21 +1,21 @@
 use Rattle.std.proofs.Common.{◌+◌, [], map, take, drop, arith}
 use Rattle.std.proofs.lemmas.Result.{err_from_is_err_and}
-use Rattle.js_bundle.specs.Built.{numbered, assertions_at, patterns_at}
+use Rattle.js_bundle.specs.Built.{assertions_at, assertions_in, patterns_at, patterns_in}
 use Rattle.js_bundle.specs.Refusals.{at_site, first_pass}
 use Rattle.js_bundle.specs.Scan.{site_of}
-use Rattle.js_bundle.proofs.Passes.{site_next, numbered_next}
+use Rattle.js_bundle.proofs.Passes.{site_next, column_next}
 use Rattle.js_bundle.proofs.Stopping.{leads_past, leads_stop}
 use Rattle.js_bundle.proofs.first_pass.first_pass.Goals as goal
 
-pub returns-in_err-check_site-clause-err : goal.returns-in_err-check_site-clause-err
-returns-in_err-check_site-clause-err c =
+pub returns-in_err-built-clause-err : goal.returns-in_err-built-clause-err
+returns-in_err-built-clause-err c =
     let l = c.loop-i in
     let ss = c.args.sites.now in
     let x = c.index-sites-i.result in
     let whole = first_pass [] (map site_of ss) in
     let p = err_from_is_err_and c.from_residual.result c.from_residual.ensures.1 in
-    rw (p.1, p.2) (leads_stop whole (at_site (map site_of (take l.i ss)) (site_of x)) (first_pass (map site_of (take (l.i + 1) ss)) (map site_of (drop (l.i + 1) ss))) c.in_err-check_site.field-0.0
-    (site_next ss l.i x whole (omega arith) c.index-sites-i.is l.invariant.leads) c.in_err-check_site.ensures.err)
+    rw (p.1, p.2) (leads_stop whole (at_site (map site_of (take l.i ss)) (site_of x)) (first_pass (map site_of (take (l.i + 1) ss)) (map site_of (drop (l.i + 1) ss))) c.in_err-built.field-0.0
+    (site_next ss l.i x whole (omega arith) c.index-sites-i.is l.invariant.leads) c.in_err-built.ensures.err)
 
 pub loop-i-preserved : goal.loop-i-preserved
 loop-i-preserved c =
@@ -23,10 +23,9 @@ loop-i-preserved c =
     let ss = c.args.sites.now in
     let x = c.index-sites-i.result in
     let whole = first_pass [] (map site_of ss) in
-    let new = c.check_site.new.built in
     record {
       leads = leads_past whole (at_site (map site_of (take l.i ss)) (site_of x)) (first_pass (map site_of (take (l.i + 1) ss)) (map site_of (drop (l.i + 1) ss)))
-          (site_next ss l.i x whole (omega arith) c.index-sites-i.is l.invariant.leads) c.in_ok-check_site.ensures.clear;
-      assertions = numbered_next assertions_at ss l.i x l.built.assertions.items new.assertions.items (numbered assertions_at 0 (map site_of ss)) (omega arith) c.index-sites-i.is c.in_ok-check_site.ensures.assertions l.invariant.assertions;
-      patterns = numbered_next patterns_at ss l.i x l.built.patterns.items new.patterns.items (numbered patterns_at 0 (map site_of ss)) (omega arith) c.index-sites-i.is c.in_ok-check_site.ensures.patterns l.invariant.patterns;
+          (site_next ss l.i x whole (omega arith) c.index-sites-i.is l.invariant.leads) c.in_ok-built.ensures.clear;
+      assertions = column_next assertions_in assertions_at ss l.i x l.all.items c.push.new.self.items c.in_ok-built.built (map assertions_at (map site_of ss)) (omega arith) c.index-sites-i.is c.in_ok-push.ensures.items c.in_ok-built.ensures.assertions l.invariant.assertions;
+      patterns = column_next patterns_in patterns_at ss l.i x l.all.items c.push.new.self.items c.in_ok-built.built (map patterns_at (map site_of ss)) (omega arith) c.index-sites-i.is c.in_ok-push.ensures.items c.in_ok-built.ensures.patterns l.invariant.patterns;
     }

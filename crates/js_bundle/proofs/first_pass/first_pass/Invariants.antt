@@ -1,5 +1,5 @@
 use Rattle.std.proofs.Common.{◌≡◌, ◌++◌, [], map, take, drop}
-use Rattle.js_bundle.specs.Built.{numbered, assertions_at, patterns_at}
+use Rattle.js_bundle.specs.Built.{assertions_at, assertions_in, patterns_at, patterns_in}
 use Rattle.js_bundle.specs.Leads.{Leads}
 use Rattle.js_bundle.specs.Refusals.{first_pass}
 use Rattle.js_bundle.specs.Scan.{site_of}
@@ -11,6 +11,6 @@ invariant-loop-i l =
     let left = map site_of (drop l.i l.sites) in
     record {
       leads : Leads (first_pass [] all) (first_pass (map site_of (take l.i l.sites)) left);
-      assertions : l.built.assertions.items ++ numbered assertions_at l.i left ≡ numbered assertions_at 0 all;
-      patterns : l.built.patterns.items ++ numbered patterns_at l.i left ≡ numbered patterns_at 0 all;
+      assertions : map assertions_in l.all.items ++ map assertions_at left ≡ map assertions_at all;
+      patterns : map patterns_in l.all.items ++ map patterns_at left ≡ map patterns_at all;
     }

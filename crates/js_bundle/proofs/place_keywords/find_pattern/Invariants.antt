@@ -1,8 +1,8 @@
-use Rattle.std.proofs.Common.{◌≡◌, ◌&&◌, find, nat_eq, bytes_eq, drop}
+use Rattle.std.proofs.Common.{◌≡◌, find, bytes_eq, drop}
 use Rattle.js_bundle.specs.declared.built.BuiltPattern.{BuiltPattern}
 use Rattle.js_bundle.proofs.place_keywords.find_pattern.Given as goal
 
 abbrev pub invariant-loop-one : goal.invariant-loop-one
 invariant-loop-one l =
-    let test = λ (b : BuiltPattern). nat_eq b.place l.place && bytes_eq l.name b.name in
+    let test = λ (b : BuiltPattern). bytes_eq l.name b.name in
     find test l.built ≡ find test (drop l.one-index l.built)

@@ -1,12 +1,11 @@
-use Rattle.std.proofs.Common.{◌+◌, codes, map, drop, arith}
+use Rattle.std.proofs.Common.{◌+◌, ◌∙◌, codes, map, drop, arith}
 use Rattle.std.specs.List.{flat_map}
 use Rattle.std.proofs.lemmas.Result.{err_from_is_err_and}
-use Rattle.js_bundle.specs.Built.{numbered}
-use Rattle.js_bundle.specs.Finding.{number_of_target, pairs_of, dynamic_at}
+use Rattle.js_bundle.specs.Finding.{number_of_target, dynamic_at}
 use Rattle.js_bundle.specs.Refusals.{at_references, second_pass}
 use Rattle.js_bundle.specs.Scan.{site_of}
 use Rattle.js_bundle.proofs.Stopping.{leads_past, leads_stop}
-use Rattle.js_bundle.proofs.Passes.{leads_next, pairs_next, dynamic_next}
+use Rattle.js_bundle.proofs.Passes.{leads_next, place_next, dynamic_same}
 use Rattle.js_bundle.proofs.reference.resolve_all.Goals as goal
 
 pub returns-in_err-targets-clause-err : goal.returns-in_err-targets-clause-err
@@ -28,8 +27,8 @@ loop-i-preserved c =
     record {
       leads = leads_past (second_pass all) (at_references all (site_of x)) (flat_map (at_references all) (map site_of (drop (l.i + 1) ss)))
           (leads_next (at_references all) ss l.i x (second_pass all) (omega arith) c.index-sites-i.is l.invariant.leads) c.in_ok-targets.ensures.clear;
-      dynamic = dynamic_next all ss l.i x l.dynamic.items c.add_dynamic.new.out.items (numbered (dynamic_at all) 0 all) c.in_ok-targets.targets.dynamic c.in_ok-targets.targets.by_name
-          (omega arith) c.index-sites-i.is c.in_ok-add_dynamic.ensures c.in_ok-targets.ensures.dynamic c.in_ok-targets.ensures.by_name l.invariant.dynamic;
-      plain = pairs_next (number_of_target all (codes "$ref")) ss l.i x l.plain.items c.add.new.out.items (pairs_of (number_of_target all (codes "$ref")) 0 all) c.in_ok-targets.targets.plain
-          (omega arith) c.index-sites-i.is c.in_ok-add.ensures c.in_ok-targets.ensures.plain l.invariant.plain;
+      dynamic = place_next (dynamic_at all) ss l.i x l.dynamic.items c.push.new.self.items c.dynamic_of.result (map (dynamic_at all) all) (omega arith) c.index-sites-i.is c.in_ok-push.ensures.items
+          (c.dynamic_of.ensures ∙ dynamic_same all (site_of x) c.in_ok-targets.targets.by_name c.in_ok-targets.targets.dynamic c.in_ok-targets.ensures.by_name c.in_ok-targets.ensures.dynamic) l.invariant.dynamic;
+      plain = place_next (number_of_target all (codes "$ref")) ss l.i x l.plain.items c.push-in-loop-i.new.self.items c.in_ok-targets.targets.plain (map (number_of_target all (codes "$ref")) all)
+          (omega arith) c.index-sites-i.is c.in_ok-push-2.ensures.items c.in_ok-targets.ensures.plain l.invariant.plain;
     }

@@ -1,7 +1,6 @@
 use Rattle.std.proofs.Common.{◌≡◌, ◌++◌, codes, map, drop}
 use Rattle.std.specs.List.{flat_map}
-use Rattle.js_bundle.specs.Built.{numbered}
-use Rattle.js_bundle.specs.Finding.{number_of_target, pairs_of, dynamic_at}
+use Rattle.js_bundle.specs.Finding.{number_of_target, dynamic_at}
 use Rattle.js_bundle.specs.Leads.{Leads}
 use Rattle.js_bundle.specs.Refusals.{at_references, second_pass}
 use Rattle.js_bundle.specs.Scan.{site_of}
@@ -12,6 +11,6 @@ invariant-loop-i l =
     let all = map site_of l.sites in
     record {
       leads : Leads (second_pass all) (flat_map (at_references all) (map site_of (drop l.i l.sites)));
-      dynamic : l.dynamic.items ++ numbered (dynamic_at all) l.i (map site_of (drop l.i l.sites)) ≡ numbered (dynamic_at all) 0 all;
-      plain : l.plain.items ++ pairs_of (number_of_target all (codes "$ref")) l.i (map site_of (drop l.i l.sites)) ≡ pairs_of (number_of_target all (codes "$ref")) 0 all;
+      dynamic : l.dynamic.items ++ map (dynamic_at all) (map site_of (drop l.i l.sites)) ≡ map (dynamic_at all) all;
+      plain : l.plain.items ++ map (number_of_target all (codes "$ref")) (map site_of (drop l.i l.sites)) ≡ map (number_of_target all (codes "$ref")) all;
     }

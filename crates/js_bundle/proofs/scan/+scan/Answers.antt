@@ -4,9 +4,8 @@ use Rattle.js_doc.specs.Nesting.{depth}
 use Rattle.js_doc.specs.Value.{list, object, items, members}
 use Rattle.js_doc.specs.Seen.{value_of, pair_of}
 use Rattle.js_doc.proofs.Smaller.{item_smaller, member_smaller}
-use Rattle.js_bundle.specs.Place.{holding}
 use Rattle.js_bundle.specs.Scan.{SameFront, site_of, most_sites, sites_of_keywords, sites_of_members}
-use Rattle.js_bundle.proofs.Scanning.{front_full, item_next, keyword_next, member_next}
+use Rattle.js_bundle.proofs.Scanning.{front_full, item_next, keyword_held, keyword_next, member_next, nothing_held}
 use Rattle.js_bundle.proofs.scan.+scan.Goals as goal
 
 pub scan_schema-returns-then-len-ge-MOST_SITES : goal.scan_schema-returns-then-len-ge-MOST_SITES
@@ -29,8 +28,8 @@ scan_items-loop-i-preserved t c =
     (c.in_ok-at.ensures ∙ ap (λ k. c.args.pointer.now ++ k ∷ []) (c.as_str.ensures.value ∙ c.in_ok-token.ensures.ok))
     c.in_ok-scan_schema.ensures l.invariant
 
-pub scan_keywords-scan_held-requires : goal.scan_keywords-scan_held-requires
-scan_keywords-scan_held-requires t c =
+pub scan_keywords-scan_keyword-requires : goal.scan_keywords-scan_keyword-requires
+scan_keywords-scan_keyword-requires t c =
     let l = c.loop-keyword in
     let small : depth (value_of c.in-Some.argument.now) < depth (object (members c.args.members.now)) =
     member_smaller c.pairs-keyword-items.result l.invariant.split.0 (c.in-Some.keyword.now, c.in-Some.argument.now) c.next.new.self c.args.members.now c.pairs-keyword-items.ensures.pairs
@@ -45,9 +44,8 @@ scan_keywords-loop-keyword-preserved t c =
         l.invariant.split.0 ++ (c.in-Some.keyword.now, c.in-Some.argument.now) ∷ [],
         l.invariant.split.1 ∙ ap (λ es. l.invariant.split.0 ++ es) c.in-Some.ensures.steps ∙ sym (append_assoc l.invariant.split.0 ((c.in-Some.keyword.now, c.in-Some.argument.now) ∷ []) c.next.new.self),
       );
-      told = keyword_next c.args.document c.args.above.now.value c.args.pointer.now (string_bytes c.in-Some.keyword.now) (value_of c.in-Some.argument.now) (members (map pair_of c.next.new.self)) c.holding_of.result c.in_ok-at.at (map site_of l.out.items) (map site_of c.scan_held.new.out.items) _
-          (c.holding_of.ensures ∙ ap holding c.as_str-in-loop-keyword.ensures.value)
-          (c.in_ok-at.ensures ∙ ap (λ k. c.args.pointer.now ++ k ∷ []) c.as_str.ensures.value) c.in_ok-scan_held.ensures
+      told = keyword_next c.args.document c.args.above.now.value c.args.pointer.now (string_bytes c.in-Some.keyword.now) c.as_str.result.now (value_of c.in-Some.argument.now) (members (map pair_of c.next.new.self)) (map site_of l.out.items) (map site_of c.scan_keyword.new.out.items) _
+          c.as_str.ensures.value c.in_ok-scan_keyword.ensures
           (subst (λ es. SameFront (map site_of l.out.items ++ sites_of_keywords c.args.document c.args.above.now.value c.args.pointer.now (members (map pair_of es))) (map site_of c.args.out.now.items ++ sites_of_keywords c.args.document c.args.above.now.value c.args.pointer.now (members (map pair_of c.into_iter-keyword-iterator.result)))) c.in-Some.ensures.steps l.invariant.told);
     }
 

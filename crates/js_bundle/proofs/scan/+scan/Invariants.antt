@@ -7,19 +7,22 @@ use Rattle.js_bundle.specs.Scan.{SameFront, site_of, sites_of_items, sites_of_ke
 use Rattle.js_bundle.proofs.scan.+scan.Given as goal
 
 abbrev pub decreases-scan_schema : goal.decreases-scan_schema
-decreases-scan_schema l = 3 * depth (value_of l.schema.now) + 2
+decreases-scan_schema l = 4 * depth (value_of l.schema.now) + 2
 
 abbrev pub decreases-scan_held : goal.decreases-scan_held
-decreases-scan_held l = 3 * depth (value_of l.argument.now) + 3
+decreases-scan_held l = 4 * depth (value_of l.argument.now) + 3
+
+abbrev pub decreases-scan_keyword : goal.decreases-scan_keyword
+decreases-scan_keyword l = 4 * depth (value_of l.argument.now) + 4
 
 abbrev pub decreases-scan_keywords : goal.decreases-scan_keywords
-decreases-scan_keywords l = 3 * depth (object (members l.members.now)) + 1
+decreases-scan_keywords l = 4 * depth (object (members l.members.now)) + 1
 
 abbrev pub decreases-scan_members : goal.decreases-scan_members
-decreases-scan_members l = 3 * depth (object (members l.members.now)) + 1
+decreases-scan_members l = 4 * depth (object (members l.members.now)) + 1
 
 abbrev pub decreases-scan_items : goal.decreases-scan_items
-decreases-scan_items l = 3 * depth (list (items (map value_of l.schemas.now))) + 1
+decreases-scan_items l = 4 * depth (list (items (map value_of l.schemas.now))) + 1
 
 abbrev pub invariant-scan_items-loop-i : goal.invariant-scan_items-loop-i
 invariant-scan_items-loop-i l =

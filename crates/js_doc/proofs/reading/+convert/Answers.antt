@@ -2,18 +2,14 @@ use Rattle.std.proofs.Common.{◌≡◌, ◌+◌, ◌<◌, [], ◌∷◌, ◌++�
 use Rattle.std.proofs.lemmas.List.{take_more, drop_more, take-append-drop, length_push, length-take}
 use Rattle.js_doc.specs.Members.{put}
 use Rattle.js_doc.specs.Value.{members}
-use Rattle.js_doc.specs.Seen.{value_of, items_of}
+use Rattle.js_doc.specs.Seen.{value_of, items_seen}
 use Rattle.std.specs.List.Sorted.{IsStrictlySortedBy}
 use Rattle.std.specs.Map.{keys_of}
 use Rattle.std.specs.String.{string_cmp}
 use Rattle.serde_json.specs.View.{view, items_view, members_view}
 use Rattle.js_doc.specs.WholeNumbers.{value_in, items_in, members_in}
-use Rattle.js_doc.specs.Members.{NamesAscendInItems, NamesAscendInMembers}
-use Rattle.js_doc.specs.Reading.{Stops, Lifts}
-use Rattle.js_doc.specs.Short.{AreShortItems, AreShortMembers}
-use Rattle.js_doc.proofs.Ascending.{items_ascend-push, members_ascend-put}
-use Rattle.js_doc.proofs.Shortness.{count_short, items_short-push, members_short-put}
-use Rattle.js_doc.proofs.Finding.{Entry, items_extend, items_stop, snoc_items_of, members_extend, members_stop, lifted_stops}
+use Rattle.js_doc.specs.Reading.{IsConversionFault, Lifts}
+use Rattle.js_doc.proofs.Finding.{Entry, items_extend, items_stop, snoc_items_seen, members_extend, members_stop, lifted_stops}
 use Rattle.js_doc.proofs.reading.+convert.Goals as goal
 
 pub convert_items-returns-in-Err-clause-err : goal.convert_items-returns-in-Err-clause-err
@@ -29,7 +25,7 @@ convert_items-returns-in-Err-clause-err t c =
     let so_far : length l.docs.items ≡ 0 + length (take l.value-index xs) = l.invariant.1 ∙ omega (arith, low, length-take l.value-index xs) in
     let stopped = lifted_stops (items_in 0 (items_view xs)) (value_in (view v)) (decimal (length l.docs.items)) c.in-Err.fault c.lifted.result c.in-Err.ensures.err (subst (λ k. Lifts k c.in-Err.fault c.lifted.result) named c.lifted.ensures)
     (λ p e. ap (λ ws. items_in 0 (items_view ws)) (sym split) ∙ items_stop 0 _ (take l.value-index xs) v _ _ p l.invariant.0 e so_far) in
-    subst (λ ws. Stops (items_in 0 (items_view ws)) c.lifted.result) c.deref-value-items.ensures.value stopped
+    subst (λ ws. IsConversionFault (items_in 0 (items_view ws)) c.lifted.result) c.deref-value-items.ensures.value stopped
 
 pub convert_items-loop-value-preserved : goal.convert_items-loop-value-preserved
 convert_items-loop-value-preserved t c =
@@ -41,10 +37,8 @@ convert_items-loop-value-preserved t c =
     take_more xs l.value-index v (search rules) ∙ ap (λ w. take l.value-index xs ++ w ∷ []) here in
     let pushed = c.in_ok-push-in-Ok.ensures.items in (
       ap (λ ws. items_in 0 (items_view ws)) next ∙ items_extend 0 (take l.value-index xs) v _ _ l.invariant.0 c.in-Ok.ensures.ok
-          ∙ ap Ok (sym (snoc_items_of l.docs.items c.in-Ok.doc) ∙ ap items_of (sym pushed)),
+          ∙ ap Ok (sym (snoc_items_seen l.docs.items c.in-Ok.doc) ∙ ap items_seen (sym pushed)),
       ap length pushed ∙ length_push l.docs.items c.in-Ok.doc ∙ ap (λ n. n + 1) l.invariant.1,
-      subst (λ ds. NamesAscendInItems (items_of ds)) (sym pushed) (items_ascend-push l.docs.items c.in-Ok.doc l.invariant.2 c.in-Ok.ensures.ascends),
-      subst (λ ds. AreShortItems (items_of ds)) (sym pushed) (items_short-push l.docs.items c.in-Ok.doc l.invariant.3 c.in-Ok.ensures.short),
     )
 
 pub convert_members-loop-name-preserved : goal.convert_members-loop-name-preserved
@@ -58,8 +52,6 @@ convert_members-loop-name-preserved t c =
       done ++ e ∷ [],
       all ∙ sym (append_assoc done (e ∷ []) left),
       members_extend done e left l.members _ l.invariant.2 c.in-Ok.ensures.ok (subst (λ es. IsStrictlySortedBy string_cmp (keys_of es)) all c.iter-name-items.ensures.ordered) ∙ ap (λ ns. Ok (members ns)) (ap (λ k. put k (value_of c.in-Ok.doc) l.members) (sym named) ∙ sym c.in_ok-put-in-Ok.ensures.ok),
-      subst (λ ms. NamesAscendInMembers (members ms)) (sym c.in_ok-put-in-Ok.ensures.ok) (members_ascend-put (string_bytes c.in_ok-clone-in-Ok.field-0) (value_of c.in-Ok.doc) l.members l.invariant.3 c.in-Ok.ensures.ascends),
-      subst (λ ms. AreShortMembers (members ms)) (sym c.in_ok-put-in-Ok.ensures.ok) (members_short-put (string_bytes c.in_ok-clone-in-Ok.field-0) (value_of c.in-Ok.doc) l.members l.invariant.4 c.in-Ok.ensures.short),
     )
 
 pub convert_members-returns-in-Err-clause-err : goal.convert_members-returns-in-Err-clause-err
@@ -71,6 +63,3 @@ convert_members-returns-in-Err-clause-err t c =
     let all : c.args.map.now.entries ≡ done ++ e ∷ left = l.invariant.1 ∙ ap (λ es. done ++ es) c.in-Some.ensures.steps in
     lifted_stops _ (value_in (view e.1)) (string_bytes e.0) c.in-Err.fault c.lifted.result c.in-Err.ensures.err (subst (λ k. Lifts k c.in-Err.fault c.lifted.result) c.in_ok-token-in-Err.ensures c.lifted.ensures)
     (λ p is. ap (λ es. members_in (members_view es)) all ∙ members_stop done e left _ p l.invariant.2 is)
-
-pub convert_items-returns-clause-count : goal.convert_items-returns-clause-count
-convert_items-returns-clause-count t c = let v = c.loop-value.docs in count_short v.items (omega (arith, v.ok.0, v.ok.1, v.small))

@@ -1,17 +1,15 @@
 use Rattle.std.proofs.Common.{◌≡◌, Ok, List, ◌++◌, take, length}
 use Rattle.serde_json.specs.View.{items_view, members_view}
 use Rattle.js_doc.specs.Value.{members}
-use Rattle.js_doc.specs.Seen.{items_of}
-use Rattle.js_doc.specs.Members.{NamesAscendInItems, NamesAscendInMembers}
-use Rattle.js_doc.specs.Short.{AreShortItems, AreShortMembers}
+use Rattle.js_doc.specs.Seen.{items_seen}
 use Rattle.js_doc.specs.WholeNumbers.{items_in, members_in}
 use Rattle.js_doc.proofs.Finding.{Entry}
 use Rattle.js_doc.proofs.reading.+convert.Given as goal
 
 abbrev pub invariant-convert_items-loop-value : goal.invariant-convert_items-loop-value
 invariant-convert_items-loop-value l =
-    (items_in 0 (items_view (take l.value-index l.value-items)) ≡ Ok (items_of l.docs.items)) × (length l.docs.items ≡ l.value-index) × NamesAscendInItems (items_of l.docs.items) × AreShortItems (items_of l.docs.items)
+    (items_in 0 (items_view (take l.value-index l.value-items)) ≡ Ok (items_seen l.docs.items)) × (length l.docs.items ≡ l.value-index)
 
 abbrev pub invariant-convert_members-loop-name : goal.invariant-convert_members-loop-name
 invariant-convert_members-loop-name l =
-    (done : List Entry) × (l.map.entries ≡ done ++ l.name-iterator) × (members_in (members_view done) ≡ Ok (members l.members)) × NamesAscendInMembers (members l.members) × AreShortMembers (members l.members)
+    (done : List Entry) × (l.map.entries ≡ done ++ l.name-iterator) × (members_in (members_view done) ≡ Ok (members l.members))

@@ -1,4 +1,4 @@
-use Rattle.std.proofs.Common.{◌≡◌, ◌≤◌, ◌+◌, ◌-◌, true, length}
+use Rattle.std.proofs.Common.{◌≡◌, ◌≤◌, ◌<◌, ◌+◌, ◌-◌, ◌^◌, min, true, false, length}
 use Rattle.std.specs.Io.KnownBytes.{Consumes}
 use Rattle.js_output.specs.Device.{input_limit}
 use Rattle.js_output.proofs.input.read_all.Given as goal
@@ -11,6 +11,7 @@ invariant-turns g l =
     × (l.source.calls ≤ l.initial.source.calls + length l.bytes.items)
     × (l.initial.source.calls ≤ l.source.calls)
     × (l.initial.source.failed ≡ true → l.source ≡ l.initial.source)
+    × (l.initial.source.failed ≡ false → l.source.failed ≡ false)
 
 abbrev pub decreases-turns : goal.decreases-turns
 decreases-turns g l = input_limit + 1 - length l.bytes.items

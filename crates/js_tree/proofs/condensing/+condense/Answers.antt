@@ -2,7 +2,8 @@ use Rattle.std.proofs.Common.{◌≡◌, ◌∙◌, sym, ap, length, arith, take
 use Rattle.std.proofs.lemmas.List.{take-set-le, drop-set-lt, get_or-set_same}
 use Rattle.js_tree.specs.Forest.{Rose, empty, tree as node, node_count, forest_of}
 use Rattle.js_tree.specs.declared.unit.Unit.{Unit}
-use Rattle.js_tree.specs.Result.{noted, kept_below}
+use Rattle.js_tree.specs.OutputUnit.{noted}
+use Rattle.js_tree.specs.Result.{kept_below}
 use Rattle.js_tree.proofs.Forests.{fewer_nodes, same_at, same_after}
 use Rattle.js_tree.proofs.Compaction.{take-swap, drop-swap, one_left, none_left, kept_below-append, one_stays, one_goes, few_children, only_last}
 use Rattle.js_tree.proofs.condensing.+condense.Goals as goal

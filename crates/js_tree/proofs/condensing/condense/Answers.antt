@@ -1,6 +1,7 @@
 use Rattle.std.proofs.Common.{◌≡◌, ◌∙◌, sym, ap}
 use Rattle.js_tree.specs.Forest.{Rose, forest_of}
-use Rattle.js_tree.specs.Result.{noted, kept, units}
+use Rattle.js_tree.specs.OutputUnit.{noted}
+use Rattle.js_tree.specs.Result.{kept, units}
 use Rattle.js_tree.specs.declared.unit.Unit.{Unit}
 use Rattle.js_tree.proofs.KeptTree.{kept_is_normal, kept_is_reached, kept-kept, units-kept}
 use Rattle.js_tree.proofs.condensing.condense.Goals as goal

@@ -1,6 +1,7 @@
 use Rattle.std.proofs.Common.{◌≡◌, ◌∙◌, sym, ap}
 use Rattle.js_tree.specs.Forest.{forest_of}
-use Rattle.js_tree.specs.Result.{noted, all_stand}
+use Rattle.js_tree.specs.OutputUnit.{noted}
+use Rattle.js_tree.specs.Result.{all_stand}
 use Rattle.js_tree.proofs.Steps.{all_stand-normal, normal-all_stand}
 use Rattle.js_tree.proofs.condensing.is_normal.Goals as goal
 

@@ -4,7 +4,8 @@ use Rattle.js_doc.specs.declared.doc.Doc.{Doc}
 use Rattle.js_doc.specs.declared.memory.Memory.{Memory}
 use Rattle.js_tree.specs.Forest.{Rose}
 use Rattle.js_tree.specs.Form.{verbose}
-use Rattle.js_tree.specs.Result.{Normal, Run, noted, kept, pruned}
+use Rattle.js_tree.specs.OutputUnit.{noted}
+use Rattle.js_tree.specs.Result.{Normal, Run, kept, pruned}
 use Rattle.js_tree.specs.declared.unit.Unit.{Unit}
 use Rattle.js_tree.proofs.KeptTree.{run-normal}
 use Rattle.js_tree.proofs.forms.form.Goals as goal

@@ -1,4 +1,4 @@
-use Rattle.js_tree.specs.Result.{noted}
+use Rattle.js_tree.specs.OutputUnit.{noted}
 use Rattle.js_tree.proofs.KeptTree.{run-normal}
 use Rattle.js_tree.proofs.laws.normal_ends_are_the_kept_tree.Goals as goal
 

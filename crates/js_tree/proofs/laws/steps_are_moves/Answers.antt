@@ -1,4 +1,4 @@
-use Rattle.js_tree.specs.Result.{noted}
+use Rattle.js_tree.specs.OutputUnit.{noted}
 use Rattle.js_tree.proofs.MovesAreSteps.{moved_step, step_moved}
 use Rattle.js_tree.proofs.laws.steps_are_moves.Goals as goal
 

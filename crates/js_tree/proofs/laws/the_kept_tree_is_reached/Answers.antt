@@ -1,5 +1,5 @@
 use Rattle.std.proofs.Common.{refl}
-use Rattle.js_tree.specs.Result.{noted}
+use Rattle.js_tree.specs.OutputUnit.{noted}
 use Rattle.js_tree.proofs.KeptTree.{kept_is_reached, kept_is_normal}
 use Rattle.js_tree.proofs.laws.the_kept_tree_is_reached.Goals as goal
 

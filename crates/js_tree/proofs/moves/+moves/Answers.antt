@@ -1,7 +1,7 @@
 use Rattle.std.proofs.Common.{◌≡◌, ◌∙◌, ◌<◌, sym, ap, length, get_or, set, arith, take, suc, ◌+◌, ◌-◌}
 use Rattle.std.proofs.lemmas.List.{set-get_or}
 use Rattle.js_tree.specs.Forest.{forest_of, node_count}
-use Rattle.js_tree.specs.Result.{noted}
+use Rattle.js_tree.specs.OutputUnit.{noted}
 use Rattle.js_tree.proofs.Forests.{fewer_nodes, replaced_by_same, nodes_through, nodes_through_le, nodes_before_lt}
 use Rattle.js_tree.proofs.Siblings.{lifted, not_lifted}
 use Rattle.js_tree.proofs.Searching.{searched_child}

@@ -1,5 +1,5 @@
 use Rattle.std.proofs.Common.{◌≢◌, ◌-◌, arith}
-use Rattle.js_tree.specs.Result.{noted}
+use Rattle.js_tree.specs.OutputUnit.{noted}
 use Rattle.js_tree.proofs.MovesAreSteps.{moved_at_step}
 use Rattle.js_tree.proofs.Searching.{not_made}
 use Rattle.js_tree.proofs.moves.apply.Goals as goal

@@ -1,6 +1,6 @@
 use Rattle.std.proofs.Common.{◌≡◌, ◌∙◌, ◌<◌, sym, ap, inl, inr, length, arith, true, Some}
 use Rattle.js_tree.specs.Forest.{forest_of}
-use Rattle.js_tree.specs.Result.{noted}
+use Rattle.js_tree.specs.OutputUnit.{noted}
 use Rattle.js_tree.proofs.Siblings.{not_dropped, dropped}
 use Rattle.js_tree.proofs.moves.drop_leaf.Goals as goal
 use Rattle.js_tree.proofs.moves.drop_leaf.Goals.{then-is_noted-via-then-is_noted, then-is_noted-via-else-is_noted+then-not-is_empty}

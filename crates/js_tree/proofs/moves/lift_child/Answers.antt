@@ -1,5 +1,5 @@
 use Rattle.std.proofs.Common.{◌∙◌, ◌≢◌, sym, inl, inr, length, arith}
-use Rattle.js_tree.specs.Result.{noted}
+use Rattle.js_tree.specs.OutputUnit.{noted}
 use Rattle.js_tree.proofs.Siblings.{no_only_child}
 use Rattle.js_tree.proofs.moves.lift_child.Goals as goal
 use Rattle.js_tree.proofs.moves.lift_child.Goals.{then-is_noted-via-then-is_noted, then-is_noted-via-else-is_noted+then-len-ne1}

@@ -1,7 +1,8 @@
 use Rattle.std.proofs.Common.{◌≡◌, ◌∙◌, ◌<◌, ◌≤◌, sym, ap, Some, length, arith}
 use Rattle.std.proofs.lemmas.List.{take_all}
 use Rattle.std.proofs.lemmas.Result.{err_from_is_err_and}
-use Rattle.js_tree.specs.Result.{noted, replayed}
+use Rattle.js_tree.specs.OutputUnit.{noted}
+use Rattle.js_tree.specs.Result.{replayed}
 use Rattle.js_tree.specs.declared.moves.Rule.TheVariants.{Drop}
 use Rattle.js_tree.specs.declared.moves.Move.{Move}
 use Rattle.js_tree.proofs.MovesAreSteps.{replayed_normal, replayed_length, replayed_more}

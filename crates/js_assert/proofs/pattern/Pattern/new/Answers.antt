@@ -1,11 +1,20 @@
-use Rattle.std.proofs.Common.{◌≡◌, true, subst, refl}
-use Rattle.js_assert.specs.Pattern.{is_pattern}
-use Rattle.js_assert.proofs.Compiled.{refused_is, pattern_is, compiled_is}
+use Rattle.std.proofs.Common.{◌≡◌, true, false, refl}
+use Rattle.std.proofs.lemmas.Result.{IfOk-weaker}
+use Rattle.js_assert.specs.Pattern.{is_pattern, nests_too_deep}
+use Rattle.js_assert.proofs.Compiled.{refused_is, pattern_is, built_is, shallow_is}
 use Rattle.js_assert.proofs.pattern.Pattern.new.Goals as goal
 
 pub returns-in-Ok-clause-read : goal.returns-in-Ok-clause-read
 returns-in-Ok-clause-read c =
-    subst (λ s. is_pattern s ≡ true) c.in-Ok.ensures.source (compiled_is c.in-Ok.regex (record { config = c.in-Ok.ensures.config; read = c.in-Ok.ensures.read }))
+    let text = c.args.text.now in
+    let is = built_is text c.in-Ok.regex c.in-Ok.ensures.source (record { config = c.in-Ok.ensures.config; read = c.in-Ok.ensures.read }) in
+    IfOk-weaker c.boxed.result _ (λ _. is_pattern text ≡ true) (λ _ _. is) c.boxed.ensures.ok
+
+pub returns-in-Ok-clause-shallow : goal.returns-in-Ok-clause-shallow
+returns-in-Ok-clause-shallow c =
+    let text = c.args.text.now in
+    let is = built_is text c.in-Ok.regex c.in-Ok.ensures.source (record { config = c.in-Ok.ensures.config; read = c.in-Ok.ensures.read }) in
+    IfOk-weaker c.boxed.result _ (λ _. nests_too_deep text ≡ false) (λ _ _. shallow_is text is) c.boxed.ensures.ok
 
 pub returns-in-Err-Syntax-clause-refused : goal.returns-in-Err-Syntax-clause-refused
 returns-in-Err-Syntax-clause-refused c =

@@ -1,7 +1,6 @@
 use Rattle.std.proofs.Common.{◌≡◌, ◌++◌, map, drop}
-use Rattle.js_bundle.specs.Built.{numbered}
 use Rattle.js_bundle.specs.Resource.{sites}
-use Rattle.js_bundle.specs.Schemas.{resources_at, lent}
+use Rattle.js_bundle.specs.Schemas.{numbered, resources_at, lent}
 use Rattle.js_bundle.proofs.schemas.Schemas.resources.Given as goal
 
 abbrev pub invariant-loop-number : goal.invariant-loop-number

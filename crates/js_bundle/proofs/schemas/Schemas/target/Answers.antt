@@ -1,5 +1,5 @@
-use Rattle.std.proofs.Common.{Bool, map, find, nat_eq, option_map, ap, ◌∙◌}
-use Rattle.js_bundle.specs.declared.reference.Reference.{Reference}
+use Rattle.std.proofs.Common.{map, ap, ◌∙◌}
+use Rattle.js_bundle.specs.Finding.{under_number}
 use Rattle.js_bundle.specs.Seen.{document_of}
 use Rattle.js_bundle.proofs.BuiltThere.{target_is, target_missing}
 use Rattle.js_bundle.proofs.schemas.Schemas.target.Goals as goal
@@ -8,14 +8,12 @@ pub returns-in-Some : goal.returns-in-Some
 returns-in-Some c =
     let docs = map document_of c.self.inside.documents.items in
     let n = c.place.inside.number in
-    let test : Reference → Bool = λ r. nat_eq r.place n in
     target_is docs c.args.self.now c.self.inside.kept.references.plain.items n c.args.place c.in-Some.number c.self.view_is c.place.view_is c.self.invariant.plain
-    (c.in-Some.ensures ∙ ap (λ rs. option_map (λ r. r.target) (find test rs)) c.as_slice.ensures.value)
+    (c.in-Some.ensures ∙ ap (λ items. under_number items n) c.as_slice.ensures.value)
 
 pub returns-in-None : goal.returns-in-None
 returns-in-None c =
     let docs = map document_of c.self.inside.documents.items in
     let n = c.place.inside.number in
-    let test : Reference → Bool = λ r. nat_eq r.place n in
     absurd (target_missing docs c.args.self.now c.self.inside.kept.references.plain.items n c.args.place c.self.view_is c.place.view_is c.self.invariant.clear c.self.invariant.plain c.requires
-    (c.in-None.ensures ∙ ap (λ rs. option_map (λ r. r.target) (find test rs)) c.as_slice.ensures.value))
+    (c.in-None.ensures ∙ ap (λ items. under_number items n) c.as_slice.ensures.value))

@@ -10,7 +10,7 @@ moves_front all sent rest n e =
 
 pub loop-rest-preserved : goal.loop-rest-preserved
 loop-rest-preserved g c =
-    let (stands, few, grows, (sent, split, appended)) = c.loop-rest.invariant in
+    let (stands, few, grows, counted, (sent, split, appended)) = c.loop-rest.invariant in
     let rest = c.loop-rest.rest.now in
-    let n = c.in-Ok.count in
-    (stands, search rules, search rules, (sent ++ take n rest, moves_front _ sent rest n split, Appends-trans _ _ _ _ _ appended c.in-Ok.ensures.bytes))
+    let n = c.in_ok-count.count in
+    (search rules, search rules, search rules, search rules, (sent ++ take n rest, moves_front _ sent rest n split, Appends-trans _ _ _ _ _ appended c.in_ok-count.ensures.bytes))

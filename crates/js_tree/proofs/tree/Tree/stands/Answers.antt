@@ -1,5 +1,5 @@
 use Rattle.std.proofs.Common.{◌≡◌, ◌∙◌, sym, ap, false}
-use Rattle.js_tree.specs.Result.{noted}
+use Rattle.js_tree.specs.OutputUnit.{noted}
 use Rattle.js_tree.specs.Forest.{tree_count}
 use Rattle.js_tree.proofs.Forests.{tree_count-forest_of}
 use Rattle.js_tree.proofs.Steps.{leb-at_least_two}

@@ -1,9 +1,0 @@
-use Rattle.std.proofs.Common.{sym, ◌∙◌}
-use Rattle.js_assert.proofs.Sorted.{absent_more}
-use Rattle.js_assert.proofs.objects.put_absent.Goals as goal
-
-pub loop-name-preserved : goal.loop-name-preserved
-loop-name-preserved c =
-    absent_more c.args.members.now c.args.names.now c.loop-name.name-index c.name-item.result c.loop-name.absent.keys c.insert.new.self.keys c.into_string.result c.loop-name-test.true c.name-item.is
-    (sym c.is_member.ensures ∙ c.if-is_member.false) (c.into_string.ensures ∙ c.in_ok-copy.ensures) c.in_ok-insert.ensures.keys
-    ∙ c.loop-name.invariant

@@ -1,0 +1,7 @@
+use Rattle.std.proofs.Common.{◌≡◌, ◌++◌, map, drop}
+use Rattle.js_bundle.specs.Location.{location}
+use Rattle.js_bundle.specs.Scan.{site_of}
+use Rattle.js_bundle.proofs.location.locations_of.Given as goal
+
+abbrev pub invariant-loop-site : goal.invariant-loop-site
+invariant-loop-site l = l.locations.items ++ map location (map site_of (drop l.site-index l.sites)) ≡ map location (map site_of l.sites)

@@ -1,0 +1,70 @@
+//! From `serde_json`'s value to ours, whose texts move: one tree goes as the other comes.
+ghost use Rattle.std.specs.Prelude.{◌≡◌, Ok, IfOk, IfErr};
+ghost use Rattle.serde_json.specs.View.{view, items_view, members_view};
+ghost use Rattle.js_doc.specs.Value.{members};
+ghost use Rattle.js_doc.specs.Seen.{value_of, items_seen};
+ghost use Rattle.js_doc.specs.WholeNumbers.{value_in, items_in, members_in};
+ghost use Rattle.js_doc.specs.Reading.{IsConversionFault};
+
+use crate::doc::Doc;
+use crate::items::Items;
+use crate::members::Members;
+use crate::reading::{ReadFault, convert_number, index_token};
+use crate::string::Text;
+use serde_json::{Map, Value};
+use std::alloc::Global;
+
+#[cycle(moved)]
+pub(crate) fn moved(alloc: Global, value: Value) -> Result<Doc, ReadFault>
+    ensures ok { IfOk result (λ d. value_in (view value) ≡ Ok (value_of d)) }
+    ensures err { IfErr result (λ e. IsConversionFault (value_in (view value)) e) }
+{
+    match value {
+        Value::Null => Ok(Doc::Null),
+        Value::Bool(b) => Ok(Doc::Truth(b)),
+        Value::Number(number) => convert_number(alloc, &number),
+        Value::String(text) => Ok(Doc::Text(Text::new(text))),
+        Value::Array(values) => {
+            let docs = moved_items(alloc, values)?;
+            Ok(Doc::List(Items::new(docs)))
+        }
+        Value::Object(map) => {
+            let members = moved_members(alloc, map)?;
+            Ok(Doc::Members(members))
+        }
+    }
+}
+
+#[cycle(moved)]
+fn moved_items(alloc: Global, values: Vec<Value>) -> Result<Vec<Doc>, ReadFault>
+    ensures ok { IfOk result
+        (λ v. items_in 0 (items_view values.items) ≡ Ok (items_seen v.items)) }
+    ensures err { IfErr result (λ e. IsConversionFault (items_in 0 (items_view values.items)) e) }
+{
+    let mut docs = Vec::with_capacity(alloc, values.len())?;
+    for value in values {
+        match moved(alloc, value) {
+            Ok(doc) => docs.push(doc)?,
+            Err(fault) => {
+                let token = index_token(alloc, docs.len())?;
+                return Err(fault.lifted(token));
+            }
+        }
+    }
+    Ok(docs)
+}
+
+#[cycle(moved)]
+fn moved_members(alloc: Global, map: Map<String, Value>) -> Result<Members, ReadFault>
+    ensures ok { IfOk result (λ m. members_in (members_view map.entries) ≡ Ok (members m)) }
+    ensures err { IfErr result (λ e. IsConversionFault (members_in (members_view map.entries)) e) }
+{
+    let mut members = Members::new(alloc);
+    for (name, value) in map {
+        match moved(alloc, value) {
+            Ok(doc) => members.put(name, doc)?,
+            Err(fault) => return Err(fault.lifted(Text::new(name))),
+        }
+    }
+    Ok(members)
+}

@@ -1,0 +1,12 @@
+pub mod Mapped
+pub mod Splits
+pub mod Sources
+pub mod Telling
+pub mod Each
+pub mod KeywordTelling
+pub mod Order
+pub mod NodeTelling
+pub mod Before
+pub mod Counted
+pub mod Stepping
+pub mod Ends

@@ -1,0 +1,19 @@
+-- What a keyword says at a place, by its kind.
+use Rattle.std.specs.Prelude.{◌≡◌, ℕ, Bool, List}
+use Rattle.std.proofs.Common.{sym, ◌∙◌, ap}
+use Rattle.js_doc.specs.Value.{Value}
+use Rattle.js_assert.specs.Argument.{entries}
+use Rattle.js_tree.specs.Note.{Note}
+use Rattle.js_eval.specs.Keywords.{Keyword}
+use Rattle.js_eval.specs.Kind.{kind}
+use Rattle.js_eval.specs.Schemas.{Text, Schemas}
+use Rattle.js_eval.specs.Walk.Said.{keyword_says}
+use Rattle.js_eval.specs.Walk.Told.{says_at}
+use Rattle.js_eval.specs.declared.kind.Kind.{Kind}
+
+pub says_there : {P : Type 0} (S : Schemas P) (place : P) (v : Value) (matching : ℕ) (k : Keyword) (held : ℕ) (given : List Text) (at : List ℕ) (b passes : Bool) (κ : Kind) (n : Note)
+    → κ ≡ kind k.0 → passes ≡ b → n ≡ keyword_says (entries (S.schema place)) v matching k held given at b κ → n ≡ says_at S place v matching k held given at passes
+unfolding says_at
+says_there S place v matching k held given at b passes κ n e f h =
+    h ∙ (ap (λ c. keyword_says (entries (S.schema place)) v matching k held given at b c) e
+    ∙ sym (ap (λ c. keyword_says (entries (S.schema place)) v matching k held given at c (kind k.0)) f))

@@ -1,0 +1,206 @@
+use Rattle.std.proofs.Common.{◌≡◌, ◌-◌, ◌≤◌, ◌∷◌, ◌++◌, [], ◌∙◌, ap, subst, refl, rules, arith, map, drop, length}
+use Rattle.std.proofs.lemmas.Result.{err_from_is_err_and}
+use Rattle.std.specs.Prelude.{MatchOption}
+use Rattle.std.proofs.lemmas.List.{length-append, length-map, map-append}
+use Rattle.std.proofs.lemmas.List.Folds.{list_all-append}
+use Rattle.std.specs.List.{list_all}
+use Rattle.std.specs.Prelude.{true}
+use Rattle.js_eval.proofs.Lists.{and_true}
+use Rattle.js_eval.specs.Walk.Steps.{NodeDone}
+use Rattle.js_eval.proofs.Recursion.Before.{is_keyword_at}
+use Rattle.js_eval.proofs.Recursion.Counted.{counts_later}
+use Rattle.js_eval.specs.Walk.Told.{SomeHasNone, KeywordHasNone, HasNone}
+use Rattle.js_eval.proofs.Recursion.Each.{each_start}
+use Rattle.js_eval.proofs.Recursion.Stepping.{each_step, step_back, at_most_one, on_too_large, keyword_step, asked_same, node_start, node_more, loop_as, node_failed, node_end}
+use Rattle.js_eval.proofs.Recursion.Splits.{split_at_name, split_at_step}
+use Rattle.js_eval.proofs.Recursion.NodeTelling.{none_at_zero, none_left, one_less}
+use Rattle.js_eval.proofs.Recursion.KeywordTelling.{keyword_none}
+use Rattle.js_eval.specs.Walk.Told.{asked_by}
+use Rattle.js_eval.proofs.walking.recursion.+walk.Goals as goal
+
+pub applications-each-init : goal.applications-each-init
+applications-each-init g t c =
+    record {
+      so = each_start (g.W.World.schemas c.args.world.now) c.args.depth (map (g.W.World.site c.args.world.now) c.args.way.now.path.items) c.args.kind g.R.Reporter.takes (g.W.World.asked c.args.world.now c.args.asking.now)
+          (map g.W.World.text_of c.args.way.now.names.items) c.args.way.now.indexes.items c.args.way.now.left c.args.way.now.keyword c.args.way.now.instance c.args.into.now;
+      back = record { path = refl; keyword = refl; instance = refl };
+      few = omega arith;
+      held = omega arith;
+    }
+
+pub applications-come_back-requires-clause-keyword : goal.applications-come_back-requires-clause-keyword
+applications-come_back-requires-clause-keyword g t c =
+    split_at_step c.each.way.keyword c.node.new.way.keyword (g.W.World.application_of c.args.world.now c.in-Some.application).step c.mark-here.result.keyword c.mark-here.ensures.keyword (c.in_ok-holds.ensures.back.keyword ∙ c.in_ok-go_down.ensures.keyword)
+
+pub applications-come_back-requires-clause-instance : goal.applications-come_back-requires-clause-instance
+applications-come_back-requires-clause-instance g t c =
+    split_at_step c.each.way.instance c.node.new.way.instance (g.W.World.application_of c.args.world.now c.in-Some.application).at c.mark-here.result.instance c.mark-here.ensures.instance (c.in_ok-holds.ensures.back.instance ∙ c.in_ok-go_down.ensures.instance)
+
+pub applications-after-tally-requires-clause-few : goal.applications-after-tally-requires-clause-few
+applications-after-tally-requires-clause-few g t c =
+    let f = c.in_ok-holds.ensures.falls in let l = c.in_ok-go_down.ensures.left in let i = c.each.invariant.few in omega (arith, f, l, i)
+
+pub applications-each-preserved : goal.applications-each-preserved
+applications-each-preserved g t c =
+    let S = g.W.World.schemas c.args.world.now in
+    let path = map (g.W.World.site c.args.world.now) c.args.way.now.path.items in
+    let a = g.W.World.application_of c.args.world.now c.in-Some.application in
+    let rest = g.W.World.asked c.args.world.now c.next.new.asking in
+    let x : g.W.World.asked c.args.world.now c.each.asking ≡ a ∷ rest =
+    subst (λ o. MatchOption o (g.W.World.asked c.args.world.now c.each.asking ≡ []) (λ b. g.W.World.asked c.args.world.now c.each.asking ≡ g.W.World.application_of c.args.world.now b ∷ rest)) c.in-Some.is c.in_ok-application.ensures.next in
+    let so = rw x at c.each.invariant.so in
+    let down = c.in_ok-go_down.ensures in
+    let done = c.in_ok-holds.ensures in
+    let back = c.in_ok-come_back.ensures in
+    let same : c.go_down.new.way.path.items ≡ c.args.way.now.path.items = down.path ∙ c.each.invariant.back.path in
+    record {
+      so = rw (c.after-tally.ensures.asked, c.after-tally.ensures.held) (each_step S g.W.World.text_of g.R.Reporter.takes c.args.depth path c.args.kind (g.W.World.asked c.args.world.now c.args.asking.now) rest a (map g.W.World.text_of c.args.way.now.names.items) c.args.way.now.indexes.items c.args.way.now.left c.args.way.now.keyword c.args.way.now.instance
+          c.each.tally c.each.way c.go_down.new.way c.node.new.way c.come_back.new.way c.mark-here.result (g.W.World.site c.args.world.now c.place.result) (map (g.W.World.site c.args.world.now) c.go_down.new.way.path.items) (g.W.World.value_of c.value.result) c.in_ok-holds.holds c.args.into.now c.each.into c.node.new.into
+          so c.each.invariant.back.keyword c.each.invariant.back.instance c.mark-here.ensures down (ap (map (g.W.World.site c.args.world.now)) same) c.place.ensures.site c.value.ensures done back);
+      back = record {
+        path = back.path ∙ (done.back.path ∙ same);
+        keyword = back.keyword ∙ (step_back c.each.way.keyword c.node.new.way.keyword a.step c.mark-here.result.keyword c.mark-here.ensures.keyword (done.back.keyword ∙ down.keyword) ∙ c.each.invariant.back.keyword);
+        instance = back.instance ∙ (step_back c.each.way.instance c.node.new.way.instance a.at c.mark-here.result.instance c.mark-here.ensures.instance (done.back.instance ∙ down.instance) ∙ c.each.invariant.back.instance);
+      };
+      few = let e = c.after-tally.ensures.asked in let f = done.falls in let l = down.left in let m = back.left in let i = c.each.invariant.few in omega (arith, e, f, l, m, i);
+      held = let e = c.after-tally.ensures.asked in let f = c.after-tally.ensures.held in let i = c.each.invariant.held in omega (arith, e, f, i, at_most_one c.in_ok-holds.holds);
+    }
+
+pub keyword_node-returns-in_err-tally : goal.keyword_node-returns-in_err-tally
+keyword_node-returns-in_err-tally g t c =
+    let S = g.W.World.schemas c.args.world.now in
+    let path = map (g.W.World.site c.args.world.now) c.args.way.now.path.items in
+    let place = g.W.World.site c.args.world.now c.args.place in
+    let v = g.W.World.value_of c.args.value in
+    let k = g.W.World.keyword_of c.args.keyword in
+    let apps = asked_by S c.args.depth path place v k c.args.known.condition (map g.W.World.text_of (drop c.args.start.names c.args.way.now.names.items)) (drop c.args.start.indexes c.args.way.now.indexes.items) in
+    let p = err_from_is_err_and c.from_residual-in_err-tally.result c.from_residual-in_err-tally.ensures.1 in
+    let q : g.W.World.asked c.args.world.now c.in_ok-asking.asking ≡ apps = c.in_ok-asking.ensures ∙ asked_same S c.args.depth path place v k c.args.known.condition (map g.W.World.text_of (drop c.args.start.names c.args.way.now.names.items)) (drop c.args.start.indexes c.args.way.now.indexes.items) in
+    let same : map (g.W.World.site c.args.world.now) c.open_keyword.new.way.path.items ≡ path = ap (map (g.W.World.site c.args.world.now)) c.in_ok-open_keyword.ensures.path in
+    rw (p.1, p.2) (on_too_large (SomeHasNone S c.args.depth (map (g.W.World.site c.args.world.now) c.open_keyword.new.way.path.items) (g.W.World.asked c.args.world.now c.in_ok-asking.asking) c.open_keyword.new.way.left) (KeywordHasNone S c.args.depth path place v k apps c.args.way.now.left) c.in_err-tally.field-0.0
+    (λ none. keyword_none S c.args.depth path place v k c.args.known.matching apps c.args.way.now.left c.open_keyword.new.way.left c.in_ok-open_keyword.ensures.left (rw (same, q) at none)) c.in_err-tally.ensures)
+
+pub keyword_node-close_keyword-requires-clause-names : goal.keyword_node-close_keyword-requires-clause-names
+keyword_node-close_keyword-requires-clause-names g t c =
+    let w = c.in_ok-tally.ensures.walked.of_names in
+    let o = ap length c.in_ok-open_keyword.ensures.names in
+    let l = ap length w ∙ length-append (map g.W.World.text_of c.open_keyword.new.way.names.items) _ in
+    let e1 = length-map c.applications.new.way.names.items g.W.World.text_of in
+    let e2 = length-map c.open_keyword.new.way.names.items g.W.World.text_of in
+    let m = c.mark-here.ensures.names in
+    omega (arith, l, e1, e2, o, m)
+
+pub keyword_node-close_keyword-requires-clause-trail : goal.keyword_node-close_keyword-requires-clause-trail
+keyword_node-close_keyword-requires-clause-trail g t c =
+    split_at_name c.args.way.now.keyword c.applications.new.way.keyword (g.W.World.keyword_of c.args.keyword) c.mark-here.result.keyword c.mark-here.ensures.keyword (c.in_ok-tally.ensures.back.keyword ∙ c.in_ok-open_keyword.ensures.keyword)
+
+pub keyword_node-returns : goal.keyword_node-returns
+keyword_node-returns g t c =
+    let S = g.W.World.schemas c.args.world.now in
+    let path = map (g.W.World.site c.args.world.now) c.args.way.now.path.items in
+    let place = g.W.World.site c.args.world.now c.args.place in
+    let v = g.W.World.value_of c.args.value in
+    let k = g.W.World.keyword_of c.args.keyword in
+    let apps = asked_by S c.args.depth path place v k c.args.known.condition (map g.W.World.text_of (drop c.args.start.names c.args.way.now.names.items)) (drop c.args.start.indexes c.args.way.now.indexes.items) in
+    let q : g.W.World.asked c.args.world.now c.in_ok-asking.asking ≡ apps = c.in_ok-asking.ensures ∙ asked_same S c.args.depth path place v k c.args.known.condition (map g.W.World.text_of (drop c.args.start.names c.args.way.now.names.items)) (drop c.args.start.indexes c.args.way.now.indexes.items) in
+    keyword_step S g.W.World.text_of g.R.Reporter.takes c.args.depth path place v k c.args.known.matching apps
+    c.args.way.now c.open_keyword.new.way c.applications.new.way c.close_keyword.new.way c.mark-here.result c.in_ok-tally.tally c.in_ok-passes.passes
+    (map (g.W.World.site c.args.world.now) c.open_keyword.new.way.path.items) c.kind.result (g.W.World.asked c.args.world.now c.in_ok-asking.asking)
+    c.args.into.now c.open_keyword.new.into c.applications.new.into c.close_keyword.new.into
+    c.mark-here.ensures c.in_ok-open_keyword.ensures (ap (map (g.W.World.site c.args.world.now)) c.in_ok-open_keyword.ensures.path) c.kind.ensures q c.in_ok-tally.ensures c.in_ok-passes.ensures
+
+pub node-returns-then-depth-eq0 : goal.node-returns-then-depth-eq0
+node-returns-then-depth-eq0 g t c =
+    none_at_zero (g.W.World.schemas c.args.world.now) 0 (map (g.W.World.site c.args.world.now) c.args.way.now.path.items) (g.W.World.site c.args.world.now c.args.place) (g.W.World.value_of c.args.value) c.args.depth c.args.way.now.left c.if-depth-eq0.true
+
+pub node-returns-then-way-eq0 : goal.node-returns-then-way-eq0
+node-returns-then-way-eq0 g t c =
+    none_left (g.W.World.schemas c.args.world.now) 0 (map (g.W.World.site c.args.world.now) c.args.way.now.path.items) (g.W.World.site c.args.world.now c.args.place) (g.W.World.value_of c.args.value) c.args.depth c.args.way.now.left c.if-depth-eq0.false c.if-way-eq0.true
+
+pub node-keywords-init : goal.node-keywords-init
+node-keywords-init g t c =
+    record {
+      loop = node_start (g.W.World.schemas c.args.world.now) g.W.World.text_of g.R.Reporter.takes (c.args.depth - 1) (map (g.W.World.site c.args.world.now) c.args.way.now.path.items) (g.W.World.site c.args.world.now c.args.place) (g.W.World.value_of c.args.value)
+          c.args.way.now c.open_schema.new.way c.args.place c.args.into.now c.open_schema.new.into c.accepts.result (g.W.World.listed c.keywords-keywords.result) c.in_ok-open_schema.ensures c.accepts.ensures c.keywords-keywords.ensures.listed;
+      path = c.in_ok-open_schema.ensures.path;
+      keyword = c.in_ok-open_schema.ensures.keyword;
+      instance = c.in_ok-open_schema.ensures.instance;
+      falls = let l = c.in_ok-open_schema.ensures.left in omega (arith, l);
+    }
+
+pub node-keyword_node-requires : goal.node-keyword_node-requires
+node-keyword_node-requires g t c κs within =
+    let site = g.W.World.site c.args.world.now in
+    let places : list_all (g.W.World.is_place c.args.world.now) c.keywords.way.path.items ≡ true =
+    ap (list_all (g.W.World.is_place c.args.world.now)) c.keywords.invariant.path ∙ (list_all-append (g.W.World.is_place c.args.world.now) c.args.way.now.path.items (c.args.place ∷ []) ∙ and_true c.requires.path (and_true c.requires.place refl)) in
+    let so = c.keywords.invariant.loop.so in
+    let l = ap length so.of_names ∙ length-append (map g.W.World.text_of c.args.way.now.names.items) _ in
+    let e1 = length-map c.keywords.way.names.items g.W.World.text_of in
+    let e2 = length-map c.args.way.now.names.items g.W.World.text_of in
+    let i = ap length so.of_indexes ∙ length-append c.args.way.now.indexes.items _ in
+    let m = c.mark-start.ensures.names in
+    let n = c.mark-start.ensures.indexes in
+    let names : c.mark-start.result.names ≤ length c.keywords.way.names.items = omega (arith, l, e1, e2, m) in
+    let indexes : c.mark-start.result.indexes ≤ length c.keywords.way.indexes.items = omega (arith, i, n) in
+    let k = g.W.World.keyword_of c.in-Some.keyword in
+    let x : g.W.World.listed c.keywords.keywords ≡ k ∷ g.W.World.listed c.next_keyword.new.keywords = c.in-Some.ensures in
+    let loop = rw x at c.keywords.invariant.loop in
+    let there = is_keyword_at (g.W.World.schemas c.args.world.now) (site c.args.place) c.keywords-keywords.ensures.ascending loop.done (g.W.World.listed c.next_keyword.new.keywords) k loop.so.split in
+    search (rules, places, names, indexes, there)
+
+pub node-returns-in_err-judged : goal.node-returns-in_err-judged
+node-returns-in_err-judged g t c =
+    let S = g.W.World.schemas c.args.world.now in
+    let site = g.W.World.site c.args.world.now in
+    let path = map site c.args.way.now.path.items in
+    let place = site c.args.place in
+    let v = g.W.World.value_of c.args.value in
+    let k = g.W.World.keyword_of c.in-Some.keyword in
+    let rest = g.W.World.listed c.next_keyword.new.keywords in
+    let x : g.W.World.listed c.keywords.keywords ≡ k ∷ rest = c.in-Some.ensures in
+    let loop = rw x at c.keywords.invariant.loop in
+    let same : map site c.keywords.way.path.items ≡ path ++ place ∷ [] = ap (map site) c.keywords.invariant.path ∙ map-append site c.args.way.now.path.items (c.args.place ∷ []) in
+    let apps = asked_by S (c.args.depth - 1) (map site c.keywords.way.path.items) place v k c.keywords.known.condition (map g.W.World.text_of (drop c.mark-start.result.names c.keywords.way.names.items)) (drop c.mark-start.result.indexes c.keywords.way.indexes.items) in
+    let p = err_from_is_err_and c.from_residual-in_err-judged.result c.from_residual-in_err-judged.ensures.1 in
+    rw (p.1, p.2) (on_too_large (KeywordHasNone S (c.args.depth - 1) (map site c.keywords.way.path.items) place v k apps c.keywords.way.left) (HasNone S c.args.depth path place v c.args.way.now.left) c.in_err-judged.field-0.0
+    (λ none. subst (λ d. HasNone S d path place v c.args.way.now.left) (one_less c.args.depth c.if-depth-eq0.false)
+    (node_failed S g.W.World.text_of g.R.Reporter.takes (c.args.depth - 1) path place v counts_later c.keywords-keywords.ensures.ascending k rest c.keywords.known.valid c.keywords.known.condition c.keywords.known.matching
+    c.args.way.now c.keywords.way c.mark-start.result (map site c.keywords.way.path.items) c.args.into.now c.keywords.into c.mark-start.ensures same loop none)) c.in_err-judged.ensures)
+
+pub node-keywords-preserved : goal.node-keywords-preserved
+node-keywords-preserved g t c =
+    let S = g.W.World.schemas c.args.world.now in
+    let site = g.W.World.site c.args.world.now in
+    let path = map site c.args.way.now.path.items in
+    let place = site c.args.place in
+    let v = g.W.World.value_of c.args.value in
+    let k = g.W.World.keyword_of c.in-Some.keyword in
+    let rest = g.W.World.listed c.next_keyword.new.keywords in
+    let x : g.W.World.listed c.keywords.keywords ≡ k ∷ rest = c.in-Some.ensures in
+    let loop = rw x at c.keywords.invariant.loop in
+    let same : map site c.keywords.way.path.items ≡ path ++ place ∷ [] = ap (map site) c.keywords.invariant.path ∙ map-append site c.args.way.now.path.items (c.args.place ∷ []) in
+    let done = c.in_ok-judged.ensures in
+    record {
+      loop = loop_as S g.W.World.text_of g.R.Reporter.takes (c.args.depth - 1) path place v k rest c.keywords.known.valid c.in_ok-judged.judged.passes c.after-known.result.valid c.keywords.known.condition c.after-known.result.condition c.keywords.known.matching c.after-known.result.matching
+          c.in_ok-judged.judged.held c.kind.result (map g.W.World.text_of c.args.way.now.names.items) (map g.W.World.text_of c.keyword_node.new.way.names.items) c.args.way.now.indexes.items c.keyword_node.new.way.indexes.items c.args.way.now.left c.keyword_node.new.way.left c.args.way.now.keyword c.args.way.now.instance c.args.into.now c.keyword_node.new.into
+          c.after-known.ensures.valid c.after-known.ensures.condition c.after-known.ensures.matching c.kind.ensures (node_more S g.W.World.text_of g.R.Reporter.takes (c.args.depth - 1) path place v counts_later c.keywords-keywords.ensures.ascending k rest
+          c.keywords.known.valid c.keywords.known.condition c.keywords.known.matching c.args.way.now c.keywords.way c.keyword_node.new.way c.mark-start.result c.in_ok-judged.judged (map site c.keywords.way.path.items) c.args.into.now c.keywords.into c.keyword_node.new.into
+          c.mark-start.ensures same c.keywords.invariant.keyword c.keywords.invariant.instance loop done);
+      path = done.back.path ∙ c.keywords.invariant.path;
+      keyword = done.back.keyword ∙ c.keywords.invariant.keyword;
+      instance = done.back.instance ∙ c.keywords.invariant.instance;
+      falls = let f = done.falls in let i = c.keywords.invariant.falls in omega (arith, f, i);
+    }
+
+pub node-returns : goal.node-returns
+node-returns g t c =
+    let S = g.W.World.schemas c.args.world.now in
+    let site = g.W.World.site c.args.world.now in
+    let path = map site c.args.way.now.path.items in
+    let place = site c.args.place in
+    let v = g.W.World.value_of c.args.value in
+    let x : g.W.World.listed c.keywords.keywords ≡ [] = c.in_default.ensures in
+    let loop = rw x at c.keywords.invariant.loop in
+    subst (λ d. NodeDone S g.W.World.text_of g.R.Reporter.takes d path place v c.keywords.known.valid c.args.way.now c.close_schema.new.way c.args.into.now c.close_schema.new.into) (one_less c.args.depth c.if-depth-eq0.false)
+    (node_end S g.W.World.text_of g.R.Reporter.takes (c.args.depth - 1) path place v c.keywords.known.valid c.keywords.known.condition c.keywords.known.matching c.args.way.now c.keywords.way c.close_schema.new.way c.mark-start.result c.args.way.now.path.items c.args.place
+    c.args.into.now c.keywords.into c.close_schema.new.into c.mark-start.ensures c.keywords.invariant.path c.keywords.invariant.keyword c.keywords.invariant.instance c.keywords.invariant.falls loop c.in_ok-close_schema.ensures)

@@ -1,0 +1,55 @@
+-- What the walk's applications are seen as: places told by their numbers stand for what they are the places of.
+use Rattle.std.specs.Prelude.{◌≡◌, ℕ, true}
+use Rattle.js_doc.specs.Value.{Value, text}
+use Rattle.js_bundle.specs.Document.{Documents}
+use Rattle.js_bundle.specs.Resource.{Site}
+use Rattle.js_bundle.specs.Schemas.{is_place}
+use Rattle.js_eval.specs.Applications.{Application}
+use Rattle.js_eval.specs.Bundle.{schemas_of}
+use Rattle.js_eval.specs.Schemas.{Step, Alone, Index, Name}
+use Rattle.js_eval.specs.Seen.{step_of, instance_of}
+use Rattle.js_eval.specs.Sited.{site_at}
+use Rattle.js_eval.specs.declared.parts.Applied.{Applied}
+use Rattle.js_eval.specs.declared.applied.Held.{Held}
+use Rattle.js_eval.specs.declared.applied.Held.TheVariants.{One, Each}
+use Rattle.js_eval.specs.declared.applied.To.{To}
+use Rattle.js_eval.specs.declared.applied.To.TheVariants as to
+
+abbrev pub applied_of : Documents → Applied → Application Site
+applied_of documents a = record { place = site_at documents a.place; step = step_of a.step; at = step_of a.at; value = instance_of a.value }
+
+-- ---- the schema for the part of a value to which a step leads
+
+-- the place that is kept of it
+abbrev pub number_in : Held → ℕ
+number_in (One place) = place
+number_in (Each place keyword) = place
+
+abbrev pub IsHeld : Documents → Held → Type 0
+IsHeld documents held = is_place documents (number_in held) ≡ true
+
+abbrev pub site_in : Documents → Held → Step → Site
+site_in documents (One place) step = site_at documents place
+site_in documents (Each place keyword) step = (schemas_of documents).below (site_at documents place) keyword.now step
+
+abbrev pub step_in : Held → Step → Step
+step_in (One place) step = Alone
+step_in (Each place keyword) step = step
+
+-- ---- what it is applied to
+
+abbrev pub at_in : To → Step → Step
+at_in to.Part step = step
+at_in to.Name step = step
+at_in (to.Whole value) step = Alone
+
+abbrev pub value_in : To → Step → Value → Value
+value_in to.Part step part = part
+value_in to.Name (Name name) part = text name
+value_in to.Name Alone part = part
+value_in to.Name (Index i) part = part
+value_in (to.Whole value) step part = instance_of value
+
+abbrev pub applied : Documents → Held → To → Step → Value → Application Site
+applied documents held on step part =
+    record { place = site_in documents held step; step = step_in held step; at = at_in on step; value = value_in on step part }

@@ -1,0 +1,5 @@
+pub mod Keeping
+pub mod Said
+pub mod Told
+pub mod Steps
+pub mod Leads

@@ -1,0 +1,98 @@
+-- What the steps of a walk do to its way and to what takes its events.
+use Rattle.std.specs.Prelude.{◌≡◌, ℕ, ◌+◌, ◌<◌, ◌≤◌, Bool, cond, List, [], ◌∷◌, ◌++◌, Some, None, map, take, drop, length}
+use Rattle.js_doc.specs.Value.{Value}
+use Rattle.js_eval.specs.Applications.{Application}
+use Rattle.js_eval.specs.Evaluated.{name_in, index_in}
+use Rattle.js_eval.specs.Keywords.{Keyword}
+use Rattle.js_eval.specs.Location.{Location}
+use Rattle.js_eval.specs.Passes.{how_many}
+use Rattle.js_eval.specs.Schemas.{Text, Schemas}
+use Rattle.js_eval.specs.declared.kind.Kind.{Kind}
+use Rattle.js_tree.specs.Events.{Event, opening, closing}
+use Rattle.js_eval.specs.Walk.Keeping.{kept, names_source, indexes_source}
+use Rattle.js_eval.specs.Walk.Told.{IsAt, IsBack, NodeWalked, NodeTold, KeywordWalked, KeywordTold, EachWalked, EachTold, passes_at, says_at, schema_says, at_name, at_step}
+use Rattle.js_eval.specs.declared.walking.way.Mark.{Mark}
+use Rattle.js_eval.specs.declared.walking.tally.Tally.{Tally}
+use Rattle.js_eval.specs.declared.walking.tally.Judged.{Judged}
+use Rattle.js_eval.specs.declared.walking.way.Way.{Way}
+
+-- how long the lists and the trails of a way are
+pub record MarkOf {M : Type 0} (w : Way M) (mark : Mark) : Type 0 where
+  pub names : mark.names ≡ length w.names.items
+  pub indexes : mark.indexes ≡ length w.indexes.items
+  pub keyword : mark.keyword ≡ length w.keyword
+  pub instance : mark.instance ≡ length w.instance
+
+pub record WentDown {M P : Type 0} (a : Application P) (w w' : Way M) : Type 0 where
+  pub path : w'.path.items ≡ w.path.items
+  pub keyword : w'.keyword ≡ at_step w.keyword a.step
+  pub instance : w'.instance ≡ at_step w.instance a.at
+  pub names : w'.names.items ≡ w.names.items
+  pub indexes : w'.indexes.items ≡ w.indexes.items
+  pub left : w'.left ≡ w.left
+
+pub record CameBack {M P : Type 0} (text_of : M → Text) (κ : Kind) (a : Application P) (here : Mark) (holds : Bool) (w w' : Way M) : Type 0 where
+  pub path : w'.path.items ≡ w.path.items
+  pub keyword : w'.keyword ≡ take here.keyword w.keyword
+  pub instance : w'.instance ≡ take here.instance w.instance
+  pub names : map text_of w'.names.items ≡ take here.names (map text_of w.names.items) ++ kept (names_source κ) holds (name_in a.at) (drop here.names (map text_of w.names.items))
+  pub indexes : w'.indexes.items ≡ take here.indexes w.indexes.items ++ kept (indexes_source κ) holds (index_in a.at) (drop here.indexes w.indexes.items)
+  pub left : w'.left ≡ w.left
+
+module _ {M C P : Type 0} (S : Schemas P) (text_of : M → Text) (takes : C → Event → C → Type 0) where
+  pub record SchemaOpened (site : P) (place : ℕ) (w w' : Way M) (c d : C) : Type 0 where
+    pub path : w'.path.items ≡ w.path.items ++ place ∷ []
+    pub keyword : w'.keyword ≡ w.keyword
+    pub instance : w'.instance ≡ w.instance
+    pub names : w'.names.items ≡ w.names.items
+    pub indexes : w'.indexes.items ≡ w.indexes.items
+    pub left : w'.left + 1 ≡ w.left
+    pub told : takes c (opening w.keyword (S.absolute site None) w.instance) d
+
+  pub record SchemaClosed (site : P) (start : Mark) (valid : Bool) (w w' : Way M) (c d : C) : Type 0 where
+    pub path : (base : List ℕ) (place : ℕ) → w.path.items ≡ base ++ place ∷ [] → w'.path.items ≡ base
+    pub keyword : w'.keyword ≡ w.keyword
+    pub instance : w'.instance ≡ w.instance
+    pub names : w'.names.items ≡ cond valid w.names.items (take start.names w.names.items)
+    pub indexes : w'.indexes.items ≡ cond valid w.indexes.items (take start.indexes w.indexes.items)
+    pub left : w'.left ≡ w.left
+    pub told : takes c (closing valid (schema_says S site)) d
+
+  pub record KeywordOpened (site : P) (k : Keyword) (w w' : Way M) (c d : C) : Type 0 where
+    pub path : w'.path.items ≡ w.path.items
+    pub keyword : w'.keyword ≡ at_name w.keyword k
+    pub instance : w'.instance ≡ w.instance
+    pub names : w'.names.items ≡ w.names.items
+    pub indexes : w'.indexes.items ≡ w.indexes.items
+    pub left : w'.left + 1 ≡ w.left
+    pub told : takes c (opening (at_name w.keyword k) (S.absolute site (Some k.0)) w.instance) d
+
+  pub record KeywordClosed (site : P) (v : Value) (k : Keyword) (matching : ℕ) (tally : Tally) (here : Mark) (passes : Bool) (w w' : Way M) (c d : C) : Type 0 where
+    pub verdict : (verdicts : List Bool) → length verdicts ≡ tally.asked → how_many verdicts ≡ tally.held → passes ≡ passes_at S site v matching k verdicts
+    pub path : w'.path.items ≡ w.path.items
+    pub keyword : w'.keyword ≡ take here.keyword w.keyword
+    pub instance : w'.instance ≡ w.instance
+    pub names : w'.names.items ≡ cond passes w.names.items (take here.names w.names.items)
+    pub indexes : w'.indexes.items ≡ cond passes w.indexes.items (take here.indexes w.indexes.items)
+    pub left : w'.left ≡ w.left
+    pub told : takes c (closing passes (says_at S site v matching k tally.held (map text_of (drop here.names w.names.items)) (drop here.indexes w.indexes.items) passes)) d
+
+  -- ---- what the three functions of the walk promise
+
+  pub record NodeDone (n : ℕ) (above : List P) (place : P) (v : Value) (valid : Bool) (w w' : Way M) (c d : C) : Type 0 where
+    pub walked : NodeWalked S n above place v valid (map text_of w.names.items) (map text_of w'.names.items) w.indexes.items w'.indexes.items w.left w'.left
+    pub told : (at : Location) → IsAt at w.keyword w.instance → NodeTold S n above place v takes at c d
+    pub back : IsBack w w'
+    pub falls : w'.left < w.left
+
+  pub record KeywordDone (n : ℕ) (path : List P) (place : P) (v : Value) (k : Keyword) (matching : ℕ) (apps : List (Application P)) (j : Judged) (w w' : Way M) (c d : C) : Type 0 where
+    pub walked : KeywordWalked S n path place v k matching apps j.passes j.held (map text_of w.names.items) (map text_of w'.names.items) w.indexes.items w'.indexes.items w.left w'.left
+    pub told : (at : Location) → IsAt at w.keyword w.instance → KeywordTold S n path place v k takes at matching apps c d
+    pub back : IsBack w w'
+    pub falls : w'.left < w.left
+
+  pub record EachDone (n : ℕ) (path : List P) (κ : Kind) (apps : List (Application P)) (t : Tally) (w w' : Way M) (c d : C) : Type 0 where
+    pub walked : EachWalked S n path κ apps t.asked t.held (map text_of w.names.items) (map text_of w'.names.items) w.indexes.items w'.indexes.items w.left w'.left
+    pub told : (at : Location) → IsAt at w.keyword w.instance → EachTold S n path takes at apps c d
+    pub back : IsBack w w'
+    pub falls : w'.left ≤ w.left

@@ -1,0 +1,42 @@
+-- What a walk over finished schemas answers (JSON Schema Core, sections 12.3 and 12.4). A place is told by its number.
+use Rattle.std.specs.Prelude.{◌≡◌, ℕ, Bool, []}
+use Rattle.js_doc.specs.Value.{Value}
+use Rattle.js_tree.specs.Events.{Event, Passes, events}
+use Rattle.js_bundle.specs.Document.{Documents}
+use Rattle.js_eval.specs.Bundle.{schemas_of}
+use Rattle.js_eval.specs.Location.{at_root}
+use Rattle.js_eval.specs.Result.{ResultTree, IsResult, IsWithinLimits}
+use Rattle.js_eval.specs.Sited.{site_at}
+use Rattle.js_eval.specs.declared.walking.fault.WalkFault.{WalkFault}
+use Rattle.js_eval.specs.declared.walking.fault.WalkFault.TheVariants.{Memory, TooLarge}
+
+-- of a want of memory nothing is said
+abbrev pub OnTooLarge : WalkFault → Type 0 → Type 0
+OnTooLarge Memory P = Unit {0}
+OnTooLarge TooLarge P = P
+
+-- ---- v is judged at the place of a number
+
+module _ (documents : Documents) (place : ℕ) (v : Value) where
+  abbrev pub IsResultThere : ResultTree → Type 0
+  IsResultThere t = IsResult (schemas_of documents) [] (site_at documents place) at_root v t
+
+  abbrev pub NoneStands : Type 0
+  NoneStands = (t : ResultTree) → IsResultThere t → IsWithinLimits t → ⊥
+
+  -- t is the result, and it stands within the limits
+  pub record IsResultWithin (t : ResultTree) : Type 0 where
+    pub is : IsResultThere t
+    pub stands : IsWithinLimits t
+
+  -- the result stands within the limits, and this is its verdict
+  pub record IsVerdict (valid : Bool) : Type 0 where
+    pub result : ResultTree
+    pub within : IsResultWithin result
+    pub verdict : valid ≡ result.root.valid
+
+  -- the result stands within the limits, and its events lead from c to d, one after another
+  pub record LeadsTo {C : Type 0} (takes : C → Event → C → Type 0) (c d : C) : Type 0 where
+    pub result : ResultTree
+    pub within : IsResultWithin result
+    pub passes : Passes takes (events result) c d

@@ -1,0 +1,119 @@
+//! A schema of finished schemas that is applied to a value.
+ghost use Rattle.std.specs.Prelude.{◌≡◌, true};
+ghost use Rattle.js_bundle.specs.Schemas.{is_place};
+ghost use Rattle.js_doc.specs.Seen.{value_of};
+ghost use Rattle.js_eval.specs.Applied.{IsHeld, applied, applied_of, at_in, number_in, site_in, step_in, value_in};
+ghost use Rattle.js_eval.specs.Seen.{instance_of, step_of};
+ghost use Rattle.js_eval.specs.Sited.{site_at};
+ghost use Rattle.js_eval.specs.declared.applied.To.TheVariants as to;
+
+use crate::bundled::below;
+use crate::parts::{Applied, Instance, Step};
+use js_bundle::{Place, Schemas};
+use js_doc::Doc;
+
+/// Where the schemas that a keyword applies to the parts of a value stand.
+#[derive(Clone, Copy)]
+pub(crate) enum Held<'a> {
+    /// One schema, which is the keyword's argument.
+    One(Place),
+    /// Below this place's keyword, a schema for each part, at the step to the part.
+    Each(Place, &'a str),
+}
+
+/// What a schema is applied to.
+#[derive(Clone, Copy)]
+pub(crate) enum To<'a> {
+    /// An item or a member.
+    Part,
+    /// The name of a member, as a string.
+    Name,
+    /// This value as a whole.
+    Whole(Instance<'a>),
+}
+
+impl<'a> Held<'a> {
+    /// The place that is kept of it.
+    pub fn number(&self) -> Place
+        ensures { result ≡ number_in self.now }
+    {
+        match self {
+            Held::One(place) => *place,
+            Held::Each(place, _) => *place,
+        }
+    }
+
+    fn place(&self, schemas: &Schemas, step: Step<'_>) -> Place
+        requires { IsHeld schemas.now self.now }
+        ensures is { is_place schemas.now result ≡ true }
+        ensures site { site_at schemas.now result ≡ site_in schemas.now self.now (step_of step.entry) }
+    {
+        match self {
+            Held::One(place) => *place,
+            Held::Each(place, keyword) => below(schemas, *place, keyword, step),
+        }
+    }
+
+    fn step(&self, step: Step<'a>) -> Step<'a>
+        ensures { step_of result ≡ step_in self.now (step_of step.entry) }
+    {
+        match self {
+            Held::One(_) => Step::Alone,
+            Held::Each(_, _) => step,
+        }
+    }
+}
+
+impl<'a> To<'a> {
+    fn step(&self, step: Step<'a>) -> Step<'a>
+        ensures { step_of result ≡ at_in self.now (step_of step.entry) }
+    {
+        match self {
+            To::Part => step,
+            To::Name => step,
+            To::Whole(_) => Step::Alone,
+        }
+    }
+
+    fn value(&self, step: Step<'a>, part: &'a Doc) -> Instance<'a>
+        ensures { instance_of result ≡ value_in self.now (step_of step.entry) (value_of part.now) }
+    {
+        match self {
+            To::Part => Instance::Doc(part),
+            To::Name => named(step, part),
+            To::Whole(value) => *value,
+        }
+    }
+}
+
+// The name of a member, as a string.
+fn named<'a>(step: Step<'a>, part: &'a Doc) -> Instance<'a>
+    ensures { instance_of result ≡ value_in to.Name (step_of step.entry) (value_of part.now) }
+{
+    match step {
+        Step::Name(name) => Instance::Name(name),
+        Step::Alone => Instance::Doc(part),
+        Step::Index(_) => Instance::Doc(part),
+    }
+}
+
+/// The schema for a part of a value, applied as the keyword does.
+pub(crate) fn apply<'a>(
+    schemas: &Schemas,
+    held: &Held<'a>,
+    to: &To<'a>,
+    step: Step<'a>,
+    part: &'a Doc,
+) -> Applied<'a>
+    requires { IsHeld schemas.now held.now }
+    ensures applied { applied_of schemas.now result
+        ≡ applied schemas.now held.now to.now (step_of step.entry) (value_of part.now) }
+    ensures is { is_place schemas.now result.place ≡ true }
+{
+    Applied {
+        place: held.place(schemas, step),
+        step: held.step(step),
+        at: to.step(step),
+        value: to.value(step, part),
+    }
+}

@@ -1,0 +1,168 @@
+//! Whether a keyword passes, by how many applications it asked for and how many of them hold.
+ghost use Rattle.std.specs.Prelude.{◌≡◌, ◌||◌, ℕ, Bool, List, IfOk, length, option_map, true};
+ghost use Rattle.std.specs.Option.{option_map_or};
+ghost use Rattle.js_assert.specs.Argument.{entries, on_array};
+ghost use Rattle.js_assert.specs.Assertion as spec;
+ghost use Rattle.js_assert.specs.Assertion.{asserted};
+ghost use Rattle.js_bundle.specs.Schemas.{is_place};
+ghost use Rattle.js_doc.specs.Seen.{value_of};
+ghost use Rattle.js_eval.specs.Bundle.{schemas_of};
+ghost use Rattle.js_eval.specs.Keywords as table;
+ghost use Rattle.js_eval.specs.Passes.{all, any, how_many, may_contain_none, passes_of};
+ghost use Rattle.js_eval.specs.Seen.{instance_of, keyword_of};
+ghost use Rattle.js_eval.specs.Sited.{site_at};
+ghost use Rattle.js_eval.specs.Walk.Told.{IsKeywordAt, passes_at};
+ghost use Rattle.js_eval.specs.declared.kind.Kind.TheVariants.{Assertion as AssertionKind};
+
+use crate::bundled::schema;
+use crate::keyword::Keyword;
+use crate::kind::{Kind, kind_of};
+use crate::parts::{Instance, argument_in};
+use crate::walking::Tally;
+use js_assert::Assertion;
+use js_bundle::{Place, Schemas};
+use js_doc::{Doc, Memory, Text, Whole};
+use std::alloc::Global;
+
+/// Whether a keyword of a place passes, which asked for so many applications of which so many hold, where so many items match the
+/// adjacent `contains`.
+///
+/// # Errors
+/// `Memory`.
+#[tactic(auto, unfolding(crate::specs::Walk::Told::passes_at))]
+pub(crate) fn passes(
+    alloc: Global,
+    schemas: &Schemas,
+    place: Place,
+    value: Instance<'_>,
+    keyword: Keyword<'_>,
+    tally: Tally,
+    matching: u64,
+) -> Result<bool, Memory>
+    requires place { is_place schemas.now place ≡ true }
+    requires keyword { IsKeywordAt (schemas_of schemas.now) (site_at schemas.now place) (keyword_of keyword) }
+    ensures { IfOk result (λ b. (verdicts : List Bool) → length verdicts ≡ tally.asked → how_many verdicts ≡ tally.held
+        → b ≡ passes_at (schemas_of schemas.now) (site_at schemas.now place) (instance_of value.entry) matching (keyword_of keyword.entry) verdicts) }
+{
+    let kind = kind_of(keyword.name);
+    let said = match kind {
+        Kind::Assertion => says_at(alloc, schemas, place, value, keyword, matching)?,
+        _ => true,
+    };
+    Ok(passes_by_count(kind, schema(schemas, place), value, said, tally))
+}
+
+/// Whether a keyword of this kind passes, which stands in the schema. `said`: whether the value holds under it, where it is an
+/// assertion.
+pub(crate) fn passes_by_count(
+    kind: Kind,
+    schema: &Doc,
+    value: Instance<'_>,
+    said: bool,
+    tally: Tally,
+) -> bool
+    ensures { (matching : ℕ) (k : table.Keyword) (verdicts : List Bool)
+        → (kind ≡ AssertionKind → option_map_or (λ a. spec.says a (instance_of value.entry) matching) (asserted k.0 k.1 (entries (value_of schema.now))) true ≡ said)
+        → length verdicts ≡ tally.asked → how_many verdicts ≡ tally.held
+        → result ≡ passes_of (entries (value_of schema.now)) (instance_of value.entry) matching k verdicts kind }
+{
+    match kind {
+        Kind::AnyOf => holds_any(tally),
+        Kind::OneOf => tally.held == 1,
+        Kind::Not => !holds_any(tally),
+        Kind::If => true,
+        Kind::Contains => contains(schema, value, tally),
+        Kind::Assertion => said,
+        Kind::Annotation => true,
+        _ => holds_all(tally),
+    }
+}
+
+#[tactic(auto, using(crate::proofs::Counts::all_by_count))]
+fn holds_all(tally: Tally) -> bool
+    ensures { (verdicts : List Bool) → length verdicts ≡ tally.asked → how_many verdicts ≡ tally.held → result ≡ all verdicts }
+{
+    tally.held == tally.asked
+}
+
+#[tactic(auto, using(crate::proofs::Counts::any_by_count))]
+fn holds_any(tally: Tally) -> bool
+    ensures { (verdicts : List Bool) → how_many verdicts ≡ tally.held → result ≡ any verdicts }
+{
+    tally.held != 0
+}
+
+fn contains(schema: &Doc, value: Instance<'_>, tally: Tally) -> bool
+    ensures { (verdicts : List Bool) → how_many verdicts ≡ tally.held
+        → result ≡ on_array (instance_of value.entry) (λ _. any verdicts || may_contain_none (entries (value_of schema.now))) }
+{
+    match value {
+        Instance::Doc(Doc::List(_)) => holds_any(tally) || may_hold_none(schema),
+        _ => true,
+    }
+}
+
+// The adjacent `minContains` is 0.
+fn may_hold_none(schema: &Doc) -> bool
+    ensures { result ≡ may_contain_none (entries (value_of schema.now)) }
+{
+    match argument_in(schema, "minContains") {
+        Some(least) => *least == Doc::Whole(Whole::from_u64(0)),
+        None => false,
+    }
+}
+
+// Whether the value holds under the assertion that the keyword is, if it is one.
+fn says_at(
+    alloc: Global,
+    schemas: &Schemas,
+    place: Place,
+    value: Instance<'_>,
+    keyword: Keyword<'_>,
+    matching: u64,
+) -> Result<bool, Memory>
+    requires place { is_place schemas.now place ≡ true }
+    requires keyword { IsKeywordAt (schemas_of schemas.now) (site_at schemas.now place) (keyword_of keyword) }
+    ensures { IfOk result (λ b. b ≡ option_map_or (λ a. spec.says a (instance_of value.entry) matching)
+        (asserted keyword.entry.name.now (value_of keyword.entry.argument.now) (entries (site_at schemas.now place).schema)) true) }
+{
+    says(
+        alloc,
+        schemas.assertion(place, keyword.name),
+        value,
+        matching,
+    )
+}
+
+// Whether the value holds under an assertion, if there is one.
+fn says(
+    alloc: Global,
+    assertion: Option<&Assertion>,
+    value: Instance<'_>,
+    matching: u64,
+) -> Result<bool, Memory>
+    ensures { IfOk result (λ b. b ≡ option_map_or (λ a. spec.says a (instance_of value.entry) matching)
+        (option_map (λ a. a.now) assertion.entry) true) }
+{
+    match assertion {
+        Some(assertion) => holds(alloc, assertion, value, matching),
+        None => Ok(true),
+    }
+}
+
+fn holds(
+    alloc: Global,
+    assertion: &Assertion,
+    value: Instance<'_>,
+    matching: u64,
+) -> Result<bool, Memory>
+    ensures { IfOk result (λ b. b ≡ spec.says assertion.now (instance_of value.entry) matching) }
+{
+    match value {
+        Instance::Doc(doc) => assertion.holds(alloc, doc, matching),
+        Instance::Name(name) => {
+            let name = Doc::Text(Text::new(String::from_str(alloc, name)?));
+            assertion.holds(alloc, &name, matching)
+        }
+    }
+}

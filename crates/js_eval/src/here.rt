@@ -1,0 +1,260 @@
+//! Finished schemas, as a walk asks them.
+ghost use Rattle.std.specs.Prelude.{◌≡◌, IfOk, None, OnOk, Some, map, option_to_list, true};
+ghost use Rattle.js_bundle.specs.Schemas.{is_place};
+ghost use Rattle.js_eval.specs.Bundle.{schemas_of};
+ghost use Rattle.js_eval.specs.Evaluated.{index_in, name_in};
+ghost use Rattle.js_eval.specs.Seen.{instance_of, step_of};
+ghost use Rattle.js_eval.specs.Sited.{site_at};
+ghost use Rattle.js_eval.specs.Walk.Told.{at_step, schema_says};
+ghost use Rattle.js_tree.specs.Seen.{note_of};
+
+use crate::bundled::schema;
+use crate::counted;
+use crate::cursor::{Asking, next_asked};
+use crate::keyword::Keyword;
+use crate::keyword_cursor::Keywords;
+use crate::kind::{Kind, kind_of};
+use crate::parts::{Applied, Instance, Step, is_accepting};
+use crate::start::{Facts, Scene, start};
+use crate::telling::schema_note;
+use crate::walking::{Tally, Trail, World};
+use js_bundle::{Place, Schemas};
+use js_doc::{Doc, Memory, Text};
+use js_tree::Note;
+use std::alloc::Global;
+
+/// Finished schemas. Values of the instance, and what the schemas' keywords hold, live as long as they do.
+#[derive(Clone, Copy)]
+pub(crate) struct Here<'a> {
+    pub schemas: &'a Schemas,
+}
+
+impl<'a> World for Here<'a> {
+    ghost use Rattle.js_bundle.specs.Schemas.{is_place};
+    ghost use Rattle.js_eval.specs.Applied.{applied_of};
+    ghost use Rattle.js_eval.specs.Asked as here;
+    ghost use Rattle.js_eval.specs.Bundle.{schemas_of};
+    ghost use Rattle.js_eval.specs.KeywordsLeft as left;
+    ghost use Rattle.js_eval.specs.Seen.{instance_of, keyword_of};
+    ghost use Rattle.js_eval.specs.Sited.{site_at};
+
+    type Value = Instance<'a>;
+
+    type Name = &'a str;
+
+    type Keyword = Keyword<'a>;
+
+    type Keywords = Keywords<'a>;
+
+    type Application = Applied<'a>;
+
+    type Asking = Asking<'a>;
+
+    ghost schemas = { λ h. schemas_of h.schemas.now };
+
+    ghost is_place = { λ h n. is_place h.schemas.now n };
+
+    ghost site = { λ h n. site_at h.schemas.now n };
+
+    ghost value_of = { instance_of };
+
+    ghost text_of = { λ name. name.now };
+
+    ghost keyword_of = { keyword_of };
+
+    ghost listed = { left.keywords_in };
+
+    ghost application_of = { λ h a. applied_of h.schemas.now a };
+
+    ghost place_of = { λ a. a.place };
+
+    ghost asked = { λ h a. here.asked h.schemas.now a };
+
+    #[tactic(auto, unfolding(crate::specs::Walk::Told::accepts_at))]
+    fn accepts(&self, place: Place) -> bool {
+        is_accepting(schema(self.schemas, place))
+    }
+
+    #[tactic(auto, unfolding(crate::specs::Walk::Told::keywords_at))]
+    fn keywords(&self, place: Place) -> Keywords<'a> {
+        Keywords::new(schema(self.schemas, place))
+    }
+
+    fn next_keyword(&self, keywords: &mut Keywords<'a>) -> Option<Keyword<'a>> {
+        keywords.next()
+    }
+
+    #[tactic(auto, unfolding(crate::specs::Walk::Told::kind_at))]
+    fn kind(&self, keyword: Keyword<'a>) -> Kind {
+        kind_of(keyword.name)
+    }
+
+    #[tactic(auto, unfolding(crate::specs::Walk::Told::asked_by))]
+    fn asking(
+        &self,
+        alloc: Global,
+        path: &[Place],
+        place: Place,
+        value: Instance<'a>,
+        keyword: Keyword<'a>,
+        condition: Option<bool>,
+        names: &[&'a str],
+        indexes: &[usize],
+    ) -> Result<Asking<'a>, Memory> {
+        let schema = schema(self.schemas, place);
+        let scene = Scene {
+            path,
+            place,
+            schema,
+            value,
+        };
+        let facts = Facts {
+            condition,
+            names,
+            indexes,
+        };
+        start(
+            alloc,
+            self.schemas,
+            scene,
+            facts,
+            keyword,
+            kind_of(keyword.name),
+        )
+    }
+
+    fn next(&self, alloc: Global, asking: &mut Asking<'a>) -> Result<Option<Applied<'a>>, Memory> {
+        next_asked(alloc, self.schemas, asking)
+    }
+
+    fn place(&self, application: Applied<'a>) -> Place {
+        place_of(application.place, application.step, application.value.doc())
+    }
+
+    fn value(&self, application: Applied<'a>) -> Instance<'a> {
+        value_of(application.step, application.value, application.value.doc())
+    }
+
+    fn member(&self, application: Applied<'a>) -> Option<&'a str> {
+        member_at(application.at, application.value.doc())
+    }
+
+    fn item(&self, application: Applied<'a>) -> Option<usize> {
+        item_at(application.at, application.value.doc())
+    }
+
+    fn passes(
+        &self,
+        alloc: Global,
+        place: Place,
+        value: Instance<'a>,
+        keyword: Keyword<'a>,
+        tally: Tally,
+        matching: u64,
+    ) -> Result<bool, Memory> {
+        counted::passes(alloc, self.schemas, place, value, keyword, tally, matching)
+    }
+
+    #[tactic(auto, unfolding(crate::specs::Walk::Told::at_name))]
+    fn go_to_keyword(&self, keyword: Keyword<'a>, trail: &mut Trail) -> Result<(), Memory> {
+        trail.push(keyword.name)
+    }
+
+    fn go_to_schema(&self, application: Applied<'a>, trail: &mut Trail) -> Result<(), Memory> {
+        go(application.step, application.value.doc(), trail)
+    }
+
+    fn go_to_value(&self, application: Applied<'a>, trail: &mut Trail) -> Result<(), Memory> {
+        go(application.at, application.value.doc(), trail)
+    }
+}
+
+// What an application is made of. Each of these is handed a step and a document too, which it doesn't look at: a function
+// that takes a struct has to speak of each type in it.
+
+fn place_of<'a>(place: Place, _step: Step<'a>, _doc: Option<&'a Doc>) -> Place
+    ensures { result ≡ place }
+{
+    place
+}
+
+fn value_of<'a>(_step: Step<'a>, value: Instance<'a>, _doc: Option<&'a Doc>) -> Instance<'a>
+    ensures { instance_of result ≡ instance_of value.entry }
+{
+    value
+}
+
+fn member_at<'a>(at: Step<'a>, _doc: Option<&'a Doc>) -> Option<&'a str>
+    ensures { map (λ name. name.now) (option_to_list result) ≡ name_in (step_of at.entry) }
+{
+    match at {
+        Step::Name(name) => Some(name),
+        Step::Alone => None,
+        Step::Index(_) => None,
+    }
+}
+
+fn item_at<'a>(at: Step<'a>, _doc: Option<&'a Doc>) -> Option<usize>
+    ensures { option_to_list result ≡ index_in (step_of at.entry) }
+{
+    match at {
+        Step::Index(index) => Some(index),
+        Step::Alone => None,
+        Step::Name(_) => None,
+    }
+}
+
+// Goes one step further.
+#[tactic(auto, unfolding(crate::specs::Walk::Told::at_step))]
+fn go<'a>(step: Step<'a>, _doc: Option<&'a Doc>, trail: &mut Trail) -> Result<(), Memory>
+    ensures { OnOk result (trail.new ≡ at_step trail.old (step_of step.entry)) }
+{
+    match step {
+        Step::Alone => Ok(()),
+        Step::Index(index) => trail.push_index(index),
+        Step::Name(name) => trail.push(name),
+    }
+}
+
+impl Here<'_> {
+    /// The absolute location of a place.
+    ///
+    /// # Errors
+    /// `Memory`.
+    #[tactic(auto, using(crate::proofs::Paths::absolute_is))]
+    pub fn absolute(&self, alloc: Global, place: Place) -> Result<Text, Memory>
+        requires { is_place self.now.schemas.now place ≡ true }
+        ensures { IfOk result (λ t. t ≡ (schemas_of self.now.schemas.now).absolute (site_at self.now.schemas.now place) None) }
+    {
+        Ok(Text::new(self.schemas.absolute(alloc, place, None)?))
+    }
+
+    /// The absolute location of the keyword of this name at a place.
+    ///
+    /// # Errors
+    /// `Memory`.
+    #[tactic(auto, using(crate::proofs::Paths::absolute_is))]
+    pub fn absolute_keyword(
+        &self,
+        alloc: Global,
+        place: Place,
+        keyword: &str,
+    ) -> Result<Text, Memory>
+        requires { is_place self.now.schemas.now place ≡ true }
+        ensures { IfOk result (λ t. t ≡ (schemas_of self.now.schemas.now).absolute (site_at self.now.schemas.now place) (Some keyword.now)) }
+    {
+        Ok(Text::new(self.schemas.absolute(alloc, place, Some(keyword))?))
+    }
+
+    /// The note of a schema's node.
+    ///
+    /// # Errors
+    /// `Memory`.
+    #[tactic(auto, unfolding(crate::specs::Walk::Told::schema_says))]
+    pub fn schema_note<'n>(&self, alloc: Global, place: Place) -> Result<Note<'n>, Memory>
+        requires { is_place self.now.schemas.now place ≡ true }
+        ensures { IfOk result (λ n. note_of n ≡ schema_says (schemas_of self.now.schemas.now) (site_at self.now.schemas.now place)) }
+    {
+        schema_note(alloc, schema(self.schemas, place))
+    }
+}

@@ -1,0 +1,89 @@
+//! Walks over finished schemas: into a collector, into a tree, and for the verdict alone.
+ghost use Rattle.std.specs.Prelude.{◌≡◌, true, IfOk, IfErr};
+ghost use Rattle.js_doc.specs.Seen.{value_of};
+ghost use Rattle.js_bundle.specs.Schemas.{is_place};
+ghost use Rattle.js_eval.specs.Walked.{IsResultWithin, IsVerdict, LeadsTo, NoneStands, OnTooLarge};
+
+use crate::collecting::Collecting;
+use crate::here::Here;
+use crate::parts::Instance;
+use crate::walking::{Silent, WalkFault, walk_from};
+use js_bundle::{Place, Schemas};
+use js_doc::Doc;
+use js_tree::{Boxed, Collector, Tree};
+use std::alloc::Global;
+use std::marker::PhantomData;
+
+/// Judges the value at the place, and hands the result to the collector, node by node, as it is made: 256 schemas may stand on a
+/// way, and the result may have 100,000 nodes.
+///
+/// # Errors
+/// `Memory`; `TooLarge` exactly where no result stands within the limits. The collector comes back with the fault; nothing is
+/// promised of what it holds then.
+pub fn walk_into<'a, C: Collector<'a>>(
+    alloc: Global,
+    schemas: &'a Schemas,
+    place: Place,
+    value: &'a Doc,
+    collector: C,
+) -> Result<C, (WalkFault, C)>
+    requires { is_place schemas.now place ≡ true }
+    ensures ok { IfOk result (λ d. LeadsTo schemas.now place (value_of value.now) C.takes collector d) }
+    ensures too_large { IfErr result (λ e. OnTooLarge (e.0) (NoneStands schemas.now place (value_of value.now))) }
+{
+    let here = Here { schemas };
+    let mut collecting = Collecting {
+        collector,
+        notes: PhantomData,
+    };
+    let done = walk_from(alloc, &here, &mut collecting, place, Instance::Doc(value));
+    let Collecting {
+        collector,
+        notes: _,
+    } = collecting;
+    match done {
+        Ok(_) => Ok(collector),
+        Err(fault) => Err((fault, collector)),
+    }
+}
+
+/// The result of judging the value at the place (JSON Schema Core, section 12.4.4).
+///
+/// # Errors
+/// `Memory`; `TooLarge` exactly where no result stands within 256 schemas on a way and 100,000 nodes.
+pub fn walk<'a>(
+    alloc: Global,
+    schemas: &'a Schemas,
+    place: Place,
+    value: &'a Doc,
+) -> Result<Tree<'a>, WalkFault>
+    requires { is_place schemas.now place ≡ true }
+    ensures ok { IfOk result (λ t. IsResultWithin schemas.now place (value_of value.now) t) }
+    ensures too_large { IfErr result (λ e. OnTooLarge e (NoneStands schemas.now place (value_of value.now))) }
+{
+    match walk_into(alloc, schemas, place, value, Boxed::new(alloc)) {
+        Ok(boxed) => Ok(boxed.tree().unwrap()),
+        Err((fault, _boxed)) => Err(fault),
+    }
+}
+
+/// Whether the value is valid at the place: the verdict of the same result, of which nothing else is made.
+///
+/// # Errors
+/// As `walk`.
+pub fn verdict<'a>(
+    alloc: Global,
+    schemas: &'a Schemas,
+    place: Place,
+    value: &'a Doc,
+) -> Result<bool, WalkFault>
+    requires { is_place schemas.now place ≡ true }
+    ensures ok { IfOk result (λ b. IsVerdict schemas.now place (value_of value.now) b) }
+    ensures too_large { IfErr result (λ e. OnTooLarge e (NoneStands schemas.now place (value_of value.now))) }
+{
+    let here = Here { schemas };
+    match walk_from(alloc, &here, &mut Silent, place, Instance::Doc(value)) {
+        Ok(valid) => Ok(valid),
+        Err(fault) => Err(fault),
+    }
+}

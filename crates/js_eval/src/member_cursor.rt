@@ -1,0 +1,334 @@
+//! What a keyword asks for member by member (Core, sections 10.2.2.4, 10.3.2 and 11.3): a schema on each of the members
+//! that it chooses by their names, or on the value, for each of its own names that is a member's.
+ghost use Rattle.std.specs.Prelude.{◌≡◌, ◌||◌, ◌++◌, ◌∷◌, [], IfOk, List, MatchOption, OnOk, filter, map, not, true};
+ghost use Rattle.std.specs.List.{list_any};
+ghost use Rattle.std.specs.Option.{option_map_or};
+ghost use Rattle.js_assert.specs.Argument.{entries, has};
+ghost use Rattle.js_assert.specs.Pattern.{matches};
+ghost use Rattle.js_bundle.specs.Document.{Documents};
+ghost use Rattle.js_bundle.specs.Schemas.{is_place};
+ghost use Rattle.js_doc.specs.Members.{get};
+ghost use Rattle.js_doc.specs.Seen.{value_of};
+ghost use Rattle.js_doc.specs.Value.{text};
+ghost use Rattle.js_eval.specs.Applications.{among_names, application};
+ghost use Rattle.js_eval.specs.Applied.{IsHeld, applied_of, number_in};
+ghost use Rattle.js_eval.specs.Bundle.{schemas_of};
+ghost use Rattle.js_eval.specs.Cursors.{HasNames, chosen, is_key, is_matched, is_named, members_asked, members_left, named_in};
+ghost use Rattle.js_eval.specs.Schemas as spec;
+ghost use Rattle.js_eval.specs.Schemas.{Text};
+ghost use Rattle.js_eval.specs.Seen.{instance_of, texts_of};
+ghost use Rattle.js_eval.specs.Sited.{site_at};
+
+use crate::applied::{Held, To, apply};
+use crate::parts::{Applied, Instance, Step, argument_in, members_in};
+use js_assert::Pattern;
+use js_bundle::{Place, Schemas};
+use js_doc::{Doc, Members, Memory};
+use std::alloc::Global;
+use std::collections::BTreeSet;
+use std::collections::btree_map::Iter;
+
+/// Which members a keyword chooses.
+#[derive(Drop)]
+pub(crate) enum Choice<'a> {
+    All,
+    /// Those that these members name.
+    Named(&'a Members),
+    /// Those of which the adjacent keywords don't speak.
+    Additional(Adjacent<'a>),
+    /// Those that aren't among these.
+    Except(BTreeSet<&'a str>),
+}
+
+/// The arguments of the adjacent `properties` and `patternProperties`, where they are objects.
+#[derive(Clone, Copy)]
+pub(crate) struct Adjacent<'a> {
+    pub place: Place,
+    pub properties: Option<&'a Members>,
+    pub patterns: Option<&'a Members>,
+}
+
+/// The members that a keyword is still to ask for.
+#[derive(Drop)]
+pub(crate) struct MemberCursor<'a> {
+    pub held: Held<'a>,
+    pub to: To<'a>,
+    pub members: Iter<'a, String, Doc>,
+    pub choice: Choice<'a>,
+}
+
+/// The schema of each name that is a member's, on the member.
+pub(crate) fn each_named<'a>(
+    place: Place,
+    keyword: &'a str,
+    named: &'a Members,
+    members: &'a Members,
+) -> MemberCursor<'a>
+    ensures asked { (documents : Documents) → members_asked documents result
+        ≡ map (λ m. application (schemas_of documents) (site_at documents place) keyword.now (spec.Name m.0) (spec.Name m.0) m.1)
+        (filter (λ m. has m.0 named.now) members.now) }
+    ensures number { number_in result.held ≡ place }
+{
+    MemberCursor {
+        held: Held::Each(place, keyword),
+        to: To::Part,
+        members: members.pairs(),
+        choice: Choice::Named(named),
+    }
+}
+
+/// The schema of each name that is a member's, on the value itself.
+pub(crate) fn each_in_place<'a>(
+    place: Place,
+    keyword: &'a str,
+    named: &'a Members,
+    members: &'a Members,
+    value: Instance<'a>,
+) -> MemberCursor<'a>
+    ensures asked { (documents : Documents) → members_asked documents result
+        ≡ map (λ m. application (schemas_of documents) (site_at documents place) keyword.now (spec.Name m.0) spec.Alone (instance_of value.entry))
+        (filter (λ m. has m.0 members.now) named.now) }
+    ensures number { number_in result.held ≡ place }
+{
+    MemberCursor {
+        held: Held::Each(place, keyword),
+        to: To::Whole(value),
+        members: named.pairs(),
+        choice: Choice::Named(members),
+    }
+}
+
+/// The schema at a place, on each name, as a string.
+#[tactic(auto, using(crate::proofs::MembersLeft::all_chosen))]
+pub(crate) fn each_name<'a>(below: Place, members: &'a Members) -> MemberCursor<'a>
+    ensures asked { (documents : Documents) → members_asked documents result
+        ≡ map (λ m. record { place = site_at documents below; step = spec.Alone; at = spec.Name m.0; value = text m.0 }) members.now }
+    ensures number { number_in result.held ≡ below }
+{
+    MemberCursor {
+        held: Held::One(below),
+        to: To::Name,
+        members: members.pairs(),
+        choice: Choice::All,
+    }
+}
+
+/// The schema at a place, on each member of which the adjacent keywords don't speak.
+pub(crate) fn each_additional<'a>(
+    below: Place,
+    place: Place,
+    properties: Option<&'a Members>,
+    patterns: Option<&'a Members>,
+    members: &'a Members,
+) -> MemberCursor<'a>
+    ensures asked { (documents : Documents) → members_asked documents result
+        ≡ map (λ m. record { place = site_at documents below; step = spec.Alone; at = spec.Name m.0; value = m.1 })
+        (filter (λ m. not (is_named properties.entry m.0 || is_matched patterns.entry m.0)) members.now) }
+    ensures number { number_in result.held ≡ below }
+{
+    MemberCursor {
+        held: Held::One(below),
+        to: To::Part,
+        members: members.pairs(),
+        choice: Choice::Additional(Adjacent {
+            place,
+            properties,
+            patterns,
+        }),
+    }
+}
+
+/// The schema at a place, on each member that isn't among these.
+///
+/// # Errors
+/// `Memory`.
+pub(crate) fn each_other<'a>(
+    alloc: Global,
+    below: Place,
+    names: &[&'a str],
+    members: &'a Members,
+) -> Result<MemberCursor<'a>, Memory>
+    ensures asked { IfOk result (λ c. (documents : Documents) → members_asked documents c
+        ≡ map (λ m. record { place = site_at documents below; step = spec.Alone; at = spec.Name m.0; value = m.1 })
+        (filter (λ m. not (among_names m.0 (texts_of names.now))) members.now)) }
+    ensures number { IfOk result (λ c. number_in c.held ≡ below) }
+{
+    let set = set_of(alloc, names)?;
+    Ok(MemberCursor {
+        held: Held::One(below),
+        to: To::Part,
+        members: members.pairs(),
+        choice: Choice::Except(set),
+    })
+}
+
+fn set_of<'a>(alloc: Global, names: &[&'a str]) -> Result<BTreeSet<&'a str>, Memory>
+    ensures { IfOk result (λ s. HasNames s.keys (texts_of names.now)) }
+{
+    let mut set = BTreeSet::new(alloc);
+    for name in names {
+        insert(&mut set, *name)?;
+    }
+    Ok(set)
+}
+
+fn insert<'a>(set: &mut BTreeSet<&'a str>, name: &'a str) -> Result<(), Memory>
+    ensures { OnOk result ((names : List Text) → HasNames set.old.keys names → HasNames set.new.keys (names ++ name.now ∷ [])) }
+{
+    set.insert(name)?;
+    Ok(())
+}
+
+/// The argument of the keyword of this name, where it is an object.
+pub(crate) fn object_at<'a>(schema: &'a Doc, keyword: &str) -> Option<&'a Members>
+    ensures { named_in result ≡ option_map_or entries (get keyword.now (entries (value_of schema.now))) [] }
+{
+    match argument_in(schema, keyword) {
+        Some(argument) => members_in(argument),
+        None => None,
+    }
+}
+
+/// The next application.
+///
+/// # Errors
+/// `Memory`: a pattern is searched for.
+pub(crate) fn next_on_member<'a>(
+    alloc: Global,
+    schemas: &Schemas,
+    cursor: &mut MemberCursor<'a>,
+) -> Result<Option<Applied<'a>>, Memory>
+    requires { IsHeld schemas.now cursor.old.held }
+    ensures next { IfOk result (λ o. MatchOption o (members_asked schemas.now cursor.old ≡ [])
+        (λ a. members_asked schemas.now cursor.old ≡ applied_of schemas.now a ∷ members_asked schemas.now cursor.new)) }
+    ensures is { IfOk result (λ o. MatchOption o (Unit {0}) (λ a. is_place schemas.now a.place ≡ true)) }
+    ensures held { cursor.new.held ≡ cursor.old.held }
+{
+    match next_member(alloc, schemas, &cursor.choice, &mut cursor.members)? {
+        Some((name, member)) => Ok(Some(apply(
+            schemas,
+            &cursor.held,
+            &cursor.to,
+            Step::Name(name),
+            member,
+        ))),
+        None => Ok(None),
+    }
+}
+
+// The next member that is chosen.
+fn next_member<'a>(
+    alloc: Global,
+    schemas: &Schemas,
+    choice: &Choice<'a>,
+    members: &mut Iter<'a, String, Doc>,
+) -> Result<Option<(&'a str, &'a Doc)>, Memory>
+    ensures { IfOk result (λ o. MatchOption o (members_left choice.now members.old ≡ [])
+        (λ m. members_left choice.now members.old ≡ (m.0.now, value_of m.1.now) ∷ members_left choice.now members.new)) }
+{
+    while let Some((name, member)) = members.next() {
+        let name = name.as_str();
+        if is_chosen(alloc, schemas, choice, name)? {
+            return Ok(Some((name, member)));
+        }
+    }
+    Ok(None)
+}
+
+fn is_chosen(
+    alloc: Global,
+    schemas: &Schemas,
+    choice: &Choice<'_>,
+    name: &str,
+) -> Result<bool, Memory>
+    ensures { IfOk result (λ b. b ≡ chosen choice.now name.now) }
+{
+    match choice {
+        Choice::All => Ok(true),
+        Choice::Named(named) => Ok(named.get(name).is_some()),
+        Choice::Additional(adjacent) => Ok(!is_spoken_of(alloc, schemas, adjacent, name)?),
+        Choice::Except(names) => Ok(!is_in(names, name)),
+    }
+}
+
+#[tactic(auto, unfolding(crate::specs::Cursors::is_key))]
+fn is_in(names: &BTreeSet<&str>, name: &str) -> bool
+    ensures { result ≡ is_key names.now.keys name.now }
+{
+    names.contains(name)
+}
+
+// The adjacent keywords speak of the name.
+fn is_spoken_of(
+    alloc: Global,
+    schemas: &Schemas,
+    adjacent: &Adjacent<'_>,
+    name: &str,
+) -> Result<bool, Memory>
+    ensures { IfOk result (λ b. b ≡ (is_named adjacent.now.properties name.now || is_matched adjacent.now.patterns name.now)) }
+{
+    if is_named(adjacent.properties, name) {
+        return Ok(true);
+    }
+    match adjacent.patterns {
+        Some(patterns) => matches_any(alloc, schemas, adjacent.place, patterns, name),
+        None => Ok(false),
+    }
+}
+
+fn is_named(properties: Option<&Members>, name: &str) -> bool
+    ensures { result ≡ is_named properties.entry name.now }
+{
+    match properties {
+        Some(named) => named.get(name).is_some(),
+        None => false,
+    }
+}
+
+fn matches_any(
+    alloc: Global,
+    schemas: &Schemas,
+    place: Place,
+    patterns: &Members,
+    name: &str,
+) -> Result<bool, Memory>
+    ensures { IfOk result (λ b. b ≡ list_any (λ p. matches p.0 name.now) patterns.now) }
+{
+    for (pattern, _) in patterns.pairs() {
+        if matches(alloc, schemas, place, pattern.as_str(), name)? {
+            return Ok(true);
+        }
+    }
+    Ok(false)
+}
+
+// Whether a pattern of the place's `patternProperties` matches somewhere in a name.
+fn matches(
+    alloc: Global,
+    schemas: &Schemas,
+    place: Place,
+    pattern: &str,
+    name: &str,
+) -> Result<bool, Memory>
+    ensures { IfOk result (λ b. b ≡ matches pattern.now name.now) }
+{
+    match pattern_of(schemas, place, pattern) {
+        Some(built) => built.holds(alloc, name),
+        None => Err(Memory), // never: each pattern of finished schemas is built
+    }
+}
+
+/// The pattern of this name among the `patternProperties` of the place.
+pub(crate) fn pattern_of<'s>(
+    schemas: &'s Schemas,
+    place: Place,
+    pattern: &str,
+) -> Option<&'s Pattern>
+    ensures { MatchOption result (Unit {0}) (λ p. p.now ≡ pattern.now) }
+{
+    if schemas.has(place) {
+        schemas.pattern(place, pattern)
+    } else {
+        None
+    }
+}

@@ -1,0 +1,152 @@
+//! What `patternProperties` asks for (Core, section 10.3.2.2): for each pattern, its schema on each member whose name it
+//! matches.
+ghost use Rattle.std.specs.Prelude.{◌≡◌, ◌∷◌, [], IfOk, MatchOption, filter, map, true};
+ghost use Rattle.std.specs.List.{flat_map};
+ghost use Rattle.js_assert.specs.Pattern.{matches};
+ghost use Rattle.js_bundle.specs.Document.{Documents};
+ghost use Rattle.js_bundle.specs.Schemas.{is_place};
+ghost use Rattle.js_doc.specs.Seen.{pair_of, value_of};
+ghost use Rattle.js_eval.specs.Applied.{applied_of};
+ghost use Rattle.js_eval.specs.Cursors.{IsBegun, matching_asked, on_member, patterns_asked};
+ghost use Rattle.js_eval.specs.Sited.{site_at};
+
+use crate::bundled::below;
+use crate::member_cursor::pattern_of;
+use crate::parts::{Applied, Instance, Step};
+use js_assert::Pattern;
+use js_bundle::{Place, Schemas};
+use js_doc::{Doc, Members, Memory};
+use std::alloc::Global;
+use std::collections::btree_map::Iter;
+
+/// The patterns that are still to come, and the members that are left of the present one.
+#[derive(Drop)]
+pub(crate) struct PatternCursor<'a> {
+    pub place: Place,
+    pub keyword: &'a str,
+    pub patterns: Iter<'a, String, Doc>,
+    pub members: &'a Members,
+    /// The present pattern, where there is one, its text and the place of its schema.
+    pub present: Option<&'a Pattern>,
+    pub name: &'a str,
+    pub below: Place,
+    pub left: Iter<'a, String, Doc>,
+}
+
+/// What `patternProperties` asks for on these members.
+pub(crate) fn each_matching<'a>(
+    place: Place,
+    keyword: &'a str,
+    patterns: &'a Members,
+    members: &'a Members,
+) -> PatternCursor<'a>
+    ensures asked { (documents : Documents) → patterns_asked documents result
+        ≡ flat_map (λ p. matching_asked documents (site_at documents place) keyword.now p.0 members.now) patterns.now }
+    ensures place { result.place ≡ place }
+    ensures below { result.below ≡ place }
+{
+    PatternCursor {
+        place,
+        keyword,
+        patterns: patterns.pairs(),
+        members,
+        present: None,
+        name: keyword,
+        below: place,
+        left: members.pairs(),
+    }
+}
+
+/// The next application.
+///
+/// # Errors
+/// `Memory`: a pattern is searched for.
+pub(crate) fn next_matching<'a>(
+    alloc: Global,
+    schemas: &'a Schemas,
+    cursor: &mut PatternCursor<'a>,
+) -> Result<Option<Applied<'a>>, Memory>
+    requires place { is_place schemas.now cursor.old.place ≡ true }
+    requires below { is_place schemas.now cursor.old.below ≡ true }
+    ensures next { IfOk result (λ o. MatchOption o (patterns_asked schemas.now cursor.old ≡ [])
+        (λ a. patterns_asked schemas.now cursor.old ≡ applied_of schemas.now a ∷ patterns_asked schemas.now cursor.new)) }
+    ensures is { IfOk result (λ o. MatchOption o (Unit {0}) (λ a. is_place schemas.now a.place ≡ true)) }
+    ensures place { IfOk result (λ _. cursor.new.place ≡ cursor.old.place) }
+    ensures below { IfOk result (λ _. is_place schemas.now cursor.new.below ≡ true) }
+{
+    match next_match(alloc, schemas, cursor)? {
+        Some((name, member)) => Ok(Some(Applied {
+            place: cursor.below,
+            step: Step::Name(cursor.name),
+            at: Step::Name(name),
+            value: Instance::Doc(member),
+        })),
+        None => Ok(None),
+    }
+}
+
+// The next member that a pattern matches, which is then the present one.
+fn next_match<'a>(
+    alloc: Global,
+    schemas: &'a Schemas,
+    cursor: &mut PatternCursor<'a>,
+) -> Result<Option<(&'a str, &'a Doc)>, Memory>
+    requires place { is_place schemas.now cursor.old.place ≡ true }
+    requires below { is_place schemas.now cursor.old.below ≡ true }
+    ensures next { IfOk result (λ o. MatchOption o (patterns_asked schemas.now cursor.old ≡ [])
+        (λ m. patterns_asked schemas.now cursor.old ≡ on_member schemas.now cursor.new.below cursor.new.name.now (m.0.now, value_of m.1.now) ∷ patterns_asked schemas.now cursor.new)) }
+    ensures place { IfOk result (λ _. cursor.new.place ≡ cursor.old.place) }
+    ensures below { IfOk result (λ _. is_place schemas.now cursor.new.below ≡ true) }
+{
+    if let Some(pattern) = cursor.present {
+        if let Some(found) = next_member(alloc, pattern, &mut cursor.left)? {
+            return Ok(Some(found));
+        }
+    }
+    while let Some((name, _)) = cursor.patterns.next() {
+        let pattern = begin(schemas, cursor, name.as_str())?;
+        if let Some(found) = next_member(alloc, pattern, &mut cursor.left)? {
+            return Ok(Some(found));
+        }
+    }
+    Ok(None)
+}
+
+// Makes a pattern the present one.
+fn begin<'a>(
+    schemas: &'a Schemas,
+    cursor: &mut PatternCursor<'a>,
+    name: &'a str,
+) -> Result<&'a Pattern, Memory>
+    requires { is_place schemas.now cursor.old.place ≡ true }
+    ensures { IfOk result (λ p. IsBegun schemas.now name.now p cursor.old cursor.new) }
+{
+    match pattern_of(schemas, cursor.place, name) {
+        Some(pattern) => {
+            cursor.present = Some(pattern);
+            cursor.name = name;
+            cursor.below = below(schemas, cursor.place, cursor.keyword, Step::Name(name));
+            cursor.left = cursor.members.pairs();
+            Ok(pattern)
+        }
+        None => Err(Memory), // never: each pattern of finished schemas is built
+    }
+}
+
+// The next member whose name the pattern matches.
+fn next_member<'a>(
+    alloc: Global,
+    pattern: &Pattern,
+    members: &mut Iter<'a, String, Doc>,
+) -> Result<Option<(&'a str, &'a Doc)>, Memory>
+    ensures { IfOk result (λ o. MatchOption o (filter (λ m. matches pattern.now m.0) (map pair_of members.old) ≡ [])
+        (λ m. filter (λ m. matches pattern.now m.0) (map pair_of members.old) ≡ (m.0.now, value_of m.1.now) ∷ filter (λ m. matches pattern.now m.0) (map pair_of members.new))) }
+{
+    while let Some((name, member)) = members.next() {
+        let name = name.as_str();
+        if pattern.holds(alloc, name)? {
+            return Ok(Some((name, member)));
+        }
+    }
+    Ok(None)
+}

@@ -1,0 +1,192 @@
+//! What a keyword begins to ask for, by its kind (Core, sections 8.2.3, 10 and 11).
+ghost use Rattle.std.specs.Prelude.{◌≡◌, ◌∷◌, [], IfOk, map, true};
+ghost use Rattle.std.specs.List.{list_all};
+ghost use Rattle.js_assert.specs.Argument.{entries};
+ghost use Rattle.js_bundle.specs.Schemas.{is_place};
+ghost use Rattle.js_doc.specs.Seen.{value_of};
+ghost use Rattle.js_eval.specs.Applications.{application, asks_of, if_fails, if_holds};
+ghost use Rattle.js_eval.specs.Asked.{asked};
+ghost use Rattle.js_eval.specs.Bundle.{schemas_of};
+ghost use Rattle.js_eval.specs.Schemas as spec;
+ghost use Rattle.js_eval.specs.Seen.{instance_of, keyword_of, texts_of};
+ghost use Rattle.js_eval.specs.Sited.{site_at};
+
+use crate::bundled::{below, dynamic_target, target};
+use crate::cursor::{Asking, alone};
+use crate::keyword::Keyword;
+use crate::kind::Kind;
+use crate::parts::{Instance, Step};
+use crate::{start_items, start_members};
+use js_bundle::{Place, Schemas};
+use js_doc::{Doc, Memory};
+use std::alloc::Global;
+
+/// Where a keyword is judged, and on what.
+#[derive(Clone, Copy)]
+pub(crate) struct Scene<'s, 'a> {
+    /// All places that were applied, the present one being the last.
+    pub path: &'s [Place],
+    /// The present place.
+    pub place: Place,
+    /// The schema there.
+    pub schema: &'a Doc,
+    /// The value.
+    pub value: Instance<'a>,
+}
+
+/// What a keyword looks at of the other keywords of its schema.
+#[derive(Clone, Copy)]
+pub(crate) struct Facts<'s, 'a> {
+    /// The verdict of the adjacent `if`, if there is one.
+    pub condition: Option<bool>,
+    /// The members that the others have evaluated.
+    pub names: &'s [&'a str],
+    /// The items that the others have evaluated.
+    pub indexes: &'s [usize],
+}
+
+/// What a keyword of this kind asks for.
+///
+/// # Errors
+/// `Memory`.
+pub(crate) fn start<'a>(
+    alloc: Global,
+    schemas: &Schemas,
+    scene: Scene<'_, 'a>,
+    facts: Facts<'_, 'a>,
+    keyword: Keyword<'a>,
+    kind: Kind,
+) -> Result<Asking<'a>, Memory>
+    requires place { is_place schemas.now scene.place ≡ true }
+    requires path { list_all (is_place schemas.now) scene.path.now ≡ true }
+    ensures { IfOk result (λ a. asked schemas.now a
+        ≡ asks_of (schemas_of schemas.now) (map (site_at schemas.now) scene.entry.path.now) (site_at schemas.now scene.entry.place) (entries (value_of scene.entry.schema.now))
+        (instance_of scene.entry.value) facts.entry.condition (texts_of facts.entry.names.now) facts.entry.indexes.now (keyword_of keyword.entry) kind) }
+{
+    let Scene {
+        path,
+        place,
+        schema,
+        value,
+    } = scene;
+    let name = keyword.name;
+    match kind {
+        Kind::Reference => Ok(referred(schemas, place, value)),
+        Kind::DynamicReference => Ok(referred_dynamically(schemas, place, path, value)),
+        Kind::AllOf => Ok(start_items::listed(alloc, schemas, place, keyword, value)),
+        Kind::AnyOf => Ok(start_items::listed(alloc, schemas, place, keyword, value)),
+        Kind::OneOf => Ok(start_items::listed(alloc, schemas, place, keyword, value)),
+        Kind::Not => Ok(held(schemas, place, name, value)),
+        Kind::If => Ok(held(schemas, place, name, value)),
+        Kind::Then => Ok(held_then(schemas, place, name, facts.condition, value)),
+        Kind::Else => Ok(held_else(schemas, place, name, facts.condition, value)),
+        Kind::DependentSchemas => Ok(start_members::dependent(schemas, place, keyword, value)),
+        Kind::PrefixItems => Ok(start_items::prefix(alloc, schemas, place, keyword, value)),
+        Kind::Items => Ok(start_items::following(alloc, schemas, place, name, schema, value)),
+        Kind::Contains => Ok(start_items::every(alloc, schemas, place, name, value)),
+        Kind::Properties => Ok(start_members::properties(schemas, place, keyword, value)),
+        Kind::PatternProperties => Ok(start_members::patterns(schemas, place, keyword, value)),
+        Kind::AdditionalProperties => Ok(start_members::additional(
+            schemas, place, name, schema, value,
+        )),
+        Kind::PropertyNames => Ok(start_members::names(schemas, place, name, value)),
+        Kind::UnevaluatedItems => start_items::unevaluated(
+            alloc,
+            schemas,
+            place,
+            name,
+            facts.indexes,
+            value,
+        ),
+        Kind::UnevaluatedProperties => start_members::unevaluated(
+            alloc,
+            schemas,
+            place,
+            name,
+            facts.names,
+            value,
+        ),
+        Kind::Assertion => Ok(Asking::One(None)),
+        Kind::Annotation => Ok(Asking::One(None)),
+    }
+}
+
+// What `$ref` names, on the value itself.
+fn referred<'a>(schemas: &Schemas, place: Place, value: Instance<'a>) -> Asking<'a>
+    requires { is_place schemas.now place ≡ true }
+    ensures { asked schemas.now result ≡ record {
+      place = (schemas_of schemas.now).target (site_at schemas.now place);
+      step = spec.Alone;
+      at = spec.Alone;
+      value = instance_of value.entry;
+    } ∷ [] }
+{
+    alone(target(schemas, place), value)
+}
+
+// What `$dynamicRef` names, on the value itself.
+fn referred_dynamically<'a>(
+    schemas: &Schemas,
+    place: Place,
+    path: &[Place],
+    value: Instance<'a>,
+) -> Asking<'a>
+    requires place { is_place schemas.now place ≡ true }
+    requires path { list_all (is_place schemas.now) path.now ≡ true }
+    ensures { asked schemas.now result
+        ≡ record {
+          place = (schemas_of schemas.now).dynamic_target (map (site_at schemas.now) path.now) (site_at schemas.now place);
+          step = spec.Alone;
+          at = spec.Alone;
+          value = instance_of value.entry;
+        } ∷ [] }
+{
+    alone(dynamic_target(schemas, place, path), value)
+}
+
+// The keyword's schema, on the value itself.
+fn held<'a>(schemas: &Schemas, place: Place, keyword: &str, value: Instance<'a>) -> Asking<'a>
+    requires { is_place schemas.now place ≡ true }
+    ensures { asked schemas.now result
+        ≡ application (schemas_of schemas.now) (site_at schemas.now place) keyword.now spec.Alone spec.Alone (instance_of value.entry) ∷ [] }
+{
+    alone(below(schemas, place, keyword, Step::Alone), value)
+}
+
+// The schema of `then`. `condition`: the verdict of the adjacent `if`, if there is one.
+fn held_then<'a>(
+    schemas: &Schemas,
+    place: Place,
+    keyword: &str,
+    condition: Option<bool>,
+    value: Instance<'a>,
+) -> Asking<'a>
+    requires { is_place schemas.now place ≡ true }
+    ensures { asked schemas.now result ≡ if_holds condition
+        (application (schemas_of schemas.now) (site_at schemas.now place) keyword.now spec.Alone spec.Alone (instance_of value.entry) ∷ []) }
+{
+    match condition {
+        Some(true) => held(schemas, place, keyword, value),
+        Some(false) => Asking::One(None),
+        None => Asking::One(None),
+    }
+}
+
+// The schema of `else`. `condition`: the verdict of the adjacent `if`, if there is one.
+fn held_else<'a>(
+    schemas: &Schemas,
+    place: Place,
+    keyword: &str,
+    condition: Option<bool>,
+    value: Instance<'a>,
+) -> Asking<'a>
+    requires { is_place schemas.now place ≡ true }
+    ensures { asked schemas.now result ≡ if_fails condition
+        (application (schemas_of schemas.now) (site_at schemas.now place) keyword.now spec.Alone spec.Alone (instance_of value.entry) ∷ []) }
+{
+    match condition {
+        Some(false) => held(schemas, place, keyword, value),
+        Some(true) => Asking::One(None),
+        None => Asking::One(None),
+    }
+}

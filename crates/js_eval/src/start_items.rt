@@ -1,0 +1,154 @@
+//! What the keywords for arrays, and those with a list of schemas, begin to ask for (Core, sections 10.2.1, 10.3.1 and
+//! 11.2).
+ghost use Rattle.std.specs.Prelude.{◌≡◌, IfOk, filter, length, map, nat_le, nat_lt, not, true};
+ghost use Rattle.js_assert.specs.Argument.{entries, values};
+ghost use Rattle.js_bundle.specs.Schemas.{is_place};
+ghost use Rattle.js_doc.specs.Seen.{value_of};
+ghost use Rattle.js_eval.specs.Applications.{among_indexes, application, indexed, prefix_length};
+ghost use Rattle.js_eval.specs.Asked.{asked};
+ghost use Rattle.js_eval.specs.Bundle.{schemas_of};
+ghost use Rattle.js_eval.specs.Schemas as spec;
+ghost use Rattle.js_eval.specs.Seen.{instance_of};
+ghost use Rattle.js_eval.specs.Sited.{site_at};
+
+use crate::bundled::below;
+use crate::cursor::Asking;
+use crate::item_cursor::{each_except, each_from, each_in_step, each_listed};
+use crate::keyword::Keyword;
+use crate::parts::{Instance, Step, argument_in, items_in};
+use js_bundle::{Place, Schemas};
+use js_doc::{Doc, Memory};
+use std::alloc::Global;
+
+/// Each schema of a keyword's list, on the value itself.
+pub(crate) fn listed<'a>(
+    alloc: Global,
+    schemas: &Schemas,
+    place: Place,
+    keyword: Keyword<'a>,
+    value: Instance<'a>,
+) -> Asking<'a>
+    requires { is_place schemas.now place ≡ true }
+    ensures { asked schemas.now result
+        ≡ map (λ e. application (schemas_of schemas.now) (site_at schemas.now place) keyword.entry.name.now (spec.Index e.0) spec.Alone (instance_of value.entry))
+        (indexed (value_of keyword.entry.argument.now)) }
+{
+    Asking::Items(each_listed(
+        alloc,
+        place,
+        keyword.name,
+        items_in(keyword.argument),
+        value,
+    ))
+}
+
+/// Each schema of `prefixItems`, on the item at the same index.
+pub(crate) fn prefix<'a>(
+    alloc: Global,
+    schemas: &Schemas,
+    place: Place,
+    keyword: Keyword<'a>,
+    value: Instance<'a>,
+) -> Asking<'a>
+    requires { is_place schemas.now place ≡ true }
+    ensures { asked schemas.now result
+        ≡ map (λ e. application (schemas_of schemas.now) (site_at schemas.now place) keyword.entry.name.now (spec.Index e.0) (spec.Index e.0) e.1)
+        (filter (λ e. nat_lt e.0 (length (values (value_of keyword.entry.argument.now)))) (indexed (instance_of value.entry))) }
+{
+    Asking::Items(each_in_step(
+        alloc,
+        place,
+        keyword.name,
+        items_in(keyword.argument),
+        value.items(),
+    ))
+}
+
+/// The schema of `items`, on each item behind those that the adjacent `prefixItems` has schemas for.
+pub(crate) fn following<'a>(
+    alloc: Global,
+    schemas: &Schemas,
+    place: Place,
+    keyword: &str,
+    schema: &Doc,
+    value: Instance<'a>,
+) -> Asking<'a>
+    requires { is_place schemas.now place ≡ true }
+    ensures { asked schemas.now result
+        ≡ map (λ e. application (schemas_of schemas.now) (site_at schemas.now place) keyword.now spec.Alone (spec.Index e.0) e.1)
+        (filter (λ e. nat_le (prefix_length (entries (value_of schema.now))) e.0) (indexed (instance_of value.entry))) }
+{
+    from_index(
+        alloc,
+        schemas,
+        place,
+        keyword,
+        value,
+        prefix_length_in(schema),
+    )
+}
+
+/// The schema of `contains`, on each item.
+pub(crate) fn every<'a>(
+    alloc: Global,
+    schemas: &Schemas,
+    place: Place,
+    keyword: &str,
+    value: Instance<'a>,
+) -> Asking<'a>
+    requires { is_place schemas.now place ≡ true }
+    ensures { asked schemas.now result
+        ≡ map (λ e. application (schemas_of schemas.now) (site_at schemas.now place) keyword.now spec.Alone (spec.Index e.0) e.1)
+        (indexed (instance_of value.entry)) }
+{
+    from_index(alloc, schemas, place, keyword, value, 0)
+}
+
+fn from_index<'a>(
+    alloc: Global,
+    schemas: &Schemas,
+    place: Place,
+    keyword: &str,
+    value: Instance<'a>,
+    first: usize,
+) -> Asking<'a>
+    requires { is_place schemas.now place ≡ true }
+    ensures { asked schemas.now result
+        ≡ map (λ e. application (schemas_of schemas.now) (site_at schemas.now place) keyword.now spec.Alone (spec.Index e.0) e.1)
+        (filter (λ e. nat_le first e.0) (indexed (instance_of value.entry))) }
+{
+    let below = below(schemas, place, keyword, Step::Alone);
+    Asking::Items(each_from(alloc, below, value.items(), first))
+}
+
+// How many schemas the adjacent `prefixItems` holds.
+fn prefix_length_in(schema: &Doc) -> usize
+    ensures { result ≡ prefix_length (entries (value_of schema.now)) }
+{
+    match argument_in(schema, "prefixItems") {
+        Some(argument) => items_in(argument).len(),
+        None => 0,
+    }
+}
+
+/// The schema of `unevaluatedItems`, on each item that isn't at one of these indexes.
+///
+/// # Errors
+/// `Memory`.
+pub(crate) fn unevaluated<'a>(
+    alloc: Global,
+    schemas: &Schemas,
+    place: Place,
+    keyword: &str,
+    indexes: &[usize],
+    value: Instance<'a>,
+) -> Result<Asking<'a>, Memory>
+    requires { is_place schemas.now place ≡ true }
+    ensures { IfOk result (λ a. asked schemas.now a
+        ≡ map (λ e. application (schemas_of schemas.now) (site_at schemas.now place) keyword.now spec.Alone (spec.Index e.0) e.1)
+        (filter (λ e. not (among_indexes e.0 indexes.now)) (indexed (instance_of value.entry)))) }
+{
+    let below = below(schemas, place, keyword, Step::Alone);
+    let items = each_except(alloc, below, value.items(), indexes)?;
+    Ok(Asking::Items(items))
+}

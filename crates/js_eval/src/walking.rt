@@ -1,0 +1,21 @@
+//! The walk: a value is judged at a place, once, and each node of its result is reported as it opens and as it closes.
+
+mod fault;
+mod keeping;
+mod recursion;
+mod reporter;
+mod silent;
+mod start;
+mod steps;
+mod tally;
+mod trail;
+mod way;
+mod world;
+
+pub use fault::WalkFault;
+pub(crate) use reporter::Reporter;
+pub(crate) use silent::Silent;
+pub(crate) use start::walk_from;
+pub(crate) use tally::{Judged, Tally};
+pub(crate) use trail::Trail;
+pub(crate) use world::World;

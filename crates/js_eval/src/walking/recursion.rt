@@ -1,0 +1,176 @@
+//! The recursion: the node of a schema, of a keyword, and those of what a keyword asks for.
+//!
+//! No bound of it names a lifetime, so that it may call itself. It goes down by one call of each of the three functions for each
+//! schema on the way.
+ghost use Rattle.std.specs.Prelude.{◌≡◌, ◌≤◌, true, map, length, drop, MatchResult};
+ghost use Rattle.std.specs.List.{list_all};
+ghost use Rattle.js_eval.specs.Walk.Steps.{NodeDone, KeywordDone, EachDone};
+ghost use Rattle.js_eval.specs.Walk.Told.{IsKeywordAt, HasNone, KeywordHasNone, SomeHasNone, asked_by};
+ghost use Rattle.js_eval.specs.Walked.{OnTooLarge};
+
+use crate::kind::Kind;
+use crate::walking::fault::WalkFault;
+use crate::walking::reporter::Reporter;
+use crate::walking::steps::{
+    asked, close_keyword, close_schema, come_back, go_down, open_keyword, open_schema,
+};
+use crate::walking::tally::{Judged, Known, Tally};
+use crate::walking::way::{Mark, Way};
+use crate::walking::world::World;
+use js_bundle::Place;
+use std::alloc::Global;
+
+/// The node of a place on a value, with all that stands below it.
+#[cycle(walk)]
+pub(crate) fn node<W: World, R: Reporter<W>>(
+    alloc: Global,
+    world: &W,
+    way: &mut Way<W::Name>,
+    into: &mut R,
+    depth: usize,
+    place: Place,
+    value: W::Value,
+) -> Result<bool, WalkFault>
+    requires path { list_all (W.is_place world.now) way.old.path.items ≡ true }
+    requires place { W.is_place world.now place ≡ true }
+    ensures { MatchResult result
+        (λ valid. NodeDone (W.schemas world.now) W.text_of R.takes depth (map (W.site world.now) way.old.path.items) (W.site world.now place) (W.value_of value) valid way.old way.new into.old into.new)
+        (λ e. OnTooLarge e (HasNone (W.schemas world.now) depth (map (W.site world.now) way.old.path.items) (W.site world.now place) (W.value_of value) way.old.left)) }
+{
+    if depth == 0 {
+        return Err(WalkFault::TooLarge);
+    }
+    if way.left == 0 {
+        return Err(WalkFault::TooLarge);
+    }
+    let start = way.mark();
+    open_schema(alloc, world, way, into, place)?;
+    let mut known = Known {
+        valid: world.accepts(place),
+        condition: None,
+        matching: 0,
+    };
+    let mut keywords = world.keywords(place);
+    'keywords: while let Some(keyword) = world.next_keyword(&mut keywords) {
+        let judged = keyword_node(
+            alloc,
+            world,
+            way,
+            into,
+            depth - 1,
+            place,
+            value,
+            keyword,
+            start,
+            known,
+        )?;
+        known = known.after(world.kind(keyword), judged.passes, judged.held);
+    }
+    close_schema(alloc, world, way, into, place, start, known.valid)?;
+    Ok(known.valid)
+}
+
+/// The node of a keyword of the place that the path ends in.
+#[cycle(walk)]
+pub(crate) fn keyword_node<W: World, R: Reporter<W>>(
+    alloc: Global,
+    world: &W,
+    way: &mut Way<W::Name>,
+    into: &mut R,
+    depth: usize,
+    place: Place,
+    value: W::Value,
+    keyword: W::Keyword,
+    start: Mark,
+    known: Known,
+) -> Result<Judged, WalkFault>
+    requires path { list_all (W.is_place world.now) way.old.path.items ≡ true }
+    requires place { W.is_place world.now place ≡ true }
+    requires names { start.names ≤ length way.old.names.items }
+    requires indexes { start.indexes ≤ length way.old.indexes.items }
+    requires keyword { IsKeywordAt (W.schemas world.now) (W.site world.now place) (W.keyword_of keyword) }
+    ensures { MatchResult result
+        (λ j. KeywordDone (W.schemas world.now) W.text_of R.takes depth (map (W.site world.now) way.old.path.items) (W.site world.now place) (W.value_of value) (W.keyword_of keyword) known.matching
+        (asked_by (W.schemas world.now) depth (map (W.site world.now) way.old.path.items) (W.site world.now place) (W.value_of value) (W.keyword_of keyword)
+        known.condition (map W.text_of (drop start.names way.old.names.items)) (drop start.indexes way.old.indexes.items)) j way.old way.new into.old into.new)
+        (λ e. OnTooLarge e (KeywordHasNone (W.schemas world.now) depth (map (W.site world.now) way.old.path.items) (W.site world.now place) (W.value_of value) (W.keyword_of keyword)
+        (asked_by (W.schemas world.now) depth (map (W.site world.now) way.old.path.items) (W.site world.now place) (W.value_of value) (W.keyword_of keyword)
+        known.condition (map W.text_of (drop start.names way.old.names.items)) (drop start.indexes way.old.indexes.items)) way.old.left)) }
+{
+    if way.left == 0 {
+        return Err(WalkFault::TooLarge);
+    }
+    let here = way.mark();
+    let mut asking = asked(
+        alloc,
+        world,
+        way,
+        place,
+        value,
+        keyword,
+        start,
+        known.condition,
+    )?;
+    open_keyword(alloc, world, way, into, place, keyword)?;
+    let tally = applications(
+        alloc,
+        world,
+        way,
+        into,
+        depth,
+        world.kind(keyword),
+        &mut asking,
+    )?;
+    let passes = close_keyword(
+        alloc,
+        world,
+        way,
+        into,
+        place,
+        value,
+        keyword,
+        here,
+        tally,
+        known.matching,
+    )?;
+    Ok(Judged {
+        passes,
+        held: tally.held,
+    })
+}
+
+/// The nodes of what a keyword asks for, in order.
+#[cycle(walk)]
+pub(crate) fn applications<W: World, R: Reporter<W>>(
+    alloc: Global,
+    world: &W,
+    way: &mut Way<W::Name>,
+    into: &mut R,
+    depth: usize,
+    kind: Kind,
+    asking: &mut W::Asking,
+) -> Result<Tally, WalkFault>
+    requires { list_all (W.is_place world.now) way.old.path.items ≡ true }
+    ensures { MatchResult result
+        (λ t. EachDone (W.schemas world.now) W.text_of R.takes depth (map (W.site world.now) way.old.path.items) kind (W.asked world.now asking.old) t way.old way.new into.old into.new)
+        (λ e. OnTooLarge e (SomeHasNone (W.schemas world.now) depth (map (W.site world.now) way.old.path.items) (W.asked world.now asking.old) way.old.left)) }
+{
+    let _left = way.left;
+    let mut tally = Tally { asked: 0, held: 0 };
+    'each: while let Some(application) = world.next(alloc, asking)? {
+        let here = way.mark();
+        go_down(world, way, application)?;
+        let holds = node(
+            alloc,
+            world,
+            way,
+            into,
+            depth,
+            world.place(application),
+            world.value(application),
+        )?;
+        come_back(world, way, application, kind, here, holds)?;
+        tally = tally.after(holds);
+    }
+    Ok(tally)
+}

@@ -1,0 +1,64 @@
+//! A reporter that wants nothing.
+use crate::walking::reporter::Reporter;
+use crate::walking::tally::Judged;
+use crate::walking::trail::Trail;
+use crate::walking::world::World;
+use js_bundle::Place;
+use js_doc::Memory;
+use std::alloc::Global;
+
+/// It makes nothing of what is reported to it: for a walk of which the verdict alone is wanted.
+#[derive(Clone, Copy)]
+pub(crate) struct Silent;
+
+impl<W: World> Reporter<W> for Silent {
+    ghost takes = { λ _ _ _. Unit {0} };
+
+    fn open_schema(
+        &mut self,
+        _alloc: Global,
+        _world: &W,
+        _place: Place,
+        _keyword_location: &Trail,
+        _instance_location: &Trail,
+    ) -> Result<(), Memory> {
+        Ok(())
+    }
+
+    fn open_keyword(
+        &mut self,
+        _alloc: Global,
+        _world: &W,
+        _place: Place,
+        _keyword: W::Keyword,
+        _keyword_location: &Trail,
+        _instance_location: &Trail,
+    ) -> Result<(), Memory> {
+        Ok(())
+    }
+
+    fn close_keyword(
+        &mut self,
+        _alloc: Global,
+        _world: &W,
+        _place: Place,
+        _value: W::Value,
+        _keyword: W::Keyword,
+        _judged: Judged,
+        _matching: u64,
+        _names: &[W::Name],
+        _indexes: &[usize],
+    ) -> Result<(), Memory> {
+        Ok(())
+    }
+
+    fn close_schema(
+        &mut self,
+        _alloc: Global,
+        _world: &W,
+        _place: Place,
+        _valid: bool,
+    ) -> Result<(), Memory> {
+        Ok(())
+    }
+}

@@ -1,0 +1,45 @@
+//! A walk from its beginning.
+ghost use Rattle.std.specs.Prelude.{◌≡◌, [], true, MatchResult};
+ghost use Rattle.js_eval.specs.Location.{at_root};
+ghost use Rattle.js_eval.specs.Result.{ResultTree, IsResult, IsWithinLimits};
+ghost use Rattle.js_eval.specs.Walked.{OnTooLarge};
+ghost use Rattle.js_eval.specs.Walk.Leads.{Leads};
+
+use crate::walking::fault::WalkFault;
+use crate::walking::recursion::node;
+use crate::walking::reporter::Reporter;
+use crate::walking::trail::Trail;
+use crate::walking::way::Way;
+use crate::walking::world::World;
+use js_bundle::Place;
+use std::alloc::Global;
+
+/// Judges a value at a place, and reports the result node by node.
+///
+/// # Errors
+/// `Memory`; `TooLarge` exactly where no result stands within the limits.
+pub(crate) fn walk_from<W: World, R: Reporter<W>>(
+    alloc: Global,
+    world: &W,
+    into: &mut R,
+    place: Place,
+    value: W::Value,
+) -> Result<bool, WalkFault>
+    requires { W.is_place world.now place ≡ true }
+    ensures { MatchResult result
+        (λ valid. Leads (W.schemas world.now) (W.site world.now place) (W.value_of value) R.takes valid into.old into.new)
+        (λ e. OnTooLarge e ((t : ResultTree) → IsResult (W.schemas world.now) [] (W.site world.now place) at_root (W.value_of value) t → IsWithinLimits t → ⊥)) }
+{
+    let mut way = Way {
+        path: Vec::new(alloc),
+        keyword: Trail::new(alloc),
+        instance: Trail::new(alloc),
+        left: 100000,
+        names: Vec::new(alloc),
+        indexes: Vec::new(alloc),
+    };
+    match node(alloc, world, &mut way, into, 256, place, value) {
+        Ok(valid) => Ok(valid),
+        Err(fault) => Err(fault),
+    }
+}

@@ -1,0 +1,183 @@
+//! The steps of a walk, each of which may want memory.
+ghost use Rattle.std.specs.Prelude.{◌≡◌, ◌<◌, ◌≤◌, true, map, length, drop, IfOk, OnOk};
+ghost use Rattle.std.specs.List.{list_all};
+ghost use Rattle.std.specs.String.Boundary.{IsSplitPoint};
+ghost use Rattle.js_eval.specs.Walk.Steps.{SchemaOpened, SchemaClosed, KeywordOpened, KeywordClosed, WentDown, CameBack};
+ghost use Rattle.js_eval.specs.Walk.Told.{IsKeywordAt, asked_by};
+
+use crate::kind::Kind;
+use crate::walking::keeping::{cut_unless, indexes_source, keep, names_source};
+use crate::walking::reporter::Reporter;
+use crate::walking::tally::{Judged, Tally};
+use crate::walking::way::{Mark, Way};
+use crate::walking::world::World;
+use js_bundle::Place;
+use js_doc::Memory;
+use std::alloc::Global;
+
+/// Opens the node of a schema, which may have one.
+pub(crate) fn open_schema<W: World, R: Reporter<W>>(
+    alloc: Global,
+    world: &W,
+    way: &mut Way<W::Name>,
+    into: &mut R,
+    place: Place,
+) -> Result<(), Memory>
+    requires place { W.is_place world.now place ≡ true }
+    requires left { 0 < way.old.left }
+    ensures { OnOk result (SchemaOpened (W.schemas world.now) W.text_of R.takes (W.site world.now place) place way.old way.new into.old into.new) }
+{
+    way.left -= 1;
+    into.open_schema(alloc, world, place, &way.keyword, &way.instance)?;
+    way.path.push(place)?;
+    Ok(())
+}
+
+/// Closes the node of a schema. What it has evaluated goes, if it fails.
+pub(crate) fn close_schema<W: World, R: Reporter<W>>(
+    alloc: Global,
+    world: &W,
+    way: &mut Way<W::Name>,
+    into: &mut R,
+    place: Place,
+    start: Mark,
+    valid: bool,
+) -> Result<(), Memory>
+    requires { W.is_place world.now place ≡ true }
+    ensures { OnOk result (SchemaClosed (W.schemas world.now) W.text_of R.takes (W.site world.now place) start valid way.old way.new into.old into.new) }
+{
+    into.close_schema(alloc, world, place, valid)?;
+    let _ = way.path.pop();
+    cut_unless(&mut way.names, start.names, valid);
+    cut_unless(&mut way.indexes, start.indexes, valid);
+    Ok(())
+}
+
+/// Opens the node of a keyword, which may have one.
+pub(crate) fn open_keyword<W: World, R: Reporter<W>>(
+    alloc: Global,
+    world: &W,
+    way: &mut Way<W::Name>,
+    into: &mut R,
+    place: Place,
+    keyword: W::Keyword,
+) -> Result<(), Memory>
+    requires place { W.is_place world.now place ≡ true }
+    requires left { 0 < way.old.left }
+    ensures { OnOk result (KeywordOpened (W.schemas world.now) W.text_of R.takes (W.site world.now place) (W.keyword_of keyword) way.old way.new into.old into.new) }
+{
+    way.left -= 1;
+    world.go_to_keyword(keyword, &mut way.keyword)?;
+    into.open_keyword(alloc, world, place, keyword, &way.keyword, &way.instance)
+}
+
+/// What a keyword asks for, by what has been evaluated since the schema's node opened.
+pub(crate) fn asked<W: World>(
+    alloc: Global,
+    world: &W,
+    way: &Way<W::Name>,
+    place: Place,
+    value: W::Value,
+    keyword: W::Keyword,
+    start: Mark,
+    condition: Option<bool>,
+) -> Result<W::Asking, Memory>
+    requires path { list_all (W.is_place world.now) way.now.path.items ≡ true }
+    requires place { W.is_place world.now place ≡ true }
+    requires names { start.names ≤ length way.now.names.items }
+    requires indexes { start.indexes ≤ length way.now.indexes.items }
+    ensures { IfOk result (λ a. W.asked world.now a ≡ asked_by (W.schemas world.now) 0 (map (W.site world.now) way.now.path.items) (W.site world.now place) (W.value_of value) (W.keyword_of keyword)
+        condition (map W.text_of (drop start.names way.now.names.items)) (drop start.indexes way.now.indexes.items)) }
+{
+    let names = &way.names[start.names..];
+    let indexes = &way.indexes[start.indexes..];
+    world.asking(
+        alloc,
+        way.path.as_slice(),
+        place,
+        value,
+        keyword,
+        condition,
+        names,
+        indexes,
+    )
+}
+
+/// Closes the node of a keyword. What it has evaluated goes, if it fails.
+pub(crate) fn close_keyword<W: World, R: Reporter<W>>(
+    alloc: Global,
+    world: &W,
+    way: &mut Way<W::Name>,
+    into: &mut R,
+    place: Place,
+    value: W::Value,
+    keyword: W::Keyword,
+    here: Mark,
+    tally: Tally,
+    matching: u64,
+) -> Result<bool, Memory>
+    requires place { W.is_place world.now place ≡ true }
+    requires names { here.names ≤ length way.old.names.items }
+    requires indexes { here.indexes ≤ length way.old.indexes.items }
+    requires trail { IsSplitPoint way.old.keyword here.keyword }
+    requires keyword { IsKeywordAt (W.schemas world.now) (W.site world.now place) (W.keyword_of keyword) }
+    ensures { IfOk result (λ passes. KeywordClosed (W.schemas world.now) W.text_of R.takes (W.site world.now place) (W.value_of value) (W.keyword_of keyword) matching tally here passes way.old way.new into.old into.new) }
+{
+    let passes = world.passes(alloc, place, value, keyword, tally, matching)?;
+    let judged = Judged {
+        passes,
+        held: tally.held,
+    };
+    let names = &way.names[here.names..];
+    let indexes = &way.indexes[here.indexes..];
+    into.close_keyword(
+        alloc, world, place, value, keyword, judged, matching, names, indexes,
+    )?;
+    cut_unless(&mut way.names, here.names, passes);
+    cut_unless(&mut way.indexes, here.indexes, passes);
+    way.keyword.cut(here.keyword);
+    Ok(passes)
+}
+
+/// Goes to where a schema is applied to a value.
+pub(crate) fn go_down<W: World>(
+    world: &W,
+    way: &mut Way<W::Name>,
+    application: W::Application,
+) -> Result<(), Memory>
+    ensures { OnOk result (WentDown (W.application_of world.now application) way.old way.new) }
+{
+    world.go_to_schema(application, &mut way.keyword)?;
+    world.go_to_value(application, &mut way.instance)
+}
+
+/// Comes back from there, with what the keyword keeps of what was evaluated.
+pub(crate) fn come_back<W: World>(
+    world: &W,
+    way: &mut Way<W::Name>,
+    application: W::Application,
+    kind: Kind,
+    here: Mark,
+    holds: bool,
+) -> Result<(), Memory>
+    requires keyword { IsSplitPoint way.old.keyword here.keyword }
+    requires instance { IsSplitPoint way.old.instance here.instance }
+    ensures { OnOk result (CameBack W.text_of kind (W.application_of world.now application) here holds way.old way.new) }
+{
+    way.keyword.cut(here.keyword);
+    way.instance.cut(here.instance);
+    keep(
+        &mut way.names,
+        here.names,
+        names_source(kind),
+        holds,
+        world.member(application),
+    )?;
+    keep(
+        &mut way.indexes,
+        here.indexes,
+        indexes_source(kind),
+        holds,
+        world.item(application),
+    )
+}

@@ -1,0 +1,76 @@
+//! What is known of a keyword from its applications, and of a schema from its keywords.
+ghost use Rattle.std.specs.Prelude.{◌≡◌, ◌&&◌, ◌≤◌, ◌<◌, ◌+◌, cond};
+ghost use Rattle.js_eval.specs.Walk.Keeping.{condition_step, matching_step};
+
+use crate::kind::Kind;
+
+/// How many applications a keyword asked for, and how many of them hold.
+#[derive(Clone, Copy)]
+pub(crate) struct Tally {
+    pub asked: usize,
+    pub held: usize,
+}
+
+/// Whether a keyword passes, and how many of its applications hold.
+#[derive(Clone, Copy)]
+pub(crate) struct Judged {
+    pub passes: bool,
+    pub held: usize,
+}
+
+/// What is known of a schema from the keywords that are walked: whether it is valid so far, the verdict of its `if`, and how many
+/// items match its `contains`.
+#[derive(Clone, Copy)]
+pub(crate) struct Known {
+    pub valid: bool,
+    pub condition: Option<bool>,
+    pub matching: u64,
+}
+
+impl Tally {
+    /// One application more.
+    pub fn after(self, holds: bool) -> Tally
+        requires few { self.asked < usize.MAX }
+        requires held { self.held ≤ self.asked }
+        ensures asked { result.asked ≡ self.asked + 1 }
+        ensures held { result.held ≡ self.held + cond holds 1 0 }
+    {
+        Tally {
+            asked: self.asked + 1,
+            held: self.held + if holds { 1 } else { 0 },
+        }
+    }
+}
+
+impl Known {
+    /// One keyword more.
+    pub fn after(self, kind: Kind, passes: bool, held: usize) -> Known
+        ensures valid { result.valid ≡ (self.valid && passes) }
+        ensures condition { result.condition ≡ condition_step kind held self.condition }
+        ensures matching { result.matching ≡ matching_step kind held self.matching }
+    {
+        Known {
+            valid: self.valid & passes,
+            condition: condition_after(kind, held, self.condition),
+            matching: matching_after(kind, held, self.matching),
+        }
+    }
+}
+
+fn condition_after(kind: Kind, held: usize, before: Option<bool>) -> Option<bool>
+    ensures { result ≡ condition_step kind held before }
+{
+    match kind {
+        Kind::If => Some(held == 1),
+        _ => before,
+    }
+}
+
+fn matching_after(kind: Kind, held: usize, before: u64) -> u64
+    ensures { result ≡ matching_step kind held before }
+{
+    match kind {
+        Kind::Contains => held as u64,
+        _ => before,
+    }
+}

@@ -1,0 +1,146 @@
+//! What a walk asks of schemas and of an instance.
+ghost use Rattle.std.specs.Prelude.{◌≡◌, ◌∷◌, [], List, ℕ, Bool, true, map, length, option_to_list, IfOk, OnOk, MatchOption};
+ghost use Rattle.std.specs.List.{list_all};
+ghost use Rattle.js_doc.specs.Members.{IsAscending};
+ghost use Rattle.js_doc.specs.Value.{Value as JsonValue};
+ghost use Rattle.js_assert.specs.Argument.{entries};
+ghost use Rattle.js_bundle.specs.Resource.{Site};
+ghost use Rattle.js_eval.specs.Applications.{Application as Applied};
+ghost use Rattle.js_eval.specs.Evaluated.{name_in, index_in};
+ghost use Rattle.js_eval.specs.Keywords as table;
+ghost use Rattle.js_eval.specs.Passes.{how_many};
+ghost use Rattle.js_eval.specs.Schemas.{Text as Bytes, Schemas};
+ghost use Rattle.js_eval.specs.Walk.Told.{IsKeywordAt, asked_by, accepts_at, keywords_at, kind_at, passes_at, at_name, at_step};
+
+use crate::kind::Kind;
+use crate::walking::tally::Tally;
+use crate::walking::trail::Trail;
+use js_bundle::Place;
+use js_doc::Memory;
+use std::alloc::Global;
+
+/// What a walk asks of schemas and of an instance. No type of it has a lifetime's name, so that a walk over it may call itself.
+pub(crate) trait World {
+    /// A value of the instance, or the name of a member.
+    type Value: Copy;
+    /// The name of a member.
+    type Name: Copy;
+
+    type Keyword: Copy;
+    /// The keywords of a schema that are still to come.
+    type Keywords: Drop;
+
+    type Application: Copy;
+    /// What a keyword is still to ask for.
+    type Asking: Drop;
+
+    /// The set of schemas, over the places of documents.
+    ghost schemas: { Self → Schemas Site };
+
+    /// Whether a place's number is one of them, and the place of that number.
+    ghost is_place: { Self → ℕ → Bool };
+
+    ghost site: { Self → ℕ → Site };
+
+    ghost value_of: { Self.Value → JsonValue };
+
+    ghost text_of: { Self.Name → Bytes };
+
+    ghost keyword_of: { Self.Keyword → table.Keyword };
+
+    ghost listed: { Self.Keywords → List table.Keyword };
+
+    ghost application_of: { Self → Self.Application → Applied Site };
+
+    ghost place_of: { Self.Application → ℕ };
+
+    ghost asked: { Self → Self.Asking → List (Applied Site) };
+
+    /// The schema isn't `false`.
+    fn accepts(&self, place: Place) -> bool
+        requires { is_place self.now place ≡ true }
+        ensures { result ≡ accepts_at (schemas self.now) (site self.now place) };
+
+    /// The keywords of a schema that have a node, in the order of their nodes.
+    fn keywords(&self, place: Place) -> Self::Keywords
+        requires { is_place self.now place ≡ true }
+        ensures listed { listed result ≡ keywords_at (schemas self.now) (site self.now place) }
+        ensures ascending { IsAscending (entries ((schemas self.now).schema (site self.now place))) };
+
+    fn next_keyword(&self, keywords: &mut Self::Keywords) -> Option<Self::Keyword>
+        ensures { MatchOption result (listed keywords.old ≡ []) (λ k. listed keywords.old ≡ keyword_of k ∷ listed keywords.new) };
+
+    fn kind(&self, keyword: Self::Keyword) -> Kind
+        ensures { result ≡ kind_at (keyword_of keyword) };
+
+    /// What a keyword asks for, where these facts are known of the keywords before it: the verdict of `if`, and what has been
+    /// evaluated.
+    fn asking(
+        &self,
+        alloc: Global,
+        path: &[Place],
+        place: Place,
+        value: Self::Value,
+        keyword: Self::Keyword,
+        condition: Option<bool>,
+        names: &[Self::Name],
+        indexes: &[usize],
+    ) -> Result<Self::Asking, Memory>
+        requires path { list_all (is_place self.now) path.now ≡ true }
+        requires place { is_place self.now place ≡ true }
+        ensures { IfOk result (λ a. asked self.now a ≡ asked_by (schemas self.now) 0 (map (site self.now) path.now) (site self.now place) (value_of value) (keyword_of keyword)
+            condition (map text_of names.now) indexes.now) };
+
+    fn next(
+        &self,
+        alloc: Global,
+        asking: &mut Self::Asking,
+    ) -> Result<Option<Self::Application>, Memory>
+        ensures next { IfOk result (λ o. MatchOption o (asked self.now asking.old ≡ []) (λ a. asked self.now asking.old ≡ application_of self.now a ∷ asked self.now asking.new)) }
+        ensures is { IfOk result (λ o. MatchOption o (Unit {0}) (λ a. is_place self.now (place_of a) ≡ true)) };
+
+    /// The place of the schema that is applied.
+    fn place(&self, application: Self::Application) -> Place
+        ensures number { result ≡ place_of application }
+        ensures site { site self.now result ≡ (application_of self.now application).place };
+
+    /// The value that it is applied to.
+    fn value(&self, application: Self::Application) -> Self::Value
+        ensures { value_of result ≡ (application_of self.now application).value };
+
+    /// The member that it is applied to.
+    fn member(&self, application: Self::Application) -> Option<Self::Name>
+        ensures { map text_of (option_to_list result) ≡ name_in (application_of self.now application).at };
+
+    /// The item that it is applied to.
+    fn item(&self, application: Self::Application) -> Option<usize>
+        ensures { option_to_list result ≡ index_in (application_of self.now application).at };
+
+    /// Whether a keyword passes, which asked for so many applications of which so many hold, where so many items match the adjacent
+    /// `contains`.
+    fn passes(
+        &self,
+        alloc: Global,
+        place: Place,
+        value: Self::Value,
+        keyword: Self::Keyword,
+        tally: Tally,
+        matching: u64,
+    ) -> Result<bool, Memory>
+        requires place { is_place self.now place ≡ true }
+        requires keyword { IsKeywordAt (schemas self.now) (site self.now place) (keyword_of keyword) }
+        ensures { IfOk result (λ b. (verdicts : List Bool) → length verdicts ≡ tally.asked → how_many verdicts ≡ tally.held
+            → b ≡ passes_at (schemas self.now) (site self.now place) (value_of value) matching (keyword_of keyword) verdicts) };
+
+    /// Goes from a schema to its keyword.
+    fn go_to_keyword(&self, keyword: Self::Keyword, trail: &mut Trail) -> Result<(), Memory>
+        ensures { OnOk result (trail.new ≡ at_name trail.old (keyword_of keyword)) };
+
+    /// Goes from a keyword to the schema that it applies.
+    fn go_to_schema(&self, application: Self::Application, trail: &mut Trail) -> Result<(), Memory>
+        ensures { OnOk result (trail.new ≡ at_step trail.old (application_of self.now application).step) };
+
+    /// Goes from an instance to the value that the schema is applied to.
+    fn go_to_value(&self, application: Self::Application, trail: &mut Trail) -> Result<(), Memory>
+        ensures { OnOk result (trail.new ≡ at_step trail.old (application_of self.now application).at) };
+}

@@ -1,0 +1,17 @@
+use Rattle.std.proofs.lemmas.Result.{err_from_is_err_and}
+use Rattle.js_bundle.specs.Schemas.{place_at}
+use Rattle.js_output.specs.Documents.{documents_of}
+use Rattle.js_output.proofs.Answering.{answers-early, answers-late}
+use Rattle.js_output.proofs.running.run.Goals as goal
+
+pub returns-in_err-entry-clause-answer : goal.returns-in_err-entry-clause-answer
+returns-in_err-entry-clause-answer g c =
+    let p = err_from_is_err_and c.from_residual.result c.from_residual.ensures.1 in
+    let left = g.R.Read.remaining c.args.instance.now.device in
+    rw (p.1, p.2) (answers-early (documents_of c.args.docs.now) c.args.entry.now c.args.format left g.W.Write.contents c.args.out.now c.args.out.now c.in_err-entry.field-0.0 c.in_err-entry.ensures.err)
+
+pub returns-clause-answer : goal.returns-clause-answer
+returns-clause-answer g c =
+    let left = g.R.Read.remaining c.args.instance.now.device in
+    let e = c.in_ok-entry.entry in
+    answers-late (documents_of c.args.docs.now) c.args.entry.now c.args.format (place_at e.schemas e.place) left g.W.Write.contents c.args.out.now c.tell_instance.new.out c.tell_instance.result c.in_ok-entry.ensures.clear c.in_ok-entry.ensures.ok.named c.tell_instance.ensures.answer

@@ -1,0 +1,487 @@
+-- Marked rows of a flat form, and those that they leave.
+use Rattle.std.proofs.Common.{◌≡◌, ℕ, zero, suc, ◌+◌, ◌-◌, ◌≤◌, ◌<◌, Bool, true, false, ◌||◌, if◌then◌else◌, ◌⊎◌, inl, inr, List, [], ◌∷◌, ◌++◌, length, take, drop, map, get_or, set, refl, ap, sym, ◌∙◌, arith, add-one}
+use Rattle.std.proofs.lemmas.List.{append_assoc, append-nil, length-append, length-map, map-append, map-set, set-get_or, drop_all, drop_more, drop-set, take-set-le, drop-set-lt, length-set, get_or-set_same}
+use Rattle.std.proofs.Math.Seq.{drop-length}
+use Rattle.std.specs.List.{swap}
+use Rattle.js_tree.specs.Compacting.{left, left_of, left_trees, stays, room, marked, others, gathered, Tallied, AreMarked}
+use Rattle.js_tree.specs.Flat.{flat, flat_of}
+use Rattle.js_tree.specs.FlatState.{FlatRow, row_of}
+use Rattle.js_tree.specs.Forest.{Forest, empty, tree, Rose, ◌⊹◌, node_count, tree_count}
+use Rattle.js_tree.specs.Kept as keep
+use Rattle.js_tree.specs.OutputUnit.{OutputUnit, noted}
+use Rattle.js_tree.specs.Result.{ResultTree, has_verdict, kept_below, pruned_below}
+use Rattle.js_tree.specs.Step.{at_least_one, at_least_two}
+use Rattle.js_tree.specs.declared.compacting.Keep.{Keep}
+use Rattle.js_tree.specs.declared.compacting.Keep.TheVariants.{Verdict, Noted}
+use Rattle.js_tree.specs.declared.flat.Row.{Row}
+use Rattle.js_tree.proofs.Compaction.{pruned_below-append, kept_below-append, take-swap, drop-swap}
+use Rattle.js_tree.proofs.FlatTold.{length-flat_of}
+use Rattle.js_tree.proofs.Forests.{append-empty, node_count-append}
+use Rattle.js_tree.proofs.KeptTree.{tree_count-kept_below}
+
+-- ---- trees side by side
+
+flat_of-append : (f g : Forest OutputUnit) → flat_of (f ⊹ g) ≡ flat_of f ++ flat_of g
+flat_of-append empty g = refl
+flat_of-append (tree u below after) g =
+    ap (λ xs. (u, suc (node_count below)) ∷ (flat_of below ++ xs)) (flat_of-append after g)
+    ∙ ap (λ xs. (u, suc (node_count below)) ∷ xs) (sym (append_assoc (flat_of below) (flat_of after) (flat_of g)))
+
+left-append : (k : Keep) (f g : Forest OutputUnit) → left k (f ⊹ g) ≡ (left k f ⊹ left k g)
+left-append (Verdict v) f g = pruned_below-append (has_verdict v) f g
+left-append Noted f g = kept_below-append noted f g
+
+marked-append : (k : Keep) (f g : Forest OutputUnit) → marked k (f ⊹ g) ≡ marked k f ++ marked k g
+marked-append k empty g = refl
+marked-append k (tree u below after) g =
+    let r : Row = record { unit = u; size = suc (node_count below); room = node_count (left k (tree u below empty)); stays = stays k u (left_trees k below) } in
+    ap (λ xs. r ∷ (marked k below ++ xs)) (marked-append k after g) ∙ ap (λ xs. r ∷ xs) (sym (append_assoc (marked k below) (marked k after) (marked k g)))
+
+pub length-marked : (k : Keep) (f : Forest OutputUnit) → length (marked k f) ≡ node_count f
+length-marked k empty = refl
+length-marked k (tree u below after) = omega (arith, length-append (marked k below) (marked k after), length-marked k below, length-marked k after)
+
+-- what is left of a tree and of those after it
+node_count-left : (k : Keep) (u : OutputUnit) (below after : Forest OutputUnit) → node_count (left k (tree u below after)) ≡ node_count (left k (tree u below empty)) + node_count (left k after)
+node_count-left k u below after = ap node_count (left-append k (tree u below empty) after) ∙ node_count-append (left k (tree u below empty)) (left k after)
+
+-- ---- a node's marks, of what is left below it
+
+pruned_room : (v : Bool) (u : OutputUnit) (f : Forest OutputUnit) → node_count (if v then tree u f empty else empty) ≡ (if v then suc (node_count f) else 0)
+pruned_room true u f = omega arith
+pruned_room false u f = refl
+
+kept_room : (v : Bool) (u : OutputUnit) (f : Forest OutputUnit) → node_count (if v then tree u f empty else (f ⊹ empty)) ≡ (if v then suc (node_count f) else node_count f)
+kept_room true u f = omega arith
+kept_room false u f = ap node_count (append-empty f)
+
+-- of a forest with a tree there is a node
+some_node : (f : Forest OutputUnit) → at_least_one (node_count f) ≡ at_least_one (tree_count f)
+some_node empty = refl
+some_node (tree u below after) = refl
+
+one_if : (v : Bool) → at_least_one (if v then 1 else 0) ≡ v
+one_if true = refl
+one_if false = refl
+
+kept_some : (u : OutputUnit) (below : Forest OutputUnit) → at_least_one (node_count (kept_below (tree u below empty))) ≡ (noted u || at_least_one (keep.noted_trees noted below))
+kept_some u below =
+    some_node (kept_below (tree u below empty)) ∙ (ap at_least_one (tree_count-kept_below noted (tree u below empty)) ∙ one_if (noted u || at_least_one (keep.noted_trees noted below)))
+
+left_trees-noted : (f : Forest OutputUnit) → left_trees Noted f ≡ keep.noted_trees noted f
+left_trees-noted empty = refl
+left_trees-noted (tree u below after) = rw (kept_some u below, left_trees-noted after) refl
+
+pub room_is : (k : Keep) (u : OutputUnit) (below : Forest OutputUnit) → room k (stays k u (left_trees k below)) (node_count (left k below)) ≡ node_count (left k (tree u below empty))
+room_is (Verdict v) u below = sym (pruned_room (has_verdict v u) u (pruned_below v below))
+room_is Noted u below =
+    ap (λ n. room Noted (stays Noted u n) (node_count (kept_below below))) (left_trees-noted below)
+    ∙ sym (kept_room (noted u || at_least_two (keep.noted_trees noted below)) u (kept_below below))
+
+-- ---- no more is left than there was
+
+fewer_at : (b : Bool) (n m : ℕ) → n ≤ m → (if b then suc n else 0) ≤ suc m
+fewer_at true n m h = omega arith
+fewer_at false n m h = omega arith
+
+fewer_kept : (b : Bool) (n m : ℕ) → n ≤ m → (if b then suc n else n) ≤ suc m
+fewer_kept true n m h = omega arith
+fewer_kept false n m h = omega arith
+
+fewer_room : (k : Keep) (b : Bool) (n m : ℕ) → n ≤ m → room k b n ≤ suc m
+fewer_room (Verdict v) b n m h = fewer_at b n m h
+fewer_room Noted b n m h = fewer_kept b n m h
+
+pub fewer_left : (k : Keep) (f : Forest OutputUnit) → node_count (left k f) ≤ node_count f
+fewer_left (Verdict v) empty = omega arith
+fewer_left Noted empty = omega arith
+fewer_left k (tree u below after) =
+    let e = node_count-left k u below after in
+    let r = room_is k u below in
+    let l = fewer_room k (stays k u (left_trees k below)) (node_count (left k below)) (node_count below) (fewer_left k below) in
+    omega (arith, e, r, l, fewer_left k after)
+
+few_at : (b : Bool) (n m l : ℕ) → n ≤ l → (if b then suc n else n) ≤ suc (m + l)
+few_at true n m l h = omega arith
+few_at false n m l h = omega arith
+
+pub fewer_trees : (k : Keep) (f : Forest OutputUnit) → left_trees k f ≤ node_count f
+fewer_trees k empty = omega arith
+fewer_trees k (tree u below after) = few_at (at_least_one (node_count (left k (tree u below empty)))) (left_trees k after) (node_count below) (node_count after) (fewer_trees k after)
+
+-- ---- the forest of the rows from one on
+
+abbrev pub from : ℕ → Forest OutputUnit → Forest OutputUnit
+from zero f = f
+from (suc n) empty = empty
+from (suc n) (tree u below after) = from n (below ⊹ after)
+
+flat_of-from : (n : ℕ) (f : Forest OutputUnit) → flat_of (from n f) ≡ drop n (flat_of f)
+flat_of-from zero f = refl
+flat_of-from (suc n) empty = refl
+flat_of-from (suc n) (tree u below after) = flat_of-from n (below ⊹ after) ∙ ap (drop n) (flat_of-append below after)
+
+pub from-all : (n : ℕ) (f : Forest OutputUnit) → node_count f ≤ n → from n f ≡ empty
+from-all zero empty h = refl
+from-all zero (tree u below after) h = absurd (omega (arith, h))
+from-all (suc n) empty h = refl
+from-all (suc n) (tree u below after) h = from-all n (below ⊹ after) (omega (arith, h, node_count-append below after))
+
+-- the node of a number, with what stands below it and after it
+pub record At (n : ℕ) (f : Forest OutputUnit) : Type 0 where
+  pub unit : OutputUnit
+  pub below : Forest OutputUnit
+  pub after : Forest OutputUnit
+  pub is : from n f ≡ tree unit below after
+  pub next : from (suc n) f ≡ (below ⊹ after)
+
+pub node_at : (n : ℕ) (f : Forest OutputUnit) → n < node_count f → At n f
+node_at zero empty h = absurd (omega (arith, h))
+node_at zero (tree u below after) h = record { unit = u; below = below; after = after; is = refl; next = refl }
+node_at (suc n) empty h = absurd (omega (arith, h))
+node_at (suc n) (tree u below after) h =
+    let a = node_at n (below ⊹ after) (omega (arith, h, node_count-append below after)) in
+    record { unit = a.unit; below = a.below; after = a.after; is = a.is; next = a.next }
+
+head_of : (x y : FlatRow) (xs ys : List FlatRow) → x ∷ xs ≡ y ∷ ys → x ≡ y
+head_of x y xs ys e = cc
+
+map-drop : (n : ℕ) (rows : List Row) → map row_of (drop n rows) ≡ drop n (map row_of rows)
+map-drop zero rows = refl
+map-drop (suc n) [] = refl
+map-drop (suc n) (r ∷ rows) = map-drop n rows
+
+-- the row of that number is the node's
+pub row_at : (rows : List Row) (f : Forest OutputUnit) (n : ℕ) (d : Row) → map row_of rows ≡ flat_of f → n < length rows → (a : At n f) → row_of (get_or rows n d) ≡ (a.unit, suc (node_count a.below))
+row_at rows f n d e h a =
+    head_of (row_of (get_or rows n d)) (a.unit, suc (node_count a.below)) (map row_of (drop (n + 1) rows)) (flat_of a.below ++ flat_of a.after)
+    (ap (map row_of) (sym (drop_more rows n d h)) ∙ (map-drop n rows ∙ (ap (drop n) e ∙ (sym (flat_of-from n f) ∙ ap flat_of a.is))))
+
+pub rows_of : (rows : List Row) (f : Forest OutputUnit) → map row_of rows ≡ flat_of f → length rows ≡ node_count f
+rows_of rows f e = sym (length-map rows row_of) ∙ (ap length e ∙ length-flat_of f)
+
+-- what stands after the row is marked, below the node and after it
+pub marked_after : (k : Keep) (rows : List Row) (f : Forest OutputUnit) (n : ℕ) (a : At n f) → drop (suc n) rows ≡ marked k (from (suc n) f) → drop (suc n) rows ≡ marked k a.below ++ marked k a.after
+marked_after k rows f n a e = e ∙ (ap (marked k) a.next ∙ marked-append k a.below a.after)
+
+plus_one : (n : ℕ) → n + 1 ≡ suc n
+plus_one n = omega arith
+
+row_is : (r : Row) (u : OutputUnit) (size room : ℕ) (stays : Bool) → r.unit ≡ u → r.size ≡ size → r.room ≡ room → r.stays ≡ stays → r ≡ record { unit = u; size = size; room = room; stays = stays }
+row_is r u size room stays e f g h =
+    ap (λ x. record { unit = x; size = r.size; room = r.room; stays = r.stays }) e
+    ∙ (ap (λ x. record { unit = u; size = x; room = r.room; stays = r.stays }) f
+    ∙ (ap (λ x. record { unit = u; size = size; room = x; stays = r.stays }) g
+    ∙ ap (λ x. record { unit = u; size = size; room = room; stays = x }) h))
+
+-- one row more is marked
+pub marks_one : (k : Keep) (rows : List Row) (f : Forest OutputUnit) (n : ℕ) (new : Row) → n < length rows → (a : At n f) → drop (suc n) rows ≡ marked k (from (suc n) f)
+    → new.unit ≡ a.unit → new.size ≡ suc (node_count a.below) → new.room ≡ room k (stays k a.unit (left_trees k a.below)) (node_count (left k a.below)) → new.stays ≡ stays k a.unit (left_trees k a.below)
+    → drop n (set rows n new) ≡ marked k (from n f)
+marks_one k rows f n new h a m u s p q =
+    drop-set rows n new h
+    ∙ (ap (λ i. new ∷ drop i rows) (plus_one n)
+    ∙ (ap (λ xs. new ∷ xs) (marked_after k rows f n a m)
+    ∙ (ap (λ y. y ∷ (marked k a.below ++ marked k a.after)) (row_is new a.unit (suc (node_count a.below)) (node_count (left k (tree a.unit a.below empty))) (stays k a.unit (left_trees k a.below)) u s (p ∙ room_is k a.unit a.below) q)
+    ∙ ap (marked k) (sym a.is))))
+
+-- a row that is marked tells of its node what it did
+pub tells_same : (rows : List Row) (n : ℕ) (d new : Row) → row_of new ≡ row_of (get_or rows n d) → map row_of (set rows n new) ≡ map row_of rows
+tells_same rows n d new e =
+    map-set row_of rows n new ∙ (ap (set (map row_of rows) n) e ∙ (sym (map-set row_of rows n (get_or rows n d)) ∙ ap (map row_of) (set-get_or rows n d)))
+
+-- before any row is marked
+pub mark_start : (k : Keep) (rows : List Row) (f : Forest OutputUnit) → map row_of rows ≡ flat_of f → drop (length rows) rows ≡ marked k (from (length rows) f)
+mark_start k rows f e = let l = rows_of rows f e in drop-length rows ∙ ap (marked k) (sym (from-all (length rows) f (omega (arith, l))))
+
+pub node_count-from : (n : ℕ) (f : Forest OutputUnit) → n ≤ node_count f → n + node_count (from n f) ≡ node_count f
+node_count-from zero f h = omega arith
+node_count-from (suc n) empty h = absurd (omega (arith, h))
+node_count-from (suc n) (tree u below after) h =
+    let c = node_count-append below after in
+    let r = node_count-from n (below ⊹ after) (omega (arith, h, c)) in omega (arith, r, c)
+
+-- the node's tree ends within the rows
+pub tree_fits : (rows : List Row) (f : Forest OutputUnit) (n : ℕ) (d : Row) → map row_of rows ≡ flat_of f → n < length rows → n + (get_or rows n d).size ≤ length rows
+tree_fits rows f n d e h =
+    let l = rows_of rows f e in
+    let a = node_at n f (omega (arith, l, h)) in
+    let s : (get_or rows n d).size ≡ suc (node_count a.below) = ap (λ y. y.1) (row_at rows f n d e h a) in
+    let c : node_count (from n f) ≡ suc (node_count a.below + node_count a.after) = ap node_count a.is in
+    omega (arith, l, s, c, node_count-from n f (omega (arith, l, h)))
+
+-- ---- the marked rows of trees that are gone through one after another
+
+drop-append : {A : Type 0} (xs ys : List A) → drop (length xs) (xs ++ ys) ≡ ys
+drop-append [] ys = refl
+drop-append (x ∷ xs) ys = drop-append xs ys
+
+drop_none : (n : ℕ) (rows : List Row) → rows ≡ [] → drop n rows ≡ []
+drop_none zero rows e = e
+drop_none (suc n) [] e = refl
+drop_none (suc n) (r ∷ rows) e = absurd cc
+
+drop-drop : (n m : ℕ) (xs : List Row) → drop (n + m) xs ≡ drop m (drop n xs)
+drop-drop zero m xs = let z : 0 + m ≡ m = omega arith in rw z refl
+drop-drop (suc n) m [] = drop_none (suc n + m) [] refl ∙ sym (drop_none m [] refl)
+drop-drop (suc n) m (x ∷ xs) = let z : suc n + m ≡ suc (n + m) = omega arith in rw z (drop-drop n m xs)
+
+there : (rows : List Row) (n : ℕ) (y : Row) (ys : List Row) → drop n rows ≡ y ∷ ys → n < length rows
+there [] zero y ys e = absurd cc
+there [] (suc n) y ys e = absurd cc
+there (r ∷ rows) zero y ys e = omega arith
+there (r ∷ rows) (suc n) y ys e = omega (arith, there rows n y ys e)
+
+-- the tree whose rows come next
+record Next (k : Keep) (rows rest : List Row) (g : Forest OutputUnit) (n : ℕ) (x : Row) : Type 0 where
+  pub unit : OutputUnit
+  pub below : Forest OutputUnit
+  pub after : Forest OutputUnit
+  pub is : g ≡ tree unit below after
+  pub size : x.size ≡ suc (node_count below)
+  pub room : x.room ≡ node_count (left k (tree unit below empty))
+  pub more : drop (n + x.size) rows ≡ marked k after ++ rest
+
+cons_head : (x y : Row) (xs ys : List Row) → x ∷ xs ≡ y ∷ ys → x ≡ y
+cons_head x y xs ys e = cc
+
+cons_tail : (x y : Row) (xs ys : List Row) → x ∷ xs ≡ y ∷ ys → xs ≡ ys
+cons_tail x y xs ys e = cc
+
+next_tree : (k : Keep) (rows rest : List Row) (g : Forest OutputUnit) (n end : ℕ) (x : Row) → drop n rows ≡ marked k g ++ rest → n + node_count g ≡ end → n < end → end ≤ length rows → x ≡ get_or rows n x → Next k rows rest g n x
+next_tree k rows rest empty n end x d c h b e = absurd (omega (arith, c, h))
+next_tree k rows rest (tree u below after) n end x d c h b e =
+    let r : Row = record { unit = u; size = suc (node_count below); room = node_count (left k (tree u below empty)); stays = stays k u (left_trees k below) } in
+    let p : get_or rows n x ∷ drop (n + 1) rows ≡ r ∷ ((marked k below ++ marked k after) ++ rest) = sym (drop_more rows n x (omega (arith, h, b))) ∙ d in
+    let q : x ≡ r = e ∙ cons_head (get_or rows n x) r (drop (n + 1) rows) ((marked k below ++ marked k after) ++ rest) p in
+    let s : x.size ≡ suc (node_count below) = ap (λ y. y.size) q in
+    let i : n + x.size ≡ (n + 1) + length (marked k below) = omega (arith, s, length-marked k below) in
+    record {
+      unit = u;
+      below = below;
+      after = after;
+      is = refl;
+      size = s;
+      room = ap (λ y. y.room) q;
+      more =
+          ap (λ m. drop m rows) i
+          ∙ (drop-drop (n + 1) (length (marked k below)) rows
+          ∙ (ap (drop (length (marked k below))) (cons_tail (get_or rows n x) r (drop (n + 1) rows) ((marked k below ++ marked k after) ++ rest) p ∙ append_assoc (marked k below) (marked k after) rest)
+          ∙ drop-append (marked k below) (marked k after ++ rest)));
+    }
+
+some_left : (n : ℕ) → 0 < n → at_least_one n ≡ true
+some_left zero h = absurd (omega (arith, h))
+some_left (suc n) h = refl
+
+none_left : (n : ℕ) → n ≡ 0 → at_least_one n ≡ false
+none_left zero h = refl
+none_left (suc n) h = absurd (omega (arith, h))
+
+-- of one tree more something is left, or nothing is
+one_tree : (k : Keep) (u : OutputUnit) (below after : Forest OutputUnit) → 0 < node_count (left k (tree u below empty)) → left_trees k (tree u below after) ≡ suc (left_trees k after)
+one_tree k u below after h = rw (some_left (node_count (left k (tree u below empty))) h) refl
+
+no_tree : (k : Keep) (u : OutputUnit) (below after : Forest OutputUnit) → node_count (left k (tree u below empty)) ≡ 0 → left_trees k (tree u below after) ≡ left_trees k after
+no_tree k u below after h = rw (none_left (node_count (left k (tree u below empty))) h) refl
+
+trees_at : (k : Keep) (g after below : Forest OutputUnit) (u : OutputUnit) (trees trees' all room : ℕ) → ((0 < room) × (trees' ≡ trees + 1)) ⊎ ((room ≡ 0) × (trees' ≡ trees))
+    → left_trees k g ≡ left_trees k (tree u below after) → room ≡ node_count (left k (tree u below empty)) → trees + left_trees k g ≡ all → trees' + left_trees k after ≡ all
+trees_at k g after below u trees trees' all room (inl p) s r e = let o = one_tree k u below after (omega (arith, p.0, r)) in omega (arith, p.1, o, s, e)
+trees_at k g after below u trees trees' all room (inr p) s r e = let o = no_tree k u below after (omega (arith, p.0, r)) in omega (arith, p.1, o, s, e)
+
+pub tallied_more : (rows : List Row) (first end n trees nodes trees' : ℕ) (x : Row) → Tallied rows first end n trees nodes → n < end → end ≤ length rows → x ≡ get_or rows n x
+    → ((0 < x.room) × (trees' ≡ trees + 1)) ⊎ ((x.room ≡ 0) × (trees' ≡ trees)) → Tallied rows first end (n + x.size) trees' (nodes + x.room)
+tallied_more rows first end n trees nodes trees' x i h b e w k f rest d c =
+    let t = i k f rest d c in
+    let q = next_tree k rows rest t.0 n end x t.1 t.2 h b e in
+    let m : node_count t.0 ≡ suc (node_count q.below + node_count q.after) = ap node_count q.is in
+    let l : node_count (left k t.0) ≡ node_count (left k (tree q.unit q.below empty)) + node_count (left k q.after) = ap (λ g. node_count (left k g)) q.is ∙ node_count-left k q.unit q.below q.after in
+    let s : left_trees k t.0 ≡ left_trees k (tree q.unit q.below q.after) = ap (left_trees k) q.is in
+    let r = q.room in
+    let z = q.size in
+    let y : trees' + left_trees k q.after ≡ left_trees k f = trees_at k t.0 q.after q.below q.unit trees trees' (left_trees k f) x.room w s r t.3 in
+    (q.after, q.more, omega (arith, m, z, t.2), y, omega (arith, l, r, t.4))
+
+left_empty : (k : Keep) → node_count (left k empty) ≡ 0
+left_empty (Verdict v) = refl
+left_empty Noted = refl
+
+no_node : (f : Forest OutputUnit) → node_count f ≡ 0 → f ≡ empty
+no_node empty e = refl
+no_node (tree u below after) e = absurd (omega (arith, e))
+
+pub tallied_all : (rows : List Row) (first end n trees nodes : ℕ) → Tallied rows first end n trees nodes → end ≤ n → (k : Keep) (f : Forest OutputUnit) (rest : List Row) → drop first rows ≡ marked k f ++ rest → first + node_count f ≡ end
+    → (trees ≡ left_trees k f) × (nodes ≡ node_count (left k f))
+tallied_all rows first end n trees nodes i h k f rest d c =
+    let t = i k f rest d c in
+    let z : t.0 ≡ empty = no_node t.0 (let p = t.2 in omega (arith, p, h)) in
+    let a : left_trees k t.0 ≡ 0 = ap (left_trees k) z in
+    let b : node_count (left k t.0) ≡ 0 = ap (λ g. node_count (left k g)) z ∙ left_empty k in
+    let p = t.3 in
+    let q = t.4 in
+    (omega (arith, p, a), omega (arith, q, b))
+
+pub tally_start : (rows : List Row) (first end : ℕ) → Tallied rows first end first 0 0
+tally_start rows first end k f rest d c = (f, d, c, omega arith, omega arith)
+
+-- what is counted stays within the rows
+pub tally_fits : (rows : List Row) (first end n trees nodes : ℕ) (x : Row) → AreMarked rows first end → Tallied rows first end n trees nodes → n < end → end ≤ length rows → x ≡ get_or rows n x
+    → (n + x.size ≤ end) × (n < n + x.size) × (nodes + x.room ≤ end) × (0 < x.room → trees + 1 ≤ end)
+tally_fits rows first end n trees nodes x m i h b e =
+    let t = i m.0 m.1 m.2 m.3 m.4 in
+    let q = next_tree m.0 rows m.2 t.0 n end x t.1 t.2 h b e in
+    let c : node_count t.0 ≡ suc (node_count q.below + node_count q.after) = ap node_count q.is in
+    let l : node_count (left m.0 t.0) ≡ node_count (left m.0 (tree q.unit q.below empty)) + node_count (left m.0 q.after) = ap (λ g. node_count (left m.0 g)) q.is ∙ node_count-left m.0 q.unit q.below q.after in
+    let s = q.size in
+    let r = q.room in
+    let p = t.2 in
+    let u = t.3 in
+    let v = t.4 in
+    let w = m.4 in (
+      omega (arith, c, s, p),
+      omega (arith, s),
+      omega (arith, l, r, v, w, fewer_left m.0 m.1),
+      λ z. let o : left_trees m.0 t.0 ≡ suc (left_trees m.0 q.after) = ap (left_trees m.0) q.is ∙ one_tree m.0 q.unit q.below q.after (omega (arith, z, r)) in omega (arith, o, u, w, fewer_trees m.0 m.1),
+    )
+
+-- ---- what marked rows leave
+
+gathered-others : (k : Keep) (xs ys : List Row) → gathered k (length xs) (xs ++ ys) ≡ gathered k 0 ys
+gathered-others k [] ys = refl
+gathered-others k (x ∷ xs) ys = gathered-others k xs ys
+
+-- of some rows and of those after them
+both : (k : Keep) (xs ys rest : List Row) (fs gs : List FlatRow) → ((zs : List Row) → gathered k 0 (xs ++ zs) ≡ fs ++ gathered k 0 zs) → gathered k 0 (ys ++ rest) ≡ gs ++ gathered k 0 rest
+    → gathered k 0 ((xs ++ ys) ++ rest) ≡ (fs ++ gs) ++ gathered k 0 rest
+both k xs ys rest fs gs e f =
+    ap (gathered k 0) (append_assoc xs ys rest) ∙ (e (ys ++ rest) ∙ (ap (λ zs. fs ++ zs) f ∙ sym (append_assoc fs gs (gathered k 0 rest))))
+
+plus_none : (n : ℕ) → n + 0 ≡ n
+plus_none n = omega arith
+
+pruned_at : (b v : Bool) (u : OutputUnit) (below after : Forest OutputUnit) (rest : List Row) → has_verdict v u ≡ b
+    → ((zs : List Row) → gathered (Verdict v) 0 (marked (Verdict v) below ++ zs) ≡ flat_of (pruned_below v below) ++ gathered (Verdict v) 0 zs)
+    → gathered (Verdict v) 0 (marked (Verdict v) after ++ rest) ≡ flat_of (pruned_below v after) ++ gathered (Verdict v) 0 rest
+    → gathered (Verdict v) 0 (marked (Verdict v) (tree u below after) ++ rest) ≡ flat_of (pruned_below v (tree u below after)) ++ gathered (Verdict v) 0 rest
+pruned_at true v u below after rest e i j =
+    rw e
+    (ap (λ n. (u, suc n) ∷ gathered (Verdict v) 0 ((marked (Verdict v) below ++ marked (Verdict v) after) ++ rest)) (plus_none (node_count (pruned_below v below)))
+    ∙ ap (λ xs. (u, suc (node_count (pruned_below v below))) ∷ xs) (both (Verdict v) (marked (Verdict v) below) (marked (Verdict v) after) rest (flat_of (pruned_below v below)) (flat_of (pruned_below v after)) i j))
+pruned_at false v u below after rest e i j =
+    let z : suc (node_count below) - 1 ≡ length (marked (Verdict v) below) = omega (arith, length-marked (Verdict v) below) in
+    rw e
+    (ap (λ n. gathered (Verdict v) n ((marked (Verdict v) below ++ marked (Verdict v) after) ++ rest)) z
+    ∙ (ap (gathered (Verdict v) (length (marked (Verdict v) below))) (append_assoc (marked (Verdict v) below) (marked (Verdict v) after) rest)
+    ∙ (gathered-others (Verdict v) (marked (Verdict v) below) (marked (Verdict v) after ++ rest) ∙ j)))
+
+kept_at : (b : Bool) (u : OutputUnit) (below after : Forest OutputUnit) (rest : List Row) → (noted u || at_least_two (left_trees Noted below)) ≡ b → keep.is_kept noted u below ≡ b
+    → ((zs : List Row) → gathered Noted 0 (marked Noted below ++ zs) ≡ flat_of (kept_below below) ++ gathered Noted 0 zs)
+    → gathered Noted 0 (marked Noted after ++ rest) ≡ flat_of (kept_below after) ++ gathered Noted 0 rest
+    → gathered Noted 0 (marked Noted (tree u below after) ++ rest) ≡ flat_of (kept_below (tree u below after)) ++ gathered Noted 0 rest
+kept_at true u below after rest e f i j =
+    rw (e, f)
+    (ap (λ n. (u, suc n) ∷ gathered Noted 0 ((marked Noted below ++ marked Noted after) ++ rest)) (plus_none (node_count (kept_below below)))
+    ∙ ap (λ xs. (u, suc (node_count (kept_below below))) ∷ xs) (both Noted (marked Noted below) (marked Noted after) rest (flat_of (kept_below below)) (flat_of (kept_below after)) i j))
+kept_at false u below after rest e f i j =
+    rw (e, f)
+    (both Noted (marked Noted below) (marked Noted after) rest (flat_of (kept_below below)) (flat_of (kept_below after)) i j
+    ∙ ap (λ xs. xs ++ gathered Noted 0 rest) (sym (flat_of-append (kept_below below) (kept_below after))))
+
+pub gathered-marked : (k : Keep) (f : Forest OutputUnit) (rest : List Row) → gathered k 0 (marked k f ++ rest) ≡ flat_of (left k f) ++ gathered k 0 rest
+gathered-marked (Verdict v) empty rest = refl
+gathered-marked Noted empty rest = refl
+gathered-marked (Verdict v) (tree u below after) rest = pruned_at (has_verdict v u) v u below after rest refl (λ zs. gathered-marked (Verdict v) below zs) (gathered-marked (Verdict v) after rest)
+gathered-marked Noted (tree u below after) rest =
+    kept_at (keep.is_kept noted u below) u below after rest (ap (λ n. noted u || at_least_two n) (left_trees-noted below)) refl (λ zs. gathered-marked Noted below zs) (gathered-marked Noted after rest)
+
+-- ---- one row more is gone past
+
+-- one of the rows
+pub a_row : (rows : List Row) (n : ℕ) → n < length rows → Row
+a_row [] n h = absurd (omega (arith, h))
+a_row (r ∷ rows) n h = r
+
+pub goes_with : (k : Keep) (rows : List Row) (i n : ℕ) (d : Row) → 0 < n → i < length rows → gathered k (n - 1) (drop (i + 1) rows) ≡ gathered k n (drop i rows)
+goes_with k rows i zero d h l = absurd (omega (arith, h))
+goes_with k rows i (suc n) d h l =
+    let z : suc n - 1 ≡ n = omega arith in
+    ap (λ m. gathered k m (drop (i + 1) rows)) z ∙ ap (gathered k (suc n)) (sym (drop_more rows i d l))
+
+gathered_at : (k : Keep) (r : Row) (rows : List Row) (b : Bool) → r.stays ≡ b → gathered k 0 (r ∷ rows) ≡ (if b then (r.unit, r.room) ∷ gathered k 0 rows else gathered k (others k r.size) rows)
+gathered_at k r rows b e = rw e refl
+
+pub goes : (k : Keep) (rows : List Row) (i m : ℕ) (d : Row) → i < length rows → (get_or rows i d).stays ≡ false → m ≡ others k (get_or rows i d).size → gathered k m (drop (i + 1) rows) ≡ gathered k 0 (drop i rows)
+goes k rows i m d l e f =
+    ap (λ n. gathered k n (drop (i + 1) rows)) f ∙ (sym (gathered_at k (get_or rows i d) (drop (i + 1) rows) false e) ∙ ap (gathered k 0) (sym (drop_more rows i d l)))
+
+pub stays_here : (k : Keep) (rows : List Row) (count i : ℕ) (d new : Row) → count ≤ i → i < length rows → (get_or rows i d).stays ≡ true → row_of new ≡ ((get_or rows i d).unit, (get_or rows i d).room)
+    → map row_of (take (count + 1) (swap (set rows i new) count i)) ++ gathered k 0 (drop (i + 1) (swap (set rows i new) count i)) ≡ map row_of (take count rows) ++ gathered k 0 (drop i rows)
+stays_here k rows count i d new c l e f =
+    let one = set rows i new in
+    let m : i < length one = simp length-set l in
+    let past : i < i + 1 = omega arith in
+    let front : take (count + 1) (swap one count i) ≡ take count rows ++ new ∷ [] =
+    take-swap one count i d c m ∙ (ap (λ xs. xs ++ get_or one i d ∷ []) (take-set-le count rows i new c) ∙ ap (λ x. take count rows ++ x ∷ []) (get_or-set_same rows i new d l)) in
+    let back : drop (i + 1) (swap one count i) ≡ drop (i + 1) rows = drop-swap one count i d c m ∙ drop-set-lt (i + 1) rows i new past in
+    let g : gathered k 0 (drop i rows) ≡ ((get_or rows i d).unit, (get_or rows i d).room) ∷ gathered k 0 (drop (i + 1) rows) =
+    ap (gathered k 0) (drop_more rows i d l) ∙ gathered_at k (get_or rows i d) (drop (i + 1) rows) true e in
+    ap (λ xs. map row_of xs ++ gathered k 0 (drop (i + 1) (swap one count i))) front
+    ∙ (ap (λ xs. map row_of (take count rows ++ new ∷ []) ++ gathered k 0 xs) back
+    ∙ (ap (λ xs. xs ++ gathered k 0 (drop (i + 1) rows)) (map-append row_of (take count rows) (new ∷ []))
+    ∙ (append_assoc (map row_of (take count rows)) (row_of new ∷ []) (gathered k 0 (drop (i + 1) rows))
+    ∙ (ap (λ y. map row_of (take count rows) ++ y ∷ gathered k 0 (drop (i + 1) rows)) f
+    ∙ ap (λ xs. map row_of (take count rows) ++ xs) (sym g)))))
+
+gathered_none : (k : Keep) (n : ℕ) → gathered k n [] ≡ []
+gathered_none k zero = refl
+gathered_none k (suc n) = refl
+
+-- all rows are gone past
+pub gathered_all : (k : Keep) (rows : List Row) (n : ℕ) (fs gs : List FlatRow) → fs ++ gathered k n (drop (length rows) rows) ≡ gs → fs ≡ gs
+gathered_all k rows n fs gs e = sym (append-nil fs) ∙ (ap (λ xs. fs ++ xs) (sym (ap (gathered k n) (drop-length rows) ∙ gathered_none k n)) ∙ e)
+
+-- ---- the whole
+
+pub flat-flat_of : (t : ResultTree) → flat t ≡ flat_of (tree t.root t.below empty)
+flat-flat_of t = ap (λ xs. (t.root, suc (node_count t.below)) ∷ xs) (sym (append-nil (flat_of t.below)))
+
+take_drop_one : (k : Keep) (t : ResultTree) (rows : List Row) → rows ≡ marked k (tree t.root t.below empty) → map row_of (take 1 rows) ++ gathered k 0 (drop 1 rows) ≡ (t.root, suc (node_count t.below)) ∷ flat_of (left k t.below)
+take_drop_one k t rows e =
+    ap (λ xs. map row_of (take 1 xs) ++ gathered k 0 (drop 1 xs)) e
+    ∙ ap (λ xs. (t.root, suc (node_count t.below)) ∷ xs) (gathered-marked k t.below [] ∙ append-nil (flat_of (left k t.below)))
+
+tail_of : (x y : FlatRow) (xs ys : List FlatRow) → x ∷ xs ≡ y ∷ ys → xs ≡ ys
+tail_of x y xs ys e = cc
+
+take_length : (n : ℕ) (rows : List Row) → n ≤ length rows → length (take n rows) ≡ n
+take_length zero rows h = refl
+take_length (suc n) [] h = absurd (omega (arith, h))
+take_length (suc n) (r ∷ rows) h = ap suc (take_length n rows (omega (arith, h)))
+
+take_all : (n : ℕ) (rows : List Row) → length rows ≤ n → take n rows ≡ rows
+take_all zero [] h = refl
+take_all zero (r ∷ rows) h = absurd (omega (arith, h))
+take_all (suc n) [] h = refl
+take_all (suc n) (r ∷ rows) h = ap (λ xs. r ∷ xs) (take_all n rows (omega (arith, h)))
+
+-- a list whose slice was written
+pub whole_slice : (n : ℕ) (new old : List Row) → length new ≡ length old → n ≡ length old → take n (new ++ drop (length new) old) ≡ new
+whole_slice n new old e f =
+    ap (λ xs. take n (new ++ xs)) (drop_all (length new) old (omega (arith, e)))
+    ∙ (ap (take n) (append-nil new) ∙ take_all n new (omega (arith, e, f)))
+
+root_sized : (rows : List Row) (u : OutputUnit) (size count : ℕ) (fs : List FlatRow) (d new : Row) → map row_of rows ≡ (u, size) ∷ fs → row_of new ≡ ((get_or rows 0 d).unit, count) → map row_of (set rows 0 new) ≡ (u, count) ∷ fs
+root_sized [] u size count fs d new e f = absurd cc
+root_sized (r ∷ rows) u size count fs d new e f =
+    let p : row_of r ≡ (u, size) = head_of (row_of r) (u, size) (map row_of rows) fs e in
+    let q : map row_of rows ≡ fs = tail_of (row_of r) (u, size) (map row_of rows) fs e in
+    ap (λ y. y ∷ map row_of rows) (f ∙ ap (λ y. (y.0, count)) p) ∙ ap (λ xs. (u, count) ∷ xs) q
+
+pub keeps : (k : Keep) (t : ResultTree) (marks all front : List Row) (count : ℕ) (d new : Row) → marks ≡ marked k (tree t.root t.below empty) → map row_of (take count all) ≡ map row_of (take 1 marks) ++ gathered k 0 (drop 1 marks)
+    → count ≤ length all → front ≡ take count all → row_of new ≡ ((get_or front 0 d).unit, count) → map row_of (set front 0 new) ≡ flat (left_of k t)
+keeps k t marks all front count d new m g c f e =
+    let w : map row_of front ≡ (t.root, suc (node_count t.below)) ∷ flat_of (left k t.below) = ap (map row_of) f ∙ (g ∙ take_drop_one k t marks m) in
+    let n : length front ≡ count = ap length f ∙ take_length count all c in
+    let l : length front ≡ suc (node_count (left k t.below)) = sym (length-map front row_of) ∙ (ap length w ∙ ap suc (length-flat_of (left k t.below))) in
+    root_sized front t.root (suc (node_count t.below)) count (flat_of (left k t.below)) d new w e ∙ ap (λ i. (t.root, i) ∷ flat_of (left k t.below)) (sym n ∙ l)

@@ -1,0 +1,57 @@
+-- What a collector of the whole tree holds.
+use Rattle.std.specs.Prelude.{ℕ, Bool, List, [], ◌∷◌, Option, Some, None}
+use Rattle.js_tree.specs.Events.{Event, opening, closing}
+use Rattle.js_tree.specs.Forest.{Forest, empty, tree, forest_of, ◌⊹◌}
+use Rattle.js_tree.specs.Note.{Note}
+use Rattle.js_tree.specs.OutputUnit.{OutputUnit}
+use Rattle.js_tree.specs.Result.{ResultTree}
+use Rattle.js_tree.specs.declared.boxed.OpenNode.{OpenNode}
+use Rattle.js_tree.specs.declared.boxed.Boxed.{Boxed}
+
+-- a node that is open: its locations, and the trees below it that have closed
+pub record Frame : Type 0 where
+  pub keyword : List ℕ
+  pub absolute : List ℕ
+  pub instance : List ℕ
+  pub below : Forest OutputUnit
+
+-- the open nodes, the innermost first, and the whole tree, once its root has closed
+pub record State : Type 0 where
+  pub frames : List Frame
+  pub found : Option ResultTree
+
+abbrev pub start : State
+start = record { frames = []; found = None }
+
+abbrev pub unit_of : Frame → Bool → Note → OutputUnit
+unit_of f valid note = record { valid = valid; keyword = f.keyword; absolute = f.absolute; instance = f.instance; note = note }
+
+-- one tree more below
+abbrev pub with_tree : Frame → OutputUnit → Forest OutputUnit → Frame
+with_tree f u below = record { keyword = f.keyword; absolute = f.absolute; instance = f.instance; below = f.below ⊹ tree u below empty }
+
+-- no node opens after the root has closed
+abbrev pub opened : Option ResultTree → List Frame → List ℕ → List ℕ → List ℕ → State
+opened None frames keyword absolute instance = record { frames = record { keyword = keyword; absolute = absolute; instance = instance; below = empty } ∷ frames; found = None }
+opened (Some t) frames keyword absolute instance = record { frames = frames; found = Some t }
+
+-- where nothing is open nothing closes
+abbrev pub closed : Option ResultTree → List Frame → Bool → Note → State
+closed found [] valid note = record { frames = []; found = found }
+closed found (f ∷ []) valid note = record { frames = []; found = Some (record { root = unit_of f valid note; below = f.below }) }
+closed found (f ∷ g ∷ frames) valid note = record { frames = with_tree g (unit_of f valid note) f.below ∷ frames; found = found }
+
+abbrev pub after : State → Event → State
+after s (opening keyword absolute instance) = opened s.found s.frames keyword absolute instance
+after s (closing valid note) = closed s.found s.frames valid note
+
+abbrev pub frame_of : OpenNode → Frame
+frame_of o = record { keyword = o.head.keyword; absolute = o.head.absolute; instance = o.head.instance; below = forest_of o.children.items }
+
+-- the last of the list comes first
+abbrev pub innermost_first : List OpenNode → List Frame → List Frame
+innermost_first [] frames = frames
+innermost_first (o ∷ os) frames = innermost_first os (frame_of o ∷ frames)
+
+abbrev pub state_of : Boxed → State
+state_of b = record { frames = innermost_first b.nodes.items []; found = b.found }

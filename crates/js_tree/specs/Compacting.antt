@@ -1,0 +1,61 @@
+-- How the rows of a flat form are marked, and which of them are then left (of private functions).
+use Rattle.std.specs.Prelude.{◌≡◌, ℕ, zero, suc, ◌+◌, ◌-◌, Bool, true, false, ◌||◌, if◌then◌else◌, List, [], ◌∷◌, ◌++◌, drop}
+use Rattle.js_tree.specs.FlatState.{FlatRow}
+use Rattle.js_tree.specs.Forest.{Forest, empty, tree, node_count}
+use Rattle.js_tree.specs.OutputUnit.{OutputUnit, noted}
+use Rattle.js_tree.specs.Result.{ResultTree, has_verdict, kept_below, pruned_below}
+use Rattle.js_tree.specs.Step.{at_least_one, at_least_two}
+use Rattle.js_tree.specs.declared.compacting.Keep.{Keep}
+use Rattle.js_tree.specs.declared.compacting.Keep.TheVariants.{Verdict, Noted}
+use Rattle.js_tree.specs.declared.flat.Row.{Row}
+
+-- what is left of the trees
+abbrev pub left : Keep → Forest OutputUnit → Forest OutputUnit
+left (Verdict v) = pruned_below v
+left Noted = kept_below
+
+abbrev pub left_of : Keep → ResultTree → ResultTree
+left_of k t = record { root = t.root; below = left k t.below }
+
+-- of how many trees something is left
+abbrev pub left_trees : Keep → Forest OutputUnit → ℕ
+left_trees k empty = 0
+left_trees k (tree u below after) = if at_least_one (node_count (left k (tree u below empty))) then suc (left_trees k after) else left_trees k after
+
+-- the node is left, where something is left of so many of its children's trees
+abbrev pub stays : Keep → OutputUnit → ℕ → Bool
+stays (Verdict v) u trees = has_verdict v u
+stays Noted u trees = noted u || at_least_two trees
+
+-- how many nodes are left of its tree, where so many are left below it
+abbrev pub room : Keep → Bool → ℕ → ℕ
+room (Verdict v) here below = if here then suc below else 0
+room Noted here below = if here then suc below else below
+
+-- the rows of a forest, marked
+abbrev pub marked : Keep → Forest OutputUnit → List Row
+marked k empty = []
+marked k (tree u below after) =
+    record { unit = u; size = suc (node_count below); room = node_count (left k (tree u below empty)); stays = stays k u (left_trees k below) } ∷ (marked k below ++ marked k after)
+
+-- how many rows go with one of that size that goes
+abbrev pub others : Keep → ℕ → ℕ
+others (Verdict v) size = size - 1
+others Noted size = 0
+
+-- what marked rows leave, when so many go with one before them
+abbrev pub gathered : Keep → ℕ → List Row → List FlatRow
+gathered k n [] = []
+gathered k zero (r ∷ rs) = if r.stays then (r.unit, r.room) ∷ gathered k zero rs else gathered k (others k r.size) rs
+gathered k (suc n) (r ∷ rs) = gathered k n rs
+
+-- The rows from first to end are those of marked trees, and `trees` and `nodes` count what is left of those before next.
+abbrev pub Tallied : List Row → ℕ → ℕ → ℕ → ℕ → ℕ → Type 0
+Tallied rows first end next trees nodes =
+    (k : Keep) (f : Forest OutputUnit) (rest : List Row) → drop first rows ≡ marked k f ++ rest → first + node_count f ≡ end
+    → (g : Forest OutputUnit) × (drop next rows ≡ marked k g ++ rest) × (next + node_count g ≡ end)
+    × (trees + left_trees k g ≡ left_trees k f) × (nodes + node_count (left k g) ≡ node_count (left k f))
+
+-- The rows from first to end are those of marked trees.
+abbrev pub AreMarked : List Row → ℕ → ℕ → Type 0
+AreMarked rows first end = (k : Keep) × (f : Forest OutputUnit) × (rest : List Row) × (drop first rows ≡ marked k f ++ rest) × (first + node_count f ≡ end)

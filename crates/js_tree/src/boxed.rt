@@ -1,0 +1,122 @@
+//! The whole tree of a result.
+ghost use Rattle.std.specs.Prelude.{◌≡◌};
+ghost use Rattle.js_tree.specs.BoxedState.{frame_of, unit_of};
+ghost use Rattle.js_tree.specs.Seen.{note_of};
+
+use crate::collector::{Collector, Head};
+use crate::note::Note;
+use crate::tree::{Tree, Trees};
+use crate::unit::Unit;
+use js_doc::Memory;
+use std::alloc::Global;
+
+// A node that is open, and the trees below it that have closed.
+#[derive(Debug, Drop)]
+struct OpenNode<'a> {
+    head: Head,
+    children: Vec<Tree<'a>>,
+}
+
+/// Collects the whole tree. A call that is refused leaves what is held as it was.
+#[derive(Drop)]
+pub struct Boxed<'a> {
+    alloc: Global,
+    // The innermost is the last.
+    nodes: Vec<OpenNode<'a>>,
+    found: Option<Tree<'a>>,
+}
+
+impl<'a> Boxed<'a> {
+    ghost use Rattle.js_tree.specs.BoxedState.{start, state_of};
+
+    /// Of nothing yet. Takes no memory.
+    pub fn new(alloc: Global) -> Boxed<'a>
+        ensures { state_of result ≡ start }
+    {
+        Boxed {
+            alloc,
+            nodes: Vec::new(alloc),
+            found: None,
+        }
+    }
+
+    /// The tree; None before its root has closed.
+    pub fn tree(self) -> Option<Tree<'a>>
+        ensures { result ≡ (state_of self.entry).found }
+    {
+        let Boxed {
+            alloc: _,
+            nodes: _,
+            found,
+        } = self;
+        found
+    }
+}
+
+impl<'a> Collector<'a> for Boxed<'a> {
+    ghost use Rattle.std.specs.Prelude.{◌≡◌, IfOk, IfErr};
+    ghost use Rattle.js_tree.specs.BoxedState.{after, state_of};
+    ghost use Rattle.js_tree.specs.Events.{opening, closing};
+    ghost use Rattle.js_tree.specs.Seen.{note_of};
+
+    ghost takes = { λ a e b. state_of b ≡ after (state_of a) e };
+
+    fn enter(&mut self, head: Head) -> Result<(), Memory>
+        ensures takes { IfOk result (λ _. state_of self.new ≡ after (state_of self.old) (opening head.keyword head.absolute head.instance)) }
+        ensures kept { IfErr result (λ _. state_of self.new ≡ state_of self.old) }
+    {
+        if self.found.is_none() {
+            let node = OpenNode {
+                head,
+                children: Vec::new(self.alloc),
+            };
+            self.nodes.push(node)?;
+        }
+        Ok(())
+    }
+
+    fn leave(&mut self, valid: bool, note: Note<'a>) -> Result<(), Memory>
+        ensures takes { IfOk result (λ _. state_of self.new ≡ after (state_of self.old) (closing valid (note_of note.entry))) }
+        ensures kept { IfErr result (λ _. state_of self.new ≡ state_of self.old) }
+    {
+        match self.nodes.pop() {
+            None => Ok(()),
+            Some(node) => match self.nodes.pop() {
+                None => {
+                    self.found = Some(closed(node, valid, note));
+                    Ok(())
+                }
+                Some(mut parent) => match parent.children.reserve(1) {
+                    Ok(()) => {
+                        // There is room for both.
+                        let _ = parent.children.push(closed(node, valid, note));
+                        let _ = self.nodes.push(parent);
+                        Ok(())
+                    }
+                    Err(refused) => {
+                        let _ = self.nodes.push(parent);
+                        let _ = self.nodes.push(node);
+                        Err(Memory::from(refused))
+                    }
+                },
+            },
+        }
+    }
+}
+
+/// The tree of a node that closes.
+fn closed<'a>(node: OpenNode<'a>, valid: bool, note: Note<'a>) -> Tree<'a>
+    ensures { result ≡ record { root = unit_of (frame_of node.entry) valid (note_of note.entry); below = (frame_of node.entry).below } }
+{
+    let OpenNode { head, children } = node;
+    Tree {
+        unit: Unit {
+            valid,
+            keyword: head.keyword,
+            absolute: head.absolute,
+            instance: head.instance,
+            note,
+        },
+        children: Trees::new(children),
+    }
+}

@@ -1,0 +1,100 @@
+//! A result as rows, in preorder.
+ghost use Rattle.std.specs.Prelude.{◌≡◌, map};
+
+use crate::collector::{Collector, Head};
+use crate::note::Note;
+use crate::unit::Unit;
+use js_doc::Memory;
+use std::alloc::Global;
+
+/// A node of a tree in its flat form.
+#[derive(Debug, Drop)]
+pub struct Row<'a> {
+    /// What stands at the node.
+    pub unit: Unit<'a>,
+    /// How many nodes its subtree has, itself included; 0 while it is open.
+    pub size: usize,
+    // Room for how many nodes of the subtree are kept, so that condensing takes no memory.
+    pub(crate) room: usize,
+    // Room for whether the node itself is kept.
+    pub(crate) stays: bool,
+}
+
+/// Collects the flat form of a tree: its nodes in preorder. A call that is refused leaves what is held as it was.
+#[derive(Debug, Drop)]
+pub struct Flat<'a> {
+    pub(crate) rows: Vec<Row<'a>>,
+    // The numbers of the rows whose nodes are open. The innermost is the last.
+    numbers: Vec<usize>,
+}
+
+impl<'a> Flat<'a> {
+    ghost use Rattle.js_tree.specs.FlatState.{row_of, start, state_of};
+
+    /// Of nothing yet. Takes no memory.
+    pub fn new(alloc: Global) -> Flat<'a>
+        ensures { state_of result ≡ start }
+    {
+        Flat {
+            rows: Vec::new(alloc),
+            numbers: Vec::new(alloc),
+        }
+    }
+
+    /// The rows, in preorder.
+    pub fn rows(&self) -> &[Row<'a>]
+        ensures { map row_of result.now ≡ (state_of self.now).rows }
+    {
+        self.rows.as_slice()
+    }
+}
+
+impl<'a> Collector<'a> for Flat<'a> {
+    ghost use Rattle.std.specs.Prelude.{◌≡◌, IfOk, IfErr};
+    ghost use Rattle.js_tree.specs.Events.{opening, closing};
+    ghost use Rattle.js_tree.specs.FlatState.{after, state_of};
+    ghost use Rattle.js_tree.specs.Seen.{note_of};
+
+    ghost takes = { λ a e b. state_of b ≡ after (state_of a) e };
+
+    fn enter(&mut self, head: Head) -> Result<(), Memory>
+        ensures takes { IfOk result (λ _. state_of self.new ≡ after (state_of self.old) (opening head.keyword head.absolute head.instance)) }
+        ensures kept { IfErr result (λ _. state_of self.new ≡ state_of self.old) }
+    {
+        // Without an open node there is either no row yet, or the root has closed.
+        if !self.numbers.is_empty() || self.rows.is_empty() {
+            self.numbers.reserve(1)?;
+            let number = self.rows.len();
+            let row = Row {
+                unit: Unit {
+                    valid: false,
+                    keyword: head.keyword,
+                    absolute: head.absolute,
+                    instance: head.instance,
+                    note: Note::Silent,
+                },
+                size: 0,
+                room: 0,
+                stays: false,
+            };
+            self.rows.push(row)?;
+            let _ = self.numbers.push(number);
+        }
+        Ok(())
+    }
+
+    fn leave(&mut self, valid: bool, note: Note<'a>) -> Result<(), Memory>
+        ensures takes { IfOk result (λ _. state_of self.new ≡ after (state_of self.old) (closing valid (note_of note.entry))) }
+        ensures kept { IfErr result (λ _. state_of self.new ≡ state_of self.old) }
+    {
+        if let Some(number) = self.numbers.pop() {
+            let count = self.rows.len();
+            if number < count {
+                let row = &mut self.rows[number];
+                row.unit.close(valid, note);
+                row.size = count - number;
+            }
+        }
+        Ok(())
+    }
+}

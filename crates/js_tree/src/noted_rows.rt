@@ -1,0 +1,32 @@
+//! The units of a flat form that have a note.
+ghost use Rattle.std.specs.Prelude.{◌≡◌, IfOk, map};
+ghost use Rattle.js_tree.specs.FlatState.{IsWhole, noted_of, row_of, state_of, whole};
+ghost use Rattle.js_tree.specs.Result.{ResultTree, units};
+
+use crate::flat::{Flat, Row};
+use crate::unit::Unit;
+use js_doc::Memory;
+use std::alloc::Global;
+
+/// The units with a note of a whole tree's rows, in their order: see `units`.
+///
+/// # Errors
+/// `Memory`.
+pub fn flat_units<'t, 'a>(alloc: Global, flat: &'t Flat<'a>) -> Result<Vec<&'t Unit<'a>>, Memory>
+    requires { IsWhole (state_of flat.now) }
+    ensures { IfOk result (λ found. (t : ResultTree) → state_of flat.now ≡ whole t → map (λ unit. unit.now) found.items ≡ units t) }
+{
+    noted_units(alloc, flat.rows())
+}
+
+fn noted_units<'t, 'a>(alloc: Global, rows: &'t [Row<'a>]) -> Result<Vec<&'t Unit<'a>>, Memory>
+    ensures { IfOk result (λ found. map (λ unit. unit.now) found.items ≡ noted_of (map row_of rows.now)) }
+{
+    let mut found = Vec::new(alloc);
+    for row in rows {
+        if row.unit.is_noted() {
+            found.push(&row.unit)?;
+        }
+    }
+    Ok(found)
+}

@@ -1,0 +1,158 @@
+"""Hostile inputs: endless, doubled, deep, torn, twisted and large ones, each with what it must answer."""
+import json
+from dataclasses import dataclass, field
+
+U = "https://a.example/s"
+FORMATS = ("flag", "basic", "detailed", "verbose")
+VALID, INVALID = b'{"valid":true}\n', b'{"valid":false}\n'
+POLYGON = (
+    '{"$id":"https://example.com/polygon","$schema":"https://json-schema.org/draft/2020-12/schema","$defs":{"point":'
+    '{"type":"object","properties":{"x":{"type":"integer"},"y":{"type":"integer"}},"additionalProperties":false,'
+    '"required":["x","y"]}},"type":"array","items":{"$ref":"#/$defs/point"},"minItems":3}')
+POINTS = '[{"x":2,"y":1},{"x":1,"z":6}]'
+
+
+@dataclass
+class Case:
+    """A run of the program. Without `out` the text is the reference's."""
+
+    name: str
+    words: list
+    files: dict = field(default_factory=dict)
+    given: bytes = b""
+    out: bytes | None = b""
+    faults: bytes = b""
+    status: int = 0
+
+
+def check(name, schema, instance, format_="flag", entry=U, uri=U, **how):
+    return Case(name, ["check", format_, "instance.json", entry, uri, "schema.json"],
+                {"schema.json": schema, "instance.json": instance}, **how)
+
+
+def valid(name, schema, instance, **how):
+    return check(name, schema, instance, out=VALID, **how)
+
+
+def refused(name, line, schema, instance="0", **how):
+    return check(name, schema, instance, faults=f"refused: {line}\n".encode(), status=3, **how)
+
+
+def too_large(name, schema, instance="0"):
+    return [refused(f"{name}, {it}", "walk: TooLarge", schema, instance, format_=it) for it in FORMATS]
+
+
+def compact(value):
+    return json.dumps(value, separators=(",", ":"))
+
+
+def chained(k, step):
+    """A chain of k definitions, each made of the one before it."""
+    made = {"d0": True, **{f"d{i}": step(f"#/$defs/d{i - 1}") for i in range(1, k + 1)}}
+    return compact({"$ref": f"#/$defs/d{k}", "$defs": made})
+
+
+def chain(k):
+    return chained(k, lambda it: {"$ref": it})
+
+
+def doubling(k):
+    return chained(k, lambda it: {"allOf": [{"$ref": it}, {"$ref": it}]})
+
+
+def nested(n, inmost=""):
+    return "[" * n + inmost + "]" * n
+
+
+def limits():
+    """What stands just within each limit, and just past it."""
+    yield valid("99,998 items", '{"items":true}', compact([0] * 99_998))
+    yield from too_large("99,999 items", '{"items":true}', compact([0] * 99_999))
+    deep = '{"items":{"allOf":[{"$ref":"#"}]}}'
+    yield valid("256 schemas on a way", deep, nested(86))
+    yield from too_large("259 schemas on a way", deep, nested(87))
+    yield valid("a chain of 254 references", chain(254), "0")
+    yield from too_large("a chain of 255 references", chain(255))
+    for it in FORMATS:
+        yield check(f"57,340 nodes, {it}", doubling(13), "0", it, out=None)
+    yield from too_large("114,684 nodes", doubling(14))
+    yield from too_large("an endless reference", '{"$ref":"#"}')
+    yield from too_large("an endless reference below not", '{"not":{"$ref":"#"}}')
+    yield from too_large("an endless reference beside an assertion", '{"$ref":"#","type":"string"}')
+    yield valid("an instance nested 127 times", "{}", nested(127))
+    yield refused("an instance nested 128 times", 'instance at "": NotJson', "{}", nested(128))
+    yield refused("a schema nested 128 times", 'document 0 at "": NotJson', '{"const":' + nested(127) + "}")
+    yield valid("an instance of 16,777,216 bytes", "{}", " " * 16_777_215 + "0")
+    yield refused("an instance of 16,777,217 bytes", "input: InputTooLarge", "{}", " " * 16_777_216 + "0")
+    yield refused("a schema of 16,777,217 bytes", "input: InputTooLarge", " " * 16_777_215 + "{}")
+    pair = b"{}\n" + b" " * 16_777_212
+    yield Case("an input of 16,777,216 bytes", [], given=pair + b"0", out=VALID)
+    yield Case("an input of 16,777,217 bytes", [], given=pair + b" 0", faults=b"refused: input: InputTooLarge\n", status=3)
+    yield refused("a reference of 65,536 bytes", 'document 0 at "/$ref": Unresolved', compact({"$ref": "a" * 65_536}))
+    yield refused("a reference of 65,537 bytes", 'document 0 at "/$ref": UriTooLong', compact({"$ref": "a" * 65_537}))
+    long = U + "a" * 65_517
+    yield valid("a URI of 65,536 bytes", "true", "0", uri=long, entry=long)
+    yield refused("a URI of 65,537 bytes", 'document 0 at "": UriTooLong', "true", uri=long + "a")
+    yield refused("an entry of 65,537 bytes", "entry: UriTooLong", "true", entry=long + "a")
+    yield documents(1_000, out=VALID)
+    yield documents(1_001, faults=b'refused: document 1000 at "": TooManyDocuments\n', status=3)
+    yield valid("100,000 places", places(99_999), "0")
+    yield refused("100,001 places", 'document 0 at "/$defs/n099999": TooManyPlaces', places(100_000))
+
+
+def documents(count, **how):
+    words = ["check", "flag", "instance.json", U + "0"]
+    for i in range(count):
+        words += [f"{U}{i}", "schema.json"]
+    return Case(f"{count:,} documents", words, {"schema.json": "true", "instance.json": "0"}, **how)
+
+
+def places(count):
+    return compact({"$defs": {f"n{i:06}": True for i in range(count)}})
+
+
+def beginnings():
+    """Each beginning, short of the whole, of a schema and of an instance."""
+    for i in range(len(POLYGON)):
+        yield refused(f"{i} bytes of a schema", 'document 0 at "": NotJson', POLYGON[:i], POINTS)
+    for i in range(len(POINTS)):
+        yield refused(f"{i} bytes of an instance", 'instance at "": NotJson', "{}", POINTS[:i])
+
+
+def large():
+    """Long names, many members, many keywords, patterns that are slow to compile: what is asked is the right answer."""
+    name = "n" * 1_000_000
+    schema, instance = compact({"properties": {name: {"minimum": 3}}}), compact({name: 2})
+    for it in FORMATS:
+        yield check(f"a name of 1,000,000 bytes, {it}", schema, instance, it, out=None, status=1)
+    yield check("a keyword of 1,000,000 bytes", compact({name: 1}), "0", "verbose", out=None)
+    members = compact({f"m{i}": 0 for i in range(1_000_000)})
+    yield valid("an object of 1,000,000 members", '{"type":"object","minProperties":1000000}', members)
+    keywords = compact({f"k{i}": i for i in range(99_999)})
+    yield valid("a schema of 99,999 keywords", keywords, "0")
+    yield from too_large("a schema of 100,000 keywords", compact({f"k{i}": i for i in range(100_000)}))
+    yield valid("a pattern that is slow to compile", compact({"pattern": "(\\pL{40}){8}"}), "0")
+    yield refused("a pattern that is too large", 'document 0 at "/pattern": PatternTooLarge',
+                  compact({"pattern": "((a{100}){100}){100}"}))
+    yield refused("a pattern that nests deep", 'document 0 at "/pattern": BadPattern',
+                  compact({"pattern": "(" * 300 + ")" * 300}))
+    yield valid("an array of 300,000 distinct items", '{"uniqueItems":true}', compact(list(range(300_000))))
+
+
+def at_the_limit():
+    """What goes deepest, to be run with little stack."""
+    yield valid("256 schemas on a way, by items", '{"items":{"allOf":[{"$ref":"#"}]}}', nested(86))
+    yield valid("a chain of 254 references", chain(254), "0")
+    for it in FORMATS:
+        yield check(f"256 schemas on a way, {it}", chain(254), "0", it, out=None)
+        yield check(f"86 nested arrays, {it}", '{"items":{"allOf":[{"$ref":"#"}]}}', nested(86), it, out=None)
+        yield check(f"57,340 nodes, {it}", doubling(13), "0", it, out=None)
+    yield from too_large("an endless reference", '{"$ref":"#"}')
+    yield valid("an instance nested 127 times", "{}", nested(127))
+    yield valid("equality of values nested 126 times", '{"const":' + nested(126) + "}", nested(126))
+    yield valid("unique items nested 126 times", '{"uniqueItems":true}', "[" + nested(126) + "]")
+    yield valid("schemas nested 120 times", '{"not":' * 120 + "true" + "}" * 120, "0")
+    yield refused("a schema nested 128 times", 'document 0 at "": NotJson', '{"const":' + nested(127) + "}")
+    yield refused("a pattern that nests deep", 'document 0 at "/pattern": BadPattern',
+                  compact({"pattern": "(" * 300 + ")" * 300}))
+    yield valid("a pattern that nests 200 times", compact({"pattern": "(" * 200 + "a" + ")" * 200}), '"a"')
