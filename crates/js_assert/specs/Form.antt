@@ -14,9 +14,9 @@ use Rattle.js_assert.specs.declared.fault.KeywordFault.TheVariants.{Memory, BadK
 use Rattle.js_assert.specs.declared.keyword.Keyword.{Keyword}
 use Rattle.js_assert.specs.declared.keyword.Keyword.TheVariants.{«Type», Enum, Const, MultipleOf, Maximum, ExclusiveMaximum, Minimum, ExclusiveMinimum, MaxLength, MinLength, Pattern, MaxItems, MinItems, UniqueItems, MaxContains, MinContains, MaxProperties, MinProperties, Required, DependentRequired}
 
-abbrev pub is_flag : Value → Bool
-is_flag (truth b) = true
-is_flag _ = false
+abbrev pub is_boolean : Value → Bool
+is_boolean (truth b) = true
+is_boolean _ = false
 
 abbrev pub is_number : Value → Bool
 is_number (whole z) = true
@@ -38,9 +38,9 @@ abbrev pub is_list : Value → Bool
 is_list (list vs) = true
 is_list _ = false
 
-abbrev pub is_empty : List Value → Bool
-is_empty [] = true
-is_empty (v ∷ vs) = false
+abbrev pub is_empty_list : List Value → Bool
+is_empty_list [] = true
+is_empty_list (v ∷ vs) = false
 
 -- a string, and none of those seen before
 abbrev pub is_new_name : List (List ℕ) → Value → Bool
@@ -76,7 +76,7 @@ are_new_types seen vs = are_new_names seen vs && list_all is_type_name (map stri
 -- a type's name, or a list of such names that is not empty, without repeats
 abbrev pub is_type : Value → Bool
 is_type (text s) = is_type_name s
-is_type (list vs) = not (is_empty (item_list vs)) && are_new_types [] (item_list vs)
+is_type (list vs) = not (is_empty_list (item_list vs)) && are_new_types [] (item_list vs)
 is_type _ = false
 
 -- ---- the table
@@ -96,7 +96,7 @@ module _ (argument : Value) where
   takes Pattern = is_string argument  -- 6.3.3
   takes MaxItems = is_count argument  -- 6.4.1
   takes MinItems = is_count argument  -- 6.4.2
-  takes UniqueItems = is_flag argument  -- 6.4.3
+  takes UniqueItems = is_boolean argument  -- 6.4.3
   takes MaxContains = is_count argument  -- 6.4.4
   takes MinContains = is_count argument  -- 6.4.5
   takes MaxProperties = is_count argument  -- 6.5.1
@@ -105,8 +105,8 @@ module _ (argument : Value) where
   takes DependentRequired = is_object_of_names argument  -- 6.5.4
 
 -- the argument has the form that a keyword of this name asks for; another name asks for none
-abbrev pub has_form : List ℕ → Value → Bool
-has_form name argument = option_map_or (takes argument) (keyword_named name) true
+abbrev pub takes_by_name : List ℕ → Value → Bool
+takes_by_name name argument = option_map_or (takes argument) (keyword_named name) true
 
 -- ---- faults
 
@@ -127,9 +127,9 @@ IsFaultOf keyword argument PatternTooLarge = (keyword ≡ Pattern) × (is_string
 -- the same by the keyword's name: another name is never refused
 abbrev pub IsKeywordFault : List ℕ → Value → KeywordFault → Type 0
 IsKeywordFault name argument Memory = Unit {0}
-IsKeywordFault name argument BadKeyword = has_form name argument ≡ false
-IsKeywordFault name argument NotAPattern = (name ≡ codes "pattern") × (has_form name argument ≡ true) × (is_pattern (string argument) ≡ false)
-IsKeywordFault name argument PatternTooLarge = (name ≡ codes "pattern") × (has_form name argument ≡ true) × (is_pattern (string argument) ≡ true)
+IsKeywordFault name argument BadKeyword = takes_by_name name argument ≡ false
+IsKeywordFault name argument NotAPattern = (name ≡ codes "pattern") × (takes_by_name name argument ≡ true) × (is_pattern (string argument) ≡ false)
+IsKeywordFault name argument PatternTooLarge = (name ≡ codes "pattern") × (takes_by_name name argument ≡ true) × (is_pattern (string argument) ≡ true)
 
 -- the argument of `pattern` is one
 abbrev pub IsPatternIfAny : Keyword → Value → Type 0

@@ -55,11 +55,11 @@ impl Model for Assertion {
 
     ghost coded = { asserted_code the_row.coded };
 
-    ghost use Rattle.js_assert.specs.Seen.{keyword_of, argument_of};
+    ghost use Rattle.js_assert.specs.Seen.{keyword_tested, argument_tested};
 
     ghost view = { λ a. record {
-      keyword = keyword_of a.test;
-      argument = argument_of a.test;
+      keyword = keyword_tested a.test;
+      argument = argument_tested a.test;
       beside_contains = a.beside_contains;
     } };
 }
@@ -69,7 +69,7 @@ impl Assertion {
     ghost use Rattle.js_assert.specs.Argument.{string};
     ghost use Rattle.js_assert.specs.Assertion.{asserted, says};
     ghost use Rattle.js_assert.specs.ErrorText.{error, error_text};
-    ghost use Rattle.js_assert.specs.Form.{has_form, IsKeywordFault};
+    ghost use Rattle.js_assert.specs.Form.{takes_by_name, IsKeywordFault};
     ghost use Rattle.js_assert.specs.Pattern.{is_pattern};
 
     /// The assertion that the keyword of this name makes with this argument, among these members of its schema;
@@ -86,7 +86,7 @@ impl Assertion {
     ) -> Result<Option<Assertion>, KeywordFault>
         ensures built { IfOk result (λ a.
             a ≡ asserted keyword.now (value_of argument.now) siblings.now) }
-        ensures form { IfOk result (λ _. has_form keyword.now (value_of argument.now) ≡ true) }
+        ensures form { IfOk result (λ _. takes_by_name keyword.now (value_of argument.now) ≡ true) }
         ensures pattern { IfOk result (λ _.
             keyword.now ≡ codes "pattern" → is_pattern (string (value_of argument.now)) ≡ true) }
         ensures refused { IfErr result (IsKeywordFault keyword.now (value_of argument.now)) }
@@ -122,7 +122,7 @@ impl Assertion {
             Test::ExclusiveMinimum(limit) => Ok(numbers::exclusive_minimum(*limit, value)),
             Test::MaxLength(limit) => Ok(strings::max_length(*limit, value)),
             Test::MinLength(limit) => Ok(strings::min_length(*limit, value)),
-            Test::Pattern(pattern) => strings::pattern(alloc, pattern, value),
+            Test::Pattern(pattern) => strings::matches_pattern(alloc, pattern, value),
             Test::MaxItems(limit) => Ok(arrays::max_items(*limit, value)),
             Test::MinItems(limit) => Ok(arrays::min_items(*limit, value)),
             Test::UniqueItems(asked) => arrays::unique_items(alloc, *asked, value),
