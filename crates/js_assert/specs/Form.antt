@@ -105,8 +105,8 @@ module _ (argument : Value) where
   takes DependentRequired = is_object_of_names argument  -- 6.5.4
 
 -- the argument has the form that a keyword of this name asks for; another name asks for none
-abbrev pub takes_by_name : List ℕ → Value → Bool
-takes_by_name name argument = option_map_or (takes argument) (keyword_named name) true
+abbrev pub has_form : List ℕ → Value → Bool
+has_form name argument = option_map_or (takes argument) (keyword_named name) true
 
 -- ---- faults
 
@@ -127,9 +127,9 @@ IsFaultOf keyword argument PatternTooLarge = (keyword ≡ Pattern) × (is_string
 -- the same by the keyword's name: another name is never refused
 abbrev pub IsKeywordFault : List ℕ → Value → KeywordFault → Type 0
 IsKeywordFault name argument Memory = Unit {0}
-IsKeywordFault name argument BadKeyword = takes_by_name name argument ≡ false
-IsKeywordFault name argument NotAPattern = (name ≡ codes "pattern") × (takes_by_name name argument ≡ true) × (is_pattern (string argument) ≡ false)
-IsKeywordFault name argument PatternTooLarge = (name ≡ codes "pattern") × (takes_by_name name argument ≡ true) × (is_pattern (string argument) ≡ true)
+IsKeywordFault name argument BadKeyword = has_form name argument ≡ false
+IsKeywordFault name argument NotAPattern = (name ≡ codes "pattern") × (has_form name argument ≡ true) × (is_pattern (string argument) ≡ false)
+IsKeywordFault name argument PatternTooLarge = (name ≡ codes "pattern") × (has_form name argument ≡ true) × (is_pattern (string argument) ≡ true)
 
 -- the argument of `pattern` is one
 abbrev pub IsPatternIfAny : Keyword → Value → Type 0

@@ -69,7 +69,7 @@ impl Assertion {
     ghost use Rattle.js_assert.specs.Argument.{string};
     ghost use Rattle.js_assert.specs.Assertion.{asserted, says};
     ghost use Rattle.js_assert.specs.ErrorText.{error, error_text};
-    ghost use Rattle.js_assert.specs.Form.{takes_by_name, IsKeywordFault};
+    ghost use Rattle.js_assert.specs.Form.{has_form, IsKeywordFault};
     ghost use Rattle.js_assert.specs.Pattern.{is_pattern};
 
     /// The assertion that the keyword of this name makes with this argument, among these members of its schema;
@@ -86,7 +86,7 @@ impl Assertion {
     ) -> Result<Option<Assertion>, KeywordFault>
         ensures built { IfOk result (λ a.
             a ≡ asserted keyword.now (value_of argument.now) siblings.now) }
-        ensures form { IfOk result (λ _. takes_by_name keyword.now (value_of argument.now) ≡ true) }
+        ensures form { IfOk result (λ _. has_form keyword.now (value_of argument.now) ≡ true) }
         ensures pattern { IfOk result (λ _.
             keyword.now ≡ codes "pattern" → is_pattern (string (value_of argument.now)) ≡ true) }
         ensures refused { IfErr result (IsKeywordFault keyword.now (value_of argument.now)) }
