@@ -38,6 +38,13 @@ def refused(name, line, schema, instance="0", **how):
     return check(name, schema, instance, faults=f"refused: {line}\n".encode(), status=3, **how)
 
 
+def error(name, schema, instance, keyword, text):
+    """One assertion that doesn't hold, told by basic."""
+    unit = {"absoluteKeywordLocation": f"{U}#/{keyword}", "error": text, "instanceLocation": "",
+            "keywordLocation": f"/{keyword}", "valid": False}
+    return check(name, schema, instance, "basic", out=compact({"errors": [unit], "valid": False}).encode() + b"\n", status=1)
+
+
 def too_large(name, schema, instance="0"):
     return [refused(f"{name}, {it}", "walk: TooLarge", schema, instance, format_=it) for it in FORMATS]
 
@@ -137,6 +144,14 @@ def large():
     yield refused("a pattern that nests deep", 'document 0 at "/pattern": BadPattern',
                   compact({"pattern": "(" * 300 + ")" * 300}))
     yield valid("an array of 300,000 distinct items", '{"uniqueItems":true}', compact(list(range(300_000))))
+    many = 1_000_000
+    for last, pair in ((0, "0 and 1000000"), (many - 1, "999999 and 1000000")):
+        yield error(f"items {pair} of a long array", '{"uniqueItems":true}', compact([*range(many), last]),
+                    "uniqueItems", f"items {pair} are equal")
+    names = [f"n{i}" for i in range(300_000)]
+    required = compact({"required": names})
+    yield valid("300,000 required names", required, compact({it: 0 for it in names}))
+    yield error("300,000 required names but one", required, compact({it: 0 for it in names[1:]}), "required", 'missing: ["n0"]')
 
 
 def at_the_limit():
