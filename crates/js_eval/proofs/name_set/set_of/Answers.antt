@@ -1,7 +1,7 @@
 use Rattle.std.proofs.Common.{[], sym, subst}
 use Rattle.js_eval.specs.Cursors.{HasNames}
 use Rattle.js_eval.proofs.MembersLeft.{none_seen, texts_more}
-use Rattle.js_eval.proofs.member_cursor.set_of.Goals as goal
+use Rattle.js_eval.proofs.name_set.set_of.Goals as goal
 
 pub loop-name-init : goal.loop-name-init
 loop-name-init c = subst (λ keys. HasNames keys []) (sym c.new-set.ensures.empty) none_seen
