@@ -2,7 +2,7 @@ use Rattle.std.proofs.Common.{◌≡◌, map, drop}
 use Rattle.std.specs.List.{position_from}
 use Rattle.js_bundle.specs.Schemas.{step_of}
 use Rattle.js_bundle.specs.Spot.{spot_of, stands_below}
-use Rattle.js_bundle.proofs.below.number_below.Given as goal
+use Rattle.js_bundle.proofs.below.search_below.Given as goal
 
 abbrev pub invariant-loop-i : goal.invariant-loop-i
 invariant-loop-i l =
