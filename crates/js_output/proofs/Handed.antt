@@ -22,7 +22,7 @@ use Rattle.js_bundle.specs.Refusals.{candidates, is_empty, IsRefusalOf}
 use Rattle.js_bundle.specs.Schemas.{IsEntryFault, IsBadEntry, IsReadEntry}
 use Rattle.js_bundle.specs.Url.{longest_uri, without_fragment, raw_fragment, parsed}
 use Rattle.js_output.specs.Cause.{Causes, cause, IsClear, IsFirst, FailsBy, Leads}
-use Rattle.js_output.specs.Documents.{Documents, documents_of, documents_causes, unfragmented, document_uri, document_under, taken, bundle_of, refused, text_causes, uri_causes, document_causes, adding_causes, cause_of, bundle_causes, fault_by}
+use Rattle.js_output.specs.Documents.{Documents, documents_of, unfragmented, document_uri, document_under, taken, bundle_of, refused, text_causes, uri_causes, document_causes, adding_causes, cause_of, bundle_causes, fault_by}
 use Rattle.js_output.specs.Entry.{is_uri_read, entry_causes, entry_fault_of}
 use Rattle.js_output.specs.Reading.{reading, reading-ok, reading-err}
 use Rattle.js_output.specs.declared.fault.Fault.{Fault}

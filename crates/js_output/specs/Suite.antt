@@ -1,17 +1,19 @@
 -- The outcome of a suite: what comes of each test of each group, in order, and the text that tells it.
-use Rattle.std.specs.Prelude.{◌≡◌, ℕ, ◌+◌, ◌≤◌, List, [], ◌∷◌, ◌++◌, length, Option, Some, None, option_to_list, Result, Ok, Err, Bool, not, ◌⊎◌, MatchBool, nat_lt, codes, decimal, ⊤}
+use Rattle.std.specs.Prelude.{◌≡◌, ℕ, ◌+◌, List, [], ◌∷◌, ◌++◌, length, Option, Some, None, option_to_list, Result, Ok, Err, Bool, not, ◌⊎◌, MatchBool, nat_lt, codes, decimal, ⊤}
 use Rattle.js_doc.specs.Value.{Value}
 use Rattle.js_bundle.specs.Document as bundle
 use Rattle.js_bundle.specs.Resource.{Site}
 use Rattle.js_eval.specs.Result.{ResultTree, IsWithinLimits}
 use Rattle.js_output.specs.Cause.{Causes, IsClear, IsFirst}
-use Rattle.js_output.specs.Documents.{Documents, document_uri, document_under, bundle_of, uri_causes, adding_causes, bundle_causes}
+use Rattle.js_output.specs.Device.{Tracked, input_limit, IsLeft, Sends, SendsBeginning}
+use Rattle.js_output.specs.Documents.{Documents, document_uri, document_under, bundle_of, uri_causes, adding_causes, bundle_causes, documents_causes}
 use Rattle.js_output.specs.Entry.{entry_causes, place_named}
 use Rattle.js_output.specs.Outcome.{IsResultOf, NoneStands}
 use Rattle.js_output.specs.SuiteLines.{counts_of, lines_text}
-use Rattle.js_output.specs.SuiteText.{Test, Group}
+use Rattle.js_output.specs.SuiteText.{Test, Group, suite_reading}
 use Rattle.js_output.specs.declared.fault.Fault.{Fault}
 use Rattle.js_output.specs.declared.fault.Fault.TheVariants as fault
+use Rattle.js_output.specs.declared.fault.SuiteFault.{SuiteFault}
 use Rattle.js_output.specs.declared.suite_lines.Counts.{Counts}
 use Rattle.js_output.specs.declared.suite_lines.Line.{Line}
 use Rattle.js_output.specs.declared.suite_lines.Status.{Status}
@@ -91,3 +93,53 @@ abbrev pub AreLines : Documents → ℕ → List Group → List Line → Type 0
 AreLines documents g [] lines = lines ≡ []
 AreLines documents g (group ∷ groups) lines =
     (these : List Line) × (later : List Line) × (lines ≡ these ++ later) × AreGroupLines documents g group these × AreLines documents (g + 1) groups later
+
+-- ---- the outcome
+
+-- what a suite's text is read as: its lines come, or its fault
+abbrev pub ReadLines : Documents → Result (List Group) SuiteFault → Result (List Line) Fault → Type 0
+ReadLines documents (Ok groups) (Ok lines) = AreLines documents 0 groups lines
+ReadLines documents (Ok groups) (Err f) = ⊥
+ReadLines documents (Err e) answer = answer ≡ Err (fault.Suite e)
+
+-- of its bytes: their number is looked at first
+abbrev pub LinesOfBytes : Documents → List ℕ → Result (List Line) Fault → Type 0
+LinesOfBytes documents bytes answer = MatchBool (nat_lt input_limit (length bytes)) (answer ≡ Err fault.InputTooLarge) (ReadLines documents (suite_reading bytes) answer)
+
+-- the documents alone come first
+abbrev pub SuiteOutcome : Documents → List ℕ → Result (List Line) Fault → Type 0
+SuiteOutcome documents bytes (Ok lines) = IsClear (documents_causes documents) × LinesOfBytes documents bytes (Ok lines)
+SuiteOutcome documents bytes (Err f) = IsFirst (documents_causes documents) f ⊎ (IsClear (documents_causes documents) × LinesOfBytes documents bytes (Err f))
+
+-- ---- what is answered, where the sink or memory may fail
+
+-- the counts are answered where the lines' text went out, and `Write` where a beginning of it did
+abbrev pub TellsLines : {D : Type 0} → (Result (List Line) Fault → Type 0) → (D → Option (List ℕ)) → Tracked D → Tracked D → Result Counts Fault → Type 0
+TellsLines Expected taken old new (Ok counts) = (lines : List Line) × Expected (Ok lines) × (counts ≡ counts_of lines) × Sends taken old new (lines_text lines)
+TellsLines Expected taken old new (Err fault.Memory) = ⊤
+TellsLines Expected taken old new (Err fault.Read) = ⊥
+TellsLines Expected taken old new (Err fault.Write) = (lines : List Line) × Expected (Ok lines) × SendsBeginning taken old new (lines_text lines)
+TellsLines Expected taken old new (Err f) = Expected (Err f)
+
+-- Of the bytes that a source has left: they are the suite's text, what is expected comes of them, and that is told. `Read` is
+-- answered only where nothing stands before the suite.
+abbrev pub AnswersSuite : {D : Type 0} → Documents → Option (List ℕ) → (D → Option (List ℕ)) → Tracked D → Tracked D → Result Counts Fault → Type 0
+AnswersSuite documents left taken old new (Err fault.Memory) = ⊤
+AnswersSuite documents left taken old new (Err fault.Read) = IsClear (documents_causes documents)
+AnswersSuite documents left taken old new answer = (bytes : List ℕ) × IsLeft left bytes × TellsLines (SuiteOutcome documents bytes) taken old new answer
+
+-- ---- words for the parts
+
+-- the faults from the suite's text on, or want of memory
+abbrev pub IsSuiteLate : Fault → Type 0
+IsSuiteLate fault.Memory = ⊤
+IsSuiteLate (fault.Suite e) = ⊤
+IsSuiteLate fault.Write = ⊤
+IsSuiteLate _ = ⊥
+
+-- these lines are told, or why they aren't
+abbrev pub SendsLines : {D : Type 0} → (D → Option (List ℕ)) → Tracked D → Tracked D → List Line → Result Counts Fault → Type 0
+SendsLines taken old new lines (Ok counts) = (counts ≡ counts_of lines) × Sends taken old new (lines_text lines)
+SendsLines taken old new lines (Err fault.Memory) = ⊤
+SendsLines taken old new lines (Err fault.Write) = SendsBeginning taken old new (lines_text lines)
+SendsLines taken old new lines (Err _) = ⊥

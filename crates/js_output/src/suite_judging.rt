@@ -138,12 +138,7 @@ fn entry_with(
     entry_at(alloc, docs, uri.as_str(), schema)
 }
 
-fn entry_at(
-    alloc: Global,
-    docs: &[(&str, &[u8])],
-    uri: &str,
-    schema: &Doc,
-) -> Result<Entry, Fault>
+fn entry_at(alloc: Global, docs: &[(&str, &[u8])], uri: &str, schema: &Doc) -> Result<Entry, Fault>
     ensures schemas { IfOk result
         (λ e. e.schemas ≡ documents_with (documents_of docs.now) uri.now (value_of schema.now)) }
     ensures entry { IfOk result (λ e. IsEntry e.schemas uri.now e) }

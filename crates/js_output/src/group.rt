@@ -1,2 +1,0 @@
-//! The tests of a suite's group, judged by its schema.
-ghost use Rattle.std.specs.Prelude.{◌≡◌, ◌×◌};
