@@ -14,6 +14,7 @@ pub mod Held
 pub mod Named
 pub mod Stopping
 pub mod Passes
+pub mod Indexed
 pub mod Targets
 pub mod OneName
 pub mod Assertions

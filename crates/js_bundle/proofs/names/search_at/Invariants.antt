@@ -2,7 +2,7 @@ use Rattle.std.proofs.Common.{◌≡◌, map, drop}
 use Rattle.std.specs.List.{position_from}
 use Rattle.js_bundle.specs.Names.{stands_at}
 use Rattle.js_bundle.specs.Scan.{site_of}
-use Rattle.js_bundle.proofs.names.place_at.Given as goal
+use Rattle.js_bundle.proofs.names.search_at.Given as goal
 
 abbrev pub invariant-loop-i : goal.invariant-loop-i
 invariant-loop-i l =
