@@ -7,7 +7,7 @@ use Rattle.js_output.specs.Device.{Tracked, input_limit, IsLeft}
 use Rattle.js_output.specs.Documents.{Documents, documents_causes}
 use Rattle.js_output.specs.Input.{IsInputFault}
 use Rattle.js_output.specs.Suite.{AreLines, ReadLines, LinesOfBytes, TellsLines, AnswersSuite, SendsLines}
-use Rattle.js_output.specs.SuiteText.{Group, suite_reading, IsSuiteFault}
+use Rattle.js_output.specs.SuiteText.{SuiteGroup, suite_reading, IsSuiteFault}
 use Rattle.js_output.specs.declared.fault.Fault.{Fault}
 use Rattle.js_output.specs.declared.fault.Fault.TheVariants as fault
 use Rattle.js_output.specs.declared.fault.SuiteFault.{SuiteFault}
@@ -19,13 +19,13 @@ module _ {D : Type 0} (documents : Documents) (taken : D → Option (List ℕ)) 
   -- ---- of what the suite's text is read as
 
   -- it has a fault
-  pub suite-fault : (found : Result (List Group) SuiteFault) (sink : Tracked D) (e : Fault) → IsSuiteFault found e → TellsLines (ReadLines documents found) taken sink sink (Err e)
+  pub suite-fault : (found : Result (List SuiteGroup) SuiteFault) (sink : Tracked D) (e : Fault) → IsSuiteFault found e → TellsLines (ReadLines documents found) taken sink sink (Err e)
   suite-fault found sink fault.Memory h = tt
   suite-fault found sink (fault.Suite e) h = subst (λ r. ReadLines documents r (Err (fault.Suite e))) (sym h) refl
   suite-fault found sink _ h = absurd h
 
   -- its lines are told
-  pub suite-lines : (found : Result (List Group) SuiteFault) (groups : List Group) (lines : List Line) (old new : Tracked D) (answer : Result Counts Fault) → found ≡ Ok groups
+  pub suite-lines : (found : Result (List SuiteGroup) SuiteFault) (groups : List SuiteGroup) (lines : List Line) (old new : Tracked D) (answer : Result Counts Fault) → found ≡ Ok groups
       → AreLines documents 0 groups lines → SendsLines taken old new lines answer → TellsLines (ReadLines documents found) taken old new answer
   suite-lines found groups lines old new (Ok counts) is h (counted, sent) = (lines, subst (λ r. ReadLines documents r (Ok lines)) (sym is) h, counted, sent)
   suite-lines found groups lines old new (Err fault.Memory) is h sent = tt

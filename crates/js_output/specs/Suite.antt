@@ -10,7 +10,7 @@ use Rattle.js_output.specs.Documents.{Documents, document_uri, document_under, b
 use Rattle.js_output.specs.Entry.{entry_causes, place_named}
 use Rattle.js_output.specs.Outcome.{IsResultOf, NoneStands}
 use Rattle.js_output.specs.SuiteLines.{counts_of, lines_text}
-use Rattle.js_output.specs.SuiteText.{Test, Group, suite_reading}
+use Rattle.js_output.specs.SuiteText.{SuiteTest, SuiteGroup, suite_reading}
 use Rattle.js_output.specs.declared.fault.Fault.{Fault}
 use Rattle.js_output.specs.declared.fault.Fault.TheVariants as fault
 use Rattle.js_output.specs.declared.fault.SuiteFault.{SuiteFault}
@@ -57,12 +57,12 @@ IsBasis documents g (Some schema) (Some all) = IsClear (group_causes documents g
 -- ---- what comes of a test
 
 -- the verdict on v
-abbrev pub IsVerdict : bundle.Documents → Option Site → Value → Bool → Type 0
-IsVerdict documents entry v valid = (t : ResultTree) × IsResultOf documents entry v t × IsWithinLimits t × (t.root.valid ≡ valid)
+abbrev pub HasVerdict : bundle.Documents → Option Site → Value → Bool → Type 0
+HasVerdict documents entry v valid = (t : ResultTree) × IsResultOf documents entry v t × IsWithinLimits t × (t.root.valid ≡ valid)
 
 abbrev pub IsStatusOn : bundle.Documents → Option Site → Value → Bool → Status → Type 0
-IsStatusOn documents entry v valid Pass = IsVerdict documents entry v valid
-IsStatusOn documents entry v valid Fail = IsVerdict documents entry v (not valid)
+IsStatusOn documents entry v valid Pass = HasVerdict documents entry v valid
+IsStatusOn documents entry v valid Fail = HasVerdict documents entry v (not valid)
 IsStatusOn documents entry v valid Skip = NoneStands documents entry v
 
 -- by the documents that its group is judged by, and its instance
@@ -73,23 +73,23 @@ IsStatusBy _ g _ valid status = status ≡ Skip
 -- ---- lines
 
 module _ (basis : Option bundle.Documents) (g : ℕ) where
-  pub record IsLine (n : ℕ) (test : Test) (line : Line) : Type 0 where
+  pub record IsLine (n : ℕ) (test : SuiteTest) (line : Line) : Type 0 where
     pub status : IsStatusBy basis g test.instance test.valid line.status
     pub group : line.group ≡ g
     pub number : line.test ≡ n
     pub description : line.description ≡ test.description
 
   -- of tests, the first of which has the number n
-  abbrev pub AreTestLines : ℕ → List Test → List Line → Type 0
+  abbrev pub AreTestLines : ℕ → List SuiteTest → List Line → Type 0
   AreTestLines n [] lines = lines ≡ []
   AreTestLines n (test ∷ tests) [] = ⊥
   AreTestLines n (test ∷ tests) (line ∷ lines) = IsLine n test line × AreTestLines (n + 1) tests lines
 
-abbrev pub AreGroupLines : Documents → ℕ → Group → List Line → Type 0
+abbrev pub AreGroupLines : Documents → ℕ → SuiteGroup → List Line → Type 0
 AreGroupLines documents g group lines = (basis : Option bundle.Documents) × IsBasis documents g group.schema basis × AreTestLines basis g 0 group.tests lines
 
 -- of groups, the first of which has the number g
-abbrev pub AreLines : Documents → ℕ → List Group → List Line → Type 0
+abbrev pub AreLines : Documents → ℕ → List SuiteGroup → List Line → Type 0
 AreLines documents g [] lines = lines ≡ []
 AreLines documents g (group ∷ groups) lines =
     (these : List Line) × (later : List Line) × (lines ≡ these ++ later) × AreGroupLines documents g group these × AreLines documents (g + 1) groups later
@@ -97,7 +97,7 @@ AreLines documents g (group ∷ groups) lines =
 -- ---- the outcome
 
 -- what a suite's text is read as: its lines come, or its fault
-abbrev pub ReadLines : Documents → Result (List Group) SuiteFault → Result (List Line) Fault → Type 0
+abbrev pub ReadLines : Documents → Result (List SuiteGroup) SuiteFault → Result (List Line) Fault → Type 0
 ReadLines documents (Ok groups) (Ok lines) = AreLines documents 0 groups lines
 ReadLines documents (Ok groups) (Err f) = ⊥
 ReadLines documents (Err e) answer = answer ≡ Err (fault.Suite e)

@@ -29,9 +29,9 @@ IsStatusAt (Some e) (Some v) valid status = IsStatusOn e.schemas (place_at e.sch
 IsStatusAt _ _ valid status = status ≡ Skip
 
 -- another fault than want of memory
-abbrev pub IsRefusal : Fault → Type 0
-IsRefusal fault.Memory = ⊥
-IsRefusal _ = ⊤
+abbrev pub IsNotMemory : Fault → Type 0
+IsNotMemory fault.Memory = ⊥
+IsNotMemory _ = ⊤
 
 -- the verdict that was found, and the one that is told
 abbrev pub compared : Bool → Bool → Status

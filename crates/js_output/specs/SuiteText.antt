@@ -15,21 +15,21 @@ use Rattle.js_output.specs.declared.fault.Fault.{Fault}
 use Rattle.js_output.specs.declared.fault.Fault.TheVariants as fault
 use Rattle.js_output.specs.declared.fault.SuiteFault.{SuiteFault}
 use Rattle.js_output.specs.declared.fault.SuiteFault.TheVariants as suite_fault
-use Rattle.js_output.specs.declared.suite_text.Group as rust_group
+use Rattle.js_output.specs.declared.suite_text.SuiteGroup as rust_group
 use Rattle.js_output.specs.declared.suite_text.Misfit.{Misfit}
 use Rattle.js_output.specs.declared.suite_text.Misfit.TheVariants as misfit
-use Rattle.js_output.specs.declared.suite_text.Test as rust_test
+use Rattle.js_output.specs.declared.suite_text.SuiteTest as rust_test
 
 -- a test: whether the instance is said to be valid. There is no instance where its numbers aren't whole
-pub record Test : Type 0 where
+pub record SuiteTest : Type 0 where
   pub description : List ℕ
   pub instance : Option Value
   pub valid : Bool
 
 -- tests of one schema. There is none where its numbers aren't whole
-pub record Group : Type 0 where
+pub record SuiteGroup : Type 0 where
   pub schema : Option Value
-  pub tests : List Test
+  pub tests : List SuiteTest
 
 -- ---- what is looked for, one thing after another
 
@@ -41,8 +41,8 @@ abbrev pub found_then : {A B : Type 0} → Found A → (A → Found B) → Found
 found_then (Ok a) f = f a
 found_then (Err place) f = Err place
 
-abbrev pub is_object : Data → Bool
-is_object d = is_some (as_object d)
+abbrev pub is_json_object : Data → Bool
+is_json_object d = is_some (as_object d)
 
 -- a member of this kind
 abbrev pub member_in : {A : Type 0} → (Data → Option A) → List ℕ → Data → Found A
@@ -63,60 +63,60 @@ whole_in d = found_value (value_in d)
 
 -- ---- a suite
 
-abbrev pub test_of : Data → List ℕ → Bool → Test
-test_of instance description valid = record { description = description; instance = whole_in instance; valid = valid }
+abbrev pub suite_test : Data → List ℕ → Bool → SuiteTest
+suite_test instance description valid = record { description = description; instance = whole_in instance; valid = valid }
 
 -- of what is found of its parts, in order
-abbrev pub test_from : Bool → Found Data → Found (List ℕ) → Found Bool → Found Test
-test_from is_object instance description valid =
-    if is_object then found_then instance (λ i. found_then description (λ d. found_map (test_of i d) valid)) else Err []
+abbrev pub test_from : Bool → Found Data → Found (List ℕ) → Found Bool → Found SuiteTest
+test_from object instance description valid =
+    if object then found_then instance (λ i. found_then description (λ d. found_map (suite_test i d) valid)) else Err []
 
-abbrev pub test_in : Data → Found Test
+abbrev pub test_in : Data → Found SuiteTest
 test_in d =
-    test_from (is_object d) (member_in Some (codes "data") d) (member_in as_str (codes "description") d) (member_in as_bool (codes "valid") d)
+    test_from (is_json_object d) (member_in Some (codes "data") d) (member_in as_str (codes "description") d) (member_in as_bool (codes "valid") d)
 
-abbrev pub group_of : Data → List Test → Group
-group_of schema tests = record { schema = whole_in schema; tests = tests }
+abbrev pub suite_group : Data → List SuiteTest → SuiteGroup
+suite_group schema tests = record { schema = whole_in schema; tests = tests }
 
-abbrev pub tests_from : Found json.Items → Found (List Test)
+abbrev pub tests_from : Found json.Items → Found (List SuiteTest)
 tests_from items = found_then items (λ ds. under (codes "tests") (each_in test_in 0 ds))
 
-abbrev pub group_from : Bool → Found (List ℕ) → Found Data → Found (List Test) → Found Group
-group_from is_object description schema tests =
-    if is_object then found_then description (λ _. found_then schema (λ s. found_map (group_of s) tests)) else Err []
+abbrev pub group_from : Bool → Found (List ℕ) → Found Data → Found (List SuiteTest) → Found SuiteGroup
+group_from object description schema tests =
+    if object then found_then description (λ _. found_then schema (λ s. found_map (suite_group s) tests)) else Err []
 
-abbrev pub group_in : Data → Found Group
+abbrev pub group_in : Data → Found SuiteGroup
 group_in d =
-    group_from (is_object d) (member_in as_str (codes "description") d) (member_in Some (codes "schema") d)
+    group_from (is_json_object d) (member_in as_str (codes "description") d) (member_in Some (codes "schema") d)
     (tests_from (member_in as_array (codes "tests") d))
 
-abbrev pub groups_in : Data → Found (List Group)
+abbrev pub groups_in : Data → Found (List SuiteGroup)
 groups_in d = found_then (needed (as_array d)) (λ ds. each_in group_in 0 ds)
 
-abbrev pub suite_found : Found (List Group) → Result (List Group) SuiteFault
+abbrev pub suite_found : Found (List SuiteGroup) → Result (List SuiteGroup) SuiteFault
 suite_found (Ok groups) = Ok groups
 suite_found (Err place) = Err (suite_fault.BadSuite place)
 
-abbrev pub suite_read : Option Data → Result (List Group) SuiteFault
+abbrev pub suite_read : Option Data → Result (List SuiteGroup) SuiteFault
 suite_read None = Err suite_fault.NotJson
 suite_read (Some d) = suite_found (groups_in d)
 
 -- a text is UTF-8 (RFC 8259, section 8.1)
-unfoldable pub suite_reading : List ℕ → Result (List Group) SuiteFault
+unfoldable pub suite_reading : List ℕ → Result (List SuiteGroup) SuiteFault
 suite_reading bytes = if is_utf8 bytes then suite_read (read_json bytes) else Err suite_fault.NotJson
 
 -- ---- words for the parts: what the code keeps, and when each fault comes
 
-abbrev pub test_seen : rust_test.Test → Test
+abbrev pub test_seen : rust_test.SuiteTest → SuiteTest
 test_seen t = record { description = t.description; instance = option_map value_of t.instance; valid = t.valid }
 
-abbrev pub tests_seen : List rust_test.Test → List Test
+abbrev pub tests_seen : List rust_test.SuiteTest → List SuiteTest
 tests_seen tests = map test_seen tests
 
-abbrev pub group_seen : rust_group.Group → Group
+abbrev pub group_seen : rust_group.SuiteGroup → SuiteGroup
 group_seen g = record { schema = option_map value_of g.schema; tests = tests_seen g.tests.items }
 
-abbrev pub groups_seen : List rust_group.Group → List Group
+abbrev pub groups_seen : List rust_group.SuiteGroup → List SuiteGroup
 groups_seen groups = map group_seen groups
 
 -- want of memory may come at any time
@@ -138,7 +138,7 @@ IsMissing name (misfit.At place) = place ≡ name ∷ []
 abbrev pub Keeps : Found Data → Option Doc → Type 0
 Keeps found kept = (d : Data) × (found ≡ Ok d) × (option_map value_of kept ≡ whole_in d)
 
-abbrev pub IsSuiteFault : Result (List Group) SuiteFault → Fault → Type 0
+abbrev pub IsSuiteFault : Result (List SuiteGroup) SuiteFault → Fault → Type 0
 IsSuiteFault found fault.Memory = ⊤
 IsSuiteFault found (fault.Suite e) = found ≡ Err e
 IsSuiteFault found _ = ⊥

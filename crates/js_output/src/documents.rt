@@ -17,7 +17,7 @@ pub(crate) fn finished(alloc: Global, docs: &[(&str, &[u8])]) -> Result<Schemas,
     ensures early { IfErr result IsEarlyOrMemory }
 {
     let bundle = bundled(alloc, docs)?;
-    finish(alloc, bundle)
+    finish_bundle(alloc, bundle)
 }
 
 /// The documents, taken in, or the first refusal of one.
@@ -45,7 +45,7 @@ fn add(bundle: &mut Bundle, uri: &str, bytes: &[u8]) -> Result<(), Fault>
 }
 
 /// The schemas of what was taken in, or the first refusal.
-pub(crate) fn finish(alloc: Global, bundle: Bundle) -> Result<Schemas, Fault>
+pub(crate) fn finish_bundle(alloc: Global, bundle: Bundle) -> Result<Schemas, Fault>
     ensures ok { IfOk result (λ s. s ≡ bundle) }
     ensures clear { OnOk result (IsClear (bundle_causes bundle)) }
     ensures err { IfErr result (FailsBy (bundle_causes bundle)) }

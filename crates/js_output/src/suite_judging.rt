@@ -6,15 +6,15 @@ ghost use Rattle.js_output.specs.Cause.{IsClear, FailsBy};
 ghost use Rattle.js_output.specs.Documents.{documents_of, uri_causes};
 ghost use Rattle.js_output.specs.Entry.{IsEntry};
 ghost use Rattle.js_output.specs.Suite.{AreGroupLines, AreLines, AreTestLines, IsBasis, IsLine, IsStatusOn, adding_causes_with, causes_with, documents_with, group_causes, group_uri, whole_causes, with_root, with_schema};
-ghost use Rattle.js_output.specs.SuiteJudging.{IsJudge, IsStatusAt, IsThere, IsRefusal, basis_of, compared};
+ghost use Rattle.js_output.specs.SuiteJudging.{IsJudge, IsStatusAt, IsThere, IsNotMemory, basis_of, compared};
 ghost use Rattle.js_output.specs.SuiteText.{groups_seen, group_seen, tests_seen, test_seen};
 ghost use Rattle.js_output.specs.declared.suite_lines.Line.{Line};
 
-use crate::documents::{bundled, finish};
+use crate::documents::{bundled, finish_bundle};
 use crate::entry::{Entry, place_named};
 use crate::fault::Fault;
 use crate::suite_lines::{Line, Status};
-use crate::suite_text::{Group, Test};
+use crate::suite_text::{SuiteGroup, SuiteTest};
 use js_bundle::Bundle;
 use js_doc::{Doc, Memory};
 use js_eval::{WalkFault, verdict};
@@ -25,7 +25,7 @@ use std::alloc::{AllocError, Global};
 pub(crate) fn judged_lines(
     alloc: Global,
     docs: &[(&str, &[u8])],
-    groups: &[Group],
+    groups: &[SuiteGroup],
 ) -> Result<Vec<Line>, Memory>
     ensures { IfOk result (λ v. AreLines (documents_of docs.now) 0 (groups_seen groups.now) v.items) }
 {
@@ -40,7 +40,7 @@ fn judge_group(
     alloc: Global,
     docs: &[(&str, &[u8])],
     number: usize,
-    group: &Group,
+    group: &SuiteGroup,
     lines: &mut Vec<Line>,
 ) -> Result<(), Memory>
     ensures { OnOk result ((these : List Line) × (lines.new.items ≡ lines.old.items ++ these)
@@ -54,7 +54,7 @@ fn judge_tests(
     alloc: Global,
     entry: &Option<Entry>,
     group: usize,
-    tests: &[Test],
+    tests: &[SuiteTest],
     lines: &mut Vec<Line>,
 ) -> Result<(), Memory>
     requires { IsJudge group entry.now }
@@ -73,7 +73,7 @@ fn judged_line(
     entry: &Option<Entry>,
     group: usize,
     number: usize,
-    test: &Test,
+    test: &SuiteTest,
 ) -> Result<Line, Memory>
     requires { IsJudge group entry.now }
     ensures { IfOk result (IsLine (basis_of entry.now) group number (test_seen test.now)) }
@@ -111,7 +111,7 @@ fn group_entry(
 // Only want of memory ends the suite.
 fn without_entry(fault: &Fault) -> Result<Option<Entry>, Memory>
     ensures none { IfOk result (λ o. o ≡ None) }
-    ensures refusal { OnOk result (IsRefusal fault.now) }
+    ensures refusal { OnOk result (IsNotMemory fault.now) }
 {
     match fault {
         Fault::Memory => Err(Memory),
@@ -191,12 +191,12 @@ fn entry_in(alloc: Global, bundle: Bundle, uri: &str) -> Result<Entry, Fault>
     ensures clear { OnOk result (IsClear (whole_causes bundle uri.now)) }
     ensures err { IfErr result (FailsBy (whole_causes bundle uri.now)) }
 {
-    let schemas = finish(alloc, bundle)?;
+    let schemas = finish_bundle(alloc, bundle)?;
     let place = place_named(alloc, &schemas, uri)?;
     Ok(Entry { schemas, place })
 }
 
-fn status_of(alloc: Global, entry: &Option<Entry>, test: &Test) -> Result<Status, Memory>
+fn status_of(alloc: Global, entry: &Option<Entry>, test: &SuiteTest) -> Result<Status, Memory>
     requires { IsThere entry.now }
     ensures { IfOk result
         (IsStatusAt entry.now (option_map value_of test.now.instance) test.now.valid) }

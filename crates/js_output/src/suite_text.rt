@@ -13,15 +13,15 @@ use std::alloc::{AllocError, AllocFailed, Global};
 
 /// Tests of one schema. There is none where its numbers aren't whole.
 #[derive(Drop)]
-pub(crate) struct Group {
+pub(crate) struct SuiteGroup {
     pub(crate) schema: Option<Doc>,
-    pub(crate) tests: Vec<Test>,
+    pub(crate) tests: Vec<SuiteTest>,
 }
 
 /// A test: whether the instance is said to be valid. There is no instance where its numbers aren't
 /// whole.
 #[derive(Drop)]
-pub(crate) struct Test {
+pub(crate) struct SuiteTest {
     pub(crate) description: Text,
     pub(crate) instance: Option<Doc>,
     pub(crate) valid: bool,
@@ -94,7 +94,7 @@ fn below(alloc: Global, token: &str, rest: &Pointer) -> Result<Pointer, Memory>
 }
 
 /// The groups of the suite whose text the bytes are, or why it has none.
-pub(crate) fn suite_from(alloc: Global, bytes: &[u8]) -> Result<Vec<Group>, Fault>
+pub(crate) fn suite_from(alloc: Global, bytes: &[u8]) -> Result<Vec<SuiteGroup>, Fault>
     ensures ok { IfOk result (λ v. suite_reading bytes.now ≡ Ok (groups_seen v.items)) }
     ensures err { IfErr result (IsSuiteFault (suite_reading bytes.now)) }
 {
@@ -109,7 +109,7 @@ pub(crate) fn suite_from(alloc: Global, bytes: &[u8]) -> Result<Vec<Group>, Faul
     }
 }
 
-fn groups_in(alloc: Global, suite: &Value) -> Result<Vec<Group>, Misfit>
+fn groups_in(alloc: Global, suite: &Value) -> Result<Vec<SuiteGroup>, Misfit>
     ensures ok { IfOk result (λ v. groups_in (view suite.now) ≡ Ok (groups_seen v.items)) }
     ensures err { IfErr result (IsMisfit (groups_in (view suite.now))) }
 {
@@ -119,7 +119,7 @@ fn groups_in(alloc: Global, suite: &Value) -> Result<Vec<Group>, Misfit>
     }
 }
 
-fn each_group(alloc: Global, values: &Vec<Value>) -> Result<Vec<Group>, Misfit>
+fn each_group(alloc: Global, values: &Vec<Value>) -> Result<Vec<SuiteGroup>, Misfit>
     ensures ok { IfOk result
         (λ v. each_in group_in 0 (items_view values.now.items) ≡ Ok (groups_seen v.items)) }
     ensures err { IfErr result (IsMisfit (each_in group_in 0 (items_view values.now.items))) }
@@ -134,7 +134,7 @@ fn each_group(alloc: Global, values: &Vec<Value>) -> Result<Vec<Group>, Misfit>
     Ok(groups)
 }
 
-fn group_in(alloc: Global, value: &Value) -> Result<Group, Misfit>
+fn group_in(alloc: Global, value: &Value) -> Result<SuiteGroup, Misfit>
     ensures ok { IfOk result (λ g. group_in (view value.now) ≡ Ok (group_seen g)) }
     ensures err { IfErr result (IsMisfit (group_in (view value.now))) }
 {
@@ -144,10 +144,10 @@ fn group_in(alloc: Global, value: &Value) -> Result<Group, Misfit>
     text_member(alloc, value, "description")?;
     let schema = whole_member(alloc, value, "schema")?;
     let tests = tests_member(alloc, value)?;
-    Ok(Group { schema, tests })
+    Ok(SuiteGroup { schema, tests })
 }
 
-fn tests_member(alloc: Global, value: &Value) -> Result<Vec<Test>, Misfit>
+fn tests_member(alloc: Global, value: &Value) -> Result<Vec<SuiteTest>, Misfit>
     ensures ok { IfOk result (λ v. tests_from (member_in as_array (codes "tests") (view value.now))
         ≡ Ok (tests_seen v.items)) }
     ensures err { IfErr result
@@ -162,7 +162,7 @@ fn tests_member(alloc: Global, value: &Value) -> Result<Vec<Test>, Misfit>
     }
 }
 
-fn each_test(alloc: Global, values: &Vec<Value>) -> Result<Vec<Test>, Misfit>
+fn each_test(alloc: Global, values: &Vec<Value>) -> Result<Vec<SuiteTest>, Misfit>
     ensures ok { IfOk result
         (λ v. each_in test_in 0 (items_view values.now.items) ≡ Ok (tests_seen v.items)) }
     ensures err { IfErr result (IsMisfit (each_in test_in 0 (items_view values.now.items))) }
@@ -177,7 +177,7 @@ fn each_test(alloc: Global, values: &Vec<Value>) -> Result<Vec<Test>, Misfit>
     Ok(tests)
 }
 
-fn test_in(alloc: Global, value: &Value) -> Result<Test, Misfit>
+fn test_in(alloc: Global, value: &Value) -> Result<SuiteTest, Misfit>
     ensures ok { IfOk result (λ t. test_in (view value.now) ≡ Ok (test_seen t)) }
     ensures err { IfErr result (IsMisfit (test_in (view value.now))) }
 {
@@ -187,7 +187,7 @@ fn test_in(alloc: Global, value: &Value) -> Result<Test, Misfit>
     let instance = whole_member(alloc, value, "data")?;
     let description = text_member(alloc, value, "description")?;
     let valid = truth_member(alloc, value, "valid")?;
-    Ok(Test {
+    Ok(SuiteTest {
         description,
         instance,
         valid,

@@ -3,7 +3,6 @@ mod entries;
 mod faults;
 mod places;
 mod running;
-mod suite;
 mod verdicts;
 
 use crate::{Fault, Format, Sink, Source, refusal_line, run};

@@ -14,11 +14,11 @@ returns-in_err-bundle-clause-err c =
 pub returns-clause-clear : goal.returns-clause-clear
 returns-clause-clear c =
     let docs = documents_of c.args.docs.now in
-    on_ok_weaker c.finish.result
-    (λ h. clear-append (adding_causes 0 docs) (bundle_causes (bundle_of docs)) c.in_ok-bundle.ensures.clear (subst (λ b. IsClear (bundle_causes b)) c.in_ok-bundle.ensures.ok h)) c.finish.ensures.clear
+    on_ok_weaker c.finish_bundle.result
+    (λ h. clear-append (adding_causes 0 docs) (bundle_causes (bundle_of docs)) c.in_ok-bundle.ensures.clear (subst (λ b. IsClear (bundle_causes b)) c.in_ok-bundle.ensures.ok h)) c.finish_bundle.ensures.clear
 
 pub returns-clause-err : goal.returns-clause-err
 returns-clause-err c =
     let docs = documents_of c.args.docs.now in
-    IfErr-weaker c.finish.result (FailsBy (bundle_causes c.in_ok-bundle.bundle)) (FailsBy (documents_causes docs))
-    (λ e h. fails-later (adding_causes 0 docs) (bundle_causes (bundle_of docs)) e c.in_ok-bundle.ensures.clear (subst (λ b. FailsBy (bundle_causes b) e) c.in_ok-bundle.ensures.ok h)) c.finish.ensures.err
+    IfErr-weaker c.finish_bundle.result (FailsBy (bundle_causes c.in_ok-bundle.bundle)) (FailsBy (documents_causes docs))
+    (λ e h. fails-later (adding_causes 0 docs) (bundle_causes (bundle_of docs)) e c.in_ok-bundle.ensures.clear (subst (λ b. FailsBy (bundle_causes b) e) c.in_ok-bundle.ensures.ok h)) c.finish_bundle.ensures.err
