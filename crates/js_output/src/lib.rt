@@ -9,6 +9,7 @@ pub mod laws;
 mod line;
 mod pair;
 mod places;
+mod rows;
 mod running;
 mod sink;
 mod source;

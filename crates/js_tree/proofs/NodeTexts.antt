@@ -132,5 +132,8 @@ unfolding escape_byte
 list_text_is true vs = refl
 list_text_is false vs = refl
 
+abbrev pub list_value : Bool → List Value → Value
+list_value valid vs = object (members ((list_name valid, list (items vs)) ∷ (codes "valid", truth valid) ∷ []))
+
 abbrev pub units_value : Bool → List OutputUnit → Value
-units_value valid us = object (members ((list_name valid, list (items (map (λ u. node u []) us))) ∷ (codes "valid", truth valid) ∷ []))
+units_value valid us = list_value valid (map (λ u. node u []) us)
