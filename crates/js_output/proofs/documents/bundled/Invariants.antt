@@ -1,5 +1,5 @@
 use Rattle.js_output.proofs.Handed.{AreTaken}
-use Rattle.js_output.proofs.documents.finished.Given as goal
+use Rattle.js_output.proofs.documents.bundled.Given as goal
 
 -- what is held and what is left are all, and what is left decides
 abbrev pub invariant-loop-document : goal.invariant-loop-document
