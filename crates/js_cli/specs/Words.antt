@@ -2,8 +2,8 @@
 use Rattle.std.specs.Prelude.{ℕ, List, [], ◌∷◌, ◌++◌, Bool, true, false, ◌&&◌, ◌||◌, ◌≡◌, codes, nat_eq, map, ⊤}
 use Rattle.std.specs.Cmp.Lexicographic.{pointwise}
 use Rattle.std.proofs.Common.{Bor}
-use Rattle.js_output.specs.declared.format.Format.{Format}
-use Rattle.js_output.specs.declared.format.Format.TheVariants.{Flag, Basic, Detailed, Verbose}
+use Rattle.js_tree.specs.declared.forms.Format.{Format}
+use Rattle.js_tree.specs.declared.forms.Format.TheVariants.{Flag, Basic, Detailed, Verbose}
 use Rattle.js_cli.specs.declared.words.Task.{Task}
 use Rattle.js_cli.specs.declared.words.Task.TheVariants as task
 
