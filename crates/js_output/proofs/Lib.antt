@@ -4,3 +4,4 @@ pub mod Sites
 pub mod Sending
 pub mod Answering
 pub mod Told
+pub mod Trimming
