@@ -23,6 +23,7 @@ pub mod BuiltNext
 pub mod Whole
 pub mod Kept
 pub mod Finds
+pub mod KeyedBelow
 pub mod Schema
 pub mod BuiltThere
 pub mod Dynamic

@@ -1,5 +1,5 @@
 -- The members that a cursor has left, where it begins.
-use Rattle.std.proofs.Common.{◌≡◌, ℕ, Bool, true, false, not, ◌||◌, cond, List, [], ◌∷◌, ◌++◌, ◌+◌, ◌<◌, length, get_or, Bor, map, filter, take, refl, sym, ap, ap₂, ◌∙◌}
+use Rattle.std.proofs.Common.{◌≡◌, ℕ, Bool, true, false, not, ◌||◌, cond, List, [], ◌∷◌, ◌++◌, ◌+◌, ◌<◌, length, get_or, Bor, filter, take, refl, sym, ap, ap₂, ◌∙◌}
 use Rattle.std.proofs.lemmas.List.{take_more, map-append}
 use Rattle.std.proofs.lemmas.List.Folds.{list_any-append}
 use Rattle.std.specs.Cmp.Lexicographic.{slice_cmp, texts_ties, nat_list_eq_equiv}
@@ -29,6 +29,11 @@ filter_alike t u same (x ∷ xs) =
 pub except_names : (keys : List (Bor Text)) (names : List Text) (ms : Named) → HasNames keys names
     → filter (λ m. not (is_key keys m.0)) ms ≡ filter (λ m. not (among_names m.0 names)) ms
 except_names keys names ms has = filter_alike (λ (m : List ℕ × Value). not (is_key keys m.0)) (λ m. not (among_names m.0 names)) (λ m. ap not (has m.0)) ms
+
+-- the names that are in the set are those that are among the names
+pub names_by_set : (keys : List (Bor Text)) (names : List Text) (all found : List Text) → HasNames keys names
+    → found ≡ filter (λ name. is_key keys name) all → found ≡ filter (λ name. among_names name names) all
+names_by_set keys names all found has e = e ∙ filter_alike (λ (name : Text). is_key keys name) (λ name. among_names name names) has all
 
 -- ---- a set of names, one name more
 

@@ -1,13 +1,16 @@
 -- The places of a path, and what stands at a place.
-use Rattle.std.specs.Prelude.{◌≡◌, ℕ, true, List, [], ◌∷◌, Option, Some, None, map, option_map, option_to_list, unwrap_or, length, refl}
+use Rattle.std.specs.Prelude.{◌≡◌, ℕ, true, List, [], ◌∷◌, Option, Some, None, ◌++◌, codes, map, option_map, option_to_list, unwrap_or, length, refl}
+use Rattle.std.proofs.Common.{ap, sym, ◌∙◌}
 use Rattle.std.specs.List.{list_all}
 use Rattle.std.proofs.lemmas.Bool.{and_parts}
+use Rattle.std.proofs.lemmas.List.{append-nil, append_assoc}
 use Rattle.std.proofs.lemmas.Option.{slice_get-get_or}
 use borrow.Author.Tests.{ltb-true}
-use Rattle.js_doc.specs.Pointer.{Tokens}
+use Rattle.js_doc.specs.Fragment.{fragment_text, fragment_token}
+use Rattle.js_doc.proofs.TokenBytes.{fragment_text-push}
 use Rattle.js_doc.specs.Value.{Value}
 use Rattle.js_bundle.specs.Document.{Documents}
-use Rattle.js_bundle.specs.Location.{absolute}
+use Rattle.js_bundle.specs.Location.{absolute, canonical, location, way}
 use Rattle.js_bundle.specs.Resource.{Site, sites}
 use Rattle.js_bundle.specs.Schemas.{is_place, place_at, path_at}
 use Rattle.js_eval.specs.Sited.{site_at, nowhere}
@@ -22,12 +25,23 @@ its_schema (Some s) v e = cc
 pub schema_is : (documents : Documents) (n : ℕ) (v : Value) → option_map (λ s. s.schema) (place_at documents n) ≡ Some v → v ≡ (site_at documents n).schema
 schema_is documents n v e = its_schema (place_at documents n) v e
 
-its_location : (o : Option Site) (keyword : Tokens) (t : List ℕ) → option_map (λ s. absolute s keyword) o ≡ Some t → t ≡ absolute (unwrap_or o nowhere) keyword
-its_location None keyword t e = absurd (cc)
-its_location (Some s) keyword t e = cc
+its_location : (o : Option Site) (t : List ℕ) → option_map location o ≡ Some t → t ≡ absolute (unwrap_or o nowhere) []
+its_location None t e = absurd (cc)
+its_location (Some s) t e = cc
 
-pub absolute_is : (documents : Documents) (n : ℕ) (keyword : Tokens) (t : List ℕ) → option_map (λ s. absolute s keyword) (place_at documents n) ≡ Some t → t ≡ absolute (site_at documents n) keyword
-absolute_is documents n keyword t e = its_location (place_at documents n) keyword t e
+pub location_is : (documents : Documents) (n : ℕ) (t : List ℕ) → option_map location (place_at documents n) ≡ Some t → t ≡ absolute (site_at documents n) []
+location_is documents n t e = its_location (place_at documents n) t e
+
+-- a keyword's location is its place's, one token further
+one_further : (s : Site) (keyword : List ℕ) → absolute s [] ++ fragment_token keyword ≡ absolute s (keyword ∷ [])
+one_further s keyword =
+    append_assoc (canonical s) (codes "#" ++ fragment_text (way s ++ [])) (fragment_token keyword)
+    ∙ ap (λ x. canonical s ++ (codes "#" ++ x)) (ap (λ w. fragment_text w ++ fragment_token keyword) (append-nil (way s)) ∙ sym (fragment_text-push (way s) keyword))
+
+pub keyword_location_is : (documents : Documents) (n : ℕ) (keyword t u : List ℕ) → option_map location (place_at documents n) ≡ Some t → u ≡ t ++ fragment_token keyword
+    → u ≡ absolute (site_at documents n) (keyword ∷ [])
+keyword_location_is documents n keyword t u e f =
+    f ∙ ap (λ x. x ++ fragment_token keyword) (location_is documents n t e) ∙ one_further (site_at documents n) keyword
 
 -- where all are places, those of a path are the places that they stand for
 pub path_is : (documents : Documents) (path : List ℕ) → list_all (is_place documents) path ≡ true → path_at documents path ≡ map (site_at documents) path

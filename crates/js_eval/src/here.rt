@@ -1,6 +1,7 @@
 //! Finished schemas, as a walk asks them.
-ghost use Rattle.std.specs.Prelude.{◌≡◌, IfOk, None, OnOk, Some, map, option_to_list, true};
+ghost use Rattle.std.specs.Prelude.{◌≡◌, ◌++◌, IfOk, None, OnOk, Some, map, option_to_list, string_bytes, true};
 ghost use Rattle.js_bundle.specs.Schemas.{is_place};
+ghost use Rattle.js_doc.specs.Fragment.{fragment_token};
 ghost use Rattle.js_eval.specs.Bundle.{schemas_of};
 ghost use Rattle.js_eval.specs.Evaluated.{index_in, name_in};
 ghost use Rattle.js_eval.specs.Seen.{instance_of, step_of};
@@ -19,7 +20,7 @@ use crate::start::{Facts, Scene, start};
 use crate::telling::schema_note;
 use crate::walking::{Tally, Trail, World};
 use js_bundle::{Place, Schemas};
-use js_doc::{Doc, Memory, Text};
+use js_doc::{Doc, Memory, Text, push_fragment_token};
 use js_tree::Note;
 use std::alloc::Global;
 
@@ -221,19 +222,18 @@ impl Here<'_> {
     ///
     /// # Errors
     /// `Memory`.
-    #[tactic(auto, using(crate::proofs::Paths::absolute_is))]
+    #[tactic(auto, using(crate::proofs::Paths::location_is))]
     pub fn absolute(&self, alloc: Global, place: Place) -> Result<Text, Memory>
         requires { is_place self.now.schemas.now place ≡ true }
         ensures { IfOk result (λ t. t ≡ (schemas_of self.now.schemas.now).absolute (site_at self.now.schemas.now place) None) }
     {
-        Ok(Text::new(self.schemas.absolute(alloc, place, None)?))
+        Ok(Text::new(String::from_str(alloc, self.schemas.absolute_of(place))?))
     }
 
     /// The absolute location of the keyword of this name at a place.
     ///
     /// # Errors
     /// `Memory`.
-    #[tactic(auto, using(crate::proofs::Paths::absolute_is))]
     pub fn absolute_keyword(
         &self,
         alloc: Global,
@@ -243,7 +243,8 @@ impl Here<'_> {
         requires { is_place self.now.schemas.now place ≡ true }
         ensures { IfOk result (λ t. t ≡ (schemas_of self.now.schemas.now).absolute (site_at self.now.schemas.now place) (Some keyword.now)) }
     {
-        Ok(Text::new(self.schemas.absolute(alloc, place, Some(keyword))?))
+        let location = one_further(alloc, self.schemas.absolute_of(place), keyword)?;
+        Ok(Text::new(location))
     }
 
     /// The note of a schema's node.
@@ -257,4 +258,13 @@ impl Here<'_> {
     {
         schema_note(alloc, schema(self.schemas, place))
     }
+}
+
+// A location, and behind it one token.
+fn one_further(alloc: Global, location: &str, token: &str) -> Result<String, Memory>
+    ensures { IfOk result (λ t. string_bytes t ≡ location.now ++ fragment_token token.now) }
+{
+    let mut text = String::from_str(alloc, location)?;
+    push_fragment_token(&mut text, token)?;
+    Ok(text)
 }

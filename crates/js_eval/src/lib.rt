@@ -14,6 +14,7 @@ mod keyword_cursor;
 mod kind;
 pub mod laws;
 mod member_cursor;
+mod name_set;
 mod parts;
 mod pattern_cursor;
 mod start;

@@ -13,13 +13,14 @@ ghost use Rattle.js_doc.specs.Value.{text};
 ghost use Rattle.js_eval.specs.Applications.{among_names, application};
 ghost use Rattle.js_eval.specs.Applied.{IsHeld, applied_of, number_in};
 ghost use Rattle.js_eval.specs.Bundle.{schemas_of};
-ghost use Rattle.js_eval.specs.Cursors.{HasNames, chosen, is_key, is_matched, is_named, members_asked, members_left, named_in};
+ghost use Rattle.js_eval.specs.Cursors.{chosen, is_matched, is_named, members_asked, members_left, named_in};
 ghost use Rattle.js_eval.specs.Schemas as spec;
 ghost use Rattle.js_eval.specs.Schemas.{Text};
 ghost use Rattle.js_eval.specs.Seen.{instance_of, texts_of};
 ghost use Rattle.js_eval.specs.Sited.{site_at};
 
 use crate::applied::{Held, To, apply};
+use crate::name_set::{is_in, set_of};
 use crate::parts::{Applied, Instance, Step, argument_in, members_in};
 use js_assert::Pattern;
 use js_bundle::{Place, Schemas};
@@ -162,23 +163,6 @@ pub(crate) fn each_other<'a>(
     })
 }
 
-fn set_of<'a>(alloc: Global, names: &[&'a str]) -> Result<BTreeSet<&'a str>, Memory>
-    ensures { IfOk result (λ s. HasNames s.keys (texts_of names.now)) }
-{
-    let mut set = BTreeSet::new(alloc);
-    for name in names {
-        insert(&mut set, *name)?;
-    }
-    Ok(set)
-}
-
-fn insert<'a>(set: &mut BTreeSet<&'a str>, name: &'a str) -> Result<(), Memory>
-    ensures { OnOk result ((names : List Text) → HasNames set.old.keys names → HasNames set.new.keys (names ++ name.now ∷ [])) }
-{
-    set.insert(name)?;
-    Ok(())
-}
-
 /// The argument of the keyword of this name, where it is an object.
 pub(crate) fn object_at<'a>(schema: &'a Doc, keyword: &str) -> Option<&'a Members>
     ensures { named_in result ≡ option_map_or entries (get keyword.now (entries (value_of schema.now))) [] }
@@ -249,13 +233,6 @@ fn is_chosen(
         Choice::Additional(adjacent) => Ok(!is_spoken_of(alloc, schemas, adjacent, name)?),
         Choice::Except(names) => Ok(!is_in(names, name)),
     }
-}
-
-#[tactic(auto, unfolding(crate::specs::Cursors::is_key))]
-fn is_in(names: &BTreeSet<&str>, name: &str) -> bool
-    ensures { result ≡ is_key names.now.keys name.now }
-{
-    names.contains(name)
 }
 
 // The adjacent keywords speak of the name.

@@ -9,6 +9,7 @@ ghost use Rattle.js_bundle.specs.Schemas.{is_place};
 ghost use Rattle.js_doc.specs.Seen.{value_of};
 ghost use Rattle.js_doc.specs.Value.{Named, Value as JsonValue};
 ghost use Rattle.js_eval.specs.Applications.{among_names};
+ghost use Rattle.js_eval.specs.Cursors.{is_key};
 ghost use Rattle.js_eval.specs.Bundle.{schemas_of};
 ghost use Rattle.js_eval.specs.Keywords as table;
 ghost use Rattle.js_eval.specs.Note as spec;
@@ -21,6 +22,7 @@ ghost use Rattle.js_tree.specs.Seen.{note_of};
 
 use crate::keyword::Keyword;
 use crate::kind::{Kind, kind_of};
+use crate::name_set::{is_in, set_of};
 use crate::parts::Instance;
 use crate::walking::Judged;
 use itoa::Buffer;
@@ -29,6 +31,7 @@ use js_bundle::{Place, Schemas};
 use js_doc::{Doc, Members, Memory, Text};
 use js_tree::{Indexes, Names, Note};
 use std::alloc::Global;
+use std::collections::BTreeSet;
 
 /// The note of a keyword of a place: of its applications so many hold, so many items match the adjacent `contains`, and where it
 /// passes it gives these members and items.
@@ -249,7 +252,7 @@ fn names_on_object<'a>(value: Instance<'a>, names: Vec<&'a str>) -> Note<'a>
 fn members_among<'a>(
     alloc: Global,
     value: Instance<'a>,
-    among: &[&str],
+    among: &[&'a str],
 ) -> Result<Vec<&'a str>, Memory>
     ensures { IfOk result (λ ns. texts_of ns.items ≡ spec.members_among (instance_of value.entry) (texts_of among.now)) }
 {
@@ -259,17 +262,30 @@ fn members_among<'a>(
     }
 }
 
+#[tactic(auto, using(crate::proofs::MembersLeft::names_by_set))]
 fn names_among<'a>(
     alloc: Global,
     members: &'a Members,
-    among: &[&str],
+    among: &[&'a str],
 ) -> Result<Vec<&'a str>, Memory>
     ensures { IfOk result (λ ns. texts_of ns.items ≡ filter (λ name. among_names name (texts_of among.now)) (map (λ m. m.0) members.now)) }
+{
+    let set = set_of(alloc, among)?;
+    names_in(alloc, members, &set)
+}
+
+// The names of the members that are in the set.
+fn names_in<'a>(
+    alloc: Global,
+    members: &'a Members,
+    set: &BTreeSet<&'a str>,
+) -> Result<Vec<&'a str>, Memory>
+    ensures { IfOk result (λ ns. texts_of ns.items ≡ filter (λ name. is_key set.now.keys name) (map (λ m. m.0) members.now)) }
 {
     let mut names = Vec::new(alloc);
     for (name, _) in members.pairs() {
         let name = name.as_str();
-        add_name_if(&mut names, is_among(name, among), name)?;
+        add_name_if(&mut names, is_in(set, name), name)?;
     }
     Ok(names)
 }
@@ -281,17 +297,6 @@ fn add_name_if<'a>(names: &mut Vec<&'a str>, wanted: bool, name: &'a str) -> Res
         names.push(name)?;
     }
     Ok(())
-}
-
-fn is_among(name: &str, names: &[&str]) -> bool
-    ensures { result ≡ among_names name.now (texts_of names.now) }
-{
-    for other in names {
-        if name == *other {
-            return true;
-        }
-    }
-    false
 }
 
 // The error that a value makes under the assertion that the keyword is, if it is one and the value doesn't hold.

@@ -13,14 +13,14 @@ use Rattle.js_output.specs.Entry.{place_named}
 use Rattle.js_output.specs.Cause.{Causes, IsClear, FailsBy}
 use Rattle.js_output.specs.Device.{Tracked, input_limit, IsLeft, Sends, SendsBeginning}
 use Rattle.js_output.specs.Input.{IsInputFault}
-use Rattle.js_output.specs.Outcome.{beginning_causes, Output, output_of, ValueOutcome, TextOutcome, InstanceOutcome, After, Outcome, Tells, Answers, IsEarlyOrMemory, IsReadOrEarly, IsLateOrMemory, IsResultOf, IsWalkFault, trimmed, OutcomeOfTexts, PairOutcome, first_line_feed, text_before, text_after}
+use Rattle.js_output.specs.Outcome.{beginning_causes, Output, output_of, ValueOutcome, TextOutcome, InstanceOutcome, After, Outcome, Tells, Answers, IsLateOrMemory, IsResultOf, IsWalkFault, trimmed, OutcomeOfTexts, PairOutcome, first_line_feed, text_before, text_after}
 use Rattle.js_output.specs.declared.fault.Fault.{Fault}
 use Rattle.js_output.specs.declared.fault.Fault.TheVariants as fault
 use Rattle.js_tree.specs.declared.forms.Format.{Format}
 
 -- ---- the bytes that a source has left
 
-some_left : (left : Option (List ℕ)) → (bytes : List ℕ) × IsLeft left bytes
+pub some_left : (left : Option (List ℕ)) → (bytes : List ℕ) × IsLeft left bytes
 some_left None = ([], tt)
 some_left (Some bytes) = (bytes, refl)
 
@@ -33,7 +33,7 @@ left_all None new bytes h e = tt
 left_all (Some xs) None bytes h e = absurd h
 left_all (Some xs) (Some ys) bytes h e = h ∙ append-nil_is bytes ys e
 
-more_left : (old new : Option (List ℕ)) (taken : List ℕ) → input_limit < length taken → Consumes old new taken
+pub more_left : (old new : Option (List ℕ)) (taken : List ℕ) → input_limit < length taken → Consumes old new taken
     → (bytes : List ℕ) × IsLeft old bytes × (input_limit < length bytes)
 more_left None new taken more h = (taken, tt, more)
 more_left (Some xs) None taken more h = absurd h
@@ -162,11 +162,6 @@ module _ (docs : Documents) (uri : List ℕ) (format : Format) (kept : bundle.Do
   texts-late instance taken old new answer few h =
       tells-map (TextOutcome kept entry format instance) (Outcome docs uri format instance) taken old new answer
       (λ outcome told. outcome-late instance outcome (on_small kept entry format instance few outcome told)) h
-
-pub early-read_or_early : (e : Fault) → IsEarlyOrMemory e → IsReadOrEarly (Err e)
-early-read_or_early fault.Memory h = tt
-early-read_or_early fault.Read h = absurd h
-early-read_or_early f h = h
 
 -- ---- a pair
 

@@ -138,7 +138,7 @@ Answers Expected before left taken old new (Err fault.Read) = IsClear before
 Answers Expected before left taken old new answer = (bytes : List ℕ) × IsLeft left bytes × Tells (Expected bytes) taken old new answer
 
 -- where the source stands failed: its fault, unless another came before it was needed, or memory failed
-abbrev pub IsReadOrEarly : Result Bool Fault → Type 0
+abbrev pub IsReadOrEarly : {A : Type 0} → Result A Fault → Type 0
 IsReadOrEarly (Err fault.Memory) = ⊤
 IsReadOrEarly (Err fault.Read) = ⊤
 IsReadOrEarly (Err f) = IsEarly f
