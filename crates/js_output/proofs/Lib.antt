@@ -6,3 +6,4 @@ pub mod Answering
 pub mod SuiteLists
 pub mod SuiteTold
 pub mod Told
+pub mod Trimming

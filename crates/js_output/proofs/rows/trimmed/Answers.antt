@@ -1,8 +1,9 @@
-use Rattle.js_tree.specs.Result.{pruned}
+use Rattle.std.proofs.Common.{rules}
+use Rattle.js_output.proofs.Trimming.{pruned_whole, condensed_whole}
 use Rattle.js_output.proofs.rows.trimmed.Goals as goal
 
 pub flat_condense-requires : goal.flat_condense-requires
-flat_condense-requires c = let (t, e) = c.requires in (pruned t, c.flat_prune-in-Detailed.ensures t e)
+flat_condense-requires c = pruned_whole _ _ c.requires (search rules)
 
 pub returns-in-Detailed : goal.returns-in-Detailed
-returns-in-Detailed c = λ t e. rw c.in-Detailed.is (c.flat_condense.ensures (pruned t) (c.flat_prune-in-Detailed.ensures t e))
+returns-in-Detailed c = condensed_whole _ _ _ _ c.in-Detailed.is (search rules) c.flat_condense.ensures
