@@ -3,6 +3,7 @@ mod entries;
 mod faults;
 mod places;
 mod running;
+mod suite;
 mod verdicts;
 
 use crate::{Fault, Format, Sink, Source, refusal_line, run};
