@@ -1,1 +1,4 @@
+pub mod Pairs
+pub mod GrammarFacts
+pub mod Holding
 pub mod Telling

@@ -1,3 +1,5 @@
+pub mod Grammar
 pub mod Words
-pub mod Status
 pub mod Answer
+pub mod Taken
+pub mod Status
