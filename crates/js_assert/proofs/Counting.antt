@@ -10,7 +10,7 @@ use Rattle.js_doc.specs.Value.{Value, Named}
 use Rattle.js_doc.specs.Members.{has_name}
 use Rattle.js_assert.specs.Assertion.{Asserted, asserted, implies, says, says_by}
 use Rattle.js_assert.specs.ErrorText.{error}
-use Rattle.js_assert.specs.Keyword.{Row, keywords, row_named, keyword_named}
+use Rattle.js_assert.specs.Keyword.{NamedKeyword, keywords, row_named, keyword_named}
 use Rattle.js_assert.specs.Laws.{is_counting, IsAlikeWhateverMatches}
 use Rattle.js_assert.specs.declared.keyword.Keyword.{Keyword}
 use Rattle.js_assert.specs.declared.keyword.Keyword.TheVariants.{MaxContains, MinContains}
@@ -25,13 +25,13 @@ counts _ = false
 abbrev fits : List ℕ → Keyword → Bool
 fits name k = implies (counts k) (is_counting name)
 
-fits_at : (b : Bool) (row : Row) (rows : List Row) (name : List ℕ) (k : Keyword) → bytes_eq name row.0 ≡ b → fits row.0 row.1 ≡ true → (row_named rows name ≡ Some k → fits name k ≡ true)
+fits_at : (b : Bool) (row : NamedKeyword) (rows : List NamedKeyword) (name : List ℕ) (k : Keyword) → bytes_eq name row.0 ≡ b → fits row.0 row.1 ≡ true → (row_named rows name ≡ Some k → fits name k ≡ true)
     → cond b (Some row.1) (row_named rows name) ≡ Some k → fits name k ≡ true
 fits_at true row rows name k same here later e =
     let is : row.1 ≡ k = cc in subst (λ l. fits name l ≡ true) is (ap (λ n. fits n row.1) ((bytes_eq-Decides name row.0).0 same) ∙ here)
 fits_at false row rows name k same here later e = later e
 
-fits_rows : (rows : List Row) → list_all (λ row. fits row.0 row.1) rows ≡ true → (name : List ℕ) (k : Keyword) → row_named rows name ≡ Some k → fits name k ≡ true
+fits_rows : (rows : List NamedKeyword) → list_all (λ row. fits row.0 row.1) rows ≡ true → (name : List ℕ) (k : Keyword) → row_named rows name ≡ Some k → fits name k ≡ true
 fits_rows [] all name k e = cc
 fits_rows (row ∷ rows) all name k e = let parts = and_parts _ _ all in fits_at (bytes_eq name row.0) row rows name k refl parts.0 (fits_rows rows parts.1 name k) e
 

@@ -8,7 +8,7 @@ use Rattle.js_doc.specs.Members.{has_name}
 use Rattle.js_assert.specs.Argument.{strings}
 use Rattle.js_assert.specs.Assertion.{has_each, implies, says_by}
 use Rattle.js_assert.specs.Dependences.{dependence_of}
-use Rattle.js_assert.specs.ErrorText.{asked, without, sorted_with}
+use Rattle.js_assert.specs.ErrorText.{names_needed, without, sorted_with}
 use Rattle.js_assert.specs.declared.keyword.Keyword.TheVariants.{DependentRequired}
 use Rattle.js_assert.specs.declared.objects.Dependence.{Dependence}
 use Rattle.js_doc.proofs.PartLists.{member_list-members}
@@ -33,12 +33,12 @@ all_met ms ds b e = e ∙ (sym (met_each ms ds) ∙ sym (ap₂ (λ ns xs. list_a
 
 -- a dependence whose name is a member's asks for its names
 pub asked_more : (ms : Named) (ds : List Dependence) (i : ℕ) (d : Dependence) (old new : List (List ℕ)) → i < length ds → d ≡ get_or ds i d → has_name d.name ms ≡ true → new ≡ sorted_with old (without ms d.needs.items)
-    → sorted_with new (without ms (asked ms (map dependence_of (drop (i + 1) ds)))) ≡ sorted_with old (without ms (asked ms (map dependence_of (drop i ds))))
+    → sorted_with new (without ms (names_needed ms (map dependence_of (drop (i + 1) ds)))) ≡ sorted_with old (without ms (names_needed ms (map dependence_of (drop i ds))))
 asked_more ms ds i d old new low here present put =
-    let rest = asked ms (map dependence_of (drop (i + 1) ds)) in
+    let rest = names_needed ms (map dependence_of (drop (i + 1) ds)) in
     let first : drop i ds ≡ d ∷ drop (i + 1) ds = drop_more ds i d low ∙ ap (λ e. e ∷ drop (i + 1) ds) (sym here) in
-    let taken : asked ms (map dependence_of (d ∷ drop (i + 1) ds)) ≡ d.needs.items ++ rest =
+    let taken : names_needed ms (map dependence_of (d ∷ drop (i + 1) ds)) ≡ d.needs.items ++ rest =
     ap₂ (λ b names. cond b names [] ++ rest) present (strings_names d.needs.items) in
     let apart : without ms (d.needs.items ++ rest) ≡ without ms d.needs.items ++ without ms rest = filter-append _ d.needs.items rest in
     ap (λ ns. sorted_with ns (without ms rest)) put ∙ sym (sorted_with-append old (without ms d.needs.items) (without ms rest))
-    ∙ sym (ap (sorted_with old) (ap (λ xs. without ms (asked ms (map dependence_of xs))) first ∙ ap (without ms) taken ∙ apart))
+    ∙ sym (ap (sorted_with old) (ap (λ xs. without ms (names_needed ms (map dependence_of xs))) first ∙ ap (without ms) taken ∙ apart))

@@ -4,7 +4,7 @@ use Rattle.std.specs.List.{AllByRecursion}
 use Rattle.std.specs.Str.{bytes_eq}
 use Rattle.std.proofs.lemmas.Slice.Eq.{bytes_eq-Decides}
 use Rattle.js_doc.specs.Value.{Value}
-use Rattle.js_assert.specs.Keyword.{Row, keywords, row_named, keyword_named}
+use Rattle.js_assert.specs.Keyword.{NamedKeyword, keywords, row_named, keyword_named}
 use Rattle.js_assert.specs.Form.{IsFaultOf, IsKeywordFault}
 use Rattle.js_assert.specs.declared.fault.KeywordFault.{KeywordFault}
 use Rattle.js_assert.specs.declared.fault.KeywordFault.TheVariants.{Memory, BadKeyword, NotAPattern, PatternTooLarge}
@@ -15,7 +15,7 @@ not_true : (b : Bool) → (b ≡ true → ⊥) → b ≡ false
 not_true true h = absurd (h refl)
 not_true false h = refl
 
-none_named : (rows : List Row) (name : List ℕ) → AllByRecursion (λ row. name ≡ row.0 → ⊥) rows → None ≡ row_named rows name
+none_named : (rows : List NamedKeyword) (name : List ℕ) → AllByRecursion (λ row. name ≡ row.0 → ⊥) rows → None ≡ row_named rows name
 none_named [] name h = refl
 none_named (row ∷ rows) name h =
     let apart : bytes_eq name row.0 ≡ false = not_true (bytes_eq name row.0) (λ e. h.0 ((bytes_eq-Decides name row.0).0 e)) in
@@ -27,7 +27,7 @@ other_name name h = none_named keywords name h
 
 -- ---- the keyword `pattern`
 
-pattern_in : (rows : List Row) (name : List ℕ) → AllByRecursion (λ row. row.1 ≡ Pattern → row.0 ≡ codes "pattern") rows → row_named rows name ≡ Some Pattern → name ≡ codes "pattern"
+pattern_in : (rows : List NamedKeyword) (name : List ℕ) → AllByRecursion (λ row. row.1 ≡ Pattern → row.0 ≡ codes "pattern") rows → row_named rows name ≡ Some Pattern → name ≡ codes "pattern"
 pattern_in [] name h e = absurd (cc)
 pattern_in (row ∷ rows) name h e = at _ refl (pattern_in rows name h.1) where
   at : (b : Bool) → bytes_eq name row.0 ≡ b → (row_named rows name ≡ Some Pattern → name ≡ codes "pattern") → name ≡ codes "pattern"

@@ -7,7 +7,7 @@ use Rattle.js_doc.specs.Seen.{value_of}
 use Rattle.js_doc.proofs.PartLists.{item_list-items}
 use Rattle.js_doc.specs.Value.{Value, Values, text, list, items}
 use Rattle.js_doc.specs.declared.doc.Doc.{Doc}
-use Rattle.js_assert.specs.Form.{are_new_types, is_empty, is_type, is_type_name}
+use Rattle.js_assert.specs.Form.{are_new_types, is_empty_list, is_type, is_type_name}
 use Rattle.js_assert.specs.Types.{type_name}
 use Rattle.js_assert.specs.declared.instance_type.InstanceType.{InstanceType}
 use Rattle.js_assert.proofs.Listed.{list_any-map}
@@ -48,9 +48,9 @@ named_among same one name ts h e = list_any-map type_name (bytes_eq name) ts ∙
 
 -- ---- the whole list
 
-filled : (vs : Values) → (vs ≡ [] → ⊥) → is_empty vs ≡ false
+filled : (vs : Values) → (vs ≡ [] → ⊥) → is_empty_list vs ≡ false
 filled [] h = absurd (h refl)
 filled (v ∷ vs) h = refl
 
 pub list_type : (vs : Values) → (vs ≡ [] → ⊥) → is_type (list (items vs)) ≡ are_new_types [] vs
-list_type vs some = ap (λ ws. not (is_empty ws) && are_new_types [] ws) (item_list-items vs) ∙ ap (λ b. not b && are_new_types [] vs) (filled vs some)
+list_type vs some = ap (λ ws. not (is_empty_list ws) && are_new_types [] ws) (item_list-items vs) ∙ ap (λ b. not b && are_new_types [] vs) (filled vs some)

@@ -8,9 +8,9 @@ pub use Rattle.js_doc.specs.Parts.{item_list as listed, member_list as named, it
 
 -- ---- what a value holds, where it is of that type
 
-abbrev pub flag : Value → Bool
-flag (truth b) = b
-flag _ = false
+abbrev pub boolean : Value → Bool
+boolean (truth b) = b
+boolean _ = false
 
 abbrev pub number : Value → ℤ
 number (whole z) = z

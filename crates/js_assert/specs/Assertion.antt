@@ -9,7 +9,7 @@ use Rattle.js_doc.specs.Coding.{value_code}
 use Rattle.js_doc.specs.Equality.{same}
 use Rattle.js_doc.specs.Members.{has_name}
 use Rattle.js_doc.specs.Parts.{items_of, members_of}
-use Rattle.js_assert.specs.Argument.{flag, number, string, strings, on_number, on_string, on_array, on_object}
+use Rattle.js_assert.specs.Argument.{boolean, number, string, strings, on_number, on_string, on_array, on_object}
 use Rattle.js_assert.specs.Keyword.{keyword_named}
 use Rattle.js_assert.specs.Pattern.{matches}
 use Rattle.js_assert.specs.declared.keyword.Keyword.{Keyword}
@@ -83,7 +83,7 @@ module _ (argument : Value) (beside_contains : Bool) (v : Value) (matching : ℕ
   -- arrays
   says_by MaxItems = on_array v (λ vs. int_le (pos (length vs)) (number argument))  -- 6.4.1
   says_by MinItems = on_array v (λ vs. int_le (number argument) (pos (length vs)))  -- 6.4.2
-  says_by UniqueItems = on_array v (λ vs. implies (flag argument) (is_unique vs))  -- 6.4.3
+  says_by UniqueItems = on_array v (λ vs. implies (boolean argument) (is_unique vs))  -- 6.4.3
   says_by MaxContains = on_array v (λ _. implies beside_contains (int_le (pos matching) (number argument)))  -- 6.4.4
   says_by MinContains = on_array v (λ _. implies beside_contains (int_le (number argument) (pos matching)))  -- 6.4.5
   -- objects

@@ -24,8 +24,8 @@ type_of (list vs) = codes "array"
 type_of (object ms) = codes "object"
 
 -- words before a number
-abbrev pub numbered : List ℕ → ℤ → List ℕ
-numbered words z = words ++ signed_decimal z
+abbrev pub before_number : List ℕ → ℤ → List ℕ
+before_number words z = words ++ signed_decimal z
 
 -- words between two numbers
 abbrev pub counted : ℕ → List ℕ → ℤ → List ℕ
@@ -54,8 +54,8 @@ abbrev pub without : Named → List (List ℕ) → List (List ℕ)
 without ms names = filter (λ name. not (has_name name ms)) names
 
 -- the names that the members present ask for, one after another
-abbrev pub asked : Named → Named → List (List ℕ)
-asked ms dependences = flat_map (λ d. if has_name d.0 ms then strings d.1 else []) dependences
+abbrev pub names_needed : Named → Named → List (List ℕ)
+names_needed ms dependences = flat_map (λ d. if has_name d.0 ms then strings d.1 else []) dependences
 
 -- the names and those in `sorted`, ascending by their bytes, each once
 abbrev pub sorted_with : List (List ℕ) → List (List ℕ) → List (List ℕ)
@@ -73,11 +73,11 @@ module _ (argument : Value) (v : Value) (matching : ℕ) where
   text_by «Type» = codes "type is " ++ type_of v
   text_by Enum = codes "not a listed value"
   text_by Const = codes "not the constant"
-  text_by MultipleOf = numbered (codes "not a multiple of ") (number argument)
-  text_by Maximum = numbered (codes "greater than ") (number argument)
-  text_by ExclusiveMaximum = numbered (codes "not less than ") (number argument)
-  text_by Minimum = numbered (codes "less than ") (number argument)
-  text_by ExclusiveMinimum = numbered (codes "not greater than ") (number argument)
+  text_by MultipleOf = before_number (codes "not a multiple of ") (number argument)
+  text_by Maximum = before_number (codes "greater than ") (number argument)
+  text_by ExclusiveMaximum = before_number (codes "not less than ") (number argument)
+  text_by Minimum = before_number (codes "less than ") (number argument)
+  text_by ExclusiveMinimum = before_number (codes "not greater than ") (number argument)
   text_by MaxLength = counted (characters (string v)) (codes " characters, at most ") (number argument)
   text_by MinLength = counted (characters (string v)) (codes " characters, at least ") (number argument)
   text_by Pattern = codes "no match"
@@ -89,7 +89,7 @@ module _ (argument : Value) (v : Value) (matching : ℕ) where
   text_by MaxProperties = counted (length (members_of v)) (codes " members, at most ") (number argument)
   text_by MinProperties = counted (length (members_of v)) (codes " members, at least ") (number argument)
   text_by Required = missing (map text (without (members_of v) (strings argument)))
-  text_by DependentRequired = missing (map text (sorted_with [] (without (members_of v) (asked (members_of v) (members_of argument)))))
+  text_by DependentRequired = missing (map text (sorted_with [] (without (members_of v) (names_needed (members_of v) (members_of argument)))))
 
 -- the text of the error that v makes, where the assertion doesn't hold, if so many of its items match the adjacent
 -- `contains`

@@ -14,9 +14,9 @@ use Rattle.js_assert.specs.declared.fault.KeywordFault.TheVariants.{Memory, BadK
 use Rattle.js_assert.specs.declared.keyword.Keyword.{Keyword}
 use Rattle.js_assert.specs.declared.keyword.Keyword.TheVariants.{«Type», Enum, Const, MultipleOf, Maximum, ExclusiveMaximum, Minimum, ExclusiveMinimum, MaxLength, MinLength, Pattern, MaxItems, MinItems, UniqueItems, MaxContains, MinContains, MaxProperties, MinProperties, Required, DependentRequired}
 
-abbrev pub is_flag : Value → Bool
-is_flag (truth b) = true
-is_flag _ = false
+abbrev pub is_boolean : Value → Bool
+is_boolean (truth b) = true
+is_boolean _ = false
 
 abbrev pub is_number : Value → Bool
 is_number (whole z) = true
@@ -38,9 +38,9 @@ abbrev pub is_list : Value → Bool
 is_list (list vs) = true
 is_list _ = false
 
-abbrev pub is_empty : List Value → Bool
-is_empty [] = true
-is_empty (v ∷ vs) = false
+abbrev pub is_empty_list : List Value → Bool
+is_empty_list [] = true
+is_empty_list (v ∷ vs) = false
 
 -- a string, and none of those seen before
 abbrev pub is_new_name : List (List ℕ) → Value → Bool
@@ -76,7 +76,7 @@ are_new_types seen vs = are_new_names seen vs && list_all is_type_name (map stri
 -- a type's name, or a list of such names that is not empty, without repeats
 abbrev pub is_type : Value → Bool
 is_type (text s) = is_type_name s
-is_type (list vs) = not (is_empty (item_list vs)) && are_new_types [] (item_list vs)
+is_type (list vs) = not (is_empty_list (item_list vs)) && are_new_types [] (item_list vs)
 is_type _ = false
 
 -- ---- the table
@@ -96,7 +96,7 @@ module _ (argument : Value) where
   takes Pattern = is_string argument  -- 6.3.3
   takes MaxItems = is_count argument  -- 6.4.1
   takes MinItems = is_count argument  -- 6.4.2
-  takes UniqueItems = is_flag argument  -- 6.4.3
+  takes UniqueItems = is_boolean argument  -- 6.4.3
   takes MaxContains = is_count argument  -- 6.4.4
   takes MinContains = is_count argument  -- 6.4.5
   takes MaxProperties = is_count argument  -- 6.5.1

@@ -4,11 +4,11 @@ use Rattle.std.specs.Str.{bytes_eq}
 use Rattle.js_assert.specs.declared.keyword.Keyword.{Keyword}
 use Rattle.js_assert.specs.declared.keyword.Keyword.TheVariants.{«Type», Enum, Const, MultipleOf, Maximum, ExclusiveMaximum, Minimum, ExclusiveMinimum, MaxLength, MinLength, Pattern, MaxItems, MinItems, UniqueItems, MaxContains, MinContains, MaxProperties, MinProperties, Required, DependentRequired}
 
-abbrev pub Row : Type 0
-Row = List ℕ × Keyword
+abbrev pub NamedKeyword : Type 0
+NamedKeyword = List ℕ × Keyword
 
 -- in the order of the standard
-abbrev pub keywords : List Row
+abbrev pub keywords : List NamedKeyword
 keywords =
     (codes "type", «Type») ∷ (codes "enum", Enum) ∷ (codes "const", Const) ∷ (codes "multipleOf", MultipleOf) ∷ (codes "maximum", Maximum)
     ∷ (codes "exclusiveMaximum", ExclusiveMaximum) ∷ (codes "minimum", Minimum) ∷ (codes "exclusiveMinimum", ExclusiveMinimum)
@@ -17,7 +17,7 @@ keywords =
     ∷ (codes "maxProperties", MaxProperties) ∷ (codes "minProperties", MinProperties) ∷ (codes "required", Required)
     ∷ (codes "dependentRequired", DependentRequired) ∷ []
 
-abbrev pub row_named : List Row → List ℕ → Option Keyword
+abbrev pub row_named : List NamedKeyword → List ℕ → Option Keyword
 row_named [] name = None
 row_named (row ∷ rows) name = if bytes_eq name row.0 then Some row.1 else row_named rows name
 

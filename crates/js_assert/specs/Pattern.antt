@@ -10,11 +10,11 @@ use Rattle.js_assert.specs.declared.pattern.PatternFault.{PatternFault}
 use Rattle.js_assert.specs.declared.pattern.PatternFault.TheVariants.{Memory, NotAPattern, PatternTooLarge}
 
 -- what the grammar of `regex` reads in the text
-unfoldable pub reading : List ℕ → Option (Nested Re × Names)
-reading pattern = read default_config (chars pattern)
+unfoldable pub grammar_reading : List ℕ → Option (Nested Re × Names)
+grammar_reading pattern = read default_config (chars pattern)
 
 abbrev pub is_in_grammar : List ℕ → Bool
-is_in_grammar pattern = is_some (reading pattern)
+is_in_grammar pattern = is_some (grammar_reading pattern)
 
 -- its groups and classes nest deeper than `regex` takes them: above 250
 abbrev pub is_deep : Option (Nested Re × Names) → Bool
@@ -22,7 +22,7 @@ is_deep None = false
 is_deep (Some r) = nat_lt 250 (r.0).depth
 
 abbrev pub nests_too_deep : List ℕ → Bool
-nests_too_deep pattern = is_deep (reading pattern)
+nests_too_deep pattern = is_deep (grammar_reading pattern)
 
 abbrev pub is_pattern : List ℕ → Bool
 is_pattern pattern = is_in_grammar pattern && not (nests_too_deep pattern)
@@ -33,7 +33,7 @@ is_found (Some r) string = is_some (find_str (r.0).value string 0)
 
 -- the pattern matches somewhere in the string
 abbrev pub matches : List ℕ → List ℕ → Bool
-matches pattern string = is_found (reading pattern) string
+matches pattern string = is_found (grammar_reading pattern) string
 
 -- when each fault comes; want of memory may come at any time, and nothing is said of when a pattern is too large
 abbrev pub IsPatternFault : List ℕ → PatternFault → Type 0

@@ -61,7 +61,7 @@ pub(crate) fn min_contains(limit: u64, beside_contains: bool, value: &Doc, match
 
 /// How many items the value has, if it is an array.
 #[tactic(auto, using(crate::proofs::Listed::array_rules))]
-pub(crate) fn item_count(value: &Doc) -> u64
+pub(crate) fn array_length(value: &Doc) -> u64
     ensures { result ≡ length (items_of (value_of value.now)) }
 {
     match value {

@@ -55,11 +55,11 @@ impl Model for Assertion {
 
     ghost coded = { asserted_code the_row.coded };
 
-    ghost use Rattle.js_assert.specs.Seen.{keyword_of, argument_of};
+    ghost use Rattle.js_assert.specs.Seen.{keyword_tested, argument_tested};
 
     ghost view = { λ a. record {
-      keyword = keyword_of a.test;
-      argument = argument_of a.test;
+      keyword = keyword_tested a.test;
+      argument = argument_tested a.test;
       beside_contains = a.beside_contains;
     } };
 }
@@ -122,7 +122,7 @@ impl Assertion {
             Test::ExclusiveMinimum(limit) => Ok(numbers::exclusive_minimum(*limit, value)),
             Test::MaxLength(limit) => Ok(strings::max_length(*limit, value)),
             Test::MinLength(limit) => Ok(strings::min_length(*limit, value)),
-            Test::Pattern(pattern) => strings::pattern(alloc, pattern, value),
+            Test::Pattern(pattern) => strings::matches_pattern(alloc, pattern, value),
             Test::MaxItems(limit) => Ok(arrays::max_items(*limit, value)),
             Test::MinItems(limit) => Ok(arrays::min_items(*limit, value)),
             Test::UniqueItems(asked) => arrays::unique_items(alloc, *asked, value),

@@ -2,11 +2,11 @@
 ghost use Rattle.std.specs.Prelude.{◌≡◌, ◌++◌, IfOk, OnOk, string_bytes, pos, Some};
 ghost use Rattle.js_doc.specs.Seen.{value_of};
 ghost use Rattle.js_doc.specs.Parts.{items_of};
-ghost use Rattle.js_assert.specs.ErrorText.{numbered, counted, equal_pair, pair_text, text_by};
-ghost use Rattle.js_assert.specs.Seen.{keyword_of, argument_of};
+ghost use Rattle.js_assert.specs.ErrorText.{before_number, counted, equal_pair, pair_text, text_by};
+ghost use Rattle.js_assert.specs.Seen.{keyword_tested, argument_tested};
 
 use crate::any_type::type_text;
-use crate::arrays::item_count;
+use crate::arrays::array_length;
 use crate::assertion::Test;
 use crate::missing::{missing_of, missing_of_all};
 use crate::objects::member_count;
@@ -24,26 +24,26 @@ pub(crate) fn text_of(
     matching: u64,
 ) -> Result<String, Memory>
     ensures { IfOk result (λ s. string_bytes s
-        ≡ text_by (argument_of test.now) (value_of value.now) matching (keyword_of test.now)) }
+        ≡ text_by (argument_tested test.now) (value_of value.now) matching (keyword_tested test.now)) }
 {
     match test {
         Test::Type(_) => words(alloc, type_text(value)),
         Test::Enum(_) => words(alloc, "not a listed value"),
         Test::Const(_) => words(alloc, "not the constant"),
-        Test::MultipleOf(divisor) => numbered(
+        Test::MultipleOf(divisor) => before_number(
             alloc,
             "not a multiple of ",
             i128::from(divisor.get()),
         ),
-        Test::Maximum(limit) => numbered(alloc, "greater than ", limit.value()),
-        Test::ExclusiveMaximum(limit) => numbered(alloc, "not less than ", limit.value()),
-        Test::Minimum(limit) => numbered(alloc, "less than ", limit.value()),
-        Test::ExclusiveMinimum(limit) => numbered(alloc, "not greater than ", limit.value()),
+        Test::Maximum(limit) => before_number(alloc, "greater than ", limit.value()),
+        Test::ExclusiveMaximum(limit) => before_number(alloc, "not less than ", limit.value()),
+        Test::Minimum(limit) => before_number(alloc, "less than ", limit.value()),
+        Test::ExclusiveMinimum(limit) => before_number(alloc, "not greater than ", limit.value()),
         Test::MaxLength(limit) => counted(alloc, length(value), " characters, at most ", *limit),
         Test::MinLength(limit) => counted(alloc, length(value), " characters, at least ", *limit),
         Test::Pattern(_) => words(alloc, "no match"),
-        Test::MaxItems(limit) => counted(alloc, item_count(value), " items, at most ", *limit),
-        Test::MinItems(limit) => counted(alloc, item_count(value), " items, at least ", *limit),
+        Test::MaxItems(limit) => counted(alloc, array_length(value), " items, at most ", *limit),
+        Test::MinItems(limit) => counted(alloc, array_length(value), " items, at least ", *limit),
         Test::UniqueItems(_) => equal_items(alloc, value),
         Test::MaxContains(limit) => counted(alloc, matching, " matching items, at most ", *limit),
         Test::MinContains(limit) => counted(alloc, matching, " matching items, at least ", *limit),
@@ -66,8 +66,8 @@ fn words(alloc: Global, words: &str) -> Result<String, Memory>
     Ok(String::from_str(alloc, words)?)
 }
 
-fn numbered(alloc: Global, words: &str, number: i128) -> Result<String, Memory>
-    ensures { IfOk result (λ s. string_bytes s ≡ numbered words.now number) }
+fn before_number(alloc: Global, words: &str, number: i128) -> Result<String, Memory>
+    ensures { IfOk result (λ s. string_bytes s ≡ before_number words.now number) }
 {
     let mut text = String::from_str(alloc, words)?;
     put_number(&mut text, number)?;

@@ -3,7 +3,7 @@ ghost use Rattle.std.specs.Prelude.{◌≡◌, IfOk, IfErr, true, false, pos, ma
 ghost use Rattle.std.specs.Int.NonZero.{non_zero_u64_get};
 ghost use Rattle.js_doc.specs.Seen.{value_of};
 ghost use Rattle.js_doc.specs.Value.{truth, whole, text, list, object, items, members};
-ghost use Rattle.js_assert.specs.Form.{is_flag, is_number, is_number_above, is_count, is_string, is_list, is_list_of_names, is_object_of_names, is_type, are_new_types, are_new_names, IsFaultOf, IsBadUnless};
+ghost use Rattle.js_assert.specs.Form.{is_boolean, is_number, is_number_above, is_count, is_string, is_list, is_list_of_names, is_object_of_names, is_type, are_new_types, are_new_names, IsFaultOf, IsBadUnless};
 ghost use Rattle.js_assert.specs.Names.{names_value};
 ghost use Rattle.js_assert.specs.Dependences.{dependence_of};
 ghost use Rattle.js_assert.specs.Types.{type_name, types_value};
@@ -20,9 +20,9 @@ use std::alloc::Global;
 use std::collections::BTreeSet;
 use std::num::NonZeroU64;
 
-pub(crate) fn flag(argument: &Doc) -> Result<bool, KeywordFault>
+pub(crate) fn boolean(argument: &Doc) -> Result<bool, KeywordFault>
     ensures ok { IfOk result (λ b. value_of argument.now ≡ truth b) }
-    ensures refused { IfErr result (IsBadUnless (is_flag (value_of argument.now))) }
+    ensures refused { IfErr result (IsBadUnless (is_boolean (value_of argument.now))) }
 {
     match argument {
         Doc::Truth(b) => Ok(*b),
@@ -110,7 +110,7 @@ pub(crate) fn pattern(alloc: Global, argument: &Doc) -> Result<Pattern, KeywordF
 }
 
 /// The strings of a list without repeats.
-pub(crate) fn names(alloc: Global, argument: &Doc) -> Result<Vec<Text>, KeywordFault>
+pub(crate) fn name_list(alloc: Global, argument: &Doc) -> Result<Vec<Text>, KeywordFault>
     ensures ok { IfOk result (λ v. value_of argument.now ≡ names_value v.items) }
     ensures form { IfOk result (λ v. is_list_of_names (value_of argument.now) ≡ true) }
     ensures refused { IfErr result (IsBadUnless (is_list_of_names (value_of argument.now))) }
@@ -201,7 +201,7 @@ fn dependences_of(alloc: Global, members: &Members) -> Result<Vec<Dependence>, K
 {
     let mut dependences = Vec::with_capacity(alloc, members.len())?;
     for (name, needs) in members.pairs() {
-        let needs = names(alloc, needs)?;
+        let needs = name_list(alloc, needs)?;
         let name = Text::new(name.clone()?);
         dependences.push(Dependence { name, needs })?;
     }

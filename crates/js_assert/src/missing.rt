@@ -5,7 +5,7 @@ ghost use Rattle.js_doc.specs.Seen.{value_of};
 ghost use Rattle.js_doc.specs.Value.{text};
 ghost use Rattle.js_doc.specs.Parts.{members_of};
 ghost use Rattle.js_assert.specs.Dependences.{dependence_of};
-ghost use Rattle.js_assert.specs.ErrorText.{asked, missing, sorted_with, without};
+ghost use Rattle.js_assert.specs.ErrorText.{names_needed, missing, sorted_with, without};
 ghost use Rattle.js_assert.specs.Names.{names_seen};
 
 use crate::objects::{Dependence, is_member};
@@ -39,7 +39,7 @@ pub(crate) fn missing_of_all(
 ) -> Result<String, Memory>
     ensures { IfOk result (λ s. string_bytes s
         ≡ missing (map text (sorted_with [] (without (members_of (value_of value.now))
-        (asked (members_of (value_of value.now)) (map dependence_of dependences.now)))))) }
+        (names_needed (members_of (value_of value.now)) (map dependence_of dependences.now)))))) }
 {
     let absent = absent_of_all(alloc, dependences, value)?;
     let mut text = String::from_str(alloc, "missing: [")?;
@@ -60,7 +60,7 @@ fn absent_of_all<'a>(
 ) -> Result<BTreeSet<&'a str>, Memory>
     ensures { IfOk result (λ s. names_seen s.keys
         ≡ sorted_with [] (without (members_of (value_of value.now))
-        (asked (members_of (value_of value.now)) (map dependence_of dependences.now)))) }
+        (names_needed (members_of (value_of value.now)) (map dependence_of dependences.now)))) }
 {
     let mut absent = BTreeSet::new(alloc);
     for dependence in dependences {

@@ -2,7 +2,7 @@
 ghost use Rattle.std.specs.Prelude.{IfOk, IfErr};
 ghost use Rattle.js_doc.specs.Seen.{value_of};
 ghost use Rattle.js_assert.specs.Form.{IsFaultOf};
-ghost use Rattle.js_assert.specs.Seen.{IsReadAs};
+ghost use Rattle.js_assert.specs.Seen.{IsTestOf};
 
 use crate::assertion::Test;
 use crate::fault::KeywordFault;
@@ -12,7 +12,7 @@ use js_doc::Doc;
 use std::alloc::Global;
 
 pub(crate) fn test_of(alloc: Global, keyword: Keyword, argument: &Doc) -> Result<Test, KeywordFault>
-    ensures ok { IfOk result (IsReadAs keyword (value_of argument.now)) }
+    ensures ok { IfOk result (IsTestOf keyword (value_of argument.now)) }
     ensures refused { IfErr result (IsFaultOf keyword (value_of argument.now)) }
 {
     match keyword {
@@ -29,12 +29,12 @@ pub(crate) fn test_of(alloc: Global, keyword: Keyword, argument: &Doc) -> Result
         Keyword::Pattern => Ok(Test::Pattern(form::pattern(alloc, argument)?)),
         Keyword::MaxItems => Ok(Test::MaxItems(form::count(argument)?)),
         Keyword::MinItems => Ok(Test::MinItems(form::count(argument)?)),
-        Keyword::UniqueItems => Ok(Test::UniqueItems(form::flag(argument)?)),
+        Keyword::UniqueItems => Ok(Test::UniqueItems(form::boolean(argument)?)),
         Keyword::MaxContains => Ok(Test::MaxContains(form::count(argument)?)),
         Keyword::MinContains => Ok(Test::MinContains(form::count(argument)?)),
         Keyword::MaxProperties => Ok(Test::MaxProperties(form::count(argument)?)),
         Keyword::MinProperties => Ok(Test::MinProperties(form::count(argument)?)),
-        Keyword::Required => Ok(Test::Required(form::names(alloc, argument)?)),
+        Keyword::Required => Ok(Test::Required(form::name_list(alloc, argument)?)),
         Keyword::DependentRequired => {
             Ok(Test::DependentRequired(form::dependences(alloc, argument)?))
         }

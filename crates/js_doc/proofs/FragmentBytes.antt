@@ -7,9 +7,9 @@ use Rattle.std.proofs.lemmas.Bool.Decides.{nat_tests}
 use Rattle.percent_encoding.specs.AsciiSet.{contains, should_percent_encode}
 use Rattle.percent_encoding.specs.Percent.{percent_encode, encode_byte, percent_encode_byte}
 use Rattle.js_doc.specs.declared.fragment.TheConstants.{ESCAPED}
-use Rattle.js_doc.specs.Fragment.{marks, stands, fragment_byte}
+use Rattle.js_doc.specs.Fragment.{marks, is_fragment_char, fragment_byte}
 
-below : agree_below (should_percent_encode ESCAPED) (λ b. not (stands b)) 128 ≡ true
+below : agree_below (should_percent_encode ESCAPED) (λ b. not (is_fragment_char b)) 128 ≡ true
 unfolding should_percent_encode
 below = refl
 
@@ -24,8 +24,8 @@ any_high (k ∷ ks) b small high =
 alphanumeric_high : (b : ℕ) → 128 ≤ b → is_ascii_alphanumeric b ≡ false
 alphanumeric_high b high = grind (arith, nat_tests)
 
-stands_high : (b : ℕ) → 128 ≤ b → stands b ≡ false
-stands_high b high =
+no_char_high : (b : ℕ) → 128 ≤ b → is_fragment_char b ≡ false
+no_char_high b high =
     let marked = any_high marks b refl high in
     let letter = alphanumeric_high b high in
     rw letter marked
@@ -34,17 +34,17 @@ escaped_high : (b : ℕ) → 128 ≤ b → should_percent_encode ESCAPED b ≡ t
 unfolding should_percent_encode
 escaped_high b high = grind (arith, nat_tests)
 
-agree : (b : ℕ) → should_percent_encode ESCAPED b ≡ not (stands b)
-agree b = cond_both (ltb b 128) true false (λ x. should_percent_encode ESCAPED b ≡ not (stands b))
-    (λ e. agree_below_at (should_percent_encode ESCAPED) (λ b. not (stands b)) 128 b below (grind (arith, nat_tests)))
-    (λ e. let high : 128 ≤ b = grind (arith, nat_tests) in escaped_high b high ∙ ap not (sym (stands_high b high)))
+agree : (b : ℕ) → should_percent_encode ESCAPED b ≡ not (is_fragment_char b)
+agree b = cond_both (ltb b 128) true false (λ x. should_percent_encode ESCAPED b ≡ not (is_fragment_char b))
+    (λ e. agree_below_at (should_percent_encode ESCAPED) (λ b. not (is_fragment_char b)) 128 b below (grind (arith, nat_tests)))
+    (λ e. let high : 128 ≤ b = grind (arith, nat_tests) in escaped_high b high ∙ ap not (sym (no_char_high b high)))
 
 turned : (s : Bool) (xs ys : List ℕ) → (if not s then xs else ys) ≡ (if s then ys else xs)
 turned true xs ys = refl
 turned false xs ys = refl
 
 same_byte : (b : ℕ) → encode_byte ESCAPED b ≡ fragment_byte b
-same_byte b = ap (λ t. if t then percent_encode_byte b else b ∷ []) (agree b) ∙ turned (stands b) (percent_encode_byte b) (b ∷ [])
+same_byte b = ap (λ t. if t then percent_encode_byte b else b ∷ []) (agree b) ∙ turned (is_fragment_char b) (percent_encode_byte b) (b ∷ [])
 
 pub fragment_is : (bs : List ℕ) → percent_encode ESCAPED bs ≡ flat_map fragment_byte bs
 unfolding percent_encode

@@ -8,7 +8,7 @@ use Rattle.percent_encoding.specs.Percent.{percent_encode, percent_encode_byte}
 use Rattle.percent_encoding.proofs.PercentLemmas.{IsEscapeByte, All-percent_encode_byte}
 use Rattle.js_doc.specs.declared.fragment.TheConstants.{ESCAPED}
 use Rattle.js_doc.specs.Pointer.{Tokens, escape, token_text, pointer_text}
-use Rattle.js_doc.specs.Fragment.{stands, fragment_byte, fragment_text, fragment_token}
+use Rattle.js_doc.specs.Fragment.{is_fragment_char, fragment_byte, fragment_text, fragment_token}
 use Rattle.js_doc.proofs.Escapes.{escape_kept}
 use Rattle.js_doc.proofs.PointerTexts.{escape-append}
 use Rattle.js_doc.proofs.FragmentBytes.{fragment_is}
@@ -22,7 +22,7 @@ escape_plain (b ∷ bs) h =
     escape_kept b bs tilde slash ∙ ap (λ x. b ∷ x) (escape_plain bs (All-tail IsEscapeByte b bs h))
 
 -- a byte by what it is
-escape_byte_as : (b : ℕ) (t s f : Bool) → b == 126 ≡ t → b == 47 ≡ s → stands b ≡ f → escape (fragment_byte b) ≡ flat_map fragment_byte (escape (b ∷ []))
+escape_byte_as : (b : ℕ) (t s f : Bool) → b == 126 ≡ t → b == 47 ≡ s → is_fragment_char b ≡ f → escape (fragment_byte b) ≡ flat_map fragment_byte (escape (b ∷ []))
 escape_byte_as b true s f e g h = rw (eqb-true b 126 e) refl
 escape_byte_as b false true f e g h = rw (eqb-true b 47 g) refl
 escape_byte_as b false false true e g h = rw (h, e, g, h) refl

@@ -36,9 +36,9 @@ abbrev mutual
   to_members no_members = gnil
   to_members (member k v ms) = gcons (gcons (to_text k) (to_value v)) (to_members ms)
 
-abbrev number_in : Gv → ℕ
-number_in (gnum n) = n
-number_in _ = 0
+abbrev stored_number : Gv → ℕ
+stored_number (gnum n) = n
+stored_number _ = 0
 
 abbrev mutual
   pub from_value : Gv → Value
@@ -46,8 +46,8 @@ abbrev mutual
   from_value (gnum zero) = truth false
   from_value (gnum (suc n)) = truth true
   from_value (gcons gnil g) = text (from_text g)
-  from_value (gcons (gnum zero) g) = whole (pos (number_in g))
-  from_value (gcons (gnum (suc n)) g) = whole (negsuc (number_in g))
+  from_value (gcons (gnum zero) g) = whole (pos (stored_number g))
+  from_value (gcons (gnum (suc n)) g) = whole (negsuc (stored_number g))
   from_value (gcons (gcons gnil h) g) = list (from_items g)
   from_value (gcons (gcons (gnum n) h) g) = object (from_members g)
   from_value (gcons (gcons (gcons k l) h) g) = null

@@ -9,12 +9,12 @@ use Rattle.js_doc.specs.Pointer.{Tokens, token_text, pointer_text}
 abbrev pub marks : List ℕ
 marks = codes "-._~!$&'()*+,;=:@/?"
 
-abbrev pub stands : ℕ → Bool
-stands b = is_ascii_alphanumeric b || list_any (λ m. b == m) marks
+abbrev pub is_fragment_char : ℕ → Bool
+is_fragment_char b = is_ascii_alphanumeric b || list_any (λ m. b == m) marks
 
 -- every other byte is a `%` and two upper-case hexadecimal digits: the project's own choice of spelling
 abbrev pub fragment_byte : ℕ → List ℕ
-fragment_byte b = if stands b then b ∷ [] else percent_encode_byte b
+fragment_byte b = if is_fragment_char b then b ∷ [] else percent_encode_byte b
 
 abbrev pub fragment_text : Tokens → List ℕ
 fragment_text tokens = flat_map fragment_byte (pointer_text tokens)

@@ -3,19 +3,19 @@ use Rattle.std.specs.Prelude.{◌≡◌, ℕ, Bool, true, false, Option, Some, N
 use Rattle.js_doc.specs.Pointer.{Tokens, pointer_text}
 
 -- after a `/`: the first token goes on from what was read of it; `tilde`: a `~` was read last
-abbrev pub tokens_of : Bool → List ℕ → List ℕ → Option Tokens
-tokens_of true token [] = None
-tokens_of false token [] = Some (token ∷ [])
-tokens_of true token (b ∷ bs) =
-    if b == 48 then tokens_of false (token ++ 126 ∷ []) bs else (if b == 49 then tokens_of false (token ++ 47 ∷ []) bs else None)
-tokens_of false token (b ∷ bs) =
+abbrev pub tokens_read : Bool → List ℕ → List ℕ → Option Tokens
+tokens_read true token [] = None
+tokens_read false token [] = Some (token ∷ [])
+tokens_read true token (b ∷ bs) =
+    if b == 48 then tokens_read false (token ++ 126 ∷ []) bs else (if b == 49 then tokens_read false (token ++ 47 ∷ []) bs else None)
+tokens_read false token (b ∷ bs) =
     if b == 126
-    then tokens_of true token bs
-    else (if b == 47 then option_map (λ p. token ∷ p) (tokens_of false [] bs) else tokens_of false (token ++ b ∷ []) bs)
+    then tokens_read true token bs
+    else (if b == 47 then option_map (λ p. token ∷ p) (tokens_read false [] bs) else tokens_read false (token ++ b ∷ []) bs)
 
 abbrev pub pointer_of : List ℕ → Option Tokens
 pointer_of [] = Some []
-pointer_of (b ∷ bs) = if b == 47 then tokens_of false [] bs else None
+pointer_of (b ∷ bs) = if b == 47 then tokens_read false [] bs else None
 
 -- ---- why it is the reading: each pointer's text is read as the pointer, and what is read as a pointer is its text
 

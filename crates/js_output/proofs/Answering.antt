@@ -1,17 +1,20 @@
 -- What a run answers, by where it stops.
-use Rattle.std.proofs.Common.{◌≡◌, ℕ, ◌<◌, ◌≤◌, List, [], ◌∷◌, ◌++◌, length, Option, Some, None, Result, Ok, Err, Bool, true, false, MatchBool, inl, inr, refl, sym, ap, ◌∙◌, subst, arith, length-append}
+use Rattle.std.proofs.Common.{◌≡◌, ℕ, ◌<◌, ◌≤◌, List, [], ◌∷◌, ◌++◌, length, Option, Some, None, Result, Ok, Err, Bool, MatchBool, inl, inr, refl, sym, ap, ◌∙◌, subst, arith, length-append}
 use Rattle.std.proofs.lemmas.Bool.{lt-ltb, le-ltb}
 use Rattle.std.specs.Io.KnownBytes.{Consumes, IsAtEnd}
+use Rattle.js_doc.specs.Compact.{compact}
+use Rattle.js_doc.specs.Value.{Value}
+use Rattle.js_bundle.specs.Document as bundle
 use Rattle.js_bundle.specs.Resource.{Site}
 use Rattle.js_output.specs.Documents.{Documents, bundle_of}
 use Rattle.js_output.specs.Entry.{place_named}
 use Rattle.js_output.specs.Cause.{Causes, IsClear, FailsBy}
 use Rattle.js_output.specs.Device.{Tracked, input_limit, IsLeft, Sends, SendsBeginning}
 use Rattle.js_output.specs.Input.{IsInputFault}
-use Rattle.js_output.specs.Outcome.{beginning_causes, Output, flag_output, flag_text, TextOutcome, InstanceOutcome, After, Outcome, Tells, Answers, OutcomeOfVerdict, IsEarlyOrMemory, IsReadOrEarly, OutcomeOfTexts, PairOutcome, first_line_feed, text_before, text_after}
+use Rattle.js_output.specs.Outcome.{beginning_causes, Output, output_of, ValueOutcome, TextOutcome, InstanceOutcome, After, Outcome, Tells, Answers, IsEarlyOrMemory, IsReadOrEarly, IsLateOrMemory, IsShown, IsWalkFault, OutcomeOfTexts, PairOutcome, first_line_feed, text_before, text_after}
 use Rattle.js_output.specs.declared.fault.Fault.{Fault}
 use Rattle.js_output.specs.declared.fault.Fault.TheVariants as fault
-use Rattle.js_output.specs.declared.format.Format.{Format}
+use Rattle.js_tree.specs.declared.forms.Format.{Format}
 
 -- ---- the bytes that a source has left
 
@@ -44,23 +47,33 @@ tells-map P Q taken old new (Err fault.Read) f h = absurd h
 tells-map P Q taken old new (Err fault.Write) f (output, h, begun) = (output, f (Ok output) h, begun)
 tells-map P Q taken old new (Err e) f h = f (Err e) h
 
--- the verdict came, and its text went out
-pub tells-sent : {D : Type 0} (P : Result Output Fault → Type 0) (taken : D → Option (List ℕ)) (old new : Tracked D) (valid : Bool)
-    → OutcomeOfVerdict P (Ok valid) → Sends taken old new (flag_text valid) → Tells P taken old new (Ok valid)
-tells-sent P taken old new valid h sent = (flag_output valid, h, refl, sent)
+-- ---- what is told of a value
 
--- the verdict came, and the sink failed
-pub tells-begun : {D : Type 0} (P : Result Output Fault → Type 0) (taken : D → Option (List ℕ)) (old new : Tracked D) (valid : Bool)
-    → OutcomeOfVerdict P (Ok valid) → SendsBeginning taken old new (flag_text valid) → Tells P taken old new (Err fault.Write)
-tells-begun P taken old new valid h begun = (flag_output valid, h, begun)
+module _ (docs : bundle.Documents) (entry : Option Site) (v : Value) (format : Format) where
+  -- the form went out
+  pub tells-sent : {D : Type 0} (taken : D → Option (List ℕ)) (old new : Tracked D) (valid : Bool) (shown : Value)
+      → IsShown docs entry v format valid shown → Sends taken old new (compact shown ++ 10 ∷ []) → Tells (ValueOutcome docs entry v format) taken old new (Ok valid)
+  tells-sent taken old new valid shown (t, is, stands, e, f) sent =
+      (output_of format t, (t, is, stands, refl), sym e, subst (λ s. Sends taken old new (compact s ++ 10 ∷ [])) f sent)
 
--- no verdict came
-pub tells-fault : {D : Type 0} (P : Result Output Fault → Type 0) (taken : D → Option (List ℕ)) (old new : Tracked D) (e : Fault)
-    → OutcomeOfVerdict P (Err e) → Tells P taken old new (Err e)
-tells-fault P taken old new fault.Memory h = tt
-tells-fault P taken old new fault.Read h = absurd h
-tells-fault P taken old new fault.Write h = absurd h
-tells-fault P taken old new e h = h
+  -- the sink failed
+  pub tells-begun : {D : Type 0} (taken : D → Option (List ℕ)) (old new : Tracked D) (valid : Bool) (shown : Value) (e : Fault)
+      → IsShown docs entry v format valid shown → (e ≡ fault.Write) × SendsBeginning taken old new (compact shown ++ 10 ∷ []) → Tells (ValueOutcome docs entry v format) taken old new (Err e)
+  tells-begun taken old new valid shown e (t, is, stands, d, f) (write, begun) =
+      subst (λ e. Tells (ValueOutcome docs entry v format) taken old new (Err e)) (sym write)
+      (output_of format t, (t, is, stands, refl), subst (λ s. SendsBeginning taken old new (compact s ++ 10 ∷ [])) f begun)
+
+  -- there is none
+  pub tells-fault : {D : Type 0} (taken : D → Option (List ℕ)) (old new : Tracked D) (e : Fault)
+      → IsWalkFault docs entry v e → Tells (ValueOutcome docs entry v format) taken old new (Err e)
+  tells-fault taken old new fault.Memory h = tt
+  tells-fault taken old new fault.TooLarge h = (refl, h)
+  tells-fault taken old new _ h = absurd h
+
+pub walk-late : (docs : bundle.Documents) (entry : Option Site) (v : Value) (e : Fault) → IsWalkFault docs entry v e → IsLateOrMemory e
+walk-late docs entry v fault.Memory h = tt
+walk-late docs entry v fault.TooLarge h = tt
+walk-late docs entry v _ h = absurd h
 
 -- ---- an input that is read
 
@@ -85,15 +98,15 @@ answers-input P old_left new_left taken old new _ over h large = absurd h
 
 -- ---- an instance, by its size
 
-pub on_large : (format : Format) (entry : Option Site) (bytes : List ℕ) → input_limit < length bytes → InstanceOutcome format entry bytes (Err fault.InputTooLarge)
-on_large format entry bytes more =
-    subst (λ t. MatchBool t (◌≡◌ {A = Result Output Fault} (Err fault.InputTooLarge) (Err fault.InputTooLarge)) (TextOutcome format entry bytes (Err fault.InputTooLarge))) (sym (lt-ltb input_limit (length bytes) more)) refl
+module _ (docs : bundle.Documents) (entry : Option Site) (format : Format) (bytes : List ℕ) where
+  pub on_large : input_limit < length bytes → InstanceOutcome docs entry format bytes (Err fault.InputTooLarge)
+  on_large more =
+      subst (λ t. MatchBool t (◌≡◌ {A = Result Output Fault} (Err fault.InputTooLarge) (Err fault.InputTooLarge)) (TextOutcome docs entry format bytes (Err fault.InputTooLarge))) (sym (lt-ltb input_limit (length bytes) more)) refl
 
--- within the limit the text alone decides
-pub on_small : (format : Format) (entry : Option Site) (bytes : List ℕ) → length bytes ≤ input_limit
-    → (outcome : Result Output Fault) → TextOutcome format entry bytes outcome → InstanceOutcome format entry bytes outcome
-on_small format entry bytes few outcome h =
-    subst (λ t. MatchBool t (outcome ≡ Err fault.InputTooLarge) (TextOutcome format entry bytes outcome)) (sym (le-ltb input_limit (length bytes) few)) h
+  -- within the limit the text alone decides
+  pub on_small : length bytes ≤ input_limit → (outcome : Result Output Fault) → TextOutcome docs entry format bytes outcome → InstanceOutcome docs entry format bytes outcome
+  on_small few outcome h =
+      subst (λ t. MatchBool t (outcome ≡ Err fault.InputTooLarge) (TextOutcome docs entry format bytes outcome)) (sym (le-ltb input_limit (length bytes) few)) h
 
 -- ---- after the causes of what comes before
 
@@ -109,22 +122,34 @@ answers-early docs uri format left taken old new fault.Read h = absurd h
 answers-early docs uri format left taken old new fault.Write h = absurd h
 answers-early docs uri format left taken old new e h = let (bytes, is) = some_left left in (bytes, is, inl h)
 
-outcome-late : (docs : Documents) (uri : List ℕ) (format : Format) (entry : Option Site) → IsClear (beginning_causes docs uri) → entry ≡ place_named (bundle_of docs) uri
-    → (bytes : List ℕ) (outcome : Result Output Fault) → InstanceOutcome format entry bytes outcome → Outcome docs uri format bytes outcome
-outcome-late docs uri format entry clear e bytes outcome h =
-    after-clear (beginning_causes docs uri) (InstanceOutcome format (place_named (bundle_of docs) uri) bytes) clear outcome (subst (λ p. InstanceOutcome format p bytes outcome) e h)
+-- what is kept of the entry: the documents, and the place
+pub record IsKept (docs : Documents) (uri : List ℕ) (kept : bundle.Documents) (entry : Option Site) : Type 0 where
+  pub clear : IsClear (beginning_causes docs uri)
+  pub of : kept ≡ bundle_of docs
+  pub named : entry ≡ place_named (bundle_of docs) uri
 
--- what comes of the entry is the outcome
-pub answers-late : {D : Type 0} (docs : Documents) (uri : List ℕ) (format : Format) (entry : Option Site) (left : Option (List ℕ)) (taken : D → Option (List ℕ)) (old new : Tracked D) (answer : Result Bool Fault)
-    → IsClear (beginning_causes docs uri) → entry ≡ place_named (bundle_of docs) uri → Answers (InstanceOutcome format entry) [] left taken old new answer
-    → Answers (Outcome docs uri format) (beginning_causes docs uri) left taken old new answer
-answers-late docs uri format entry left taken old new (Err fault.Memory) clear e h = tt
-answers-late docs uri format entry left taken old new (Err fault.Read) clear e h = clear
-answers-late docs uri format entry left taken old new (Ok valid) clear e (bytes, is, h) =
-    (bytes, is, tells-map (InstanceOutcome format entry bytes) (Outcome docs uri format bytes) taken old new (Ok valid) (outcome-late docs uri format entry clear e bytes) h)
-answers-late docs uri format entry left taken old new (Err fault.Write) clear e (bytes, is, h) =
-    (bytes, is, tells-map (InstanceOutcome format entry bytes) (Outcome docs uri format bytes) taken old new (Err fault.Write) (outcome-late docs uri format entry clear e bytes) h)
-answers-late docs uri format entry left taken old new (Err f) clear e (bytes, is, h) = (bytes, is, outcome-late docs uri format entry clear e bytes (Err f) h)
+module _ (docs : Documents) (uri : List ℕ) (format : Format) (kept : bundle.Documents) (entry : Option Site) (is : IsKept docs uri kept entry) where
+  outcome-late : (bytes : List ℕ) (outcome : Result Output Fault) → InstanceOutcome kept entry format bytes outcome → Outcome docs uri format bytes outcome
+  outcome-late bytes outcome h =
+      let g = subst (λ d. InstanceOutcome d entry format bytes outcome) is.of h in
+      after-clear (beginning_causes docs uri) (InstanceOutcome (bundle_of docs) (place_named (bundle_of docs) uri) format bytes) is.clear outcome (subst (λ p. InstanceOutcome (bundle_of docs) p format bytes outcome) is.named g)
+
+  -- what comes of the entry is the outcome
+  pub answers-late : {D : Type 0} (left : Option (List ℕ)) (taken : D → Option (List ℕ)) (old new : Tracked D) (answer : Result Bool Fault)
+      → Answers (InstanceOutcome kept entry format) [] left taken old new answer → Answers (Outcome docs uri format) (beginning_causes docs uri) left taken old new answer
+  answers-late left taken old new (Err fault.Memory) h = tt
+  answers-late left taken old new (Err fault.Read) h = is.clear
+  answers-late left taken old new (Ok valid) (bytes, all, h) =
+      (bytes, all, tells-map (InstanceOutcome kept entry format bytes) (Outcome docs uri format bytes) taken old new (Ok valid) (outcome-late bytes) h)
+  answers-late left taken old new (Err fault.Write) (bytes, all, h) =
+      (bytes, all, tells-map (InstanceOutcome kept entry format bytes) (Outcome docs uri format bytes) taken old new (Err fault.Write) (outcome-late bytes) h)
+  answers-late left taken old new (Err f) (bytes, all, h) = (bytes, all, outcome-late bytes (Err f) h)
+
+  pub texts-late : {D : Type 0} (instance : List ℕ) (taken : D → Option (List ℕ)) (old new : Tracked D) (answer : Result Bool Fault)
+      → length instance ≤ input_limit → Tells (TextOutcome kept entry format instance) taken old new answer → Tells (Outcome docs uri format instance) taken old new answer
+  texts-late instance taken old new answer few h =
+      tells-map (TextOutcome kept entry format instance) (Outcome docs uri format instance) taken old new answer
+      (λ outcome told. outcome-late instance outcome (on_small kept entry format instance few outcome told)) h
 
 pub early-read_or_early : (e : Fault) → IsEarlyOrMemory e → IsReadOrEarly (Err e)
 early-read_or_early fault.Memory h = tt
@@ -139,13 +164,6 @@ texts-early docs uri format instance taken old new fault.Memory h = tt
 texts-early docs uri format instance taken old new fault.Read h = absurd h
 texts-early docs uri format instance taken old new fault.Write h = absurd h
 texts-early docs uri format instance taken old new e h = inl h
-
-pub texts-late : {D : Type 0} (docs : Documents) (uri : List ℕ) (format : Format) (entry : Option Site) (instance : List ℕ) (taken : D → Option (List ℕ)) (old new : Tracked D) (answer : Result Bool Fault)
-    → IsClear (beginning_causes docs uri) → entry ≡ place_named (bundle_of docs) uri → length instance ≤ input_limit
-    → Tells (TextOutcome format entry instance) taken old new answer → Tells (Outcome docs uri format instance) taken old new answer
-texts-late docs uri format entry instance taken old new answer clear e few h =
-    tells-map (TextOutcome format entry instance) (Outcome docs uri format instance) taken old new answer
-    (λ outcome told. outcome-late docs uri format entry clear e instance outcome (on_small format entry instance few outcome told)) h
 
 pub pair-over : (bytes : List ℕ) → input_limit < length bytes → PairOutcome bytes (Err fault.InputTooLarge)
 pair-over bytes more =

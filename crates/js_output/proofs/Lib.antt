@@ -1,4 +1,6 @@
 pub mod CauseLists
 pub mod Handed
 pub mod Sites
+pub mod Sending
 pub mod Answering
+pub mod Told

@@ -1,20 +1,27 @@
 -- A place that is looked up by its number.
 use Rattle.std.proofs.Common.{◌≡◌, ℕ, ◌+◌, ◌<◌, ◌≤◌, append_assoc, List, [], ◌∷◌, ◌++◌, length, get_or, slice_get, drop, Bool, true, Option, Some, None, option_map, refl, sym, ap, ◌∙◌, subst, arith}
-use Rattle.std.specs.List.{list_all}
-use Rattle.std.specs.Option.{option_map_or}
-use Rattle.std.proofs.lemmas.Bool.{lt-ltb}
-use Rattle.std.proofs.lemmas.Option.{slice_get_within, get_or_from_slice_get}
+use Rattle.std.proofs.lemmas.Bool.{lt-ltb, ltb-true}
+use Rattle.std.proofs.lemmas.Option.{slice_get_within, get_or_from_slice_get, slice_get-get_or, unwrap_or-slice_get}
 use Rattle.std.proofs.lemmas.List.{append-nil, drop_all, drop_more}
 use Rattle.std.proofs.lemmas.List.FromFn.{length-range_with_len, get_or-range_with_len}
-use Rattle.js_doc.specs.Value.{Value, Named, truth, object, members}
 use Rattle.js_bundle.specs.Document.{Documents}
-use Rattle.js_bundle.specs.Keyword.{keywords, pairs}
 use Rattle.js_bundle.specs.Location.{absolute}
 use Rattle.js_bundle.specs.Resource.{Site, sites}
 use Rattle.js_bundle.specs.Schemas.{is_place, place_at, place_numbers, StandsFor}
-use Rattle.js_output.specs.Outcome.{verdict}
+use Rattle.js_doc.specs.Value.{Value}
+use Rattle.js_tree.specs.Form.{form, flag}
+use Rattle.js_tree.specs.declared.forms.Format.{Format}
+use Rattle.js_tree.specs.declared.forms.Format.TheVariants.{Flag}
+use Rattle.js_eval.specs.Bundle.{schemas_of}
+use Rattle.js_eval.specs.Location.{at_root}
+use Rattle.js_eval.specs.Result.{ResultTree, IsResult}
+use Rattle.js_eval.specs.Sited.{site_at, nowhere}
+use Rattle.js_eval.specs.Walked.{OnTooLarge, IsResultThere, IsResultWithin, IsVerdict}
+use Rattle.js_eval.specs.Walked.{NoneStands as NoneStandsThere}
+use Rattle.js_eval.specs.declared.walking.fault.WalkFault.{WalkFault}
+use Rattle.js_eval.specs.declared.walking.fault.WalkFault.TheVariants as walk_fault
+use Rattle.js_output.specs.Outcome.{IsResultOf, NoneStands, IsShown, IsWalkFault, walk_fault_of}
 use Rattle.js_output.specs.Places.{lines_of}
-use Rattle.js_output.specs.Schema.{is_served, accepts_by, serves_keyword, holds_at}
 
 -- ---- the entry
 
@@ -24,33 +31,14 @@ stands_there docs n found (s, e, at) = lt-ltb n (length (sites docs)) (slice_get
 pub stands_named : (docs : Documents) (n : ℕ) (found : Option Site) → StandsFor docs n found → place_at docs n ≡ found
 stands_named docs n found (s, e, at) = at ∙ sym e
 
--- ---- its schema
-
 some_is : {A : Type 0} (a b : A) → Some a ≡ Some b → a ≡ b
 some_is a b e = cc
 
--- it is an object with these keywords
-pairs_members : (ks : Named) → pairs (members ks) ≡ ks
-pairs_members [] = refl
-pairs_members (k ∷ ks) = λ i. k ∷ pairs_members ks i
-
-pub served_object : (place : Option Site) (ks : Named) → option_map (λ s. s.schema) place ≡ Some (object (members ks))
-    → list_all (λ k. serves_keyword place k.0) ks ≡ option_map_or is_served place true
-served_object None ks e = absurd (cc)
-served_object (Some s) ks e =
-    let is : s.schema ≡ object (members ks) = some_is s.schema (object (members ks)) e in
-    ap (list_all (λ k. serves_keyword (Some s) k.0)) (sym (pairs_members ks)) ∙ ap (λ v. list_all (λ k. serves_keyword (Some s) k.0) (keywords v)) (sym is)
-
-pub accepts_object : (place : Option Site) (ks : Named) (v : Value) → option_map (λ s. s.schema) place ≡ Some (object (members ks))
-    → list_all (λ k. holds_at place v k.0) ks ≡ verdict place v
-accepts_object None ks v e = absurd (cc)
-accepts_object (Some s) ks v e =
-    let is : s.schema ≡ object (members ks) = some_is s.schema (object (members ks)) e in
-    ap (list_all (λ k. holds_at (Some s) v k.0)) (sym (pairs_members ks)) ∙ ap (λ schema. accepts_by s schema v) (sym is)
-
-pub accepts_truth : (place : Option Site) (all : Bool) (v : Value) → option_map (λ s. s.schema) place ≡ Some (truth all) → all ≡ verdict place v
-accepts_truth None all v e = absurd (cc)
-accepts_truth (Some s) all v e = ap (λ schema. accepts_by s schema v) (sym (some_is s.schema (truth all) e))
+-- the place of a number, as the walk tells it
+pub site_there : (docs : Documents) (n : ℕ) → is_place docs n ≡ true → place_at docs n ≡ Some (site_at docs n)
+site_there docs n there =
+    let within : n < length (sites docs) = ltb-true n (length (sites docs)) there in
+    slice_get-get_or (sites docs) n nowhere within ∙ ap Some (sym (unwrap_or-slice_get (sites docs) n nowhere))
 
 -- ---- all places, by their numbers
 
@@ -98,3 +86,26 @@ told_all docs items i told is end whole =
 
 pub count_is : (docs : Documents) (items : List ℕ) → items ≡ place_numbers docs → length items ≡ length (sites docs)
 count_is docs items is = ap length is ∙ length-range_with_len 0 (length (sites docs))
+
+-- ---- the walk's result, at the place of a number
+
+module _ (docs : Documents) (n : ℕ) (v : Value) (there : is_place docs n ≡ true) where
+  pub result-there : (t : ResultTree) → IsResultThere docs n v t → IsResultOf docs (place_at docs n) v t
+  result-there t r = record { place = site_at docs n; is_entry = site_there docs n there; is_result = r }
+
+  pub none-there : NoneStandsThere docs n v → NoneStands docs (place_at docs n) v
+  none-there none t r stands =
+      let is : r.place ≡ site_at docs n = some_is r.place (site_at docs n) (sym r.is_entry ∙ site_there docs n there) in
+      none t (subst (λ s. IsResult (schemas_of docs) [] s at_root v t) is r.is_result) stands
+
+  -- the form of the result
+  pub shown-there : (format : Format) (t : ResultTree) → IsResultWithin docs n v t → IsShown docs (place_at docs n) v format t.root.valid (form format t)
+  shown-there format t w = (t, result-there t w.is, w.stands, refl, refl)
+
+  -- its verdict alone
+  pub judged-there : (valid : Bool) → IsVerdict docs n v valid → IsShown docs (place_at docs n) v Flag valid (flag valid)
+  judged-there valid h = (h.result, result-there h.result h.within.is, h.within.stands, h.verdict, ap flag h.verdict)
+
+  pub fault-there : (e : WalkFault) → OnTooLarge e (NoneStandsThere docs n v) → IsWalkFault docs (place_at docs n) v (walk_fault_of e)
+  fault-there walk_fault.Memory h = tt
+  fault-there walk_fault.TooLarge h = none-there h

@@ -1,7 +1,10 @@
 -- A reader or a writer, with what is known of its calls.
-use Rattle.std.specs.Prelude.{◌≡◌, ℕ, ◌+◌, ◌≤◌, Bool, true, false, List, ◌++◌, length, ⊤, refl, Option, Some, None}
+use Rattle.std.specs.Prelude.{◌≡◌, ℕ, ◌+◌, ◌≤◌, Bool, true, false, List, ◌++◌, length, ⊤, refl, Option, Some, None, Result, Ok, Err}
 use Rattle.std.specs.Coded.{Coded, code_by, coded×, coded_ℕ, coded_bool}
 use Rattle.std.specs.Io.KnownBytes.{Appends}
+use Rattle.js_doc.specs.BytesOut.{Progress}
+use Rattle.js_output.specs.declared.fault.Fault.{Fault}
+use Rattle.js_output.specs.declared.fault.Fault.TheVariants as fault
 
 -- `failed` once a call has failed, and how many calls were made
 pub record Tracked (D : Type 0) : Type 0 where
@@ -35,3 +38,12 @@ Sends taken old new text = Appends (taken old.device) (taken new.device) text ×
 -- the sink stands failed, and a beginning went out
 abbrev pub SendsBeginning : {D : Type 0} → (D → Option (List ℕ)) → Tracked D → Tracked D → List ℕ → Type 0
 SendsBeginning taken old new text = AppendsBeginning (taken old.device) (taken new.device) text × (new.failed ≡ true) × (new.calls ≤ old.calls + length text)
+
+-- one of these, by what is answered
+abbrev pub SendsOrFails : {D T : Type 0} → (D → Option (List ℕ)) → Tracked D → Tracked D → List ℕ → Result T Fault → Type 0
+SendsOrFails taken old new text (Ok _) = Sends taken old new text
+SendsOrFails taken old new text (Err f) = (f ≡ fault.Write) × SendsBeginning taken old new text
+
+-- how far the bytes have come that were put into it piece by piece
+abbrev pub progress_of : {D : Type 0} → (D → Option (List ℕ)) → Tracked D → Progress
+progress_of taken sink = record { gone = taken sink.device; calls = sink.calls; stopped = sink.failed }

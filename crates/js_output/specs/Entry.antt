@@ -36,7 +36,8 @@ abbrev pub entry_fault_of : EntryFault → Fault
 entry_fault_of entry_fault.Memory = fault.Memory
 entry_fault_of e = fault.Entry e
 
--- what is kept is the place of these documents that the URI names
+-- what is kept is these documents, and the place of them that the URI names
 pub record IsEntry (documents : Documents) (uri : List ℕ) (e : rust.Entry) : Type 0 where
+  pub of : e.schemas ≡ documents
   pub there : is_place e.schemas e.place ≡ true
   pub named : place_at e.schemas e.place ≡ place_named documents uri

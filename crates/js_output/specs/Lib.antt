@@ -5,6 +5,6 @@ pub mod Reading
 pub mod Cause
 pub mod Documents
 pub mod Entry
-pub mod Schema
 pub mod Outcome
 pub mod Places
+pub mod Headline

@@ -76,4 +76,3 @@ fault_line (fault.Entry e) = entry_line e
 fault_line fault.TooLarge = codes "refused: walk: TooLarge"
 fault_line (fault.Suite e) = suite_line e
 fault_line fault.Write = codes "failed: Write"
-fault_line fault.NotYet = codes "refused: NotYet"

@@ -1,21 +1,26 @@
--- The outcome of a run: the first of its causes of a fault that applies; else the verdict, and the text that it writes.
---
--- In this stage the flag format is served, and schemas whose keywords are assertions.
-use Rattle.std.specs.Prelude.{◌≡◌, ℕ, List, [], ◌∷◌, ◌++◌, length, Option, Some, None, Result, Ok, Err, Bool, true, false, ◌&&◌, ◌⊎◌, MatchBool, nat_lt, ◌==◌, ◌+◌, codes, take, drop, position, ⊤}
-use Rattle.std.specs.Option.{option_map_or}
+-- The outcome of a run: the first of its causes of a fault that applies; else the verdict of the standard's result, and the
+-- text of the form that was asked for.
+use Rattle.std.specs.Prelude.{◌≡◌, ℕ, List, [], ◌∷◌, ◌++◌, length, Option, Some, None, Result, Ok, Err, Bool, ◌⊎◌, MatchBool, nat_lt, ◌==◌, ◌+◌, codes, take, drop, position, ⊤}
+use Rattle.js_doc.specs.Compact.{compact}
 use Rattle.js_doc.specs.Value.{Value}
 use Rattle.js_doc.specs.declared.reading.ReadFault.{ReadFault}
+use Rattle.js_tree.specs.Form.{form}
+use Rattle.js_tree.specs.declared.forms.Format.{Format}
+use Rattle.js_tree.specs.declared.forms.Format.TheVariants.{Flag}
+use Rattle.js_bundle.specs.Document as bundle
 use Rattle.js_bundle.specs.Resource.{Site}
+use Rattle.js_eval.specs.Bundle.{schemas_of}
+use Rattle.js_eval.specs.Location.{at_root}
+use Rattle.js_eval.specs.Result.{ResultTree, IsResult, IsWithinLimits}
+use Rattle.js_eval.specs.declared.walking.fault.WalkFault.{WalkFault}
+use Rattle.js_eval.specs.declared.walking.fault.WalkFault.TheVariants as walk_fault
 use Rattle.js_output.specs.Cause.{Causes, IsClear, IsFirst}
 use Rattle.js_output.specs.Device.{Tracked, input_limit, IsLeft, Sends, SendsBeginning}
 use Rattle.js_output.specs.Documents.{Documents, documents_causes, bundle_of}
 use Rattle.js_output.specs.Entry.{entry_causes, place_named}
 use Rattle.js_output.specs.Reading.{reading}
-use Rattle.js_output.specs.Schema.{is_served, accepts}
 use Rattle.js_output.specs.declared.fault.Fault.{Fault}
 use Rattle.js_output.specs.declared.fault.Fault.TheVariants as fault
-use Rattle.js_output.specs.declared.format.Format.{Format}
-use Rattle.js_output.specs.declared.format.Format.TheVariants.{Flag}
 
 -- ---- the causes before the instance is read: of the documents, and of the entry
 
@@ -32,49 +37,48 @@ abbrev pub IsEarlyOrMemory : Fault → Type 0
 IsEarlyOrMemory fault.Memory = ⊤
 IsEarlyOrMemory f = IsEarly f
 
--- ---- what comes of a value
+-- ---- what comes of a value, which is judged at a place of finished documents
 
 -- whether the instance is valid, and the text that tells it
 pub record Output : Type 0 where
   pub valid : Bool
   pub text : List ℕ
 
--- the flag form (JSON Schema Core, section 12.4.1), and a line feed
-abbrev pub flag_text : Bool → List ℕ
-flag_text true = codes "{\"valid\":true}" ++ 10 ∷ []
-flag_text false = codes "{\"valid\":false}" ++ 10 ∷ []
+-- what a format tells of a result: its root's verdict, and the compact text of its form (JSON Schema Core, section 12.4),
+-- with a line feed
+abbrev pub output_of : Format → ResultTree → Output
+output_of format t = record { valid = t.root.valid; text = compact (form format t) ++ 10 ∷ [] }
 
-abbrev pub flag_output : Bool → Output
-flag_output valid = record { valid = valid; text = flag_text valid }
+module _ (documents : bundle.Documents) (entry : Option Site) (v : Value) where
+  -- t is the standard's result (section 12.4.4): of judging v at the entry, to which no place led
+  pub record IsResultOf (t : ResultTree) : Type 0 where
+    pub place : Site
+    pub is_entry : entry ≡ Some place
+    pub is_result : IsResult (schemas_of documents) [] place at_root v t
 
-abbrev pub is_flag : Format → Bool
-is_flag Flag = true
-is_flag _ = false
+  -- no result stands within the limits
+  abbrev pub NoneStands : Type 0
+  NoneStands = (t : ResultTree) → IsResultOf t → IsWithinLimits t → ⊥
 
--- in the place of the walk: what is served, and the verdict; the causes before say that there is a place
-abbrev pub is_judged : Format → Option Site → Bool
-is_judged format entry = is_flag format && option_map_or is_served entry true
-
-abbrev pub verdict : Option Site → Value → Bool
-verdict entry v = option_map_or (λ place. accepts place v) entry false
-
-abbrev pub ValueOutcome : Format → Option Site → Value → Result Output Fault → Type 0
-ValueOutcome format entry v answer = MatchBool (is_judged format entry) (answer ≡ Ok (flag_output (verdict entry v))) (answer ≡ Err fault.NotYet)
+  -- what the format tells of the result within the limits; `TooLarge` where none stands within them
+  abbrev pub ValueOutcome : Format → Result Output Fault → Type 0
+  ValueOutcome format (Ok output) = (t : ResultTree) × IsResultOf t × IsWithinLimits t × (output ≡ output_of format t)
+  ValueOutcome format (Err f) = (f ≡ fault.TooLarge) × NoneStands
 
 -- ---- what comes of an instance
 
-abbrev pub ReadOutcome : Format → Option Site → Result Value ReadFault → Result Output Fault → Type 0
-ReadOutcome format entry (Ok v) answer = ValueOutcome format entry v answer
-ReadOutcome format entry (Err e) answer = answer ≡ Err (fault.Instance e)
+module _ (documents : bundle.Documents) (entry : Option Site) (format : Format) where
+  abbrev pub ReadOutcome : Result Value ReadFault → Result Output Fault → Type 0
+  ReadOutcome (Ok v) answer = ValueOutcome documents entry v format answer
+  ReadOutcome (Err e) answer = answer ≡ Err (fault.Instance e)
 
--- of its text
-abbrev pub TextOutcome : Format → Option Site → List ℕ → Result Output Fault → Type 0
-TextOutcome format entry text = ReadOutcome format entry (reading text)
+  -- of its text
+  abbrev pub TextOutcome : List ℕ → Result Output Fault → Type 0
+  TextOutcome text = ReadOutcome (reading text)
 
--- of its bytes: their number is looked at first
-abbrev pub InstanceOutcome : Format → Option Site → List ℕ → Result Output Fault → Type 0
-InstanceOutcome format entry bytes answer =
-    MatchBool (nat_lt input_limit (length bytes)) (answer ≡ Err fault.InputTooLarge) (TextOutcome format entry bytes answer)
+  -- of its bytes: their number is looked at first
+  abbrev pub InstanceOutcome : List ℕ → Result Output Fault → Type 0
+  InstanceOutcome bytes answer = MatchBool (nat_lt input_limit (length bytes)) (answer ≡ Err fault.InputTooLarge) (TextOutcome bytes answer)
 
 -- ---- the outcome
 
@@ -85,7 +89,7 @@ After causes Then (Err f) = IsFirst causes f ⊎ (IsClear causes × Then (Err f)
 
 abbrev pub Outcome : Documents → List ℕ → Format → List ℕ → Result Output Fault → Type 0
 Outcome documents entry format instance =
-    After (beginning_causes documents entry) (InstanceOutcome format (place_named (bundle_of documents) entry) instance)
+    After (beginning_causes documents entry) (InstanceOutcome (bundle_of documents) (place_named (bundle_of documents) entry) format instance)
 
 -- ---- the outcome of a pair: a document, a line feed, and the instance
 
@@ -130,14 +134,6 @@ Answers Expected before left taken old new (Err fault.Memory) = ⊤
 Answers Expected before left taken old new (Err fault.Read) = IsClear before
 Answers Expected before left taken old new answer = (bytes : List ℕ) × IsLeft left bytes × Tells (Expected bytes) taken old new answer
 
--- the verdict of an outcome that the flag form tells, or want of memory
-abbrev pub OutcomeOfVerdict : (Result Output Fault → Type 0) → Result Bool Fault → Type 0
-OutcomeOfVerdict Expected (Ok valid) = Expected (Ok (flag_output valid))
-OutcomeOfVerdict Expected (Err fault.Memory) = ⊤
-OutcomeOfVerdict Expected (Err fault.Read) = ⊥
-OutcomeOfVerdict Expected (Err fault.Write) = ⊥
-OutcomeOfVerdict Expected (Err f) = Expected (Err f)
-
 -- where the source stands failed: its fault, unless another came before it was needed, or memory failed
 abbrev pub IsReadOrEarly : Result Bool Fault → Type 0
 IsReadOrEarly (Err fault.Memory) = ⊤
@@ -149,12 +145,23 @@ IsReadOrEarly (Ok valid) = ⊥
 abbrev pub IsLateOrMemory : Fault → Type 0
 IsLateOrMemory fault.Memory = ⊤
 IsLateOrMemory (fault.Instance e) = ⊤
-IsLateOrMemory fault.NotYet = ⊤
+IsLateOrMemory fault.TooLarge = ⊤
 IsLateOrMemory fault.Write = ⊤
 IsLateOrMemory _ = ⊥
 
--- the same before anything is written
-abbrev pub IsJudgingFault : Fault → Type 0
-IsJudgingFault fault.Memory = ⊤
-IsJudgingFault fault.NotYet = ⊤
-IsJudgingFault _ = ⊥
+-- ---- words for the parts
+
+-- the verdict and the value that a format tells of the result within the limits
+abbrev pub IsShown : bundle.Documents → Option Site → Value → Format → Bool → Value → Type 0
+IsShown documents entry v format valid shown =
+    (t : ResultTree) × IsResultOf documents entry v t × IsWithinLimits t × (valid ≡ t.root.valid) × (shown ≡ form format t)
+
+-- why there is none: none stands within them, or want of memory
+abbrev pub IsWalkFault : bundle.Documents → Option Site → Value → Fault → Type 0
+IsWalkFault documents entry v fault.Memory = ⊤
+IsWalkFault documents entry v fault.TooLarge = NoneStands documents entry v
+IsWalkFault documents entry v _ = ⊥
+
+abbrev pub walk_fault_of : WalkFault → Fault
+walk_fault_of walk_fault.Memory = fault.Memory
+walk_fault_of walk_fault.TooLarge = fault.TooLarge

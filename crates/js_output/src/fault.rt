@@ -2,7 +2,8 @@
 ghost use Rattle.std.specs.Prelude.{◌≡◌};
 
 use js_bundle::{EntryFault, Refusal, RefusalKind};
-use js_doc::{Memory, Pointer, ReadFault};
+use js_doc::{Memory, Pointer, ReadFault, Stopped};
+use js_eval::WalkFault;
 use std::alloc::{AllocError, AllocFailed};
 use thiserror::Error;
 
@@ -38,9 +39,6 @@ pub enum Fault {
     /// The sink stands failed.
     #[error("failed: Write")]
     Write,
-    /// This isn't served yet.
-    #[error("refused: NotYet")]
-    NotYet,
 }
 
 /// Why a suite's text is refused.
@@ -105,5 +103,29 @@ impl From<EntryFault> for Fault {
             EntryFault::Memory => Fault::Memory,
             _ => Fault::Entry(fault),
         }
+    }
+}
+
+impl From<WalkFault> for Fault {
+    ghost use Rattle.js_output.specs.Outcome.{walk_fault_of};
+
+    ghost from_gives = { λ f e. e ≡ walk_fault_of f };
+
+    fn from(fault: WalkFault) -> Fault {
+        match fault {
+            WalkFault::Memory => Fault::Memory,
+            WalkFault::TooLarge => Fault::TooLarge,
+        }
+    }
+}
+
+/// The bytes went to a sink, which stops only where it stands failed.
+impl From<Stopped> for Fault {
+    ghost use Rattle.js_output.specs.declared.fault.Fault.TheVariants.{Write};
+
+    ghost from_gives = { λ _ e. e ≡ Write };
+
+    fn from(_stopped: Stopped) -> Fault {
+        Fault::Write
     }
 }

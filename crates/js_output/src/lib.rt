@@ -4,22 +4,22 @@
 mod documents;
 mod entry;
 mod fault;
-mod format;
 mod input;
-mod judging;
+pub mod laws;
 mod line;
 mod pair;
 mod places;
 mod running;
 mod sink;
 mod source;
+mod telling;
 mod text;
-mod verdict;
+mod writing;
 
 pub use fault::{Fault, SuiteFault};
-pub use format::Format;
 pub use input::read_all;
 pub use js_bundle::{EntryFault, Refusal, RefusalKind};
+pub use js_tree::Format;
 pub use line::refusal_line;
 pub use pair::run_pair;
 pub use places::run_places;

@@ -25,7 +25,6 @@ pub fn refusal_line(alloc: Global, fault: &Fault) -> Result<String, Memory>
         Fault::TooLarge => "refused: walk: TooLarge",
         Fault::Suite(fault) => return suite(alloc, fault),
         Fault::Write => "failed: Write",
-        Fault::NotYet => "refused: NotYet",
     };
     Ok(String::from_str(alloc, line)?)
 }

@@ -5,11 +5,11 @@ ghost use Rattle.js_output.specs.Outcome.{OutcomeOfTexts, PairOutcome, first_lin
 
 use crate::entry::entry_of;
 use crate::fault::Fault;
-use crate::format::Format;
 use crate::input::read_all;
 use crate::sink::Sink;
 use crate::source::Source;
-use crate::verdict::tell_text;
+use crate::telling::tell_text;
+use js_tree::Format;
 use std::alloc::Global;
 use std::io::{Read, Write};
 

@@ -7,26 +7,24 @@ ghost use Rattle.js_output.specs.Outcome.{beginning_causes, Outcome, InstanceOut
 
 use crate::entry::{Entry, entry_of};
 use crate::fault::Fault;
-use crate::format::Format;
 use crate::input::read_all;
 use crate::sink::Sink;
 use crate::source::Source;
-use crate::verdict::tell_text;
+use crate::telling::tell_text;
+use js_tree::Format;
 use std::alloc::Global;
 use std::io::{Read, Write};
 
 /// Whether the schema that the entry names accepts the instance. Writes what the format tells of
 /// it, and a line feed (JSON Schema Core, section 12.4).
 ///
-/// Each document is handed in with its URI; nothing is fetched. In this stage the format flag is
-/// served, and an entry whose keywords are assertions (JSON Schema Validation, section 6), beside
-/// those that identify schemas, hold them for reference, or comment.
+/// Each document is handed in with its URI; nothing is fetched.
 ///
 /// # Errors
 /// The first that applies, of: the refusal of a document, in their order, and the first refusal of
 /// all; that of the entry; `Read` and `InputTooLarge` of the instance's source; the refusal of the
-/// instance's text; `NotYet` for what isn't served; `Write`. `Memory` may come at any point before
-/// the first write. After `Write` a beginning of the text is out, and after any other fault nothing
+/// instance's text; `TooLarge` where no result stands within 256 schemas on a way and 100,000
+/// nodes; `Write`. `Memory` may come at any point before the first write. After `Write` a beginning of the text is out, and after any other fault nothing
 /// is.
 pub fn run<R: Read, W: Write>(
     alloc: Global,
@@ -66,7 +64,7 @@ fn tell_instance<R: Read, W: Write>(
 ) -> Result<bool, Fault>
     requires { is_place entry.now.schemas entry.now.place ≡ true }
     ensures answer { Answers
-        (InstanceOutcome format (place_at entry.now.schemas entry.now.place)) []
+        (InstanceOutcome entry.now.schemas (place_at entry.now.schemas entry.now.place) format) []
         (R.remaining instance.old.device) W.contents out.old out.new result }
     ensures late { IfErr result (λ e. IsEarly e → ⊥) }
     ensures read { IsErrOf result Fault.Read → instance.new.failed ≡ true }

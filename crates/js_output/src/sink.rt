@@ -4,6 +4,7 @@ ghost use Rattle.std.specs.Io.KnownBytes.{Appends, Keeps};
 ghost use Rattle.js_output.specs.Device.{AppendsBeginning};
 
 use crate::Fault;
+use js_doc::{Out, Stopped};
 use std::io::Write;
 use std::marker::Model;
 
@@ -68,8 +69,24 @@ impl<W: Write> Sink<W> {
             → min (self.old.calls + 1) (2 ^ 64 - 1) ≤ self.new.calls }
         ensures stays { self.old.failed ≡ true → self.new ≡ self.old }
     {
+        self.write_all(bytes)?;
+        Ok(())
+    }
+
+    fn write_all(&mut self, bytes: &[u8]) -> Result<(), Stopped>
+        ensures ok { OnOk result
+            (Appends (W.contents self.old.device) (W.contents self.new.device) bytes.now) }
+        ensures begins { AppendsBeginning (W.contents self.old.device)
+            (W.contents self.new.device) bytes.now }
+        ensures failed { self.new.failed ≡ is_err result }
+        ensures calls { self.new.calls ≤ self.old.calls + length bytes.now }
+        ensures grows { self.old.calls ≤ self.new.calls }
+        ensures called { self.old.failed ≡ false → 0 < length bytes.now
+            → min (self.old.calls + 1) (2 ^ 64 - 1) ≤ self.new.calls }
+        ensures stays { self.old.failed ≡ true → self.new ≡ self.old }
+    {
         if self.failed {
-            return Err(Fault::Write);
+            return Err(Stopped);
         }
         let mut rest = bytes;
         while !rest.is_empty() {
@@ -80,7 +97,7 @@ impl<W: Write> Sink<W> {
     }
 
     // Calls the device once with bytes, of which it has to take some.
-    fn write(&mut self, bytes: &[u8]) -> Result<usize, Fault>
+    fn write(&mut self, bytes: &[u8]) -> Result<usize, Stopped>
         requires some { 0 < length bytes.now }
         requires stands { self.old.failed ≡ false }
         ensures some { IfOk result (λ count. 0 < count) }
@@ -89,7 +106,6 @@ impl<W: Write> Sink<W> {
             (W.contents self.new.device) (take count bytes.now)) }
         ensures kept { OnErr result
             (Keeps (W.contents self.old.device) (W.contents self.new.device)) }
-        ensures fault { IfErr result (λ e. e ≡ Fault.Write) }
         ensures failed { self.new.failed ≡ is_err result }
         ensures called { self.new.calls ≡ min (self.old.calls + 1) (2 ^ 64 - 1) }
         ensures calls { self.new.calls ≤ self.old.calls + 1 }
@@ -99,7 +115,7 @@ impl<W: Write> Sink<W> {
         match self.device.write(bytes) {
             Ok(0) | Err(_) => {
                 self.failed = true;
-                Err(Fault::Write)
+                Err(Stopped)
             }
             Ok(count) => Ok(count),
         }
@@ -124,5 +140,16 @@ impl<W: Write> Sink<W> {
         } else {
             Ok(())
         }
+    }
+}
+
+/// It stops where it stands failed.
+impl<W: Write> Out for Sink<W> {
+    ghost use Rattle.js_output.specs.Device.{progress_of};
+
+    ghost progress = { λ s. progress_of W.contents s };
+
+    fn put(&mut self, bytes: &[u8]) -> Result<(), Stopped> {
+        self.write_all(bytes)
     }
 }

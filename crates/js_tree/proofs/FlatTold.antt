@@ -109,3 +109,8 @@ opens rows new (x ∷ xs) ms r row n h f e d l =
     let b : innermost_first ms [] ≡ n ∷ innermost_first (x ∷ xs) [] = ap (λ qs. innermost_first qs []) d ∙ innermost_first-append (x ∷ xs) n [] in
     let k : n ≡ length (map row_of rows) = l ∙ sym (length-map rows row_of) in
     ap (λ qs. at qs (innermost_first ms [])) a ∙ (ap (λ qs. at (map row_of rows ++ row ∷ []) qs) (b ∙ ap (λ q. q ∷ innermost_first (x ∷ xs) []) k) ∙ sym (opened_there (map row_of rows) (innermost_first (x ∷ xs) []) row w.0 w.1 w.2))
+
+-- no node is open
+pub none_open : (ns : List ℕ) → innermost_first ns [] ≡ [] → ns ≡ []
+none_open [] e = refl
+none_open (n ∷ ns) e = let w = innermost_first-there ns n [] in let k = w.2 in absurd cc

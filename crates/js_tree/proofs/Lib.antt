@@ -1,11 +1,13 @@
 pub mod BoxedTold
 pub mod Compaction
 pub mod FlagText
+pub mod FlatRows
 pub mod FlatTold
 pub mod Marks
 pub mod Forests
 pub mod KeptTree
 pub mod MovesAreSteps
+pub mod Nested
 pub mod NotedRows
 pub mod Searching
 pub mod Siblings

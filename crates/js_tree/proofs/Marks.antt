@@ -16,16 +16,11 @@ use Rattle.js_tree.specs.declared.compacting.Keep.TheVariants.{Verdict, Noted}
 use Rattle.js_tree.specs.declared.flat.Row.{Row}
 use Rattle.js_tree.proofs.Compaction.{pruned_below-append, kept_below-append, take-swap, drop-swap}
 use Rattle.js_tree.proofs.FlatTold.{length-flat_of}
+use Rattle.js_tree.proofs.FlatRows.{flat_of-append, map-drop, drop-append, drop-drop}
 use Rattle.js_tree.proofs.Forests.{append-empty, node_count-append}
 use Rattle.js_tree.proofs.KeptTree.{tree_count-kept_below}
 
 -- ---- trees side by side
-
-flat_of-append : (f g : Forest OutputUnit) → flat_of (f ⊹ g) ≡ flat_of f ++ flat_of g
-flat_of-append empty g = refl
-flat_of-append (tree u below after) g =
-    ap (λ xs. (u, suc (node_count below)) ∷ (flat_of below ++ xs)) (flat_of-append after g)
-    ∙ ap (λ xs. (u, suc (node_count below)) ∷ xs) (sym (append_assoc (flat_of below) (flat_of after) (flat_of g)))
 
 left-append : (k : Keep) (f g : Forest OutputUnit) → left k (f ⊹ g) ≡ (left k f ⊹ left k g)
 left-append (Verdict v) f g = pruned_below-append (has_verdict v) f g
@@ -116,7 +111,7 @@ from zero f = f
 from (suc n) empty = empty
 from (suc n) (tree u below after) = from n (below ⊹ after)
 
-flat_of-from : (n : ℕ) (f : Forest OutputUnit) → flat_of (from n f) ≡ drop n (flat_of f)
+pub flat_of-from : (n : ℕ) (f : Forest OutputUnit) → flat_of (from n f) ≡ drop n (flat_of f)
 flat_of-from zero f = refl
 flat_of-from (suc n) empty = refl
 flat_of-from (suc n) (tree u below after) = flat_of-from n (below ⊹ after) ∙ ap (drop n) (flat_of-append below after)
@@ -145,11 +140,6 @@ node_at (suc n) (tree u below after) h =
 
 head_of : (x y : FlatRow) (xs ys : List FlatRow) → x ∷ xs ≡ y ∷ ys → x ≡ y
 head_of x y xs ys e = cc
-
-map-drop : (n : ℕ) (rows : List Row) → map row_of (drop n rows) ≡ drop n (map row_of rows)
-map-drop zero rows = refl
-map-drop (suc n) [] = refl
-map-drop (suc n) (r ∷ rows) = map-drop n rows
 
 -- the row of that number is the node's
 pub row_at : (rows : List Row) (f : Forest OutputUnit) (n : ℕ) (d : Row) → map row_of rows ≡ flat_of f → n < length rows → (a : At n f) → row_of (get_or rows n d) ≡ (a.unit, suc (node_count a.below))
@@ -211,20 +201,6 @@ tree_fits rows f n d e h =
     omega (arith, l, s, c, node_count-from n f (omega (arith, l, h)))
 
 -- ---- the marked rows of trees that are gone through one after another
-
-drop-append : {A : Type 0} (xs ys : List A) → drop (length xs) (xs ++ ys) ≡ ys
-drop-append [] ys = refl
-drop-append (x ∷ xs) ys = drop-append xs ys
-
-drop_none : (n : ℕ) (rows : List Row) → rows ≡ [] → drop n rows ≡ []
-drop_none zero rows e = e
-drop_none (suc n) [] e = refl
-drop_none (suc n) (r ∷ rows) e = absurd cc
-
-drop-drop : (n m : ℕ) (xs : List Row) → drop (n + m) xs ≡ drop m (drop n xs)
-drop-drop zero m xs = let z : 0 + m ≡ m = omega arith in rw z refl
-drop-drop (suc n) m [] = drop_none (suc n + m) [] refl ∙ sym (drop_none m [] refl)
-drop-drop (suc n) m (x ∷ xs) = let z : suc n + m ≡ suc (n + m) = omega arith in rw z (drop-drop n m xs)
 
 there : (rows : List Row) (n : ℕ) (y : Row) (ys : List Row) → drop n rows ≡ y ∷ ys → n < length rows
 there [] zero y ys e = absurd cc

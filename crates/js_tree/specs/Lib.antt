@@ -9,6 +9,7 @@ pub mod Form
 pub mod Holding
 pub mod Kept
 pub mod Moves
+pub mod Nesting
 pub mod Note
 pub mod OutputUnit
 pub mod Pruned

@@ -1,7 +1,8 @@
 //! A result as rows, in preorder.
-ghost use Rattle.std.specs.Prelude.{◌≡◌, map};
+ghost use Rattle.std.specs.Prelude.{◌≡◌, ◌↔◌, IsTrue, map};
 
 use crate::collector::{Collector, Head};
+use crate::nesting::are_of_a_tree;
 use crate::note::Note;
 use crate::unit::Unit;
 use js_doc::Memory;
@@ -29,7 +30,7 @@ pub struct Flat<'a> {
 }
 
 impl<'a> Flat<'a> {
-    ghost use Rattle.js_tree.specs.FlatState.{row_of, start, state_of};
+    ghost use Rattle.js_tree.specs.FlatState.{IsWhole, row_of, start, state_of};
 
     /// Of nothing yet. Takes no memory.
     pub fn new(alloc: Global) -> Flat<'a>
@@ -46,6 +47,13 @@ impl<'a> Flat<'a> {
         ensures { map row_of result.now ≡ (state_of self.now).rows }
     {
         self.rows.as_slice()
+    }
+
+    /// The rows are those of a whole tree, and no node is open. Takes no memory, and time linear in the rows.
+    pub fn whole(&self) -> bool
+        ensures { IsTrue result ↔ IsWhole (state_of self.now) }
+    {
+        self.numbers.is_empty() && are_of_a_tree(self.rows.as_slice())
     }
 }
 

@@ -9,6 +9,7 @@ mod flat;
 mod forms;
 pub mod laws;
 mod moves;
+mod nesting;
 mod note;
 mod noted;
 mod noted_rows;

@@ -113,27 +113,21 @@ fn documents_are_refused_before_the_instance_is_read(rt: HostRuntime) -> Result<
 }
 
 #[test]
-fn what_is_not_served_comes_after_the_instance(rt: HostRuntime) -> Result<(), Fail> {
-    let not_yet = "refused: NotYet";
-    let not_json = "refused: instance at \"\": NotJson";
-    for (schema, format, instance, want) in [
-        ("{\"properties\":{}}", Format::Flag, "1", not_yet),
-        ("{\"properties\":{}}", Format::Flag, "[1,", not_json),
-        ("{\"not\":true}", Format::Flag, "1", not_yet),
-        ("{\"contains\":true}", Format::Flag, "[]", not_yet),
-        ("{\"title\":\"t\"}", Format::Flag, "1", not_yet),
-        ("{\"type\":\"null\",\"z\":1}", Format::Flag, "null", not_yet),
-        ("{}", Format::Basic, "1", not_yet),
-        ("true", Format::Detailed, "1", not_yet),
-        ("{}", Format::Verbose, "1", not_yet),
-        ("{}", Format::Verbose, "[1,", not_json),
+fn a_result_is_too_large_in_every_format(rt: HostRuntime) -> Result<(), Fail> {
+    let docs = [(URI, b"{\"$ref\":\"#\"}".as_slice())];
+    for format in [
+        Format::Flag,
+        Format::Basic,
+        Format::Detailed,
+        Format::Verbose,
     ] {
-        let docs = [(URI, schema.as_bytes())];
-        assert_eq!(rt;
-            told_of(rt.alloc(), &docs, URI, format, instance.as_bytes())?.as_str(),
-            want,
-            "{schema} on {instance}"
-        );
+        for (instance, want) in [
+            (b"0".as_slice(), "refused: walk: TooLarge"),
+            (b"[1,".as_slice(), "refused: instance at \"\": NotJson"),
+        ] {
+            let line = told_of(rt.alloc(), &docs, URI, format, instance)?;
+            assert_eq!(rt; line.as_str(), want);
+        }
     }
     Ok(())
 }
@@ -185,7 +179,6 @@ fn each_fault_has_its_line(rt: HostRuntime) -> Result<(), Fail> {
         (Fault::Write, "failed: Write"),
         (Fault::InputTooLarge, "refused: input: InputTooLarge"),
         (Fault::TooLarge, "refused: walk: TooLarge"),
-        (Fault::NotYet, "refused: NotYet"),
         (Fault::Instance(ReadFault::Memory), "failed: Memory"),
         (
             Fault::Instance(ReadFault::NotJson),

@@ -7,17 +7,60 @@ use std::test::Fail;
 
 const DOCS: [(&str, &[u8]); 1] = [(URI, b"{\"type\":\"null\"}")];
 
+const EMPTY: [(&str, &[u8]); 1] = [(URI, b"{}")];
+
+const TITLE: &[u8] = b"{\"properties\":{\"a\":{\"title\":\"t\"}}}";
+
+const DOUBLE_NOT: &[u8] = b"{\"not\":{\"not\":{\"title\":\"t\"}}}";
+
+const BASIC: &[u8] =
+    b"{\"annotations\":[{\"absoluteKeywordLocation\":\"https://a.example/s#/properties\
+    \",\"annotation\":[\"a\"],\"instanceLocation\":\"\",\"keywordLocation\":\"/prope\
+    rties\",\"valid\":true},{\"absoluteKeywordLocation\":\"https://a.example/s#/prop\
+    erties/a/title\",\"annotation\":\"t\",\"instanceLocation\":\"/a\",\"keywordLocat\
+    ion\":\"/properties/a/title\",\"valid\":true}],\"valid\":true}\n";
+
+const DETAILED: &[u8] =
+    b"{\"absoluteKeywordLocation\":\"https://a.example/s#\",\"annotations\":[{\"absolu\
+    teKeywordLocation\":\"https://a.example/s#/properties\",\"annotation\":[\"a\"],\
+    \"annotations\":[{\"absoluteKeywordLocation\":\"https://a.example/s#/properties/\
+    a/title\",\"annotation\":\"t\",\"instanceLocation\":\"/a\",\"keywordLocation\":\
+    \"/properties/a/title\",\"valid\":true}],\"instanceLocation\":\"\",\"keywordLoca\
+    tion\":\"/properties\",\"valid\":true}],\"instanceLocation\":\"\",\"keywordLocat\
+    ion\":\"\",\"valid\":true}\n";
+
+const VERBOSE: &[u8] =
+    b"{\"absoluteKeywordLocation\":\"https://a.example/s#\",\"annotations\":[{\"absolu\
+    teKeywordLocation\":\"https://a.example/s#/not\",\"annotations\":[{\"absoluteKey\
+    wordLocation\":\"https://a.example/s#/not\",\"errors\":[{\"absoluteKeywordLocati\
+    on\":\"https://a.example/s#/not/not\",\"error\":\"the subschema holds\",\"errors\
+    \":[{\"absoluteKeywordLocation\":\"https://a.example/s#/not/not\",\"annotations\
+    \":[{\"absoluteKeywordLocation\":\"https://a.example/s#/not/not/title\",\"annota\
+    tion\":\"t\",\"instanceLocation\":\"\",\"keywordLocation\":\"/not/not/title\",\"\
+    valid\":true}],\"instanceLocation\":\"\",\"keywordLocation\":\"/not/not\",\"vali\
+    d\":true}],\"instanceLocation\":\"\",\"keywordLocation\":\"/not/not\",\"valid\":\
+    false}],\"instanceLocation\":\"\",\"keywordLocation\":\"/not\",\"valid\":false}]\
+    ,\"instanceLocation\":\"\",\"keywordLocation\":\"/not\",\"valid\":true}],\"insta\
+    nceLocation\":\"\",\"keywordLocation\":\"\",\"valid\":true}\n";
+
 #[test]
-fn one_byte_a_call_gives_the_same(rt: HostRuntime) -> Result<(), Fail> {
-    for (instance, valid, text) in [
-        (b"null".as_slice(), true, b"{\"valid\":true}\n".as_slice()),
-        (b"1".as_slice(), false, b"{\"valid\":false}\n".as_slice()),
+fn one_byte_a_call_gives_the_same_in_each_format(rt: HostRuntime) -> Result<(), Fail> {
+    for (schema, instance, format, text) in [
+        (
+            TITLE,
+            b"{\"a\":1}".as_slice(),
+            Format::Flag,
+            b"{\"valid\":true}\n".as_slice(),
+        ),
+        (TITLE, b"{\"a\":1}".as_slice(), Format::Basic, BASIC),
+        (TITLE, b"{\"a\":1}".as_slice(), Format::Detailed, DETAILED),
+        (DOUBLE_NOT, b"1".as_slice(), Format::Verbose, VERBOSE),
     ] {
+        let docs = [(URI, schema)];
         let mut source = Source::new(FakeReader::slow(instance));
         let mut writer = FakeWriter::new(rt.alloc(), 1, 0, 0);
         let mut out = Sink::new(&mut writer);
-        let answer = run(rt.alloc(), &DOCS, URI, &mut source, Format::Flag, &mut out)?;
-        assert_eq!(rt; answer, valid);
+        assert!(rt; run(rt.alloc(), &docs, URI, &mut source, format, &mut out)?);
         assert_eq!(rt; source.calls(), instance.len() as u64 + 1);
         assert_eq!(rt; out.calls(), text.len() as u64);
         drop(out);
@@ -65,18 +108,30 @@ fn a_failed_source_that_is_not_needed_does_not_matter(rt: HostRuntime) -> Result
 
 #[test]
 fn after_a_failed_write_a_beginning_is_out(rt: HostRuntime) -> Result<(), Fail> {
-    let text = b"{\"valid\":true}\n";
-    for k in 1..16 {
-        let mut source = Source::new(b"null".as_slice());
-        let mut writer = FakeWriter::new(rt.alloc(), 1, k, 0);
-        let mut out = Sink::new(&mut writer);
-        let answer = run(rt.alloc(), &DOCS, URI, &mut source, Format::Flag, &mut out);
-        assert!(rt; matches!(&answer, Err(Fault::Write)), "at {k}");
-        assert!(rt; out.failed(), "at {k}");
-        drop(out);
-        assert!(rt; text.starts_with(writer.got.as_slice()), "at {k}");
-        assert_eq!(rt; writer.got.len() as u64, k - 1, "at {k}");
+    for (format, text) in [
+        (Format::Flag, b"{\"valid\":true}\n".as_slice()),
+        (
+            Format::Basic,
+            b"{\"annotations\":[],\"valid\":true}\n".as_slice(),
+        ),
+    ] {
+        for k in 1..=text.len() {
+            let mut source = Source::new(b"0".as_slice());
+            let mut writer = FakeWriter::new(rt.alloc(), 1, k as u64, 0);
+            let mut out = Sink::new(&mut writer);
+            let answer = run(rt.alloc(), &EMPTY, URI, &mut source, format, &mut out);
+            assert!(rt; matches!(&answer, Err(Fault::Write)), "at {k}");
+            assert!(rt; out.failed(), "at {k}");
+            drop(out);
+            assert!(rt; text.starts_with(writer.got.as_slice()), "at {k}");
+            assert_eq!(rt; writer.got.len(), k - 1, "at {k}");
+        }
     }
+    Ok(())
+}
+
+#[test]
+fn a_write_that_takes_nothing_has_failed(rt: HostRuntime) -> Result<(), Fail> {
     let mut source = Source::new(b"null".as_slice());
     let mut writer = FakeWriter::new(rt.alloc(), 0, 0, 0);
     let mut out = Sink::new(&mut writer);

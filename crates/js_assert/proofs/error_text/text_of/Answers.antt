@@ -4,7 +4,7 @@ use Rattle.js_doc.specs.Seen.{value_of}
 use Rattle.js_doc.specs.Value.{text}
 use Rattle.js_doc.specs.Parts.{members_of}
 use Rattle.js_assert.specs.Dependences.{dependence_of}
-use Rattle.js_assert.specs.ErrorText.{counted, missing, without, asked, sorted_with}
+use Rattle.js_assert.specs.ErrorText.{counted, missing, without, names_needed, sorted_with}
 use Rattle.js_assert.specs.declared.assertion.Test.TheVariants.{MaxLength, MinLength, MaxContains, MaxProperties, MinProperties, Required, DependentRequired}
 use Rattle.js_doc.proofs.PartLists.{member_list-members}
 use Rattle.js_assert.proofs.Listed.{strings_names}
@@ -55,4 +55,4 @@ returns-in-DependentRequired c =
     let needs = c.in-DependentRequired.dependences in
     let same = ap (map dependence_of) c.as_slice-in-DependentRequired.ensures.value ∙ sym (member_list-members (map dependence_of needs.items)) in
     told r v c.args.matching c.args.test.now (DependentRequired needs) c.in-DependentRequired.is
-    (subst (λ ds. IfOk r (λ s. string_bytes s ≡ missing (map text (sorted_with [] (without ms (asked ms ds)))))) same c.missing_of_all.ensures)
+    (subst (λ ds. IfOk r (λ s. string_bytes s ≡ missing (map text (sorted_with [] (without ms (names_needed ms ds)))))) same c.missing_of_all.ensures)

@@ -4,7 +4,7 @@ use Rattle.js_doc.specs.Seen.{value_of}
 use Rattle.js_doc.specs.Value.{items, text}
 use Rattle.js_doc.specs.Parts.{members_of}
 use Rattle.js_assert.specs.Dependences.{dependence_of}
-use Rattle.js_assert.specs.ErrorText.{asked, missing, sorted_with, without}
+use Rattle.js_assert.specs.ErrorText.{names_needed, missing, sorted_with, without}
 use Rattle.js_assert.specs.Names.{names_seen}
 use Rattle.js_assert.proofs.missing.missing_of_all.Given as goal
 
@@ -12,4 +12,4 @@ abbrev pub invariant-loop-name : goal.invariant-loop-name
 invariant-loop-name l =
     let ms = members_of (value_of l.value) in
     string_bytes l.text ++ compact_items l.later (items (map text (names_seen l.name-iterator)))
-    ≡ missing (map text (sorted_with [] (without ms (asked ms (map dependence_of l.dependences)))))
+    ≡ missing (map text (sorted_with [] (without ms (names_needed ms (map dependence_of l.dependences)))))

@@ -1,4 +1,4 @@
-use Rattle.std.proofs.Common.{◌≡◌, ◌≤◌, ◌<◌, ◌+◌, ◌-◌, ◌^◌, min, true, false, length}
+use Rattle.std.proofs.Common.{◌≡◌, ◌≤◌, ◌+◌, ◌-◌, true, false, length}
 use Rattle.std.specs.Io.KnownBytes.{Consumes}
 use Rattle.js_output.specs.Device.{input_limit}
 use Rattle.js_output.proofs.input.read_all.Given as goal

@@ -2,8 +2,8 @@ use Rattle.std.proofs.Common.{[], ◌∷◌}
 use Rattle.std.proofs.lemmas.Result.{err_from_is_err_and}
 use Rattle.js_bundle.specs.Schemas.{place_at}
 use Rattle.js_output.specs.Outcome.{pair_uri}
-use Rattle.js_output.specs.declared.format.Format.TheVariants.{Flag}
-use Rattle.js_output.proofs.Answering.{texts-early, texts-late}
+use Rattle.js_tree.specs.declared.forms.Format.TheVariants.{Flag}
+use Rattle.js_output.proofs.Answering.{IsKept, texts-early, texts-late}
 use Rattle.js_output.proofs.pair.tell_texts.Goals as goal
 
 pub returns-in_err-entry-clause-answer : goal.returns-in_err-entry-clause-answer
@@ -16,4 +16,5 @@ pub returns-clause-answer : goal.returns-clause-answer
 returns-clause-answer g c =
     let docs = (pair_uri, c.args.document.now) ∷ [] in
     let e = c.in_ok-entry.entry in
-    texts-late docs pair_uri Flag (place_at e.schemas e.place) c.args.instance.now g.W.Write.contents c.args.out.now c.tell_text.new.out c.tell_text.result c.in_ok-entry.ensures.clear c.in_ok-entry.ensures.ok.named c.requires c.tell_text.ensures.answer
+    let is : IsKept docs pair_uri e.schemas (place_at e.schemas e.place) = record { clear = c.in_ok-entry.ensures.clear; of = c.in_ok-entry.ensures.ok.of; named = c.in_ok-entry.ensures.ok.named } in
+    texts-late docs pair_uri Flag e.schemas (place_at e.schemas e.place) is c.args.instance.now g.W.Write.contents c.args.out.now c.tell_text.new.out c.tell_text.result c.requires c.tell_text.ensures.answer

@@ -1,7 +1,7 @@
 use Rattle.std.proofs.lemmas.Result.{err_from_is_err_and}
 use Rattle.js_bundle.specs.Schemas.{place_at}
 use Rattle.js_output.specs.Documents.{documents_of}
-use Rattle.js_output.proofs.Answering.{answers-early, answers-late}
+use Rattle.js_output.proofs.Answering.{IsKept, answers-early, answers-late}
 use Rattle.js_output.proofs.running.run.Goals as goal
 
 pub returns-in_err-entry-clause-answer : goal.returns-in_err-entry-clause-answer
@@ -14,4 +14,5 @@ pub returns-clause-answer : goal.returns-clause-answer
 returns-clause-answer g c =
     let left = g.R.Read.remaining c.args.instance.now.device in
     let e = c.in_ok-entry.entry in
-    answers-late (documents_of c.args.docs.now) c.args.entry.now c.args.format (place_at e.schemas e.place) left g.W.Write.contents c.args.out.now c.tell_instance.new.out c.tell_instance.result c.in_ok-entry.ensures.clear c.in_ok-entry.ensures.ok.named c.tell_instance.ensures.answer
+    let is : IsKept (documents_of c.args.docs.now) c.args.entry.now e.schemas (place_at e.schemas e.place) = record { clear = c.in_ok-entry.ensures.clear; of = c.in_ok-entry.ensures.ok.of; named = c.in_ok-entry.ensures.ok.named } in
+    answers-late (documents_of c.args.docs.now) c.args.entry.now c.args.format e.schemas (place_at e.schemas e.place) is left g.W.Write.contents c.args.out.now c.tell_instance.new.out c.tell_instance.result c.tell_instance.ensures.answer

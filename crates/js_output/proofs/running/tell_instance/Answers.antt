@@ -10,16 +10,18 @@ returns-in_err-bytes-clause-answer g c =
     let p = err_from_is_err_and c.from_residual.result c.from_residual.ensures.1 in
     let left = g.R.Read.remaining c.args.instance.now.device in
     let new = g.R.Read.remaining c.read_all.new.source.device in
+    let docs = c.args.entry.now.schemas in
     let entry = place_at c.args.entry.now.schemas c.args.entry.now.place in
-    rw (p.1, p.2) (answers-input (InstanceOutcome c.args.format entry) left new g.W.Write.contents c.args.out.now c.args.out.now c.in_err-bytes.field-0.0 (on_large c.args.format entry) c.in_err-bytes.ensures.faults (λ e. c.in_err-bytes.ensures.too_large (ap Err e)))
+    rw (p.1, p.2) (answers-input (InstanceOutcome docs entry c.args.format) left new g.W.Write.contents c.args.out.now c.args.out.now c.in_err-bytes.field-0.0 (on_large docs entry c.args.format) c.in_err-bytes.ensures.faults (λ e. c.in_err-bytes.ensures.too_large (ap Err e)))
 
 pub returns-clause-answer : goal.returns-clause-answer
 returns-clause-answer g c =
     let left = g.R.Read.remaining c.args.instance.now.device in
     let bytes = c.in_ok-bytes.bytes.items in
     let whole = left_all left _ bytes c.in_ok-bytes.ensures.ok c.in_ok-bytes.ensures.end in
+    let docs = c.args.entry.now.schemas in
     let entry = place_at c.args.entry.now.schemas c.args.entry.now.place in
     let taken = g.W.Write.contents in
     let told = rw c.as_slice.ensures.value at c.tell_text.ensures.answer in
-    answers-told (InstanceOutcome c.args.format entry) left bytes taken c.args.out.now c.tell_text.new.out c.tell_text.result whole
-    (tells-map (TextOutcome c.args.format entry bytes) (InstanceOutcome c.args.format entry bytes) taken c.args.out.now c.tell_text.new.out c.tell_text.result (on_small c.args.format entry bytes c.in_ok-bytes.ensures.fits) told)
+    answers-told (InstanceOutcome docs entry c.args.format) left bytes taken c.args.out.now c.tell_text.new.out c.tell_text.result whole
+    (tells-map (TextOutcome docs entry c.args.format bytes) (InstanceOutcome docs entry c.args.format bytes) taken c.args.out.now c.tell_text.new.out c.tell_text.result (on_small docs entry c.args.format bytes c.in_ok-bytes.ensures.fits) told)

@@ -1,0 +1,75 @@
+-- What an outcome says, in the standard's terms.
+use Rattle.std.proofs.Common.{◌≡◌, ℕ, List, length, Option, Some, Result, Ok, Err, Bool, MatchBool, ◌⊎◌, inl, inr, refl, sym, ap, ◌∙◌, subst}
+use Rattle.std.proofs.lemmas.Bool.{le-ltb}
+use Rattle.js_doc.specs.Value.{Value}
+use Rattle.js_tree.specs.Form.{form, verbose}
+use Rattle.js_tree.specs.OutputUnit.{noted}
+use Rattle.js_tree.specs.Result.{pruned, kept}
+use Rattle.js_tree.specs.declared.forms.Format.{Format}
+use Rattle.js_tree.specs.declared.forms.Format.TheVariants.{Flag, Basic, Detailed, Verbose}
+use Rattle.js_tree.proofs.KeptTree.{kept_is_reached, kept_is_normal, run-normal}
+use Rattle.js_bundle.specs.Resource.{Site}
+use Rattle.js_eval.specs.Result.{ResultTree, IsWithinLimits}
+use Rattle.js_output.specs.Cause.{IsFirst}
+use Rattle.js_output.specs.Device.{Tracked, input_limit, Sends, SendsBeginning}
+use Rattle.js_output.specs.Documents.{Documents, bundle_of}
+use Rattle.js_output.specs.Entry.{place_named}
+use Rattle.js_output.specs.Headline.{Shows, IsAccepted, IsStandardResult, Tells}
+use Rattle.js_output.specs.Outcome.{beginning_causes, Output, output_of, ValueOutcome, ReadOutcome, TextOutcome, InstanceOutcome, Outcome, Answers}
+use Rattle.js_output.specs.declared.fault.Fault.{Fault}
+use Rattle.js_output.specs.declared.fault.Fault.TheVariants as fault
+
+-- ---- the form shows what the format asks for
+
+shows : (format : Format) (t : ResultTree) → Shows format t (form format t)
+shows Flag t = refl
+shows Basic t = refl
+shows Verbose t = refl
+shows Detailed t =
+    let p = pruned t in
+    ((kept p, (refl, kept_is_reached noted p.below), kept_is_normal noted p.below, refl), λ end r n. ap verbose (sym (run-normal noted p end r n)))
+
+-- ---- of an accepted instance, what comes of its value is the outcome
+
+same_place : (a b : Site) → Some a ≡ Some b → a ≡ b
+same_place a b e = cc
+
+module _ (documents : Documents) (entry instance : List ℕ) (format : Format) (place : Site) (v : Value) (is : IsAccepted documents entry instance place v) where
+  of_value : (outcome : Result Output Fault) → InstanceOutcome (bundle_of documents) (place_named (bundle_of documents) entry) format instance outcome
+      → ValueOutcome (bundle_of documents) (Some place) v format outcome
+  of_value outcome h =
+      let d = bundle_of documents in
+      let a = subst (λ p. InstanceOutcome d p format instance outcome) is.names h in
+      let b = subst (λ t. MatchBool t (outcome ≡ Err fault.InputTooLarge) (TextOutcome d (Some place) format instance outcome)) (le-ltb input_limit (length instance) is.fits) a in
+      subst (λ r. ReadOutcome d (Some place) format r outcome) is.is_read b
+
+  -- the result, and what the format shows of it
+  of_output : (output : Output) → Outcome documents entry format instance (Ok output)
+      → (t : ResultTree) × IsStandardResult documents place v t × IsWithinLimits t × (output ≡ output_of format t)
+  of_output output (clear, h) =
+      let (t, r, stands, e) = of_value (Ok output) h in
+      (t, subst (λ p. IsStandardResult documents p v t) (sym (same_place place r.place r.is_entry)) r.is_result, stands, e)
+
+  of_fault : (f : Fault) → Outcome documents entry format instance (Err f)
+      → IsFirst (beginning_causes documents entry) f ⊎ ((f ≡ fault.TooLarge) × ((t : ResultTree) → IsStandardResult documents place v t → IsWithinLimits t → ⊥))
+  of_fault f (inl h) = inl h
+  of_fault f (inr (clear, h)) =
+      let (e, none) = of_value (Err f) h in
+      inr (e, λ t r. none t (record { place = place; is_entry = refl; is_result = r }))
+
+  module _ {D : Type 0} (taken : D → Option (List ℕ)) (old new : Tracked D) where
+    told_within : (answer : Result Bool Fault) → Answers (Outcome documents entry format) (beginning_causes documents entry) (Some instance) taken old new answer
+        → Tells taken old new documents entry format place v answer
+    told_within (Ok valid) (bytes, left, (output, h, e, sent)) =
+        let (t, r, stands, o) = of_output output (subst (λ b. Outcome documents entry format b (Ok output)) (sym left) h) in
+        (t, r, stands, sym e ∙ ap (λ p. p.valid) o, (form format t, shows format t, subst (λ p. Sends taken old new p.text) o sent))
+    told_within (Err fault.Write) (bytes, left, (output, h, begun)) =
+        let (t, r, stands, o) = of_output output (subst (λ b. Outcome documents entry format b (Ok output)) (sym left) h) in
+        (t, r, stands, (form format t, shows format t, subst (λ p. SendsBeginning taken old new p.text) o begun))
+    told_within (Err fault.Memory) h = tt
+    told_within (Err fault.Read) h = tt
+    told_within (Err f) (bytes, left, h) = of_fault f (subst (λ b. Outcome documents entry format b (Err f)) (sym left) h)
+
+pub told : {D : Type 0} (taken : D → Option (List ℕ)) (old new : Tracked D) (documents : Documents) (entry instance : List ℕ) (format : Format) (place : Site) (v : Value) (answer : Result Bool Fault)
+    → IsAccepted documents entry instance place v → Answers (Outcome documents entry format) (beginning_causes documents entry) (Some instance) taken old new answer → Tells taken old new documents entry format place v answer
+told taken old new documents entry instance format place v answer is h = told_within documents entry instance format place v is taken old new answer h

@@ -1,0 +1,68 @@
+-- The headline: for every accepted bundle and entry, and each instance text that is read and isn't too large, the bytes
+-- written are the requested form of the standard's result; or `TooLarge` is answered, exactly where none stands within the
+-- limits. It follows from the clause `answer` of `run` alone.
+use Rattle.std.specs.Prelude.{◌≡◌, ◌≤◌, ℕ, List, [], ◌∷◌, ◌++◌, length, Option, Some, Result, Ok, Err, Bool, ◌⊎◌, ⊤}
+use Rattle.js_doc.specs.Compact.{compact}
+use Rattle.js_doc.specs.Value.{Value}
+use Rattle.js_tree.specs.Form.{flag, unit_list, verbose}
+use Rattle.js_tree.specs.Result.{Run, Normal, pruned}
+use Rattle.js_tree.specs.declared.forms.Format.{Format}
+use Rattle.js_tree.specs.declared.forms.Format.TheVariants.{Flag, Basic, Detailed, Verbose}
+use Rattle.js_bundle.specs.Resource.{Site}
+use Rattle.js_eval.specs.Bundle.{schemas_of}
+use Rattle.js_eval.specs.Location.{at_root}
+use Rattle.js_eval.specs.Result.{ResultTree, IsResult, IsWithinLimits}
+use Rattle.js_output.specs.Cause.{IsClear, IsFirst}
+use Rattle.js_output.specs.Device.{Tracked, input_limit, Sends, SendsBeginning}
+use Rattle.js_output.specs.Documents.{Documents, bundle_of}
+use Rattle.js_output.specs.Entry.{place_named}
+use Rattle.js_output.specs.Outcome.{beginning_causes, Outcome, Answers}
+use Rattle.js_output.specs.Reading.{reading}
+use Rattle.js_output.specs.declared.fault.Fault.{Fault}
+use Rattle.js_output.specs.declared.fault.Fault.TheVariants as fault
+
+-- What a format shows of a result (JSON Schema Core, section 12.4): flag its verdict, basic the units with a note of the
+-- pruned tree, verbose the whole tree. Detailed shows the one tree in which every run of the two condensing rules from the
+-- pruned tree ends.
+abbrev pub Shows : Format → ResultTree → Value → Type 0
+Shows Flag t shown = shown ≡ flag t.root.valid
+Shows Basic t shown = shown ≡ unit_list (pruned t)
+Shows Detailed t shown =
+    ((end : ResultTree) × Run (pruned t) end × Normal end × (shown ≡ verbose end))
+    × ((end : ResultTree) → Run (pruned t) end → Normal end → shown ≡ verbose end)
+Shows Verbose t shown = shown ≡ verbose t
+
+-- The documents and the entry, which is this place, are accepted: at most given causes stand against them, which may be
+-- passed over. The instance is the text of this value, and not too large.
+pub record IsAccepted (documents : Documents) (entry instance : List ℕ) (place : Site) (v : Value) : Type 0 where
+  pub clear : IsClear (beginning_causes documents entry)
+  pub names : place_named (bundle_of documents) entry ≡ Some place
+  pub fits : length instance ≤ input_limit
+  pub is_read : reading instance ≡ Ok v
+
+-- the standard's result (section 12.4.4), of judging v at the place
+abbrev pub IsStandardResult : Documents → Site → Value → ResultTree → Type 0
+IsStandardResult documents place v t = IsResult (schemas_of (bundle_of documents)) [] place at_root v t
+
+module _ {D : Type 0} (taken : D → Option (List ℕ)) (old new : Tracked D) where
+  -- What is answered and written. A fault of the reader, of the writer, or for want of memory may come; no other but
+  -- `TooLarge`, where none of the causes that may be passed over is taken.
+  abbrev pub Tells : Documents → List ℕ → Format → Site → Value → Result Bool Fault → Type 0
+  Tells documents entry format place v (Ok valid) =
+      (t : ResultTree) × IsStandardResult documents place v t × IsWithinLimits t × (valid ≡ t.root.valid)
+      × ((shown : Value) × Shows format t shown × Sends taken old new (compact shown ++ 10 ∷ []))
+  Tells documents entry format place v (Err fault.Write) =
+      (t : ResultTree) × IsStandardResult documents place v t × IsWithinLimits t
+      × ((shown : Value) × Shows format t shown × SendsBeginning taken old new (compact shown ++ 10 ∷ []))
+  Tells documents entry format place v (Err fault.Memory) = ⊤
+  Tells documents entry format place v (Err fault.Read) = ⊤
+  Tells documents entry format place v (Err f) =
+      IsFirst (beginning_causes documents entry) f
+      ⊎ ((f ≡ fault.TooLarge) × ((t : ResultTree) → IsStandardResult documents place v t → IsWithinLimits t → ⊥))
+
+  abbrev pub Headline : Type 0
+  Headline =
+      (documents : Documents) (entry instance : List ℕ) (format : Format) (place : Site) (v : Value) (answer : Result Bool Fault)
+      → IsAccepted documents entry instance place v
+      → Answers (Outcome documents entry format) (beginning_causes documents entry) (Some instance) taken old new answer
+      → Tells documents entry format place v answer
