@@ -26,4 +26,4 @@ holds_more held documents at d text taken more within is grows h = λ rest left.
 pub holds_all : (held : Held) (documents : List Document) (at : ℕ) (taken : Documents) → length documents ≤ at → HoldsSoFar held documents at taken
     → AreHeld held (pairs_seen documents) taken
 holds_all held documents at taken end h =
-    subst (λ ds. AreHeld held (pairs_seen documents) ds) (append-nil taken) (h [] (subst (λ ds. AreHeld held (pairs_seen ds) []) (sym (drop_all documents at end)) tt))
+    subst (λ ds. AreHeld held (pairs_seen documents) ds) (append-nil taken) (h [] (subst (λ ds. AreHeld held (pairs_seen ds) []) (sym (drop_all at documents end)) tt))

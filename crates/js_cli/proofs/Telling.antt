@@ -11,7 +11,7 @@ use Rattle.js_output.specs.Outcome.{Output, Outcome, Answers, beginning_causes}
 use Rattle.js_output.specs.Places.{TellsPlaces, places_of, places_text}
 use Rattle.js_output.specs.declared.fault.Fault.{Fault}
 use Rattle.js_output.specs.declared.fault.Fault.TheVariants as fault
-use Rattle.js_output.specs.declared.format.Format.{Format}
+use Rattle.js_tree.specs.declared.forms.Format.{Format}
 use Rattle.js_cli.specs.Answer.{Held, AreHeld, PlacesOutcome, RequestOutcome, WordsOutcome, Performs, IsBegun}
 use Rattle.js_cli.specs.Words.{Pairs, Request, check, places, request_of}
 

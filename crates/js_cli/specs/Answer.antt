@@ -30,7 +30,7 @@ abbrev pub RequestOutcome : Held → Option (List ℕ) → Request → Result Ou
 RequestOutcome held input pair answer = (bytes : List ℕ) × IsLeft input bytes × PairOutcome bytes answer
 RequestOutcome held input (check format instance entry pairs) answer =
     (documents : Documents) × AreHeld held pairs documents × ((bytes : List ℕ) × IsLeft (held instance) bytes × Outcome documents entry format bytes answer)
-RequestOutcome held input (suite file pairs) answer = answer ≡ Err fault.NotYet
+RequestOutcome held input (suite file pairs) answer = ⊥
 RequestOutcome held input (places pairs) answer = (documents : Documents) × AreHeld held pairs documents × PlacesOutcome documents answer
 
 -- The verdict is answered where the output's text went out, and `Write` where a beginning of it did.

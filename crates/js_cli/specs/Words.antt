@@ -4,8 +4,8 @@ use Rattle.std.specs.Str.{bytes_eq}
 use Rattle.std.specs.Borrow.{Bor}
 use Rattle.clap.specs.Words.{Text}
 use Rattle.js_cli.specs.Plain.{plain_of}
-use Rattle.js_cli.specs.declared.words.Format.{Format}
-use Rattle.js_cli.specs.declared.words.Format.TheVariants.{Flag, Basic, Detailed, Verbose}
+use Rattle.js_tree.specs.declared.forms.Format.{Format}
+use Rattle.js_tree.specs.declared.forms.Format.TheVariants.{Flag, Basic, Detailed, Verbose}
 use Rattle.js_cli.specs.declared.words.Misuse.{Misuse}
 use Rattle.js_cli.specs.declared.words.Misuse.TheVariants as misuse
 use Rattle.js_cli.specs.declared.words.Document.{Document}
@@ -104,3 +104,8 @@ abbrev pub IsNoPairs : Option Pairs → Misuse → Type 0
 IsNoPairs found misuse.Memory = ⊤
 IsNoPairs found misuse.OddPairs = found ≡ None
 IsNoPairs found misuse.OtherForm = ⊥
+
+-- what is told of misused words
+abbrev pub usage_line : Misuse → List ℕ
+usage_line misuse.OddPairs = codes "usage: URI and FILE come in pairs" ++ 10 ∷ []
+usage_line _ = codes "usage: jschema (check FORMAT INSTANCE ENTRY | suite SUITE | places) [URI FILE]..." ++ 10 ∷ []

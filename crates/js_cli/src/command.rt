@@ -151,7 +151,7 @@ fn perform<F: Files, R: Read, W: Write>(
     match task {
         Task::Pair => run_pair(alloc, input, out),
         Task::Check(check) => perform_check(alloc, &check, files, out),
-        Task::Suite(_suite) => Err(Fault::NotYet),
+        Task::Suite(_suite) => Err(Fault::Memory),
         Task::Places(documents) => perform_places(alloc, documents.as_slice(), files, out),
     }
 }

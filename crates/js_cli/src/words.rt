@@ -4,25 +4,19 @@ ghost use Rattle.clap.specs.Words.{found_of, first_of, all_of, rows_of, subcomma
 ghost use Rattle.js_cli.specs.Words.{request_of, request_seen, words_of, pairs_in, pairs_seen, format_of, places_by, IsMisuse, IsNoPairs};
 ghost use Rattle.js_cli.specs.Found.{entered, request_in, check_in, suite_in, pairs_of};
 
+use crate::documents::push;
 use crate::grammar::grammar;
 use clap::ArgMatches;
 use clap::error::ErrorKind;
+use js_output::Format;
 use std::alloc::{AllocError, AllocFailed, Global};
 
-#[derive(Clone, Copy, Drop)]
-pub enum Format {
-    Flag,
-    Basic,
-    Detailed,
-    Verbose,
-}
+/// What is written where the words are of another form.
+pub const USAGE: &[u8] =
+    b"usage: jschema (check FORMAT INSTANCE ENTRY | suite SUITE | places) [URI FILE]...\n";
 
-/// Puts one more at the end.
-pub(crate) fn push<T: Drop>(list: &mut Vec<T>, item: T) -> Result<(), AllocFailed<T>>
-    ensures { OnOk result (list.new.items ≡ list.old.items ++ item ∷ []) }
-{
-    list.push(item)
-}
+/// What is written where a URI stands without a file.
+pub const PAIRS_USAGE: &[u8] = b"usage: URI and FILE come in pairs\n";
 
 /// What is asked for.
 #[derive(Drop)]
