@@ -1,8 +1,5 @@
-//! What no contract says: that calls succeed with ample memory, on the standard's and the project's own examples, and
-//! that large values find their time.
-mod arguments;
+//! What no contract says: that calls succeed with ample memory, on the standard's and the project's own examples.
 mod keywords;
-mod large;
 mod patterns;
 
 use crate::{Assertion, KeywordFault, Pattern, PatternFault};
@@ -15,7 +12,6 @@ enum Trouble {
     Memory,
     NoSchema,
     NoAssertion,
-    Fault(KeywordFault),
 }
 
 impl From<Memory> for Trouble {
@@ -31,8 +27,8 @@ impl From<ReadFault> for Trouble {
 }
 
 impl From<KeywordFault> for Trouble {
-    fn from(fault: KeywordFault) -> Trouble {
-        Trouble::Fault(fault)
+    fn from(_fault: KeywordFault) -> Trouble {
+        Trouble::NoAssertion
     }
 }
 
@@ -60,16 +56,7 @@ fn error_of(
 ) -> Result<String, Trouble> {
     let assertion = assertion_of(alloc, schema, keyword)?;
     let value = read(alloc, value.as_bytes())?;
-    text_of(alloc, &assertion, &value, matching)
-}
-
-fn text_of(
-    alloc: Global,
-    assertion: &Assertion,
-    value: &Doc,
-    matching: u64,
-) -> Result<String, Trouble> {
-    match assertion.check(alloc, value, matching)? {
+    match assertion.check(alloc, &value, matching)? {
         Some(text) => Ok(text),
         None => Ok(String::new(alloc)),
     }

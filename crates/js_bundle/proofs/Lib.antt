@@ -14,6 +14,7 @@ pub mod Held
 pub mod Named
 pub mod Stopping
 pub mod Passes
+pub mod Indexed
 pub mod Targets
 pub mod OneName
 pub mod Assertions
@@ -22,6 +23,7 @@ pub mod BuiltNext
 pub mod Whole
 pub mod Kept
 pub mod Finds
+pub mod KeyedBelow
 pub mod Schema
 pub mod BuiltThere
 pub mod Dynamic

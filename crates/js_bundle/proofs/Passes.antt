@@ -27,7 +27,7 @@ piece_next old new piece rest all e told = ap (λ r. r ++ rest) e ∙ append_ass
 
 -- ---- the first pass, one place more
 
-map_take_more : {A B : Type 0} (f : A → B) (xs : List A) (i : ℕ) (x : A) → i < length xs → x ≡ get_or xs i x → map f (take (i + 1) xs) ≡ map f (take i xs) ++ f x ∷ []
+pub map_take_more : {A B : Type 0} (f : A → B) (xs : List A) (i : ℕ) (x : A) → i < length xs → x ≡ get_or xs i x → map f (take (i + 1) xs) ≡ map f (take i xs) ++ f x ∷ []
 map_take_more f xs i x h e = ap (map f) (take_more xs i x h) ∙ map-append f (take i xs) (get_or xs i x ∷ []) ∙ ap (λ y. map f (take i xs) ++ f y ∷ []) (sym e)
 
 pub site_next : (ss : List rust.Site) (i : ℕ) (x : rust.Site) (whole : List Candidate) → i < length ss → x ≡ get_or ss i x

@@ -5,6 +5,7 @@ use Rattle.js_bundle.specs.Built.{assertions_at, assertions_in, patterns_at, pat
 use Rattle.js_bundle.specs.Candidate.{IsClear}
 use Rattle.js_bundle.specs.Document.{Documents}
 use Rattle.js_bundle.specs.Finding.{dynamic_at, number_of_target}
+use Rattle.js_bundle.specs.Index.{IsIndex}
 use Rattle.js_bundle.specs.Location.{location}
 use Rattle.js_bundle.specs.Refusals.{candidates}
 use Rattle.js_bundle.specs.Resource.{sites}
@@ -20,3 +21,4 @@ pub record IsFinished (documents : Documents) (kept : Checked) : Type 0 where
   pub dynamic : kept.references.dynamic.items ≡ map (dynamic_at (sites documents)) (sites documents)
   pub plain : kept.references.plain.items ≡ map (number_of_target (sites documents) (codes "$ref")) (sites documents)
   pub locations : kept.locations.items ≡ map location (sites documents)
+  pub index : IsIndex kept.index (sites documents)

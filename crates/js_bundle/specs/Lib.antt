@@ -15,6 +15,7 @@ pub mod Depth
 pub mod Adding
 pub mod Seen
 pub mod Scan
+pub mod Index
 pub mod Finding
 pub mod Built
 pub mod Schemas

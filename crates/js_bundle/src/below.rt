@@ -1,6 +1,7 @@
 //! What the keywords of a place hold.
-ghost use Rattle.std.specs.Prelude.{◌≡◌, ◌++◌, [], ◌∷◌, true, find, map, option_map, option_and_then, bytes_eq, decimal, None, Some, if◌then◌else◌};
-ghost use Rattle.std.specs.List.{position_from};
+ghost use Rattle.std.specs.Prelude.{◌≡◌, ◌++◌, [], ◌∷◌, true, find, map, option_map, option_and_then, bytes_eq, decimal, None, Some, IfOk, OnOk, string_bytes, if◌then◌else◌};
+ghost use Rattle.std.specs.List.{list_any, position_from};
+ghost use Rattle.js_bundle.specs.Index.{place_key, StandsFirst};
 ghost use Rattle.js_bundle.specs.Names.{same_tokens};
 ghost use Rattle.js_bundle.specs.Place.{holding};
 ghost use Rattle.js_bundle.specs.Schemas.{is_place, place_at, below, fits, step_of, step_tokens, Finds, FindsSchema, Holds};
@@ -8,10 +9,17 @@ ghost use Rattle.js_bundle.specs.Spot.{spot_of, stands_below};
 
 use crate::checked::Spot;
 use crate::holding::Holding;
+use crate::index::place_key;
+use crate::numbering::Numbering;
 use crate::place::{Place, Step};
+use crate::pointers::further;
 use crate::scan::holding_of;
 use crate::schemas::Schemas;
-use js_doc::Text;
+use js_doc::{Memory, Pointer, Text};
+use std::alloc::Global;
+
+/// So many places are searched as fast as one is found by its key.
+const FEW: usize = 64;
 
 impl Schemas {
     ghost use Rattle.js_doc.specs.Value.{Value};
@@ -28,19 +36,30 @@ impl Schemas {
         ensures held { (s : Site) (u : Value) → place_at self.now place ≡ Some s
             → Holds s.schema keyword.now (step_of step.entry) u → FindsSchema self.now result u }
     {
-        match number_held(self.kept.spots.as_slice(), self.spot(place), keyword, step) {
+        let alloc = *self.documents.allocator();
+        let places = &self.kept.index.places;
+        let spots = self.kept.spots.as_slice();
+        match number_held(alloc, places, spots, self.spot(place), keyword, step) {
             Some(number) => Some(Place { number }),
             None => None,
         }
     }
 }
 
-fn number_held(spots: &[Spot], above: &Spot, keyword: &str, step: Step<'_>) -> Option<usize>
+fn number_held(
+    alloc: Global,
+    places: &Numbering,
+    spots: &[Spot],
+    above: &Spot,
+    keyword: &str,
+    step: Step<'_>,
+) -> Option<usize>
+    requires { StandsFirst places.now (map spot_of spots.now) }
     ensures { result ≡ (if fits (holding keyword.now) (step_of step.entry) then position_from
         (stands_below (spot_of above.now) keyword.now (step_of step.entry)) 0 (map spot_of spots.now) else None) }
 {
     if fits(holding_of(keyword), step) {
-        number_below(spots, above, keyword, step)
+        number_below(alloc, places, spots, above, keyword, step)
     } else {
         None
     }
@@ -57,8 +76,71 @@ fn fits(holding: Holding, step: Step<'_>) -> bool
     }
 }
 
-// The number of the first place that stands at the step through the keyword.
-fn number_below(spots: &[Spot], above: &Spot, keyword: &str, step: Step<'_>) -> Option<usize>
+// The number of the first place that stands at the step through the keyword. Few places are searched, and so are all
+// where there is no memory for a key.
+fn number_below(
+    alloc: Global,
+    places: &Numbering,
+    spots: &[Spot],
+    above: &Spot,
+    keyword: &str,
+    step: Step<'_>,
+) -> Option<usize>
+    requires { StandsFirst places.now (map spot_of spots.now) }
+    ensures { result ≡ position_from (stands_below (spot_of above.now) keyword.now (step_of step.entry)) 0
+        (map spot_of spots.now) }
+{
+    if spots.len() <= FEW {
+        return search_below(spots, above, keyword, step);
+    }
+    match key_below(alloc, above, keyword, step) {
+        Ok(key) => keyed_below(places, spots, key.as_str(), above, keyword, step),
+        Err(_) => search_below(spots, above, keyword, step),
+    }
+}
+
+// The same, by the key of what stands there.
+fn keyed_below(
+    places: &Numbering,
+    spots: &[Spot],
+    key: &str,
+    above: &Spot,
+    keyword: &str,
+    step: Step<'_>,
+) -> Option<usize>
+    requires first { StandsFirst places.now (map spot_of spots.now) }
+    requires key { key.now ≡ place_key above.now.document
+        (above.now.pointer ++ keyword.now ∷ step_tokens (step_of step)) }
+    ensures { result ≡ position_from (stands_below (spot_of above.now) keyword.now (step_of step.entry)) 0
+        (map spot_of spots.now) }
+{
+    match places.get(key) {
+        Some(number) => first_below(spots, number, above, keyword, step),
+        None => None,
+    }
+}
+
+// The same, where the first place with the key has this number.
+fn first_below(
+    spots: &[Spot],
+    number: usize,
+    above: &Spot,
+    keyword: &str,
+    step: Step<'_>,
+) -> Option<usize>
+    requires { position_from (λ s. list_any (bytes_eq (place_key above.now.document
+        (above.now.pointer ++ keyword.now ∷ step_tokens (step_of step)))) (place_key s.document s.pointer ∷ []))
+        0 (map spot_of spots.now) ≡ Some number }
+    ensures { result ≡ position_from (stands_below (spot_of above.now) keyword.now (step_of step.entry)) 0
+        (map spot_of spots.now) }
+{
+    match spots.get(number) {
+        Some(spot) if stands_below(spot, above, keyword, step) => Some(number),
+        _ => search_below(spots, above, keyword, step), // never: the key tells it from others
+    }
+}
+
+fn search_below(spots: &[Spot], above: &Spot, keyword: &str, step: Step<'_>) -> Option<usize>
     ensures { result ≡ position_from (stands_below (spot_of above.now) keyword.now (step_of step.entry)) 0
         (map spot_of spots.now) }
 {
@@ -68,6 +150,33 @@ fn number_below(spots: &[Spot], above: &Spot, keyword: &str, step: Step<'_>) -> 
         }
     }
     None
+}
+
+// The key of what stands at the step.
+fn key_below(alloc: Global, above: &Spot, keyword: &str, step: Step<'_>) -> Result<String, Memory>
+    ensures { IfOk result (λ t. string_bytes t ≡ place_key above.now.document
+        (above.now.pointer ++ keyword.now ∷ step_tokens (step_of step.entry))) }
+{
+    let mut pointer = further(alloc, &above.pointer, keyword)?;
+    push_step(alloc, &mut pointer, step)?;
+    place_key(alloc, above.document, &pointer)
+}
+
+fn push_step(alloc: Global, pointer: &mut Pointer, step: Step<'_>) -> Result<(), Memory>
+    ensures { OnOk result (pointer.new ≡ pointer.old ++ step_tokens (step_of step.entry)) }
+{
+    match step {
+        Step::Alone => Ok(()),
+        Step::Index(index) => push_index(alloc, pointer, index),
+        Step::Name(name) => pointer.push(name),
+    }
+}
+
+fn push_index(alloc: Global, pointer: &mut Pointer, index: usize) -> Result<(), Memory>
+    ensures { OnOk result (pointer.new ≡ pointer.old ++ decimal index ∷ []) }
+{
+    let token = index.to_string(alloc)?;
+    pointer.push(token.as_str())
 }
 
 fn stands_below(spot: &Spot, above: &Spot, keyword: &str, step: Step<'_>) -> bool

@@ -6,6 +6,7 @@ ghost use Rattle.js_doc.specs.Value.{list, items};
 ghost use Rattle.js_bundle.specs.declared.refusal.RefusalKind.TheVariants.{TooManyPlaces, NotASchema, DuplicateUri};
 ghost use Rattle.js_bundle.specs.Candidate.{IsClear, IsStopped};
 ghost use Rattle.js_bundle.specs.Form.{has_form, is_filled_list, is_schema};
+ghost use Rattle.js_bundle.specs.Index.{IsIndex};
 ghost use Rattle.js_bundle.specs.Names.{is_root, is_known_as, belongs_to, makes, is_name, begins_name, continues_name};
 ghost use Rattle.js_bundle.specs.Refusals.{when, decided, is_taken, is_made, is_dialect, on_text, at_dialect, at_id, at_joined_id, at_anchor, at_place, assertion_rules};
 ghost use Rattle.js_assert.specs.Assertion.{asserted};
@@ -13,13 +14,14 @@ ghost use Rattle.js_bundle.specs.Scan.{site_of};
 ghost use Rattle.js_bundle.specs.Url as spec;
 
 use crate::fault::{Fault, refuse};
+use crate::index::{Index, name_key};
 use crate::keyword::as_text;
 use crate::names::{belongs_to, is_known_as, is_root, makes};
 use crate::refusal::RefusalKind;
 use crate::scan::Site;
 use crate::uri::{self, LONGEST};
 use js_assert::{Assertion, KeywordFault};
-use js_doc::{Doc, Members};
+use js_doc::{Doc, Members, Memory};
 use std::alloc::Global;
 use url::{ParseError, Url};
 
@@ -27,16 +29,11 @@ use url::{ParseError, Url};
 const MOST_PLACES: usize = 100_000;
 
 // Whether a resource before has the URI.
-fn is_taken(before: &[Site<'_>], uri: &Url) -> bool
+fn is_taken(index: &Index, before: &[Site<'_>], uri: &Url) -> bool
+    requires { IsIndex index.now (map site_of before.now) }
     ensures { result ≡ is_taken (map site_of before.now) uri.now }
 {
-    let uri = uri::text_of(uri);
-    for site in before {
-        if is_known_as(site, uri) {
-            return true;
-        }
-    }
-    false
+    index.known.get(uri::text_of(uri)).is_some()
 }
 
 // Whether a place makes the name, by whichever keyword, in the same resource.
@@ -50,7 +47,37 @@ fn makes_beside(site: &Site<'_>, beside: &Site<'_>, name: &str) -> bool
 }
 
 // Whether a place before makes the name in the same resource.
-fn is_made(before: &[Site<'_>], place: &Site<'_>, name: &str) -> bool
+fn is_made(
+    alloc: Global,
+    index: &Index,
+    before: &[Site<'_>],
+    place: &Site<'_>,
+    name: &str,
+) -> Result<bool, Memory>
+    requires { IsIndex index.now (map site_of before.now) }
+    ensures { IfOk result (λ b. b ≡ is_made (map site_of before.now) (site_of place.now) name.now) }
+{
+    let key = name_key(alloc, place.document, &place.own.resource, name)?;
+    match index.names.get(key.as_str()) {
+        Some(number) => Ok(
+            makes_at(before, number, place, name) || some_makes(before, place, name),
+        ),
+        None => Ok(false),
+    }
+}
+
+// Whether the place of this number makes it.
+fn makes_at(before: &[Site<'_>], number: usize, place: &Site<'_>, name: &str) -> bool
+    ensures { result ≡ true → is_made (map site_of before.now) (site_of place.now) name.now ≡ true }
+{
+    match before.get(number) {
+        Some(site) => makes_beside(site, place, name),
+        None => false,
+    }
+}
+
+// Whether some place makes it. Where keys are alike only for one name of one resource, the first of the key has told.
+fn some_makes(before: &[Site<'_>], place: &Site<'_>, name: &str) -> bool
     ensures { result ≡ is_made (map site_of before.now) (site_of place.now) name.now }
 {
     for site in before {
@@ -154,11 +181,13 @@ pub(crate) fn check_dialect(
 
 fn check_joined_id(
     alloc: Global,
+    index: &Index,
     before: &[Site<'_>],
     site: &Site<'_>,
     keyword: &str,
     url: Url,
 ) -> Result<(), Fault>
+    requires { IsIndex index.now (map site_of before.now) }
     ensures ok { OnOk result (IsClear
         (at_joined_id (map site_of before.now) (site_of site.now) (keyword.now ∷ []) (Ok url))) }
     ensures err { IfErr result (IsStopped
@@ -168,7 +197,7 @@ fn check_joined_id(
         return Err(refuse(alloc, site, Some(keyword), RefusalKind::BadId));
     }
     let base = uri::without_fragment(url)?;
-    if is_taken(before, &base) {
+    if is_taken(index, before, &base) {
         return Err(refuse(alloc, site, Some(keyword), RefusalKind::DuplicateUri));
     }
     Ok(())
@@ -177,11 +206,13 @@ fn check_joined_id(
 /// The rules of `$id` (JSON Schema Core, section 8.2.1).
 pub(crate) fn check_id(
     alloc: Global,
+    index: &Index,
     before: &[Site<'_>],
     site: &Site<'_>,
     keyword: &str,
     text: &str,
 ) -> Result<(), Fault>
+    requires { IsIndex index.now (map site_of before.now) }
     ensures ok { OnOk result (IsClear
         (at_id (map site_of before.now) (site_of site.now) (keyword.now ∷ []) text.now)) }
     ensures err { IfErr result (IsStopped
@@ -191,7 +222,7 @@ pub(crate) fn check_id(
         return Err(refuse(alloc, site, Some(keyword), RefusalKind::UriTooLong));
     }
     match site.above.base.join(text) {
-        Ok(url) => check_joined_id(alloc, before, site, keyword, url),
+        Ok(url) => check_joined_id(alloc, index, before, site, keyword, url),
         Err(ParseError::OutOfMemory) => Err(Fault::Memory),
         Err(ParseError::Overflow) => Err(Fault::Memory),
         Err(_) => Err(refuse(alloc, site, Some(keyword), RefusalKind::BadId)),
@@ -201,11 +232,13 @@ pub(crate) fn check_id(
 /// The rules of `$anchor` and of `$dynamicAnchor` (JSON Schema Core, section 8.2.2).
 pub(crate) fn check_anchor(
     alloc: Global,
+    index: &Index,
     before: &[Site<'_>],
     site: &Site<'_>,
     keyword: &str,
     name: &str,
 ) -> Result<(), Fault>
+    requires { IsIndex index.now (map site_of before.now) }
     ensures ok { OnOk result (IsClear
         (at_anchor (map site_of before.now) (site_of site.now) (keyword.now ∷ []) name.now)) }
     ensures err { IfErr result (IsStopped
@@ -214,7 +247,7 @@ pub(crate) fn check_anchor(
     if !is_name(name.as_bytes()) {
         return Err(refuse(alloc, site, Some(keyword), RefusalKind::BadAnchor));
     }
-    if is_made(before, site, name) {
+    if is_made(alloc, index, before, site, name)? {
         return Err(refuse(alloc, site, Some(keyword), RefusalKind::DuplicateAnchor));
     }
     Ok(())
@@ -245,7 +278,13 @@ fn check_shape(alloc: Global, site: &Site<'_>) -> Result<(), Fault>
     }
 }
 
-fn check_root(alloc: Global, before: &[Site<'_>], site: &Site<'_>) -> Result<(), Fault>
+fn check_root(
+    alloc: Global,
+    index: &Index,
+    before: &[Site<'_>],
+    site: &Site<'_>,
+) -> Result<(), Fault>
+    requires { IsIndex index.now (map site_of before.now) }
     ensures ok { OnOk result (IsClear
         (when (is_root (site_of site.now) && is_taken (map site_of before.now) site.now.above.value.base)
         (decided (site_of site.now) [] DuplicateUri))) }
@@ -253,20 +292,26 @@ fn check_root(alloc: Global, before: &[Site<'_>], site: &Site<'_>) -> Result<(),
         (when (is_root (site_of site.now) && is_taken (map site_of before.now) site.now.above.value.base)
         (decided (site_of site.now) [] DuplicateUri))) }
 {
-    if is_root(site) && is_taken(before, &site.above.base) {
+    if is_root(site) && is_taken(index, before, &site.above.base) {
         return Err(refuse(alloc, site, None, RefusalKind::DuplicateUri));
     }
     Ok(())
 }
 
 /// The rules of a place itself.
-pub(crate) fn check_place(alloc: Global, before: &[Site<'_>], site: &Site<'_>) -> Result<(), Fault>
+pub(crate) fn check_place(
+    alloc: Global,
+    index: &Index,
+    before: &[Site<'_>],
+    site: &Site<'_>,
+) -> Result<(), Fault>
+    requires { IsIndex index.now (map site_of before.now) }
     ensures ok { OnOk result (IsClear (at_place (map site_of before.now) (site_of site.now))) }
     ensures err { IfErr result (IsStopped (at_place (map site_of before.now) (site_of site.now))) }
 {
     check_count(alloc, before, site)?;
     check_shape(alloc, site)?;
-    check_root(alloc, before, site)
+    check_root(alloc, index, before, site)
 }
 
 /// Reads a keyword's argument as an assertion's. None where the keyword is no assertion.

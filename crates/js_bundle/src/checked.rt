@@ -3,6 +3,7 @@ ghost use Rattle.std.specs.Prelude.{◌≡◌, ◌++◌, [], ◌∷◌, codes, m
 ghost use Rattle.js_bundle.specs.Built.{assertions_at, assertions_in, patterns_at, patterns_in};
 ghost use Rattle.js_bundle.specs.Candidate.{IsClear, IsStopped};
 ghost use Rattle.js_bundle.specs.Finding.{dynamic_at, number_of_target};
+ghost use Rattle.js_bundle.specs.Index.{IsIndex};
 ghost use Rattle.js_bundle.specs.Location.{location};
 ghost use Rattle.js_bundle.specs.Refusals.{candidates};
 ghost use Rattle.js_bundle.specs.Resource.{sites};
@@ -13,7 +14,8 @@ ghost use Rattle.js_bundle.specs.Spot.{spot, spot_of};
 use crate::built::Built;
 use crate::document::Document;
 use crate::fault::Fault;
-use crate::first_pass::first_pass;
+use crate::first_pass::{Passed, first_pass};
+use crate::index::Index;
 use crate::location::locations_of;
 use crate::reference::{References, resolve_all};
 use crate::scan::{Site, scan};
@@ -43,6 +45,7 @@ pub(crate) struct Checked {
     pub(crate) references: References,
     /// The absolute location of each.
     pub(crate) locations: Vec<Text>,
+    pub(crate) index: Index,
 }
 
 fn spots_of(alloc: Global, sites: Vec<Site<'_>>) -> Result<Vec<Spot>, Memory>
@@ -85,11 +88,12 @@ pub(crate) fn check_whole(alloc: Global, documents: &[Document]) -> Result<Check
         (sites (map document_of documents.now))) }
     ensures locations { IfOk result (λ c. c.locations.items
         ≡ map location (sites (map document_of documents.now))) }
+    ensures index { IfOk result (λ c. IsIndex c.index (sites (map document_of documents.now))) }
     ensures err { IfErr result (IsStopped (candidates (map document_of documents.now))) }
 {
     let sites = scan(alloc, documents)?;
-    let built = first_pass(alloc, sites.as_slice())?;
-    let references = resolve_all(alloc, sites.as_slice())?;
+    let Passed { built, index } = first_pass(alloc, sites.as_slice())?;
+    let references = resolve_all(alloc, &index, sites.as_slice())?;
     let locations = locations_of(alloc, sites.as_slice())?;
     let spots = spots_of(alloc, sites)?;
     Ok(Checked {
@@ -97,5 +101,6 @@ pub(crate) fn check_whole(alloc: Global, documents: &[Document]) -> Result<Check
         built,
         references,
         locations,
+        index,
     })
 }

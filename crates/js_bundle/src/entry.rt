@@ -45,7 +45,7 @@ impl Schemas {
         ensures err { IfErr result (IsNameFault self.now url) }
     {
         let sites = scan(alloc, self.documents.as_slice())?;
-        match place_named(alloc, sites.as_slice(), url) {
+        match place_named(alloc, &self.kept.index, sites.as_slice(), url) {
             Ok(Some(number)) => Ok(Place { number }),
             Ok(None) => Err(EntryFault::Unresolved),
             Err(NameFault::NotRead) => Err(EntryFault::BadUri),

@@ -6,6 +6,7 @@ ghost use Rattle.js_bundle.specs.declared.refusal.RefusalKind.TheVariants.{BadKe
 ghost use Rattle.js_bundle.specs.Built.{assertion_at, assertions_at, assertions_in, patterns_of, patterns_at, patterns_in};
 ghost use Rattle.js_bundle.specs.Candidate.{IsClear, IsStopped};
 ghost use Rattle.js_bundle.specs.Form.{has_form};
+ghost use Rattle.js_bundle.specs.Index.{IsIndex};
 ghost use Rattle.js_bundle.specs.Keyword.{keywords};
 ghost use Rattle.js_bundle.specs.Refusals.{when, decided, on_text, text_rules, at_keyword, at_site, first_pass};
 ghost use Rattle.js_bundle.specs.Scan.{site_of};
@@ -13,6 +14,7 @@ ghost use Rattle.js_bundle.specs.Scan.{site_of};
 use crate::built::{Built, keep_assertion, read_names};
 use crate::check::{check_anchor, check_dialect, check_id, check_place, is_formed, read_assertion};
 use crate::fault::{Fault, refuse};
+use crate::index::Index;
 use crate::refusal::RefusalKind;
 use crate::scan::Site;
 use js_doc::{Doc, Members};
@@ -34,11 +36,13 @@ fn check_form(alloc: Global, site: &Site<'_>, keyword: &str, argument: &Doc) -> 
 // The rules of a keyword whose argument is a text.
 fn check_text(
     alloc: Global,
+    index: &Index,
     before: &[Site<'_>],
     site: &Site<'_>,
     keyword: &str,
     text: &str,
 ) -> Result<(), Fault>
+    requires { IsIndex index.now (map site_of before.now) }
     ensures ok { OnOk result (IsClear
         (text_rules (map site_of before.now) (site_of site.now) keyword.now text.now)) }
     ensures err { IfErr result (IsStopped
@@ -46,27 +50,29 @@ fn check_text(
 {
     match keyword {
         "$schema" => check_dialect(alloc, site, keyword, text),
-        "$id" => check_id(alloc, before, site, keyword, text),
-        "$anchor" => check_anchor(alloc, before, site, keyword, text),
-        "$dynamicAnchor" => check_anchor(alloc, before, site, keyword, text),
+        "$id" => check_id(alloc, index, before, site, keyword, text),
+        "$anchor" => check_anchor(alloc, index, before, site, keyword, text),
+        "$dynamicAnchor" => check_anchor(alloc, index, before, site, keyword, text),
         _ => Ok(()),
     }
 }
 
 fn check_argument(
     alloc: Global,
+    index: &Index,
     before: &[Site<'_>],
     site: &Site<'_>,
     keyword: &str,
     argument: &Doc,
 ) -> Result<(), Fault>
+    requires { IsIndex index.now (map site_of before.now) }
     ensures ok { OnOk result (IsClear (on_text
         (text_rules (map site_of before.now) (site_of site.now) keyword.now) (value_of argument.now))) }
     ensures err { IfErr result (IsStopped (on_text
         (text_rules (map site_of before.now) (site_of site.now) keyword.now) (value_of argument.now))) }
 {
     match argument {
-        Doc::Text(text) => check_text(alloc, before, site, keyword, text.as_str()),
+        Doc::Text(text) => check_text(alloc, index, before, site, keyword, text.as_str()),
         _ => Ok(()),
     }
 }
@@ -75,12 +81,14 @@ fn check_argument(
 fn check_keyword(
     alloc: Global,
     built: &mut Built,
+    index: &Index,
     before: &[Site<'_>],
     site: &Site<'_>,
     keyword: &str,
     argument: &Doc,
     siblings: &Members,
 ) -> Result<(), Fault>
+    requires { IsIndex index.now (map site_of before.now) }
     ensures clear { OnOk result (IsClear
         (at_keyword (map site_of before.now) (site_of site.now) (keyword.now, value_of argument.now))) }
     ensures assertions { OnOk result (built.new.assertions.items ≡ built.old.assertions.items
@@ -93,17 +101,19 @@ fn check_keyword(
     check_form(alloc, site, keyword, argument)?;
     let assertion = read_assertion(alloc, site, keyword, argument, siblings)?;
     keep_assertion(&mut built.assertions, keyword, assertion)?;
-    check_argument(alloc, before, site, keyword, argument)?;
+    check_argument(alloc, index, before, site, keyword, argument)?;
     read_names(alloc, &mut built.patterns, site, keyword, argument)
 }
 
 // The rules of all of a place's keywords, by name ascending.
 fn check_keywords(
     alloc: Global,
+    index: &Index,
     before: &[Site<'_>],
     site: &Site<'_>,
     members: &Members,
 ) -> Result<Built, Fault>
+    requires { IsIndex index.now (map site_of before.now) }
     ensures clear { OnOk result (IsClear
         (flat_map (at_keyword (map site_of before.now) (site_of site.now)) members.now)) }
     ensures assertions { IfOk result (λ b. b.assertions.items ≡ flat_map (assertion_at members.now) members.now) }
@@ -116,6 +126,7 @@ fn check_keywords(
         check_keyword(
             alloc,
             &mut built,
+            index,
             before,
             site,
             keyword.as_str(),
@@ -126,7 +137,13 @@ fn check_keywords(
     Ok(built)
 }
 
-fn check_schema(alloc: Global, before: &[Site<'_>], site: &Site<'_>) -> Result<Built, Fault>
+fn check_schema(
+    alloc: Global,
+    index: &Index,
+    before: &[Site<'_>],
+    site: &Site<'_>,
+) -> Result<Built, Fault>
+    requires { IsIndex index.now (map site_of before.now) }
     ensures clear { OnOk result (IsClear (flat_map
         (at_keyword (map site_of before.now) (site_of site.now)) (keywords (site_of site.now).schema))) }
     ensures assertions { IfOk result (λ b. b.assertions.items ≡ assertions_at (site_of site.now)) }
@@ -135,35 +152,52 @@ fn check_schema(alloc: Global, before: &[Site<'_>], site: &Site<'_>) -> Result<B
         (at_keyword (map site_of before.now) (site_of site.now)) (keywords (site_of site.now).schema))) }
 {
     match site.schema {
-        Doc::Members(members) => check_keywords(alloc, before, site, members),
+        Doc::Members(members) => check_keywords(alloc, index, before, site, members),
         _ => Ok(Built::new(alloc)),
     }
 }
 
 // The rules of a place, and of its keywords.
-fn check_site(alloc: Global, before: &[Site<'_>], site: &Site<'_>) -> Result<Built, Fault>
+fn check_site(
+    alloc: Global,
+    index: &Index,
+    before: &[Site<'_>],
+    site: &Site<'_>,
+) -> Result<Built, Fault>
+    requires { IsIndex index.now (map site_of before.now) }
     ensures clear { OnOk result (IsClear (at_site (map site_of before.now) (site_of site.now))) }
     ensures assertions { IfOk result (λ b. b.assertions.items ≡ assertions_at (site_of site.now)) }
     ensures patterns { IfOk result (λ b. b.patterns.items ≡ patterns_at (site_of site.now)) }
     ensures err { IfErr result (IsStopped (at_site (map site_of before.now) (site_of site.now))) }
 {
-    check_place(alloc, before, site)?;
-    check_schema(alloc, before, site)
+    check_place(alloc, index, before, site)?;
+    check_schema(alloc, index, before, site)
 }
 
-/// The first pass. It answers, for each place, what it has built of the keywords.
-pub(crate) fn first_pass(alloc: Global, sites: &[Site<'_>]) -> Result<Vec<Built>, Fault>
+/// What the first pass has of the places.
+#[derive(Drop)]
+pub(crate) struct Passed {
+    /// Of each, what is built of its keywords.
+    pub(crate) built: Vec<Built>,
+    pub(crate) index: Index,
+}
+
+/// The first pass.
+pub(crate) fn first_pass(alloc: Global, sites: &[Site<'_>]) -> Result<Passed, Fault>
     ensures clear { OnOk result (IsClear (first_pass [] (map site_of sites.now))) }
     ensures assertions { IfOk result
-        (λ v. map assertions_in v.items ≡ map assertions_at (map site_of sites.now)) }
+        (λ p. map assertions_in p.built.items ≡ map assertions_at (map site_of sites.now)) }
     ensures patterns { IfOk result
-        (λ v. map patterns_in v.items ≡ map patterns_at (map site_of sites.now)) }
+        (λ p. map patterns_in p.built.items ≡ map patterns_at (map site_of sites.now)) }
+    ensures index { IfOk result (λ p. IsIndex p.index (map site_of sites.now)) }
     ensures err { IfErr result (IsStopped (first_pass [] (map site_of sites.now))) }
 {
     let mut all = Vec::new(alloc);
+    let mut index = Index::new(alloc);
     for i in 0..sites.len() {
-        let built = check_site(alloc, &sites[..i], &sites[i])?;
+        let built = check_site(alloc, &index, &sites[..i], &sites[i])?;
         all.push(built)?;
+        index.add(alloc, &sites[i], i)?;
     }
-    Ok(all)
+    Ok(Passed { built: all, index })
 }

@@ -1,13 +1,15 @@
 //! Which place a URI names.
-ghost use Rattle.std.specs.Prelude.{◌≡◌, ◌&&◌, ◌||◌, [], ◌∷◌, ◌++◌, Some, None, true, false, bytes_eq, codes, map, find, option_map, IfOk, IfErr, OnOk, MatchOption};
+ghost use Rattle.std.specs.Prelude.{◌≡◌, ◌&&◌, ◌||◌, [], ◌∷◌, ◌++◌, Some, None, true, false, bytes_eq, codes, map, find, slice_get, option_map, IfOk, IfErr, OnOk, MatchOption};
 ghost use Rattle.std.specs.List.{list_any, list_all, position_from};
 ghost use Rattle.js_doc.specs.PointerReading.{pointer_of};
 ghost use Rattle.std.specs.Str.{is_utf8};
 ghost use Rattle.js_bundle.specs.Finding.{number_named, number_in, number_below, number_anchored, is_pointer_read, IfNotRead};
+ghost use Rattle.js_bundle.specs.Index.{IsIndex, name_key, name_keys, place_key, place_keys};
 ghost use Rattle.js_bundle.specs.Names.{is_root, is_known_as, root_of, stands_at, belongs_to, makes, by_pointer, by_anchor, by_dynamic_anchor, is_pointer, is_read};
 ghost use Rattle.js_bundle.specs.Scan.{site_of};
 ghost use Rattle.js_bundle.specs.Url as spec;
 
+use crate::index::{Index, name_key, place_key};
 use crate::keyword::text_argument;
 use crate::pointers::joined;
 use crate::scan::Site;
@@ -79,19 +81,53 @@ fn is_anchored(site: &Site<'_>, root: &Site<'_>, name: &str) -> bool
 }
 
 // The root of the resource that has the URI.
-fn root_of<'s, 'a>(sites: &'s [Site<'a>], uri: &str) -> Option<&'s Site<'a>>
+fn root_of<'s, 'a>(index: &Index, sites: &'s [Site<'a>], uri: &str) -> Option<&'s Site<'a>>
+    requires { IsIndex index.now (map site_of sites.now) }
     ensures { option_map (λ s. site_of s.now) result ≡ find (is_known_as uri.now) (map site_of sites.now) }
 {
-    for site in sites {
-        if is_known_as(site, uri) {
-            return Some(site);
-        }
+    match index.known.get(uri) {
+        Some(number) => numbered(sites, number),
+        None => None,
     }
-    None
+}
+
+fn numbered<'s, 'a>(sites: &'s [Site<'a>], number: usize) -> Option<&'s Site<'a>>
+    ensures { option_map (λ s. site_of s.now) result ≡ slice_get (map site_of sites.now) number }
+{
+    sites.get(number)
 }
 
 // The number of the place at a pointer.
-fn place_at(sites: &[Site<'_>], document: usize, pointer: &Pointer) -> Option<usize>
+fn place_at(
+    alloc: Global,
+    index: &Index,
+    sites: &[Site<'_>],
+    document: usize,
+    pointer: &Pointer,
+) -> Result<Option<usize>, Memory>
+    requires { IsIndex index.now (map site_of sites.now) }
+    ensures { IfOk result (λ n. n ≡ position_from (stands_at document pointer.now) 0 (map site_of sites.now)) }
+{
+    let key = place_key(alloc, document, pointer)?;
+    match index.places.get(key.as_str()) {
+        Some(number) => Ok(first_at(sites, number, document, pointer)),
+        None => Ok(None),
+    }
+}
+
+// The same, where the first place with the key has this number.
+fn first_at(sites: &[Site<'_>], number: usize, document: usize, pointer: &Pointer) -> Option<usize>
+    requires { position_from (λ s. list_any (bytes_eq (place_key document pointer.now)) (place_keys s)) 0
+        (map site_of sites.now) ≡ Some number }
+    ensures { result ≡ position_from (stands_at document pointer.now) 0 (map site_of sites.now) }
+{
+    match sites.get(number) {
+        Some(site) if stands_at(site, document, pointer) => Some(number),
+        _ => search_at(sites, document, pointer), // never: the key tells it from others
+    }
+}
+
+fn search_at(sites: &[Site<'_>], document: usize, pointer: &Pointer) -> Option<usize>
     ensures { result ≡ position_from (stands_at document pointer.now) 0 (map site_of sites.now) }
 {
     for i in 0..sites.len() {
@@ -103,7 +139,38 @@ fn place_at(sites: &[Site<'_>], document: usize, pointer: &Pointer) -> Option<us
 }
 
 // The number of the place with the anchor, in the resource with this root.
-fn place_with_anchor(sites: &[Site<'_>], root: &Site<'_>, name: &str) -> Option<usize>
+fn place_with_anchor(
+    alloc: Global,
+    index: &Index,
+    sites: &[Site<'_>],
+    root: &Site<'_>,
+    name: &str,
+) -> Result<Option<usize>, Memory>
+    requires { IsIndex index.now (map site_of sites.now) }
+    ensures { IfOk result (λ n. n ≡ position_from (λ s. by_anchor (site_of root.now) name.now s
+        || by_dynamic_anchor (site_of root.now) name.now s) 0 (map site_of sites.now)) }
+{
+    let key = name_key(alloc, root.document, &root.pointer, name)?;
+    match index.names.get(key.as_str()) {
+        Some(number) => Ok(first_anchored(sites, number, root, name)),
+        None => Ok(None),
+    }
+}
+
+// The same, where the first place with the key has this number.
+fn first_anchored(sites: &[Site<'_>], number: usize, root: &Site<'_>, name: &str) -> Option<usize>
+    requires { position_from (λ s. list_any (bytes_eq (name_key root.now.document root.now.pointer name.now))
+        (name_keys s)) 0 (map site_of sites.now) ≡ Some number }
+    ensures { result ≡ position_from (λ s. by_anchor (site_of root.now) name.now s
+        || by_dynamic_anchor (site_of root.now) name.now s) 0 (map site_of sites.now) }
+{
+    match sites.get(number) {
+        Some(site) if is_anchored(site, root, name) => Some(number),
+        _ => search_anchored(sites, root, name), // never: the key tells it from others
+    }
+}
+
+fn search_anchored(sites: &[Site<'_>], root: &Site<'_>, name: &str) -> Option<usize>
     ensures { result ≡ position_from (λ s. by_anchor (site_of root.now) name.now s
         || by_dynamic_anchor (site_of root.now) name.now s) 0 (map site_of sites.now) }
 {
@@ -139,29 +206,39 @@ fn parsed(alloc: Global, text: &str) -> Result<Option<Pointer>, Memory>
 // The number of the place at a pointer from a resource's root.
 fn place_below(
     alloc: Global,
+    index: &Index,
     sites: &[Site<'_>],
     root: Option<&Site<'_>>,
     pointer: &Pointer,
 ) -> Result<Option<usize>, Memory>
+    requires { IsIndex index.now (map site_of sites.now) }
     ensures { IfOk result
         (λ n. n ≡ number_below (map site_of sites.now) (option_map (λ s. site_of s.now) root.entry) pointer.now) }
 {
     match root {
         Some(root) => {
             let whole = joined(alloc, &root.pointer, pointer)?;
-            Ok(place_at(sites, root.document, &whole))
+            place_at(alloc, index, sites, root.document, &whole)
         }
         None => Ok(None),
     }
 }
 
 // The number of the place with the anchor in a resource.
-fn place_anchored(sites: &[Site<'_>], root: Option<&Site<'_>>, name: &str) -> Option<usize>
-    ensures { result ≡ number_anchored (map site_of sites.now) (option_map (λ s. site_of s.now) root.entry) name.now }
+fn place_anchored(
+    alloc: Global,
+    index: &Index,
+    sites: &[Site<'_>],
+    root: Option<&Site<'_>>,
+    name: &str,
+) -> Result<Option<usize>, Memory>
+    requires { IsIndex index.now (map site_of sites.now) }
+    ensures { IfOk result (λ n. n
+        ≡ number_anchored (map site_of sites.now) (option_map (λ s. site_of s.now) root.entry) name.now) }
 {
     match root {
-        Some(root) => place_with_anchor(sites, root, name),
-        None => None,
+        Some(root) => place_with_anchor(alloc, index, sites, root, name),
+        None => Ok(None),
     }
 }
 
@@ -198,20 +275,22 @@ fn text_in(bytes: &[u8]) -> Option<&str>
 // The number of the place that a fragment names in a resource.
 fn place_in(
     alloc: Global,
+    index: &Index,
     sites: &[Site<'_>],
     root: Option<&Site<'_>>,
     fragment: &str,
 ) -> Result<Option<usize>, NameFault>
+    requires { IsIndex index.now (map site_of sites.now) }
     ensures ok { IfOk result
         (λ n. n ≡ number_in (map site_of sites.now) (option_map (λ s. site_of s.now) root.entry) fragment.now) }
     ensures read { OnOk result (is_pointer_read fragment.now ≡ true) }
     ensures err { IfErr result (λ e. IfNotRead e (is_pointer_read fragment.now ≡ false)) }
 {
     if !is_pointer(fragment.as_bytes()) {
-        return Ok(place_anchored(sites, root, fragment));
+        return Ok(place_anchored(alloc, index, sites, root, fragment)?);
     }
     match parsed(alloc, fragment)? {
-        Some(pointer) => Ok(place_below(alloc, sites, root, &pointer)?),
+        Some(pointer) => Ok(place_below(alloc, index, sites, root, &pointer)?),
         None => Err(NameFault::NotRead),
     }
 }
@@ -219,9 +298,11 @@ fn place_in(
 /// The number of the place that a URI names, if it names one.
 pub(crate) fn place_named(
     alloc: Global,
+    index: &Index,
     sites: &[Site<'_>],
     uri: Url,
 ) -> Result<Option<usize>, NameFault>
+    requires { IsIndex index.now (map site_of sites.now) }
     ensures ok { IfOk result (λ n. n ≡ number_named (map site_of sites.now) uri) }
     ensures read { OnOk result (is_read (spec.fragment uri) ≡ true) }
     ensures err { IfErr result (λ e. IfNotRead e (is_read (spec.fragment uri) ≡ false)) }
@@ -231,5 +312,6 @@ pub(crate) fn place_named(
         return Err(NameFault::NotRead);
     };
     let bare = uri::without_fragment(uri)?;
-    place_in(alloc, sites, root_of(sites, uri::text_of(&bare)), fragment)
+    let root = root_of(index, sites, uri::text_of(&bare));
+    place_in(alloc, index, sites, root, fragment)
 }

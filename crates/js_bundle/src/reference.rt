@@ -4,6 +4,7 @@ ghost use Rattle.std.specs.List.{flat_map};
 ghost use Rattle.js_bundle.specs.Candidate.{IsClear, IsStopped};
 ghost use Rattle.std.specs.Option.{option_map_or};
 ghost use Rattle.js_bundle.specs.Finding.{number_named, number_of_target, goes_by_name, dynamic_as, dynamic_at};
+ghost use Rattle.js_bundle.specs.Index.{IsIndex};
 ghost use Rattle.js_bundle.specs.Names.{makes};
 ghost use Rattle.js_bundle.specs.Refusals.{at_joined_reference, at_reference_text, at_reference, at_references, second_pass};
 ghost use Rattle.js_bundle.specs.Resource.{joined};
@@ -11,6 +12,7 @@ ghost use Rattle.js_bundle.specs.Scan.{site_of};
 ghost use Rattle.js_bundle.specs.Target.{reference, is_dynamic};
 
 use crate::fault::{Fault, refuse};
+use crate::index::Index;
 use crate::keyword::text_argument;
 use crate::names::{NameFault, place_named};
 use crate::refusal::RefusalKind;
@@ -23,18 +25,20 @@ use url::{ParseError, Url};
 
 fn resolve_url(
     alloc: Global,
+    index: &Index,
     sites: &[Site<'_>],
     site: &Site<'_>,
     keyword: &str,
     url: Url,
 ) -> Result<Option<usize>, Fault>
+    requires { IsIndex index.now (map site_of sites.now) }
     ensures clear { OnOk result (IsClear
         (at_joined_reference (map site_of sites.now) (site_of site.now) (keyword.now ∷ []) (Ok url))) }
     ensures target { IfOk result (λ t. t ≡ number_named (map site_of sites.now) url) }
     ensures err { IfErr result (IsStopped
         (at_joined_reference (map site_of sites.now) (site_of site.now) (keyword.now ∷ []) (Ok url))) }
 {
-    match place_named(alloc, sites, url) {
+    match place_named(alloc, index, sites, url) {
         Ok(Some(place)) => Ok(Some(place)),
         Ok(None) => Err(refuse(alloc, site, Some(keyword), RefusalKind::Unresolved)),
         Err(NameFault::NotRead) => {
@@ -46,11 +50,13 @@ fn resolve_url(
 
 fn resolve_text(
     alloc: Global,
+    index: &Index,
     sites: &[Site<'_>],
     site: &Site<'_>,
     keyword: &str,
     text: &str,
 ) -> Result<Option<usize>, Fault>
+    requires { IsIndex index.now (map site_of sites.now) }
     ensures clear { OnOk result (IsClear
         (at_reference_text (map site_of sites.now) (site_of site.now) (keyword.now ∷ []) (Some text.now))) }
     ensures target { IfOk result (λ t. t
@@ -62,7 +68,7 @@ fn resolve_text(
         return Err(refuse(alloc, site, Some(keyword), RefusalKind::UriTooLong));
     }
     match site.own.base.join(text) {
-        Ok(url) => resolve_url(alloc, sites, site, keyword, url),
+        Ok(url) => resolve_url(alloc, index, sites, site, keyword, url),
         Err(ParseError::OutOfMemory) => Err(Fault::Memory),
         Err(ParseError::Overflow) => Err(Fault::Memory),
         Err(_) => Err(refuse(alloc, site, Some(keyword), RefusalKind::BadReference)),
@@ -72,10 +78,12 @@ fn resolve_text(
 /// The number of the place that a keyword's reference names. None where the place has no such reference.
 fn resolve(
     alloc: Global,
+    index: &Index,
     sites: &[Site<'_>],
     site: &Site<'_>,
     keyword: &str,
 ) -> Result<Option<usize>, Fault>
+    requires { IsIndex index.now (map site_of sites.now) }
     ensures clear { OnOk result (IsClear (at_reference (map site_of sites.now) keyword.now (site_of site.now))) }
     ensures target { IfOk result
         (λ t. t ≡ number_of_target (map site_of sites.now) keyword.now (site_of site.now)) }
@@ -83,7 +91,7 @@ fn resolve(
         (at_reference (map site_of sites.now) keyword.now (site_of site.now))) }
 {
     match text_argument(site.schema, keyword) {
-        Some(text) => resolve_text(alloc, sites, site, keyword, text),
+        Some(text) => resolve_text(alloc, index, sites, site, keyword, text),
         None => Ok(None),
     }
 }
@@ -143,7 +151,13 @@ struct Targets {
     plain: Option<usize>,
 }
 
-fn resolve_both(alloc: Global, sites: &[Site<'_>], site: &Site<'_>) -> Result<Targets, Fault>
+fn resolve_both(
+    alloc: Global,
+    index: &Index,
+    sites: &[Site<'_>],
+    site: &Site<'_>,
+) -> Result<Targets, Fault>
+    requires { IsIndex index.now (map site_of sites.now) }
     ensures clear { OnOk result (IsClear (at_references (map site_of sites.now) (site_of site.now))) }
     ensures dynamic { IfOk result
         (λ t. t.dynamic ≡ number_of_target (map site_of sites.now) (codes "$dynamicRef") (site_of site.now)) }
@@ -152,9 +166,9 @@ fn resolve_both(alloc: Global, sites: &[Site<'_>], site: &Site<'_>) -> Result<Ta
         (λ t. t.plain ≡ number_of_target (map site_of sites.now) (codes "$ref") (site_of site.now)) }
     ensures err { IfErr result (IsStopped (at_references (map site_of sites.now) (site_of site.now))) }
 {
-    let dynamic = resolve(alloc, sites, site, "$dynamicRef")?;
+    let dynamic = resolve(alloc, index, sites, site, "$dynamicRef")?;
     let by_name = goes_by_name(alloc, sites, site, dynamic)?;
-    let plain = resolve(alloc, sites, site, "$ref")?;
+    let plain = resolve(alloc, index, sites, site, "$ref")?;
     Ok(Targets {
         dynamic,
         by_name,
@@ -188,7 +202,12 @@ fn dynamic_of(target: Option<usize>, by_name: bool) -> Option<DynamicReference>
 }
 
 /// Resolves all references.
-pub(crate) fn resolve_all(alloc: Global, sites: &[Site<'_>]) -> Result<References, Fault>
+pub(crate) fn resolve_all(
+    alloc: Global,
+    index: &Index,
+    sites: &[Site<'_>],
+) -> Result<References, Fault>
+    requires { IsIndex index.now (map site_of sites.now) }
     ensures clear { OnOk result (IsClear (second_pass (map site_of sites.now))) }
     ensures dynamic { IfOk result (λ r. r.dynamic.items
         ≡ map (dynamic_at (map site_of sites.now)) (map site_of sites.now)) }
@@ -199,7 +218,7 @@ pub(crate) fn resolve_all(alloc: Global, sites: &[Site<'_>]) -> Result<Reference
     let mut dynamic = Vec::new(alloc);
     let mut plain = Vec::new(alloc);
     for i in 0..sites.len() {
-        let targets = resolve_both(alloc, sites, &sites[i])?;
+        let targets = resolve_both(alloc, index, sites, &sites[i])?;
         dynamic.push(dynamic_of(targets.dynamic, targets.by_name))?;
         plain.push(targets.plain)?;
     }

@@ -125,9 +125,10 @@ dashes_fault w ws h e =
     let next : walked all.top.rules names start w ≡ record start { is_trailing = true } = rw (unnamed w h, e) refl in
     let turn : turn_fault all.top names start w ≡ [] = rw (unnamed w h, e) refl in
     subst₂ (λ u ks. IsFault (fault_at (fold (walked all.top.rules names) u ws) (or_else ks (walk_fault all.top names u ws)))) (sym next) (sym turn) (behind ws)
-  where behind : (ws : List Text) → IsFault (fault_at (fold (walked all.top.rules names) (record start { is_trailing = true }) ws) (walk_fault all.top names (record start { is_trailing = true }) ws))
-        behind [] = tt
-        behind (x ∷ xs) = tt
+  where
+    behind : (ws : List Text) → IsFault (fault_at (fold (walked all.top.rules names) (record start { is_trailing = true }) ws) (walk_fault all.top names (record start { is_trailing = true }) ws))
+    behind [] = tt
+    behind (x ∷ xs) = tt
 
 unnamed_fault : (w : Text) (ws : List Text) (v u : Bool) → IsUnnamed w → bytes_eq w dashes ≡ v → is_flag w ≡ u → IsFault (fault_of grammar (w ∷ ws))
 unnamed_fault w ws true u h e f = dashes_fault w ws h e

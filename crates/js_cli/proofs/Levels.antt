@@ -142,7 +142,6 @@ places_says (p ∷ ps) few =
     (ap (λ u. u.held) (left_end (codes "places") [] 1 places_long places_short places_fixed refl (p ∷ []) ps))
     ∙ rw (not_less (length (p ∷ ps)), not_above (length (p ∷ ps)) (omega (arith, few)), values_fine (p ∷ ps)) refl
 
-
 -- `suite`
 
 suite_long : (n : Text) → arg_by_long (level (codes "suite")).rules n ≡ None
@@ -163,7 +162,6 @@ suite_says (file ∷ p ∷ ps) few =
     ap₂ (final (codes "suite")) (left_fine (codes "suite") (row (codes "SUITE") (file ∷ []) ∷ []) 2 suite_long suite_short suite_fixed refl (p ∷ []) ps)
     (ap (λ u. u.held) (left_end (codes "suite") (row (codes "SUITE") (file ∷ []) ∷ []) 2 suite_long suite_short suite_fixed refl (p ∷ []) ps))
     ∙ rw (not_less (length (p ∷ ps)), not_above (length (p ∷ ps)) (omega (arith, few)), values_fine (p ∷ ps)) refl
-
 
 -- `check`
 

@@ -31,12 +31,13 @@ at_word v bs is = (v && has_some (chars bs)) ≡ is
 no_long : (word : Text) → is_flag word ≡ false → long_of word ≡ None
 no_long [] h = refl
 no_long (b ∷ bs) h = after b bs (b == 45) refl h
-  where after : (b : ℕ) (bs : Text) (v : Bool) → (b == 45) ≡ v → ((b == 45) && has_some (chars bs)) ≡ false → long_of (b ∷ bs) ≡ None
-        after b bs false is h = rw is refl
-        after b [] true is h = rw is refl
-        after b (x ∷ xs) true is h =
-            let none : has_some (chars (x ∷ xs)) ≡ false = subst (λ v. at_word v (x ∷ xs) false) is h in
-            rw (is, short_rest x xs (x == 45) refl none) refl
+  where
+    after : (b : ℕ) (bs : Text) (v : Bool) → (b == 45) ≡ v → ((b == 45) && has_some (chars bs)) ≡ false → long_of (b ∷ bs) ≡ None
+    after b bs false is h = rw is refl
+    after b [] true is h = rw is refl
+    after b (x ∷ xs) true is h =
+        let none : has_some (chars (x ∷ xs)) ≡ false = subst (λ v. at_word v (x ∷ xs) false) is h in
+        rw (is, short_rest x xs (x == 45) refl none) refl
 
 some_is : (l : List ℕ) → has_some l ≡ true → (y : ℕ) × (ys : List ℕ) × (l ≡ y ∷ ys)
 some_is [] h = absurd (true≢false (sym h))
@@ -53,12 +54,13 @@ HasNoShort word = (short_of word ≡ None) ⊎ ((x : ℕ) × (xs : Text) × (sho
 no_short : (word : Text) → is_flag word ≡ false → HasNoShort word
 no_short [] h = inl refl
 no_short (b ∷ bs) h = after b bs (b == 45) refl h
-  where after : (b : ℕ) (bs : Text) (v : Bool) → (b == 45) ≡ v → ((b == 45) && has_some (chars bs)) ≡ false → HasNoShort (b ∷ bs)
-        after b bs false is h = inl (rw is refl)
-        after b [] true is h = inl (rw is refl)
-        after b (x ∷ xs) true is h =
-            let none : has_some (chars (x ∷ xs)) ≡ false = subst (λ v. at_word v (x ∷ xs) false) is h in
-            inr (x, xs, rw (is, short_rest x xs (x == 45) refl none) refl, none_is _ none)
+  where
+    after : (b : ℕ) (bs : Text) (v : Bool) → (b == 45) ≡ v → ((b == 45) && has_some (chars bs)) ≡ false → HasNoShort (b ∷ bs)
+    after b bs false is h = inl (rw is refl)
+    after b [] true is h = inl (rw is refl)
+    after b (x ∷ xs) true is h =
+        let none : has_some (chars (x ∷ xs)) ≡ false = subst (λ v. at_word v (x ∷ xs) false) is h in
+        inr (x, xs, rw (is, short_rest x xs (x == 45) refl none) refl, none_is _ none)
 
 -- a flag is a long one, or a short one that is a character
 abbrev pub IsLongOrShort : Text → Type 0
@@ -68,14 +70,16 @@ IsLongOrShort word = ((p : Text × Option Text) × (long_of word ≡ Some p))
 long_or_short : (word : Text) → is_flag word ≡ true → bytes_eq word dashes ≡ false → IsLongOrShort word
 long_or_short [] is other = absurd (true≢false (sym is))
 long_or_short (b ∷ bs) is other = after b bs (b == 45) refl is other
-  where doubled : (b x : ℕ) (xs : Text) (v : Bool) → (b == 45) ≡ true → (x == 45) ≡ v → bytes_eq (b ∷ x ∷ xs) dashes ≡ false → has_some (chars (x ∷ xs)) ≡ true → IsLongOrShort (b ∷ x ∷ xs)
-        doubled b x [] true e f other some = absurd (true≢false (sym (ap₂ (λ v w. v && (w && true)) e f) ∙ other))
-        doubled b x (y ∷ ys) true e f other some = inl (name_and_value (y ∷ ys), rw (e, f) refl)
-        doubled b x xs false e f other some = let first = some_is _ some in inr (x, xs, first.0, first.1, rw (e, f) refl, rw (e, f) refl, first.2)
-        after : (b : ℕ) (bs : Text) (v : Bool) → (b == 45) ≡ v → ((b == 45) && has_some (chars bs)) ≡ true → bytes_eq (b ∷ bs) dashes ≡ false → IsLongOrShort (b ∷ bs)
-        after b bs false e is other = absurd (true≢false (sym is ∙ ap (λ v. v && has_some (chars bs)) e))
-        after b [] true e is other = absurd (true≢false (sym (subst (λ v. at_word v [] true) e is) ∙ none_has))
-        after b (x ∷ xs) true e is other = doubled b x xs (x == 45) e refl other (subst (λ v. at_word v (x ∷ xs) true) e is)
+  where
+    doubled : (b x : ℕ) (xs : Text) (v : Bool) → (b == 45) ≡ true → (x == 45) ≡ v → bytes_eq (b ∷ x ∷ xs) dashes ≡ false → has_some (chars (x ∷ xs)) ≡ true → IsLongOrShort (b ∷ x ∷ xs)
+    doubled b x [] true e f other some = absurd (true≢false (sym (ap₂ (λ v w. v && (w && true)) e f) ∙ other))
+    doubled b x (y ∷ ys) true e f other some = inl (name_and_value (y ∷ ys), rw (e, f) refl)
+    doubled b x xs false e f other some = let first = some_is _ some in inr (x, xs, first.0, first.1, rw (e, f) refl, rw (e, f) refl, first.2)
+
+    after : (b : ℕ) (bs : Text) (v : Bool) → (b == 45) ≡ v → ((b == 45) && has_some (chars bs)) ≡ true → bytes_eq (b ∷ bs) dashes ≡ false → IsLongOrShort (b ∷ bs)
+    after b bs false e is other = absurd (true≢false (sym is ∙ ap (λ v. v && has_some (chars bs)) e))
+    after b [] true e is other = absurd (true≢false (sym (subst (λ v. at_word v [] true) e is) ∙ none_has))
+    after b (x ∷ xs) true e is other = doubled b x xs (x == 45) e refl other (subst (λ v. at_word v (x ∷ xs) true) e is)
 
 -- ---- what they are to a command without options
 

@@ -1,5 +1,5 @@
 -- What the program answers, by where it stops.
-use Rattle.std.proofs.Common.{◌≡◌, ◌≤◌, ◌+◌, ℕ, List, [], ◌++◌, length, Option, Some, None, Result, Ok, Err, Bool, true, ◌⊎◌, inl, inr, refl, sym, subst}
+use Rattle.std.proofs.Common.{◌≡◌, ◌≤◌, ◌+◌, ℕ, List, [], ◌++◌, length, Option, Some, None, Result, Ok, Err, Bool, true, ◌⊎◌, inl, inr, refl, sym, ap, subst, arith, ◌<◌}
 use Rattle.std.proofs.KnownBytes.{Appends-kept}
 use Rattle.std.proofs.lemmas.List.{append-nil}
 use Rattle.std.specs.Io.KnownBytes.{Appends, Keeps}
@@ -9,11 +9,17 @@ use Rattle.js_output.specs.Documents.{Documents, documents_causes}
 use Rattle.js_output.specs.Input.{IsInputFault}
 use Rattle.js_output.specs.Outcome.{Output, Outcome, Answers, beginning_causes}
 use Rattle.js_output.specs.Places.{TellsPlaces, places_of, places_text}
+use Rattle.js_output.specs.Suite.{AnswersSuite}
+use Rattle.js_output.specs.SuiteLines.{counts_of, lines_text}
+use Rattle.js_output.specs.declared.suite_lines.Counts.{Counts}
 use Rattle.js_output.specs.declared.fault.Fault.{Fault}
 use Rattle.js_output.specs.declared.fault.Fault.TheVariants as fault
 use Rattle.js_tree.specs.declared.forms.Format.{Format}
-use Rattle.js_cli.specs.Answer.{Held, AreHeld, PlacesOutcome, RequestOutcome, WordsOutcome, Performs, IsBegun}
-use Rattle.js_cli.specs.Words.{Pairs, Request, check, places, request_of}
+use Rattle.js_cli.specs.Answer.{Held, AreHeld, PlacesOutcome, RequestOutcome, all_passed, suite_output, WordsOutcome, Performs, IsBegun}
+use Rattle.js_cli.specs.Status.{misuse_status}
+use Rattle.js_cli.specs.declared.words.Misuse.{Misuse}
+use Rattle.js_cli.specs.declared.words.Misuse.TheVariants as misuse
+use Rattle.js_cli.specs.Words.{Pairs, Request, check, suite, places, request_of}
 
 -- a file isn't read
 pub performs-fault : {D : Type 0} (P : Result Output Fault → Type 0) (taken : D → Option (List ℕ)) (old new : Tracked D) (e : Fault)
@@ -55,3 +61,22 @@ module _ {D : Type 0} (held : Held) (pairs : Pairs) (documents : Documents) (tak
       → Performs (RequestOutcome held None (places pairs)) taken old new (Err e)
   places_fault fault.Write holds tells begun = (record { valid = true; text = places_text documents }, (documents, holds, (tells, refl)), begun refl)
   places_fault _ holds tells begun = tt
+
+  pub suite_told : (file bytes : List ℕ) (counts : Counts) → AreHeld held pairs documents → IsLeft (held file) bytes
+      → AnswersSuite documents (Some bytes) taken old new (Ok counts)
+      → Performs (RequestOutcome held None (suite file pairs)) taken old new (Ok (all_passed counts))
+  suite_told file bytes counts holds here (read, is, (lines, h, same, sent)) =
+      (suite_output (counts_of lines) (lines_text lines), (documents, holds, (read, subst (IsLeft (held file)) is here, (lines, h, refl))), ap all_passed (sym same), sent)
+
+  pub suite_fault : (file bytes : List ℕ) (e : Fault) → AreHeld held pairs documents → IsLeft (held file) bytes
+      → AnswersSuite documents (Some bytes) taken old new (Err e)
+      → Performs (RequestOutcome held None (suite file pairs)) taken old new (Err e)
+  suite_fault file bytes fault.Write holds here (read, is, (lines, h, begun)) =
+      (suite_output (counts_of lines) (lines_text lines), (documents, holds, (read, subst (IsLeft (held file)) is here, (lines, h, refl))), begun)
+  suite_fault file bytes _ holds here h = tt
+
+-- words that aren't read are told by a status above 2 only where memory is wanting
+pub misuse_told : (m : Misuse) (status : ℕ) → status ≡ misuse_status m → 2 < status → status ≡ 4
+misuse_told misuse.Memory status e above = e
+misuse_told misuse.OtherForm status e above = absurd (omega (arith, e, above))
+misuse_told misuse.OddPairs status e above = absurd (omega (arith, e, above))

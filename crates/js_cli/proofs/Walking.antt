@@ -53,9 +53,10 @@ module _ (s : Shape) (long : (name : Text) → arg_by_long s.rules name ≡ None
     ready = multiple_ready (is_multiple a);
     skip = skip_of (is_pending a w.held.pending && takes_several a) w.held o.skip;
   }
-    where skip_of : (v : Bool) (h : Held) → h.skip ≡ 0 → (if v then h else settled s.rules h).skip ≡ 0
-          skip_of true h e = e
-          skip_of false h e = e
+    where
+      skip_of : (v : Bool) (h : Held) → h.skip ≡ 0 → (if v then h else settled s.rules h).skip ≡ 0
+      skip_of true h e = e
+      skip_of false h e = e
 
   pub taken_open : (w : Walk) (word : Text) → IsOpen w → IsOpen (taken w word)
   taken_open w word o = open_by w word (arg_by_index s.rules w.position) o
@@ -63,9 +64,10 @@ module _ (s : Shape) (long : (name : Text) → arg_by_long s.rules name ≡ None
   trailing_by : (w : Walk) (word : Text) (o : Option Rule) → IsFixed o → (to_positional s.rules o word w w.held).is_trailing ≡ w.is_trailing
   trailing_by w word None f = refl
   trailing_by w word (Some a) f = ap (λ v. w.is_trailing || v) f ∙ or_false w.is_trailing
-    where or_false : (v : Bool) → (v || false) ≡ v
-          or_false true = refl
-          or_false false = refl
+    where
+      or_false : (v : Bool) → (v || false) ≡ v
+      or_false true = refl
+      or_false false = refl
 
   pub taken_trailing : (w : Walk) (word : Text) → (taken w word).is_trailing ≡ w.is_trailing
   taken_trailing w word = trailing_by w word (arg_by_index s.rules w.position) (fixed w.position)
@@ -135,9 +137,10 @@ module _ (s : Shape) (long : (name : Text) → arg_by_long s.rules name ≡ None
       let no = unnamed w.waiting x o.ready in
       let next : walked s.rules [] w x ≡ after_dashes w = ap (λ stop. walked_from s.rules [] stop w x) o.stopped ∙ rw (t, no, is) refl in
       let clear : turn_fault s [] w x ≡ [] = rw (o.stopped, t, no, is) refl in
-      let open_after : IsOpen (after_dashes w) = record { stopped = o.stopped; ready = o.ready; skip = o.skip } in
-      (ap (λ u. (fold (walked s.rules []) u xs).held) next ∙ ap (λ u. u.held) (rest_ends (after_dashes w) xs open_after refl) ∙ dashed_ends w xs,
-      ap₂ or_else clear (ap (λ u. walk_fault s [] u xs) next ∙ rest_faults (after_dashes w) xs open_after refl ∙ dashed_faults w xs))
+      let open_after : IsOpen (after_dashes w) = record { stopped = o.stopped; ready = o.ready; skip = o.skip } in (
+        ap (λ u. (fold (walked s.rules []) u xs).held) next ∙ ap (λ u. u.held) (rest_ends (after_dashes w) xs open_after refl) ∙ dashed_ends w xs,
+        ap₂ or_else clear (ap (λ u. walk_fault s [] u xs) next ∙ rest_faults (after_dashes w) xs open_after refl ∙ dashed_faults w xs),
+      )
 
   reads_flag : (w : Walk) (x : Text) (xs : List Text) → IsOpen w → w.is_trailing ≡ false → bytes_eq x dashes ≡ false → is_flag x ≡ true → Reads w (x ∷ xs) None
   unfolding clap_on_literals
@@ -166,9 +169,10 @@ module _ (s : Shape) (long : (name : Text) → arg_by_long s.rules name ≡ None
       fault_after (turn_fault s [] w x) (walk_fault s [] (walked s.rules [] w x) xs) (subst (λ u. IsFault (walk_fault s [] u xs)) (sym next) h)
   reads_plain w x xs (Some ws) o t other is h =
       let met = plain_is_value w x o t other is in
-      let next = taken_next w x o met in
-      (ap (λ u. (fold (walked s.rules []) u xs).held) next ∙ h.0,
-      ap₂ or_else (taken_turn w x o met (plain_is_clear w x o t other is)) (ap (λ u. walk_fault s [] u xs) next ∙ h.1))
+      let next = taken_next w x o met in (
+        ap (λ u. (fold (walked s.rules []) u xs).held) next ∙ h.0,
+        ap₂ or_else (taken_turn w x o met (plain_is_clear w x o t other is)) (ap (λ u. walk_fault s [] u xs) next ∙ h.1),
+      )
 
   reads_by : (w : Walk) (x : Text) (xs : List Text) (v u : Bool) (rest : Option (List Text)) → bytes_eq x dashes ≡ v → is_flag x ≡ u → IsOpen w → w.is_trailing ≡ false
       → Reads (taken w x) xs rest → Reads w (x ∷ xs) (if v then Some xs else (if u then None else option_map (λ ws. x ∷ ws) rest))
@@ -189,6 +193,7 @@ AreFixed (a ∷ more) = (a.trailing_var_arg ≡ false) × AreFixed more
 pub fixed_at : (c : List Rule) (p : ℕ) → AreFixed c → IsFixed (arg_by_index c p)
 fixed_at [] p h = tt
 fixed_at (a ∷ more) p h = here (option_map_or (λ k. k == p) a.index false) h.0 (fixed_at more p h.1)
-  where here : (v : Bool) → a.trailing_var_arg ≡ false → IsFixed (arg_by_index more p) → IsFixed (if v then Some a else arg_by_index more p)
-        here true f rest = f
-        here false f rest = rest
+  where
+    here : (v : Bool) → a.trailing_var_arg ≡ false → IsFixed (arg_by_index more p) → IsFixed (if v then Some a else arg_by_index more p)
+    here true f rest = f
+    here false f rest = rest

@@ -1,11 +1,14 @@
 -- What the program answers: what comes of that which its words ask for, by what the files and the input hold.
-use Rattle.std.specs.Prelude.{◌≡◌, ℕ, List, [], ◌∷◌, Option, Result, Ok, Err, Bool, true, ⊤}
+use Rattle.std.specs.Prelude.{◌≡◌, ℕ, ◌==◌, List, [], ◌∷◌, Option, Result, Ok, Err, Bool, true, ◌&&◌, ⊤}
 use Rattle.std.specs.Io.KnownBytes.{Appends}
 use Rattle.js_output.specs.Cause.{IsClear}
 use Rattle.js_output.specs.Device.{Tracked, IsLeft, AppendsBeginning, Sends, SendsBeginning}
 use Rattle.js_output.specs.Documents.{Documents, documents_causes}
 use Rattle.js_output.specs.Outcome.{Output, Outcome, PairOutcome}
 use Rattle.js_output.specs.Places.{places_text}
+use Rattle.js_output.specs.Suite.{SuiteOutcome}
+use Rattle.js_output.specs.SuiteLines.{counts_of, lines_text}
+use Rattle.js_output.specs.declared.suite_lines.Counts.{Counts}
 use Rattle.js_output.specs.declared.fault.Fault.{Fault}
 use Rattle.js_output.specs.declared.fault.Fault.TheVariants as fault
 use Rattle.js_cli.specs.Words.{Pairs, Request, pair, check, suite, places, request_of}
@@ -25,12 +28,25 @@ abbrev pub PlacesOutcome : Documents → Result Output Fault → Type 0
 PlacesOutcome documents (Ok output) = IsClear (documents_causes documents) × (output ≡ record { valid = true; text = places_text documents })
 PlacesOutcome documents (Err f) = ⊤
 
--- what comes of a request; suites aren't run yet
+-- no test of a suite failed, and none was skipped
+abbrev pub all_passed : Counts → Bool
+all_passed counts = (counts.failed == 0) && (counts.skipped == 0)
+
+abbrev pub suite_output : Counts → List ℕ → Output
+suite_output counts text = record { valid = all_passed counts; text = text }
+
+-- what comes of a suite
+abbrev pub SuiteTold : Documents → List ℕ → Result Output Fault → Type 0
+SuiteTold documents bytes (Ok output) = (lines : _) × SuiteOutcome documents bytes (Ok lines) × (output ≡ suite_output (counts_of lines) (lines_text lines))
+SuiteTold documents bytes (Err f) = SuiteOutcome documents bytes (Err f)
+
+-- what comes of a request
 abbrev pub RequestOutcome : Held → Option (List ℕ) → Request → Result Output Fault → Type 0
 RequestOutcome held input pair answer = (bytes : List ℕ) × IsLeft input bytes × PairOutcome bytes answer
 RequestOutcome held input (check format instance entry pairs) answer =
     (documents : Documents) × AreHeld held pairs documents × ((bytes : List ℕ) × IsLeft (held instance) bytes × Outcome documents entry format bytes answer)
-RequestOutcome held input (suite file pairs) answer = ⊥
+RequestOutcome held input (suite file pairs) answer =
+    (documents : Documents) × AreHeld held pairs documents × ((bytes : List ℕ) × IsLeft (held file) bytes × SuiteTold documents bytes answer)
 RequestOutcome held input (places pairs) answer = (documents : Documents) × AreHeld held pairs documents × PlacesOutcome documents answer
 
 -- The verdict is answered where the output's text went out, and `Write` where a beginning of it did.

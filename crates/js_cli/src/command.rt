@@ -8,12 +8,12 @@ ghost use Rattle.js_output.specs.declared.fault.Fault.{Fault};
 ghost use Rattle.js_cli.specs.Words.{places, pairs_seen, request_of, request_seen, usage_line, words_of};
 ghost use Rattle.js_cli.specs.declared.words.Misuse.{Misuse};
 ghost use Rattle.js_cli.specs.declared.words.Task.{Task};
-ghost use Rattle.js_cli.specs.Answer.{RequestOutcome, WordsOutcome, Performs, IsTold, IsBegun};
+ghost use Rattle.js_cli.specs.Answer.{RequestOutcome, WordsOutcome, Performs, IsTold, IsBegun, all_passed};
 ghost use Rattle.js_cli.specs.Status.{fault_status, misuse_status};
 
 use crate::documents::{lent, take_all};
-use crate::words::{Check, Document, Misuse, PAIRS_USAGE, Task, USAGE, task_of};
-use js_output::{Fault, Sink, Source, refusal_line, run, run_pair, run_places};
+use crate::words::{Check, Document, Misuse, PAIRS_USAGE, Suite, Task, USAGE, task_of};
+use js_output::{Counts, Fault, Sink, Source, refusal_line, run, run_pair, run_places, run_suite};
 use std::alloc::Global;
 use std::io::{Read, Write};
 
@@ -151,7 +151,7 @@ fn perform<F: Files, R: Read, W: Write>(
     match task {
         Task::Pair => run_pair(alloc, input, out),
         Task::Check(check) => perform_check(alloc, &check, files, out),
-        Task::Suite(_suite) => Err(Fault::Memory),
+        Task::Suite(suite) => perform_suite(alloc, &suite, files, out),
         Task::Places(documents) => perform_places(alloc, documents.as_slice(), files, out),
     }
 }
@@ -179,6 +179,32 @@ fn perform_check<F: Files, W: Write>(
         check.format,
         out,
     )
+}
+
+fn perform_suite<F: Files, W: Write>(
+    alloc: Global,
+    suite: &Suite,
+    files: &mut F,
+    out: &mut Sink<W>,
+) -> Result<bool, Fault>
+    ensures answer { Performs
+        (RequestOutcome (F.held files.old) None (request_seen (Task.Suite suite.now)))
+        W.contents out.old out.new result }
+    ensures nothing { IfErr result (λ e. e ≢ Fault.Write → out.new ≡ out.old) }
+{
+    let held = take_all(alloc, suite.documents.as_slice(), files)?;
+    let docs = lent(alloc, held.as_slice())?;
+    let text = files.take(suite.file)?;
+    let mut text = Source::new(text.as_slice());
+    let counts = run_suite(alloc, docs.as_slice(), &mut text, out)?;
+    Ok(all_passed(&counts))
+}
+
+// No test of a suite failed, and none was skipped.
+fn all_passed(counts: &Counts) -> bool
+    ensures { result ≡ all_passed counts.now }
+{
+    counts.failed == 0 && counts.skipped == 0
 }
 
 fn perform_places<F: Files, W: Write>(

@@ -20,6 +20,8 @@ mod start;
 mod start_items;
 mod start_members;
 mod telling;
+#[cfg(test)]
+mod tests;
 mod walking;
 
 pub use into::{verdict, walk, walk_into};

@@ -2,8 +2,10 @@
 use Rattle.std.proofs.Common.{◌≡◌, ℕ, ◌<◌, ◌≤◌, List, [], ◌∷◌, ◌++◌, length, Option, Some, None, Result, Ok, Err, Bool, MatchBool, inl, inr, refl, sym, ap, ◌∙◌, subst, arith, length-append}
 use Rattle.std.proofs.lemmas.Bool.{lt-ltb, le-ltb}
 use Rattle.std.specs.Io.KnownBytes.{Consumes, IsAtEnd}
-use Rattle.js_doc.specs.Compact.{compact}
 use Rattle.js_doc.specs.Value.{Value}
+use Rattle.js_tree.specs.Form.{form, shown}
+use Rattle.js_tree.specs.declared.forms.Format.TheVariants.{Flag, Basic, Detailed, Verbose}
+use Rattle.js_eval.specs.Result.{ResultTree, IsWithinLimits}
 use Rattle.js_bundle.specs.Document as bundle
 use Rattle.js_bundle.specs.Resource.{Site}
 use Rattle.js_output.specs.Documents.{Documents, bundle_of}
@@ -11,14 +13,14 @@ use Rattle.js_output.specs.Entry.{place_named}
 use Rattle.js_output.specs.Cause.{Causes, IsClear, FailsBy}
 use Rattle.js_output.specs.Device.{Tracked, input_limit, IsLeft, Sends, SendsBeginning}
 use Rattle.js_output.specs.Input.{IsInputFault}
-use Rattle.js_output.specs.Outcome.{beginning_causes, Output, output_of, ValueOutcome, TextOutcome, InstanceOutcome, After, Outcome, Tells, Answers, IsEarlyOrMemory, IsReadOrEarly, IsLateOrMemory, IsShown, IsWalkFault, OutcomeOfTexts, PairOutcome, first_line_feed, text_before, text_after}
+use Rattle.js_output.specs.Outcome.{beginning_causes, Output, output_of, ValueOutcome, TextOutcome, InstanceOutcome, After, Outcome, Tells, Answers, IsLateOrMemory, IsResultOf, IsWalkFault, trimmed, OutcomeOfTexts, PairOutcome, first_line_feed, text_before, text_after}
 use Rattle.js_output.specs.declared.fault.Fault.{Fault}
 use Rattle.js_output.specs.declared.fault.Fault.TheVariants as fault
 use Rattle.js_tree.specs.declared.forms.Format.{Format}
 
 -- ---- the bytes that a source has left
 
-some_left : (left : Option (List ℕ)) → (bytes : List ℕ) × IsLeft left bytes
+pub some_left : (left : Option (List ℕ)) → (bytes : List ℕ) × IsLeft left bytes
 some_left None = ([], tt)
 some_left (Some bytes) = (bytes, refl)
 
@@ -31,7 +33,7 @@ left_all None new bytes h e = tt
 left_all (Some xs) None bytes h e = absurd h
 left_all (Some xs) (Some ys) bytes h e = h ∙ append-nil_is bytes ys e
 
-more_left : (old new : Option (List ℕ)) (taken : List ℕ) → input_limit < length taken → Consumes old new taken
+pub more_left : (old new : Option (List ℕ)) (taken : List ℕ) → input_limit < length taken → Consumes old new taken
     → (bytes : List ℕ) × IsLeft old bytes × (input_limit < length bytes)
 more_left None new taken more h = (taken, tt, more)
 more_left (Some xs) None taken more h = absurd h
@@ -50,18 +52,15 @@ tells-map P Q taken old new (Err e) f h = f (Err e) h
 -- ---- what is told of a value
 
 module _ (docs : bundle.Documents) (entry : Option Site) (v : Value) (format : Format) where
-  -- the form went out
-  pub tells-sent : {D : Type 0} (taken : D → Option (List ℕ)) (old new : Tracked D) (valid : Bool) (shown : Value)
-      → IsShown docs entry v format valid shown → Sends taken old new (compact shown ++ 10 ∷ []) → Tells (ValueOutcome docs entry v format) taken old new (Ok valid)
-  tells-sent taken old new valid shown (t, is, stands, e, f) sent =
-      (output_of format t, (t, is, stands, refl), sym e, subst (λ s. Sends taken old new (compact s ++ 10 ∷ [])) f sent)
+  module _ (t : ResultTree) (is : IsResultOf docs entry v t) (stands : IsWithinLimits t) {D : Type 0} (taken : D → Option (List ℕ)) (old new : Tracked D) where
+    -- the form went out
+    pub tells-sent : (valid : Bool) → valid ≡ t.root.valid → Sends taken old new (output_of format t).text → Tells (ValueOutcome docs entry v format) taken old new (Ok valid)
+    tells-sent valid e sent = (output_of format t, (t, is, stands, refl), sym e, sent)
 
-  -- the sink failed
-  pub tells-begun : {D : Type 0} (taken : D → Option (List ℕ)) (old new : Tracked D) (valid : Bool) (shown : Value) (e : Fault)
-      → IsShown docs entry v format valid shown → (e ≡ fault.Write) × SendsBeginning taken old new (compact shown ++ 10 ∷ []) → Tells (ValueOutcome docs entry v format) taken old new (Err e)
-  tells-begun taken old new valid shown e (t, is, stands, d, f) (write, begun) =
-      subst (λ e. Tells (ValueOutcome docs entry v format) taken old new (Err e)) (sym write)
-      (output_of format t, (t, is, stands, refl), subst (λ s. SendsBeginning taken old new (compact s ++ 10 ∷ [])) f begun)
+    -- the sink failed
+    pub tells-begun : (e : Fault) → (e ≡ fault.Write) × SendsBeginning taken old new (output_of format t).text → Tells (ValueOutcome docs entry v format) taken old new (Err e)
+    tells-begun e (write, begun) =
+        subst (λ e. Tells (ValueOutcome docs entry v format) taken old new (Err e)) (sym write) (output_of format t, (t, is, stands, refl), begun)
 
   -- there is none
   pub tells-fault : {D : Type 0} (taken : D → Option (List ℕ)) (old new : Tracked D) (e : Fault)
@@ -69,6 +68,19 @@ module _ (docs : bundle.Documents) (entry : Option Site) (v : Value) (format : F
   tells-fault taken old new fault.Memory h = tt
   tells-fault taken old new fault.TooLarge h = (refl, h)
   tells-fault taken old new _ h = absurd h
+
+-- of what is left of it the format shows its form, and the same verdict
+pub shown-trimmed : (format : Format) (t : ResultTree) → shown format (trimmed format t) ≡ form format t
+shown-trimmed Flag t = refl
+shown-trimmed Basic t = refl
+shown-trimmed Detailed t = refl
+shown-trimmed Verbose t = refl
+
+pub root-trimmed : (format : Format) (t : ResultTree) → (trimmed format t).root ≡ t.root
+root-trimmed Flag t = refl
+root-trimmed Basic t = refl
+root-trimmed Detailed t = refl
+root-trimmed Verbose t = refl
 
 pub walk-late : (docs : bundle.Documents) (entry : Option Site) (v : Value) (e : Fault) → IsWalkFault docs entry v e → IsLateOrMemory e
 walk-late docs entry v fault.Memory h = tt
@@ -150,11 +162,6 @@ module _ (docs : Documents) (uri : List ℕ) (format : Format) (kept : bundle.Do
   texts-late instance taken old new answer few h =
       tells-map (TextOutcome kept entry format instance) (Outcome docs uri format instance) taken old new answer
       (λ outcome told. outcome-late instance outcome (on_small kept entry format instance few outcome told)) h
-
-pub early-read_or_early : (e : Fault) → IsEarlyOrMemory e → IsReadOrEarly (Err e)
-early-read_or_early fault.Memory h = tt
-early-read_or_early fault.Read h = absurd h
-early-read_or_early f h = h
 
 -- ---- a pair
 

@@ -6,13 +6,14 @@ use Rattle.std.proofs.lemmas.List.{drop_all}
 use Rattle.url.specs.Parts.{Parts}
 use Rattle.url.specs.Parser.{Parsed, parse_url}
 use Rattle.js_doc.specs.Pointer.{Tokens}
+use Rattle.js_doc.specs.Value.{Value}
 use Rattle.js_doc.specs.declared.reading.ReadFault.TheVariants as read
 use Rattle.js_bundle.specs.declared.refusal.Refusal.{Refusal}
 use Rattle.js_bundle.specs.declared.refusal.RefusalKind.{RefusalKind}
 use Rattle.js_bundle.specs.declared.refusal.RefusalKind.TheVariants as kind
 use Rattle.js_bundle.specs.declared.refusal.EntryFault.{EntryFault}
 use Rattle.js_bundle.specs.declared.refusal.EntryFault.TheVariants as entry_fault
-use Rattle.js_bundle.specs.Adding.{most_documents, IsUriOf, IsBad, IsTaken, IsAdded, IsKind, IsRefusedBy}
+use Rattle.js_bundle.specs.Adding.{most_documents, IsUriOf, IsBad, IsTaken, IsAdded, IsKind, IsRefusedBy, IsAddedAs, IsUriKind, IsUriRefusedBy}
 use Rattle.js_bundle.specs.Candidate.{Candidate}
 use Rattle.js_bundle.specs.Candidate as candidate
 use Rattle.js_bundle.specs.Document.{Document}
@@ -21,12 +22,12 @@ use Rattle.js_bundle.specs.Refusals.{candidates, is_empty, IsRefusalOf}
 use Rattle.js_bundle.specs.Schemas.{IsEntryFault, IsBadEntry, IsReadEntry}
 use Rattle.js_bundle.specs.Url.{longest_uri, without_fragment, raw_fragment, parsed}
 use Rattle.js_output.specs.Cause.{Causes, cause, IsClear, IsFirst, FailsBy, Leads}
-use Rattle.js_output.specs.Documents.{Documents, documents_of, documents_causes, unfragmented, document_uri, document_under, taken, bundle_of, refused, text_causes, document_causes, adding_causes, cause_of, bundle_causes, fault_by}
+use Rattle.js_output.specs.Documents.{Documents, documents_of, unfragmented, document_uri, document_under, taken, bundle_of, refused, text_causes, uri_causes, document_causes, adding_causes, cause_of, bundle_causes, fault_by}
 use Rattle.js_output.specs.Entry.{is_uri_read, entry_causes, entry_fault_of}
 use Rattle.js_output.specs.Reading.{reading, reading-ok, reading-err}
 use Rattle.js_output.specs.declared.fault.Fault.{Fault}
 use Rattle.js_output.specs.declared.fault.Fault.TheVariants as fault
-use Rattle.js_output.proofs.CauseLists.{clear-append, fails-append, fails-later, leads_itself, leads_past, leads_stop, clear_past, first_here, first_past}
+use Rattle.js_output.proofs.CauseLists.{clear-append, first-append, first-later, leads_itself, leads_past, leads_stop, clear_past, first_here, first_past}
 
 -- ---- a document's URI
 
@@ -46,14 +47,37 @@ bad_is : (p : Parsed Parts) → IsBad p → is_none (option_and_then unfragmente
 bad_is (Ok uri) h = ap (λ b. is_none (if b then Some (without_fragment uri) else None)) (not_empty_is (raw_fragment uri) h)
 bad_is (Err e) h = refl
 
+-- it is taken beside so many others
+pub uri_clear : (held : ℕ) (uri : List ℕ) (under : Parts) → held < most_documents → length uri ≤ longest_uri → IsUriOf uri under → IsClear (uri_causes held uri)
+uri_clear held uri under room short is =
+    clear_past _ (refused held kind.TooManyDocuments) _ (lt-leb most_documents held room)
+    (clear_past _ (refused held kind.UriTooLong) _ (le-ltb longest_uri (length uri) short)
+    (subst (λ b. IsClear (cause b (refused held kind.BadUri))) (sym (ap is_none (uri_is uri under is))) tt))
+
+-- it isn't
+pub uri_refused : (held : ℕ) (uri : List ℕ) (place : Tokens) (k : RefusalKind) → IsUriKind held uri place k
+    → FailsBy (uri_causes held uri) (fault_by k (record { document = held; place = place; kind = k }))
+uri_refused held uri place kind.Memory h = tt
+uri_refused held uri place kind.TooManyDocuments (root, full) =
+    subst (λ p. FailsBy (uri_causes held uri) (fault.Refused (record { document = held; place = p; kind = kind.TooManyDocuments }))) (sym root)
+    (first_here _ (refused held kind.TooManyDocuments) _ (le-leb most_documents held full))
+uri_refused held uri place kind.UriTooLong (root, room, long) =
+    subst (λ p. FailsBy (uri_causes held uri) (fault.Refused (record { document = held; place = p; kind = kind.UriTooLong }))) (sym root)
+    (first_past _ (refused held kind.TooManyDocuments) _ (refused held kind.UriTooLong) (lt-leb most_documents held room)
+    (first_here _ (refused held kind.UriTooLong) _ (lt-ltb longest_uri (length uri) long)))
+uri_refused held uri place kind.BadUri (root, room, short, bad) =
+    subst (λ p. FailsBy (uri_causes held uri) (fault.Refused (record { document = held; place = p; kind = kind.BadUri }))) (sym root)
+    (first_past _ (refused held kind.TooManyDocuments) _ (refused held kind.BadUri) (lt-leb most_documents held room)
+    (first_past _ (refused held kind.UriTooLong) _ (refused held kind.BadUri) (le-ltb longest_uri (length uri) short)
+    (subst (λ b. IsFirst (cause b (refused held kind.BadUri)) (refused held kind.BadUri)) (sym (bad_is (parse_url None uri) bad)) (inl refl))))
+uri_refused held uri place _ h = absurd h
+
 -- ---- a document is added
 
 pub taken_clear : (held : ℕ) (uri bytes : List ℕ) (d : Document) → IsTaken held uri bytes d → IsClear (document_causes held (uri, bytes))
 taken_clear held uri bytes d t =
-    clear_past _ (refused held kind.TooManyDocuments) _ (lt-leb most_documents held t.room)
-    (clear_past _ (refused held kind.UriTooLong) _ (le-ltb longest_uri (length uri) t.short)
-    (clear_past _ (refused held kind.BadUri) (text_causes held (reading bytes)) (ap is_none (uri_is uri d.uri t.under))
-    (subst (λ r. IsClear (text_causes held r)) (sym (reading-ok bytes d.root t.read)) tt)))
+    clear-append (uri_causes held uri) (text_causes held (reading bytes)) (uri_clear held uri d.uri t.room t.short t.under)
+    (subst (λ r. IsClear (text_causes held r)) (sym (reading-ok bytes d.root t.read)) tt)
 
 pub taken_is : (held : ℕ) (uri bytes : List ℕ) (d : Document) → IsTaken held uri bytes d → taken (uri, bytes) ≡ Some d
 taken_is held uri bytes d t = ap (λ u. document_under u (reading bytes)) (uri_is uri d.uri t.under) ∙ ap (document_under (Some d.uri)) (reading-ok bytes d.root t.read)
@@ -63,36 +87,35 @@ taken_is held uri bytes d t = ap (λ u. document_under u (reading bytes)) (uri_i
 refused_by : (held : ℕ) (uri bytes : List ℕ) (place : Tokens) (k : RefusalKind) → IsKind held uri bytes place k
     → FailsBy (document_causes held (uri, bytes)) (fault_by k (record { document = held; place = place; kind = k }))
 refused_by held uri bytes place kind.Memory h = tt
-refused_by held uri bytes place kind.TooManyDocuments (root, full) =
-    subst (λ p. FailsBy (document_causes held (uri, bytes)) (fault.Refused (record { document = held; place = p; kind = kind.TooManyDocuments }))) (sym root)
-    (first_here _ (refused held kind.TooManyDocuments) _ (le-leb most_documents held full))
-refused_by held uri bytes place kind.UriTooLong (root, room, long) =
-    subst (λ p. FailsBy (document_causes held (uri, bytes)) (fault.Refused (record { document = held; place = p; kind = kind.UriTooLong }))) (sym root)
-    (first_past _ (refused held kind.TooManyDocuments) _ (refused held kind.UriTooLong) (lt-leb most_documents held room)
-    (first_here _ (refused held kind.UriTooLong) _ (lt-ltb longest_uri (length uri) long)))
-refused_by held uri bytes place kind.BadUri (root, room, short, bad) =
-    subst (λ p. FailsBy (document_causes held (uri, bytes)) (fault.Refused (record { document = held; place = p; kind = kind.BadUri }))) (sym root)
-    (first_past _ (refused held kind.TooManyDocuments) _ (refused held kind.BadUri) (lt-leb most_documents held room)
-    (first_past _ (refused held kind.UriTooLong) _ (refused held kind.BadUri) (le-ltb longest_uri (length uri) short)
-    (first_here _ (refused held kind.BadUri) (text_causes held (reading bytes)) (bad_is (parse_url None uri) bad))))
+refused_by held uri bytes place kind.TooManyDocuments h =
+    first-append (uri_causes held uri) (text_causes held (reading bytes)) _ (uri_refused held uri place kind.TooManyDocuments h)
+refused_by held uri bytes place kind.UriTooLong h = first-append (uri_causes held uri) (text_causes held (reading bytes)) _ (uri_refused held uri place kind.UriTooLong h)
+refused_by held uri bytes place kind.BadUri h = first-append (uri_causes held uri) (text_causes held (reading bytes)) _ (uri_refused held uri place kind.BadUri h)
 refused_by held uri bytes place kind.NotJson (root, room, short, (u, under), f) =
     subst (λ p. FailsBy (document_causes held (uri, bytes)) (fault.Refused (record { document = held; place = p; kind = kind.NotJson }))) (sym root)
-    (first_past _ (refused held kind.TooManyDocuments) _ (refused held kind.NotJson) (lt-leb most_documents held room)
-    (first_past _ (refused held kind.UriTooLong) _ (refused held kind.NotJson) (le-ltb longest_uri (length uri) short)
-    (first_past _ (refused held kind.BadUri) (text_causes held (reading bytes)) (refused held kind.NotJson) (ap is_none (uri_is uri u under))
-    (subst (λ r. IsFirst (text_causes held r) (refused held kind.NotJson)) (sym (reading-err bytes read.NotJson f)) (inl refl)))))
+    (first-later (uri_causes held uri) (text_causes held (reading bytes)) (refused held kind.NotJson) (uri_clear held uri u room short under)
+    (subst (λ r. IsFirst (text_causes held r) (refused held kind.NotJson)) (sym (reading-err bytes read.NotJson f)) (inl refl)))
 refused_by held uri bytes place kind.NotWhole (room, short, (u, under), f) =
     let is : Fault = fault.Refused (record { document = held; place = place; kind = kind.NotWhole }) in
-    first_past _ (refused held kind.TooManyDocuments) _ is (lt-leb most_documents held room)
-    (first_past _ (refused held kind.UriTooLong) _ is (le-ltb longest_uri (length uri) short)
-    (first_past _ (refused held kind.BadUri) (text_causes held (reading bytes)) is (ap is_none (uri_is uri u under))
-    (subst (λ r. IsFirst (text_causes held r) is) (sym (reading-err bytes (read.NotWhole place) f)) (inl refl))))
+    first-later (uri_causes held uri) (text_causes held (reading bytes)) is (uri_clear held uri u room short under)
+    (subst (λ r. IsFirst (text_causes held r) is) (sym (reading-err bytes (read.NotWhole place) f)) (inl refl))
 refused_by held uri bytes place _ h = absurd h
 
 pub add_fails : (held : ℕ) (uri bytes : List ℕ) (r : Refusal) → IsRefusedBy held uri bytes r → FailsBy (document_causes held (uri, bytes)) (fault_by r.kind r)
 add_fails held uri bytes r (number, is) =
     subst (λ n. FailsBy (document_causes held (uri, bytes)) (fault_by r.kind (record { document = n; place = r.place; kind = r.kind }))) (sym number)
     (refused_by held uri bytes r.place r.kind is)
+
+-- ---- a value is added
+
+pub added_as : (old : bundle.Documents) (uri : List ℕ) (root : Value) (new : bundle.Documents) → IsAddedAs old uri root new
+    → IsClear (uri_causes (length old) uri) × (new ≡ old ++ option_to_list (document_under (document_uri uri) (Ok root)))
+added_as old uri root new (under, u, is) =
+    (uri_clear (length old) uri under u.room u.short u.is, is ∙ ap (λ p. old ++ option_to_list (document_under p (Ok root))) (sym (uri_is uri under u.is)))
+
+pub add_doc_fails : (held : ℕ) (uri : List ℕ) (r : Refusal) → IsUriRefusedBy held uri r → FailsBy (uri_causes held uri) (fault_by r.kind r)
+add_doc_fails held uri r (number, is) =
+    subst (λ n. FailsBy (uri_causes held uri) (fault_by r.kind (record { document = n; place = r.place; kind = r.kind }))) (sym number) (uri_refused held uri r.place r.kind is)
 
 -- ---- documents one after another
 
@@ -136,31 +159,20 @@ one_taken held new n docs d within t added =
     }
 
 pub one_refused : (held : bundle.Documents) (n : ℕ) (docs : Lent) (d : Bor (List ℕ) × Bor (List ℕ)) (e : Fault) → n < length docs → AreTaken held n docs
-    → FailsBy (document_causes (length held) ((get_or docs n d).0.now, (get_or docs n d).1.now)) e → FailsBy (documents_causes (documents_of docs)) e
+    → FailsBy (document_causes (length held) ((get_or docs n d).0.now, (get_or docs n d).1.now)) e → FailsBy (adding_causes 0 (documents_of docs)) e
 one_refused held n docs d e within t h =
     let at : List ℕ × List ℕ = ((get_or docs n d).0.now, (get_or docs n d).1.now) in
     let whole = adding_causes 0 (documents_of docs) in
     let l = subst (λ ds. Leads whole (adding_causes n (documents_of ds))) (drop_more docs n d within) t.leads in
-    fails-append whole (bundle_causes (bundle_of (documents_of docs))) e
-    (leads_stop whole (document_causes n at) (adding_causes (n + 1) (documents_of (drop (n + 1) docs))) e l (subst (λ m. FailsBy (document_causes m at) e) t.many h))
+    leads_stop whole (document_causes n at) (adding_causes (n + 1) (documents_of (drop (n + 1) docs))) e l (subst (λ m. FailsBy (document_causes m at) e) t.many h)
 
-taken_clear_all : (held : bundle.Documents) (n : ℕ) (docs : Lent) → length docs ≤ n → AreTaken held n docs → IsClear (adding_causes 0 (documents_of docs))
+pub taken_clear_all : (held : bundle.Documents) (n : ℕ) (docs : Lent) → length docs ≤ n → AreTaken held n docs → IsClear (adding_causes 0 (documents_of docs))
 taken_clear_all held n docs end t =
     let l = subst (λ ds. Leads (adding_causes 0 (documents_of docs)) (adding_causes n (documents_of ds))) (drop_all n docs end) t.leads in l.clear tt
 
 pub taken_all : (held : bundle.Documents) (n : ℕ) (docs : Lent) → length docs ≤ n → AreTaken held n docs → held ≡ bundle_of (documents_of docs)
 taken_all held n docs end t =
     sym (append-nil held) ∙ subst (λ ds. held ++ bundle_of (documents_of ds) ≡ bundle_of (documents_of docs)) (drop_all n docs end) t.all
-
-pub finished_clear : (held : bundle.Documents) (n : ℕ) (docs : Lent) → length docs ≤ n → AreTaken held n docs → IsClear (bundle_causes held) → IsClear (documents_causes (documents_of docs))
-finished_clear held n docs end t h =
-    clear-append (adding_causes 0 (documents_of docs)) (bundle_causes (bundle_of (documents_of docs))) (taken_clear_all held n docs end t)
-    (subst (λ ds. IsClear (bundle_causes ds)) (taken_all held n docs end t) h)
-
-pub finished_fails : (held : bundle.Documents) (n : ℕ) (docs : Lent) (e : Fault) → length docs ≤ n → AreTaken held n docs → FailsBy (bundle_causes held) e → FailsBy (documents_causes (documents_of docs)) e
-finished_fails held n docs e end t h =
-    fails-later (adding_causes 0 (documents_of docs)) (bundle_causes (bundle_of (documents_of docs))) e (taken_clear_all held n docs end t)
-    (subst (λ ds. FailsBy (bundle_causes ds) e) (taken_all held n docs end t) h)
 
 -- ---- all of them
 

@@ -9,18 +9,15 @@ use Rattle.js_bundle.specs.Location.{absolute}
 use Rattle.js_bundle.specs.Resource.{Site, sites}
 use Rattle.js_bundle.specs.Schemas.{is_place, place_at, place_numbers, StandsFor}
 use Rattle.js_doc.specs.Value.{Value}
-use Rattle.js_tree.specs.Form.{form, flag}
-use Rattle.js_tree.specs.declared.forms.Format.{Format}
-use Rattle.js_tree.specs.declared.forms.Format.TheVariants.{Flag}
 use Rattle.js_eval.specs.Bundle.{schemas_of}
 use Rattle.js_eval.specs.Location.{at_root}
 use Rattle.js_eval.specs.Result.{ResultTree, IsResult}
 use Rattle.js_eval.specs.Sited.{site_at, nowhere}
-use Rattle.js_eval.specs.Walked.{OnTooLarge, IsResultThere, IsResultWithin, IsVerdict}
+use Rattle.js_eval.specs.Walked.{OnTooLarge, IsResultThere, IsVerdict}
 use Rattle.js_eval.specs.Walked.{NoneStands as NoneStandsThere}
 use Rattle.js_eval.specs.declared.walking.fault.WalkFault.{WalkFault}
 use Rattle.js_eval.specs.declared.walking.fault.WalkFault.TheVariants as walk_fault
-use Rattle.js_output.specs.Outcome.{IsResultOf, NoneStands, IsShown, IsWalkFault, walk_fault_of}
+use Rattle.js_output.specs.Outcome.{IsResultOf, NoneStands, IsJudged, IsWalkFault, walk_fault_of}
 use Rattle.js_output.specs.Places.{lines_of}
 
 -- ---- the entry
@@ -98,13 +95,9 @@ module _ (docs : Documents) (n : ℕ) (v : Value) (there : is_place docs n ≡ t
       let is : r.place ≡ site_at docs n = some_is r.place (site_at docs n) (sym r.is_entry ∙ site_there docs n there) in
       none t (subst (λ s. IsResult (schemas_of docs) [] s at_root v t) is r.is_result) stands
 
-  -- the form of the result
-  pub shown-there : (format : Format) (t : ResultTree) → IsResultWithin docs n v t → IsShown docs (place_at docs n) v format t.root.valid (form format t)
-  shown-there format t w = (t, result-there t w.is, w.stands, refl, refl)
-
   -- its verdict alone
-  pub judged-there : (valid : Bool) → IsVerdict docs n v valid → IsShown docs (place_at docs n) v Flag valid (flag valid)
-  judged-there valid h = (h.result, result-there h.result h.within.is, h.within.stands, h.verdict, ap flag h.verdict)
+  pub judged-there : (valid : Bool) → IsVerdict docs n v valid → IsJudged docs (place_at docs n) v valid
+  judged-there valid h = (h.result, result-there h.result h.within.is, h.within.stands, h.verdict)
 
   pub fault-there : (e : WalkFault) → OnTooLarge e (NoneStandsThere docs n v) → IsWalkFault docs (place_at docs n) v (walk_fault_of e)
   fault-there walk_fault.Memory h = tt

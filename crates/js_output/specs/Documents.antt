@@ -58,12 +58,15 @@ abbrev pub text_causes : ℕ → Result Value ReadFault → Causes
 text_causes held (Ok v) = []
 text_causes held (Err e) = cause true (fault.Refused (refusal_of_read held e))
 
-abbrev pub document_causes : ℕ → List ℕ × List ℕ → Causes
-document_causes held d =
+-- by its URI
+abbrev pub uri_causes : ℕ → List ℕ → Causes
+uri_causes held uri =
     cause (nat_le most_documents held) (refused held kind.TooManyDocuments)
-    ++ (cause (nat_lt longest_uri (length d.0)) (refused held kind.UriTooLong)
-    ++ (cause (is_none (document_uri d.0)) (refused held kind.BadUri)
-    ++ text_causes held (reading d.1)))
+    ++ (cause (nat_lt longest_uri (length uri)) (refused held kind.UriTooLong)
+    ++ cause (is_none (document_uri uri)) (refused held kind.BadUri))
+
+abbrev pub document_causes : ℕ → List ℕ × List ℕ → Causes
+document_causes held d = uri_causes held d.0 ++ text_causes held (reading d.1)
 
 -- ---- what is refused of all
 

@@ -7,4 +7,8 @@ pub mod Documents
 pub mod Entry
 pub mod Outcome
 pub mod Places
+pub mod SuiteText
+pub mod SuiteLines
+pub mod Suite
+pub mod SuiteJudging
 pub mod Headline

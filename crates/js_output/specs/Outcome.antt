@@ -4,9 +4,12 @@ use Rattle.std.specs.Prelude.{◌≡◌, ℕ, List, [], ◌∷◌, ◌++◌, len
 use Rattle.js_doc.specs.Compact.{compact}
 use Rattle.js_doc.specs.Value.{Value}
 use Rattle.js_doc.specs.declared.reading.ReadFault.{ReadFault}
+use Rattle.js_tree.specs.FlatState.{state_of, whole}
 use Rattle.js_tree.specs.Form.{form}
+use Rattle.js_tree.specs.Result.{pruned, kept}
+use Rattle.js_tree.specs.declared.flat.Flat.{Flat}
 use Rattle.js_tree.specs.declared.forms.Format.{Format}
-use Rattle.js_tree.specs.declared.forms.Format.TheVariants.{Flag}
+use Rattle.js_tree.specs.declared.forms.Format.TheVariants.{Flag, Basic, Detailed, Verbose}
 use Rattle.js_bundle.specs.Document as bundle
 use Rattle.js_bundle.specs.Resource.{Site}
 use Rattle.js_eval.specs.Bundle.{schemas_of}
@@ -135,7 +138,7 @@ Answers Expected before left taken old new (Err fault.Read) = IsClear before
 Answers Expected before left taken old new answer = (bytes : List ℕ) × IsLeft left bytes × Tells (Expected bytes) taken old new answer
 
 -- where the source stands failed: its fault, unless another came before it was needed, or memory failed
-abbrev pub IsReadOrEarly : Result Bool Fault → Type 0
+abbrev pub IsReadOrEarly : {A : Type 0} → Result A Fault → Type 0
 IsReadOrEarly (Err fault.Memory) = ⊤
 IsReadOrEarly (Err fault.Read) = ⊤
 IsReadOrEarly (Err f) = IsEarly f
@@ -151,10 +154,21 @@ IsLateOrMemory _ = ⊥
 
 -- ---- words for the parts
 
--- the verdict and the value that a format tells of the result within the limits
-abbrev pub IsShown : bundle.Documents → Option Site → Value → Format → Bool → Value → Type 0
-IsShown documents entry v format valid shown =
-    (t : ResultTree) × IsResultOf documents entry v t × IsWithinLimits t × (valid ≡ t.root.valid) × (shown ≡ form format t)
+-- this is the verdict of the result within the limits
+abbrev pub IsJudged : bundle.Documents → Option Site → Value → Bool → Type 0
+IsJudged documents entry v valid = (t : ResultTree) × IsResultOf documents entry v t × IsWithinLimits t × (valid ≡ t.root.valid)
+
+-- the tree that a format shows
+abbrev pub trimmed : Format → ResultTree → ResultTree
+trimmed Flag t = t
+trimmed Basic t = pruned t
+trimmed Detailed t = kept (pruned t)
+trimmed Verbose t = t
+
+-- the rows are those of what the format shows of the result within the limits
+abbrev pub AreRows : bundle.Documents → Option Site → Value → Format → Flat → Type 0
+AreRows documents entry v format flat =
+    (t : ResultTree) × IsResultOf documents entry v t × IsWithinLimits t × (state_of flat ≡ whole (trimmed format t))
 
 -- why there is none: none stands within them, or want of memory
 abbrev pub IsWalkFault : bundle.Documents → Option Site → Value → Fault → Type 0

@@ -2,7 +2,7 @@
 ghost use Rattle.std.specs.Prelude.{◌≡◌, length, OnOk, IfOk, IfErr};
 ghost use Rattle.js_bundle.specs.Adding.{IsAdded};
 ghost use Rattle.js_output.specs.Cause.{IsClear, FailsBy};
-ghost use Rattle.js_output.specs.Documents.{documents_of, bundle_of, document_causes, bundle_causes, documents_causes};
+ghost use Rattle.js_output.specs.Documents.{documents_of, bundle_of, document_causes, adding_causes, bundle_causes, documents_causes};
 ghost use Rattle.js_output.specs.Outcome.{IsEarlyOrMemory};
 
 use crate::fault::Fault;
@@ -16,11 +16,22 @@ pub(crate) fn finished(alloc: Global, docs: &[(&str, &[u8])]) -> Result<Schemas,
     ensures err { IfErr result (FailsBy (documents_causes (documents_of docs.now))) }
     ensures early { IfErr result IsEarlyOrMemory }
 {
+    let bundle = bundled(alloc, docs)?;
+    finish_bundle(alloc, bundle)
+}
+
+/// The documents, taken in, or the first refusal of one.
+pub(crate) fn bundled(alloc: Global, docs: &[(&str, &[u8])]) -> Result<Bundle, Fault>
+    ensures ok { IfOk result (λ b. b ≡ bundle_of (documents_of docs.now)) }
+    ensures clear { OnOk result (IsClear (adding_causes 0 (documents_of docs.now))) }
+    ensures err { IfErr result (FailsBy (adding_causes 0 (documents_of docs.now))) }
+    ensures early { IfErr result IsEarlyOrMemory }
+{
     let mut bundle = Bundle::new(alloc);
     for document in docs {
         add(&mut bundle, document.0, document.1)?;
     }
-    finish(alloc, bundle)
+    Ok(bundle)
 }
 
 fn add(bundle: &mut Bundle, uri: &str, bytes: &[u8]) -> Result<(), Fault>
@@ -33,7 +44,8 @@ fn add(bundle: &mut Bundle, uri: &str, bytes: &[u8]) -> Result<(), Fault>
     Ok(())
 }
 
-fn finish(alloc: Global, bundle: Bundle) -> Result<Schemas, Fault>
+/// The schemas of what was taken in, or the first refusal.
+pub(crate) fn finish_bundle(alloc: Global, bundle: Bundle) -> Result<Schemas, Fault>
     ensures ok { IfOk result (λ s. s ≡ bundle) }
     ensures clear { OnOk result (IsClear (bundle_causes bundle)) }
     ensures err { IfErr result (FailsBy (bundle_causes bundle)) }

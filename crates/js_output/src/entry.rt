@@ -31,7 +31,8 @@ pub(crate) fn entry_of(alloc: Global, docs: &[(&str, &[u8])], uri: &str) -> Resu
     Ok(Entry { schemas, place })
 }
 
-fn place_named(alloc: Global, schemas: &Schemas, uri: &str) -> Result<Place, Fault>
+/// The place that the URI names.
+pub(crate) fn place_named(alloc: Global, schemas: &Schemas, uri: &str) -> Result<Place, Fault>
     ensures there { IfOk result (λ p. is_place schemas.now p ≡ true) }
     ensures named { IfOk result (λ p. place_at schemas.now p ≡ place_named schemas.now uri.now) }
     ensures clear { OnOk result (IsClear (entry_causes schemas.now uri.now)) }

@@ -9,9 +9,14 @@ pub mod laws;
 mod line;
 mod pair;
 mod places;
+mod rows;
 mod running;
 mod sink;
 mod source;
+mod suite;
+mod suite_judging;
+mod suite_lines;
+mod suite_text;
 mod telling;
 mod text;
 mod writing;
@@ -26,6 +31,8 @@ pub use places::run_places;
 pub use running::run;
 pub use sink::Sink;
 pub use source::Source;
+pub use suite::run_suite;
+pub use suite_lines::Counts;
 
 #[cfg(test)]
 mod fakes;

@@ -1,19 +1,19 @@
 //! From the instance's text to what is answered and written.
 ghost use Rattle.std.specs.Prelude.{◌≡◌, ◌≢◌, true, IfErr, IfOk};
 ghost use Rattle.js_doc.specs.Seen.{value_of};
-ghost use Rattle.js_tree.specs.Form.{flag};
 ghost use Rattle.js_tree.specs.declared.forms.Format.TheVariants.{Flag};
 ghost use Rattle.js_bundle.specs.Schemas.{is_place, place_at};
-ghost use Rattle.js_output.specs.Outcome.{ValueOutcome, TextOutcome, Tells, IsLateOrMemory, IsShown, IsWalkFault};
+ghost use Rattle.js_output.specs.Outcome.{ValueOutcome, TextOutcome, Tells, IsLateOrMemory, IsJudged, IsWalkFault};
 
 use crate::entry::Entry;
 use crate::fault::Fault;
+use crate::rows::{is_valid, rows_of};
 use crate::sink::Sink;
 use crate::text::value_from;
-use crate::writing::{write_doc, write_flag};
+use crate::writing::{write_flag, write_rows};
 use js_doc::{Doc, ReadFault};
-use js_eval::{verdict, walk};
-use js_tree::{Format, Tree, form};
+use js_eval::verdict;
+use js_tree::Format;
 use std::alloc::Global;
 use std::io::Write;
 
@@ -82,7 +82,7 @@ fn tell_verdict<W: Write>(
     Ok(valid)
 }
 
-// The whole form is made before a byte goes out.
+// All that takes memory is done before a byte goes out.
 fn tell_form<W: Write>(
     alloc: Global,
     entry: &Entry,
@@ -98,45 +98,18 @@ fn tell_form<W: Write>(
     ensures nothing { IfErr result (λ e. e ≢ Fault.Write → out.new ≡ out.old) }
     ensures sink_stays { out.old.failed ≡ true → out.new ≡ out.old }
 {
-    let shown = form_of(alloc, entry, format, instance)?;
-    write_doc(&shown.doc, out)?;
-    Ok(shown.valid)
+    let flat = rows_of(alloc, entry, format, instance)?;
+    let valid = is_valid(&flat);
+    write_rows(&flat, format, out)?;
+    Ok(valid)
 }
 
 fn verdict_of(alloc: Global, entry: &Entry, instance: &Doc) -> Result<bool, Fault>
     requires { is_place entry.now.schemas entry.now.place ≡ true }
-    ensures shown { IfOk result (λ valid. IsShown entry.now.schemas
-        (place_at entry.now.schemas entry.now.place) (value_of instance.now) Flag valid
-        (flag valid)) }
+    ensures judged { IfOk result (IsJudged entry.now.schemas
+        (place_at entry.now.schemas entry.now.place) (value_of instance.now)) }
     ensures fault { IfErr result (IsWalkFault entry.now.schemas
         (place_at entry.now.schemas entry.now.place) (value_of instance.now)) }
 {
     Ok(verdict(alloc, &entry.schemas, entry.place, instance)?)
-}
-
-// A verdict, and the form that tells it.
-#[derive(Drop)]
-struct Shown {
-    valid: bool,
-    doc: Doc,
-}
-
-fn form_of(alloc: Global, entry: &Entry, format: Format, instance: &Doc) -> Result<Shown, Fault>
-    requires { is_place entry.now.schemas entry.now.place ≡ true }
-    ensures shown { IfOk result (λ s. IsShown entry.now.schemas
-        (place_at entry.now.schemas entry.now.place) (value_of instance.now) format s.valid
-        (value_of s.doc)) }
-    ensures fault { IfErr result (IsWalkFault entry.now.schemas
-        (place_at entry.now.schemas entry.now.place) (value_of instance.now)) }
-{
-    let tree = walk(alloc, &entry.schemas, entry.place, instance)?;
-    let valid = is_valid(&tree);
-    let doc = form(alloc, tree, format)?;
-    Ok(Shown { valid, doc })
-}
-
-fn is_valid(tree: &Tree) -> bool
-    ensures { result ≡ tree.now.root.valid }
-{
-    tree.unit.valid
 }

@@ -2,14 +2,15 @@
 ghost use Rattle.std.specs.Prelude.{◌≡◌, ◌∷◌, ◌++◌, [], true};
 ghost use Rattle.js_doc.specs.BytesOut.{Puts};
 ghost use Rattle.js_doc.specs.Compact.{compact};
-ghost use Rattle.js_doc.specs.Seen.{value_of};
-ghost use Rattle.js_tree.specs.Form.{flag};
+ghost use Rattle.js_tree.specs.FlatState.{IsWhole, state_of, whole};
+ghost use Rattle.js_tree.specs.Form.{flag, shown};
+ghost use Rattle.js_tree.specs.Result.{ResultTree};
 ghost use Rattle.js_output.specs.Device.{SendsOrFails};
 
 use crate::fault::Fault;
 use crate::sink::Sink;
-use js_doc::{Doc, Out, Stopped, put_text};
-use js_tree::put_flag;
+use js_doc::{Out, Stopped};
+use js_tree::{Flat, Format, put_flag, put_flat};
 use std::io::Write;
 
 /// Writes what the flag format tells of a verdict (JSON Schema Core, section 12.4.1), and a line
@@ -26,16 +27,22 @@ pub(crate) fn write_flag<W: Write>(valid: bool, out: &mut Sink<W>) -> Result<(),
     Ok(())
 }
 
-/// Writes the compact text of the value, and a line feed. It takes no memory.
-pub(crate) fn write_doc<W: Write>(doc: &Doc, out: &mut Sink<W>) -> Result<(), Fault>
-    ensures sent { SendsOrFails W.contents out.old out.new (compact (value_of doc.now) ++ 10 ∷ [])
-        result }
+/// Writes the compact text of what the format shows of the rows' tree, and a line feed. It takes no
+/// memory.
+pub(crate) fn write_rows<W: Write>(
+    flat: &Flat,
+    format: Format,
+    out: &mut Sink<W>,
+) -> Result<(), Fault>
+    requires { IsWhole (state_of flat.now) }
+    ensures sent { (t : ResultTree) → state_of flat.now ≡ whole t
+        → SendsOrFails W.contents out.old out.new (compact (shown format t) ++ 10 ∷ []) result }
     ensures stays { out.old.failed ≡ true → out.new ≡ out.old }
 {
     if out.failed() {
         return Err(Fault::Write);
     }
-    put_doc_line(doc, out)?;
+    put_rows_line(flat, format, out)?;
     Ok(())
 }
 
@@ -44,13 +51,21 @@ fn put_flag_line<O: Out>(valid: bool, out: &mut O) -> Result<(), Stopped>
         result }
 {
     put_flag(valid, out)?;
-    out.put(b"\n")
+    put_line_feed(out)
 }
 
-fn put_doc_line<O: Out>(doc: &Doc, out: &mut O) -> Result<(), Stopped>
-    ensures { Puts (O.progress out.old) (O.progress out.new)
-        (compact (value_of doc.now) ++ 10 ∷ []) result }
+fn put_rows_line<O: Out>(flat: &Flat, format: Format, out: &mut O) -> Result<(), Stopped>
+    requires { IsWhole (state_of flat.now) }
+    ensures { (t : ResultTree) → state_of flat.now ≡ whole t
+        → Puts (O.progress out.old) (O.progress out.new) (compact (shown format t) ++ 10 ∷ [])
+        result }
 {
-    put_text(doc, out)?;
+    put_flat(flat, format, out)?;
+    put_line_feed(out)
+}
+
+fn put_line_feed<O: Out>(out: &mut O) -> Result<(), Stopped>
+    ensures { Puts (O.progress out.old) (O.progress out.new) (10 ∷ []) result }
+{
     out.put(b"\n")
 }

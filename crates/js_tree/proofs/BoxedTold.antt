@@ -1,9 +1,9 @@
 -- A collector of the whole tree, and the events of a tree.
-use Rattle.std.specs.Prelude.{◌≡◌, ℕ, Bool, true, false, List, [], ◌∷◌, ◌++◌, Option, Some, None, is_some, refl}
+use Rattle.std.specs.Prelude.{◌≡◌, Bool, false, List, [], ◌∷◌, ◌++◌, Option, Some, None, is_some, refl}
 use Rattle.std.proofs.Common.{ap, sym, ◌∙◌}
 use Rattle.js_tree.specs.BoxedState.{Frame, State, start, unit_of, with_tree, opened, closed, after, frame_of, innermost_first, state_of}
-use Rattle.js_tree.specs.Events.{Event, opening, closing, events, events_of, Passes, after_all}
-use Rattle.js_tree.specs.Forest.{Forest, empty, tree, Rose, forest_of, ◌⊹◌}
+use Rattle.js_tree.specs.Events.{closing, events, events_of, Passes, after_all}
+use Rattle.js_tree.specs.Forest.{Forest, empty, tree, forest_of, ◌⊹◌}
 use Rattle.js_tree.specs.Note.{Note}
 use Rattle.js_tree.specs.OutputUnit.{OutputUnit}
 use Rattle.js_tree.specs.Result.{ResultTree}

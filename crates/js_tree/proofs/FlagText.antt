@@ -1,5 +1,5 @@
 -- The compact texts of the flag format.
-use Rattle.std.proofs.Common.{◌≡◌, ◌∷◌, [], Bool, true, false, codes, refl}
+use Rattle.std.proofs.Common.{◌≡◌, true, false, codes, refl}
 use Rattle.json.specs.Print.{escape_byte}
 use Rattle.js_doc.specs.Compact.{compact}
 use Rattle.js_tree.specs.Form.{flag}

@@ -1,10 +1,11 @@
 -- Rows of trees side by side, gone through tree by tree.
 use Rattle.std.proofs.Common.{◌≡◌, ℕ, zero, suc, ◌+◌, ◌-◌, ◌≤◌, ◌<◌, List, [], ◌∷◌, ◌++◌, length, take, drop, map, get_or, refl, ap, sym, ◌∙◌, arith}
-use Rattle.std.proofs.lemmas.List.{append_assoc, append-nil, length-append, length-map, length-drop, drop_more}
-use Rattle.js_tree.specs.Flat.{flat_of}
+use Rattle.std.proofs.lemmas.List.{append_assoc, append-nil, length-append, length-map, length-drop, length-take, drop_more}
+use Rattle.js_tree.specs.Flat.{flat, flat_of}
 use Rattle.js_tree.specs.FlatState.{FlatRow, row_of}
 use Rattle.js_tree.specs.Forest.{Forest, empty, tree, ◌⊹◌, node_count}
 use Rattle.js_tree.specs.OutputUnit.{OutputUnit}
+use Rattle.js_tree.specs.Result.{ResultTree}
 use Rattle.js_tree.specs.declared.flat.Row.{Row}
 use Rattle.js_tree.proofs.FlatTold.{length-flat_of}
 
@@ -104,3 +105,28 @@ all_gone rows n empty e h = refl
 all_gone rows n (tree u below after) e h =
     let l : length (map row_of (drop n rows)) ≡ suc (length (flat_of below ++ flat_of after)) = ap length e in
     absurd (omega (arith, l, h, length-map (drop n rows) row_of, length-drop n rows))
+
+-- ---- the rows of one tree
+
+pub root_row : (rows : List Row) (t : ResultTree) (x : Row) → map row_of rows ≡ flat t → x ≡ get_or rows 0 x → x.unit ≡ t.root
+root_row [] t x e is = absurd cc
+root_row (r ∷ rows) t x e is = let k : row_of r ≡ (t.root, suc (node_count t.below)) = cc in ap (λ (y : Row). y.unit) is ∙ ap (λ y. y.0) k
+
+pub rows_below : (rows : List Row) (t : ResultTree) → map row_of rows ≡ flat t → map row_of (drop 1 rows) ≡ flat_of t.below
+rows_below [] t e = absurd cc
+rows_below (r ∷ rows) t e = let k : map row_of rows ≡ flat_of t.below = cc in k
+
+-- ---- a tree whose rows come next, by its unit alone
+
+pub record SomeTree (f : Forest OutputUnit) : Type 0 where
+  pub unit : OutputUnit
+  pub below : Forest OutputUnit
+  pub after : Forest OutputUnit
+  pub is : f ≡ tree unit below after
+
+pub some_tree : (rows : List Row) (n : ℕ) (f : Forest OutputUnit) → map row_of (drop n rows) ≡ flat_of f → n < length rows → SomeTree f
+some_tree rows n empty e h = absurd (omega (arith, h, ap length e, length-map (drop n rows) row_of, length-drop n rows))
+some_tree rows n (tree u below after) e h = record { unit = u; below = below; after = after; is = refl }
+
+pub shorter : (n m : ℕ) (rows : List Row) → length (take n (drop m rows)) ≤ length rows
+shorter n m rows = omega (arith, length-take n (drop m rows), length-drop m rows)

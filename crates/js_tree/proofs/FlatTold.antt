@@ -1,8 +1,8 @@
 -- A collector of the flat form, and the events of a tree.
-use Rattle.std.specs.Prelude.{◌≡◌, ℕ, zero, suc, ◌+◌, ◌-◌, ◌<◌, ◌≤◌, Bool, List, [], ◌∷◌, ◌++◌, length, map, slice_set, slice_index_or, refl}
+use Rattle.std.specs.Prelude.{◌≡◌, ℕ, zero, suc, ◌-◌, ◌<◌, ◌≤◌, Bool, List, [], ◌∷◌, ◌++◌, length, map, slice_set, slice_index_or, refl}
 use Rattle.std.proofs.Common.{arith, ap, sym, ◌∙◌, append-nil}
 use Rattle.std.proofs.lemmas.List.{append_assoc, length-append, length-map, map-append}
-use Rattle.js_tree.specs.Events.{Event, opening, closing, events, events_of, Passes, after_all}
+use Rattle.js_tree.specs.Events.{closing, events, events_of, Passes, after_all}
 use Rattle.js_tree.specs.Flat.{flat, flat_of}
 use Rattle.js_tree.specs.FlatState.{FlatRow, State, start, opening_row, opened, closed_row, with_closed, closed, after, row_of, innermost_first, state_of}
 use Rattle.js_tree.specs.Forest.{Forest, empty, tree, node_count}

@@ -1,4 +1,5 @@
 pub mod BoxedTold
+pub mod ChildTexts
 pub mod Compaction
 pub mod FlagText
 pub mod FlatRows
@@ -8,7 +9,9 @@ pub mod Forests
 pub mod KeptTree
 pub mod MovesAreSteps
 pub mod Nested
+pub mod NodeTexts
 pub mod NotedRows
+pub mod Pieces
 pub mod Searching
 pub mod Siblings
 pub mod Steps

@@ -1,12 +1,12 @@
 -- Marked rows of a flat form, and those that they leave.
-use Rattle.std.proofs.Common.{◌≡◌, ℕ, zero, suc, ◌+◌, ◌-◌, ◌≤◌, ◌<◌, Bool, true, false, ◌||◌, if◌then◌else◌, ◌⊎◌, inl, inr, List, [], ◌∷◌, ◌++◌, length, take, drop, map, get_or, set, refl, ap, sym, ◌∙◌, arith, add-one}
+use Rattle.std.proofs.Common.{◌≡◌, ℕ, zero, suc, ◌+◌, ◌-◌, ◌≤◌, ◌<◌, Bool, true, false, ◌||◌, if◌then◌else◌, ◌⊎◌, inl, inr, List, [], ◌∷◌, ◌++◌, length, take, drop, map, get_or, set, refl, ap, sym, ◌∙◌, arith}
 use Rattle.std.proofs.lemmas.List.{append_assoc, append-nil, length-append, length-map, map-append, map-set, set-get_or, drop_all, drop_more, drop-set, take-set-le, drop-set-lt, length-set, get_or-set_same}
 use Rattle.std.proofs.Math.Seq.{drop-length}
 use Rattle.std.specs.List.{swap}
 use Rattle.js_tree.specs.Compacting.{left, left_of, left_trees, stays, room, marked, others, gathered, Tallied, AreMarked}
 use Rattle.js_tree.specs.Flat.{flat, flat_of}
 use Rattle.js_tree.specs.FlatState.{FlatRow, row_of}
-use Rattle.js_tree.specs.Forest.{Forest, empty, tree, Rose, ◌⊹◌, node_count, tree_count}
+use Rattle.js_tree.specs.Forest.{Forest, empty, tree, ◌⊹◌, node_count, tree_count}
 use Rattle.js_tree.specs.Kept as keep
 use Rattle.js_tree.specs.OutputUnit.{OutputUnit, noted}
 use Rattle.js_tree.specs.Result.{ResultTree, has_verdict, kept_below, pruned_below}
@@ -435,7 +435,7 @@ take_length zero rows h = refl
 take_length (suc n) [] h = absurd (omega (arith, h))
 take_length (suc n) (r ∷ rows) h = ap suc (take_length n rows (omega (arith, h)))
 
-take_all : (n : ℕ) (rows : List Row) → length rows ≤ n → take n rows ≡ rows
+pub take_all : (n : ℕ) (rows : List Row) → length rows ≤ n → take n rows ≡ rows
 take_all zero [] h = refl
 take_all zero (r ∷ rows) h = absurd (omega (arith, h))
 take_all (suc n) [] h = refl

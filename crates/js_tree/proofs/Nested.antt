@@ -1,17 +1,17 @@
 -- Where trees end, and whether rows are those of trees.
-use Rattle.std.proofs.Common.{◌≡◌, ℕ, zero, suc, ◌+◌, ◌-◌, ◌≤◌, ◌<◌, Bool, true, false, ltb, ◌==◌, if◌then◌else◌, List, [], ◌∷◌, ◌++◌, length, drop, map, get_or, refl, ap, sym, ◌∙◌, arith}
-use Rattle.std.proofs.lemmas.Bool.{lt-ltb, ltb-true, le-ltb, ltb-false}
-use Rattle.std.proofs.lemmas.List.{length-map, drop_more}
+use Rattle.std.proofs.Common.{◌≡◌, ℕ, zero, suc, ◌+◌, ◌-◌, ◌≤◌, ◌<◌, Bool, true, false, ltb, ◌==◌, if◌then◌else◌, List, [], ◌∷◌, length, drop, map, get_or, refl, ap, sym, ◌∙◌, arith}
+use Rattle.std.proofs.lemmas.Bool.Decides.{nat_tests}
+use Rattle.std.proofs.lemmas.Bool.{lt-ltb, le-ltb, ltb-false}
+use Rattle.std.proofs.lemmas.List.{drop_more}
 use Rattle.js_tree.specs.Flat.{flat, flat_of}
-use Rattle.js_tree.specs.FlatState.{FlatRow, row_of}
+use Rattle.js_tree.specs.FlatState.{row_of}
 use Rattle.js_tree.specs.Forest.{Forest, empty, tree, ◌⊹◌, node_count}
 use Rattle.js_tree.specs.Nesting.{ends_after}
 use Rattle.js_tree.specs.OutputUnit.{OutputUnit}
 use Rattle.js_tree.specs.Result.{ResultTree}
 use Rattle.js_tree.specs.declared.flat.Row.{Row}
-use Rattle.js_tree.proofs.FlatRows.{flat_of-append, map-drop, FirstTree, first_tree, all_gone}
+use Rattle.js_tree.proofs.FlatRows.{flat_of-append, map-drop, first_tree, all_gone}
 use Rattle.js_tree.proofs.Marks.{from, flat_of-from, flat-flat_of, rows_of}
-use Rattle.js_tree.proofs.FlatTold.{length-flat_of}
 
 -- the trees in front, and those after them
 pub record Parted (n : ℕ) (f : Forest OutputUnit) : Type 0 where
@@ -127,3 +127,6 @@ some_row (r ∷ rows) t e = omega arith
 pub not_none : (n : ℕ) → false ≡ (n == 0) → 0 < n
 not_none zero e = absurd cc
 not_none (suc n) e = omega arith
+
+pub is_none : (n : ℕ) → true ≡ (n == 0) → n ≡ 0
+is_none n e = grind (arith, nat_tests, sym e)

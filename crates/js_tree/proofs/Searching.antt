@@ -1,6 +1,6 @@
 -- What a search below one of several trees says of the search among them all, and of the move.
 use Rattle.std.proofs.Common.{◌≡◌, ◌≢◌, ℕ, zero, suc, ◌+◌, ◌≤◌, ◌<◌, ◌-◌, List, length, take, get_or, set, None, refl, ap, sym, ◌∙◌, arith}
-use Rattle.js_tree.specs.Forest.{Rose, node_count, forest_of}
+use Rattle.js_tree.specs.Forest.{node_count, forest_of}
 use Rattle.js_tree.specs.Moves.{moved_at, moved_below_root}
 use Rattle.js_tree.specs.OutputUnit.{noted}
 use Rattle.js_tree.specs.Result.{ResultTree, moved}

@@ -1,8 +1,8 @@
 -- A collector of the verdict, and the events of a tree.
-use Rattle.std.specs.Prelude.{◌≡◌, ℕ, zero, suc, ◌+◌, ◌-◌, ◌^◌, ◌<◌, ◌≤◌, max, Bool, true, false, eqb, if◌then◌else◌, List, [], ◌∷◌, ◌++◌, Option, Some, None, refl}
+use Rattle.std.specs.Prelude.{◌≡◌, ℕ, suc, ◌+◌, ◌-◌, ◌^◌, ◌<◌, Bool, false, eqb, [], ◌∷◌, ◌++◌, Some, None, refl}
 use Rattle.std.proofs.lemmas.Bool.Decides.{nat_tests}
-use Rattle.std.proofs.Common.{arith, ap, sym, ◌∙◌}
-use Rattle.js_tree.specs.Events.{Event, opening, closing, events, events_of, Passes, after_all}
+use Rattle.std.proofs.Common.{arith, ap, ◌∙◌}
+use Rattle.js_tree.specs.Events.{closing, events, events_of, Passes, after_all}
 use Rattle.js_tree.specs.Forest.{Forest, empty, tree, height}
 use Rattle.js_tree.specs.OutputUnit.{OutputUnit}
 use Rattle.js_tree.specs.Result.{ResultTree}

@@ -1,5 +1,5 @@
 -- How the rows of a flat form are marked, and which of them are then left (of private functions).
-use Rattle.std.specs.Prelude.{◌≡◌, ℕ, zero, suc, ◌+◌, ◌-◌, Bool, true, false, ◌||◌, if◌then◌else◌, List, [], ◌∷◌, ◌++◌, drop}
+use Rattle.std.specs.Prelude.{◌≡◌, ℕ, zero, suc, ◌+◌, ◌-◌, Bool, ◌||◌, if◌then◌else◌, List, [], ◌∷◌, ◌++◌, drop}
 use Rattle.js_tree.specs.FlatState.{FlatRow}
 use Rattle.js_tree.specs.Forest.{Forest, empty, tree, node_count}
 use Rattle.js_tree.specs.OutputUnit.{OutputUnit, noted}

@@ -74,6 +74,13 @@ list_name false = codes "errors"
 abbrev pub unit_list : ResultTree → Value
 unit_list t = object (members ((list_name t.root.valid, list (items (map (λ u. node u []) (units t)))) ∷ (codes "valid", truth t.root.valid) ∷ []))
 
+-- what a format shows of a tree: of the pruned tree for basic, of the condensed one for detailed, and of the whole tree else
+abbrev pub shown : Format → ResultTree → Value
+shown Flag t = flag t.root.valid
+shown Basic t = unit_list t
+shown Detailed t = verbose t
+shown Verbose t = verbose t
+
 abbrev pub form : Format → ResultTree → Value
 form Flag t = flag t.root.valid
 form Basic t = unit_list (pruned t)

@@ -1,8 +1,7 @@
 -- What each collector holds after the events of a tree.
-use Rattle.std.specs.Prelude.{◌≡◌, suc, ◌<◌, ◌^◌, [], Some}
+use Rattle.std.specs.Prelude.{◌≡◌, suc, ◌<◌, ◌^◌, Some}
 use Rattle.js_tree.specs.BoxedState as boxed
 use Rattle.js_tree.specs.Events.{events, Passes}
-use Rattle.js_tree.specs.Flat.{flat}
 use Rattle.js_tree.specs.FlatState as flat_state
 use Rattle.js_tree.specs.Forest.{height}
 use Rattle.js_tree.specs.Result.{ResultTree}

@@ -10,6 +10,7 @@ pub mod Holding
 pub mod Kept
 pub mod Moves
 pub mod Nesting
+pub mod NodeText
 pub mod Note
 pub mod OutputUnit
 pub mod Pruned

@@ -1,7 +1,6 @@
 -- What a collector of the root's verdict holds.
 use Rattle.std.specs.Prelude.{ℕ, ◌+◌, ◌-◌, ◌^◌, Bool, eqb, if◌then◌else◌, Option, Some, None}
 use Rattle.js_tree.specs.Events.{Event, opening, closing}
-use Rattle.js_tree.specs.Note.{Note}
 use Rattle.js_tree.specs.declared.verdict.Verdict.{Verdict}
 
 -- how many nodes are open, and the root's verdict, once it has closed

@@ -1,8 +1,8 @@
 //! The output formats, as JSON values (Core, section 12.4).
-ghost use Rattle.std.specs.Prelude.{◌≡◌, [], ◌++◌, List, ℕ, IfOk, OnOk, codes, map, not, pos, true};
+ghost use Rattle.std.specs.Prelude.{◌≡◌, [], ◌∷◌, ◌++◌, List, ℕ, IfOk, OnOk, codes, map, not, pos, true};
 ghost use Rattle.js_doc.specs.Members.{put};
 ghost use Rattle.js_doc.specs.Seen.{value_of};
-ghost use Rattle.js_doc.specs.Value.{text, list, whole, items};
+ghost use Rattle.js_doc.specs.Value.{text, list, members, object, truth, whole, items};
 ghost use Rattle.js_tree.specs.Forest.{forest_of};
 ghost use Rattle.js_tree.specs.Form.{annotation, array_of_some, error, flag, form, list_name, node, nodes, unit_list, verbose, when};
 ghost use Rattle.js_tree.specs.Put.{put_given};
@@ -70,7 +70,7 @@ fn tree_docs(alloc: Global, trees: &[Tree]) -> Result<Vec<Doc>, Memory>
     Ok(docs)
 }
 
-fn flag(alloc: Global, valid: bool) -> Result<Doc, Memory>
+pub(crate) fn flag(alloc: Global, valid: bool) -> Result<Doc, Memory>
     ensures { IfOk result (λ doc. value_of doc ≡ flag valid) }
 {
     let mut members = Members::new(alloc);
@@ -86,7 +86,13 @@ fn unit_list(alloc: Global, tree: &Tree) -> Result<Doc, Memory>
         docs.push(node(alloc, &tree.unit, Vec::new(alloc))?)?;
     }
     add_unit_docs(alloc, tree.children.as_slice(), &mut docs)?;
-    let valid = tree.unit.valid;
+    listed(alloc, tree.unit.valid, docs)
+}
+
+/// The list of units, over the documents of the units.
+pub(crate) fn listed(alloc: Global, valid: bool, docs: Vec<Doc>) -> Result<Doc, Memory>
+    ensures { IfOk result (λ doc. value_of doc ≡ object (members ((list_name valid, list (items (map value_of docs.items))) ∷ (codes "valid", truth valid) ∷ []))) }
+{
     let mut members = Members::new(alloc);
     put(
         alloc,
@@ -112,7 +118,7 @@ fn add_unit_docs(alloc: Global, trees: &[Tree], docs: &mut Vec<Doc>) -> Result<(
 }
 
 /// A node over the documents of its children.
-fn node(alloc: Global, unit: &Unit, children: Vec<Doc>) -> Result<Doc, Memory>
+pub(crate) fn node(alloc: Global, unit: &Unit, children: Vec<Doc>) -> Result<Doc, Memory>
     ensures { IfOk result (λ doc. value_of doc ≡ node unit.now (map value_of children.items)) }
 {
     let mut members = Members::new(alloc);

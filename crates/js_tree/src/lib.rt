@@ -10,12 +10,16 @@ mod forms;
 pub mod laws;
 mod moves;
 mod nesting;
+mod node_text;
 mod note;
 mod noted;
 mod noted_rows;
 mod pruning;
 mod putting;
+mod row_docs;
+mod row_text;
 mod tree;
+mod tree_text;
 mod unit;
 mod verdict;
 
@@ -30,8 +34,10 @@ pub use note::{Indexes, Names, Note};
 pub use noted::units;
 pub use noted_rows::flat_units;
 pub use pruning::prune;
-pub use putting::put_flag;
+pub use putting::{put_flag, put_flat};
+pub use row_docs::flat_doc;
 pub use tree::{Tree, Trees};
+pub use tree_text::put_tree;
 pub use unit::Unit;
 pub use verdict::Verdict;
 

@@ -1,9 +1,35 @@
 //! Forms put out piece by piece.
+ghost use Rattle.std.specs.Prelude.{◌≡◌};
 ghost use Rattle.js_doc.specs.BytesOut.{Puts};
 ghost use Rattle.js_doc.specs.Compact.{compact};
-ghost use Rattle.js_tree.specs.Form.{flag};
+ghost use Rattle.js_tree.specs.FlatState.{IsWhole, state_of, whole};
+ghost use Rattle.js_tree.specs.Form.{flag, shown};
+ghost use Rattle.js_tree.specs.Result.{ResultTree};
 
+use crate::flat::Flat;
+use crate::forms::Format;
+use crate::row_text::{put_root, put_units};
 use js_doc::{Out, Stopped};
+
+/// Puts the compact text of what the format shows of the rows' tree (Core, section 12.4): for basic the rows have to be
+/// the pruned tree's, for detailed the condensed one's, and else the whole tree's. It takes no memory.
+///
+/// # Errors
+/// `Stopped`; then a beginning of the text has gone out.
+pub fn put_flat<O: Out>(flat: &Flat, format: Format, out: &mut O) -> Result<(), Stopped>
+    requires { IsWhole (state_of flat.now) }
+    ensures { (t : ResultTree) → state_of flat.now ≡ whole t → Puts (O.progress out.old) (O.progress out.new) (compact (shown format t)) result }
+{
+    let rows = flat.rows();
+    let row = &rows[0];
+    let root = &row.unit;
+    match format {
+        Format::Flag => put_flag(root.valid, out),
+        Format::Basic => put_units(rows, out),
+        Format::Detailed => put_root(rows, out),
+        Format::Verbose => put_root(rows, out),
+    }
+}
 
 /// Puts the compact text of the flag format (Core, section 12.4.1). It takes no memory.
 ///

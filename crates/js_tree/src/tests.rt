@@ -1,11 +1,11 @@
-//! What no contract says: the trees of worked examples, the bytes of each form, every run of all small trees,
-//! and that deep and wide trees find stack, time and memory.
+//! What no contract says: the bytes of each form, collectors that are told trees, every run of all small trees, and that
+//! deep and wide trees find stack, time and memory.
+mod collected;
 mod every_run;
 mod forms;
 mod hand_made;
 mod large;
 mod parts;
-mod worked_examples;
 
 use super::*;
 use js_doc::{Text, text};
@@ -20,22 +20,28 @@ fn text_of(alloc: Global, text: &str) -> Result<Text, Fail> {
     Ok(Text::new(String::from_str(alloc, text)?))
 }
 
-fn node<'a>(alloc: Global, name: &str, children: Vec<Tree<'a>>) -> Result<Tree<'a>, Fail> {
-    let valid = !name.starts_with('-');
-    let note = if !name.ends_with('!') {
+fn passes(name: &str) -> bool {
+    !name.starts_with('-')
+}
+
+fn note_of<'a>(alloc: Global, name: &str) -> Result<Note<'a>, Fail> {
+    Ok(if !name.ends_with('!') {
         Note::Silent
-    } else if valid {
+    } else if passes(name) {
         Note::Truth
     } else {
         Note::Error(text_of(alloc, "no")?)
-    };
+    })
+}
+
+fn node<'a>(alloc: Global, name: &str, children: Vec<Tree<'a>>) -> Result<Tree<'a>, Fail> {
     Ok(Tree {
         unit: Unit {
-            valid,
+            valid: passes(name),
             keyword: text_of(alloc, name)?,
             absolute: text_of(alloc, "s#")?,
             instance: text_of(alloc, "")?,
-            note,
+            note: note_of(alloc, name)?,
         },
         children: Trees::new(children),
     })

@@ -13,7 +13,7 @@ const ROOT: &str = "https://a.example/s#";
 
 // What a node says. A value is the one that the tree is built with.
 #[derive(Clone, Copy)]
-pub(crate) enum Says<'r> {
+enum Says<'r> {
     Nothing,
     Error(&'r str),
     Value,
@@ -25,7 +25,7 @@ pub(crate) enum Says<'r> {
 
 // A node of a tree in preorder: how deep it stands, its verdict, its places (by keyword, absolute, of the instance),
 // and what it says.
-pub(crate) type Told<'r> = (usize, bool, [&'r str; 3], Says<'r>);
+type Told<'r> = (usize, bool, [&'r str; 3], Says<'r>);
 
 // One note of each kind, annotations that are empty lists among them, and what a node shows of it.
 const NOTES: [(Says, &str); 9] = [
@@ -89,12 +89,7 @@ fn built<'a>(alloc: Global, rows: &[Told<'a>], value: &'a Doc) -> Result<Tree<'a
 }
 
 // The form of the tree, whose one value is read from that text.
-pub(crate) fn formed(
-    alloc: Global,
-    rows: &[Told],
-    source: &str,
-    format: Format,
-) -> Result<String, Fail> {
+fn formed(alloc: Global, rows: &[Told], source: &str, format: Format) -> Result<String, Fail> {
     let value = read(alloc, source.as_bytes())?;
     let doc = form(alloc, built(alloc, rows, &value)?, format)?;
     Ok(text(alloc, &doc)?)

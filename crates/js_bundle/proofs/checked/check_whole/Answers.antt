@@ -1,7 +1,8 @@
-use Rattle.std.proofs.Common.{◌≡◌, codes, map, sym, ap, ◌∙◌}
+use Rattle.std.proofs.Common.{◌≡◌, codes, map, sym, ap, subst, ◌∙◌}
 use Rattle.std.proofs.lemmas.Result.{err_from_is_err_and}
 use Rattle.js_bundle.specs.Built.{assertions_at, patterns_at}
 use Rattle.js_bundle.specs.Finding.{dynamic_at, number_of_target}
+use Rattle.js_bundle.specs.Index.{IsIndex}
 use Rattle.js_bundle.specs.Location.{location}
 use Rattle.js_bundle.specs.Resource.{sites}
 use Rattle.js_bundle.specs.Scan.{site_of}
@@ -77,3 +78,10 @@ returns-clause-locations c =
     lists_all ds (map site_of c.as_slice.result.now) (ap (map site_of) c.as_slice.ensures.value ∙ c.in_ok-sites.ensures) c.in_ok-built.ensures.clear in
     let third : map site_of c.as_slice-3.result.now ≡ sites ds = ap (map site_of) (c.as_slice-3.ensures.value ∙ sym c.as_slice.ensures.value) ∙ first in
     c.in_ok-locations.ensures ∙ ap (map location) third
+
+pub returns-clause-index : goal.returns-clause-index
+returns-clause-index c =
+    let ds = map document_of c.args.documents.now in
+    let first : map site_of c.as_slice.result.now ≡ sites ds =
+    lists_all ds (map site_of c.as_slice.result.now) (ap (map site_of) c.as_slice.ensures.value ∙ c.in_ok-sites.ensures) c.in_ok-built.ensures.clear in
+    subst (IsIndex c.in_ok-built.field-0.index) first c.in_ok-built.ensures.index

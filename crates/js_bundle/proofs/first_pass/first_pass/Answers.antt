@@ -3,6 +3,7 @@ use Rattle.std.proofs.lemmas.Result.{err_from_is_err_and}
 use Rattle.js_bundle.specs.Built.{assertions_at, assertions_in, patterns_at, patterns_in}
 use Rattle.js_bundle.specs.Refusals.{at_site, first_pass}
 use Rattle.js_bundle.specs.Scan.{site_of}
+use Rattle.js_bundle.proofs.Indexed.{index_more, index_whole}
 use Rattle.js_bundle.proofs.Passes.{site_next, column_next}
 use Rattle.js_bundle.proofs.Stopping.{leads_past, leads_stop}
 use Rattle.js_bundle.proofs.first_pass.first_pass.Goals as goal
@@ -28,4 +29,8 @@ loop-i-preserved c =
           (site_next ss l.i x whole (omega arith) c.index-sites-i.is l.invariant.leads) c.in_ok-built.ensures.clear;
       assertions = column_next assertions_in assertions_at ss l.i x l.all.items c.push.new.self.items c.in_ok-built.built (map assertions_at (map site_of ss)) (omega arith) c.index-sites-i.is c.in_ok-push.ensures.items c.in_ok-built.ensures.assertions l.invariant.assertions;
       patterns = column_next patterns_in patterns_at ss l.i x l.all.items c.push.new.self.items c.in_ok-built.built (map patterns_at (map site_of ss)) (omega arith) c.index-sites-i.is c.in_ok-push.ensures.items c.in_ok-built.ensures.patterns l.invariant.patterns;
+      index = index_more ss l.i c.index-sites-i-in-loop-i.result l.index c.add.new.self (omega arith) c.index-sites-i-in-loop-i.is l.invariant.index c.in_ok-add.ensures;
     }
+
+pub returns-clause-index : goal.returns-clause-index
+returns-clause-index c = index_whole c.args.sites.now c.loop-i.i c.loop-i.index (omega arith) c.loop-i.invariant.index

@@ -1,5 +1,6 @@
 use Rattle.std.proofs.Common.{◌≡◌, ◌++◌, [], map, take, drop}
 use Rattle.js_bundle.specs.Built.{assertions_at, assertions_in, patterns_at, patterns_in}
+use Rattle.js_bundle.specs.Index.{IsIndex}
 use Rattle.js_bundle.specs.Leads.{Leads}
 use Rattle.js_bundle.specs.Refusals.{first_pass}
 use Rattle.js_bundle.specs.Scan.{site_of}
@@ -13,4 +14,5 @@ invariant-loop-i l =
       leads : Leads (first_pass [] all) (first_pass (map site_of (take l.i l.sites)) left);
       assertions : map assertions_in l.all.items ++ map assertions_at left ≡ map assertions_at all;
       patterns : map patterns_in l.all.items ++ map patterns_at left ≡ map patterns_at all;
+      index : IsIndex l.index (map site_of (take l.i l.sites));
     }

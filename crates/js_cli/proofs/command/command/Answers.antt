@@ -1,21 +1,16 @@
-use Rattle.std.proofs.Common.{rules, ◌≡◌, ◌≢◌, ◌≤◌, ◌<◌, ◌⊎◌, ◌↔◌, ◌==◌, ◌++◌, ◌∷◌, [], ℕ, List, Option, None, false, IfOk, IfErr, OnOk, IfSome, IsErrOf, string_bytes, ◌+◌, ◌-◌, ◌*◌, length, ◌/◌, ◌%◌, Bool, true, nat_eq, nat_lt, slice_index_or, slice_set, bit_and, bit_or, Fits, w8, w32, w64, Bor, MutBor}
-use Rattle.std.specs.Io.KnownBytes.{Keeps}
-use Rattle.js_output.specs.Device.{AppendsBeginning, IsLeft}
-use Rattle.js_output.specs.Input.{IsInputFault}
-use Rattle.js_output.specs.Line.{fault_line}
-use Rattle.js_output.specs.declared.fault.Fault.{Fault}
-use Rattle.js_cli.specs.Words.{places, pairs_seen, request_of, request_seen, usage_line, words_of}
-use Rattle.js_cli.specs.declared.words.Misuse.{Misuse}
-use Rattle.js_cli.specs.declared.words.Task.{Task}
-use Rattle.js_cli.specs.Answer.{RequestOutcome, WordsOutcome, Performs, IsTold, IsBegun}
-use Rattle.js_cli.specs.Status.{fault_status, misuse_status}
+use Rattle.std.proofs.Common.{sym}
+use Rattle.js_output.specs.declared.fault.Fault.TheVariants as fault
+use Rattle.js_cli.specs.Words.{request_seen, words_of}
+use Rattle.js_cli.proofs.Telling.{begun_or_kept, misuse_told}
 use Rattle.js_cli.proofs.command.command.Goals as goal
 
--- src/command.rt:99:13
 pub returns-in-Err-clause-told : goal.returns-in-Err-clause-told
-returns-in-Err-clause-told g c = ?
+returns-in-Err-clause-told g c above =
+    let failed = misuse_told c.in-Err.misuse c.tell_misuse-status.result c.tell_misuse-status.ensures.status above in
+    (fault.Memory, sym failed, c.tell_misuse-status.ensures.told failed)
 
--- src/command.rt:57:1
-pub returns-in-Err-perform_whole-clause-beginning :
-    goal.returns-in-Err-perform_whole-clause-beginning
-returns-in-Err-perform_whole-clause-beginning g c = ?
+pub returns-in-Err-perform_whole-clause-beginning : goal.returns-in-Err-perform_whole-clause-beginning
+returns-in-Err-perform_whole-clause-beginning g c failed =
+    begun_or_kept (words_of c.args.words.now) (g.F.Files.held c.args.files.now) (g.R.Read.remaining c.args.input.now.device) (request_seen c.in-Ok.task)
+    (g.W.Write.contents c.args.out.now.device) (g.W.Write.contents c.perform_whole.new.out.device)
+    c.in-Err-perform_whole.fault c.in-Ok.ensures.ok c.in-Err-perform_whole.ensures.nothing c.in-Err-perform_whole.ensures.beginning

@@ -15,5 +15,5 @@ returns g c =
     let o = g.O.Out.progress in
     let text = compact (flag c.args.valid) in
     let all = text ++ 10 ∷ [] in
-    puts_last (o c.args.out.now) (o c.put_flag.new.out) (o c.put.new.self) (10 ∷ []) all c.put.result
-    (goes_on (o c.args.out.now) (o c.args.out.now) (o c.put_flag.new.out) text (10 ∷ []) all (starts (o c.args.out.now) all) c.in_ok-put_flag.ensures) c.put.ensures
+    puts_last (o c.args.out.now) (o c.put_flag.new.out) (o c.put_line_feed.new.out) (10 ∷ []) all c.put_line_feed.result
+    (goes_on (o c.args.out.now) (o c.args.out.now) (o c.put_flag.new.out) text (10 ∷ []) all (starts (o c.args.out.now) all) c.in_ok-put_flag.ensures) c.put_line_feed.ensures

@@ -1,5 +1,5 @@
-use Rattle.std.proofs.Common.{◌≡◌, ◌≤◌, ◌<◌, ◌+◌, ◌-◌, ◌⊎◌, inl, inr, List, [], ◌∷◌, ◌++◌, length, take, drop, map, get_or, set, refl, ap, sym, ◌∙◌, arith, ℕ, suc}
-use Rattle.js_tree.proofs.Marks.{tally_start, tallied_more, tallied_all, tally_fits}
+use Rattle.std.proofs.Common.{◌≡◌, ◌<◌, ◌+◌, ◌⊎◌, inl, inr, ap, arith}
+use Rattle.js_tree.proofs.Marks.{tallied_more, tallied_all, tally_fits}
 use Rattle.js_tree.proofs.compacting.children.Goals as goal
 use Rattle.js_tree.proofs.compacting.children.Goals.{then-row-gt0, else-row-gt0}
 

@@ -1,4 +1,4 @@
-use Rattle.std.proofs.Common.{◌≡◌, ◌≤◌, ◌<◌, ◌+◌, ◌-◌, List, [], ◌∷◌, ◌++◌, length, take, drop, map, get_or, set, refl, ap, sym, ◌∙◌, arith, ℕ, suc}
+use Rattle.std.proofs.Common.{◌≡◌, ◌++◌, length, take, drop, map, ap, ◌∙◌, arith}
 use Rattle.js_tree.specs.Compacting.{gathered}
 use Rattle.js_tree.specs.FlatState.{row_of}
 use Rattle.js_tree.specs.Forest.{tree, empty}

@@ -1,9 +1,9 @@
-use Rattle.std.proofs.Common.{◌≡◌, ◌≤◌, ◌<◌, ◌+◌, ◌-◌, ◌⊎◌, inl, inr, List, [], ◌∷◌, ◌++◌, length, take, drop, map, get_or, set, refl, ap, sym, ◌∙◌, arith, ℕ, suc}
+use Rattle.std.proofs.Common.{◌≡◌, ◌<◌, ◌+◌, ◌-◌, length, drop, get_or, refl, ap, ◌∙◌, arith, suc}
 use Rattle.js_tree.specs.Compacting.{left, left_trees, marked, stays, room}
 use Rattle.js_tree.specs.FlatState.{row_of}
 use Rattle.js_tree.specs.Forest.{node_count}
 use Rattle.js_tree.specs.declared.flat.Row.{Row}
-use Rattle.js_tree.proofs.Marks.{from, At, node_at, row_at, rows_of, marked_after, marks_one, tells_same, mark_start, tree_fits, fewer_left}
+use Rattle.js_tree.proofs.Marks.{from, node_at, row_at, rows_of, marked_after, marks_one, tells_same, mark_start, tree_fits, fewer_left}
 use Rattle.js_tree.proofs.compacting.mark.Goals as goal
 
 pub loop-i-init : goal.loop-i-init

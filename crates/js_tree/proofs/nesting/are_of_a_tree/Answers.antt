@@ -1,4 +1,4 @@
-use Rattle.std.proofs.Common.{◌≡◌, ◌<◌, length, map, arith, sym, ◌∙◌}
+use Rattle.std.proofs.Common.{◌<◌, length, arith, ◌∙◌}
 use Rattle.js_tree.specs.Forest.{tree, empty}
 use Rattle.js_tree.proofs.Marks.{flat-flat_of}
 use Rattle.js_tree.proofs.Nested.{alone, not_none, whole_sized}

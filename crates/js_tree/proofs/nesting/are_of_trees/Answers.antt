@@ -1,4 +1,4 @@
-use Rattle.std.proofs.Common.{◌≡◌, ◌<◌, ◌≤◌, ◌+◌, ◌-◌, drop, length, map, get_or, arith, sym, ap, ◌∙◌, refl, List, []}
+use Rattle.std.proofs.Common.{◌-◌}
 use Rattle.js_tree.proofs.Nested.{from_there}
 use Rattle.js_tree.proofs.nesting.are_of_trees.Goals as goal
 

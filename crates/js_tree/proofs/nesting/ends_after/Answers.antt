@@ -1,6 +1,6 @@
-use Rattle.std.proofs.Common.{◌≡◌, ◌<◌, ◌≤◌, ◌+◌, ◌-◌, drop, length, map, get_or, arith, sym, ap, ◌∙◌, refl, List, []}
+use Rattle.std.proofs.Common.{arith}
 use Rattle.js_tree.proofs.FlatRows.{first_tree}
-use Rattle.js_tree.proofs.Nested.{goes_on, goes_past, none_left}
+use Rattle.js_tree.proofs.Nested.{goes_on}
 use Rattle.js_tree.proofs.nesting.ends_after.Goals as goal
 
 pub overflow_add-next : goal.overflow_add-next

@@ -1,4 +1,4 @@
-use Rattle.std.proofs.Common.{◌≡◌, ◌<◌, ◌≤◌, ◌+◌, ◌-◌, drop, length, map, get_or, arith, sym, ap, ◌∙◌, refl, List, []}
+use Rattle.std.proofs.Common.{arith, sym, ◌∙◌}
 use Rattle.js_tree.proofs.Nested.{is_root, root_sized, root_ends}
 use Rattle.js_tree.proofs.nesting.is_root.Goals as goal
 

@@ -1,10 +1,12 @@
-use Rattle.std.proofs.Common.{map, Some, None, if◌then◌else◌, ap, ◌∙◌}
+use Rattle.std.proofs.Common.{map, Some, None, if◌then◌else◌, ap, sym, subst, ◌∙◌}
 use Rattle.std.specs.List.{position_from}
+use Rattle.js_bundle.specs.Index.{StandsFirst}
 use Rattle.js_bundle.specs.Place.{holding}
 use Rattle.js_bundle.specs.Schemas.{fits, step_of}
 use Rattle.js_bundle.specs.Seen.{document_of}
 use Rattle.js_bundle.specs.Spot.{spot_of, stands_below}
 use Rattle.js_bundle.proofs.Finds.{finds_held}
+use Rattle.js_bundle.proofs.KeyedBelow.{kept_first}
 use Rattle.js_bundle.proofs.Held.{held_found}
 use Rattle.js_bundle.proofs.schemas.Schemas.below.Goals as goal
 
@@ -14,7 +16,7 @@ returns-in-Some-clause-found c =
     let s = step_of c.args.step in
     finds_held (map document_of c.self.inside.documents.items) c.args.self.now c.self.inside.kept.spots.items c.args.place c.spot.result.now k s (Some c.in-Some.number) c.self.view_is
     c.self.invariant.spots c.spot.ensures
-    (c.in-Some.ensures ∙ ap (λ l. if fits (holding k) s then position_from (stands_below (spot_of c.spot.result.now) k s) 0 (map spot_of l) else None) c.as_slice.ensures.value)
+    (c.in-Some.ensures ∙ ap (λ l. if fits (holding k) s then position_from (stands_below (spot_of c.spot.result.now) k s) 0 (map spot_of l) else None) c.as_slice-spots.ensures.value)
 
 pub returns-in-None-clause-found : goal.returns-in-None-clause-found
 returns-in-None-clause-found c =
@@ -22,7 +24,7 @@ returns-in-None-clause-found c =
     let s = step_of c.args.step in
     finds_held (map document_of c.self.inside.documents.items) c.args.self.now c.self.inside.kept.spots.items c.args.place c.spot.result.now k s None c.self.view_is
     c.self.invariant.spots c.spot.ensures
-    (c.in-None.ensures ∙ ap (λ l. if fits (holding k) s then position_from (stands_below (spot_of c.spot.result.now) k s) 0 (map spot_of l) else None) c.as_slice.ensures.value)
+    (c.in-None.ensures ∙ ap (λ l. if fits (holding k) s then position_from (stands_below (spot_of c.spot.result.now) k s) 0 (map spot_of l) else None) c.as_slice-spots.ensures.value)
 
 pub returns-in-Some-clause-held : goal.returns-in-Some-clause-held
 returns-in-Some-clause-held c =
@@ -33,3 +35,8 @@ pub returns-in-None-clause-held : goal.returns-in-None-clause-held
 returns-in-None-clause-held c =
     held_found (map document_of c.self.inside.documents.items) c.args.self.now c.self.view_is c.self.invariant.read c.args.place c.args.keyword.now (step_of c.args.step) None
     (returns-in-None-clause-found c)
+
+pub number_held-requires : goal.number_held-requires
+number_held-requires c =
+    let first = kept_first c.self.inside.kept.index.places (map document_of c.self.inside.documents.items) c.self.inside.kept.spots.items c.self.invariant.index.standing c.self.invariant.spots in
+    subst (λ ss. StandsFirst c.self.inside.kept.index.places (map spot_of ss)) (sym c.as_slice-spots.ensures.value) first

@@ -1,4 +1,5 @@
-use Rattle.std.proofs.Common.{◌≡◌, map, ap, sym, ◌∙◌}
+use Rattle.std.proofs.Common.{◌≡◌, map, ap, sym, subst, ◌∙◌}
+use Rattle.js_bundle.specs.Index.{IsIndex}
 use Rattle.js_bundle.specs.Resource.{sites}
 use Rattle.js_bundle.specs.Scan.{site_of, scanned}
 use Rattle.js_bundle.specs.Seen.{document_of}
@@ -21,3 +22,10 @@ returns-in-Ok-None-clause-err c =
     let whole : listed ≡ sites docs =
     ap (map site_of) c.as_slice-2.ensures.value ∙ c.in_ok-sites.ensures ∙ ap (λ ds. scanned (map document_of ds)) c.as_slice.ensures.value ∙ scanned_whole docs c.self.invariant.clear in
     (c.in-Ok-None.ensures.read, names_none docs c.args.self.now listed c.args.url c.self.view_is whole (sym c.in-Ok-None.field-0-is ∙ c.in-Ok-None.ensures.ok))
+
+pub place_named-requires : goal.place_named-requires
+place_named-requires c =
+    let docs = map document_of c.self.inside.documents.items in
+    let whole : map site_of c.as_slice-2.result.now ≡ sites docs =
+    ap (map site_of) c.as_slice-2.ensures.value ∙ c.in_ok-sites.ensures ∙ ap (λ ds. scanned (map document_of ds)) c.as_slice.ensures.value ∙ scanned_whole docs c.self.invariant.clear in
+    subst (IsIndex c.self.inside.kept.index) (sym whole) c.self.invariant.index

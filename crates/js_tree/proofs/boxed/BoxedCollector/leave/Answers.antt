@@ -1,4 +1,4 @@
-use Rattle.std.proofs.Common.{rules, arith, ◌≡◌, [], ◌∷◌, ◌++◌, ap, refl, ◌∙◌, sym}
+use Rattle.std.proofs.Common.{arith, [], ◌∷◌, ◌++◌, ap, refl, ◌∙◌}
 use Rattle.js_tree.specs.Seen.{note_of}
 use Rattle.js_tree.proofs.BoxedTold.{closes, put_back}
 use Rattle.js_tree.proofs.boxed.BoxedCollector.leave.Goals as goal

@@ -1,4 +1,4 @@
-use Rattle.std.proofs.Common.{◌≡◌, ◌<◌, length, arith, sym, ap, ◌∙◌}
+use Rattle.std.proofs.Common.{length, arith, ap}
 use Rattle.js_tree.proofs.FlatTold.{none_open}
 use Rattle.js_tree.proofs.Nested.{not_none}
 use Rattle.js_tree.proofs.flat.Flat.whole.Goals as goal

@@ -1,4 +1,4 @@
-use Rattle.std.proofs.Common.{rules, arith, ◌≡◌, ◌≤◌, [], ◌∷◌, ◌++◌, ap, refl, ◌∙◌, sym, length}
+use Rattle.std.proofs.Common.{arith, [], ◌∷◌, ◌++◌, ap, refl, ◌∙◌}
 use Rattle.std.proofs.lemmas.Bool.Decides.{nat_tests}
 use Rattle.js_tree.specs.FlatState.{opening_row}
 use Rattle.js_tree.proofs.FlatTold.{opens}

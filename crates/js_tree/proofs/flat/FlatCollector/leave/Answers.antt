@@ -1,4 +1,4 @@
-use Rattle.std.proofs.Common.{rules, arith, ◌≡◌, ◌≤◌, ◌<◌, ◌-◌, [], ◌∷◌, ◌++◌, ap, refl, ◌∙◌, sym, length}
+use Rattle.std.proofs.Common.{arith, ◌-◌, ap}
 use Rattle.js_tree.specs.Seen.{note_of}
 use Rattle.js_tree.proofs.FlatTold.{closes, closes_beyond}
 use Rattle.js_tree.proofs.flat.FlatCollector.leave.Goals as goal

@@ -1,0 +1,70 @@
+-- What finds places by their keys. Of the places with one key it finds the first, in scan order.
+use Rattle.std.specs.Prelude.{◌≡◌, ℕ, List, [], ◌∷◌, ◌++◌, Option, Some, None, option_map, option_to_list, bytes_eq, codes, decimal, string_bytes, if◌then◌else◌}
+use Rattle.std.specs.List.{list_any, position_from}
+use Rattle.std.specs.Map.{lookup}
+use Rattle.std.specs.Option.{option_or}
+use Rattle.js_doc.specs.Fragment.{fragment_text}
+use Rattle.js_doc.specs.Pointer.{Tokens, pointer_text}
+use Rattle.js_bundle.specs.declared.index.Index.{Index}
+use Rattle.js_bundle.specs.declared.numbering.Numbering.{Numbering}
+use Rattle.js_bundle.specs.Keyword.{Text, text_argument}
+use Rattle.js_bundle.specs.Names.{is_root, known_as}
+use Rattle.js_bundle.specs.Resource.{Site}
+use Rattle.js_bundle.specs.Spot.{Spot}
+use Rattle.js_bundle.specs.Url.{printed}
+
+-- ---- numbers under texts
+
+abbrev pub under : Numbering → Text → Option ℕ
+under numbers key = lookup (λ k. bytes_eq key (string_bytes k)) numbers.first.entries
+
+-- each of the keys has the number, unless it had one before
+pub record ArePut (old : Numbering) (keys : List Text) (n : ℕ) (new : Numbering) : Type 0 where
+  pub told : (key : Text) → under new key ≡ option_or (under old key) (if list_any (bytes_eq key) keys then Some n else None)
+
+-- ---- the keys of a place
+
+-- the two of `known_as`
+abbrev pub root_uris : Site → List Text
+root_uris place = if is_root place then printed place.above.base ∷ [] else []
+
+abbrev pub made_uris : Site → List Text
+made_uris place = if place.identifies then printed place.own.base ∷ [] else []
+
+-- where it stands
+abbrev pub place_key : ℕ → Tokens → Text
+place_key document pointer = decimal document ++ pointer_text pointer
+
+abbrev pub place_keys : Site → List Text
+place_keys place = place_key place.document place.pointer ∷ []
+
+-- a name in the resource that has its root at the pointer
+abbrev pub name_key : ℕ → Tokens → Text → Text
+name_key document root name = decimal document ++ (fragment_text root ++ (codes "#" ++ name))
+
+abbrev pub name_keys_by : Text → Site → List Text
+name_keys_by keyword place = option_to_list (option_map (name_key place.document place.own.resource) (text_argument keyword place.schema))
+
+abbrev pub name_keys : Site → List Text
+name_keys place = name_keys_by (codes "$anchor") place ++ name_keys_by (codes "$dynamicAnchor") place
+
+-- ---- the index
+
+-- under each key stands the number of the first place that has it
+pub record FindsFirst (keys : Site → List Text) (numbers : Numbering) (places : List Site) : Type 0 where
+  pub first : (key : Text) → under numbers key ≡ position_from (λ place. list_any (bytes_eq key) (keys place)) 0 places
+
+pub record IsIndex (index : Index) (all : List Site) : Type 0 where
+  pub known : FindsFirst known_as index.known all
+  pub standing : FindsFirst place_keys index.places all
+  pub named : FindsFirst name_keys index.names all
+
+-- a place more
+pub record IsAdded (old : Index) (place : Site) (n : ℕ) (new : Index) : Type 0 where
+  pub known : ArePut old.known (known_as place) n new.known
+  pub standing : ArePut old.places (place_keys place) n new.places
+  pub named : ArePut old.names (name_keys place) n new.names
+
+-- the same of places without their schemas, by where they stand
+pub record StandsFirst (numbers : Numbering) (spots : List Spot) : Type 0 where
+  pub first : (key : Text) → under numbers key ≡ position_from (λ s. list_any (bytes_eq key) (place_key s.document s.pointer ∷ [])) 0 spots

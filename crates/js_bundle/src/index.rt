@@ -1,0 +1,143 @@
+//! What finds places without a search: by the URI of a resource, by where they stand, by the names that they make.
+ghost use Rattle.std.specs.Prelude.{◌≡◌, ◌++◌, [], ◌∷◌, codes, OnOk, IfOk, string_bytes, option_map, option_copied, option_to_list, if◌then◌else◌};
+ghost use Rattle.js_bundle.specs.Index.{ArePut, IsAdded, IsIndex, place_key, name_key, name_keys_by, name_keys, root_uris, made_uris};
+ghost use Rattle.js_bundle.specs.Names.{known_as};
+ghost use Rattle.js_bundle.specs.Scan.{site_of};
+
+use crate::keyword::text_argument;
+use crate::names::is_root;
+use crate::numbering::Numbering;
+use crate::scan::Site;
+use crate::uri;
+use js_doc::{Memory, Pointer};
+use std::alloc::Global;
+
+/// The numbers of places in scan order, under their keys. Of the places with one key the first is found.
+#[derive(Drop)]
+pub(crate) struct Index {
+    /// The roots of resources, under their URIs.
+    pub(crate) known: Numbering,
+    /// Under the document's number and the pointer.
+    pub(crate) places: Numbering,
+    /// Those that make names, under their resource and the name.
+    pub(crate) names: Numbering,
+}
+
+impl Index {
+    /// That of no places.
+    pub(crate) fn new(alloc: Global) -> Index
+        ensures { IsIndex result [] }
+    {
+        Index {
+            known: Numbering::new(alloc),
+            places: Numbering::new(alloc),
+            names: Numbering::new(alloc),
+        }
+    }
+
+    /// Adds the next place.
+    pub(crate) fn add(
+        &mut self,
+        alloc: Global,
+        site: &Site<'_>,
+        number: usize,
+    ) -> Result<(), Memory>
+        ensures { OnOk result (IsAdded self.old (site_of site.now) number self.new) }
+    {
+        put_known(alloc, &mut self.known, site, number)?;
+        let key = place_key(alloc, site.document, &site.pointer)?;
+        self.places.put(key, number)?;
+        put_names(alloc, &mut self.names, site, number)
+    }
+}
+
+/// The key of where a place stands.
+pub(crate) fn place_key(alloc: Global, document: usize, pointer: &Pointer) -> Result<String, Memory>
+    ensures { IfOk result (λ t. string_bytes t ≡ place_key document pointer.now) }
+{
+    let way = pointer.text(alloc)?;
+    let mut key = document.to_string(alloc)?;
+    key.push_str(way.as_str())?;
+    Ok(key)
+}
+
+/// The key of a name in the resource that has its root at the pointer.
+pub(crate) fn name_key(
+    alloc: Global,
+    document: usize,
+    root: &Pointer,
+    name: &str,
+) -> Result<String, Memory>
+    ensures { IfOk result (λ t. string_bytes t ≡ name_key document root.now name.now) }
+{
+    let way = root.fragment(alloc)?;
+    let mut key = document.to_string(alloc)?;
+    key.push_str(way.as_str())?;
+    key.push_str("#")?;
+    key.push_str(name)?;
+    Ok(key)
+}
+
+// The document's URI, at its root.
+fn root_uri<'s>(site: &'s Site<'_>) -> Option<&'s str>
+    ensures { option_to_list (option_copied result) ≡ root_uris (site_of site.now) }
+{
+    if is_root(site) {
+        Some(uri::text_of(&site.above.base))
+    } else {
+        None
+    }
+}
+
+// What the `$id` makes.
+fn made_uri<'s>(site: &'s Site<'_>) -> Option<&'s str>
+    ensures { option_to_list (option_copied result) ≡ made_uris (site_of site.now) }
+{
+    if site.identifies {
+        Some(uri::text_of(&site.own.base))
+    } else {
+        None
+    }
+}
+
+fn put_known(
+    alloc: Global,
+    known: &mut Numbering,
+    site: &Site<'_>,
+    number: usize,
+) -> Result<(), Memory>
+    ensures { OnOk result (ArePut known.old (known_as (site_of site.now)) number known.new) }
+{
+    known.put_given(alloc, root_uri(site), number)?;
+    known.put_given(alloc, made_uri(site), number)
+}
+
+fn put_name(
+    alloc: Global,
+    names: &mut Numbering,
+    site: &Site<'_>,
+    keyword: &str,
+    number: usize,
+) -> Result<(), Memory>
+    ensures { OnOk result (ArePut names.old (name_keys_by keyword.now (site_of site.now)) number names.new) }
+{
+    match text_argument(site.schema, keyword) {
+        Some(name) => {
+            let key = name_key(alloc, site.document, &site.own.resource, name)?;
+            names.put(key, number)
+        }
+        None => Ok(()),
+    }
+}
+
+fn put_names(
+    alloc: Global,
+    names: &mut Numbering,
+    site: &Site<'_>,
+    number: usize,
+) -> Result<(), Memory>
+    ensures { OnOk result (ArePut names.old (name_keys (site_of site.now)) number names.new) }
+{
+    put_name(alloc, names, site, "$anchor", number)?;
+    put_name(alloc, names, site, "$dynamicAnchor", number)
+}

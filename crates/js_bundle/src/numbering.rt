@@ -1,0 +1,63 @@
+//! Numbering of places, each under a text.
+ghost use Rattle.std.specs.Prelude.{◌≡◌, ◌++◌, [], ◌∷◌, None, OnOk, string_bytes, option_to_list, option_copied};
+ghost use Rattle.js_bundle.specs.Index.{under, ArePut};
+
+use indexmap::IndexMap;
+use js_doc::Memory;
+use std::alloc::Global;
+
+/// Numbering of places, each under a text. A text keeps the first number that it is given.
+#[derive(Drop)]
+pub(crate) struct Numbering {
+    first: IndexMap<String, usize>,
+}
+
+impl Numbering {
+    pub(crate) fn new(alloc: Global) -> Numbering
+        ensures { result.first.entries ≡ [] }
+    {
+        Numbering {
+            first: IndexMap::new(alloc),
+        }
+    }
+
+    /// The number under the text.
+    pub(crate) fn get(&self, text: &str) -> Option<usize>
+        ensures { result ≡ under self.now text.now }
+    {
+        self.first.get(text).copied()
+    }
+
+    /// Puts the number under the text, unless one is there.
+    pub(crate) fn put(&mut self, text: String, number: usize) -> Result<(), Memory>
+        ensures { OnOk result (ArePut self.old (string_bytes text ∷ []) number self.new) }
+    {
+        match self.get(text.as_str()) {
+            Some(_) => Ok(()),
+            None => self.append(text, number),
+        }
+    }
+
+    fn append(&mut self, text: String, number: usize) -> Result<(), Memory>
+        requires { under self.old (string_bytes text) ≡ None }
+        ensures { OnOk result (self.new.first.entries ≡ self.old.first.entries ++ (text, number) ∷ []) }
+    {
+        self.first.insert(text, number)?;
+        Ok(())
+    }
+
+    /// Puts the number under the text, if there is one.
+    pub(crate) fn put_given(
+        &mut self,
+        alloc: Global,
+        text: Option<&str>,
+        number: usize,
+    ) -> Result<(), Memory>
+        ensures { OnOk result (ArePut self.old (option_to_list (option_copied text.entry)) number self.new) }
+    {
+        match text {
+            Some(text) => self.put(String::from_str(alloc, text)?, number),
+            None => Ok(()),
+        }
+    }
+}

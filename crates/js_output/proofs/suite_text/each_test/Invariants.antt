@@ -1,0 +1,12 @@
+use Rattle.std.proofs.Common.{◌≡◌, ◌++◌, drop, length}
+use Rattle.serde_json.specs.View.{items_view}
+use Rattle.js_doc.specs.WholeNumbers.{found_map}
+use Rattle.js_output.specs.SuiteText.{each_in, test_in, tests_seen}
+use Rattle.js_output.proofs.suite_text.each_test.Given as goal
+
+-- what was read and what the rest gives are the whole
+abbrev pub invariant-loop-value : goal.invariant-loop-value
+invariant-loop-value l =
+    (length l.tests.items ≡ l.value-index)
+    × (found_map (λ rest. tests_seen l.tests.items ++ rest) (each_in test_in l.value-index (items_view (drop l.value-index l.value-items)))
+    ≡ each_in test_in 0 (items_view l.values.items))

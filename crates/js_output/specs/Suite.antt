@@ -1,0 +1,145 @@
+-- The outcome of a suite: what comes of each test of each group, in order, and the text that tells it.
+use Rattle.std.specs.Prelude.{◌≡◌, ℕ, ◌+◌, List, [], ◌∷◌, ◌++◌, length, Option, Some, None, option_to_list, Result, Ok, Err, Bool, not, ◌⊎◌, MatchBool, nat_lt, codes, decimal, ⊤}
+use Rattle.js_doc.specs.Value.{Value}
+use Rattle.js_bundle.specs.Document as bundle
+use Rattle.js_bundle.specs.Resource.{Site}
+use Rattle.js_eval.specs.Result.{ResultTree, IsWithinLimits}
+use Rattle.js_output.specs.Cause.{Causes, IsClear, IsFirst}
+use Rattle.js_output.specs.Device.{Tracked, input_limit, IsLeft, Sends, SendsBeginning}
+use Rattle.js_output.specs.Documents.{Documents, document_uri, document_under, bundle_of, uri_causes, adding_causes, bundle_causes, documents_causes}
+use Rattle.js_output.specs.Entry.{entry_causes, place_named}
+use Rattle.js_output.specs.Outcome.{IsResultOf, NoneStands}
+use Rattle.js_output.specs.SuiteLines.{counts_of, lines_text}
+use Rattle.js_output.specs.SuiteText.{SuiteTest, SuiteGroup, suite_reading}
+use Rattle.js_output.specs.declared.fault.Fault.{Fault}
+use Rattle.js_output.specs.declared.fault.Fault.TheVariants as fault
+use Rattle.js_output.specs.declared.fault.SuiteFault.{SuiteFault}
+use Rattle.js_output.specs.declared.suite_lines.Counts.{Counts}
+use Rattle.js_output.specs.declared.suite_lines.Line.{Line}
+use Rattle.js_output.specs.declared.suite_lines.Status.{Status}
+use Rattle.js_output.specs.declared.suite_lines.Status.TheVariants.{Pass, Fail, Skip}
+
+-- ---- the documents of a group: those that are handed in, and its schema, which is the entry
+
+abbrev pub group_uri : ℕ → List ℕ
+group_uri g = codes "https://suite.example/" ++ decimal g
+
+-- a value under a URI, where it is one
+abbrev pub with_root : List ℕ → Value → bundle.Documents
+with_root uri root = option_to_list (document_under (document_uri uri) (Ok root))
+
+abbrev pub documents_with : Documents → List ℕ → Value → bundle.Documents
+documents_with documents uri schema = bundle_of documents ++ with_root uri schema
+
+abbrev pub with_schema : Documents → ℕ → Value → bundle.Documents
+with_schema documents g schema = documents_with documents (group_uri g) schema
+
+-- ---- what is refused of them: one after another, of them whole, and of the entry
+
+abbrev pub adding_causes_with : Documents → List ℕ → Causes
+adding_causes_with documents uri = adding_causes 0 documents ++ uri_causes (length (bundle_of documents)) uri
+
+abbrev pub whole_causes : bundle.Documents → List ℕ → Causes
+whole_causes documents uri = bundle_causes documents ++ entry_causes documents uri
+
+abbrev pub causes_with : Documents → List ℕ → Value → Causes
+causes_with documents uri schema = adding_causes_with documents uri ++ whole_causes (documents_with documents uri schema) uri
+
+abbrev pub group_causes : Documents → ℕ → Value → Causes
+group_causes documents g schema = causes_with documents (group_uri g) schema
+
+-- what the tests are judged by: these documents, or nothing where they are refused or the schema isn't whole
+abbrev pub IsBasis : Documents → ℕ → Option Value → Option bundle.Documents → Type 0
+IsBasis documents g None basis = basis ≡ None
+IsBasis documents g (Some schema) None = (f : Fault) × IsFirst (group_causes documents g schema) f
+IsBasis documents g (Some schema) (Some all) = IsClear (group_causes documents g schema) × (all ≡ with_schema documents g schema)
+
+-- ---- what comes of a test
+
+-- the verdict on v
+abbrev pub HasVerdict : bundle.Documents → Option Site → Value → Bool → Type 0
+HasVerdict documents entry v valid = (t : ResultTree) × IsResultOf documents entry v t × IsWithinLimits t × (t.root.valid ≡ valid)
+
+abbrev pub IsStatusOn : bundle.Documents → Option Site → Value → Bool → Status → Type 0
+IsStatusOn documents entry v valid Pass = HasVerdict documents entry v valid
+IsStatusOn documents entry v valid Fail = HasVerdict documents entry v (not valid)
+IsStatusOn documents entry v valid Skip = NoneStands documents entry v
+
+-- by the documents that its group is judged by, and its instance
+abbrev pub IsStatusBy : Option bundle.Documents → ℕ → Option Value → Bool → Status → Type 0
+IsStatusBy (Some all) g (Some v) valid status = IsStatusOn all (place_named all (group_uri g)) v valid status
+IsStatusBy _ g _ valid status = status ≡ Skip
+
+-- ---- lines
+
+module _ (basis : Option bundle.Documents) (g : ℕ) where
+  pub record IsLine (n : ℕ) (test : SuiteTest) (line : Line) : Type 0 where
+    pub status : IsStatusBy basis g test.instance test.valid line.status
+    pub group : line.group ≡ g
+    pub number : line.test ≡ n
+    pub description : line.description ≡ test.description
+
+  -- of tests, the first of which has the number n
+  abbrev pub AreTestLines : ℕ → List SuiteTest → List Line → Type 0
+  AreTestLines n [] lines = lines ≡ []
+  AreTestLines n (test ∷ tests) [] = ⊥
+  AreTestLines n (test ∷ tests) (line ∷ lines) = IsLine n test line × AreTestLines (n + 1) tests lines
+
+abbrev pub AreGroupLines : Documents → ℕ → SuiteGroup → List Line → Type 0
+AreGroupLines documents g group lines = (basis : Option bundle.Documents) × IsBasis documents g group.schema basis × AreTestLines basis g 0 group.tests lines
+
+-- of groups, the first of which has the number g
+abbrev pub AreLines : Documents → ℕ → List SuiteGroup → List Line → Type 0
+AreLines documents g [] lines = lines ≡ []
+AreLines documents g (group ∷ groups) lines =
+    (these : List Line) × (later : List Line) × (lines ≡ these ++ later) × AreGroupLines documents g group these × AreLines documents (g + 1) groups later
+
+-- ---- the outcome
+
+-- what a suite's text is read as: its lines come, or its fault
+abbrev pub ReadLines : Documents → Result (List SuiteGroup) SuiteFault → Result (List Line) Fault → Type 0
+ReadLines documents (Ok groups) (Ok lines) = AreLines documents 0 groups lines
+ReadLines documents (Ok groups) (Err f) = ⊥
+ReadLines documents (Err e) answer = answer ≡ Err (fault.Suite e)
+
+-- of its bytes: their number is looked at first
+abbrev pub LinesOfBytes : Documents → List ℕ → Result (List Line) Fault → Type 0
+LinesOfBytes documents bytes answer = MatchBool (nat_lt input_limit (length bytes)) (answer ≡ Err fault.InputTooLarge) (ReadLines documents (suite_reading bytes) answer)
+
+-- the documents alone come first
+abbrev pub SuiteOutcome : Documents → List ℕ → Result (List Line) Fault → Type 0
+SuiteOutcome documents bytes (Ok lines) = IsClear (documents_causes documents) × LinesOfBytes documents bytes (Ok lines)
+SuiteOutcome documents bytes (Err f) = IsFirst (documents_causes documents) f ⊎ (IsClear (documents_causes documents) × LinesOfBytes documents bytes (Err f))
+
+-- ---- what is answered, where the sink or memory may fail
+
+-- the counts are answered where the lines' text went out, and `Write` where a beginning of it did
+abbrev pub TellsLines : {D : Type 0} → (Result (List Line) Fault → Type 0) → (D → Option (List ℕ)) → Tracked D → Tracked D → Result Counts Fault → Type 0
+TellsLines Expected taken old new (Ok counts) = (lines : List Line) × Expected (Ok lines) × (counts ≡ counts_of lines) × Sends taken old new (lines_text lines)
+TellsLines Expected taken old new (Err fault.Memory) = ⊤
+TellsLines Expected taken old new (Err fault.Read) = ⊥
+TellsLines Expected taken old new (Err fault.Write) = (lines : List Line) × Expected (Ok lines) × SendsBeginning taken old new (lines_text lines)
+TellsLines Expected taken old new (Err f) = Expected (Err f)
+
+-- Of the bytes that a source has left: they are the suite's text, what is expected comes of them, and that is told. `Read` is
+-- answered only where nothing stands before the suite.
+abbrev pub AnswersSuite : {D : Type 0} → Documents → Option (List ℕ) → (D → Option (List ℕ)) → Tracked D → Tracked D → Result Counts Fault → Type 0
+AnswersSuite documents left taken old new (Err fault.Memory) = ⊤
+AnswersSuite documents left taken old new (Err fault.Read) = IsClear (documents_causes documents)
+AnswersSuite documents left taken old new answer = (bytes : List ℕ) × IsLeft left bytes × TellsLines (SuiteOutcome documents bytes) taken old new answer
+
+-- ---- words for the parts
+
+-- the faults from the suite's text on, or want of memory
+abbrev pub IsSuiteLate : Fault → Type 0
+IsSuiteLate fault.Memory = ⊤
+IsSuiteLate (fault.Suite e) = ⊤
+IsSuiteLate fault.Write = ⊤
+IsSuiteLate _ = ⊥
+
+-- these lines are told, or why they aren't
+abbrev pub SendsLines : {D : Type 0} → (D → Option (List ℕ)) → Tracked D → Tracked D → List Line → Result Counts Fault → Type 0
+SendsLines taken old new lines (Ok counts) = (counts ≡ counts_of lines) × Sends taken old new (lines_text lines)
+SendsLines taken old new lines (Err fault.Memory) = ⊤
+SendsLines taken old new lines (Err fault.Write) = SendsBeginning taken old new (lines_text lines)
+SendsLines taken old new lines (Err _) = ⊥

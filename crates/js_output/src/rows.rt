@@ -1,0 +1,76 @@
+//! The result of a judgement as rows, as far as a format shows them.
+ghost use Rattle.std.specs.Prelude.{◌≡◌, true, IfErr, IfOk};
+ghost use Rattle.js_doc.specs.Seen.{value_of};
+ghost use Rattle.js_tree.specs.FlatState.{IsWhole, state_of, whole};
+ghost use Rattle.js_tree.specs.Result.{ResultTree};
+ghost use Rattle.js_tree.specs.declared.forms.Format.TheVariants.{Verbose};
+ghost use Rattle.js_bundle.specs.Schemas.{is_place, place_at};
+ghost use Rattle.js_output.specs.Outcome.{AreRows, IsWalkFault, trimmed};
+
+use crate::entry::Entry;
+use crate::fault::Fault;
+use js_doc::Doc;
+use js_eval::walk_into;
+use js_tree::{Flat, Format, flat_condense, flat_prune};
+use std::alloc::Global;
+
+/// Judges the instance at the entry. The rows that the format doesn't show are taken out in place.
+pub(crate) fn rows_of<'a>(
+    alloc: Global,
+    entry: &'a Entry,
+    format: Format,
+    instance: &'a Doc,
+) -> Result<Flat<'a>, Fault>
+    requires { is_place entry.now.schemas entry.now.place ≡ true }
+    ensures rows { IfOk result (AreRows entry.now.schemas
+        (place_at entry.now.schemas entry.now.place) (value_of instance.now) format) }
+    ensures fault { IfErr result (IsWalkFault entry.now.schemas
+        (place_at entry.now.schemas entry.now.place) (value_of instance.now)) }
+{
+    let flat = walked(alloc, entry, instance)?;
+    Ok(trimmed(flat, format))
+}
+
+fn walked<'a>(alloc: Global, entry: &'a Entry, instance: &'a Doc) -> Result<Flat<'a>, Fault>
+    requires { is_place entry.now.schemas entry.now.place ≡ true }
+    ensures rows { IfOk result (AreRows entry.now.schemas
+        (place_at entry.now.schemas entry.now.place) (value_of instance.now) Verbose) }
+    ensures fault { IfErr result (IsWalkFault entry.now.schemas
+        (place_at entry.now.schemas entry.now.place) (value_of instance.now)) }
+{
+    match walk_into(
+        alloc,
+        &entry.schemas,
+        entry.place,
+        instance,
+        Flat::new(alloc),
+    ) {
+        Ok(flat) => Ok(flat),
+        Err((fault, _flat)) => Err(Fault::from(fault)),
+    }
+}
+
+// Takes no memory.
+fn trimmed<'a>(flat: Flat<'a>, format: Format) -> Flat<'a>
+    requires { IsWhole (state_of flat) }
+    ensures { (t : ResultTree) → state_of flat.entry ≡ whole t
+        → state_of result ≡ whole (trimmed format t) }
+{
+    match format {
+        Format::Flag => flat,
+        Format::Basic => flat_prune(flat),
+        Format::Detailed => flat_condense(flat_prune(flat)),
+        Format::Verbose => flat,
+    }
+}
+
+/// The verdict of the rows' tree.
+pub(crate) fn is_valid(flat: &Flat) -> bool
+    requires { IsWhole (state_of flat.now) }
+    ensures { (t : ResultTree) → state_of flat.now ≡ whole t → result ≡ t.root.valid }
+{
+    let rows = flat.rows();
+    let row = &rows[0];
+    let root = &row.unit;
+    root.valid
+}

@@ -1,0 +1,92 @@
+//! A suite of tests, run over documents.
+ghost use Rattle.std.specs.Prelude.{◌≡◌, ◌≢◌, ◌≤◌, ◌+◌, true, false, min, ◌^◌, ◌-◌, IfOk, IfErr, OnOk, IsErrOf, length};
+ghost use Rattle.js_output.specs.Device.{input_limit};
+ghost use Rattle.js_output.specs.Documents.{documents_of};
+ghost use Rattle.js_output.specs.Outcome.{IsEarly, IsReadOrEarly};
+ghost use Rattle.js_output.specs.Suite.{AnswersSuite, TellsLines, ReadLines, SendsLines, IsSuiteLate};
+ghost use Rattle.js_output.specs.SuiteText.{suite_reading};
+
+use crate::documents::finished;
+use crate::fault::Fault;
+use crate::input::read_all;
+use crate::sink::Sink;
+use crate::source::Source;
+use crate::suite_judging::judged_lines;
+use crate::suite_lines::{Counts, Line, counts_of, lines_text};
+use crate::suite_text::suite_from;
+use std::alloc::Global;
+use std::io::{Read, Write};
+
+/// Runs a suite of tests: a list of groups, each with a `description`, a `schema` and its `tests`; a
+/// test has a `description`, its `data`, and whether this is `valid`. Other members are ignored.
+///
+/// Each document is handed in with its URI; nothing is fetched. For the group of the number `G`, from
+/// 0, its schema stands after them, at `https://suite.example/G`, and is the entry. A line is written
+/// for each test: `pass` if the verdict on its data is the one that it tells, `fail` if not, and
+/// `skip` if there is no verdict, since the group's documents are refused, the data's numbers aren't
+/// whole, or no result stands within 256 schemas on a way and 100,000 nodes; then `G.T`, `T` being
+/// the test's number in its group, and the description as JSON text. At the end stands
+/// `passed P, failed F, skipped S`; these counts are answered.
+///
+/// # Errors
+/// The first that applies, of: the refusal of a document, in their order, and the first refusal of
+/// all, of these documents alone; `Read` and `InputTooLarge` of the suite's source; `Suite`, where
+/// its text is no JSON, or at the first value that is missing or of the wrong kind: groups in order,
+/// the members of each ascending by name, its tests in order; `Write`. `Memory` may come at any point
+/// before the first write. After `Write` a beginning of the text is out, and after any other fault
+/// nothing is.
+pub fn run_suite<R: Read, W: Write>(
+    alloc: Global,
+    docs: &[(&str, &[u8])],
+    suite: &mut Source<R>,
+    out: &mut Sink<W>,
+) -> Result<Counts, Fault>
+    // These are the suite's bytes, these are its lines, and their text went out.
+    ensures answer { AnswersSuite (documents_of docs.now) (R.remaining suite.old.device)
+        W.contents out.old out.new result }
+
+    // The suite is read where no fault comes before it.
+    ensures unread { IfErr result (λ e. IsEarly e → suite.new ≡ suite.old) }
+    ensures read { IsErrOf result Fault.Read → suite.new.failed ≡ true }
+    ensures failed { suite.new.failed ≡ true → IsReadOrEarly result }
+    ensures reads { suite.new.calls ≤ suite.old.calls + (input_limit + 1) }
+    ensures source_stays { suite.old.failed ≡ true → suite.new ≡ suite.old }
+
+    // Nothing goes out where there are no lines.
+    ensures nothing { IfErr result (λ e. e ≢ Fault.Write → out.new ≡ out.old) }
+    ensures sink_stays { out.old.failed ≡ true → out.new ≡ out.old }
+{
+    finished(alloc, docs)?;
+    let bytes = read_all(alloc, suite)?;
+    tell_suite(alloc, docs, bytes.as_slice(), out)
+}
+
+// What comes of the suite whose text these bytes are.
+fn tell_suite<W: Write>(
+    alloc: Global,
+    docs: &[(&str, &[u8])],
+    bytes: &[u8],
+    out: &mut Sink<W>,
+) -> Result<Counts, Fault>
+    ensures answer { TellsLines (ReadLines (documents_of docs.now) (suite_reading bytes.now))
+        W.contents out.old out.new result }
+    ensures late { IfErr result IsSuiteLate }
+    ensures nothing { IfErr result (λ e. e ≢ Fault.Write → out.new ≡ out.old) }
+    ensures sink_stays { out.old.failed ≡ true → out.new ≡ out.old }
+{
+    let groups = suite_from(alloc, bytes)?;
+    let lines = judged_lines(alloc, docs, groups.as_slice())?;
+    tell_lines(alloc, lines.as_slice(), out)
+}
+
+// All that takes memory is done before a byte goes out.
+fn tell_lines<W: Write>(alloc: Global, lines: &[Line], out: &mut Sink<W>) -> Result<Counts, Fault>
+    ensures answer { SendsLines W.contents out.old out.new lines.now result }
+    ensures nothing { IfErr result (λ e. e ≢ Fault.Write → out.new ≡ out.old) }
+    ensures sink_stays { out.old.failed ≡ true → out.new ≡ out.old }
+{
+    let counts = counts_of(lines);
+    let text = lines_text(alloc, lines, counts)?;
+    out.put(text.as_bytes())?;
+    Ok(counts)
+}

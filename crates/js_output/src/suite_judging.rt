@@ -1,0 +1,233 @@
+//! The tests of a suite, judged group by group.
+ghost use Rattle.std.specs.Prelude.{◌≡◌, ◌++◌, true, List, OnOk, IfOk, IfErr, option_map, length, string_bytes, None};
+ghost use Rattle.js_doc.specs.Seen.{value_of};
+ghost use Rattle.js_bundle.specs.Schemas.{is_place, place_at};
+ghost use Rattle.js_output.specs.Cause.{IsClear, FailsBy};
+ghost use Rattle.js_output.specs.Documents.{documents_of, uri_causes};
+ghost use Rattle.js_output.specs.Entry.{IsEntry};
+ghost use Rattle.js_output.specs.Suite.{AreGroupLines, AreLines, AreTestLines, IsBasis, IsLine, IsStatusOn, adding_causes_with, causes_with, documents_with, group_causes, group_uri, whole_causes, with_root, with_schema};
+ghost use Rattle.js_output.specs.SuiteJudging.{IsJudge, IsStatusAt, IsThere, IsNotMemory, basis_of, compared};
+ghost use Rattle.js_output.specs.SuiteText.{groups_seen, group_seen, tests_seen, test_seen};
+ghost use Rattle.js_output.specs.declared.suite_lines.Line.{Line};
+
+use crate::documents::{bundled, finish_bundle};
+use crate::entry::{Entry, place_named};
+use crate::fault::Fault;
+use crate::suite_lines::{Line, Status};
+use crate::suite_text::{SuiteGroup, SuiteTest};
+use js_bundle::Bundle;
+use js_doc::{Doc, Memory};
+use js_eval::{WalkFault, verdict};
+use std::alloc::{AllocError, Global};
+
+/// A line for each test of the groups, in order. Each group has the documents anew, with its schema
+/// as the last one, which is the entry.
+pub(crate) fn judged_lines(
+    alloc: Global,
+    docs: &[(&str, &[u8])],
+    groups: &[SuiteGroup],
+) -> Result<Vec<Line>, Memory>
+    ensures { IfOk result (λ v. AreLines (documents_of docs.now) 0 (groups_seen groups.now) v.items) }
+{
+    let mut lines = Vec::new(alloc);
+    for number in 0..groups.len() {
+        judge_group(alloc, docs, number, &groups[number], &mut lines)?;
+    }
+    Ok(lines)
+}
+
+fn judge_group(
+    alloc: Global,
+    docs: &[(&str, &[u8])],
+    number: usize,
+    group: &SuiteGroup,
+    lines: &mut Vec<Line>,
+) -> Result<(), Memory>
+    ensures { OnOk result ((these : List Line) × (lines.new.items ≡ lines.old.items ++ these)
+        × AreGroupLines (documents_of docs.now) number (group_seen group.now) these) }
+{
+    let entry = group_entry(alloc, docs, number, &group.schema)?;
+    judge_tests(alloc, &entry, number, group.tests.as_slice(), lines)
+}
+
+fn judge_tests(
+    alloc: Global,
+    entry: &Option<Entry>,
+    group: usize,
+    tests: &[SuiteTest],
+    lines: &mut Vec<Line>,
+) -> Result<(), Memory>
+    requires { IsJudge group entry.now }
+    ensures { OnOk result ((these : List Line) × (lines.new.items ≡ lines.old.items ++ these)
+        × AreTestLines (basis_of entry.now) group 0 (tests_seen tests.now) these) }
+{
+    for number in 0..tests.len() {
+        let line = judged_line(alloc, entry, group, number, &tests[number])?;
+        lines.push(line)?;
+    }
+    Ok(())
+}
+
+fn judged_line(
+    alloc: Global,
+    entry: &Option<Entry>,
+    group: usize,
+    number: usize,
+    test: &SuiteTest,
+) -> Result<Line, Memory>
+    requires { IsJudge group entry.now }
+    ensures { IfOk result (IsLine (basis_of entry.now) group number (test_seen test.now)) }
+{
+    let status = status_of(alloc, entry, test)?;
+    let description = test.description.copy()?;
+    Ok(Line {
+        status,
+        group,
+        test: number,
+        description,
+    })
+}
+
+// The schema is judged by once its group's documents are finished, however many tests there are.
+fn group_entry(
+    alloc: Global,
+    docs: &[(&str, &[u8])],
+    number: usize,
+    schema: &Option<Doc>,
+) -> Result<Option<Entry>, Memory>
+    ensures basis { IfOk result (λ o. IsBasis (documents_of docs.now) number
+        (option_map value_of schema.now) (basis_of o)) }
+    ensures entry { IfOk result (IsJudge number) }
+{
+    let Some(schema) = schema else {
+        return Ok(None);
+    };
+    match entry_with(alloc, docs, number, schema) {
+        Ok(entry) => Ok(Some(entry)),
+        Err(fault) => without_entry(&fault),
+    }
+}
+
+// Only want of memory ends the suite.
+fn without_entry(fault: &Fault) -> Result<Option<Entry>, Memory>
+    ensures none { IfOk result (λ o. o ≡ None) }
+    ensures refusal { OnOk result (IsNotMemory fault.now) }
+{
+    match fault {
+        Fault::Memory => Err(Memory),
+        _ => Ok(None),
+    }
+}
+
+// The entry at the schema, which stands after the documents.
+fn entry_with(
+    alloc: Global,
+    docs: &[(&str, &[u8])],
+    number: usize,
+    schema: &Doc,
+) -> Result<Entry, Fault>
+    ensures schemas { IfOk result
+        (λ e. e.schemas ≡ with_schema (documents_of docs.now) number (value_of schema.now)) }
+    ensures entry { IfOk result (λ e. IsEntry e.schemas (group_uri number) e) }
+    ensures clear { OnOk result
+        (IsClear (group_causes (documents_of docs.now) number (value_of schema.now))) }
+    ensures err { IfErr result
+        (FailsBy (group_causes (documents_of docs.now) number (value_of schema.now))) }
+{
+    let uri = group_uri(alloc, number)?;
+    entry_at(alloc, docs, uri.as_str(), schema)
+}
+
+fn entry_at(alloc: Global, docs: &[(&str, &[u8])], uri: &str, schema: &Doc) -> Result<Entry, Fault>
+    ensures schemas { IfOk result
+        (λ e. e.schemas ≡ documents_with (documents_of docs.now) uri.now (value_of schema.now)) }
+    ensures entry { IfOk result (λ e. IsEntry e.schemas uri.now e) }
+    ensures clear { OnOk result
+        (IsClear (causes_with (documents_of docs.now) uri.now (value_of schema.now))) }
+    ensures err { IfErr result
+        (FailsBy (causes_with (documents_of docs.now) uri.now (value_of schema.now))) }
+{
+    let bundle = bundle_with(alloc, docs, uri, schema)?;
+    entry_in(alloc, bundle, uri)
+}
+
+fn group_uri(alloc: Global, number: usize) -> Result<String, AllocError>
+    ensures { IfOk result (λ uri. string_bytes uri ≡ group_uri number) }
+{
+    format!(in alloc; "https://suite.example/{number}")
+}
+
+fn bundle_with(
+    alloc: Global,
+    docs: &[(&str, &[u8])],
+    uri: &str,
+    schema: &Doc,
+) -> Result<Bundle, Fault>
+    ensures ok { IfOk result
+        (λ b. b ≡ documents_with (documents_of docs.now) uri.now (value_of schema.now)) }
+    ensures clear { OnOk result (IsClear (adding_causes_with (documents_of docs.now) uri.now)) }
+    ensures err { IfErr result (FailsBy (adding_causes_with (documents_of docs.now) uri.now)) }
+{
+    let mut bundle = bundled(alloc, docs)?;
+    let schema = schema.copy(alloc)?;
+    add_doc(&mut bundle, uri, schema)?;
+    Ok(bundle)
+}
+
+fn add_doc(bundle: &mut Bundle, uri: &str, root: Doc) -> Result<(), Fault>
+    ensures ok { OnOk result (bundle.new ≡ bundle.old ++ with_root uri.now (value_of root)) }
+    ensures clear { OnOk result (IsClear (uri_causes (length bundle.old) uri.now)) }
+    ensures err { IfErr result (FailsBy (uri_causes (length bundle.old) uri.now)) }
+{
+    match bundle.add_doc(uri, root) {
+        Ok(()) => Ok(()),
+        Err((refusal, _root)) => Err(Fault::from(refusal)),
+    }
+}
+
+fn entry_in(alloc: Global, bundle: Bundle, uri: &str) -> Result<Entry, Fault>
+    ensures schemas { IfOk result (λ e. e.schemas ≡ bundle) }
+    ensures entry { IfOk result (λ e. IsEntry e.schemas uri.now e) }
+    ensures clear { OnOk result (IsClear (whole_causes bundle uri.now)) }
+    ensures err { IfErr result (FailsBy (whole_causes bundle uri.now)) }
+{
+    let schemas = finish_bundle(alloc, bundle)?;
+    let place = place_named(alloc, &schemas, uri)?;
+    Ok(Entry { schemas, place })
+}
+
+fn status_of(alloc: Global, entry: &Option<Entry>, test: &SuiteTest) -> Result<Status, Memory>
+    requires { IsThere entry.now }
+    ensures { IfOk result
+        (IsStatusAt entry.now (option_map value_of test.now.instance) test.now.valid) }
+{
+    let Some(entry) = entry else {
+        return Ok(Status::Skip);
+    };
+    let Some(instance) = &test.instance else {
+        return Ok(Status::Skip);
+    };
+    judged(alloc, entry, instance, test.valid)
+}
+
+fn judged(alloc: Global, entry: &Entry, instance: &Doc, valid: bool) -> Result<Status, Memory>
+    requires { is_place entry.now.schemas entry.now.place ≡ true }
+    ensures { IfOk result (IsStatusOn entry.now.schemas
+        (place_at entry.now.schemas entry.now.place) (value_of instance.now) valid) }
+{
+    match verdict(alloc, &entry.schemas, entry.place, instance) {
+        Ok(found) => Ok(compared(found, valid)),
+        Err(WalkFault::TooLarge) => Ok(Status::Skip),
+        Err(WalkFault::Memory) => Err(Memory),
+    }
+}
+
+fn compared(found: bool, valid: bool) -> Status
+    ensures { result ≡ compared found valid }
+{
+    if found == valid {
+        Status::Pass
+    } else {
+        Status::Fail
+    }
+}

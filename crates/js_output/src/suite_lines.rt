@@ -1,0 +1,122 @@
+//! What is told of a suite: a line for each test, and one that counts them.
+ghost use Rattle.std.specs.Prelude.{◌≡◌, ◌++◌, OnOk, IfOk, string_bytes};
+ghost use Rattle.js_output.specs.SuiteLines.{status_word, line_text, counts_of, counts_text, lines_text};
+
+use js_doc::{Memory, Text, push_string};
+use std::alloc::Global;
+
+/// How many tests of a suite there were of each status.
+#[derive(Debug, Clone, Copy, PartialEq, Eq)]
+pub struct Counts {
+    /// The verdict was the one that the test tells.
+    pub passed: u64,
+    /// The verdict was the other one.
+    pub failed: u64,
+    /// There was no verdict.
+    pub skipped: u64,
+}
+
+/// What came of a test.
+#[derive(Clone, Copy)]
+pub(crate) enum Status {
+    Pass,
+    Fail,
+    Skip,
+}
+
+/// What is told of a test: what came of it, the number of its group and its own in the group, each
+/// from 0, and its description.
+#[derive(Drop)]
+pub(crate) struct Line {
+    pub(crate) status: Status,
+    pub(crate) group: usize,
+    pub(crate) test: usize,
+    pub(crate) description: Text,
+}
+
+/// The text of all lines, with the counts at the end.
+pub(crate) fn lines_text(alloc: Global, lines: &[Line], counts: Counts) -> Result<String, Memory>
+    requires { counts ≡ counts_of lines.now }
+    ensures { IfOk result (λ text. string_bytes text ≡ lines_text lines.now) }
+{
+    let mut text = String::new(alloc);
+    for line in lines {
+        push_line(alloc, &mut text, line)?;
+    }
+    push_counts(alloc, &mut text, counts)?;
+    Ok(text)
+}
+
+fn push_line(alloc: Global, text: &mut String, line: &Line) -> Result<(), Memory>
+    ensures { OnOk result (string_bytes text.new ≡ string_bytes text.old ++ line_text line.now) }
+{
+    let line = line_text(alloc, line)?;
+    text.push_str(line.as_str())?;
+    Ok(())
+}
+
+fn line_text(alloc: Global, line: &Line) -> Result<String, Memory>
+    ensures { IfOk result (λ text. string_bytes text ≡ line_text line.now) }
+{
+    let Line {
+        status,
+        group,
+        test,
+        description,
+    } = line;
+    let word = status_word(*status);
+    let mut text = format!(in alloc; "{word} {group}.{test} ")?;
+    push_string(&mut text, description.as_str())?;
+    text.push('\n')?;
+    Ok(text)
+}
+
+fn status_word(status: Status) -> &'static str
+    ensures { result.now ≡ status_word status }
+{
+    match status {
+        Status::Pass => "pass",
+        Status::Fail => "fail",
+        Status::Skip => "skip",
+    }
+}
+
+fn push_counts(alloc: Global, text: &mut String, counts: Counts) -> Result<(), Memory>
+    ensures { OnOk result (string_bytes text.new ≡ string_bytes text.old ++ counts_text counts) }
+{
+    let counts = counts_text(alloc, counts)?;
+    text.push_str(counts.as_str())?;
+    Ok(())
+}
+
+fn counts_text(alloc: Global, counts: Counts) -> Result<String, Memory>
+    ensures { IfOk result (λ text. string_bytes text ≡ counts_text counts) }
+{
+    let Counts {
+        passed,
+        failed,
+        skipped,
+    } = counts;
+    Ok(format!(in alloc; "passed {passed}, failed {failed}, skipped {skipped}\n")?)
+}
+
+/// How many lines there are of each status.
+pub(crate) fn counts_of(lines: &[Line]) -> Counts
+    ensures { result ≡ counts_of lines.now }
+{
+    let mut passed = 0;
+    let mut failed = 0;
+    let mut skipped = 0;
+    for line in lines {
+        match line.status {
+            Status::Pass => passed += 1,
+            Status::Fail => failed += 1,
+            Status::Skip => skipped += 1,
+        }
+    }
+    Counts {
+        passed,
+        failed,
+        skipped,
+    }
+}

@@ -1,0 +1,139 @@
+-- The text of a node is that of its document.
+use Rattle.std.proofs.Common.{◌≡◌, ℕ, Bool, true, false, not, List, [], ◌∷◌, ◌++◌, Option, Some, None, Result, codes, refl, ap, sym, subst, ◌∙◌, append_assoc, map}
+use Rattle.std.specs.Result.{IsErr}
+use Rattle.json.specs.Print.{escape_byte}
+use Rattle.js_doc.specs.BytesOut.{Progress, Goes, Stops, Puts}
+use Rattle.js_doc.specs.Compact.{compact, compact_members, quoted}
+use Rattle.js_doc.specs.Value.{Value, items, list, members, object, text, truth}
+use Rattle.js_tree.specs.Form.{annotation, array_of_some, error, given, list_name, node, when}
+use Rattle.js_tree.specs.NodeText.{given_text, annotation_text, error_text, head_text, list_start, tail_text, valid_text, node_text}
+use Rattle.js_tree.specs.Note.{Note}
+use Rattle.js_tree.specs.OutputUnit.{OutputUnit}
+use Rattle.js_tree.proofs.Pieces.{stops_in, then_puts}
+
+abbrev Members : Type 0
+Members = List (List ℕ × Value)
+
+-- a member that is there if there is a value for it
+given_member : (name start : List ℕ) (value : Option Value) (later : Members) → start ≡ 44 ∷ (quoted name ++ 58 ∷ []) → compact_members true (members (given name value ++ later)) ≡ given_text start value ++ compact_members true (members later)
+given_member name start None later e = refl
+given_member name start (Some value) later e =
+    sym (append_assoc (44 ∷ (quoted name ++ 58 ∷ [])) (compact value) (compact_members true (members later)) ∙ ap (λ l. 44 ∷ l) (append_assoc (quoted name) (58 ∷ []) (compact value ++ compact_members true (members later))))
+    ∙ ap (λ l. (l ++ compact value) ++ compact_members true (members later)) (sym e)
+
+annotation_name : codes ",\"annotation\":" ≡ 44 ∷ (quoted (codes "annotation") ++ 58 ∷ [])
+unfolding escape_byte
+annotation_name = refl
+
+annotations_name : codes ",\"annotations\":" ≡ 44 ∷ (quoted (codes "annotations") ++ 58 ∷ [])
+unfolding escape_byte
+annotations_name = refl
+
+error_name : codes ",\"error\":" ≡ 44 ∷ (quoted (codes "error") ++ 58 ∷ [])
+unfolding escape_byte
+error_name = refl
+
+errors_name : codes ",\"errors\":" ≡ 44 ∷ (quoted (codes "errors") ++ 58 ∷ [])
+unfolding escape_byte
+errors_name = refl
+
+absolute_name : codes "{\"absoluteKeywordLocation\":" ≡ 123 ∷ (quoted (codes "absoluteKeywordLocation") ++ 58 ∷ [])
+unfolding escape_byte
+absolute_name = refl
+
+instance_name : codes ",\"instanceLocation\":" ≡ 44 ∷ (quoted (codes "instanceLocation") ++ 58 ∷ [])
+unfolding escape_byte
+instance_name = refl
+
+keyword_name : codes ",\"keywordLocation\":" ≡ 44 ∷ (quoted (codes "keywordLocation") ++ 58 ∷ [])
+unfolding escape_byte
+keyword_name = refl
+
+last_member : (valid : Bool) → compact_members true (members ((codes "valid", truth valid) ∷ [])) ≡ valid_text valid
+unfolding escape_byte
+last_member true = refl
+last_member false = refl
+
+last_members : (u : OutputUnit) → compact_members true (members ((codes "instanceLocation", text u.instance) ∷ (codes "keywordLocation", text u.keyword) ∷ (codes "valid", truth u.valid) ∷ [])) ≡ tail_text u
+unfolding escape_byte
+last_members u = rw (last_member u.valid) refl
+
+abbrev annotations : Bool → List Value → List ℕ
+annotations valid children = given_text (codes ",\"annotations\":") (when valid (array_of_some children))
+
+abbrev errors : Bool → List Value → List ℕ
+errors valid children = given_text (codes ",\"errors\":") (when (not valid) (array_of_some children))
+
+node_text_is : (u : OutputUnit) (children : List Value) → node_text u children ≡ compact (node u children)
+unfolding escape_byte
+node_text_is u children =
+    let last : Members = (codes "instanceLocation", text u.instance) ∷ (codes "keywordLocation", text u.keyword) ∷ (codes "valid", truth u.valid) ∷ [] in
+    let fourth = given_member (codes "errors") (codes ",\"errors\":") (when (not u.valid) (array_of_some children)) last errors_name ∙ ap (λ l. errors u.valid children ++ l) (last_members u) in
+    let third = given_member (codes "error") (codes ",\"error\":") (error u.note) (given (codes "errors") (when (not u.valid) (array_of_some children)) ++ last) error_name ∙ ap (λ l. error_text u.note ++ l) fourth in
+    let second = given_member (codes "annotations") (codes ",\"annotations\":") (when u.valid (array_of_some children)) (given (codes "error") (error u.note) ++ (given (codes "errors") (when (not u.valid) (array_of_some children)) ++ last)) annotations_name ∙ ap (λ l. annotations u.valid children ++ l) third in
+    let first = given_member (codes "annotation") (codes ",\"annotation\":") (annotation u.note) (given (codes "annotations") (when u.valid (array_of_some children)) ++ (given (codes "error") (error u.note) ++ (given (codes "errors") (when (not u.valid) (array_of_some children)) ++ last))) annotation_name ∙ ap (λ l. annotation_text u.note ++ l) second in
+    ap (λ l. codes "{\"absoluteKeywordLocation\":" ++ l) (append_assoc (quoted u.absolute) (annotation_text u.note) (annotations u.valid children ++ (error_text u.note ++ (errors u.valid children ++ tail_text u))) ∙ ap (λ l. quoted u.absolute ++ l) (sym first))
+
+-- with the verdict and the note by themselves
+pieces_are : (u : OutputUnit) (children : List Value) (v : Bool) (n : Note) → v ≡ u.valid → n ≡ u.note → head_text u ++ (annotations v children ++ (error_text n ++ (errors v children ++ tail_text u))) ≡ compact (node u children)
+pieces_are u children v n e f = rw (e, f) (node_text_is u children)
+
+no_children : (start : List ℕ) (b : Bool) → given_text start (when b None) ≡ []
+no_children start true = refl
+no_children start false = refl
+
+pub leaf_text_is : (u : OutputUnit) (n : Note) → n ≡ u.note → head_text u ++ (error_text n ++ tail_text u) ≡ compact (node u [])
+leaf_text_is u n f =
+    let none = no_children (codes ",\"annotations\":") u.valid in
+    let nothing = no_children (codes ",\"errors\":") (not u.valid) in
+    rw f (ap (λ l. head_text u ++ (l ++ (error_text u.note ++ tail_text u))) (sym none) ∙ (ap (λ l. head_text u ++ (annotations u.valid [] ++ (error_text u.note ++ (l ++ tail_text u)))) (sym nothing) ∙ node_text_is u []))
+
+-- ---- a node that goes out in its pieces, or stops in one of them
+
+module _ {T E : Type 0} (u : OutputUnit) (children : List Value) (v : Bool) (n : Note) (valid_is : v ≡ u.valid) (note_is : n ≡ u.note) (r : Result T E) where
+  pub stops_in_head : (a b : Progress) → IsErr r → Stops a b (head_text u) → Puts a b (compact (node u children)) r
+  stops_in_head a b h s =
+      subst (λ l. Puts a b l r) (pieces_are u children v n valid_is note_is)
+      (stops_in a b (head_text u) (annotations v children ++ (error_text n ++ (errors v children ++ tail_text u))) r h s)
+
+  pub stops_in_annotations : (a b c : Progress) → IsErr r → Goes a b (head_text u) → Stops b c (annotations v children) → Puts a c (compact (node u children)) r
+  stops_in_annotations a b c h g s =
+      subst (λ l. Puts a c l r) (pieces_are u children v n valid_is note_is)
+      (then_puts a b c (head_text u) (annotations v children ++ (error_text n ++ (errors v children ++ tail_text u))) r g
+      (stops_in b c (annotations v children) (error_text n ++ (errors v children ++ tail_text u)) r h s))
+
+  pub stops_in_error : (a b c d : Progress) → IsErr r → Goes a b (head_text u) → Goes b c (annotations v children) → Stops c d (error_text n) → Puts a d (compact (node u children)) r
+  stops_in_error a b c d h g1 g2 s =
+      subst (λ l. Puts a d l r) (pieces_are u children v n valid_is note_is)
+      (then_puts a b d (head_text u) (annotations v children ++ (error_text n ++ (errors v children ++ tail_text u))) r g1
+      (then_puts b c d (annotations v children) (error_text n ++ (errors v children ++ tail_text u)) r g2
+      (stops_in c d (error_text n) (errors v children ++ tail_text u) r h s)))
+
+  pub stops_in_errors : (a b c d e : Progress) → IsErr r → Goes a b (head_text u) → Goes b c (annotations v children) → Goes c d (error_text n) → Stops d e (errors v children) → Puts a e (compact (node u children)) r
+  stops_in_errors a b c d e h g1 g2 g3 s =
+      subst (λ l. Puts a e l r) (pieces_are u children v n valid_is note_is)
+      (then_puts a b e (head_text u) (annotations v children ++ (error_text n ++ (errors v children ++ tail_text u))) r g1
+      (then_puts b c e (annotations v children) (error_text n ++ (errors v children ++ tail_text u)) r g2
+      (then_puts c d e (error_text n) (errors v children ++ tail_text u) r g3
+      (stops_in d e (errors v children) (tail_text u) r h s))))
+
+  pub puts_node : (a b c d e f : Progress) → Goes a b (head_text u) → Goes b c (annotations v children) → Goes c d (error_text n) → Goes d e (errors v children) → Puts e f (tail_text u) r → Puts a f (compact (node u children)) r
+  puts_node a b c d e f g1 g2 g3 g4 p =
+      subst (λ l. Puts a f l r) (pieces_are u children v n valid_is note_is)
+      (then_puts a b f (head_text u) (annotations v children ++ (error_text n ++ (errors v children ++ tail_text u))) r g1
+      (then_puts b c f (annotations v children) (error_text n ++ (errors v children ++ tail_text u)) r g2
+      (then_puts c d f (error_text n) (errors v children ++ tail_text u) r g3
+      (then_puts d e f (errors v children) (tail_text u) r g4 p))))
+
+-- ---- the list of units
+
+pub list_text_is : (valid : Bool) (vs : Value) → list_start valid ++ (compact vs ++ valid_text valid) ≡ compact (object (members ((list_name valid, vs) ∷ (codes "valid", truth valid) ∷ [])))
+unfolding escape_byte
+list_text_is true vs = refl
+list_text_is false vs = refl
+
+abbrev pub list_value : Bool → List Value → Value
+list_value valid vs = object (members ((list_name valid, list (items vs)) ∷ (codes "valid", truth valid) ∷ []))
+
+abbrev pub units_value : Bool → List OutputUnit → Value
+units_value valid us = list_value valid (map (λ u. node u []) us)

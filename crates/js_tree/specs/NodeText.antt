@@ -1,0 +1,43 @@
+-- The text of a node in the pieces in which it is put out (of private functions).
+use Rattle.std.specs.Prelude.{ℕ, Bool, true, false, not, List, [], ◌++◌, Option, Some, None, codes}
+use Rattle.js_doc.specs.Compact.{compact, quoted}
+use Rattle.js_doc.specs.Value.{Value}
+use Rattle.js_tree.specs.Form.{annotation, array_of_some, error, when}
+use Rattle.js_tree.specs.Note.{Note}
+use Rattle.js_tree.specs.OutputUnit.{OutputUnit}
+
+-- the value after what stands before it, if there is one
+abbrev pub given_text : List ℕ → Option Value → List ℕ
+given_text start None = []
+given_text start (Some value) = start ++ compact value
+
+abbrev pub annotation_text : Note → List ℕ
+annotation_text note = given_text (codes ",\"annotation\":") (annotation note)
+
+abbrev pub error_text : Note → List ℕ
+error_text note = given_text (codes ",\"error\":") (error note)
+
+-- up to where the annotations of a passing node's children stand
+abbrev pub head_text : OutputUnit → List ℕ
+head_text u = codes "{\"absoluteKeywordLocation\":" ++ (quoted u.absolute ++ annotation_text u.note)
+
+abbrev pub valid_text : Bool → List ℕ
+valid_text true = codes ",\"valid\":true}"
+valid_text false = codes ",\"valid\":false}"
+
+-- from where the errors of a failing node's children have stood
+abbrev pub tail_text : OutputUnit → List ℕ
+tail_text u = codes ",\"instanceLocation\":" ++ (quoted u.instance ++ (codes ",\"keywordLocation\":" ++ (quoted u.keyword ++ valid_text u.valid)))
+
+abbrev pub node_text : OutputUnit → List Value → List ℕ
+node_text u children =
+    head_text u
+    ++ (given_text (codes ",\"annotations\":") (when u.valid (array_of_some children))
+    ++ (error_text u.note
+    ++ (given_text (codes ",\"errors\":") (when (not u.valid) (array_of_some children))
+    ++ tail_text u)))
+
+-- what stands before the array of units
+abbrev pub list_start : Bool → List ℕ
+list_start true = codes "{\"annotations\":"
+list_start false = codes "{\"errors\":"

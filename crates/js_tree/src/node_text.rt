@@ -1,0 +1,135 @@
+//! The text of a node piece by piece, in the ascending order of its members (Core, section 12.3).
+ghost use Rattle.std.specs.Prelude.{◌++◌, [], codes, false, map, not, pos, true};
+ghost use Rattle.js_doc.specs.BytesOut.{Puts};
+ghost use Rattle.js_doc.specs.Compact.{comma_if, compact, quoted};
+ghost use Rattle.js_doc.specs.Seen.{value_of};
+ghost use Rattle.js_doc.specs.Value.{items, list, text, whole};
+ghost use Rattle.js_tree.specs.Form.{node};
+ghost use Rattle.js_tree.specs.NodeText.{annotation_text, error_text, head_text, tail_text, valid_text};
+ghost use Rattle.js_tree.specs.Seen.{note_of};
+
+use crate::note::Note;
+use crate::unit::Unit;
+use js_doc::{Doc, Out, Stopped, Text, Whole, put_number, put_string, put_text};
+
+/// Puts a node without children.
+pub(crate) fn put_leaf<O: Out>(unit: &Unit, out: &mut O) -> Result<(), Stopped>
+    ensures { Puts (O.progress out.old) (O.progress out.new) (compact (node unit.now [])) result }
+{
+    put_head(unit, out)?;
+    put_error(&unit.note, out)?;
+    put_tail(unit, out)
+}
+
+/// Puts the members before `annotations`.
+pub(crate) fn put_head<O: Out>(unit: &Unit, out: &mut O) -> Result<(), Stopped>
+    ensures { Puts (O.progress out.old) (O.progress out.new) (head_text unit.now) result }
+{
+    put_member(b"{\"absoluteKeywordLocation\":", &unit.absolute, out)?;
+    put_annotation(&unit.note, out)
+}
+
+/// Puts the members after `errors`.
+pub(crate) fn put_tail<O: Out>(unit: &Unit, out: &mut O) -> Result<(), Stopped>
+    ensures { Puts (O.progress out.old) (O.progress out.new) (tail_text unit.now) result }
+{
+    put_member(b",\"instanceLocation\":", &unit.instance, out)?;
+    put_member(b",\"keywordLocation\":", &unit.keyword, out)?;
+    put_valid(unit.valid, out)
+}
+
+/// Puts the last member.
+pub(crate) fn put_valid<O: Out>(valid: bool, out: &mut O) -> Result<(), Stopped>
+    ensures { Puts (O.progress out.old) (O.progress out.new) (valid_text valid) result }
+{
+    if valid {
+        out.put(b",\"valid\":true}")
+    } else {
+        out.put(b",\"valid\":false}")
+    }
+}
+
+/// Puts the error, if the note is one.
+pub(crate) fn put_error<O: Out>(note: &Note, out: &mut O) -> Result<(), Stopped>
+    ensures { Puts (O.progress out.old) (O.progress out.new) (error_text (note_of note.now)) result }
+{
+    match note {
+        Note::Error(reason) => put_member(b",\"error\":", reason, out),
+        Note::Silent => Ok(()),
+        Note::Value(_) => Ok(()),
+        Note::Names(_) => Ok(()),
+        Note::Index(_) => Ok(()),
+        Note::Indexes(_) => Ok(()),
+        Note::Truth => Ok(()),
+    }
+}
+
+/// Puts the annotation, if the note is one.
+fn put_annotation<O: Out>(note: &Note, out: &mut O) -> Result<(), Stopped>
+    ensures { Puts (O.progress out.old) (O.progress out.new) (annotation_text (note_of note.now)) result }
+{
+    match note {
+        Note::Silent => Ok(()),
+        Note::Error(_) => Ok(()),
+        Note::Value(value) => put_value(value, out),
+        Note::Names(names) => put_names(names.as_slice(), out),
+        Note::Index(index) => put_index(*index, out),
+        Note::Indexes(indexes) => put_indexes(indexes.as_slice(), out),
+        Note::Truth => out.put(b",\"annotation\":true"),
+    }
+}
+
+fn put_value<O: Out>(value: &Doc, out: &mut O) -> Result<(), Stopped>
+    ensures { Puts (O.progress out.old) (O.progress out.new) (codes ",\"annotation\":" ++ compact (value_of value.now)) result }
+{
+    out.put(b",\"annotation\":")?;
+    put_text(value, out)
+}
+
+fn put_index<O: Out>(index: u64, out: &mut O) -> Result<(), Stopped>
+    ensures { Puts (O.progress out.old) (O.progress out.new) (codes ",\"annotation\":" ++ compact (whole (pos index))) result }
+{
+    out.put(b",\"annotation\":")?;
+    put_number(Whole::from_u64(index), out)
+}
+
+fn put_names<O: Out>(names: &[&str], out: &mut O) -> Result<(), Stopped>
+    ensures { Puts (O.progress out.old) (O.progress out.new) (codes ",\"annotation\":" ++ compact (list (items (map text (map (λ name. name.now) names.now))))) result }
+{
+    out.put(b",\"annotation\":[")?;
+    let mut later = false;
+    for name in names {
+        put_comma(later, out)?;
+        put_string(name, out)?;
+        later = true;
+    }
+    out.put(b"]")
+}
+
+fn put_indexes<O: Out>(indexes: &[u64], out: &mut O) -> Result<(), Stopped>
+    ensures { Puts (O.progress out.old) (O.progress out.new) (codes ",\"annotation\":" ++ compact (list (items (map (λ index. whole (pos index)) indexes.now)))) result }
+{
+    out.put(b",\"annotation\":[")?;
+    let mut later = false;
+    for index in indexes {
+        put_comma(later, out)?;
+        put_number(Whole::from_u64(*index), out)?;
+        later = true;
+    }
+    out.put(b"]")
+}
+
+/// Puts a member whose value is a text, after what stands before it.
+fn put_member<O: Out>(start: &[u8], value: &Text, out: &mut O) -> Result<(), Stopped>
+    ensures { Puts (O.progress out.old) (O.progress out.new) (start.now ++ quoted value.now) result }
+{
+    out.put(start)?;
+    put_string(value.as_str(), out)
+}
+
+/// Puts a comma, where something stands before.
+pub(crate) fn put_comma<O: Out>(later: bool, out: &mut O) -> Result<(), Stopped>
+    ensures { Puts (O.progress out.old) (O.progress out.new) (comma_if later) result }
+{
+    if later { out.put(b",") } else { Ok(()) }
+}

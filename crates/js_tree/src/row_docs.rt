@@ -1,0 +1,92 @@
+//! The documents of a flat form.
+ghost use Rattle.std.specs.Prelude.{◌≡◌, [], IfOk, map};
+ghost use Rattle.js_doc.specs.Seen.{value_of};
+ghost use Rattle.js_tree.specs.Flat.{flat, flat_of};
+ghost use Rattle.js_tree.specs.FlatState.{IsWhole, noted_of, row_of, state_of, whole};
+ghost use Rattle.js_tree.specs.Forest.{Forest};
+ghost use Rattle.js_tree.specs.Form.{flag, node, nodes, shown, unit_list, verbose};
+ghost use Rattle.js_tree.specs.OutputUnit.{OutputUnit};
+ghost use Rattle.js_tree.specs.Result.{ResultTree};
+
+use crate::flat::{Flat, Row};
+use crate::forms::{Format, flag, listed, node};
+use js_doc::{Doc, Memory};
+use std::alloc::Global;
+
+/// The document of what the format shows of the rows' tree (Core, section 12.4): for basic the rows have to be the
+/// pruned tree's, for detailed the condensed one's, and else the whole tree's.
+///
+/// # Errors
+/// `Memory`.
+pub fn flat_doc(alloc: Global, flat: &Flat, format: Format) -> Result<Doc, Memory>
+    requires { IsWhole (state_of flat.now) }
+    ensures { IfOk result (λ doc. (t : ResultTree) → state_of flat.now ≡ whole t → value_of doc ≡ shown format t) }
+{
+    let rows = flat.rows();
+    match format {
+        Format::Flag => flag_doc(alloc, rows),
+        Format::Basic => unit_list_doc(alloc, rows),
+        Format::Detailed => root_doc(alloc, rows),
+        Format::Verbose => root_doc(alloc, rows),
+    }
+}
+
+fn flag_doc(alloc: Global, rows: &[Row]) -> Result<Doc, Memory>
+    requires { (t : ResultTree) × (map row_of rows.now ≡ flat t) }
+    ensures { IfOk result (λ doc. (t : ResultTree) → map row_of rows.now ≡ flat t → value_of doc ≡ flag t.root.valid) }
+{
+    let row = &rows[0];
+    let root = &row.unit;
+    flag(alloc, root.valid)
+}
+
+fn unit_list_doc(alloc: Global, rows: &[Row]) -> Result<Doc, Memory>
+    requires { (t : ResultTree) × (map row_of rows.now ≡ flat t) }
+    ensures { IfOk result (λ doc. (t : ResultTree) → map row_of rows.now ≡ flat t → value_of doc ≡ unit_list t) }
+{
+    let docs = noted_docs(alloc, rows)?;
+    let row = &rows[0];
+    let root = &row.unit;
+    listed(alloc, root.valid, docs)
+}
+
+/// The units with a note, each as a node without children.
+fn noted_docs(alloc: Global, rows: &[Row]) -> Result<Vec<Doc>, Memory>
+    ensures { IfOk result (λ docs. map value_of docs.items ≡ map (λ u. node u []) (noted_of (map row_of rows.now))) }
+{
+    let mut docs = Vec::new(alloc);
+    for row in rows {
+        if row.unit.is_noted() {
+            docs.push(node(alloc, &row.unit, Vec::new(alloc))?)?;
+        }
+    }
+    Ok(docs)
+}
+
+/// The document of the rows' tree.
+#[cycle(root_doc)]
+fn root_doc(alloc: Global, rows: &[Row]) -> Result<Doc, Memory>
+    requires { (t : ResultTree) × (map row_of rows.now ≡ flat t) }
+    ensures { IfOk result (λ doc. (t : ResultTree) → map row_of rows.now ≡ flat t → value_of doc ≡ verbose t) }
+{
+    let children = root_docs(alloc, &rows[1..])?;
+    let row = &rows[0];
+    node(alloc, &row.unit, children)
+}
+
+/// The documents of the rows' trees.
+#[cycle(root_doc)]
+fn root_docs(alloc: Global, rows: &[Row]) -> Result<Vec<Doc>, Memory>
+    requires { (f : Forest OutputUnit) × (map row_of rows.now ≡ flat_of f) }
+    ensures { IfOk result (λ docs. (f : Forest OutputUnit) → map row_of rows.now ≡ flat_of f → map value_of docs.items ≡ nodes f) }
+{
+    let mut docs = Vec::new(alloc);
+    let mut next = 0;
+    while next < rows.len() {
+        let row = &rows[next];
+        let end = next + row.size;
+        docs.push(root_doc(alloc, &rows[next..end])?)?;
+        next = end;
+    }
+    Ok(docs)
+}

@@ -1,0 +1,107 @@
+//! The text of a flat form, piece by piece.
+ghost use Rattle.std.specs.Prelude.{◌≡◌, [], false, map, not, true};
+ghost use Rattle.js_doc.specs.BytesOut.{Puts};
+ghost use Rattle.js_doc.specs.Compact.{compact};
+ghost use Rattle.js_doc.specs.Value.{items, list};
+ghost use Rattle.js_tree.specs.Flat.{flat, flat_of};
+ghost use Rattle.js_tree.specs.FlatState.{noted_of, row_of};
+ghost use Rattle.js_tree.specs.Forest.{Forest};
+ghost use Rattle.js_tree.specs.Form.{array_of_some, node, nodes, unit_list, verbose, when};
+ghost use Rattle.js_tree.specs.NodeText.{given_text, list_start};
+ghost use Rattle.js_tree.specs.OutputUnit.{OutputUnit};
+ghost use Rattle.js_tree.specs.Result.{ResultTree};
+
+use crate::flat::Row;
+use crate::node_text::{put_comma, put_error, put_head, put_leaf, put_tail, put_valid};
+use js_doc::{Out, Stopped};
+
+/// Puts the tree of the rows.
+#[cycle(put_root)]
+pub(crate) fn put_root<O: Out>(rows: &[Row], out: &mut O) -> Result<(), Stopped>
+    requires { (t : ResultTree) × (map row_of rows.now ≡ flat t) }
+    ensures { (t : ResultTree) → map row_of rows.now ≡ flat t → Puts (O.progress out.old) (O.progress out.new) (compact (verbose t)) result }
+{
+    let row = &rows[0];
+    let unit = &row.unit;
+    let below = &rows[1..];
+    put_head(unit, out)?;
+    put_children(unit.valid, b",\"annotations\":", below, out)?;
+    put_error(&unit.note, out)?;
+    put_children(!unit.valid, b",\"errors\":", below, out)?;
+    put_tail(unit, out)
+}
+
+/// Puts the trees of the rows, if there are any and they belong here, after what stands before their list.
+#[cycle(put_root)]
+fn put_children<O: Out>(here: bool, start: &[u8], rows: &[Row], out: &mut O) -> Result<(), Stopped>
+    requires { (f : Forest OutputUnit) × (map row_of rows.now ≡ flat_of f) }
+    ensures { (f : Forest OutputUnit) → map row_of rows.now ≡ flat_of f → Puts (O.progress out.old) (O.progress out.new) (given_text start.now (when here (array_of_some (nodes f)))) result }
+{
+    if !here {
+        return Ok(());
+    }
+    if rows.is_empty() {
+        return Ok(());
+    }
+    out.put(start)?;
+    put_roots(rows, out)
+}
+
+/// Puts the trees of the rows as an array.
+#[cycle(put_root)]
+fn put_roots<O: Out>(rows: &[Row], out: &mut O) -> Result<(), Stopped>
+    requires { (f : Forest OutputUnit) × (map row_of rows.now ≡ flat_of f) }
+    ensures { (f : Forest OutputUnit) → map row_of rows.now ≡ flat_of f → Puts (O.progress out.old) (O.progress out.new) (compact (list (items (nodes f)))) result }
+{
+    out.put(b"[")?;
+    let mut later = false;
+    let mut next = 0;
+    while next < rows.len() {
+        put_comma(later, out)?;
+        let row = &rows[next];
+        let end = next + row.size;
+        put_root(&rows[next..end], out)?;
+        later = true;
+        next = end;
+    }
+    out.put(b"]")
+}
+
+/// Puts the verdict and the units with a note, each as a node without children, as an object.
+pub(crate) fn put_units<O: Out>(rows: &[Row], out: &mut O) -> Result<(), Stopped>
+    requires { (t : ResultTree) × (map row_of rows.now ≡ flat t) }
+    ensures { (t : ResultTree) → map row_of rows.now ≡ flat t → Puts (O.progress out.old) (O.progress out.new) (compact (unit_list t)) result }
+{
+    let row = &rows[0];
+    let root = &row.unit;
+    put_list_name(root.valid, out)?;
+    put_noted(rows, out)?;
+    put_valid(root.valid, out)
+}
+
+fn put_list_name<O: Out>(valid: bool, out: &mut O) -> Result<(), Stopped>
+    ensures { Puts (O.progress out.old) (O.progress out.new) (list_start valid) result }
+{
+    if valid {
+        out.put(b"{\"annotations\":")
+    } else {
+        out.put(b"{\"errors\":")
+    }
+}
+
+/// Puts the units with a note, each as a node without children, as an array.
+fn put_noted<O: Out>(rows: &[Row], out: &mut O) -> Result<(), Stopped>
+    ensures { Puts (O.progress out.old) (O.progress out.new) (compact (list (items (map (λ u. node u []) (noted_of (map row_of rows.now)))))) result }
+{
+    out.put(b"[")?;
+    let mut later = false;
+    for row in rows {
+        if !row.unit.is_noted() {
+            continue;
+        }
+        put_comma(later, out)?;
+        put_leaf(&row.unit, out)?;
+        later = true;
+    }
+    out.put(b"]")
+}

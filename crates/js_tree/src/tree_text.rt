@@ -1,0 +1,63 @@
+//! A tree's text, piece by piece.
+ghost use Rattle.js_doc.specs.BytesOut.{Puts};
+ghost use Rattle.js_doc.specs.Compact.{compact};
+ghost use Rattle.js_doc.specs.Value.{items, list};
+ghost use Rattle.js_tree.specs.Forest.{forest_of};
+ghost use Rattle.js_tree.specs.Form.{array_of_some, nodes, verbose, when};
+ghost use Rattle.js_tree.specs.NodeText.{given_text};
+
+use crate::node_text::{put_comma, put_error, put_head, put_tail};
+use crate::tree::Tree;
+use js_doc::{Out, Stopped};
+
+/// Puts the compact text of the tree's document (Core, section 12.4.4): see `tree_doc`. It takes no memory.
+///
+/// # Errors
+/// `Stopped`; then a beginning of the text has gone out.
+#[cycle(put_tree)]
+pub fn put_tree<O: Out>(tree: &Tree, out: &mut O) -> Result<(), Stopped>
+    ensures { Puts (O.progress out.old) (O.progress out.new) (compact (verbose tree.now)) result }
+{
+    let unit = &tree.unit;
+    let children = tree.children.as_slice();
+    put_head(unit, out)?;
+    put_children(unit.valid, b",\"annotations\":", children, out)?;
+    put_error(&unit.note, out)?;
+    put_children(!unit.valid, b",\"errors\":", children, out)?;
+    put_tail(unit, out)
+}
+
+/// Puts the children, if there are any and they belong here, after what stands before their list.
+#[cycle(put_tree)]
+fn put_children<O: Out>(
+    here: bool,
+    start: &[u8],
+    trees: &[Tree],
+    out: &mut O,
+) -> Result<(), Stopped>
+    ensures { Puts (O.progress out.old) (O.progress out.new) (given_text start.now (when here (array_of_some (nodes (forest_of trees.now))))) result }
+{
+    if !here {
+        return Ok(());
+    }
+    if trees.is_empty() {
+        return Ok(());
+    }
+    out.put(start)?;
+    put_trees(trees, out)
+}
+
+/// Puts the trees as an array.
+#[cycle(put_tree)]
+fn put_trees<O: Out>(trees: &[Tree], out: &mut O) -> Result<(), Stopped>
+    ensures { Puts (O.progress out.old) (O.progress out.new) (compact (list (items (nodes (forest_of trees.now))))) result }
+{
+    out.put(b"[")?;
+    let mut later = false;
+    for tree in trees {
+        put_comma(later, out)?;
+        put_tree(tree, out)?;
+        later = true;
+    }
+    out.put(b"]")
+}
