@@ -1,29 +1,53 @@
 -- What the program answers: what comes of that which its words ask for, by what the files and the input hold.
-use Rattle.std.specs.Prelude.{◌≡◌, ℕ, List, [], ◌∷◌, Option, Result, Ok, Err, Bool, ⊤}
+use Rattle.std.specs.Prelude.{◌≡◌, ℕ, ◌==◌, List, [], ◌∷◌, Option, Result, Ok, Err, Bool, true, ◌&&◌, ⊤}
 use Rattle.std.specs.Io.KnownBytes.{Appends}
+use Rattle.js_output.specs.Cause.{IsClear}
 use Rattle.js_output.specs.Device.{Tracked, IsLeft, AppendsBeginning, Sends, SendsBeginning}
+use Rattle.js_output.specs.Documents.{Documents, documents_causes}
 use Rattle.js_output.specs.Outcome.{Output, Outcome, PairOutcome}
+use Rattle.js_output.specs.Places.{places_text}
+use Rattle.js_output.specs.Suite.{SuiteOutcome}
+use Rattle.js_output.specs.SuiteLines.{counts_of, lines_text}
+use Rattle.js_output.specs.declared.suite_lines.Counts.{Counts}
 use Rattle.js_output.specs.declared.fault.Fault.{Fault}
 use Rattle.js_output.specs.declared.fault.Fault.TheVariants as fault
-use Rattle.js_cli.specs.Words.{Asks}
-use Rattle.js_cli.specs.declared.words.Check.{Check}
-use Rattle.js_cli.specs.declared.words.Task.{Task}
-use Rattle.js_cli.specs.declared.words.Task.TheVariants as task
+use Rattle.js_cli.specs.Words.{Pairs, Request, pair, check, suite, places, request_of}
 
 -- what a file holds, by its path, where that is known
 abbrev pub Held : Type 0
 Held = List ℕ → Option (List ℕ)
 
--- what comes of a check
-abbrev pub CheckOutcome : Held → Check → Result Output Fault → Type 0
-CheckOutcome held c answer =
-    (document : List ℕ) × (instance : List ℕ) × IsLeft (held c.file.now) document × IsLeft (held c.instance.now) instance
-    × Outcome ((c.uri.now, document) ∷ []) c.entry.now c.format instance answer
+-- each document stands under its URI, and is what its file holds
+abbrev pub AreHeld : Held → Pairs → Documents → Type 0
+AreHeld held [] [] = ⊤
+AreHeld held (p ∷ ps) (d ∷ ds) = (d.0 ≡ p.0) × IsLeft (held p.1) d.1 × AreHeld held ps ds
+AreHeld held _ _ = ⊥
 
--- what comes of a task
-abbrev pub TaskOutcome : Held → Option (List ℕ) → Task → Result Output Fault → Type 0
-TaskOutcome held input task.Pair answer = (bytes : List ℕ) × IsLeft input bytes × PairOutcome bytes answer
-TaskOutcome held input (task.Check c) answer = CheckOutcome held c answer
+-- what comes of documents whose places are told
+abbrev pub PlacesOutcome : Documents → Result Output Fault → Type 0
+PlacesOutcome documents (Ok output) = IsClear (documents_causes documents) × (output ≡ record { valid = true; text = places_text documents })
+PlacesOutcome documents (Err f) = ⊤
+
+-- no test of a suite failed, and none was skipped
+abbrev pub all_passed : Counts → Bool
+all_passed counts = (counts.failed == 0) && (counts.skipped == 0)
+
+abbrev pub suite_output : Counts → List ℕ → Output
+suite_output counts text = record { valid = all_passed counts; text = text }
+
+-- what comes of a suite
+abbrev pub SuiteTold : Documents → List ℕ → Result Output Fault → Type 0
+SuiteTold documents bytes (Ok output) = (lines : _) × SuiteOutcome documents bytes (Ok lines) × (output ≡ suite_output (counts_of lines) (lines_text lines))
+SuiteTold documents bytes (Err f) = SuiteOutcome documents bytes (Err f)
+
+-- what comes of a request
+abbrev pub RequestOutcome : Held → Option (List ℕ) → Request → Result Output Fault → Type 0
+RequestOutcome held input pair answer = (bytes : List ℕ) × IsLeft input bytes × PairOutcome bytes answer
+RequestOutcome held input (check format instance entry pairs) answer =
+    (documents : Documents) × AreHeld held pairs documents × ((bytes : List ℕ) × IsLeft (held instance) bytes × Outcome documents entry format bytes answer)
+RequestOutcome held input (suite file pairs) answer =
+    (documents : Documents) × AreHeld held pairs documents × ((bytes : List ℕ) × IsLeft (held file) bytes × SuiteTold documents bytes answer)
+RequestOutcome held input (places pairs) answer = (documents : Documents) × AreHeld held pairs documents × PlacesOutcome documents answer
 
 -- The verdict is answered where the output's text went out, and `Write` where a beginning of it did.
 abbrev pub Performs : {D : Type 0} → (Result Output Fault → Type 0) → (D → Option (List ℕ)) → Tracked D → Tracked D → Result Bool Fault → Type 0
@@ -39,6 +63,6 @@ IsTold Expected valid old new = (output : Output) × Expected (Ok output) × (ou
 abbrev pub IsBegun : (Result Output Fault → Type 0) → Option (List ℕ) → Option (List ℕ) → Type 0
 IsBegun Expected old new = (output : Output) × Expected (Ok output) × AppendsBeginning old new output.text
 
--- what comes of the task that the words ask for
+-- what comes of the request that the words make
 abbrev pub WordsOutcome : List (List ℕ) → Held → Option (List ℕ) → Result Output Fault → Type 0
-WordsOutcome words held input answer = (asked : Task) × Asks words asked × TaskOutcome held input asked answer
+WordsOutcome words held input answer = (request : Request) × (request_of words ≡ Ok request) × RequestOutcome held input request answer

@@ -1,3 +1,7 @@
+pub mod Grammar
+pub mod Plain
 pub mod Words
-pub mod Status
+pub mod Found
 pub mod Answer
+pub mod Taken
+pub mod Status

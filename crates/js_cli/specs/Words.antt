@@ -1,42 +1,111 @@
--- The forms of the program's words.
-use Rattle.std.specs.Prelude.{ℕ, List, [], ◌∷◌, ◌++◌, Bool, true, false, ◌&&◌, ◌||◌, ◌≡◌, codes, nat_eq, map, ⊤}
-use Rattle.std.specs.Cmp.Lexicographic.{pointwise}
-use Rattle.std.proofs.Common.{Bor}
+-- What the program's words ask for.
+use Rattle.std.specs.Prelude.{◌≡◌, ℕ, List, [], ◌∷◌, ◌++◌, Bool, true, false, Option, Some, None, Result, Ok, Err, codes, map, ⊤, if◌then◌else◌}
+use Rattle.std.specs.Str.{bytes_eq}
+use Rattle.std.specs.Borrow.{Bor}
+use Rattle.clap.specs.Words.{Text}
+use Rattle.js_cli.specs.Plain.{plain_of}
 use Rattle.js_tree.specs.declared.forms.Format.{Format}
 use Rattle.js_tree.specs.declared.forms.Format.TheVariants.{Flag, Basic, Detailed, Verbose}
+use Rattle.js_cli.specs.declared.words.Misuse.{Misuse}
+use Rattle.js_cli.specs.declared.words.Misuse.TheVariants as misuse
+use Rattle.js_cli.specs.declared.words.Document.{Document}
 use Rattle.js_cli.specs.declared.words.Task.{Task}
 use Rattle.js_cli.specs.declared.words.Task.TheVariants as task
 
-abbrev pub is_word : List ℕ → List ℕ → Bool
-is_word s t = pointwise nat_eq s t
+-- URIs, each with the file of its document
+abbrev pub Pairs : Type 0
+Pairs = List (Text × Text)
 
-abbrev pub is_format : List ℕ → Bool
-is_format word = is_word word (codes "flag") || (is_word word (codes "basic") || (is_word word (codes "detailed") || is_word word (codes "verbose")))
+pub data Request : Type 0 where
+  pair : Request
+  check : Format → Text → Text → Pairs → Request
+  suite : Text → Pairs → Request
+  places : Pairs → Request
 
--- none, or `check FORMAT INSTANCE ENTRY URI FILE`
-abbrev pub is_served : List (List ℕ) → Bool
-is_served [] = true
-is_served (check ∷ format ∷ instance ∷ entry ∷ uri ∷ file ∷ []) = is_word check (codes "check") && is_format format
-is_served _ = false
+abbrev pub format_of : Text → Option Format
+format_of word =
+    if bytes_eq word (codes "flag") then Some Flag
+    else (if bytes_eq word (codes "basic") then Some Basic
+    else (if bytes_eq word (codes "detailed") then Some Detailed
+    else (if bytes_eq word (codes "verbose") then Some Verbose else None)))
 
--- what is told of other words
-abbrev pub usage_line : List ℕ
-usage_line = codes "usage: jschema check FORMAT INSTANCE ENTRY URI FILE" ++ 10 ∷ []
+-- words two by two
+abbrev pub pairs_after : Text × Text → Option Pairs → Option Pairs
+pairs_after p None = None
+pairs_after p (Some ps) = Some (p ∷ ps)
+
+abbrev pub pairs_in : List Text → Option Pairs
+pairs_in [] = Some []
+pairs_in (uri ∷ []) = None
+pairs_in (uri ∷ file ∷ words) = pairs_after (uri, file) (pairs_in words)
+
+-- `FORMAT INSTANCE ENTRY [URI FILE]...`; a wrong format comes before an odd number of words
+abbrev pub check_by : Option Format → Text → Text → Option Pairs → Result Request Misuse
+check_by None instance entry ps = Err misuse.OtherForm
+check_by (Some format) instance entry None = Err misuse.OddPairs
+check_by (Some format) instance entry (Some ps) = Ok (check format instance entry ps)
+
+abbrev pub check_of : List Text → Result Request Misuse
+check_of (format ∷ instance ∷ entry ∷ words) = check_by (format_of format) instance entry (pairs_in words)
+check_of _ = Err misuse.OtherForm
+
+-- `SUITE [URI FILE]...`
+abbrev pub suite_by : Text → Option Pairs → Result Request Misuse
+suite_by file None = Err misuse.OddPairs
+suite_by file (Some ps) = Ok (suite file ps)
+
+abbrev pub suite_of : List Text → Result Request Misuse
+suite_of (file ∷ words) = suite_by file (pairs_in words)
+suite_of [] = Err misuse.OtherForm
+
+-- `[URI FILE]...`
+abbrev pub places_by : Option Pairs → Result Request Misuse
+places_by None = Err misuse.OddPairs
+places_by (Some ps) = Ok (places ps)
+
+abbrev pub places_of : List Text → Result Request Misuse
+places_of words = places_by (pairs_in words)
+
+abbrev pub asked_by : (List Text → Result Request Misuse) → Option (List Text) → Result Request Misuse
+asked_by form None = Err misuse.OtherForm
+asked_by form (Some words) = form words
+
+-- what the words, without the program's name, ask for
+abbrev pub request_of : List Text → Result Request Misuse
+request_of [] = Ok pair
+request_of (name ∷ words) =
+    if bytes_eq (codes "check") name then asked_by check_of (plain_of words)
+    else (if bytes_eq (codes "suite") name then asked_by suite_of (plain_of words)
+    else (if bytes_eq (codes "places") name then asked_by places_of (plain_of words)
+    else Err misuse.OtherForm))
+
+-- ---- words for the parts
 
 -- of words that are lent
-abbrev pub words_of : List (Bor (List ℕ)) → List (List ℕ)
+abbrev pub words_of : List (Bor Text) → List Text
 words_of words = map (λ w. w.now) words
 
--- the word of a format
-abbrev pub format_word : Format → List ℕ
-format_word Flag = codes "flag"
-format_word Basic = codes "basic"
-format_word Detailed = codes "detailed"
-format_word Verbose = codes "verbose"
+abbrev pub pairs_seen : List Document → Pairs
+pairs_seen ds = map (λ d. (d.uri.now, d.file.now)) ds
 
--- what the words ask for
-abbrev pub Asks : List (List ℕ) → Task → Type 0
-Asks [] task.Pair = ⊤
-Asks (check ∷ format ∷ instance ∷ entry ∷ uri ∷ file ∷ []) (task.Check c) =
-    (format_word c.format ≡ format) × (c.instance.now ≡ instance) × (c.entry.now ≡ entry) × (c.uri.now ≡ uri) × (c.file.now ≡ file)
-Asks _ _ = ⊥
+abbrev pub request_seen : Task → Request
+request_seen task.Pair = pair
+request_seen (task.Check c) = check c.format c.instance.now c.entry.now (pairs_seen c.documents.items)
+request_seen (task.Suite s) = suite s.file.now (pairs_seen s.documents.items)
+request_seen (task.Places ds) = places (pairs_seen ds.items)
+
+-- why the words ask for nothing; want of memory may come at any time
+abbrev pub IsMisuse : Result Request Misuse → Misuse → Type 0
+IsMisuse asked misuse.Memory = ⊤
+IsMisuse asked m = asked ≡ Err m
+
+-- why they have no pairs
+abbrev pub IsNoPairs : Option Pairs → Misuse → Type 0
+IsNoPairs found misuse.Memory = ⊤
+IsNoPairs found misuse.OddPairs = found ≡ None
+IsNoPairs found misuse.OtherForm = ⊥
+
+-- what is told of misused words
+abbrev pub usage_line : Misuse → List ℕ
+usage_line misuse.OddPairs = codes "usage: URI and FILE come in pairs" ++ 10 ∷ []
+usage_line _ = codes "usage: jschema (check FORMAT INSTANCE ENTRY | suite SUITE | places) [URI FILE]..." ++ 10 ∷ []

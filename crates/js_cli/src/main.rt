@@ -3,13 +3,15 @@
 
 mod command;
 mod disk;
+mod documents;
+mod grammar;
 mod words;
 
 use command::command;
 use disk::Disk;
 use js_output::{Sink, Source};
 use std::env;
-use std::io::ErrorKind;
+use std::io::{BufWriter, ErrorKind};
 use std::process::ExitCode;
 
 fn main(rt: HostRuntime) -> ExitCode {
@@ -34,7 +36,10 @@ fn status(rt: &HostRuntime) -> u8 {
     }
     let mut files = Disk::new(rt);
     let mut input = Source::new(rt.stdin());
-    let mut out = Sink::new(rt.stdout());
+    let Ok(buffered) = BufWriter::new(rt.alloc(), rt.stdout()) else {
+        return command::FAILED;
+    };
+    let mut out = Sink::new(buffered);
     command(
         rt.alloc(),
         lent.as_slice(),
@@ -68,7 +73,5 @@ fn words_given(rt: &HostRuntime) -> Result<Vec<String>, NoWords> {
     Ok(words)
 }
 
-#[cfg(test)]
-mod fakes;
 #[cfg(test)]
 mod tests;

@@ -48,25 +48,6 @@ fn entries_name_places(rt: HostRuntime) -> Result<(), Fail> {
     Ok(())
 }
 
-// Where two entries stand in their documents.
-fn stand(alloc: Global, first: &str, second: &str) -> Result<bool, Fail> {
-    let schemas = finished(alloc, &[(URI, EMBEDDED)])?;
-    let first = at(alloc, &schemas, first)?;
-    let second = at(alloc, &schemas, second)?;
-    Ok(
-        schemas.document(first) == schemas.document(second)
-            && schemas.pointer(first) == schemas.pointer(second),
-    )
-}
-
-#[test]
-fn two_entries_are_one_place(rt: HostRuntime) -> Result<(), Fail> {
-    let inner = "https://a.example/y";
-    assert!(rt; stand(rt.alloc(), "https://a.example/s#/$defs/p", inner)?);
-    assert!(rt; !stand(rt.alloc(), "https://a.example/s", inner)?);
-    Ok(())
-}
-
 #[test]
 fn documents_are_known_as_url_prints_them(rt: HostRuntime) -> Result<(), Fail> {
     let alloc = rt.alloc();

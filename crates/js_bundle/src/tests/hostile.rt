@@ -1,14 +1,6 @@
 //! Input that is doubled, twisted, or as large as may be.
 use super::*;
 
-#[test]
-fn an_id_of_the_longest(rt: HostRuntime) -> Result<(), Fail> {
-    let id = letters(rt.alloc(), "", 65_536)?;
-    let schema = format!(in rt.alloc(); "{{\"$id\":\"{id}\"}}")?;
-    assert_eq!(rt; told(rt.alloc(), schema.as_str())?.as_str(), "finished");
-    Ok(())
-}
-
 // So many documents `true`, each at its URI.
 fn numbered(alloc: Global, count: usize) -> Result<Bundle, Fail> {
     let mut bundle = Bundle::new(alloc);

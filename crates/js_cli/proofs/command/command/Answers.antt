@@ -1,8 +1,16 @@
-use Rattle.js_cli.specs.Words.{words_of}
-use Rattle.js_cli.proofs.Telling.{begun_or_kept}
+use Rattle.std.proofs.Common.{sym}
+use Rattle.js_output.specs.declared.fault.Fault.TheVariants as fault
+use Rattle.js_cli.specs.Words.{request_seen, words_of}
+use Rattle.js_cli.proofs.Telling.{begun_or_kept, misuse_told}
 use Rattle.js_cli.proofs.command.command.Goals as goal
 
-pub returns-in-Err-clause-beginning : goal.returns-in-Err-clause-beginning
-returns-in-Err-clause-beginning g c failed =
-    begun_or_kept (words_of c.args.words.now) (g.F.Files.held c.args.files.now) (g.R.Read.remaining c.args.input.now.device) c.in-Some.task (g.W.Write.contents c.args.out.now.device) (g.W.Write.contents c.perform_whole.new.out.device)
-    c.in-Err.fault c.in-Some.ensures.asks c.in-Err.ensures.nothing c.in-Err.ensures.beginning
+pub returns-in-Err-clause-told : goal.returns-in-Err-clause-told
+returns-in-Err-clause-told g c above =
+    let failed = misuse_told c.in-Err.misuse c.tell_misuse-status.result c.tell_misuse-status.ensures.status above in
+    (fault.Memory, sym failed, c.tell_misuse-status.ensures.told failed)
+
+pub returns-in-Err-perform_whole-clause-beginning : goal.returns-in-Err-perform_whole-clause-beginning
+returns-in-Err-perform_whole-clause-beginning g c failed =
+    begun_or_kept (words_of c.args.words.now) (g.F.Files.held c.args.files.now) (g.R.Read.remaining c.args.input.now.device) (request_seen c.in-Ok.task)
+    (g.W.Write.contents c.args.out.now.device) (g.W.Write.contents c.perform_whole.new.out.device)
+    c.in-Err-perform_whole.fault c.in-Ok.ensures.ok c.in-Err-perform_whole.ensures.nothing c.in-Err-perform_whole.ensures.beginning

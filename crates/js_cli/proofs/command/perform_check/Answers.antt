@@ -1,14 +1,24 @@
-use Rattle.std.proofs.lemmas.Result.{err_from_is_err_and}
-use Rattle.js_cli.specs.Answer.{CheckOutcome}
-use Rattle.js_cli.proofs.Telling.{performs-fault}
+use Rattle.std.proofs.Common.{◌∙◌, Some, ap, sym, subst}
+use Rattle.js_output.specs.Device.{IsLeft}
+use Rattle.js_output.specs.Documents.{documents_of}
+use Rattle.js_output.specs.Outcome.{Outcome, Answers, beginning_causes}
+use Rattle.js_cli.specs.Answer.{AreHeld}
+use Rattle.js_cli.specs.Taken.{documents_taken}
+use Rattle.js_cli.specs.Words.{pairs_seen}
+use Rattle.js_cli.proofs.Telling.{check_told}
 use Rattle.js_cli.proofs.command.perform_check.Goals as goal
 
-pub returns-in_err-document-clause-answer : goal.returns-in_err-document-clause-answer
-returns-in_err-document-clause-answer g c =
-    let p = err_from_is_err_and c.from_residual.result c.from_residual.ensures.1 in
-    rw (p.1, p.2) (performs-fault (CheckOutcome (g.F.Files.held c.args.files.now) c.args.check) g.W.Write.contents c.args.out.now c.args.out.now c.in_err-document.field-0.0 c.in_err-document.ensures.faults)
-
-pub returns-in_err-instance-clause-answer : goal.returns-in_err-instance-clause-answer
-returns-in_err-instance-clause-answer g c =
-    let p = err_from_is_err_and c.from_residual-in_err-instance.result c.from_residual-in_err-instance.ensures.1 in
-    rw (p.1, p.2) (performs-fault (CheckOutcome (g.F.Files.held c.args.files.now) c.args.check) g.W.Write.contents c.args.out.now c.args.out.now c.in_err-instance.field-0.0 c.in_err-instance.ensures.faults)
+pub returns-clause-answer : goal.returns-clause-answer
+returns-clause-answer g c =
+    let held = g.F.Files.held c.args.files.now in
+    let check = c.args.check.now in
+    let documents = documents_of c.as_slice-4.result.now in
+    let holds : AreHeld held (pairs_seen check.documents.items) documents =
+    subst (AreHeld held (pairs_seen check.documents.items)) (sym (ap documents_of c.as_slice-4.ensures.value ∙ c.in_ok-docs.ensures.docs ∙ ap documents_taken c.as_slice-2.ensures.value))
+    (subst (λ ds. AreHeld held (pairs_seen ds) (documents_taken c.in_ok-held.held.items)) c.as_slice.ensures.value c.in_ok-held.ensures.held) in
+    let here : IsLeft (held check.instance.now) c.as_slice-3.result.now = subst (IsLeft (held check.instance.now)) (sym c.as_slice-3.ensures.value)
+    (subst (λ h. IsLeft (h check.instance.now) c.in_ok-instance.instance.items) c.in_ok-held.ensures.stays c.in_ok-instance.ensures.bytes) in
+    check_told held (pairs_seen check.documents.items) documents g.W.Write.contents c.args.out.now c.run.new.out
+    check.format check.instance.now check.entry.now c.as_slice-3.result.now c.run.result holds here
+    (subst (λ d. Answers (Outcome documents check.entry.now check.format) (beginning_causes documents check.entry.now) (Some d.now) g.W.Write.contents c.args.out.now c.run.new.out c.run.result)
+    c.new-instance.ensures.device c.run.ensures.answer)
