@@ -59,11 +59,6 @@ fn documents_are_known_as_url_prints_them(rt: HostRuntime) -> Result<(), Fail> {
     ] {
         let schemas = finished(alloc, &[(uri, "true")])?;
         assert_eq!(rt;
-            entered(alloc, &schemas, uri)?.as_str(),
-            "https://a.example/s#",
-            "{uri}"
-        );
-        assert_eq!(rt;
             entered(alloc, &schemas, URI)?.as_str(),
             "https://a.example/s#",
             "{uri}"
