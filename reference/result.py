@@ -160,15 +160,21 @@ class Walk:
         elif name == "contains":
             if isinstance(value, list):
                 node.valid = count > 0 or schema.get("minContains") == 0
-                node.note = ("annotation", passing) if node.valid else ("error", "no matching item")
+                node.note = ("annotation", every_item_or(passing, passing, value)) if node.valid else ("error", "no matching item")
         elif name in IN_PLACE | ON_ARRAYS | ON_OBJECTS:
             node.valid = name == "if" or count == len(node.children)
             if node.valid and name in MEMBERS and isinstance(value, dict):
                 node.note = ("annotation", sorted({it[2][0] for it in asked}))
             elif node.valid and name in ITEMS and asked:
-                node.note = ("annotation", len(asked) - 1 if name == "prefixItems" else True)
+                applied = [int(it[2][0]) for it in asked]
+                node.note = ("annotation", every_item_or(max(applied), applied, value) if name == "prefixItems" else True)
         else:
             node.note = ("annotation", schema[name])
+
+
+def every_item_or(otherwise, indexes, items):
+    """`true` where these are the indexes of every item of an array that isn't empty."""
+    return True if items and set(indexes) == set(range(len(items))) else otherwise
 
 
 def union(parts):

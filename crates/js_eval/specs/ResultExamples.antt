@@ -197,6 +197,31 @@ items_at_once_result = record {
       (tree (unit true (codes "/prefixItems/0") (codes "https://a.example/s#/prefixItems/0") (codes "/0") silent) empty empty) empty))));
 }
 
+-- ---- `true` of every item; of an array without items, no note and a list without indexes
+
+abbrev pub every_item_schema : Documents
+every_item_schema = document (codes "https://a.example/s") (obj ((codes "contains", truth true) ∷ (codes "minContains", num 0) ∷ (codes "prefixItems", arr ((truth true) ∷ (truth true) ∷ [])) ∷ []))
+
+abbrev pub every_item_result : ResultTree
+every_item_result = record {
+  root = unit true [] (codes "https://a.example/s#") [] silent;
+  below =
+      (tree (unit true (codes "/contains") (codes "https://a.example/s#/contains") [] truly)
+      (tree (unit true (codes "/contains") (codes "https://a.example/s#/contains") (codes "/0") silent) empty empty)
+      (tree (unit true (codes "/minContains") (codes "https://a.example/s#/minContains") [] silent) empty
+      (tree (unit true (codes "/prefixItems") (codes "https://a.example/s#/prefixItems") [] truly)
+      (tree (unit true (codes "/prefixItems/0") (codes "https://a.example/s#/prefixItems/0") (codes "/0") silent) empty empty) empty)));
+}
+
+abbrev pub no_item_result : ResultTree
+no_item_result = record {
+  root = unit true [] (codes "https://a.example/s#") [] silent;
+  below =
+      (tree (unit true (codes "/contains") (codes "https://a.example/s#/contains") [] (indexes [])) empty
+      (tree (unit true (codes "/minContains") (codes "https://a.example/s#/minContains") [] silent) empty
+      (tree (unit true (codes "/prefixItems") (codes "https://a.example/s#/prefixItems") [] silent) empty empty)));
+}
+
 -- ---- alternatives, and `false`
 
 abbrev pub alternatives_schema : Documents
@@ -257,6 +282,8 @@ pub record GiveTheseResults : Type 0 where
   pub members : IsResultOf members_schema members_instance members_result
   pub dependent : IsResultOf dependent_schema dependent_instance dependent_result
   pub items_at_once : IsResultOf items_at_once_schema items_at_once_instance items_at_once_result
+  pub every_item : IsResultOf every_item_schema (arr (num 1 ∷ [])) every_item_result
+  pub no_item : IsResultOf every_item_schema (arr []) no_item_result
   pub alternatives : IsResultOf alternatives_schema alternatives_instance alternatives_result
   pub into_a_document : IsResultOf into_a_document_schema into_a_document_instance into_a_document_result
   pub within_256 : ChainIsSettled 256
