@@ -262,14 +262,14 @@ into_a_document_result = record {
       (tree (unit false (codes "/$ref/type") (codes "https://a.example/t#/$defs/i/type") [] (error (codes "type is string"))) empty empty) empty) empty);
 }
 
--- ---- schemas of `not`, one within another: 256 of them stand on the way, and no less
+-- ---- schemas of `not`, one within another: 512 of them stand on the way, and no less
 
 abbrev pub chain : ℕ → Value
 chain zero = truth true
 chain (suc n) = not_of (chain n)
 
 abbrev pub ChainIsSettled : ℕ → Type 0
-ChainIsSettled n = Settled (one_document (chain 255)) n [] (chain 255) null
+ChainIsSettled n = Settled (one_document (chain 511)) n [] (chain 511) null
 
 -- ---- the documents and instances give these results
 
@@ -286,5 +286,5 @@ pub record GiveTheseResults : Type 0 where
   pub no_item : IsResultOf every_item_schema (arr []) no_item_result
   pub alternatives : IsResultOf alternatives_schema alternatives_instance alternatives_result
   pub into_a_document : IsResultOf into_a_document_schema into_a_document_instance into_a_document_result
-  pub within_256 : ChainIsSettled 256
-  pub not_within_255 : ChainIsSettled 255 → ⊥
+  pub within_512 : ChainIsSettled 512
+  pub not_within_511 : ChainIsSettled 511 → ⊥

@@ -213,11 +213,7 @@ fn matching_items<'a>(
     }
 }
 
-fn true_or_indexes<'a>(
-    alloc: Global,
-    are_all: bool,
-    indexes: &[usize],
-) -> Result<Note<'a>, Memory>
+fn true_or_indexes<'a>(alloc: Global, are_all: bool, indexes: &[usize]) -> Result<Note<'a>, Memory>
     ensures { IfOk result (λ n. note_of n ≡ spec.true_or are_all (spec.indexes indexes.now)) }
 {
     if are_all {
