@@ -35,7 +35,7 @@ pub fn examples()
     ensures { Shown }
 {}
 
-/// Documents and instances give whole results, told node by node; 256 schemas on a way are within the limit, and a chain of so many
+/// Documents and instances give whole results, told node by node; 512 schemas on a way are within the limit, and a chain of so many
 /// isn't settled within one less.
 pub fn results()
     ensures { GiveTheseResults }
