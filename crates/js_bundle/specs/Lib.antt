@@ -20,5 +20,6 @@ pub mod Finding
 pub mod Built
 pub mod Schemas
 pub mod Spot
+pub mod Edges
 pub mod Finished
 pub mod NameLaws

@@ -5,6 +5,7 @@ mod every_run;
 mod forms;
 mod hand_made;
 mod large;
+mod merging;
 mod parts;
 mod pieces;
 

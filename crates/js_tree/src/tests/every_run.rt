@@ -47,7 +47,7 @@ fn move_after(last: Move) -> Option<Move> {
     }
     match last.rule {
         Rule::Drop => Some(lift_at(1)),
-        Rule::Lift => None,
+        Rule::Lift | Rule::Merge => None,
     }
 }
 
