@@ -20,5 +20,7 @@ pub mod Finding
 pub mod Built
 pub mod Schemas
 pub mod Spot
+pub mod ResourceNumber
+pub mod ResourceTable
 pub mod Finished
 pub mod NameLaws

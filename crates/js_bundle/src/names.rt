@@ -97,8 +97,8 @@ fn numbered<'s, 'a>(sites: &'s [Site<'a>], number: usize) -> Option<&'s Site<'a>
     sites.get(number)
 }
 
-// The number of the place at a pointer.
-fn place_at(
+/// The number of the place at a pointer.
+pub(crate) fn place_at(
     alloc: Global,
     index: &Index,
     sites: &[Site<'_>],
