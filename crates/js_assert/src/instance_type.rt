@@ -29,7 +29,7 @@ pub(crate) enum Types {
 
 impl InstanceType {
     /// The type of this name.
-    pub(crate) fn named(name: &str) -> Option<InstanceType>
+    pub(crate) fn type_named(name: &str) -> Option<InstanceType>
         ensures some { IfSome result (λ t. type_name t ≡ name.now) }
         ensures exact { is_some result ≡ is_type_name name.now }
     {

@@ -24,6 +24,8 @@ pub mod Whole
 pub mod Kept
 pub mod Finds
 pub mod KeyedBelow
+pub mod LeadingDown
+pub mod Ways
 pub mod Schema
 pub mod BuiltThere
 pub mod Dynamic

@@ -4,6 +4,7 @@ use Rattle.js_bundle.specs.declared.checked.Checked.{Checked}
 use Rattle.js_bundle.specs.Built.{assertions_at, assertions_in, patterns_at, patterns_in}
 use Rattle.js_bundle.specs.Candidate.{IsClear}
 use Rattle.js_bundle.specs.Document.{Documents}
+use Rattle.js_bundle.specs.Edges.{LeadDown}
 use Rattle.js_bundle.specs.Finding.{dynamic_at, number_of_target}
 use Rattle.js_bundle.specs.Index.{IsIndex}
 use Rattle.js_bundle.specs.Location.{location}
@@ -24,3 +25,4 @@ pub record IsFinished (documents : Documents) (kept : Checked) : Type 0 where
   pub locations : kept.locations.items ≡ map location (sites documents)
   pub index : IsIndex kept.index (sites documents)
   pub resources : IsResourceTable kept.resources (sites documents)
+  pub edges : LeadDown kept.edges.items (map spot_of kept.spots.items)

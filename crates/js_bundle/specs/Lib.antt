@@ -22,5 +22,6 @@ pub mod Schemas
 pub mod Spot
 pub mod ResourceNumber
 pub mod ResourceTable
+pub mod Edges
 pub mod Finished
 pub mod NameLaws

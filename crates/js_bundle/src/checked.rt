@@ -2,6 +2,7 @@
 ghost use Rattle.std.specs.Prelude.{◌≡◌, ◌++◌, [], ◌∷◌, codes, map, OnOk, IfOk, IfErr};
 ghost use Rattle.js_bundle.specs.Built.{assertions_at, assertions_in, patterns_at, patterns_in};
 ghost use Rattle.js_bundle.specs.Candidate.{IsClear, IsStopped};
+ghost use Rattle.js_bundle.specs.Edges.{LeadDown};
 ghost use Rattle.js_bundle.specs.Finding.{dynamic_at, number_of_target};
 ghost use Rattle.js_bundle.specs.Index.{IsIndex};
 ghost use Rattle.js_bundle.specs.Location.{location};
@@ -14,6 +15,7 @@ ghost use Rattle.js_bundle.specs.Spot.{spot, spot_of};
 
 use crate::built::Built;
 use crate::document::Document;
+use crate::edges::{Edges, edges_of};
 use crate::fault::Fault;
 use crate::first_pass::{Passed, first_pass};
 use crate::index::Index;
@@ -30,7 +32,7 @@ use std::rc::Rc;
 #[derive(Drop)]
 pub(crate) struct Spot {
     pub(crate) document: usize,
-    pub(crate) pointer: Pointer,
+    pub(crate) pointer: Rc<Pointer>,
     /// The scope that the place is in.
     pub(crate) above: Rc<Scope>,
     /// Its own.
@@ -49,6 +51,8 @@ pub(crate) struct Checked {
     pub(crate) locations: Vec<Text>,
     pub(crate) index: Index,
     pub(crate) resources: Resources,
+    /// What stands directly below each.
+    pub(crate) edges: Vec<Edges>,
 }
 
 fn spots_of(alloc: Global, sites: Vec<Site<'_>>) -> Result<Vec<Spot>, Memory>
@@ -95,6 +99,7 @@ pub(crate) fn check_whole(alloc: Global, documents: &[Document]) -> Result<Check
     ensures index { IfOk result (λ c. IsIndex c.index (sites (map document_of documents.now))) }
     ensures resources { IfOk result
         (λ c. IsResourceTable c.resources (sites (map document_of documents.now))) }
+    ensures edges { IfOk result (λ c. LeadDown c.edges.items (map spot_of c.spots.items)) }
     ensures err { IfErr result (IsStopped (candidates (map document_of documents.now))) }
 {
     let sites = scan(alloc, documents)?;
@@ -103,6 +108,7 @@ pub(crate) fn check_whole(alloc: Global, documents: &[Document]) -> Result<Check
     let locations = locations_of(alloc, sites.as_slice())?;
     let resources = resources_of(alloc, &index, sites.as_slice())?;
     let spots = spots_of(alloc, sites)?;
+    let edges = edges_of(alloc, spots.as_slice())?;
     Ok(Checked {
         spots,
         built,
@@ -110,5 +116,6 @@ pub(crate) fn check_whole(alloc: Global, documents: &[Document]) -> Result<Check
         locations,
         index,
         resources,
+        edges,
     })
 }

@@ -9,6 +9,7 @@ mod check;
 mod checked;
 mod document;
 mod dynamic_target;
+mod edges;
 mod entry;
 mod fault;
 mod first_pass;

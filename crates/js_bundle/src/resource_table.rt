@@ -37,7 +37,7 @@ struct Roots {
 fn begins_resource(site: &Site<'_>) -> bool
     ensures { result ≡ begins_resource (site_of site.now) }
 {
-    site.pointer == site.own.resource
+    *site.pointer == site.own.resource
 }
 
 // Opens the resource of a root.

@@ -96,7 +96,7 @@ fn base_made(spot: &Spot) -> Option<&str>
 }
 
 fn is_root(spot: &Spot) -> bool
-    ensures { result ≡ same_tokens spot.now.pointer [] }
+    ensures { result ≡ same_tokens spot.now.pointer.value [] }
 {
     spot.pointer.tokens().is_empty()
 }

@@ -9,7 +9,7 @@ use Rattle.clap.specs.Walk.{settled, finished}
 use Rattle.clap.proofs.OnLiterals.{clap_on_literals}
 use Rattle.js_cli.specs.Grammar.{grammar}
 use Rattle.js_cli.specs.Plain.{is_flag, dashes, plain_of}
-use Rattle.js_cli.specs.Words.{Request, asked_by, check_of, suite_of, places_of, request_of, IsMisuse, words_of}
+use Rattle.js_cli.specs.Words.{Request, asked_by, check_asked, suite_asked, places_asked, request_of, IsMisuse, words_of}
 use Rattle.js_cli.specs.Found.{read_by, misuse_of}
 use Rattle.js_cli.specs.Found.{entered as found_request}
 use Rattle.clap.specs.Kinds.{IsAmong}
@@ -61,7 +61,7 @@ pub or_none : (ks : Kinds) → or_else ks [] ≡ ks
 or_none [] = refl
 or_none (k ∷ ks) = refl
 
-check_named : (w : Text) (ws : List Text) → bytes_eq (codes "check") w ≡ true → IsShort ws → read (w ∷ ws) ≡ asked_by check_of (plain_of ws)
+check_named : (w : Text) (ws : List Text) → bytes_eq (codes "check") w ≡ true → IsShort ws → read (w ∷ ws) ≡ asked_by check_asked (plain_of ws)
 unfolding clap_on_literals
 check_named w ws e few =
     let next : walked all.top.rules names start w ≡ met (codes "check") [] = rw e refl in
@@ -71,7 +71,7 @@ check_named w ws e few =
     ∙ ap (λ ks. read_by ks (entered all (Some (codes "check", ws)))) (or_none (level_fault (level (codes "check")) [] nothing_held ws false []))
     ∙ check_read ws few
 
-suite_named : (w : Text) (ws : List Text) → bytes_eq (codes "check") w ≡ false → bytes_eq (codes "suite") w ≡ true → IsShort ws → read (w ∷ ws) ≡ asked_by suite_of (plain_of ws)
+suite_named : (w : Text) (ws : List Text) → bytes_eq (codes "check") w ≡ false → bytes_eq (codes "suite") w ≡ true → IsShort ws → read (w ∷ ws) ≡ asked_by suite_asked (plain_of ws)
 unfolding clap_on_literals
 suite_named w ws e f few =
     let next : walked all.top.rules names start w ≡ met (codes "suite") [] = rw (e, f) refl in
@@ -81,7 +81,7 @@ suite_named w ws e f few =
     ∙ ap (λ ks. read_by ks (entered all (Some (codes "suite", ws)))) (or_none (level_fault (level (codes "suite")) [] nothing_held ws false []))
     ∙ suite_read ws few
 
-places_named : (w : Text) (ws : List Text) → bytes_eq (codes "check") w ≡ false → bytes_eq (codes "suite") w ≡ false → bytes_eq (codes "places") w ≡ true → IsShort ws → read (w ∷ ws) ≡ asked_by places_of (plain_of ws)
+places_named : (w : Text) (ws : List Text) → bytes_eq (codes "check") w ≡ false → bytes_eq (codes "suite") w ≡ false → bytes_eq (codes "places") w ≡ true → IsShort ws → read (w ∷ ws) ≡ asked_by places_asked (plain_of ws)
 unfolding clap_on_literals
 places_named w ws e f g few =
     let next : walked all.top.rules names start w ≡ met (codes "places") [] = rw (e, f, g) refl in
@@ -145,7 +145,7 @@ unnamed_fault w ws false false h e f =
 -- ---- the law
 
 named : (w : Text) (ws : List Text) (a b c : Bool) → bytes_eq (codes "check") w ≡ a → bytes_eq (codes "suite") w ≡ b → bytes_eq (codes "places") w ≡ c → IsShort ws
-    → read (w ∷ ws) ≡ (if a then asked_by check_of (plain_of ws) else (if b then asked_by suite_of (plain_of ws) else (if c then asked_by places_of (plain_of ws) else Err misuse.OtherForm)))
+    → read (w ∷ ws) ≡ (if a then asked_by check_asked (plain_of ws) else (if b then asked_by suite_asked (plain_of ws) else (if c then asked_by places_asked (plain_of ws) else Err misuse.OtherForm)))
 named w ws true b c e f g few = check_named w ws e few
 named w ws false true c e f g few = suite_named w ws e f few
 named w ws false false true e f g few = places_named w ws e f g few

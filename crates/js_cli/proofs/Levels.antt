@@ -9,9 +9,9 @@ use Rattle.clap.specs.declared.builder.value_parser.ValueParser.TheVariants as p
 use Rattle.clap.specs.declared.builder.value_parser.Reading.TheVariants.{AsWritten}
 use Rattle.clap.specs.declared.parser.matches.ValueSource.TheVariants.{CommandLine}
 use Rattle.clap.proofs.OnLiterals.{clap_on_literals}
-use Rattle.js_cli.specs.Grammar.{grammar, pairs}
+use Rattle.js_cli.specs.Grammar.{grammar, pairs_argument}
 use Rattle.js_cli.specs.Plain.{is_flag, dashes, plain_of}
-use Rattle.js_cli.specs.Words.{Request, asked_by, check_of, suite_of, places_of}
+use Rattle.js_cli.specs.Words.{Request, asked_by, check_asked, suite_asked, places_asked}
 use Rattle.js_cli.specs.Found.{read_by}
 use Rattle.js_cli.specs.declared.words.Misuse.{Misuse}
 use Rattle.js_cli.specs.declared.words.Misuse.TheVariants as misuse
@@ -75,7 +75,7 @@ module _ (name : Text) (long : (n : Text) → arg_by_long (level name).rules n �
 -- ---- the words that are left over
 
 abbrev pairs_at : ℕ → Rule
-pairs_at k = with_index k (filled pairs)
+pairs_at k = with_index k (filled pairs_argument)
 
 abbrev so_far : List Row → ℕ → List Text → Walk
 so_far rows k words = record {
@@ -134,7 +134,7 @@ places_fixed : (p : ℕ) → IsFixed (arg_by_index (level (codes "places")).rule
 places_fixed p = fixed_at (level (codes "places")).rules p (refl, tt)
 
 places_says : (ps : List Text) → IsShort ps → final (codes "places") (taken_fault (level (codes "places")) places_long places_short places_fixed start ps)
-    (end (codes "places") places_long places_short places_fixed places_of ps) ≡ places_of ps
+    (end (codes "places") places_long places_short places_fixed places_asked ps) ≡ places_asked ps
 unfolding clap_on_literals
 places_says [] few = refl
 places_says (p ∷ ps) few =
@@ -154,7 +154,7 @@ suite_fixed : (p : ℕ) → IsFixed (arg_by_index (level (codes "suite")).rules 
 suite_fixed p = fixed_at (level (codes "suite")).rules p (refl, (refl, tt))
 
 suite_says : (ps : List Text) → IsShort ps → final (codes "suite") (taken_fault (level (codes "suite")) suite_long suite_short suite_fixed start ps)
-    (end (codes "suite") suite_long suite_short suite_fixed suite_of ps) ≡ suite_of ps
+    (end (codes "suite") suite_long suite_short suite_fixed suite_asked ps) ≡ suite_asked ps
 unfolding clap_on_literals
 suite_says [] few = refl
 suite_says (file ∷ []) few = refl
@@ -175,7 +175,7 @@ check_fixed : (p : ℕ) → IsFixed (arg_by_index (level (codes "check")).rules 
 check_fixed p = fixed_at (level (codes "check")).rules p (refl, (refl, (refl, (refl, tt))))
 
 check_says : (ps : List Text) → IsShort ps → final (codes "check") (taken_fault (level (codes "check")) check_long check_short check_fixed start ps)
-    (end (codes "check") check_long check_short check_fixed check_of ps) ≡ check_of ps
+    (end (codes "check") check_long check_short check_fixed check_asked ps) ≡ check_asked ps
 unfolding clap_on_literals
 check_says [] few = refl
 check_says (format ∷ []) few = refl
@@ -188,17 +188,17 @@ check_says (format ∷ instance ∷ entry ∷ p ∷ ps) few =
 
 -- ---- what each reads
 
-pub check_read : (ws : List Text) → IsShort ws → level_read (codes "check") ws ≡ asked_by check_of (plain_of ws)
+pub check_read : (ws : List Text) → IsShort ws → level_read (codes "check") ws ≡ asked_by check_asked (plain_of ws)
 check_read ws few =
-    level_by (codes "check") check_long check_short check_fixed check_of ws (plain_of ws) (reads (level (codes "check")) check_long check_short check_fixed start ws start_open refl)
+    level_by (codes "check") check_long check_short check_fixed check_asked ws (plain_of ws) (reads (level (codes "check")) check_long check_short check_fixed start ws start_open refl)
     (few_of ws) few check_says
 
-pub suite_read : (ws : List Text) → IsShort ws → level_read (codes "suite") ws ≡ asked_by suite_of (plain_of ws)
+pub suite_read : (ws : List Text) → IsShort ws → level_read (codes "suite") ws ≡ asked_by suite_asked (plain_of ws)
 suite_read ws few =
-    level_by (codes "suite") suite_long suite_short suite_fixed suite_of ws (plain_of ws) (reads (level (codes "suite")) suite_long suite_short suite_fixed start ws start_open refl)
+    level_by (codes "suite") suite_long suite_short suite_fixed suite_asked ws (plain_of ws) (reads (level (codes "suite")) suite_long suite_short suite_fixed start ws start_open refl)
     (few_of ws) few suite_says
 
-pub places_read : (ws : List Text) → IsShort ws → level_read (codes "places") ws ≡ asked_by places_of (plain_of ws)
+pub places_read : (ws : List Text) → IsShort ws → level_read (codes "places") ws ≡ asked_by places_asked (plain_of ws)
 places_read ws few =
-    level_by (codes "places") places_long places_short places_fixed places_of ws (plain_of ws) (reads (level (codes "places")) places_long places_short places_fixed start ws start_open refl)
+    level_by (codes "places") places_long places_short places_fixed places_asked ws (plain_of ws) (reads (level (codes "places")) places_long places_short places_fixed start ws start_open refl)
     (few_of ws) few places_says

@@ -1,21 +1,22 @@
 -- What the program answers, by where it stops.
-use Rattle.std.proofs.Common.{◌≡◌, ◌≤◌, ◌+◌, ℕ, List, [], ◌++◌, length, Option, Some, None, Result, Ok, Err, Bool, true, ◌⊎◌, inl, inr, refl, sym, ap, subst, arith, ◌<◌}
+use Rattle.std.proofs.Common.{◌≡◌, ◌≤◌, ◌+◌, ℕ, List, [], ◌++◌, length, Option, Some, None, Result, Ok, Err, OnErr, Bool, true, ◌⊎◌, inl, inr, refl, sym, ap, subst, arith, ◌<◌}
 use Rattle.std.proofs.KnownBytes.{Appends-kept}
 use Rattle.std.proofs.lemmas.List.{append-nil}
 use Rattle.std.specs.Io.KnownBytes.{Appends, Keeps}
-use Rattle.js_output.specs.Cause.{IsClear}
+use Rattle.js_output.specs.Cause.{MayGoOn}
 use Rattle.js_output.specs.Device.{Tracked, IsLeft, AppendsBeginning, Sends, SendsBeginning}
-use Rattle.js_output.specs.Documents.{Documents, documents_causes}
+use Rattle.js_output.specs.Documents.{DocumentTexts, documents_causes}
 use Rattle.js_output.specs.Input.{IsInputFault}
-use Rattle.js_output.specs.Outcome.{Output, Outcome, Answers, beginning_causes}
+use Rattle.js_output.specs.Outcome.{Output, Outcome, telling_output, beginning_causes}
 use Rattle.js_output.specs.Places.{TellsPlaces, places_of, places_text}
-use Rattle.js_output.specs.Suite.{AnswersSuite}
+use Rattle.js_output.specs.Suite.{SuiteOutcome, telling_lines}
 use Rattle.js_output.specs.SuiteLines.{counts_of, lines_text}
+use Rattle.js_output.specs.Telling.{Answers}
 use Rattle.js_output.specs.declared.suite_lines.Counts.{Counts}
 use Rattle.js_output.specs.declared.fault.Fault.{Fault}
 use Rattle.js_output.specs.declared.fault.Fault.TheVariants as fault
 use Rattle.js_tree.specs.declared.forms.Format.{Format}
-use Rattle.js_cli.specs.Answer.{Held, AreHeld, PlacesOutcome, RequestOutcome, all_passed, suite_output, WordsOutcome, Performs, IsBegun}
+use Rattle.js_cli.specs.Answer.{HeldByPath, AreHeld, PlacesOutcome, RequestOutcome, all_passed, suite_output, WordsOutcome, Performs, IsPartlyTold}
 use Rattle.js_cli.specs.Status.{misuse_status}
 use Rattle.js_cli.specs.declared.words.Misuse.{Misuse}
 use Rattle.js_cli.specs.declared.words.Misuse.TheVariants as misuse
@@ -34,17 +35,17 @@ pub whole_begins : (old between new : Option (List ℕ)) (text : List ℕ) → A
 whole_begins old between new text sent kept = (text, [], sym (append-nil text), Appends-kept old between new text sent kept)
 
 -- where something failed
-pub begun_or_kept : (words : List (List ℕ)) (held : Held) (input : Option (List ℕ)) (request : Request) (old new : Option (List ℕ)) (e : Fault) → request_of words ≡ Ok request
-    → (¬ (e ≡ fault.Write) → Keeps old new) → (◌≡◌ {A = Result Bool Fault} (Err e) (Err fault.Write) → IsBegun (RequestOutcome held input request) old new)
-    → Keeps old new ⊎ IsBegun (WordsOutcome words held input) old new
+pub begun_or_kept : (words : List (List ℕ)) (held : HeldByPath) (input : Option (List ℕ)) (request : Request) (old new : Option (List ℕ)) (e : Fault) → request_of words ≡ Ok request
+    → (¬ (e ≡ fault.Write) → Keeps old new) → (◌≡◌ {A = Result Bool Fault} (Err e) (Err fault.Write) → IsPartlyTold (RequestOutcome held input request) old new)
+    → Keeps old new ⊎ IsPartlyTold (WordsOutcome words held input) old new
 begun_or_kept words held input request old new fault.Write asks kept begun = let (output, h, out) = begun refl in inr (output, (request, asks, h), out)
 begun_or_kept words held input request old new _ asks kept begun = inl (kept (λ e. cc))
 
 -- ---- a check, and places
 
-module _ {D : Type 0} (held : Held) (pairs : Pairs) (documents : Documents) (taken : D → Option (List ℕ)) (old new : Tracked D) where
+module _ {D : Type 0} (held : HeldByPath) (pairs : Pairs) (documents : DocumentTexts) (taken : D → Option (List ℕ)) (old new : Tracked D) where
   pub check_told : (format : Format) (instance entry bytes : List ℕ) (answer : Result Bool Fault) → AreHeld held pairs documents → IsLeft (held instance) bytes
-      → Answers (Outcome documents entry format) (beginning_causes documents entry) (Some bytes) taken old new answer
+      → Answers telling_output (Outcome documents entry format) (beginning_causes documents entry) (Some bytes) taken old new answer
       → Performs (RequestOutcome held None (check format instance entry pairs)) taken old new answer
   check_told format instance entry bytes (Ok valid) holds here (read, is, (output, h, same, sent)) =
       (output, (documents, holds, (read, subst (IsLeft (held instance)) is here, h)), same, sent)
@@ -52,7 +53,7 @@ module _ {D : Type 0} (held : Held) (pairs : Pairs) (documents : Documents) (tak
       (output, (documents, holds, (read, subst (IsLeft (held instance)) is here, h)), begun)
   check_told format instance entry bytes (Err _) holds here h = tt
 
-  pub places_told : AreHeld held pairs documents → IsClear (documents_causes documents) → Sends taken old new (places_text documents)
+  pub places_told : AreHeld held pairs documents → MayGoOn (documents_causes documents) → Sends taken old new (places_text documents)
       → Performs (RequestOutcome held None (places pairs)) taken old new (Ok true)
   places_told holds clear sent = (record { valid = true; text = places_text documents }, (documents, holds, (clear, refl)), refl, sent)
 
@@ -63,13 +64,13 @@ module _ {D : Type 0} (held : Held) (pairs : Pairs) (documents : Documents) (tak
   places_fault _ holds tells begun = tt
 
   pub suite_told : (file bytes : List ℕ) (counts : Counts) → AreHeld held pairs documents → IsLeft (held file) bytes
-      → AnswersSuite documents (Some bytes) taken old new (Ok counts)
+      → Answers telling_lines (SuiteOutcome documents) (documents_causes documents) (Some bytes) taken old new (Ok counts)
       → Performs (RequestOutcome held None (suite file pairs)) taken old new (Ok (all_passed counts))
   suite_told file bytes counts holds here (read, is, (lines, h, same, sent)) =
-      (suite_output (counts_of lines) (lines_text lines), (documents, holds, (read, subst (IsLeft (held file)) is here, (lines, h, refl))), ap all_passed (sym same), sent)
+      (suite_output (counts_of lines) (lines_text lines), (documents, holds, (read, subst (IsLeft (held file)) is here, (lines, h, refl))), ap all_passed same, sent)
 
   pub suite_fault : (file bytes : List ℕ) (e : Fault) → AreHeld held pairs documents → IsLeft (held file) bytes
-      → AnswersSuite documents (Some bytes) taken old new (Err e)
+      → Answers telling_lines (SuiteOutcome documents) (documents_causes documents) (Some bytes) taken old new (Err e)
       → Performs (RequestOutcome held None (suite file pairs)) taken old new (Err e)
   suite_fault file bytes fault.Write holds here (read, is, (lines, h, begun)) =
       (suite_output (counts_of lines) (lines_text lines), (documents, holds, (read, subst (IsLeft (held file)) is here, (lines, h, refl))), begun)
@@ -80,3 +81,11 @@ pub misuse_told : (m : Misuse) (status : ℕ) → status ≡ misuse_status m →
 misuse_told misuse.Memory status e above = e
 misuse_told misuse.OtherForm status e above = absurd (omega (arith, e, above))
 misuse_told misuse.OddPairs status e above = absurd (omega (arith, e, above))
+
+-- such words end so
+pub misuse_ends : {A E : Type 0} (asked : Result A E) (m : Misuse) (status : ℕ) (Told : Type 0) → status ≡ misuse_status m → (status ≡ 4 → Told)
+    → OnErr asked ((status ≡ 2) ⊎ ((status ≡ 4) × Told))
+misuse_ends (Ok a) m status Told e told = tt
+misuse_ends (Err f) misuse.Memory status Told e told = inr (e, told e)
+misuse_ends (Err f) misuse.OtherForm status Told e told = inl e
+misuse_ends (Err f) misuse.OddPairs status Told e told = inl e

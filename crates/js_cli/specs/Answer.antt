@@ -1,9 +1,9 @@
 -- What the program answers: what comes of that which its words ask for, by what the files and the input hold.
 use Rattle.std.specs.Prelude.{◌≡◌, ℕ, ◌==◌, List, [], ◌∷◌, Option, Result, Ok, Err, Bool, true, ◌&&◌, ⊤}
 use Rattle.std.specs.Io.KnownBytes.{Appends}
-use Rattle.js_output.specs.Cause.{IsClear}
+use Rattle.js_output.specs.Cause.{MayGoOn}
 use Rattle.js_output.specs.Device.{Tracked, IsLeft, AppendsBeginning, Sends, SendsBeginning}
-use Rattle.js_output.specs.Documents.{Documents, documents_causes}
+use Rattle.js_output.specs.Documents.{DocumentTexts, documents_causes}
 use Rattle.js_output.specs.Outcome.{Output, Outcome, PairOutcome}
 use Rattle.js_output.specs.Places.{places_text}
 use Rattle.js_output.specs.Suite.{SuiteOutcome}
@@ -14,18 +14,18 @@ use Rattle.js_output.specs.declared.fault.Fault.TheVariants as fault
 use Rattle.js_cli.specs.Words.{Pairs, Request, pair, check, suite, places, request_of}
 
 -- what a file holds, by its path, where that is known
-abbrev pub Held : Type 0
-Held = List ℕ → Option (List ℕ)
+abbrev pub HeldByPath : Type 0
+HeldByPath = List ℕ → Option (List ℕ)
 
 -- each document stands under its URI, and is what its file holds
-abbrev pub AreHeld : Held → Pairs → Documents → Type 0
+abbrev pub AreHeld : HeldByPath → Pairs → DocumentTexts → Type 0
 AreHeld held [] [] = ⊤
 AreHeld held (p ∷ ps) (d ∷ ds) = (d.0 ≡ p.0) × IsLeft (held p.1) d.1 × AreHeld held ps ds
 AreHeld held _ _ = ⊥
 
 -- what comes of documents whose places are told
-abbrev pub PlacesOutcome : Documents → Result Output Fault → Type 0
-PlacesOutcome documents (Ok output) = IsClear (documents_causes documents) × (output ≡ record { valid = true; text = places_text documents })
+abbrev pub PlacesOutcome : DocumentTexts → Result Output Fault → Type 0
+PlacesOutcome documents (Ok output) = MayGoOn (documents_causes documents) × (output ≡ record { valid = true; text = places_text documents })
 PlacesOutcome documents (Err f) = ⊤
 
 -- no test of a suite failed, and none was skipped
@@ -36,18 +36,18 @@ abbrev pub suite_output : Counts → List ℕ → Output
 suite_output counts text = record { valid = all_passed counts; text = text }
 
 -- what comes of a suite
-abbrev pub SuiteTold : Documents → List ℕ → Result Output Fault → Type 0
+abbrev pub SuiteTold : DocumentTexts → List ℕ → Result Output Fault → Type 0
 SuiteTold documents bytes (Ok output) = (lines : _) × SuiteOutcome documents bytes (Ok lines) × (output ≡ suite_output (counts_of lines) (lines_text lines))
 SuiteTold documents bytes (Err f) = SuiteOutcome documents bytes (Err f)
 
 -- what comes of a request
-abbrev pub RequestOutcome : Held → Option (List ℕ) → Request → Result Output Fault → Type 0
+abbrev pub RequestOutcome : HeldByPath → Option (List ℕ) → Request → Result Output Fault → Type 0
 RequestOutcome held input pair answer = (bytes : List ℕ) × IsLeft input bytes × PairOutcome bytes answer
 RequestOutcome held input (check format instance entry pairs) answer =
-    (documents : Documents) × AreHeld held pairs documents × ((bytes : List ℕ) × IsLeft (held instance) bytes × Outcome documents entry format bytes answer)
+    (documents : DocumentTexts) × AreHeld held pairs documents × ((bytes : List ℕ) × IsLeft (held instance) bytes × Outcome documents entry format bytes answer)
 RequestOutcome held input (suite file pairs) answer =
-    (documents : Documents) × AreHeld held pairs documents × ((bytes : List ℕ) × IsLeft (held file) bytes × SuiteTold documents bytes answer)
-RequestOutcome held input (places pairs) answer = (documents : Documents) × AreHeld held pairs documents × PlacesOutcome documents answer
+    (documents : DocumentTexts) × AreHeld held pairs documents × ((bytes : List ℕ) × IsLeft (held file) bytes × SuiteTold documents bytes answer)
+RequestOutcome held input (places pairs) answer = (documents : DocumentTexts) × AreHeld held pairs documents × PlacesOutcome documents answer
 
 -- The verdict is answered where the output's text went out, and `Write` where a beginning of it did.
 abbrev pub Performs : {D : Type 0} → (Result Output Fault → Type 0) → (D → Option (List ℕ)) → Tracked D → Tracked D → Result Bool Fault → Type 0
@@ -60,9 +60,9 @@ abbrev pub IsTold : (Result Output Fault → Type 0) → Bool → Option (List �
 IsTold Expected valid old new = (output : Output) × Expected (Ok output) × (output.valid ≡ valid) × Appends old new output.text
 
 -- it comes to an output, and a beginning of its text went out
-abbrev pub IsBegun : (Result Output Fault → Type 0) → Option (List ℕ) → Option (List ℕ) → Type 0
-IsBegun Expected old new = (output : Output) × Expected (Ok output) × AppendsBeginning old new output.text
+abbrev pub IsPartlyTold : (Result Output Fault → Type 0) → Option (List ℕ) → Option (List ℕ) → Type 0
+IsPartlyTold Expected old new = (output : Output) × Expected (Ok output) × AppendsBeginning old new output.text
 
 -- what comes of the request that the words make
-abbrev pub WordsOutcome : List (List ℕ) → Held → Option (List ℕ) → Result Output Fault → Type 0
+abbrev pub WordsOutcome : List (List ℕ) → HeldByPath → Option (List ℕ) → Result Output Fault → Type 0
 WordsOutcome words held input answer = (request : Request) × (request_of words ≡ Ok request) × RequestOutcome held input request answer

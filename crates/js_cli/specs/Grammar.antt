@@ -6,24 +6,24 @@ use Rattle.clap.specs.Words.{App, Rule, Shape, Text, new_rule, new_app, with_rul
 use Rattle.clap.specs.declared.builder.action.ArgAction.TheVariants.{Set, Append}
 
 -- a word that has to stand there
-abbrev pub word : Text → Rule
-word name = record (new_rule name) { action = Some Set; required = true }
+abbrev pub word_argument : Text → Rule
+word_argument name = record (new_rule name) { action = Some Set; required = true }
 
 -- all words that are left
-abbrev pub pairs : Rule
-pairs = record (new_rule (codes "PAIRS")) {
+abbrev pub pairs_argument : Rule
+pairs_argument = record (new_rule (codes "PAIRS")) {
   action = Some Append;
   range = Some (record { start_inclusive = 0; end_inclusive = usize_max });
 }
 
-abbrev pub check : App
-check = with_rule (with_rule (with_rule (with_rule (new_app (codes "check")) (word (codes "FORMAT"))) (word (codes "INSTANCE"))) (word (codes "ENTRY"))) pairs
+abbrev pub check_command : App
+check_command = with_rule (with_rule (with_rule (with_rule (new_app (codes "check")) (word_argument (codes "FORMAT"))) (word_argument (codes "INSTANCE"))) (word_argument (codes "ENTRY"))) pairs_argument
 
-abbrev pub suite : App
-suite = with_rule (with_rule (new_app (codes "suite")) (word (codes "SUITE"))) pairs
+abbrev pub suite_command : App
+suite_command = with_rule (with_rule (new_app (codes "suite")) (word_argument (codes "SUITE"))) pairs_argument
 
-abbrev pub places : App
-places = with_rule (new_app (codes "places")) pairs
+abbrev pub places_command : App
+places_command = with_rule (new_app (codes "places")) pairs_argument
 
 -- the program's name isn't among the words, and neither help nor a version is asked for by a word
 abbrev pub program : App
@@ -40,4 +40,4 @@ program =
     }
 
 abbrev pub grammar : App
-grammar = with_subcommand (with_subcommand (with_subcommand program check.top) suite.top) places.top
+grammar = with_subcommand (with_subcommand (with_subcommand program check_command.top) suite_command.top) places_command.top

@@ -8,7 +8,7 @@ use Rattle.js_tree.specs.declared.forms.Format.{Format}
 use Rattle.js_tree.specs.declared.forms.Format.TheVariants.{Flag, Basic, Detailed, Verbose}
 use Rattle.js_cli.specs.declared.words.Misuse.{Misuse}
 use Rattle.js_cli.specs.declared.words.Misuse.TheVariants as misuse
-use Rattle.js_cli.specs.declared.words.Document.{Document}
+use Rattle.js_cli.specs.declared.words.DocumentFile.{DocumentFile}
 use Rattle.js_cli.specs.declared.words.Task.{Task}
 use Rattle.js_cli.specs.declared.words.Task.TheVariants as task
 
@@ -45,26 +45,26 @@ check_by None instance entry ps = Err misuse.OtherForm
 check_by (Some format) instance entry None = Err misuse.OddPairs
 check_by (Some format) instance entry (Some ps) = Ok (check format instance entry ps)
 
-abbrev pub check_of : List Text → Result Request Misuse
-check_of (format ∷ instance ∷ entry ∷ words) = check_by (format_of format) instance entry (pairs_in words)
-check_of _ = Err misuse.OtherForm
+abbrev pub check_asked : List Text → Result Request Misuse
+check_asked (format ∷ instance ∷ entry ∷ words) = check_by (format_of format) instance entry (pairs_in words)
+check_asked _ = Err misuse.OtherForm
 
 -- `SUITE [URI FILE]...`
 abbrev pub suite_by : Text → Option Pairs → Result Request Misuse
 suite_by file None = Err misuse.OddPairs
 suite_by file (Some ps) = Ok (suite file ps)
 
-abbrev pub suite_of : List Text → Result Request Misuse
-suite_of (file ∷ words) = suite_by file (pairs_in words)
-suite_of [] = Err misuse.OtherForm
+abbrev pub suite_asked : List Text → Result Request Misuse
+suite_asked (file ∷ words) = suite_by file (pairs_in words)
+suite_asked [] = Err misuse.OtherForm
 
 -- `[URI FILE]...`
 abbrev pub places_by : Option Pairs → Result Request Misuse
 places_by None = Err misuse.OddPairs
 places_by (Some ps) = Ok (places ps)
 
-abbrev pub places_of : List Text → Result Request Misuse
-places_of words = places_by (pairs_in words)
+abbrev pub places_asked : List Text → Result Request Misuse
+places_asked words = places_by (pairs_in words)
 
 abbrev pub asked_by : (List Text → Result Request Misuse) → Option (List Text) → Result Request Misuse
 asked_by form None = Err misuse.OtherForm
@@ -74,9 +74,9 @@ asked_by form (Some words) = form words
 abbrev pub request_of : List Text → Result Request Misuse
 request_of [] = Ok pair
 request_of (name ∷ words) =
-    if bytes_eq (codes "check") name then asked_by check_of (plain_of words)
-    else (if bytes_eq (codes "suite") name then asked_by suite_of (plain_of words)
-    else (if bytes_eq (codes "places") name then asked_by places_of (plain_of words)
+    if bytes_eq (codes "check") name then asked_by check_asked (plain_of words)
+    else (if bytes_eq (codes "suite") name then asked_by suite_asked (plain_of words)
+    else (if bytes_eq (codes "places") name then asked_by places_asked (plain_of words)
     else Err misuse.OtherForm))
 
 -- ---- words for the parts
@@ -85,7 +85,7 @@ request_of (name ∷ words) =
 abbrev pub words_of : List (Bor Text) → List Text
 words_of words = map (λ w. w.now) words
 
-abbrev pub pairs_seen : List Document → Pairs
+abbrev pub pairs_seen : List DocumentFile → Pairs
 pairs_seen ds = map (λ d. (d.uri.now, d.file.now)) ds
 
 abbrev pub request_seen : Task → Request

@@ -1,5 +1,5 @@
 //! The program's work, over files and devices of any make.
-ghost use Rattle.std.specs.Prelude.{◌≡◌, ◌≢◌, ◌≤◌, ◌<◌, ◌⊎◌, ◌↔◌, ◌==◌, ◌++◌, ◌∷◌, [], ℕ, List, Option, None, false, IfOk, IfErr, OnOk, IfSome, IsErrOf, string_bytes};
+ghost use Rattle.std.specs.Prelude.{◌≡◌, ◌≢◌, ◌≤◌, ◌<◌, ◌⊎◌, ◌↔◌, ◌==◌, ◌++◌, ◌∷◌, [], ℕ, List, Option, None, false, IfOk, IfErr, OnOk, OnErr, IfSome, IsErrOf, string_bytes};
 ghost use Rattle.std.specs.Io.KnownBytes.{Keeps};
 ghost use Rattle.js_output.specs.Device.{AppendsBeginning, IsLeft};
 ghost use Rattle.js_output.specs.Input.{IsInputFault};
@@ -8,11 +8,11 @@ ghost use Rattle.js_output.specs.declared.fault.Fault.{Fault};
 ghost use Rattle.js_cli.specs.Words.{places, pairs_seen, request_of, request_seen, usage_line, words_of};
 ghost use Rattle.js_cli.specs.declared.words.Misuse.{Misuse};
 ghost use Rattle.js_cli.specs.declared.words.Task.{Task};
-ghost use Rattle.js_cli.specs.Answer.{RequestOutcome, WordsOutcome, Performs, IsTold, IsBegun, all_passed};
+ghost use Rattle.js_cli.specs.Answer.{RequestOutcome, WordsOutcome, Performs, IsTold, IsPartlyTold, all_passed};
 ghost use Rattle.js_cli.specs.Status.{fault_status, misuse_status};
 
-use crate::documents::{lent, take_all};
-use crate::words::{Check, Document, Misuse, PAIRS_USAGE, Suite, Task, USAGE, task_of};
+use crate::documents::{handed_in, take_all};
+use crate::words::{Check, DocumentFile, Misuse, PAIRS_USAGE, Suite, Task, USAGE, task_of};
 use js_output::{Counts, Fault, Sink, Source, refusal_line, run, run_pair, run_places, run_suite};
 use std::alloc::Global;
 use std::io::{Read, Write};
@@ -77,13 +77,16 @@ pub fn command<'a, F: Files, R: Read, W: Write, V: Write>(
     // Where something failed, nothing went out, or a beginning of such a text.
     ensures beginning { result ≡ 4
         → Keeps (W.contents out.old.device) (W.contents out.new.device)
-        ⊎ IsBegun
+        ⊎ IsPartlyTold
         (WordsOutcome (words_of words.entry.now) (F.held files.old)
         (R.remaining input.old.device))
         (W.contents out.old.device) (W.contents out.new.device) }
 
     // What is told of anything else, or a beginning of it.
     ensures quiet { result < 2 → faults.new ≡ faults.old }
+    ensures misused { OnErr (request_of (words_of words.entry.now)) ((result ≡ 2) ⊎ ((result ≡ 4)
+        × AppendsBeginning (V.contents faults.old.device) (V.contents faults.new.device)
+        (fault_line Fault.Memory ++ 10 ∷ []))) }
     ensures usage { result ≡ 2 → (m : Misuse) × (request_of (words_of words.entry.now) ≡ Err m)
         × AppendsBeginning (V.contents faults.old.device) (V.contents faults.new.device)
         (usage_line m) }
@@ -124,7 +127,7 @@ fn perform_whole<F: Files, R: Read, W: Write>(
     ensures whole { OnOk result (out.new.failed ≡ false) }
     ensures nothing { IfErr result (λ e. e ≢ Fault.Write
         → Keeps (W.contents out.old.device) (W.contents out.new.device)) }
-    ensures beginning { IsErrOf result Fault.Write → IsBegun
+    ensures beginning { IsErrOf result Fault.Write → IsPartlyTold
         (RequestOutcome (F.held files.old) (R.remaining input.old.device)
         (request_seen task.entry))
         (W.contents out.old.device) (W.contents out.new.device) }
@@ -168,7 +171,7 @@ fn perform_check<F: Files, W: Write>(
     ensures nothing { IfErr result (λ e. e ≢ Fault.Write → out.new ≡ out.old) }
 {
     let held = take_all(alloc, check.documents.as_slice(), files)?;
-    let docs = lent(alloc, held.as_slice())?;
+    let docs = handed_in(alloc, held.as_slice())?;
     let instance = files.take(check.instance)?;
     let mut instance = Source::new(instance.as_slice());
     run(
@@ -193,7 +196,7 @@ fn perform_suite<F: Files, W: Write>(
     ensures nothing { IfErr result (λ e. e ≢ Fault.Write → out.new ≡ out.old) }
 {
     let held = take_all(alloc, suite.documents.as_slice(), files)?;
-    let docs = lent(alloc, held.as_slice())?;
+    let docs = handed_in(alloc, held.as_slice())?;
     let text = files.take(suite.file)?;
     let mut text = Source::new(text.as_slice());
     let counts = run_suite(alloc, docs.as_slice(), &mut text, out)?;
@@ -209,7 +212,7 @@ fn all_passed(counts: &Counts) -> bool
 
 fn perform_places<F: Files, W: Write>(
     alloc: Global,
-    documents: &[Document],
+    documents: &[DocumentFile],
     files: &mut F,
     out: &mut Sink<W>,
 ) -> Result<bool, Fault>
@@ -219,7 +222,7 @@ fn perform_places<F: Files, W: Write>(
     ensures nothing { IfErr result (λ e. e ≢ Fault.Write → out.new ≡ out.old) }
 {
     let held = take_all(alloc, documents, files)?;
-    let docs = lent(alloc, held.as_slice())?;
+    let docs = handed_in(alloc, held.as_slice())?;
     run_places(alloc, docs.as_slice(), out)?;
     Ok(true)
 }

@@ -7,7 +7,7 @@ ghost use Rattle.js_cli.specs.Words.{pairs_seen};
 ghost use Rattle.js_cli.specs.Taken.{documents_taken};
 
 use crate::command::Files;
-use crate::words::Document;
+use crate::words::DocumentFile;
 use js_output::Fault;
 use std::alloc::{AllocFailed, Global};
 
@@ -21,7 +21,7 @@ pub(crate) struct Taken<'a> {
 /// Takes the documents' files, one after another.
 pub(crate) fn take_all<'a, F: Files>(
     alloc: Global,
-    documents: &[Document<'a>],
+    documents: &[DocumentFile<'a>],
     files: &mut F,
 ) -> Result<Vec<Taken<'a>>, Fault>
     ensures held { IfOk result (λ ds.
@@ -33,13 +33,13 @@ pub(crate) fn take_all<'a, F: Files>(
     for document in documents {
         let text = files.take(document.file)?;
         let uri = document.uri;
-        push(&mut all, Taken { uri, text })?;
+        append(&mut all, Taken { uri, text })?;
     }
     Ok(all)
 }
 
 /// The documents as a run takes them.
-pub(crate) fn lent<'t>(
+pub(crate) fn handed_in<'t>(
     alloc: Global,
     taken: &'t [Taken<'t>],
 ) -> Result<Vec<(&'t str, &'t [u8])>, Fault>
@@ -48,13 +48,13 @@ pub(crate) fn lent<'t>(
 {
     let mut docs = Vec::new(alloc);
     for document in taken {
-        push(&mut docs, (document.uri, document.text.as_slice()))?;
+        append(&mut docs, (document.uri, document.text.as_slice()))?;
     }
     Ok(docs)
 }
 
 /// Puts one more at the end.
-pub(crate) fn push<T: Drop>(list: &mut Vec<T>, item: T) -> Result<(), AllocFailed<T>>
+pub(crate) fn append<T: Drop>(list: &mut Vec<T>, item: T) -> Result<(), AllocFailed<T>>
     ensures { OnOk result (list.new.items ≡ list.old.items ++ item ∷ []) }
 {
     list.push(item)

@@ -4,7 +4,7 @@ ghost use Rattle.clap.specs.Words.{found_of, first_of, all_of, rows_of, subcomma
 ghost use Rattle.js_cli.specs.Words.{request_of, request_seen, words_of, pairs_in, pairs_seen, format_of, places_by, IsMisuse, IsNoPairs};
 ghost use Rattle.js_cli.specs.Found.{entered, request_in, check_in, suite_in, pairs_of};
 
-use crate::documents::push;
+use crate::documents::append;
 use crate::grammar::grammar;
 use clap::ArgMatches;
 use clap::error::ErrorKind;
@@ -28,7 +28,7 @@ pub enum Task<'a> {
     /// To run a suite.
     Suite(Suite<'a>),
     /// To tell the places of documents.
-    Places(Vec<Document<'a>>),
+    Places(Vec<DocumentFile<'a>>),
 }
 
 /// The words of a check.
@@ -38,19 +38,19 @@ pub struct Check<'a> {
     /// The instance's file.
     pub instance: &'a str,
     pub entry: &'a str,
-    pub documents: Vec<Document<'a>>,
+    pub documents: Vec<DocumentFile<'a>>,
 }
 
 /// The words of a suite.
 #[derive(Drop)]
 pub struct Suite<'a> {
     pub file: &'a str,
-    pub documents: Vec<Document<'a>>,
+    pub documents: Vec<DocumentFile<'a>>,
 }
 
 /// A schema document: its URI, and its file.
 #[derive(Clone, Copy, Drop)]
-pub struct Document<'a> {
+pub struct DocumentFile<'a> {
     pub uri: &'a str,
     pub file: &'a str,
 }
@@ -220,7 +220,7 @@ fn words_in<'f, 'a>(found: &'f ArgMatches<'a>, name: &str) -> Option<&'f [&'a st
     found.get_strs(name)
 }
 
-fn documents_in<'a>(alloc: Global, found: &ArgMatches<'a>) -> Result<Vec<Document<'a>>, Misuse>
+fn documents_in<'a>(alloc: Global, found: &ArgMatches<'a>) -> Result<Vec<DocumentFile<'a>>, Misuse>
     ensures ok { IfOk result (λ ds.
         pairs_of (rows_of (found_of found.now)) ≡ Some (pairs_seen ds.items)) }
     ensures err { IfErr result (IsNoPairs (pairs_of (rows_of (found_of found.now)))) }
@@ -231,18 +231,18 @@ fn documents_in<'a>(alloc: Global, found: &ArgMatches<'a>) -> Result<Vec<Documen
     }
 }
 
-fn documents_of<'a>(alloc: Global, words: &[&'a str]) -> Result<Vec<Document<'a>>, Misuse>
+fn documents_of<'a>(alloc: Global, words: &[&'a str]) -> Result<Vec<DocumentFile<'a>>, Misuse>
     ensures ok { IfOk result (λ ds. pairs_in (words_of words.now) ≡ Some (pairs_seen ds.items)) }
     ensures err { IfErr result (IsNoPairs (pairs_in (words_of words.now))) }
 {
     let mut documents = Vec::new(alloc);
     let mut at = 0;
     while at + 1 < words.len() {
-        let document = Document {
+        let document = DocumentFile {
             uri: words[at],
             file: words[at + 1],
         };
-        push(&mut documents, document)?;
+        append(&mut documents, document)?;
         at += 2;
     }
     if at < words.len() {

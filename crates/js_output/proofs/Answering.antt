@@ -8,12 +8,13 @@ use Rattle.js_tree.specs.declared.forms.Format.TheVariants.{Flag, Basic, Detaile
 use Rattle.js_eval.specs.Result.{ResultTree, IsWithinLimits}
 use Rattle.js_bundle.specs.Document as bundle
 use Rattle.js_bundle.specs.Resource.{Site}
-use Rattle.js_output.specs.Documents.{Documents, bundle_of}
-use Rattle.js_output.specs.Entry.{place_named}
-use Rattle.js_output.specs.Cause.{Causes, IsClear, FailsBy}
+use Rattle.js_output.specs.Documents.{DocumentTexts, bundle_of}
+use Rattle.js_output.specs.Entry.{entry_place}
+use Rattle.js_output.specs.Cause.{Causes, MayGoOn, FailsBy}
 use Rattle.js_output.specs.Device.{Tracked, input_limit, IsLeft, Sends, SendsBeginning}
 use Rattle.js_output.specs.Input.{IsInputFault}
-use Rattle.js_output.specs.Outcome.{beginning_causes, Output, output_of, ValueOutcome, TextOutcome, InstanceOutcome, After, Outcome, Tells, Answers, IsLateOrMemory, IsResultOf, IsWalkFault, trimmed, OutcomeOfTexts, PairOutcome, first_line_feed, text_before, text_after}
+use Rattle.js_output.specs.Outcome.{beginning_causes, Output, output_of, ValueOutcome, TextOutcome, InstanceOutcome, Outcome, telling_output, IsLateOrMemory, IsResultOf, IsWalkFault, trimmed}
+use Rattle.js_output.specs.Telling.{Telling, Tells, Answers, After, OfInput}
 use Rattle.js_output.specs.declared.fault.Fault.{Fault}
 use Rattle.js_output.specs.declared.fault.Fault.TheVariants as fault
 use Rattle.js_tree.specs.declared.forms.Format.{Format}
@@ -41,30 +42,92 @@ more_left (Some xs) (Some ys) taken more h = (xs, refl, omega (arith, ap length 
 
 -- ---- what is told of one outcome, and of another that follows from it
 
-pub tells-map : {D : Type 0} (P Q : Result Output Fault → Type 0) (taken : D → Option (List ℕ)) (old new : Tracked D) (answer : Result Bool Fault)
-    → ((outcome : Result Output Fault) → P outcome → Q outcome) → Tells P taken old new answer → Tells Q taken old new answer
-tells-map P Q taken old new (Ok valid) f (output, h, is, sent) = (output, f (Ok output) h, is, sent)
-tells-map P Q taken old new (Err fault.Memory) f h = tt
-tells-map P Q taken old new (Err fault.Read) f h = absurd h
-tells-map P Q taken old new (Err fault.Write) f (output, h, begun) = (output, f (Ok output) h, begun)
-tells-map P Q taken old new (Err e) f h = f (Err e) h
+module _ {O A D : Type 0} (telling : Telling O A) (taken : D → Option (List ℕ)) (old new : Tracked D) where
+  pub tells-map : (P Q : Result O Fault → Type 0) (answer : Result A Fault)
+      → ((outcome : Result O Fault) → P outcome → Q outcome) → Tells telling P taken old new answer → Tells telling Q taken old new answer
+  tells-map P Q (Ok answer) f (output, h, is, sent) = (output, f (Ok output) h, is, sent)
+  tells-map P Q (Err fault.Memory) f h = tt
+  tells-map P Q (Err fault.Read) f h = absurd h
+  tells-map P Q (Err fault.Write) f (output, h, begun) = (output, f (Ok output) h, begun)
+  tells-map P Q (Err e) f h = f (Err e) h
+
+  -- a cause stands before
+  pub tells-early : (causes : Causes) (Then : Result O Fault → Type 0) (e : Fault) → FailsBy causes e → Tells telling (After causes Then) taken old new (Err e)
+  tells-early causes Then fault.Memory h = tt
+  tells-early causes Then fault.Read h = absurd h
+  tells-early causes Then fault.Write h = absurd h
+  tells-early causes Then e h = inl h
+
+-- ---- an input, by its size
+
+pub input-over : {O : Type 0} (bytes : List ℕ) (Then : Result O Fault → Type 0) → input_limit < length bytes → OfInput bytes Then (Err fault.InputTooLarge)
+input-over {O} bytes Then more =
+    subst (λ t. MatchBool t (◌≡◌ {A = Result O Fault} (Err fault.InputTooLarge) (Err fault.InputTooLarge)) (Then (Err fault.InputTooLarge))) (sym (lt-ltb input_limit (length bytes) more)) refl
+
+-- within the limit it alone decides
+pub input-within : {O : Type 0} (bytes : List ℕ) (Then : Result O Fault → Type 0) → length bytes ≤ input_limit → (outcome : Result O Fault) → Then outcome → OfInput bytes Then outcome
+input-within bytes Then few outcome h =
+    subst (λ t. MatchBool t (outcome ≡ Err fault.InputTooLarge) (Then outcome)) (sym (le-ltb input_limit (length bytes) few)) h
+
+-- ---- what is answered of an input
+
+pub after-clear : {O : Type 0} (causes : Causes) (Then : Result O Fault → Type 0) → MayGoOn causes → (outcome : Result O Fault) → Then outcome → After causes Then outcome
+after-clear causes Then clear (Ok output) h = (clear, h)
+after-clear causes Then clear (Err e) h = inr (clear, h)
+
+module _ {O A D : Type 0} (telling : Telling O A) (P : List ℕ → Result O Fault → Type 0) (taken : D → Option (List ℕ)) (old new : Tracked D) where
+  -- it is read whole
+  pub answers-told : (left : Option (List ℕ)) (bytes : List ℕ) (answer : Result A Fault)
+      → IsLeft left bytes → Tells telling (P bytes) taken old new answer → Answers telling P [] left taken old new answer
+  answers-told left bytes (Ok answer) is h = (bytes, is, h)
+  answers-told left bytes (Err fault.Memory) is h = tt
+  answers-told left bytes (Err fault.Read) is h = absurd h
+  answers-told left bytes (Err fault.Write) is h = (bytes, is, h)
+  answers-told left bytes (Err e) is h = (bytes, is, h)
+
+  -- it isn't
+  pub answers-input : (old_left new_left : Option (List ℕ)) (e : Fault)
+      → ((bytes : List ℕ) → input_limit < length bytes → P bytes (Err fault.InputTooLarge)) → IsInputFault e
+      → (e ≡ fault.InputTooLarge → (read : List ℕ) × (input_limit < length read) × Consumes old_left new_left read) → Answers telling P [] old_left taken old new (Err e)
+  answers-input old_left new_left fault.Memory over h large = tt
+  answers-input old_left new_left fault.Read over h large = tt
+  answers-input old_left new_left fault.InputTooLarge over h large =
+      let (read, more, consumed) = large refl in let (bytes, is, many) = more_left old_left new_left read more consumed in (bytes, is, over bytes many)
+  answers-input old_left new_left _ over h large = absurd h
+
+  module _ (causes : Causes) (left : Option (List ℕ)) where
+    -- a cause stands before it
+    pub answers-early : (e : Fault) → FailsBy causes e → Answers telling (λ bytes. After causes (P bytes)) causes left taken old new (Err e)
+    answers-early fault.Memory h = tt
+    answers-early fault.Read h = absurd h
+    answers-early fault.Write h = absurd h
+    answers-early e h = let (bytes, is) = some_left left in (bytes, is, inl h)
+
+    -- none does
+    pub answers-after : MayGoOn causes → (answer : Result A Fault) → Answers telling P [] left taken old new answer
+        → Answers telling (λ bytes. After causes (P bytes)) causes left taken old new answer
+    answers-after clear (Err fault.Memory) h = tt
+    answers-after clear (Err fault.Read) h = clear
+    answers-after clear (Ok answer) (bytes, all, h) = (bytes, all, tells-map telling taken old new (P bytes) (After causes (P bytes)) (Ok answer) (after-clear causes (P bytes) clear) h)
+    answers-after clear (Err fault.Write) (bytes, all, h) = (bytes, all, tells-map telling taken old new (P bytes) (After causes (P bytes)) (Err fault.Write) (after-clear causes (P bytes) clear) h)
+    answers-after clear (Err f) (bytes, all, h) = (bytes, all, after-clear causes (P bytes) clear (Err f) h)
 
 -- ---- what is told of a value
 
 module _ (docs : bundle.Documents) (entry : Option Site) (v : Value) (format : Format) where
   module _ (t : ResultTree) (is : IsResultOf docs entry v t) (stands : IsWithinLimits t) {D : Type 0} (taken : D → Option (List ℕ)) (old new : Tracked D) where
     -- the form went out
-    pub tells-sent : (valid : Bool) → valid ≡ t.root.valid → Sends taken old new (output_of format t).text → Tells (ValueOutcome docs entry v format) taken old new (Ok valid)
+    pub tells-sent : (valid : Bool) → valid ≡ t.root.valid → Sends taken old new (output_of format t).text → Tells telling_output (ValueOutcome docs entry v format) taken old new (Ok valid)
     tells-sent valid e sent = (output_of format t, (t, is, stands, refl), sym e, sent)
 
     -- the sink failed
-    pub tells-begun : (e : Fault) → (e ≡ fault.Write) × SendsBeginning taken old new (output_of format t).text → Tells (ValueOutcome docs entry v format) taken old new (Err e)
+    pub tells-begun : (e : Fault) → (e ≡ fault.Write) × SendsBeginning taken old new (output_of format t).text → Tells telling_output (ValueOutcome docs entry v format) taken old new (Err e)
     tells-begun e (write, begun) =
-        subst (λ e. Tells (ValueOutcome docs entry v format) taken old new (Err e)) (sym write) (output_of format t, (t, is, stands, refl), begun)
+        subst (λ e. Tells telling_output (ValueOutcome docs entry v format) taken old new (Err e)) (sym write) (output_of format t, (t, is, stands, refl), begun)
 
   -- there is none
   pub tells-fault : {D : Type 0} (taken : D → Option (List ℕ)) (old new : Tracked D) (e : Fault)
-      → IsWalkFault docs entry v e → Tells (ValueOutcome docs entry v format) taken old new (Err e)
+      → IsWalkFault docs entry v e → Tells telling_output (ValueOutcome docs entry v format) taken old new (Err e)
   tells-fault taken old new fault.Memory h = tt
   tells-fault taken old new fault.TooLarge h = (refl, h)
   tells-fault taken old new _ h = absurd h
@@ -87,99 +150,29 @@ walk-late docs entry v fault.Memory h = tt
 walk-late docs entry v fault.TooLarge h = tt
 walk-late docs entry v _ h = absurd h
 
--- ---- an input that is read
+-- ---- what is kept of the entry: the documents, and the place
 
--- it is read whole
-pub answers-told : {D : Type 0} (P : List ℕ → Result Output Fault → Type 0) (left : Option (List ℕ)) (bytes : List ℕ) (taken : D → Option (List ℕ)) (old new : Tracked D) (answer : Result Bool Fault)
-    → IsLeft left bytes → Tells (P bytes) taken old new answer → Answers P [] left taken old new answer
-answers-told P left bytes taken old new (Ok valid) is h = (bytes, is, h)
-answers-told P left bytes taken old new (Err fault.Memory) is h = tt
-answers-told P left bytes taken old new (Err fault.Read) is h = absurd h
-answers-told P left bytes taken old new (Err fault.Write) is h = (bytes, is, h)
-answers-told P left bytes taken old new (Err e) is h = (bytes, is, h)
-
--- it isn't
-pub answers-input : {D : Type 0} (P : List ℕ → Result Output Fault → Type 0) (old_left new_left : Option (List ℕ)) (taken : D → Option (List ℕ)) (old new : Tracked D) (e : Fault)
-    → ((bytes : List ℕ) → input_limit < length bytes → P bytes (Err fault.InputTooLarge)) → IsInputFault e
-    → (e ≡ fault.InputTooLarge → (read : List ℕ) × (input_limit < length read) × Consumes old_left new_left read) → Answers P [] old_left taken old new (Err e)
-answers-input P old_left new_left taken old new fault.Memory over h large = tt
-answers-input P old_left new_left taken old new fault.Read over h large = tt
-answers-input P old_left new_left taken old new fault.InputTooLarge over h large =
-    let (read, more, consumed) = large refl in let (bytes, is, many) = more_left old_left new_left read more consumed in (bytes, is, over bytes many)
-answers-input P old_left new_left taken old new _ over h large = absurd h
-
--- ---- an instance, by its size
-
-module _ (docs : bundle.Documents) (entry : Option Site) (format : Format) (bytes : List ℕ) where
-  pub on_large : input_limit < length bytes → InstanceOutcome docs entry format bytes (Err fault.InputTooLarge)
-  on_large more =
-      subst (λ t. MatchBool t (◌≡◌ {A = Result Output Fault} (Err fault.InputTooLarge) (Err fault.InputTooLarge)) (TextOutcome docs entry format bytes (Err fault.InputTooLarge))) (sym (lt-ltb input_limit (length bytes) more)) refl
-
-  -- within the limit the text alone decides
-  pub on_small : length bytes ≤ input_limit → (outcome : Result Output Fault) → TextOutcome docs entry format bytes outcome → InstanceOutcome docs entry format bytes outcome
-  on_small few outcome h =
-      subst (λ t. MatchBool t (outcome ≡ Err fault.InputTooLarge) (TextOutcome docs entry format bytes outcome)) (sym (le-ltb input_limit (length bytes) few)) h
-
--- ---- after the causes of what comes before
-
-after-clear : (causes : Causes) (Then : Result Output Fault → Type 0) → IsClear causes → (outcome : Result Output Fault) → Then outcome → After causes Then outcome
-after-clear causes Then clear (Ok output) h = (clear, h)
-after-clear causes Then clear (Err e) h = inr (clear, h)
-
--- a cause stands before the instance
-pub answers-early : {D : Type 0} (docs : Documents) (uri : List ℕ) (format : Format) (left : Option (List ℕ)) (taken : D → Option (List ℕ)) (old new : Tracked D) (e : Fault)
-    → FailsBy (beginning_causes docs uri) e → Answers (Outcome docs uri format) (beginning_causes docs uri) left taken old new (Err e)
-answers-early docs uri format left taken old new fault.Memory h = tt
-answers-early docs uri format left taken old new fault.Read h = absurd h
-answers-early docs uri format left taken old new fault.Write h = absurd h
-answers-early docs uri format left taken old new e h = let (bytes, is) = some_left left in (bytes, is, inl h)
-
--- what is kept of the entry: the documents, and the place
-pub record IsKept (docs : Documents) (uri : List ℕ) (kept : bundle.Documents) (entry : Option Site) : Type 0 where
-  pub clear : IsClear (beginning_causes docs uri)
+pub record IsKept (docs : DocumentTexts) (uri : List ℕ) (kept : bundle.Documents) (entry : Option Site) : Type 0 where
+  pub clear : MayGoOn (beginning_causes docs uri)
   pub of : kept ≡ bundle_of docs
-  pub named : entry ≡ place_named (bundle_of docs) uri
+  pub named : entry ≡ entry_place (bundle_of docs) uri
 
-module _ (docs : Documents) (uri : List ℕ) (format : Format) (kept : bundle.Documents) (entry : Option Site) (is : IsKept docs uri kept entry) where
+module _ (docs : DocumentTexts) (uri : List ℕ) (format : Format) (kept : bundle.Documents) (entry : Option Site) (is : IsKept docs uri kept entry) where
+  -- what comes of the entry is the outcome
+  pub answers-late : {D : Type 0} (left : Option (List ℕ)) (taken : D → Option (List ℕ)) (old new : Tracked D) (answer : Result Bool Fault)
+      → Answers telling_output (InstanceOutcome kept entry format) [] left taken old new answer → Answers telling_output (Outcome docs uri format) (beginning_causes docs uri) left taken old new answer
+  answers-late left taken old new answer h =
+      answers-after telling_output (InstanceOutcome (bundle_of docs) (entry_place (bundle_of docs) uri) format) taken old new (beginning_causes docs uri) left is.clear answer
+      (subst (λ p. Answers telling_output (InstanceOutcome (bundle_of docs) p format) [] left taken old new answer) is.named
+      (subst (λ d. Answers telling_output (InstanceOutcome d entry format) [] left taken old new answer) is.of h))
+
   outcome-late : (bytes : List ℕ) (outcome : Result Output Fault) → InstanceOutcome kept entry format bytes outcome → Outcome docs uri format bytes outcome
   outcome-late bytes outcome h =
       let g = subst (λ d. InstanceOutcome d entry format bytes outcome) is.of h in
-      after-clear (beginning_causes docs uri) (InstanceOutcome (bundle_of docs) (place_named (bundle_of docs) uri) format bytes) is.clear outcome (subst (λ p. InstanceOutcome (bundle_of docs) p format bytes outcome) is.named g)
-
-  -- what comes of the entry is the outcome
-  pub answers-late : {D : Type 0} (left : Option (List ℕ)) (taken : D → Option (List ℕ)) (old new : Tracked D) (answer : Result Bool Fault)
-      → Answers (InstanceOutcome kept entry format) [] left taken old new answer → Answers (Outcome docs uri format) (beginning_causes docs uri) left taken old new answer
-  answers-late left taken old new (Err fault.Memory) h = tt
-  answers-late left taken old new (Err fault.Read) h = is.clear
-  answers-late left taken old new (Ok valid) (bytes, all, h) =
-      (bytes, all, tells-map (InstanceOutcome kept entry format bytes) (Outcome docs uri format bytes) taken old new (Ok valid) (outcome-late bytes) h)
-  answers-late left taken old new (Err fault.Write) (bytes, all, h) =
-      (bytes, all, tells-map (InstanceOutcome kept entry format bytes) (Outcome docs uri format bytes) taken old new (Err fault.Write) (outcome-late bytes) h)
-  answers-late left taken old new (Err f) (bytes, all, h) = (bytes, all, outcome-late bytes (Err f) h)
+      after-clear (beginning_causes docs uri) (InstanceOutcome (bundle_of docs) (entry_place (bundle_of docs) uri) format bytes) is.clear outcome (subst (λ p. InstanceOutcome (bundle_of docs) p format bytes outcome) is.named g)
 
   pub texts-late : {D : Type 0} (instance : List ℕ) (taken : D → Option (List ℕ)) (old new : Tracked D) (answer : Result Bool Fault)
-      → length instance ≤ input_limit → Tells (TextOutcome kept entry format instance) taken old new answer → Tells (Outcome docs uri format instance) taken old new answer
+      → length instance ≤ input_limit → Tells telling_output (TextOutcome kept entry format instance) taken old new answer → Tells telling_output (Outcome docs uri format instance) taken old new answer
   texts-late instance taken old new answer few h =
-      tells-map (TextOutcome kept entry format instance) (Outcome docs uri format instance) taken old new answer
-      (λ outcome told. outcome-late instance outcome (on_small kept entry format instance few outcome told)) h
-
--- ---- a pair
-
-pub texts-early : {D : Type 0} (docs : Documents) (uri : List ℕ) (format : Format) (instance : List ℕ) (taken : D → Option (List ℕ)) (old new : Tracked D) (e : Fault)
-    → FailsBy (beginning_causes docs uri) e → Tells (Outcome docs uri format instance) taken old new (Err e)
-texts-early docs uri format instance taken old new fault.Memory h = tt
-texts-early docs uri format instance taken old new fault.Read h = absurd h
-texts-early docs uri format instance taken old new fault.Write h = absurd h
-texts-early docs uri format instance taken old new e h = inl h
-
-pub pair-over : (bytes : List ℕ) → input_limit < length bytes → PairOutcome bytes (Err fault.InputTooLarge)
-pair-over bytes more =
-    let at = first_line_feed bytes in
-    subst (λ t. MatchBool t (◌≡◌ {A = Result Output Fault} (Err fault.InputTooLarge) (Err fault.InputTooLarge)) (OutcomeOfTexts (text_before at bytes) (text_after at bytes) (Err fault.InputTooLarge))) (sym (lt-ltb input_limit (length bytes) more)) refl
-
--- within the limit its two texts decide
-pub pair-within : (bytes : List ℕ) → length bytes ≤ input_limit → (outcome : Result Output Fault)
-    → OutcomeOfTexts (text_before (first_line_feed bytes) bytes) (text_after (first_line_feed bytes) bytes) outcome → PairOutcome bytes outcome
-pair-within bytes few outcome h =
-    let at = first_line_feed bytes in
-    subst (λ t. MatchBool t (outcome ≡ Err fault.InputTooLarge) (OutcomeOfTexts (text_before at bytes) (text_after at bytes) outcome)) (sym (le-ltb input_limit (length bytes) few)) h
+      tells-map telling_output taken old new (TextOutcome kept entry format instance) (Outcome docs uri format instance) answer
+      (λ outcome told. outcome-late instance outcome (input-within instance (TextOutcome kept entry format instance) few outcome told)) h

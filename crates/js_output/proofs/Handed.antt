@@ -21,13 +21,13 @@ use Rattle.js_bundle.specs.Document as bundle
 use Rattle.js_bundle.specs.Refusals.{candidates, is_empty, IsRefusalOf}
 use Rattle.js_bundle.specs.Schemas.{IsEntryFault, IsBadEntry, IsReadEntry}
 use Rattle.js_bundle.specs.Url.{longest_uri, without_fragment, raw_fragment, parsed}
-use Rattle.js_output.specs.Cause.{Causes, cause, IsClear, IsFirst, FailsBy, Leads}
-use Rattle.js_output.specs.Documents.{Documents, documents_of, unfragmented, document_uri, document_under, taken, bundle_of, refused, text_causes, uri_causes, document_causes, adding_causes, cause_of, bundle_causes, fault_by}
+use Rattle.js_output.specs.Cause.{Causes, cause, MayGoOn, IsFirstFault, FailsBy, DecidedBy}
+use Rattle.js_output.specs.Documents.{DocumentTexts, documents_of, unfragmented, absolute_uri, document_under, taken, bundle_of, refused, text_causes, uri_causes, document_causes, adding_causes, cause_of, bundle_causes, fault_by}
 use Rattle.js_output.specs.Entry.{is_uri_read, entry_causes, entry_fault_of}
 use Rattle.js_output.specs.Reading.{reading, reading-ok, reading-err}
 use Rattle.js_output.specs.declared.fault.Fault.{Fault}
 use Rattle.js_output.specs.declared.fault.Fault.TheVariants as fault
-use Rattle.js_output.proofs.CauseLists.{clear-append, first-append, first-later, leads_itself, leads_past, leads_stop, clear_past, first_here, first_past}
+use Rattle.js_output.proofs.CauseLists.{clear-append, first-append, first-later, decided_itself, decided_past, decided_stop, clear_past, first_here, first_past}
 
 -- ---- a document's URI
 
@@ -38,7 +38,7 @@ not_empty_is : (t : List ℕ) → ¬ (t ≡ []) → is_empty t ≡ false
 not_empty_is [] h = absurd (h refl)
 not_empty_is (b ∷ bs) h = refl
 
-uri_is : (t : List ℕ) (uri : Parts) → IsUriOf t uri → document_uri t ≡ Some uri
+uri_is : (t : List ℕ) (uri : Parts) → IsUriOf t uri → absolute_uri t ≡ Some uri
 uri_is t uri (given, parses, empty, is) =
     ap (λ p. option_and_then unfragmented (parsed p)) parses
     ∙ ap (λ b. if b then Some (without_fragment given) else None) (empty_is (raw_fragment given) empty) ∙ ap Some (sym is)
@@ -48,11 +48,11 @@ bad_is (Ok uri) h = ap (λ b. is_none (if b then Some (without_fragment uri) els
 bad_is (Err e) h = refl
 
 -- it is taken beside so many others
-pub uri_clear : (held : ℕ) (uri : List ℕ) (under : Parts) → held < most_documents → length uri ≤ longest_uri → IsUriOf uri under → IsClear (uri_causes held uri)
+pub uri_clear : (held : ℕ) (uri : List ℕ) (under : Parts) → held < most_documents → length uri ≤ longest_uri → IsUriOf uri under → MayGoOn (uri_causes held uri)
 uri_clear held uri under room short is =
     clear_past _ (refused held kind.TooManyDocuments) _ (lt-leb most_documents held room)
     (clear_past _ (refused held kind.UriTooLong) _ (le-ltb longest_uri (length uri) short)
-    (subst (λ b. IsClear (cause b (refused held kind.BadUri))) (sym (ap is_none (uri_is uri under is))) tt))
+    (subst (λ b. MayGoOn (cause b (refused held kind.BadUri))) (sym (ap is_none (uri_is uri under is))) tt))
 
 -- it isn't
 pub uri_refused : (held : ℕ) (uri : List ℕ) (place : Tokens) (k : RefusalKind) → IsUriKind held uri place k
@@ -69,15 +69,15 @@ uri_refused held uri place kind.BadUri (root, room, short, bad) =
     subst (λ p. FailsBy (uri_causes held uri) (fault.Refused (record { document = held; place = p; kind = kind.BadUri }))) (sym root)
     (first_past _ (refused held kind.TooManyDocuments) _ (refused held kind.BadUri) (lt-leb most_documents held room)
     (first_past _ (refused held kind.UriTooLong) _ (refused held kind.BadUri) (le-ltb longest_uri (length uri) short)
-    (subst (λ b. IsFirst (cause b (refused held kind.BadUri)) (refused held kind.BadUri)) (sym (bad_is (parse_url None uri) bad)) (inl refl))))
+    (subst (λ b. IsFirstFault (cause b (refused held kind.BadUri)) (refused held kind.BadUri)) (sym (bad_is (parse_url None uri) bad)) (inl refl))))
 uri_refused held uri place _ h = absurd h
 
 -- ---- a document is added
 
-pub taken_clear : (held : ℕ) (uri bytes : List ℕ) (d : Document) → IsTaken held uri bytes d → IsClear (document_causes held (uri, bytes))
+pub taken_clear : (held : ℕ) (uri bytes : List ℕ) (d : Document) → IsTaken held uri bytes d → MayGoOn (document_causes held (uri, bytes))
 taken_clear held uri bytes d t =
     clear-append (uri_causes held uri) (text_causes held (reading bytes)) (uri_clear held uri d.uri t.room t.short t.under)
-    (subst (λ r. IsClear (text_causes held r)) (sym (reading-ok bytes d.root t.read)) tt)
+    (subst (λ r. MayGoOn (text_causes held r)) (sym (reading-ok bytes d.root t.read)) tt)
 
 pub taken_is : (held : ℕ) (uri bytes : List ℕ) (d : Document) → IsTaken held uri bytes d → taken (uri, bytes) ≡ Some d
 taken_is held uri bytes d t = ap (λ u. document_under u (reading bytes)) (uri_is uri d.uri t.under) ∙ ap (document_under (Some d.uri)) (reading-ok bytes d.root t.read)
@@ -94,11 +94,11 @@ refused_by held uri bytes place kind.BadUri h = first-append (uri_causes held ur
 refused_by held uri bytes place kind.NotJson (root, room, short, (u, under), f) =
     subst (λ p. FailsBy (document_causes held (uri, bytes)) (fault.Refused (record { document = held; place = p; kind = kind.NotJson }))) (sym root)
     (first-later (uri_causes held uri) (text_causes held (reading bytes)) (refused held kind.NotJson) (uri_clear held uri u room short under)
-    (subst (λ r. IsFirst (text_causes held r) (refused held kind.NotJson)) (sym (reading-err bytes read.NotJson f)) (inl refl)))
+    (subst (λ r. IsFirstFault (text_causes held r) (refused held kind.NotJson)) (sym (reading-err bytes read.NotJson f)) (inl refl)))
 refused_by held uri bytes place kind.NotWhole (room, short, (u, under), f) =
     let is : Fault = fault.Refused (record { document = held; place = place; kind = kind.NotWhole }) in
     first-later (uri_causes held uri) (text_causes held (reading bytes)) is (uri_clear held uri u room short under)
-    (subst (λ r. IsFirst (text_causes held r) is) (sym (reading-err bytes (read.NotWhole place) f)) (inl refl))
+    (subst (λ r. IsFirstFault (text_causes held r) is) (sym (reading-err bytes (read.NotWhole place) f)) (inl refl))
 refused_by held uri bytes place _ h = absurd h
 
 pub add_fails : (held : ℕ) (uri bytes : List ℕ) (r : Refusal) → IsRefusedBy held uri bytes r → FailsBy (document_causes held (uri, bytes)) (fault_by r.kind r)
@@ -109,7 +109,7 @@ add_fails held uri bytes r (number, is) =
 -- ---- a value is added
 
 pub added_as : (old : bundle.Documents) (uri : List ℕ) (root : Value) (new : bundle.Documents) → IsAddedAs old uri root new
-    → IsClear (uri_causes (length old) uri) × (new ≡ old ++ option_to_list (document_under (document_uri uri) (Ok root)))
+    → MayGoOn (uri_causes (length old) uri) × (new ≡ old ++ option_to_list (document_under (absolute_uri uri) (Ok root)))
 added_as old uri root new (under, u, is) =
     (uri_clear (length old) uri under u.room u.short u.is, is ∙ ap (λ p. old ++ option_to_list (document_under p (Ok root))) (sym (uri_is uri under u.is)))
 
@@ -122,7 +122,7 @@ add_doc_fails held uri r (number, is) =
 abbrev Lent : Type 0
 Lent = List (Bor (List ℕ) × Bor (List ℕ))
 
-taken_more : (old new : bundle.Documents) (uri bytes : List ℕ) (more : Documents) (all : bundle.Documents) → IsAdded old uri bytes new
+taken_more : (old new : bundle.Documents) (uri bytes : List ℕ) (more : DocumentTexts) (all : bundle.Documents) → IsAdded old uri bytes new
     → old ++ bundle_of ((uri, bytes) ∷ more) ≡ all → new ++ bundle_of more ≡ all
 taken_more old new uri bytes more all (d, t, is) e =
     ap (λ ds. ds ++ bundle_of more) is ∙ append_assoc old (d ∷ []) (bundle_of more)
@@ -131,17 +131,17 @@ taken_more old new uri bytes more all (d, t, is) e =
 held_more : (old new : bundle.Documents) (uri bytes : List ℕ) (n : ℕ) → IsAdded old uri bytes new → length old ≡ n → length new ≡ n + 1
 held_more old new uri bytes n (d, t, is) e = omega (arith, e, ap length is, length-append old (d ∷ []))
 
-added_clear : (old new : bundle.Documents) (uri bytes : List ℕ) (n : ℕ) → IsAdded old uri bytes new → length old ≡ n → IsClear (document_causes n (uri, bytes))
-added_clear old new uri bytes n (d, t, is) e = subst (λ m. IsClear (document_causes m (uri, bytes))) e (taken_clear (length old) uri bytes d t)
+added_clear : (old new : bundle.Documents) (uri bytes : List ℕ) (n : ℕ) → IsAdded old uri bytes new → length old ≡ n → MayGoOn (document_causes n (uri, bytes))
+added_clear old new uri bytes n (d, t, is) e = subst (λ m. MayGoOn (document_causes m (uri, bytes))) e (taken_clear (length old) uri bytes d t)
 
 -- what the loop knows after so many documents
 pub record AreTaken (held : bundle.Documents) (n : ℕ) (docs : Lent) : Type 0 where
   pub many : length held ≡ n
   pub all : held ++ bundle_of (documents_of (drop n docs)) ≡ bundle_of (documents_of docs)
-  pub leads : Leads (adding_causes 0 (documents_of docs)) (adding_causes n (documents_of (drop n docs)))
+  pub decided : DecidedBy (adding_causes 0 (documents_of docs)) (adding_causes n (documents_of (drop n docs)))
 
 pub none_taken : (docs : Lent) → AreTaken [] 0 docs
-none_taken docs = record { many = refl; all = refl; leads = leads_itself (adding_causes 0 (documents_of docs)) }
+none_taken docs = record { many = refl; all = refl; decided = decided_itself (adding_causes 0 (documents_of docs)) }
 
 pub one_taken : (held new : bundle.Documents) (n : ℕ) (docs : Lent) (d : Bor (List ℕ) × Bor (List ℕ)) → n < length docs → AreTaken held n docs
     → IsAdded held (get_or docs n d).0.now (get_or docs n d).1.now new → AreTaken new (n + 1) docs
@@ -150,12 +150,12 @@ one_taken held new n docs d within t added =
     let bytes = (get_or docs n d).1.now in
     let left = documents_of (drop (n + 1) docs) in
     let whole = adding_causes 0 (documents_of docs) in
-    let l = subst (λ ds. Leads whole (adding_causes n (documents_of ds))) (drop_more docs n d within) t.leads in
+    let l = subst (λ ds. DecidedBy whole (adding_causes n (documents_of ds))) (drop_more docs n d within) t.decided in
     let all = subst (λ ds. held ++ bundle_of (documents_of ds) ≡ bundle_of (documents_of docs)) (drop_more docs n d within) t.all in
     record {
       many = held_more held new uri bytes n added t.many;
       all = taken_more held new uri bytes left (bundle_of (documents_of docs)) added all;
-      leads = leads_past whole (document_causes n (uri, bytes)) (adding_causes (n + 1) left) l (added_clear held new uri bytes n added t.many);
+      decided = decided_past whole (document_causes n (uri, bytes)) (adding_causes (n + 1) left) l (added_clear held new uri bytes n added t.many);
     }
 
 pub one_refused : (held : bundle.Documents) (n : ℕ) (docs : Lent) (d : Bor (List ℕ) × Bor (List ℕ)) (e : Fault) → n < length docs → AreTaken held n docs
@@ -163,12 +163,12 @@ pub one_refused : (held : bundle.Documents) (n : ℕ) (docs : Lent) (d : Bor (Li
 one_refused held n docs d e within t h =
     let at : List ℕ × List ℕ = ((get_or docs n d).0.now, (get_or docs n d).1.now) in
     let whole = adding_causes 0 (documents_of docs) in
-    let l = subst (λ ds. Leads whole (adding_causes n (documents_of ds))) (drop_more docs n d within) t.leads in
-    leads_stop whole (document_causes n at) (adding_causes (n + 1) (documents_of (drop (n + 1) docs))) e l (subst (λ m. FailsBy (document_causes m at) e) t.many h)
+    let l = subst (λ ds. DecidedBy whole (adding_causes n (documents_of ds))) (drop_more docs n d within) t.decided in
+    decided_stop whole (document_causes n at) (adding_causes (n + 1) (documents_of (drop (n + 1) docs))) e l (subst (λ m. FailsBy (document_causes m at) e) t.many h)
 
-pub taken_clear_all : (held : bundle.Documents) (n : ℕ) (docs : Lent) → length docs ≤ n → AreTaken held n docs → IsClear (adding_causes 0 (documents_of docs))
+pub taken_clear_all : (held : bundle.Documents) (n : ℕ) (docs : Lent) → length docs ≤ n → AreTaken held n docs → MayGoOn (adding_causes 0 (documents_of docs))
 taken_clear_all held n docs end t =
-    let l = subst (λ ds. Leads (adding_causes 0 (documents_of docs)) (adding_causes n (documents_of ds))) (drop_all n docs end) t.leads in l.clear tt
+    let l = subst (λ ds. DecidedBy (adding_causes 0 (documents_of docs)) (adding_causes n (documents_of ds))) (drop_all n docs end) t.decided in l.clear tt
 
 pub taken_all : (held : bundle.Documents) (n : ℕ) (docs : Lent) → length docs ≤ n → AreTaken held n docs → held ≡ bundle_of (documents_of docs)
 taken_all held n docs end t =
@@ -176,20 +176,20 @@ taken_all held n docs end t =
 
 -- ---- all of them
 
-clear_of : (cs : List Candidate) → candidate.IsClear cs → IsClear (map cause_of cs)
+clear_of : (cs : List Candidate) → candidate.IsClear cs → MayGoOn (map cause_of cs)
 clear_of [] h = tt
 clear_of (c ∷ cs) h = (ap not h.0.0, clear_of cs h.1)
 
-first_of : (cs : List Candidate) (r : Refusal) → candidate.IsFirst cs r → IsFirst (map cause_of cs) (fault.Refused r)
+first_of : (cs : List Candidate) (r : Refusal) → candidate.IsFirst cs r → IsFirstFault (map cause_of cs) (fault.Refused r)
 first_of [] r h = absurd h
 first_of (c ∷ cs) r (inl e) = inl (ap fault.Refused (sym e))
 first_of (c ∷ cs) r (inr h) = inr (ap not h.0, first_of cs r h.1)
 
-pub finish_clear : (docs : bundle.Documents) → candidate.IsClear (candidates docs) → IsClear (bundle_causes docs)
+pub finish_clear : (docs : bundle.Documents) → candidate.IsClear (candidates docs) → MayGoOn (bundle_causes docs)
 unfolding bundle_causes
 finish_clear docs h = clear_of (candidates docs) h
 
-fails_first : (causes : Causes) (k : RefusalKind) (r : Refusal) → IsFirst causes (fault.Refused r) → FailsBy causes (fault_by k r)
+fails_first : (causes : Causes) (k : RefusalKind) (r : Refusal) → IsFirstFault causes (fault.Refused r) → FailsBy causes (fault_by k r)
 fails_first causes kind.Memory r h = tt
 fails_first causes _ r h = h
 
@@ -220,4 +220,4 @@ entry_fails docs uri entry_fault.BadUri (short, bad) =
 entry_fails docs uri entry_fault.Unresolved (short, (good, none)) =
     first_past _ (fault.Entry entry_fault.UriTooLong) _ (fault.Entry entry_fault.Unresolved) (le-ltb longest_uri (length uri) (not_long uri short))
     (first_past _ (fault.Entry entry_fault.BadUri) _ (fault.Entry entry_fault.Unresolved) (ap not (read_entry (parse_url None uri) good))
-    (subst (λ o. IsFirst (cause (is_none o) (fault.Entry entry_fault.Unresolved)) (fault.Entry entry_fault.Unresolved)) (sym none) (inl refl)))
+    (subst (λ o. IsFirstFault (cause (is_none o) (fault.Entry entry_fault.Unresolved)) (fault.Entry entry_fault.Unresolved)) (sym none) (inl refl)))

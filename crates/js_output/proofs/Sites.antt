@@ -17,7 +17,7 @@ use Rattle.js_eval.specs.Walked.{OnTooLarge, IsResultThere, IsVerdict}
 use Rattle.js_eval.specs.Walked.{NoneStands as NoneStandsThere}
 use Rattle.js_eval.specs.declared.walking.fault.WalkFault.{WalkFault}
 use Rattle.js_eval.specs.declared.walking.fault.WalkFault.TheVariants as walk_fault
-use Rattle.js_output.specs.Outcome.{IsResultOf, NoneStands, IsJudged, IsWalkFault, walk_fault_of}
+use Rattle.js_output.specs.Outcome.{IsResultOf, NoResultStands, IsJudged, IsWalkFault, walk_fault_of}
 use Rattle.js_output.specs.Places.{lines_of}
 
 -- ---- the entry
@@ -90,7 +90,7 @@ module _ (docs : Documents) (n : ℕ) (v : Value) (there : is_place docs n ≡ t
   pub result-there : (t : ResultTree) → IsResultThere docs n v t → IsResultOf docs (place_at docs n) v t
   result-there t r = record { place = site_at docs n; is_entry = site_there docs n there; is_result = r }
 
-  pub none-there : NoneStandsThere docs n v → NoneStands docs (place_at docs n) v
+  pub none-there : NoneStandsThere docs n v → NoResultStands docs (place_at docs n) v
   none-there none t r stands =
       let is : r.place ≡ site_at docs n = some_is r.place (site_at docs n) (sym r.is_entry ∙ site_there docs n there) in
       none t (subst (λ s. IsResult (schemas_of docs) [] s at_root v t) is r.is_result) stands

@@ -2,7 +2,7 @@
 use Rattle.std.proofs.Common.{◌≡◌, ℕ, ◌+◌, ◌<◌, ◌≤◌, List, [], ◌∷◌, ◌++◌, length, get_or, drop, Option, refl, sym, ap, ◌∙◌, subst, append_assoc}
 use Rattle.std.proofs.lemmas.List.{append-nil, drop_more, drop_all}
 use Rattle.js_bundle.specs.Document as bundle
-use Rattle.js_output.specs.Documents.{Documents}
+use Rattle.js_output.specs.Documents.{DocumentTexts}
 use Rattle.js_output.specs.Suite.{AreGroupLines, AreLines, AreTestLines, IsLine}
 use Rattle.js_output.specs.SuiteText.{group_seen, groups_seen, test_seen, tests_seen}
 use Rattle.js_output.specs.declared.suite_lines.Line.{Line}
@@ -23,7 +23,7 @@ module _ (basis : Option bundle.Documents) (g : ℕ) (tests : List SuiteTest) wh
   tests_all n done end leads =
       subst (AreTestLines basis g 0 (tests_seen tests)) (append-nil done) (leads [] (subst (λ ts. AreTestLines basis g n (tests_seen ts) []) (sym (drop_all n tests end)) refl))
 
-module _ (documents : Documents) (groups : List SuiteGroup) where
+module _ (documents : DocumentTexts) (groups : List SuiteGroup) where
   abbrev pub LeadsGroups : ℕ → List Line → Type 0
   LeadsGroups n done = (rest : List Line) → AreLines documents n (groups_seen (drop n groups)) rest → AreLines documents 0 (groups_seen groups) (done ++ rest)
 

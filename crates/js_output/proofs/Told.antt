@@ -10,12 +10,13 @@ use Rattle.js_tree.specs.declared.forms.Format.TheVariants.{Flag, Basic, Detaile
 use Rattle.js_tree.proofs.KeptTree.{kept_is_reached, kept_is_normal, run-normal}
 use Rattle.js_bundle.specs.Resource.{Site}
 use Rattle.js_eval.specs.Result.{ResultTree, IsWithinLimits}
-use Rattle.js_output.specs.Cause.{IsFirst}
+use Rattle.js_output.specs.Cause.{IsFirstFault}
 use Rattle.js_output.specs.Device.{Tracked, input_limit, Sends, SendsBeginning}
-use Rattle.js_output.specs.Documents.{Documents, bundle_of}
-use Rattle.js_output.specs.Entry.{place_named}
-use Rattle.js_output.specs.Headline.{Shows, IsAccepted, IsStandardResult, Tells}
-use Rattle.js_output.specs.Outcome.{beginning_causes, Output, output_of, ValueOutcome, ReadOutcome, TextOutcome, InstanceOutcome, Outcome, Answers}
+use Rattle.js_output.specs.Documents.{DocumentTexts, bundle_of}
+use Rattle.js_output.specs.Entry.{entry_place}
+use Rattle.js_output.specs.Headline.{Shows, IsAccepted, IsStandardResult, TellsResult}
+use Rattle.js_output.specs.Outcome.{beginning_causes, Output, output_of, ValueOutcome, ReadOutcome, TextOutcome, InstanceOutcome, Outcome, telling_output}
+use Rattle.js_output.specs.Telling.{Answers}
 use Rattle.js_output.specs.declared.fault.Fault.{Fault}
 use Rattle.js_output.specs.declared.fault.Fault.TheVariants as fault
 
@@ -34,8 +35,8 @@ shows Detailed t =
 same_place : (a b : Site) → Some a ≡ Some b → a ≡ b
 same_place a b e = cc
 
-module _ (documents : Documents) (entry instance : List ℕ) (format : Format) (place : Site) (v : Value) (is : IsAccepted documents entry instance place v) where
-  of_value : (outcome : Result Output Fault) → InstanceOutcome (bundle_of documents) (place_named (bundle_of documents) entry) format instance outcome
+module _ (documents : DocumentTexts) (entry instance : List ℕ) (format : Format) (place : Site) (v : Value) (is : IsAccepted documents entry instance place v) where
+  of_value : (outcome : Result Output Fault) → InstanceOutcome (bundle_of documents) (entry_place (bundle_of documents) entry) format instance outcome
       → ValueOutcome (bundle_of documents) (Some place) v format outcome
   of_value outcome h =
       let d = bundle_of documents in
@@ -51,15 +52,15 @@ module _ (documents : Documents) (entry instance : List ℕ) (format : Format) (
       (t, subst (λ p. IsStandardResult documents p v t) (sym (same_place place r.place r.is_entry)) r.is_result, stands, e)
 
   of_fault : (f : Fault) → Outcome documents entry format instance (Err f)
-      → IsFirst (beginning_causes documents entry) f ⊎ ((f ≡ fault.TooLarge) × ((t : ResultTree) → IsStandardResult documents place v t → IsWithinLimits t → ⊥))
+      → IsFirstFault (beginning_causes documents entry) f ⊎ ((f ≡ fault.TooLarge) × ((t : ResultTree) → IsStandardResult documents place v t → IsWithinLimits t → ⊥))
   of_fault f (inl h) = inl h
   of_fault f (inr (clear, h)) =
       let (e, none) = of_value (Err f) h in
       inr (e, λ t r. none t (record { place = place; is_entry = refl; is_result = r }))
 
   module _ {D : Type 0} (taken : D → Option (List ℕ)) (old new : Tracked D) where
-    told_within : (answer : Result Bool Fault) → Answers (Outcome documents entry format) (beginning_causes documents entry) (Some instance) taken old new answer
-        → Tells taken old new documents entry format place v answer
+    told_within : (answer : Result Bool Fault) → Answers telling_output (Outcome documents entry format) (beginning_causes documents entry) (Some instance) taken old new answer
+        → TellsResult taken old new documents entry format place v answer
     told_within (Ok valid) (bytes, left, (output, h, e, sent)) =
         let (t, r, stands, o) = of_output output (subst (λ b. Outcome documents entry format b (Ok output)) (sym left) h) in
         (t, r, stands, sym e ∙ ap (λ p. p.valid) o, (form format t, shows format t, subst (λ p. Sends taken old new p.text) o sent))
@@ -70,6 +71,6 @@ module _ (documents : Documents) (entry instance : List ℕ) (format : Format) (
     told_within (Err fault.Read) h = tt
     told_within (Err f) (bytes, left, h) = of_fault f (subst (λ b. Outcome documents entry format b (Err f)) (sym left) h)
 
-pub told : {D : Type 0} (taken : D → Option (List ℕ)) (old new : Tracked D) (documents : Documents) (entry instance : List ℕ) (format : Format) (place : Site) (v : Value) (answer : Result Bool Fault)
-    → IsAccepted documents entry instance place v → Answers (Outcome documents entry format) (beginning_causes documents entry) (Some instance) taken old new answer → Tells taken old new documents entry format place v answer
+pub told : {D : Type 0} (taken : D → Option (List ℕ)) (old new : Tracked D) (documents : DocumentTexts) (entry instance : List ℕ) (format : Format) (place : Site) (v : Value) (answer : Result Bool Fault)
+    → IsAccepted documents entry instance place v → Answers telling_output (Outcome documents entry format) (beginning_causes documents entry) (Some instance) taken old new answer → TellsResult taken old new documents entry format place v answer
 told taken old new documents entry instance format place v answer is h = told_within documents entry instance format place v is taken old new answer h

@@ -20,25 +20,25 @@ abbrev pub given_cause : Bool → Fault → Causes
 given_cause applies f = if applies then record { fault = f; given = true } ∷ [] else []
 
 -- nothing stands against going on: a given cause may be passed over
-abbrev pub IsClear : Causes → Type 0
-IsClear [] = ⊤
-IsClear (c ∷ causes) = (c.given ≡ true) × IsClear causes
+abbrev pub MayGoOn : Causes → Type 0
+MayGoOn [] = ⊤
+MayGoOn (c ∷ causes) = (c.given ≡ true) × MayGoOn causes
 
 -- the fault is that of the first cause, or of one that only given ones stand before
-abbrev pub IsFirst : Causes → Fault → Type 0
-IsFirst [] f = ⊥
-IsFirst (c ∷ causes) f = (c.fault ≡ f) ⊎ ((c.given ≡ true) × IsFirst causes f)
+abbrev pub IsFirstFault : Causes → Fault → Type 0
+IsFirstFault [] f = ⊥
+IsFirstFault (c ∷ causes) f = (c.fault ≡ f) ⊎ ((c.given ≡ true) × IsFirstFault causes f)
 
 -- a fault by these causes, or want of memory
 abbrev pub FailsBy : Causes → Fault → Type 0
 FailsBy causes fault.Memory = ⊤
 FailsBy causes fault.Read = ⊥
 FailsBy causes fault.Write = ⊥
-FailsBy causes f = IsFirst causes f
+FailsBy causes f = IsFirstFault causes f
 
 -- ---- going through causes
 
 -- the rest decides about the whole
-pub record Leads (whole rest : Causes) : Type 0 where
-  pub clear : IsClear rest → IsClear whole
-  pub first : (f : Fault) → IsFirst rest f → IsFirst whole f
+pub record DecidedBy (whole rest : Causes) : Type 0 where
+  pub clear : MayGoOn rest → MayGoOn whole
+  pub first : (f : Fault) → IsFirstFault rest f → IsFirstFault whole f

@@ -21,11 +21,11 @@ use Rattle.js_output.specs.declared.fault.Fault.{Fault}
 use Rattle.js_output.specs.declared.fault.Fault.TheVariants as fault
 
 -- documents by their URIs
-abbrev pub Documents : Type 0
-Documents = List (List ℕ × List ℕ)
+abbrev pub DocumentTexts : Type 0
+DocumentTexts = List (List ℕ × List ℕ)
 
 -- of documents that are lent
-abbrev pub documents_of : List (Bor (List ℕ) × Bor (List ℕ)) → Documents
+abbrev pub documents_of : List (Bor (List ℕ) × Bor (List ℕ)) → DocumentTexts
 documents_of documents = map (λ d. (d.0.now, d.1.now)) documents
 
 -- ---- what they are taken in as
@@ -35,8 +35,8 @@ abbrev pub unfragmented : Parts → Option Parts
 unfragmented uri = if is_empty (raw_fragment uri) then Some (without_fragment uri) else None
 
 -- the URI that a text is, as an absolute one
-abbrev pub document_uri : List ℕ → Option Parts
-document_uri t = option_and_then unfragmented (parsed (parse_url None t))
+abbrev pub absolute_uri : List ℕ → Option Parts
+absolute_uri t = option_and_then unfragmented (parsed (parse_url None t))
 
 abbrev pub document_under : Option Parts → Result Value ReadFault → Option Document
 document_under (Some uri) (Ok root) = Some (record { uri = uri; root = root })
@@ -44,9 +44,9 @@ document_under _ _ = None
 
 -- the document that is taken in, where its URI and its text are read
 abbrev pub taken : List ℕ × List ℕ → Option Document
-taken d = document_under (document_uri d.0) (reading d.1)
+taken d = document_under (absolute_uri d.0) (reading d.1)
 
-abbrev pub bundle_of : Documents → bundle.Documents
+abbrev pub bundle_of : DocumentTexts → bundle.Documents
 bundle_of documents = flat_map (λ d. option_to_list (taken d)) documents
 
 -- ---- what is refused of one beside so many others
@@ -63,7 +63,7 @@ abbrev pub uri_causes : ℕ → List ℕ → Causes
 uri_causes held uri =
     cause (nat_le most_documents held) (refused held kind.TooManyDocuments)
     ++ (cause (nat_lt longest_uri (length uri)) (refused held kind.UriTooLong)
-    ++ cause (is_none (document_uri uri)) (refused held kind.BadUri))
+    ++ cause (is_none (absolute_uri uri)) (refused held kind.BadUri))
 
 abbrev pub document_causes : ℕ → List ℕ × List ℕ → Causes
 document_causes held d = uri_causes held d.0 ++ text_causes held (reading d.1)
@@ -71,7 +71,7 @@ document_causes held d = uri_causes held d.0 ++ text_causes held (reading d.1)
 -- ---- what is refused of all
 
 -- one after another
-abbrev pub adding_causes : ℕ → Documents → Causes
+abbrev pub adding_causes : ℕ → DocumentTexts → Causes
 adding_causes held [] = []
 adding_causes held (d ∷ ds) = document_causes held d ++ adding_causes (held + 1) ds
 
@@ -82,7 +82,7 @@ cause_of c = record { fault = fault.Refused c.refusal; given = not c.decided }
 unfoldable pub bundle_causes : bundle.Documents → Causes
 bundle_causes documents = map cause_of (candidates documents)
 
-abbrev pub documents_causes : Documents → Causes
+abbrev pub documents_causes : DocumentTexts → Causes
 documents_causes documents = adding_causes 0 documents ++ bundle_causes (bundle_of documents)
 
 -- ---- words for the parts

@@ -15,8 +15,8 @@ use Rattle.js_output.specs.declared.fault.Fault.{Fault}
 use Rattle.js_output.specs.declared.fault.Fault.TheVariants as fault
 
 -- the place that the URI names
-abbrev pub place_named : Documents → List ℕ → Option Site
-place_named documents uri = entry documents (parse_url None uri)
+abbrev pub entry_place : Documents → List ℕ → Option Site
+entry_place documents uri = entry documents (parse_url None uri)
 
 -- it is an absolute URL, and its fragment is read
 abbrev pub is_uri_read : Parsed Parts → Bool
@@ -27,7 +27,7 @@ abbrev pub entry_causes : Documents → List ℕ → Causes
 entry_causes documents uri =
     cause (nat_lt longest_uri (length uri)) (fault.Entry entry_fault.UriTooLong)
     ++ (cause (not (is_uri_read (parse_url None uri))) (fault.Entry entry_fault.BadUri)
-    ++ cause (is_none (place_named documents uri)) (fault.Entry entry_fault.Unresolved))
+    ++ cause (is_none (entry_place documents uri)) (fault.Entry entry_fault.Unresolved))
 
 -- ---- words for the parts
 
@@ -40,4 +40,4 @@ entry_fault_of e = fault.Entry e
 pub record IsEntry (documents : Documents) (uri : List ℕ) (e : rust.Entry) : Type 0 where
   pub of : e.schemas ≡ documents
   pub there : is_place e.schemas e.place ≡ true
-  pub named : place_at e.schemas e.place ≡ place_named documents uri
+  pub named : place_at e.schemas e.place ≡ entry_place documents uri

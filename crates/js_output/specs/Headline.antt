@@ -12,11 +12,12 @@ use Rattle.js_bundle.specs.Resource.{Site}
 use Rattle.js_eval.specs.Bundle.{schemas_of}
 use Rattle.js_eval.specs.Location.{at_root}
 use Rattle.js_eval.specs.Result.{ResultTree, IsResult, IsWithinLimits}
-use Rattle.js_output.specs.Cause.{IsClear, IsFirst}
+use Rattle.js_output.specs.Cause.{MayGoOn, IsFirstFault}
 use Rattle.js_output.specs.Device.{Tracked, input_limit, Sends, SendsBeginning}
-use Rattle.js_output.specs.Documents.{Documents, bundle_of}
-use Rattle.js_output.specs.Entry.{place_named}
-use Rattle.js_output.specs.Outcome.{beginning_causes, Outcome, Answers}
+use Rattle.js_output.specs.Documents.{DocumentTexts, bundle_of}
+use Rattle.js_output.specs.Entry.{entry_place}
+use Rattle.js_output.specs.Outcome.{beginning_causes, Outcome, telling_output}
+use Rattle.js_output.specs.Telling.{Answers}
 use Rattle.js_output.specs.Reading.{reading}
 use Rattle.js_output.specs.declared.fault.Fault.{Fault}
 use Rattle.js_output.specs.declared.fault.Fault.TheVariants as fault
@@ -34,35 +35,35 @@ Shows Verbose t shown = shown ≡ verbose t
 
 -- The documents and the entry, which is this place, are accepted: at most given causes stand against them, which may be
 -- passed over. The instance is the text of this value, and not too large.
-pub record IsAccepted (documents : Documents) (entry instance : List ℕ) (place : Site) (v : Value) : Type 0 where
-  pub clear : IsClear (beginning_causes documents entry)
-  pub names : place_named (bundle_of documents) entry ≡ Some place
+pub record IsAccepted (documents : DocumentTexts) (entry instance : List ℕ) (place : Site) (v : Value) : Type 0 where
+  pub clear : MayGoOn (beginning_causes documents entry)
+  pub names : entry_place (bundle_of documents) entry ≡ Some place
   pub fits : length instance ≤ input_limit
   pub is_read : reading instance ≡ Ok v
 
 -- the standard's result (section 12.4.4), of judging v at the place
-abbrev pub IsStandardResult : Documents → Site → Value → ResultTree → Type 0
+abbrev pub IsStandardResult : DocumentTexts → Site → Value → ResultTree → Type 0
 IsStandardResult documents place v t = IsResult (schemas_of (bundle_of documents)) [] place at_root v t
 
 module _ {D : Type 0} (taken : D → Option (List ℕ)) (old new : Tracked D) where
   -- What is answered and written. A fault of the reader, of the writer, or for want of memory may come; no other but
   -- `TooLarge`, where none of the causes that may be passed over is taken.
-  abbrev pub Tells : Documents → List ℕ → Format → Site → Value → Result Bool Fault → Type 0
-  Tells documents entry format place v (Ok valid) =
+  abbrev pub TellsResult : DocumentTexts → List ℕ → Format → Site → Value → Result Bool Fault → Type 0
+  TellsResult documents entry format place v (Ok valid) =
       (t : ResultTree) × IsStandardResult documents place v t × IsWithinLimits t × (valid ≡ t.root.valid)
       × ((shown : Value) × Shows format t shown × Sends taken old new (compact shown ++ 10 ∷ []))
-  Tells documents entry format place v (Err fault.Write) =
+  TellsResult documents entry format place v (Err fault.Write) =
       (t : ResultTree) × IsStandardResult documents place v t × IsWithinLimits t
       × ((shown : Value) × Shows format t shown × SendsBeginning taken old new (compact shown ++ 10 ∷ []))
-  Tells documents entry format place v (Err fault.Memory) = ⊤
-  Tells documents entry format place v (Err fault.Read) = ⊤
-  Tells documents entry format place v (Err f) =
-      IsFirst (beginning_causes documents entry) f
+  TellsResult documents entry format place v (Err fault.Memory) = ⊤
+  TellsResult documents entry format place v (Err fault.Read) = ⊤
+  TellsResult documents entry format place v (Err f) =
+      IsFirstFault (beginning_causes documents entry) f
       ⊎ ((f ≡ fault.TooLarge) × ((t : ResultTree) → IsStandardResult documents place v t → IsWithinLimits t → ⊥))
 
   abbrev pub Headline : Type 0
   Headline =
-      (documents : Documents) (entry instance : List ℕ) (format : Format) (place : Site) (v : Value) (answer : Result Bool Fault)
+      (documents : DocumentTexts) (entry instance : List ℕ) (format : Format) (place : Site) (v : Value) (answer : Result Bool Fault)
       → IsAccepted documents entry instance place v
-      → Answers (Outcome documents entry format) (beginning_causes documents entry) (Some instance) taken old new answer
-      → Tells documents entry format place v answer
+      → Answers telling_output (Outcome documents entry format) (beginning_causes documents entry) (Some instance) taken old new answer
+      → TellsResult documents entry format place v answer

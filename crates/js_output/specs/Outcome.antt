@@ -1,10 +1,10 @@
 -- The outcome of a run: the first of its causes of a fault that applies; else the verdict of the standard's result, and the
 -- text of the form that was asked for.
-use Rattle.std.specs.Prelude.{◌≡◌, ℕ, List, [], ◌∷◌, ◌++◌, length, Option, Some, None, Result, Ok, Err, Bool, ◌⊎◌, MatchBool, nat_lt, ◌==◌, ◌+◌, codes, take, drop, position, ⊤}
+use Rattle.std.specs.Prelude.{◌≡◌, ℕ, List, [], ◌∷◌, ◌++◌, Option, Some, None, Result, Ok, Err, Bool, ◌==◌, ◌+◌, codes, take, drop, position, ⊤}
 use Rattle.js_doc.specs.Compact.{compact}
 use Rattle.js_doc.specs.Value.{Value}
 use Rattle.js_doc.specs.declared.reading.ReadFault.{ReadFault}
-use Rattle.js_tree.specs.FlatState.{state_of, whole}
+use Rattle.js_tree.specs.FlatState.{flat_state, whole_tree}
 use Rattle.js_tree.specs.Form.{form}
 use Rattle.js_tree.specs.Result.{pruned, kept}
 use Rattle.js_tree.specs.declared.flat.Flat.{Flat}
@@ -17,17 +17,17 @@ use Rattle.js_eval.specs.Location.{at_root}
 use Rattle.js_eval.specs.Result.{ResultTree, IsResult, IsWithinLimits}
 use Rattle.js_eval.specs.declared.walking.fault.WalkFault.{WalkFault}
 use Rattle.js_eval.specs.declared.walking.fault.WalkFault.TheVariants as walk_fault
-use Rattle.js_output.specs.Cause.{Causes, IsClear, IsFirst}
-use Rattle.js_output.specs.Device.{Tracked, input_limit, IsLeft, Sends, SendsBeginning}
-use Rattle.js_output.specs.Documents.{Documents, documents_causes, bundle_of}
-use Rattle.js_output.specs.Entry.{entry_causes, place_named}
+use Rattle.js_output.specs.Cause.{Causes}
+use Rattle.js_output.specs.Documents.{DocumentTexts, documents_causes, bundle_of}
+use Rattle.js_output.specs.Entry.{entry_causes, entry_place}
 use Rattle.js_output.specs.Reading.{reading}
+use Rattle.js_output.specs.Telling.{Telling, After, OfInput}
 use Rattle.js_output.specs.declared.fault.Fault.{Fault}
 use Rattle.js_output.specs.declared.fault.Fault.TheVariants as fault
 
 -- ---- the causes before the instance is read: of the documents, and of the entry
 
-abbrev pub beginning_causes : Documents → List ℕ → Causes
+abbrev pub beginning_causes : DocumentTexts → List ℕ → Causes
 beginning_causes documents entry = documents_causes documents ++ entry_causes (bundle_of documents) entry
 
 -- the faults that they make
@@ -60,13 +60,13 @@ module _ (documents : bundle.Documents) (entry : Option Site) (v : Value) where
     pub is_result : IsResult (schemas_of documents) [] place at_root v t
 
   -- no result stands within the limits
-  abbrev pub NoneStands : Type 0
-  NoneStands = (t : ResultTree) → IsResultOf t → IsWithinLimits t → ⊥
+  abbrev pub NoResultStands : Type 0
+  NoResultStands = (t : ResultTree) → IsResultOf t → IsWithinLimits t → ⊥
 
   -- what the format tells of the result within the limits; `TooLarge` where none stands within them
   abbrev pub ValueOutcome : Format → Result Output Fault → Type 0
   ValueOutcome format (Ok output) = (t : ResultTree) × IsResultOf t × IsWithinLimits t × (output ≡ output_of format t)
-  ValueOutcome format (Err f) = (f ≡ fault.TooLarge) × NoneStands
+  ValueOutcome format (Err f) = (f ≡ fault.TooLarge) × NoResultStands
 
 -- ---- what comes of an instance
 
@@ -79,20 +79,15 @@ module _ (documents : bundle.Documents) (entry : Option Site) (format : Format) 
   abbrev pub TextOutcome : List ℕ → Result Output Fault → Type 0
   TextOutcome text = ReadOutcome (reading text)
 
-  -- of its bytes: their number is looked at first
+  -- of its bytes
   abbrev pub InstanceOutcome : List ℕ → Result Output Fault → Type 0
-  InstanceOutcome bytes answer = MatchBool (nat_lt input_limit (length bytes)) (answer ≡ Err fault.InputTooLarge) (TextOutcome bytes answer)
+  InstanceOutcome bytes = OfInput bytes (TextOutcome bytes)
 
 -- ---- the outcome
 
--- one of these causes, or where nothing stands against going on what comes then
-abbrev pub After : Causes → (Result Output Fault → Type 0) → Result Output Fault → Type 0
-After causes Then (Ok output) = IsClear causes × Then (Ok output)
-After causes Then (Err f) = IsFirst causes f ⊎ (IsClear causes × Then (Err f))
-
-abbrev pub Outcome : Documents → List ℕ → Format → List ℕ → Result Output Fault → Type 0
+abbrev pub Outcome : DocumentTexts → List ℕ → Format → List ℕ → Result Output Fault → Type 0
 Outcome documents entry format instance =
-    After (beginning_causes documents entry) (InstanceOutcome (bundle_of documents) (place_named (bundle_of documents) entry) format instance)
+    After (beginning_causes documents entry) (InstanceOutcome (bundle_of documents) (entry_place (bundle_of documents) entry) format instance)
 
 -- ---- the outcome of a pair: a document, a line feed, and the instance
 
@@ -114,28 +109,16 @@ pair_uri = codes "https://a.example/s"
 abbrev pub OutcomeOfTexts : List ℕ → List ℕ → Result Output Fault → Type 0
 OutcomeOfTexts document instance = Outcome ((pair_uri, document) ∷ []) pair_uri Flag instance
 
--- the input's size is looked at first
 abbrev pub PairOutcome : List ℕ → Result Output Fault → Type 0
-PairOutcome bytes answer =
+PairOutcome bytes =
     let at = first_line_feed bytes in
-    MatchBool (nat_lt input_limit (length bytes)) (answer ≡ Err fault.InputTooLarge) (OutcomeOfTexts (text_before at bytes) (text_after at bytes) answer)
+    OfInput bytes (OutcomeOfTexts (text_before at bytes) (text_after at bytes))
 
--- ---- what is answered, where the sink or memory may fail
+-- ---- what is answered
 
--- The verdict is answered where the output's text went out, and `Write` where a beginning of it did.
-abbrev pub Tells : {D : Type 0} → (Result Output Fault → Type 0) → (D → Option (List ℕ)) → Tracked D → Tracked D → Result Bool Fault → Type 0
-Tells Expected taken old new (Ok valid) = (output : Output) × Expected (Ok output) × (output.valid ≡ valid) × Sends taken old new output.text
-Tells Expected taken old new (Err fault.Memory) = ⊤
-Tells Expected taken old new (Err fault.Read) = ⊥
-Tells Expected taken old new (Err fault.Write) = (output : Output) × Expected (Ok output) × SendsBeginning taken old new output.text
-Tells Expected taken old new (Err f) = Expected (Err f)
-
--- Of the bytes that a source has left: they are the instance, what is expected comes of them, and that is told. `Read` is
--- answered only where nothing stands before the instance.
-abbrev pub Answers : {D : Type 0} → (List ℕ → Result Output Fault → Type 0) → Causes → Option (List ℕ) → (D → Option (List ℕ)) → Tracked D → Tracked D → Result Bool Fault → Type 0
-Answers Expected before left taken old new (Err fault.Memory) = ⊤
-Answers Expected before left taken old new (Err fault.Read) = IsClear before
-Answers Expected before left taken old new answer = (bytes : List ℕ) × IsLeft left bytes × Tells (Expected bytes) taken old new answer
+-- the verdict, and the output's text goes out
+abbrev pub telling_output : Telling Output Bool
+telling_output = record { answer = λ output. output.valid; text = λ output. output.text }
 
 -- where the source stands failed: its fault, unless another came before it was needed, or memory failed
 abbrev pub IsReadOrEarly : {A : Type 0} → Result A Fault → Type 0
@@ -168,12 +151,12 @@ trimmed Verbose t = t
 -- the rows are those of what the format shows of the result within the limits
 abbrev pub AreRows : bundle.Documents → Option Site → Value → Format → Flat → Type 0
 AreRows documents entry v format flat =
-    (t : ResultTree) × IsResultOf documents entry v t × IsWithinLimits t × (state_of flat ≡ whole (trimmed format t))
+    (t : ResultTree) × IsResultOf documents entry v t × IsWithinLimits t × (flat_state flat ≡ whole_tree (trimmed format t))
 
 -- why there is none: none stands within them, or want of memory
 abbrev pub IsWalkFault : bundle.Documents → Option Site → Value → Fault → Type 0
 IsWalkFault documents entry v fault.Memory = ⊤
-IsWalkFault documents entry v fault.TooLarge = NoneStands documents entry v
+IsWalkFault documents entry v fault.TooLarge = NoResultStands documents entry v
 IsWalkFault documents entry v _ = ⊥
 
 abbrev pub walk_fault_of : WalkFault → Fault

@@ -2,8 +2,8 @@
 use Rattle.std.specs.Prelude.{◌≡◌, ℕ, List, [], ◌∷◌, ◌++◌, length, flat_map, Result, Ok, Err, ⊤}
 use Rattle.js_bundle.specs.Location.{absolute}
 use Rattle.js_bundle.specs.Resource.{Site, sites}
-use Rattle.js_output.specs.Cause.{IsClear, IsFirst}
-use Rattle.js_output.specs.Documents.{Documents, documents_causes, bundle_of}
+use Rattle.js_output.specs.Cause.{MayGoOn, IsFirstFault}
+use Rattle.js_output.specs.Documents.{DocumentTexts, documents_causes, bundle_of}
 use Rattle.js_output.specs.declared.fault.Fault.{Fault}
 use Rattle.js_output.specs.declared.fault.Fault.TheVariants as fault
 
@@ -14,16 +14,16 @@ place_line place = absolute place [] ++ 10 ∷ []
 abbrev pub lines_of : List Site → List ℕ
 lines_of places = flat_map place_line places
 
-abbrev pub places_of : Documents → List Site
+abbrev pub places_of : DocumentTexts → List Site
 places_of documents = sites (bundle_of documents)
 
-abbrev pub places_text : Documents → List ℕ
+abbrev pub places_text : DocumentTexts → List ℕ
 places_text documents = lines_of (places_of documents)
 
 -- what is answered: their number, where nothing is refused. A write only where nothing stands before it
-abbrev pub TellsPlaces : Documents → Result ℕ Fault → Type 0
-TellsPlaces documents (Ok n) = IsClear (documents_causes documents) × (n ≡ length (places_of documents))
+abbrev pub TellsPlaces : DocumentTexts → Result ℕ Fault → Type 0
+TellsPlaces documents (Ok n) = MayGoOn (documents_causes documents) × (n ≡ length (places_of documents))
 TellsPlaces documents (Err fault.Memory) = ⊤
 TellsPlaces documents (Err fault.Read) = ⊥
-TellsPlaces documents (Err fault.Write) = IsClear (documents_causes documents)
-TellsPlaces documents (Err f) = IsFirst (documents_causes documents) f
+TellsPlaces documents (Err fault.Write) = MayGoOn (documents_causes documents)
+TellsPlaces documents (Err f) = IsFirstFault (documents_causes documents) f

@@ -1,16 +1,17 @@
 -- The outcome of a suite: what comes of each test of each group, in order, and the text that tells it.
-use Rattle.std.specs.Prelude.{◌≡◌, ℕ, ◌+◌, List, [], ◌∷◌, ◌++◌, length, Option, Some, None, option_to_list, Result, Ok, Err, Bool, not, ◌⊎◌, MatchBool, nat_lt, codes, decimal, ⊤}
+use Rattle.std.specs.Prelude.{◌≡◌, ℕ, ◌+◌, List, [], ◌∷◌, ◌++◌, length, Option, Some, None, option_to_list, Result, Ok, Err, Bool, not, codes, decimal, ⊤}
 use Rattle.js_doc.specs.Value.{Value}
 use Rattle.js_bundle.specs.Document as bundle
 use Rattle.js_bundle.specs.Resource.{Site}
 use Rattle.js_eval.specs.Result.{ResultTree, IsWithinLimits}
-use Rattle.js_output.specs.Cause.{Causes, IsClear, IsFirst}
-use Rattle.js_output.specs.Device.{Tracked, input_limit, IsLeft, Sends, SendsBeginning}
-use Rattle.js_output.specs.Documents.{Documents, document_uri, document_under, bundle_of, uri_causes, adding_causes, bundle_causes, documents_causes}
-use Rattle.js_output.specs.Entry.{entry_causes, place_named}
-use Rattle.js_output.specs.Outcome.{IsResultOf, NoneStands}
+use Rattle.js_output.specs.Cause.{Causes, MayGoOn, IsFirstFault}
+use Rattle.js_output.specs.Device.{Tracked, Sends, SendsBeginning}
+use Rattle.js_output.specs.Documents.{DocumentTexts, absolute_uri, document_under, bundle_of, uri_causes, adding_causes, bundle_causes, documents_causes}
+use Rattle.js_output.specs.Entry.{entry_causes, entry_place}
+use Rattle.js_output.specs.Outcome.{IsResultOf, NoResultStands}
 use Rattle.js_output.specs.SuiteLines.{counts_of, lines_text}
 use Rattle.js_output.specs.SuiteText.{SuiteTest, SuiteGroup, suite_reading}
+use Rattle.js_output.specs.Telling.{Telling, After, OfInput}
 use Rattle.js_output.specs.declared.fault.Fault.{Fault}
 use Rattle.js_output.specs.declared.fault.Fault.TheVariants as fault
 use Rattle.js_output.specs.declared.fault.SuiteFault.{SuiteFault}
@@ -26,33 +27,33 @@ group_uri g = codes "https://suite.example/" ++ decimal g
 
 -- a value under a URI, where it is one
 abbrev pub with_root : List ℕ → Value → bundle.Documents
-with_root uri root = option_to_list (document_under (document_uri uri) (Ok root))
+with_root uri root = option_to_list (document_under (absolute_uri uri) (Ok root))
 
-abbrev pub documents_with : Documents → List ℕ → Value → bundle.Documents
+abbrev pub documents_with : DocumentTexts → List ℕ → Value → bundle.Documents
 documents_with documents uri schema = bundle_of documents ++ with_root uri schema
 
-abbrev pub with_schema : Documents → ℕ → Value → bundle.Documents
+abbrev pub with_schema : DocumentTexts → ℕ → Value → bundle.Documents
 with_schema documents g schema = documents_with documents (group_uri g) schema
 
 -- ---- what is refused of them: one after another, of them whole, and of the entry
 
-abbrev pub adding_causes_with : Documents → List ℕ → Causes
+abbrev pub adding_causes_with : DocumentTexts → List ℕ → Causes
 adding_causes_with documents uri = adding_causes 0 documents ++ uri_causes (length (bundle_of documents)) uri
 
 abbrev pub whole_causes : bundle.Documents → List ℕ → Causes
 whole_causes documents uri = bundle_causes documents ++ entry_causes documents uri
 
-abbrev pub causes_with : Documents → List ℕ → Value → Causes
+abbrev pub causes_with : DocumentTexts → List ℕ → Value → Causes
 causes_with documents uri schema = adding_causes_with documents uri ++ whole_causes (documents_with documents uri schema) uri
 
-abbrev pub group_causes : Documents → ℕ → Value → Causes
+abbrev pub group_causes : DocumentTexts → ℕ → Value → Causes
 group_causes documents g schema = causes_with documents (group_uri g) schema
 
 -- what the tests are judged by: these documents, or nothing where they are refused or the schema isn't whole
-abbrev pub IsBasis : Documents → ℕ → Option Value → Option bundle.Documents → Type 0
+abbrev pub IsBasis : DocumentTexts → ℕ → Option Value → Option bundle.Documents → Type 0
 IsBasis documents g None basis = basis ≡ None
-IsBasis documents g (Some schema) None = (f : Fault) × IsFirst (group_causes documents g schema) f
-IsBasis documents g (Some schema) (Some all) = IsClear (group_causes documents g schema) × (all ≡ with_schema documents g schema)
+IsBasis documents g (Some schema) None = (f : Fault) × IsFirstFault (group_causes documents g schema) f
+IsBasis documents g (Some schema) (Some all) = MayGoOn (group_causes documents g schema) × (all ≡ with_schema documents g schema)
 
 -- ---- what comes of a test
 
@@ -63,11 +64,11 @@ HasVerdict documents entry v valid = (t : ResultTree) × IsResultOf documents en
 abbrev pub IsStatusOn : bundle.Documents → Option Site → Value → Bool → Status → Type 0
 IsStatusOn documents entry v valid Pass = HasVerdict documents entry v valid
 IsStatusOn documents entry v valid Fail = HasVerdict documents entry v (not valid)
-IsStatusOn documents entry v valid Skip = NoneStands documents entry v
+IsStatusOn documents entry v valid Skip = NoResultStands documents entry v
 
 -- by the documents that its group is judged by, and its instance
 abbrev pub IsStatusBy : Option bundle.Documents → ℕ → Option Value → Bool → Status → Type 0
-IsStatusBy (Some all) g (Some v) valid status = IsStatusOn all (place_named all (group_uri g)) v valid status
+IsStatusBy (Some all) g (Some v) valid status = IsStatusOn all (entry_place all (group_uri g)) v valid status
 IsStatusBy _ g _ valid status = status ≡ Skip
 
 -- ---- lines
@@ -85,11 +86,11 @@ module _ (basis : Option bundle.Documents) (g : ℕ) where
   AreTestLines n (test ∷ tests) [] = ⊥
   AreTestLines n (test ∷ tests) (line ∷ lines) = IsLine n test line × AreTestLines (n + 1) tests lines
 
-abbrev pub AreGroupLines : Documents → ℕ → SuiteGroup → List Line → Type 0
+abbrev pub AreGroupLines : DocumentTexts → ℕ → SuiteGroup → List Line → Type 0
 AreGroupLines documents g group lines = (basis : Option bundle.Documents) × IsBasis documents g group.schema basis × AreTestLines basis g 0 group.tests lines
 
 -- of groups, the first of which has the number g
-abbrev pub AreLines : Documents → ℕ → List SuiteGroup → List Line → Type 0
+abbrev pub AreLines : DocumentTexts → ℕ → List SuiteGroup → List Line → Type 0
 AreLines documents g [] lines = lines ≡ []
 AreLines documents g (group ∷ groups) lines =
     (these : List Line) × (later : List Line) × (lines ≡ these ++ later) × AreGroupLines documents g group these × AreLines documents (g + 1) groups later
@@ -97,36 +98,20 @@ AreLines documents g (group ∷ groups) lines =
 -- ---- the outcome
 
 -- what a suite's text is read as: its lines come, or its fault
-abbrev pub ReadLines : Documents → Result (List SuiteGroup) SuiteFault → Result (List Line) Fault → Type 0
+abbrev pub ReadLines : DocumentTexts → Result (List SuiteGroup) SuiteFault → Result (List Line) Fault → Type 0
 ReadLines documents (Ok groups) (Ok lines) = AreLines documents 0 groups lines
 ReadLines documents (Ok groups) (Err f) = ⊥
 ReadLines documents (Err e) answer = answer ≡ Err (fault.Suite e)
 
--- of its bytes: their number is looked at first
-abbrev pub LinesOfBytes : Documents → List ℕ → Result (List Line) Fault → Type 0
-LinesOfBytes documents bytes answer = MatchBool (nat_lt input_limit (length bytes)) (answer ≡ Err fault.InputTooLarge) (ReadLines documents (suite_reading bytes) answer)
-
 -- the documents alone come first
-abbrev pub SuiteOutcome : Documents → List ℕ → Result (List Line) Fault → Type 0
-SuiteOutcome documents bytes (Ok lines) = IsClear (documents_causes documents) × LinesOfBytes documents bytes (Ok lines)
-SuiteOutcome documents bytes (Err f) = IsFirst (documents_causes documents) f ⊎ (IsClear (documents_causes documents) × LinesOfBytes documents bytes (Err f))
+abbrev pub SuiteOutcome : DocumentTexts → List ℕ → Result (List Line) Fault → Type 0
+SuiteOutcome documents bytes = After (documents_causes documents) (OfInput bytes (ReadLines documents (suite_reading bytes)))
 
--- ---- what is answered, where the sink or memory may fail
+-- ---- what is answered
 
--- the counts are answered where the lines' text went out, and `Write` where a beginning of it did
-abbrev pub TellsLines : {D : Type 0} → (Result (List Line) Fault → Type 0) → (D → Option (List ℕ)) → Tracked D → Tracked D → Result Counts Fault → Type 0
-TellsLines Expected taken old new (Ok counts) = (lines : List Line) × Expected (Ok lines) × (counts ≡ counts_of lines) × Sends taken old new (lines_text lines)
-TellsLines Expected taken old new (Err fault.Memory) = ⊤
-TellsLines Expected taken old new (Err fault.Read) = ⊥
-TellsLines Expected taken old new (Err fault.Write) = (lines : List Line) × Expected (Ok lines) × SendsBeginning taken old new (lines_text lines)
-TellsLines Expected taken old new (Err f) = Expected (Err f)
-
--- Of the bytes that a source has left: they are the suite's text, what is expected comes of them, and that is told. `Read` is
--- answered only where nothing stands before the suite.
-abbrev pub AnswersSuite : {D : Type 0} → Documents → Option (List ℕ) → (D → Option (List ℕ)) → Tracked D → Tracked D → Result Counts Fault → Type 0
-AnswersSuite documents left taken old new (Err fault.Memory) = ⊤
-AnswersSuite documents left taken old new (Err fault.Read) = IsClear (documents_causes documents)
-AnswersSuite documents left taken old new answer = (bytes : List ℕ) × IsLeft left bytes × TellsLines (SuiteOutcome documents bytes) taken old new answer
+-- the counts, and the lines' text goes out
+abbrev pub telling_lines : Telling (List Line) Counts
+telling_lines = record { answer = counts_of; text = lines_text }
 
 -- ---- words for the parts
 
@@ -139,7 +124,7 @@ IsSuiteLate _ = ⊥
 
 -- these lines are told, or why they aren't
 abbrev pub SendsLines : {D : Type 0} → (D → Option (List ℕ)) → Tracked D → Tracked D → List Line → Result Counts Fault → Type 0
-SendsLines taken old new lines (Ok counts) = (counts ≡ counts_of lines) × Sends taken old new (lines_text lines)
+SendsLines taken old new lines (Ok counts) = (counts_of lines ≡ counts) × Sends taken old new (lines_text lines)
 SendsLines taken old new lines (Err fault.Memory) = ⊤
 SendsLines taken old new lines (Err fault.Write) = SendsBeginning taken old new (lines_text lines)
 SendsLines taken old new lines (Err _) = ⊥

@@ -1,7 +1,7 @@
 //! From the documents that are handed in to finished schemas.
 ghost use Rattle.std.specs.Prelude.{◌≡◌, length, OnOk, IfOk, IfErr};
 ghost use Rattle.js_bundle.specs.Adding.{IsAdded};
-ghost use Rattle.js_output.specs.Cause.{IsClear, FailsBy};
+ghost use Rattle.js_output.specs.Cause.{MayGoOn, FailsBy};
 ghost use Rattle.js_output.specs.Documents.{documents_of, bundle_of, document_causes, adding_causes, bundle_causes, documents_causes};
 ghost use Rattle.js_output.specs.Outcome.{IsEarlyOrMemory};
 
@@ -12,7 +12,7 @@ use std::alloc::Global;
 /// The documents' schemas, finished, or the first refusal of a document, and then of all.
 pub(crate) fn finished(alloc: Global, docs: &[(&str, &[u8])]) -> Result<Schemas, Fault>
     ensures ok { IfOk result (λ s. s ≡ bundle_of (documents_of docs.now)) }
-    ensures clear { OnOk result (IsClear (documents_causes (documents_of docs.now))) }
+    ensures clear { OnOk result (MayGoOn (documents_causes (documents_of docs.now))) }
     ensures err { IfErr result (FailsBy (documents_causes (documents_of docs.now))) }
     ensures early { IfErr result IsEarlyOrMemory }
 {
@@ -23,7 +23,7 @@ pub(crate) fn finished(alloc: Global, docs: &[(&str, &[u8])]) -> Result<Schemas,
 /// The documents, taken in, or the first refusal of one.
 pub(crate) fn bundled(alloc: Global, docs: &[(&str, &[u8])]) -> Result<Bundle, Fault>
     ensures ok { IfOk result (λ b. b ≡ bundle_of (documents_of docs.now)) }
-    ensures clear { OnOk result (IsClear (adding_causes 0 (documents_of docs.now))) }
+    ensures clear { OnOk result (MayGoOn (adding_causes 0 (documents_of docs.now))) }
     ensures err { IfErr result (FailsBy (adding_causes 0 (documents_of docs.now))) }
     ensures early { IfErr result IsEarlyOrMemory }
 {
@@ -47,7 +47,7 @@ fn add(bundle: &mut Bundle, uri: &str, bytes: &[u8]) -> Result<(), Fault>
 /// The schemas of what was taken in, or the first refusal.
 pub(crate) fn finish_bundle(alloc: Global, bundle: Bundle) -> Result<Schemas, Fault>
     ensures ok { IfOk result (λ s. s ≡ bundle) }
-    ensures clear { OnOk result (IsClear (bundle_causes bundle)) }
+    ensures clear { OnOk result (MayGoOn (bundle_causes bundle)) }
     ensures err { IfErr result (FailsBy (bundle_causes bundle)) }
     ensures early { IfErr result IsEarlyOrMemory }
 {

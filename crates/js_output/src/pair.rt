@@ -1,7 +1,8 @@
 //! A document and an instance in one input.
 ghost use Rattle.std.specs.Prelude.{◌≡◌, ◌≢◌, ◌≤◌, ◌+◌, ◌↔◌, [], true, false, Err, length, ◌<◌, IfSome, IfOk, IfErr, OnOk, IsErrOf};
 ghost use Rattle.js_output.specs.Device.{input_limit};
-ghost use Rattle.js_output.specs.Outcome.{OutcomeOfTexts, PairOutcome, first_line_feed, text_before, text_after, Answers, Tells};
+ghost use Rattle.js_output.specs.Outcome.{OutcomeOfTexts, PairOutcome, first_line_feed, text_before, text_after, telling_output};
+ghost use Rattle.js_output.specs.Telling.{Answers, Tells};
 
 use crate::entry::entry_of;
 use crate::fault::Fault;
@@ -28,7 +29,7 @@ pub fn run_pair<R: Read, W: Write>(
     out: &mut Sink<W>,
 ) -> Result<bool, Fault>
     // These are the input's bytes, this is their outcome, and its text went out.
-    ensures answer { Answers PairOutcome [] (R.remaining input.old.device) W.contents
+    ensures answer { Answers telling_output PairOutcome [] (R.remaining input.old.device) W.contents
         out.old out.new result }
     ensures read { result ≢ Err Fault.Memory
         → (IsErrOf result Fault.Read ↔ (input.new.failed ≡ true)) }
@@ -70,7 +71,7 @@ fn tell_texts<W: Write>(
     out: &mut Sink<W>,
 ) -> Result<bool, Fault>
     requires { length instance.now ≤ input_limit }
-    ensures answer { Tells (OutcomeOfTexts document.now instance.now) W.contents
+    ensures answer { Tells telling_output (OutcomeOfTexts document.now instance.now) W.contents
         out.old out.new result }
     ensures nothing { IfErr result (λ e. e ≢ Fault.Write → out.new ≡ out.old) }
     ensures sink_stays { out.old.failed ≡ true → out.new ≡ out.old }

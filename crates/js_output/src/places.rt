@@ -2,7 +2,7 @@
 ghost use Rattle.std.specs.Prelude.{◌≡◌, ◌≢◌, ◌≤◌, ◌+◌, true, false, length, string_bytes, OnOk, IfOk, IfErr, IsErrOf};
 ghost use Rattle.std.specs.Io.KnownBytes.{Appends};
 ghost use Rattle.js_bundle.specs.Resource.{sites};
-ghost use Rattle.js_output.specs.Cause.{IsClear, FailsBy};
+ghost use Rattle.js_output.specs.Cause.{MayGoOn, FailsBy};
 ghost use Rattle.js_output.specs.Device.{AppendsBeginning};
 ghost use Rattle.js_output.specs.Documents.{documents_of, documents_causes};
 ghost use Rattle.js_output.specs.Outcome.{IsEarlyOrMemory};
@@ -61,7 +61,7 @@ fn told_places(alloc: Global, docs: &[(&str, &[u8])]) -> Result<Told, Fault>
     ensures text { IfOk result (λ t.
         string_bytes t.text ≡ places_text (documents_of docs.now)) }
     ensures count { IfOk result (λ t. t.count ≡ length (places_of (documents_of docs.now))) }
-    ensures clear { OnOk result (IsClear (documents_causes (documents_of docs.now))) }
+    ensures clear { OnOk result (MayGoOn (documents_causes (documents_of docs.now))) }
     ensures err { IfErr result (FailsBy (documents_causes (documents_of docs.now))) }
     ensures early { IfErr result IsEarlyOrMemory }
 {

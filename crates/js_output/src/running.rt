@@ -3,7 +3,8 @@ ghost use Rattle.std.specs.Prelude.{◌≡◌, ◌≢◌, ◌≤◌, ◌+◌, []
 ghost use Rattle.js_bundle.specs.Schemas.{is_place, place_at};
 ghost use Rattle.js_output.specs.Device.{input_limit};
 ghost use Rattle.js_output.specs.Documents.{documents_of};
-ghost use Rattle.js_output.specs.Outcome.{beginning_causes, Outcome, InstanceOutcome, Answers, IsEarly, IsReadOrEarly};
+ghost use Rattle.js_output.specs.Outcome.{beginning_causes, Outcome, InstanceOutcome, telling_output, IsEarly, IsReadOrEarly};
+ghost use Rattle.js_output.specs.Telling.{Answers};
 
 use crate::entry::{Entry, entry_of};
 use crate::fault::Fault;
@@ -35,7 +36,7 @@ pub fn run<R: Read, W: Write>(
     out: &mut Sink<W>,
 ) -> Result<bool, Fault>
     // These are the instance's bytes, this is their outcome, and its text went out.
-    ensures answer { Answers (Outcome (documents_of docs.now) entry.now format)
+    ensures answer { Answers telling_output (Outcome (documents_of docs.now) entry.now format)
         (beginning_causes (documents_of docs.now) entry.now)
         (R.remaining instance.old.device) W.contents out.old out.new result }
 
@@ -63,7 +64,7 @@ fn tell_instance<R: Read, W: Write>(
     out: &mut Sink<W>,
 ) -> Result<bool, Fault>
     requires { is_place entry.now.schemas entry.now.place ≡ true }
-    ensures answer { Answers
+    ensures answer { Answers telling_output
         (InstanceOutcome entry.now.schemas (place_at entry.now.schemas entry.now.place) format) []
         (R.remaining instance.old.device) W.contents out.old out.new result }
     ensures late { IfErr result (λ e. IsEarly e → ⊥) }

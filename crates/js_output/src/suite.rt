@@ -1,10 +1,11 @@
 //! A suite of tests, run over documents.
 ghost use Rattle.std.specs.Prelude.{◌≡◌, ◌≢◌, ◌≤◌, ◌+◌, true, false, min, ◌^◌, ◌-◌, IfOk, IfErr, OnOk, IsErrOf, length};
 ghost use Rattle.js_output.specs.Device.{input_limit};
-ghost use Rattle.js_output.specs.Documents.{documents_of};
+ghost use Rattle.js_output.specs.Documents.{documents_of, documents_causes};
 ghost use Rattle.js_output.specs.Outcome.{IsEarly, IsReadOrEarly};
-ghost use Rattle.js_output.specs.Suite.{AnswersSuite, TellsLines, ReadLines, SendsLines, IsSuiteLate};
+ghost use Rattle.js_output.specs.Suite.{ReadLines, SuiteOutcome, telling_lines, SendsLines, IsSuiteLate};
 ghost use Rattle.js_output.specs.SuiteText.{suite_reading};
+ghost use Rattle.js_output.specs.Telling.{Answers, Tells};
 
 use crate::documents::finished;
 use crate::fault::Fault;
@@ -42,7 +43,8 @@ pub fn run_suite<R: Read, W: Write>(
     out: &mut Sink<W>,
 ) -> Result<Counts, Fault>
     // These are the suite's bytes, these are its lines, and their text went out.
-    ensures answer { AnswersSuite (documents_of docs.now) (R.remaining suite.old.device)
+    ensures answer { Answers telling_lines (SuiteOutcome (documents_of docs.now))
+        (documents_causes (documents_of docs.now)) (R.remaining suite.old.device)
         W.contents out.old out.new result }
 
     // The suite is read where no fault comes before it.
@@ -68,8 +70,9 @@ fn tell_suite<W: Write>(
     bytes: &[u8],
     out: &mut Sink<W>,
 ) -> Result<Counts, Fault>
-    ensures answer { TellsLines (ReadLines (documents_of docs.now) (suite_reading bytes.now))
-        W.contents out.old out.new result }
+    ensures answer { Tells telling_lines
+        (ReadLines (documents_of docs.now) (suite_reading bytes.now)) W.contents
+        out.old out.new result }
     ensures late { IfErr result IsSuiteLate }
     ensures nothing { IfErr result (λ e. e ≢ Fault.Write → out.new ≡ out.old) }
     ensures sink_stays { out.old.failed ≡ true → out.new ≡ out.old }

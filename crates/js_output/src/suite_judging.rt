@@ -2,7 +2,7 @@
 ghost use Rattle.std.specs.Prelude.{◌≡◌, ◌++◌, true, List, OnOk, IfOk, IfErr, option_map, length, string_bytes, None};
 ghost use Rattle.js_doc.specs.Seen.{value_of};
 ghost use Rattle.js_bundle.specs.Schemas.{is_place, place_at};
-ghost use Rattle.js_output.specs.Cause.{IsClear, FailsBy};
+ghost use Rattle.js_output.specs.Cause.{MayGoOn, FailsBy};
 ghost use Rattle.js_output.specs.Documents.{documents_of, uri_causes};
 ghost use Rattle.js_output.specs.Entry.{IsEntry};
 ghost use Rattle.js_output.specs.Suite.{AreGroupLines, AreLines, AreTestLines, IsBasis, IsLine, IsStatusOn, adding_causes_with, causes_with, documents_with, group_causes, group_uri, whole_causes, with_root, with_schema};
@@ -11,7 +11,7 @@ ghost use Rattle.js_output.specs.SuiteText.{groups_seen, group_seen, tests_seen,
 ghost use Rattle.js_output.specs.declared.suite_lines.Line.{Line};
 
 use crate::documents::{bundled, finish_bundle};
-use crate::entry::{Entry, place_named};
+use crate::entry::{Entry, entry_place};
 use crate::fault::Fault;
 use crate::suite_lines::{Line, Status};
 use crate::suite_text::{SuiteGroup, SuiteTest};
@@ -130,7 +130,7 @@ fn entry_with(
         (λ e. e.schemas ≡ with_schema (documents_of docs.now) number (value_of schema.now)) }
     ensures entry { IfOk result (λ e. IsEntry e.schemas (group_uri number) e) }
     ensures clear { OnOk result
-        (IsClear (group_causes (documents_of docs.now) number (value_of schema.now))) }
+        (MayGoOn (group_causes (documents_of docs.now) number (value_of schema.now))) }
     ensures err { IfErr result
         (FailsBy (group_causes (documents_of docs.now) number (value_of schema.now))) }
 {
@@ -143,7 +143,7 @@ fn entry_at(alloc: Global, docs: &[(&str, &[u8])], uri: &str, schema: &Doc) -> R
         (λ e. e.schemas ≡ documents_with (documents_of docs.now) uri.now (value_of schema.now)) }
     ensures entry { IfOk result (λ e. IsEntry e.schemas uri.now e) }
     ensures clear { OnOk result
-        (IsClear (causes_with (documents_of docs.now) uri.now (value_of schema.now))) }
+        (MayGoOn (causes_with (documents_of docs.now) uri.now (value_of schema.now))) }
     ensures err { IfErr result
         (FailsBy (causes_with (documents_of docs.now) uri.now (value_of schema.now))) }
 {
@@ -165,7 +165,7 @@ fn bundle_with(
 ) -> Result<Bundle, Fault>
     ensures ok { IfOk result
         (λ b. b ≡ documents_with (documents_of docs.now) uri.now (value_of schema.now)) }
-    ensures clear { OnOk result (IsClear (adding_causes_with (documents_of docs.now) uri.now)) }
+    ensures clear { OnOk result (MayGoOn (adding_causes_with (documents_of docs.now) uri.now)) }
     ensures err { IfErr result (FailsBy (adding_causes_with (documents_of docs.now) uri.now)) }
 {
     let mut bundle = bundled(alloc, docs)?;
@@ -176,7 +176,7 @@ fn bundle_with(
 
 fn add_doc(bundle: &mut Bundle, uri: &str, root: Doc) -> Result<(), Fault>
     ensures ok { OnOk result (bundle.new ≡ bundle.old ++ with_root uri.now (value_of root)) }
-    ensures clear { OnOk result (IsClear (uri_causes (length bundle.old) uri.now)) }
+    ensures clear { OnOk result (MayGoOn (uri_causes (length bundle.old) uri.now)) }
     ensures err { IfErr result (FailsBy (uri_causes (length bundle.old) uri.now)) }
 {
     match bundle.add_doc(uri, root) {
@@ -188,11 +188,11 @@ fn add_doc(bundle: &mut Bundle, uri: &str, root: Doc) -> Result<(), Fault>
 fn entry_in(alloc: Global, bundle: Bundle, uri: &str) -> Result<Entry, Fault>
     ensures schemas { IfOk result (λ e. e.schemas ≡ bundle) }
     ensures entry { IfOk result (λ e. IsEntry e.schemas uri.now e) }
-    ensures clear { OnOk result (IsClear (whole_causes bundle uri.now)) }
+    ensures clear { OnOk result (MayGoOn (whole_causes bundle uri.now)) }
     ensures err { IfErr result (FailsBy (whole_causes bundle uri.now)) }
 {
     let schemas = finish_bundle(alloc, bundle)?;
-    let place = place_named(alloc, &schemas, uri)?;
+    let place = entry_place(alloc, &schemas, uri)?;
     Ok(Entry { schemas, place })
 }
 

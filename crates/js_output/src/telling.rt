@@ -3,7 +3,8 @@ ghost use Rattle.std.specs.Prelude.{◌≡◌, ◌≢◌, true, IfErr, IfOk};
 ghost use Rattle.js_doc.specs.Seen.{value_of};
 ghost use Rattle.js_tree.specs.declared.forms.Format.TheVariants.{Flag};
 ghost use Rattle.js_bundle.specs.Schemas.{is_place, place_at};
-ghost use Rattle.js_output.specs.Outcome.{ValueOutcome, TextOutcome, Tells, IsLateOrMemory, IsJudged, IsWalkFault};
+ghost use Rattle.js_output.specs.Outcome.{ValueOutcome, TextOutcome, telling_output, IsLateOrMemory, IsJudged, IsWalkFault};
+ghost use Rattle.js_output.specs.Telling.{Tells};
 
 use crate::entry::Entry;
 use crate::fault::Fault;
@@ -27,7 +28,7 @@ pub(crate) fn tell_text<W: Write>(
     out: &mut Sink<W>,
 ) -> Result<bool, Fault>
     requires { is_place entry.now.schemas entry.now.place ≡ true }
-    ensures answer { Tells (TextOutcome entry.now.schemas
+    ensures answer { Tells telling_output (TextOutcome entry.now.schemas
         (place_at entry.now.schemas entry.now.place) format bytes.now)
         W.contents out.old out.new result }
     ensures late { IfErr result IsLateOrMemory }
@@ -49,7 +50,7 @@ fn tell_value<W: Write>(
     out: &mut Sink<W>,
 ) -> Result<bool, Fault>
     requires { is_place entry.now.schemas entry.now.place ≡ true }
-    ensures answer { Tells (ValueOutcome entry.now.schemas
+    ensures answer { Tells telling_output (ValueOutcome entry.now.schemas
         (place_at entry.now.schemas entry.now.place) (value_of instance.now) format)
         W.contents out.old out.new result }
     ensures late { IfErr result IsLateOrMemory }
@@ -70,7 +71,7 @@ fn tell_verdict<W: Write>(
     out: &mut Sink<W>,
 ) -> Result<bool, Fault>
     requires { is_place entry.now.schemas entry.now.place ≡ true }
-    ensures answer { Tells (ValueOutcome entry.now.schemas
+    ensures answer { Tells telling_output (ValueOutcome entry.now.schemas
         (place_at entry.now.schemas entry.now.place) (value_of instance.now) Flag)
         W.contents out.old out.new result }
     ensures late { IfErr result IsLateOrMemory }
@@ -91,7 +92,7 @@ fn tell_form<W: Write>(
     out: &mut Sink<W>,
 ) -> Result<bool, Fault>
     requires { is_place entry.now.schemas entry.now.place ≡ true }
-    ensures answer { Tells (ValueOutcome entry.now.schemas
+    ensures answer { Tells telling_output (ValueOutcome entry.now.schemas
         (place_at entry.now.schemas entry.now.place) (value_of instance.now) format)
         W.contents out.old out.new result }
     ensures late { IfErr result IsLateOrMemory }

@@ -1,12 +1,17 @@
+pub mod AlikeTrees
+pub mod AlikeUnits
 pub mod BoxedTold
 pub mod ChildTexts
 pub mod Compaction
 pub mod FlagText
 pub mod FlatRows
 pub mod FlatTold
+pub mod Giving
 pub mod Marks
 pub mod Forests
 pub mod KeptTree
+pub mod MergedLaws
+pub mod MergedTree
 pub mod MovesAreSteps
 pub mod Nested
 pub mod NodeTexts

@@ -116,3 +116,8 @@ pub returns-in_err-spots-clause-err : goal.returns-in_err-spots-clause-err
 returns-in_err-spots-clause-err c =
     let p = err_from_is_err_and c.from_residual-in_err-spots.result c.from_residual-in_err-spots.ensures.1 in
     rw (p.1, p.2) tt
+
+pub returns-in_err-edges-clause-err : goal.returns-in_err-edges-clause-err
+returns-in_err-edges-clause-err c =
+    let p = err_from_is_err_and c.from_residual-in_err-edges.result c.from_residual-in_err-edges.ensures.1 in
+    rw (p.1, p.2) tt

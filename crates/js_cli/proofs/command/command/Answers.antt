@@ -1,8 +1,12 @@
 use Rattle.std.proofs.Common.{sym}
 use Rattle.js_output.specs.declared.fault.Fault.TheVariants as fault
-use Rattle.js_cli.specs.Words.{request_seen, words_of}
-use Rattle.js_cli.proofs.Telling.{begun_or_kept, misuse_told}
+use Rattle.js_cli.specs.Words.{request_of, request_seen, words_of}
+use Rattle.js_cli.proofs.Telling.{begun_or_kept, misuse_ends, misuse_told}
 use Rattle.js_cli.proofs.command.command.Goals as goal
+
+pub returns-in-Err-clause-misused : goal.returns-in-Err-clause-misused
+returns-in-Err-clause-misused g c =
+    misuse_ends (request_of (words_of c.args.words.now)) c.in-Err.misuse c.tell_misuse-status.result _ c.tell_misuse-status.ensures.status c.tell_misuse-status.ensures.told
 
 pub returns-in-Err-clause-told : goal.returns-in-Err-clause-told
 returns-in-Err-clause-told g c above =

@@ -1,7 +1,8 @@
 use Rattle.std.proofs.Common.{◌∙◌, Some, ap, sym, subst}
 use Rattle.js_output.specs.Device.{IsLeft}
 use Rattle.js_output.specs.Documents.{documents_of}
-use Rattle.js_output.specs.Outcome.{Outcome, Answers, beginning_causes}
+use Rattle.js_output.specs.Outcome.{Outcome, telling_output, beginning_causes}
+use Rattle.js_output.specs.Telling.{Answers}
 use Rattle.js_cli.specs.Answer.{AreHeld}
 use Rattle.js_cli.specs.Taken.{documents_taken}
 use Rattle.js_cli.specs.Words.{pairs_seen}
@@ -20,5 +21,5 @@ returns-clause-answer g c =
     (subst (λ h. IsLeft (h check.instance.now) c.in_ok-instance.instance.items) c.in_ok-held.ensures.stays c.in_ok-instance.ensures.bytes) in
     check_told held (pairs_seen check.documents.items) documents g.W.Write.contents c.args.out.now c.run.new.out
     check.format check.instance.now check.entry.now c.as_slice-3.result.now c.run.result holds here
-    (subst (λ d. Answers (Outcome documents check.entry.now check.format) (beginning_causes documents check.entry.now) (Some d.now) g.W.Write.contents c.args.out.now c.run.new.out c.run.result)
+    (subst (λ d. Answers telling_output (Outcome documents check.entry.now check.format) (beginning_causes documents check.entry.now) (Some d.now) g.W.Write.contents c.args.out.now c.run.new.out c.run.result)
     c.new-instance.ensures.device c.run.ensures.answer)

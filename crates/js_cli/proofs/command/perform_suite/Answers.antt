@@ -1,8 +1,9 @@
 use Rattle.std.proofs.Common.{◌∙◌, Some, None, Ok, Err, ap, sym, subst}
 use Rattle.std.proofs.lemmas.Result.{err_from_is_err_and}
 use Rattle.js_output.specs.Device.{IsLeft}
-use Rattle.js_output.specs.Documents.{documents_of}
-use Rattle.js_output.specs.Suite.{AnswersSuite}
+use Rattle.js_output.specs.Documents.{documents_of, documents_causes}
+use Rattle.js_output.specs.Suite.{SuiteOutcome, telling_lines}
+use Rattle.js_output.specs.Telling.{Answers}
 use Rattle.js_cli.specs.Answer.{AreHeld, Performs, RequestOutcome}
 use Rattle.js_cli.specs.Taken.{documents_taken}
 use Rattle.js_cli.specs.Words.{pairs_seen, suite}
@@ -22,7 +23,7 @@ returns-in_err-counts-clause-answer g c =
     let p = err_from_is_err_and c.from_residual-in_err-counts.result c.from_residual-in_err-counts.ensures.1 in
     rw (p.1, p.2) (suite_fault held (pairs_seen asked.documents.items) documents g.W.Write.contents c.args.out.now c.run_suite.new.out
     asked.file.now c.as_slice-3.result.now c.in_err-counts.field-0.0 holds here
-    (subst (λ d. AnswersSuite documents (Some d.now) g.W.Write.contents c.args.out.now c.run_suite.new.out (Err c.in_err-counts.field-0.0)) c.new-text.ensures.device c.in_err-counts.ensures.answer))
+    (subst (λ d. Answers telling_lines (SuiteOutcome documents) (documents_causes documents) (Some d.now) g.W.Write.contents c.args.out.now c.run_suite.new.out (Err c.in_err-counts.field-0.0)) c.new-text.ensures.device c.in_err-counts.ensures.answer))
 
 pub returns-clause-answer : goal.returns-clause-answer
 returns-clause-answer g c =
@@ -37,4 +38,4 @@ returns-clause-answer g c =
     subst (λ v. Performs (RequestOutcome held None (suite asked.file.now (pairs_seen asked.documents.items))) g.W.Write.contents c.args.out.now c.run_suite.new.out (Ok v)) (sym c.all_passed.ensures)
     (suite_told held (pairs_seen asked.documents.items) documents g.W.Write.contents c.args.out.now c.run_suite.new.out
     asked.file.now c.as_slice-3.result.now c.in_ok-counts.counts holds here
-    (subst (λ d. AnswersSuite documents (Some d.now) g.W.Write.contents c.args.out.now c.run_suite.new.out (Ok c.in_ok-counts.counts)) c.new-text.ensures.device c.in_ok-counts.ensures.answer))
+    (subst (λ d. Answers telling_lines (SuiteOutcome documents) (documents_causes documents) (Some d.now) g.W.Write.contents c.args.out.now c.run_suite.new.out (Ok c.in_ok-counts.counts)) c.new-text.ensures.device c.in_ok-counts.ensures.answer))

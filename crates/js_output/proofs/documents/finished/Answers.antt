@@ -1,6 +1,6 @@
 use Rattle.std.proofs.Common.{subst}
 use Rattle.std.proofs.lemmas.Result.{err_from_is_err_and, IfErr-weaker, on_ok_weaker}
-use Rattle.js_output.specs.Cause.{IsClear, FailsBy}
+use Rattle.js_output.specs.Cause.{MayGoOn, FailsBy}
 use Rattle.js_output.specs.Documents.{documents_of, bundle_of, adding_causes, bundle_causes, documents_causes}
 use Rattle.js_output.proofs.CauseLists.{clear-append, fails-append, fails-later}
 use Rattle.js_output.proofs.documents.finished.Goals as goal
@@ -15,7 +15,7 @@ pub returns-clause-clear : goal.returns-clause-clear
 returns-clause-clear c =
     let docs = documents_of c.args.docs.now in
     on_ok_weaker c.finish_bundle.result
-    (λ h. clear-append (adding_causes 0 docs) (bundle_causes (bundle_of docs)) c.in_ok-bundle.ensures.clear (subst (λ b. IsClear (bundle_causes b)) c.in_ok-bundle.ensures.ok h)) c.finish_bundle.ensures.clear
+    (λ h. clear-append (adding_causes 0 docs) (bundle_causes (bundle_of docs)) c.in_ok-bundle.ensures.clear (subst (λ b. MayGoOn (bundle_causes b)) c.in_ok-bundle.ensures.ok h)) c.finish_bundle.ensures.clear
 
 pub returns-clause-err : goal.returns-clause-err
 returns-clause-err c =

@@ -1,6 +1,6 @@
 use Rattle.std.proofs.Common.{subst}
 use Rattle.std.proofs.lemmas.Result.{err_from_is_err_and}
-use Rattle.js_output.specs.Cause.{IsClear, FailsBy}
+use Rattle.js_output.specs.Cause.{MayGoOn, FailsBy}
 use Rattle.js_output.specs.Documents.{documents_of, bundle_of, documents_causes}
 use Rattle.js_output.specs.Entry.{entry_causes}
 use Rattle.js_output.proofs.CauseLists.{clear-append, fails-append, fails-later}
@@ -24,4 +24,4 @@ pub returns-clause-clear : goal.returns-clause-clear
 returns-clause-clear c =
     let docs = documents_of c.args.docs.now in
     clear-append (documents_causes docs) (entry_causes (bundle_of docs) c.args.uri.now) c.in_ok-schemas.ensures.clear
-    (subst (λ s. IsClear (entry_causes s c.args.uri.now)) c.in_ok-schemas.ensures.ok c.in_ok-place.ensures.clear)
+    (subst (λ s. MayGoOn (entry_causes s c.args.uri.now)) c.in_ok-schemas.ensures.ok c.in_ok-place.ensures.clear)

@@ -1,7 +1,7 @@
 use Rattle.std.proofs.Common.{◌≡◌, ◌∙◌, subst}
 use Rattle.std.proofs.lemmas.Result.{err_from_is_err_and, IfOk-weaker, IfErr-weaker, on_ok_weaker}
 use Rattle.js_doc.specs.Seen.{value_of}
-use Rattle.js_output.specs.Cause.{IsClear, FailsBy}
+use Rattle.js_output.specs.Cause.{MayGoOn, FailsBy}
 use Rattle.js_output.specs.Documents.{documents_of}
 use Rattle.js_output.specs.Suite.{adding_causes_with, causes_with, documents_with, whole_causes}
 use Rattle.js_output.proofs.CauseLists.{clear-append, fails-append, fails-later}
@@ -25,7 +25,7 @@ returns-clause-clear c =
     let uri = c.args.uri.now in
     let all = documents_with docs uri (value_of c.args.schema.now) in
     on_ok_weaker c.entry_in.result
-    (λ h. clear-append (adding_causes_with docs uri) (whole_causes all uri) c.in_ok-bundle.ensures.clear (subst (λ b. IsClear (whole_causes b uri)) c.in_ok-bundle.ensures.ok h)) c.entry_in.ensures.clear
+    (λ h. clear-append (adding_causes_with docs uri) (whole_causes all uri) c.in_ok-bundle.ensures.clear (subst (λ b. MayGoOn (whole_causes b uri)) c.in_ok-bundle.ensures.ok h)) c.entry_in.ensures.clear
 
 pub returns-clause-err : goal.returns-clause-err
 returns-clause-err c =

@@ -1,6 +1,6 @@
 use Rattle.std.proofs.Common.{subst}
 use Rattle.std.proofs.lemmas.Result.{err_from_is_err_and}
-use Rattle.js_output.specs.Cause.{IsClear, FailsBy}
+use Rattle.js_output.specs.Cause.{MayGoOn, FailsBy}
 use Rattle.js_output.specs.Documents.{bundle_causes}
 use Rattle.js_output.specs.Entry.{entry_causes}
 use Rattle.js_output.proofs.CauseLists.{clear-append, fails-append, fails-later}
@@ -21,4 +21,4 @@ returns-in_err-place-clause-err c =
 pub returns-clause-clear : goal.returns-clause-clear
 returns-clause-clear c =
     clear-append (bundle_causes c.args.bundle) (entry_causes c.args.bundle c.args.uri.now) c.in_ok-schemas.ensures.clear
-    (subst (λ s. IsClear (entry_causes s c.args.uri.now)) c.in_ok-schemas.ensures.ok c.in_ok-place.ensures.clear)
+    (subst (λ s. MayGoOn (entry_causes s c.args.uri.now)) c.in_ok-schemas.ensures.ok c.in_ok-place.ensures.clear)

@@ -1,6 +1,6 @@
 use Rattle.std.proofs.Common.{◌≡◌, ◌∙◌, IfOk, IfErr, OnOk, subst}
 use Rattle.js_doc.specs.Seen.{value_of}
-use Rattle.js_output.specs.Cause.{IsClear, FailsBy}
+use Rattle.js_output.specs.Cause.{MayGoOn, FailsBy}
 use Rattle.js_output.specs.Documents.{documents_of}
 use Rattle.js_output.specs.Entry.{IsEntry}
 use Rattle.js_output.specs.Suite.{causes_with, documents_with}
@@ -15,7 +15,7 @@ returns-clause-entry c = subst (λ uri. IfOk c.entry_at.result (λ e. IsEntry e.
 
 pub returns-clause-clear : goal.returns-clause-clear
 returns-clause-clear c =
-    subst (λ uri. OnOk c.entry_at.result (IsClear (causes_with (documents_of c.args.docs.now) uri (value_of c.args.schema.now)))) (c.as_str.ensures.value ∙ c.in_ok-uri.ensures) c.entry_at.ensures.clear
+    subst (λ uri. OnOk c.entry_at.result (MayGoOn (causes_with (documents_of c.args.docs.now) uri (value_of c.args.schema.now)))) (c.as_str.ensures.value ∙ c.in_ok-uri.ensures) c.entry_at.ensures.clear
 
 pub returns-clause-err : goal.returns-clause-err
 returns-clause-err c =

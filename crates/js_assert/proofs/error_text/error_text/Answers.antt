@@ -9,7 +9,7 @@ use Rattle.js_assert.specs.declared.assertion.Test.TheVariants.{MaxLength, MinLe
 use Rattle.js_doc.proofs.PartLists.{member_list-members}
 use Rattle.js_assert.proofs.Listed.{strings_names}
 use Rattle.js_assert.proofs.Telling.{told}
-use Rattle.js_assert.proofs.error_text.text_of.Goals as goal
+use Rattle.js_assert.proofs.error_text.error_text.Goals as goal
 
 pub returns-in-MaxLength : goal.returns-in-MaxLength
 returns-in-MaxLength c =

@@ -1,5 +1,5 @@
 use Rattle.js_assert.proofs.Named.{other_name}
-use Rattle.js_assert.proofs.keyword.Keyword.named.Goals as goal
+use Rattle.js_assert.proofs.keyword.Keyword.keyword_named.Goals as goal
 
 pub returns-in_default : goal.returns-in_default
 returns-in_default c =
