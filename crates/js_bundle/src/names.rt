@@ -55,7 +55,8 @@ fn stands_at(site: &Site<'_>, document: usize, pointer: &Pointer) -> bool
     site.document == document && is_same(&site.pointer, pointer)
 }
 
-fn is_same(first: &Pointer, second: &Pointer) -> bool
+/// Whether two pointers are the same.
+pub(crate) fn is_same(first: &Pointer, second: &Pointer) -> bool
     ensures { result ≡ same_tokens first.now second.now }
 {
     *first == *second

@@ -10,7 +10,7 @@ ghost use Rattle.js_bundle.specs.Scan.{site_of};
 
 use crate::index::Index;
 use crate::keyword::text_argument;
-use crate::names::place_at;
+use crate::names::{is_same, place_at};
 use crate::numbering::Numbering;
 use crate::scan::Site;
 use js_doc::Memory;
@@ -37,7 +37,7 @@ struct Roots {
 fn begins_resource(site: &Site<'_>) -> bool
     ensures { result ≡ begins_resource (site_of site.now) }
 {
-    *site.pointer == site.own.resource
+    is_same(&site.pointer, &site.own.resource)
 }
 
 // Opens the resource of a root.

@@ -121,3 +121,8 @@ pub returns-in_err-edges-clause-err : goal.returns-in_err-edges-clause-err
 returns-in_err-edges-clause-err c =
     let p = err_from_is_err_and c.from_residual-in_err-edges.result c.from_residual-in_err-edges.ensures.1 in
     rw (p.1, p.2) tt
+
+pub returns-in_err-resources-clause-err : goal.returns-in_err-resources-clause-err
+returns-in_err-resources-clause-err c =
+    let p = err_from_is_err_and c.from_residual-in_err-resources.result c.from_residual-in_err-resources.ensures.1 in
+    rw (p.1, p.2) tt
