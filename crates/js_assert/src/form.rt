@@ -1,9 +1,9 @@
 //! The forms of arguments (JSON Schema Validation, section 6), read into what the tests keep.
-ghost use Rattle.std.specs.Prelude.{◌≡◌, IfOk, IfErr, true, false, pos, map, []};
+ghost use Rattle.std.specs.Prelude.{◌≡◌, IfOk, IfErr, true, pos, map, []};
 ghost use Rattle.std.specs.Int.NonZero.{non_zero_u64_get};
 ghost use Rattle.js_doc.specs.Seen.{value_of};
 ghost use Rattle.js_doc.specs.Value.{truth, whole, text, list, object, items, members};
-ghost use Rattle.js_assert.specs.Form.{is_boolean, is_number, is_number_above, is_count, is_string, is_list, is_list_of_names, is_object_of_names, is_type, are_new_types, are_new_names, IsFaultOf, IsBadUnless};
+ghost use Rattle.js_assert.specs.Form.{is_boolean, is_number, is_number_above, is_count, is_list, is_list_of_names, is_object_of_names, is_type, are_new_types, are_new_names, IsFaultOf, IsBadUnless};
 ghost use Rattle.js_assert.specs.Names.{names_value};
 ghost use Rattle.js_assert.specs.Dependences.{dependence_of};
 ghost use Rattle.js_assert.specs.Types.{type_name, types_value};

@@ -55,7 +55,8 @@ fn stands_at(site: &Site<'_>, document: usize, pointer: &Pointer) -> bool
     site.document == document && is_same(&site.pointer, pointer)
 }
 
-fn is_same(first: &Pointer, second: &Pointer) -> bool
+/// Whether two pointers are the same.
+pub(crate) fn is_same(first: &Pointer, second: &Pointer) -> bool
     ensures { result ≡ same_tokens first.now second.now }
 {
     *first == *second
@@ -103,8 +104,8 @@ fn numbered<'s, 'a>(sites: &'s [Site<'a>], number: usize) -> Option<&'s Site<'a>
     sites.get(number)
 }
 
-// The number of the place at a pointer.
-fn place_at(
+/// The number of the place at a pointer.
+pub(crate) fn place_at(
     alloc: Global,
     index: &Index,
     sites: &[Site<'_>],

@@ -10,6 +10,7 @@ pub mod Among
 pub mod HowMany
 pub mod JudgedDocuments
 pub mod Largest
+pub mod EveryItem
 pub mod Paths
 pub mod ItemsLeft
 pub mod MembersLeft
