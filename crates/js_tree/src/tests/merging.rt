@@ -51,26 +51,3 @@ fn an_alike_sibling_goes_from_afar(rt: HostRuntime) -> Result<(), Fail> {
     );
     Ok(())
 }
-
-// A root over so many leaves with an error each, at so many places of the instance in turn.
-fn wide<'a>(alloc: Global, leaves: usize, places: usize) -> Result<Tree<'a>, Fail> {
-    let mut children = Vec::new(alloc);
-    for i in 0..leaves {
-        let place = i % places;
-        let mut leaf = node(alloc, "-x!", Vec::new(alloc))?;
-        leaf.unit.instance = Text::new(format!(in alloc; "/{place}")?);
-        children.push(leaf)?;
-    }
-    node(alloc, "-r", children)
-}
-
-#[test]
-fn a_node_with_100_000_children_merges(rt: HostRuntime) -> Result<(), Fail> {
-    let alloc = rt.alloc();
-    for places in [1, 50_000, 100_000] {
-        let left = merge_condense(wide(alloc, 100_000, places)?);
-        assert_eq!(rt; left.children.len(), places);
-        assert!(rt; is_merged(&left));
-    }
-    Ok(())
-}
