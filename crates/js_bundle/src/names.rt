@@ -11,7 +11,7 @@ ghost use Rattle.js_bundle.specs.Url as spec;
 
 use crate::index::{Index, name_key, place_key};
 use crate::keyword::text_argument;
-use crate::pointers::joined;
+use crate::pointers::extended;
 use crate::scan::Site;
 use crate::uri;
 use js_doc::{Memory, Pointer, PointerFault};
@@ -224,7 +224,7 @@ fn place_below(
 {
     match root {
         Some(root) => {
-            let whole = joined(alloc, &root.pointer, pointer)?;
+            let whole = extended(alloc, &root.pointer, pointer)?;
             place_at(alloc, index, sites, root.document, &whole)
         }
         None => Ok(None),
@@ -303,7 +303,7 @@ fn place_in(
 }
 
 /// The number of the place that a URI names, if it names one.
-pub(crate) fn place_named(
+pub(crate) fn number_named(
     alloc: Global,
     index: &Index,
     sites: &[Site<'_>],
