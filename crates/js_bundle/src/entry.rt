@@ -7,7 +7,7 @@ ghost use Rattle.js_bundle.specs.Scan.{site_of};
 ghost use Rattle.js_bundle.specs.Schemas.{entry, is_place, place_at, StandsFor, IsEntryFault, IsNameFault, IsReadEntry};
 ghost use Rattle.js_bundle.specs.Url.{fragment, longest_uri};
 
-use crate::names::{NameFault, place_named};
+use crate::names::{NameFault, number_named};
 use crate::place::Place;
 use crate::refusal::EntryFault;
 use crate::scan::Site;
@@ -47,7 +47,7 @@ impl Schemas {
         ensures err { IfErr result (IsNameFault self.now url) }
     {
         let sites = self.sites(alloc)?;
-        match place_named(alloc, &self.kept.index, sites.as_slice(), url) {
+        match number_named(alloc, &self.kept.index, sites.as_slice(), url) {
             Ok(Some(number)) => Ok(Place { number }),
             Ok(None) => Err(EntryFault::Unresolved),
             Err(NameFault::NotRead) => Err(EntryFault::BadUri),

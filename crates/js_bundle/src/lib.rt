@@ -25,6 +25,7 @@ mod place_keywords;
 mod pointers;
 mod reference;
 mod refusal;
+mod resource_table;
 mod resources;
 mod scan;
 mod schemas;

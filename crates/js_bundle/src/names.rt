@@ -11,7 +11,7 @@ ghost use Rattle.js_bundle.specs.Url as spec;
 
 use crate::index::{Index, name_key, place_key};
 use crate::keyword::text_argument;
-use crate::pointers::joined;
+use crate::pointers::extended;
 use crate::scan::Site;
 use crate::uri;
 use js_doc::{Memory, Pointer, PointerFault};
@@ -55,7 +55,8 @@ fn stands_at(site: &Site<'_>, document: usize, pointer: &Pointer) -> bool
     site.document == document && is_same(&site.pointer, pointer)
 }
 
-fn is_same(first: &Pointer, second: &Pointer) -> bool
+/// Whether two pointers are the same.
+pub(crate) fn is_same(first: &Pointer, second: &Pointer) -> bool
     ensures { result ≡ same_tokens first.now second.now }
 {
     *first == *second
@@ -103,8 +104,8 @@ fn numbered<'s, 'a>(sites: &'s [Site<'a>], number: usize) -> Option<&'s Site<'a>
     sites.get(number)
 }
 
-// The number of the place at a pointer.
-fn place_at(
+/// The number of the place at a pointer.
+pub(crate) fn place_at(
     alloc: Global,
     index: &Index,
     sites: &[Site<'_>],
@@ -223,7 +224,7 @@ fn place_below(
 {
     match root {
         Some(root) => {
-            let whole = joined(alloc, &root.pointer, pointer)?;
+            let whole = extended(alloc, &root.pointer, pointer)?;
             place_at(alloc, index, sites, root.document, &whole)
         }
         None => Ok(None),
@@ -302,7 +303,7 @@ fn place_in(
 }
 
 /// The number of the place that a URI names, if it names one.
-pub(crate) fn place_named(
+pub(crate) fn number_named(
     alloc: Global,
     index: &Index,
     sites: &[Site<'_>],

@@ -44,12 +44,12 @@ pub(crate) fn shared(alloc: Global, pointer: Pointer) -> Result<Rc<Pointer>, Mem
 }
 
 /// The pointer, gone on by another one.
-pub(crate) fn joined(alloc: Global, first: &Pointer, then: &Pointer) -> Result<Pointer, Memory>
+pub(crate) fn extended(alloc: Global, first: &Pointer, then: &Pointer) -> Result<Pointer, Memory>
     ensures { IfOk result (λ p. p ≡ first.now ++ then.now) }
 {
-    let mut joined = copy(alloc, first)?;
+    let mut extended = copy(alloc, first)?;
     for token in then.tokens() {
-        joined.push(token.as_str())?;
+        extended.push(token.as_str())?;
     }
-    Ok(joined)
+    Ok(extended)
 }

@@ -77,7 +77,10 @@ fn deepest(rt: HostRuntime) -> Result<(), Fail> {
     let schema = r##"{"items":{"allOf":[{"$ref":"#"}]}}"##;
     // (deeper arrays aren't read: 379 schemas on a way)
     let instance = nested(alloc, 127)?;
-    assert_eq!(rt; judged(alloc, schema, instance.as_str())?.as_str(), "valid, valid, valid, 758");
+    assert_eq!(rt;
+        judged(alloc, schema, instance.as_str())?.as_str(),
+        "valid, valid, valid, 758"
+    );
     Ok(())
 }
 

@@ -18,8 +18,8 @@ returns-in-Ok-None-clause-err c =
     let whole : listed ≡ sites c.args.self.now = ap (map site_of) c.as_slice.ensures.value ∙ c.in_ok-sites.ensures in
     (c.in-Ok-None.ensures.read, names_none c.args.self.now listed c.args.url whole (sym c.in-Ok-None.field-0-is ∙ c.in-Ok-None.ensures.ok))
 
-pub place_named-requires : goal.place_named-requires
-place_named-requires c =
+pub number_named-requires : goal.number_named-requires
+number_named-requires c =
     let docs = map document_of c.self.inside.documents.items in
     let whole : map site_of c.as_slice.result.now ≡ sites docs = ap (map site_of) c.as_slice.ensures.value ∙ c.in_ok-sites.ensures ∙ ap sites (sym c.self.view_is) in
     subst (IsIndex c.self.inside.kept.index) (sym whole) c.self.invariant.index
