@@ -93,7 +93,6 @@ def of_values():
     polygon = compact(json.loads(cases.POLYGON))
     for call in ("read", "from_value", "copy", "text"):
         yield Call([call], polygon)
-    yield Call(["put"], '{"a":null,"b":true}', '{"a":null}')
     yield Call(["push"], "/a~1b/c d", "/a~1b")
     yield Call(["parse"], "/a~1b/c d/~0/0")
     yield Call(["pointer"], "/a~1b/c d")
