@@ -4,7 +4,7 @@ use Rattle.std.specs.Prelude.{◌≡◌, ℕ, List, [], ◌∷◌, ◌++◌, Opt
 use Rattle.js_doc.specs.Compact.{compact}
 use Rattle.js_doc.specs.Value.{Value}
 use Rattle.js_doc.specs.declared.reading.ReadFault.{ReadFault}
-use Rattle.js_tree.specs.FlatState.{state_of, whole}
+use Rattle.js_tree.specs.FlatState.{flat_state, whole_tree}
 use Rattle.js_tree.specs.Form.{form}
 use Rattle.js_tree.specs.Result.{pruned, kept}
 use Rattle.js_tree.specs.declared.flat.Flat.{Flat}
@@ -151,7 +151,7 @@ trimmed Verbose t = t
 -- the rows are those of what the format shows of the result within the limits
 abbrev pub AreRows : bundle.Documents → Option Site → Value → Format → Flat → Type 0
 AreRows documents entry v format flat =
-    (t : ResultTree) × IsResultOf documents entry v t × IsWithinLimits t × (state_of flat ≡ whole (trimmed format t))
+    (t : ResultTree) × IsResultOf documents entry v t × IsWithinLimits t × (flat_state flat ≡ whole_tree (trimmed format t))
 
 -- why there is none: none stands within them, or want of memory
 abbrev pub IsWalkFault : bundle.Documents → Option Site → Value → Fault → Type 0

@@ -1,7 +1,7 @@
 //! The result of a judgement as rows, as far as a format shows them.
 ghost use Rattle.std.specs.Prelude.{◌≡◌, true, IfErr, IfOk};
 ghost use Rattle.js_doc.specs.Seen.{value_of};
-ghost use Rattle.js_tree.specs.FlatState.{IsWhole, state_of, whole};
+ghost use Rattle.js_tree.specs.FlatState.{IsWholeTree, flat_state, whole_tree};
 ghost use Rattle.js_tree.specs.Result.{ResultTree};
 ghost use Rattle.js_tree.specs.declared.forms.Format.TheVariants.{Verbose};
 ghost use Rattle.js_bundle.specs.Schemas.{is_place, place_at};
@@ -52,9 +52,9 @@ fn walked<'a>(alloc: Global, entry: &'a Entry, instance: &'a Doc) -> Result<Flat
 
 // Takes no memory.
 fn trimmed<'a>(flat: Flat<'a>, format: Format) -> Flat<'a>
-    requires { IsWhole (state_of flat) }
-    ensures { (t : ResultTree) → state_of flat.entry ≡ whole t
-        → state_of result ≡ whole (trimmed format t) }
+    requires { IsWholeTree (flat_state flat) }
+    ensures { (t : ResultTree) → flat_state flat.entry ≡ whole_tree t
+        → flat_state result ≡ whole_tree (trimmed format t) }
 {
     match format {
         Format::Flag => flat,
@@ -66,8 +66,8 @@ fn trimmed<'a>(flat: Flat<'a>, format: Format) -> Flat<'a>
 
 /// The verdict of the rows' tree.
 pub(crate) fn is_valid(flat: &Flat) -> bool
-    requires { IsWhole (state_of flat.now) }
-    ensures { (t : ResultTree) → state_of flat.now ≡ whole t → result ≡ t.root.valid }
+    requires { IsWholeTree (flat_state flat.now) }
+    ensures { (t : ResultTree) → flat_state flat.now ≡ whole_tree t → result ≡ t.root.valid }
 {
     let rows = flat.rows();
     let row = &rows[0];

@@ -2,7 +2,7 @@
 ghost use Rattle.std.specs.Prelude.{◌≡◌, ◌∷◌, ◌++◌, [], true};
 ghost use Rattle.js_doc.specs.BytesOut.{Puts};
 ghost use Rattle.js_doc.specs.Compact.{compact};
-ghost use Rattle.js_tree.specs.FlatState.{IsWhole, state_of, whole};
+ghost use Rattle.js_tree.specs.FlatState.{IsWholeTree, flat_state, whole_tree};
 ghost use Rattle.js_tree.specs.Form.{flag, shown};
 ghost use Rattle.js_tree.specs.Result.{ResultTree};
 ghost use Rattle.js_output.specs.Device.{SendsOrFails};
@@ -34,8 +34,8 @@ pub(crate) fn write_rows<W: Write>(
     format: Format,
     out: &mut Sink<W>,
 ) -> Result<(), Fault>
-    requires { IsWhole (state_of flat.now) }
-    ensures sent { (t : ResultTree) → state_of flat.now ≡ whole t
+    requires { IsWholeTree (flat_state flat.now) }
+    ensures sent { (t : ResultTree) → flat_state flat.now ≡ whole_tree t
         → SendsOrFails W.contents out.old out.new (compact (shown format t) ++ 10 ∷ []) result }
     ensures stays { out.old.failed ≡ true → out.new ≡ out.old }
 {
@@ -55,8 +55,8 @@ fn put_flag_line<O: Out>(valid: bool, out: &mut O) -> Result<(), Stopped>
 }
 
 fn put_rows_line<O: Out>(flat: &Flat, format: Format, out: &mut O) -> Result<(), Stopped>
-    requires { IsWhole (state_of flat.now) }
-    ensures { (t : ResultTree) → state_of flat.now ≡ whole t
+    requires { IsWholeTree (flat_state flat.now) }
+    ensures { (t : ResultTree) → flat_state flat.now ≡ whole_tree t
         → Puts (O.progress out.old) (O.progress out.new) (compact (shown format t) ++ 10 ∷ [])
         result }
 {

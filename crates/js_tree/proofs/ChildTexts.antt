@@ -6,28 +6,28 @@ use Rattle.js_doc.specs.Value.{items, list}
 use Rattle.js_tree.specs.Flat.{flat_of}
 use Rattle.js_tree.specs.FlatState.{row_of}
 use Rattle.js_tree.specs.Forest.{Forest, empty, tree, forest_of}
-use Rattle.js_tree.specs.Form.{array_of_some, nodes, verbose, when}
+use Rattle.js_tree.specs.Form.{array_of_some, node_values, verbose, value_if}
 use Rattle.js_tree.specs.NodeText.{given_text}
 use Rattle.js_tree.specs.OutputUnit.{OutputUnit}
 use Rattle.js_tree.specs.Result.{ResultTree}
 use Rattle.js_tree.specs.declared.flat.Row.{Row}
 use Rattle.js_tree.proofs.Marks.{take_all}
 
-pub children_text : (start : List ℕ) (here : Bool) (ts : List ResultTree) → here ≡ true → 0 < length ts → given_text start (when here (array_of_some (nodes (forest_of ts)))) ≡ start ++ compact (list (items (nodes (forest_of ts))))
+pub children_text : (start : List ℕ) (here : Bool) (ts : List ResultTree) → here ≡ true → 0 < length ts → given_text start (value_if here (array_of_some (node_values (forest_of ts)))) ≡ start ++ compact (list (items (node_values (forest_of ts))))
 children_text start here [] e h = absurd (omega (arith, h))
 children_text start here (t ∷ ts) e h = rw e refl
 
-pub tree_next : (ts : List ResultTree) (i : ℕ) (t : ResultTree) → i < length ts → t ≡ get_or ts i t → nodes (forest_of (drop i ts)) ≡ verbose t ∷ nodes (forest_of (drop (i + 1) ts))
-tree_next ts i t h e = ap (λ us. nodes (forest_of us)) (drop_more ts i t h ∙ ap (λ u. u ∷ drop (i + 1) ts) (sym e))
+pub tree_next : (ts : List ResultTree) (i : ℕ) (t : ResultTree) → i < length ts → t ≡ get_or ts i t → node_values (forest_of (drop i ts)) ≡ verbose t ∷ node_values (forest_of (drop (i + 1) ts))
+tree_next ts i t h e = ap (λ us. node_values (forest_of us)) (drop_more ts i t h ∙ ap (λ u. u ∷ drop (i + 1) ts) (sym e))
 
 -- ---- of rows
 
-pub row_children_text : (start : List ℕ) (here : Bool) (rows : List Row) (f : Forest OutputUnit) → here ≡ true → 0 < length rows → map row_of rows ≡ flat_of f → given_text start (when here (array_of_some (nodes f))) ≡ start ++ compact (list (items (nodes f)))
+pub row_children_text : (start : List ℕ) (here : Bool) (rows : List Row) (f : Forest OutputUnit) → here ≡ true → 0 < length rows → map row_of rows ≡ flat_of f → given_text start (value_if here (array_of_some (node_values f))) ≡ start ++ compact (list (items (node_values f)))
 row_children_text start here [] f e h g = absurd (omega (arith, h))
 row_children_text start here (r ∷ rows) empty e h g = absurd cc
 row_children_text start here (r ∷ rows) (tree u below after) e h g = rw e refl
 
-pub no_children_text : (start : List ℕ) (here : Bool) (rows : List Row) (f : Forest OutputUnit) → length rows ≡ 0 → map row_of rows ≡ flat_of f → given_text start (when here (array_of_some (nodes f))) ≡ []
+pub no_children_text : (start : List ℕ) (here : Bool) (rows : List Row) (f : Forest OutputUnit) → length rows ≡ 0 → map row_of rows ≡ flat_of f → given_text start (value_if here (array_of_some (node_values f))) ≡ []
 no_children_text start true [] empty h g = refl
 no_children_text start false [] empty h g = refl
 no_children_text start here [] (tree u below after) h g = absurd cc

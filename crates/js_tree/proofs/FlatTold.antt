@@ -4,7 +4,7 @@ use Rattle.std.proofs.Common.{arith, ap, sym, ◌∙◌, append-nil}
 use Rattle.std.proofs.lemmas.List.{append_assoc, length-append, length-map, map-append}
 use Rattle.js_tree.specs.Events.{closing, events, events_of, Passes, after_all}
 use Rattle.js_tree.specs.Flat.{flat, flat_of}
-use Rattle.js_tree.specs.FlatState.{FlatRow, State, start, opening_row, opened, closed_row, with_closed, closed, after, row_of, innermost_first, state_of}
+use Rattle.js_tree.specs.FlatState.{FlatRow, FlatState, flat_start, opening_row, flat_opened, closed_row, with_closed, flat_closed, flat_after, row_of, open_numbers, flat_state}
 use Rattle.js_tree.specs.Forest.{Forest, empty, tree, node_count}
 use Rattle.js_tree.specs.Note.{Note}
 use Rattle.js_tree.specs.OutputUnit.{OutputUnit}
@@ -15,10 +15,10 @@ use Rattle.js_tree.proofs.Telling.{passes-after_all, after_all-append}
 
 -- ---- the events of a tree
 
-abbrev at : List FlatRow → List ℕ → State
+abbrev at : List FlatRow → List ℕ → FlatState
 at rows numbers = record { rows = rows; numbers = numbers }
 
-opened_below : (rows : List FlatRow) (n : ℕ) (numbers : List ℕ) (row : FlatRow) → opened rows (n ∷ numbers) row ≡ at (rows ++ row ∷ []) (length rows ∷ n ∷ numbers)
+opened_below : (rows : List FlatRow) (n : ℕ) (numbers : List ℕ) (row : FlatRow) → flat_opened rows (n ∷ numbers) row ≡ at (rows ++ row ∷ []) (length rows ∷ n ∷ numbers)
 opened_below [] n numbers row = refl
 opened_below (r ∷ rows) n numbers row = refl
 
@@ -36,35 +36,35 @@ size_is rows row f = omega (arith, length-append (rows ++ row ∷ []) (flat_of f
 abbrev unknown : OutputUnit → FlatRow
 unknown u = opening_row u.keyword u.absolute u.instance
 
-closed_at : (rows : List FlatRow) (u : OutputUnit) (f : Forest OutputUnit) (numbers : List ℕ) → closed ((rows ++ unknown u ∷ []) ++ flat_of f) (length rows ∷ numbers) u.valid u.note ≡ at (rows ++ (u, suc (node_count f)) ∷ flat_of f) numbers
+closed_at : (rows : List FlatRow) (u : OutputUnit) (f : Forest OutputUnit) (numbers : List ℕ) → flat_closed ((rows ++ unknown u ∷ []) ++ flat_of f) (length rows ∷ numbers) u.valid u.note ≡ at (rows ++ (u, suc (node_count f)) ∷ flat_of f) numbers
 closed_at rows u f numbers =
     ap (λ size. at (with_closed (length rows) u.valid u.note size ((rows ++ unknown u ∷ []) ++ flat_of f)) numbers) (size_is rows (unknown u) f)
     ∙ ap (λ zs. at zs numbers) (with_closed-at rows (unknown u) (flat_of f) u.valid u.note (suc (node_count f)))
 
-told_below : (f : Forest OutputUnit) (rows : List FlatRow) (n : ℕ) (numbers : List ℕ) → after_all after (at rows (n ∷ numbers)) (events_of f) ≡ at (rows ++ flat_of f) (n ∷ numbers)
+told_below : (f : Forest OutputUnit) (rows : List FlatRow) (n : ℕ) (numbers : List ℕ) → after_all flat_after (at rows (n ∷ numbers)) (events_of f) ≡ at (rows ++ flat_of f) (n ∷ numbers)
 told_below empty rows n numbers = ap (λ zs. at zs (n ∷ numbers)) (sym (append-nil rows))
 told_below (tree u below rest) rows n numbers =
-    ap (λ s. after_all after s (events_of below ++ (closing u.valid u.note ∷ events_of rest))) (opened_below rows n numbers (unknown u))
-    ∙ (after_all-append after (at (rows ++ unknown u ∷ []) (length rows ∷ n ∷ numbers)) (events_of below) (closing u.valid u.note ∷ events_of rest)
-    ∙ (ap (λ s. after_all after s (closing u.valid u.note ∷ events_of rest)) (told_below below (rows ++ unknown u ∷ []) (length rows) (n ∷ numbers))
-    ∙ (ap (λ s. after_all after s (events_of rest)) (closed_at rows u below (n ∷ numbers))
+    ap (λ s. after_all flat_after s (events_of below ++ (closing u.valid u.note ∷ events_of rest))) (opened_below rows n numbers (unknown u))
+    ∙ (after_all-append flat_after (at (rows ++ unknown u ∷ []) (length rows ∷ n ∷ numbers)) (events_of below) (closing u.valid u.note ∷ events_of rest)
+    ∙ (ap (λ s. after_all flat_after s (closing u.valid u.note ∷ events_of rest)) (told_below below (rows ++ unknown u ∷ []) (length rows) (n ∷ numbers))
+    ∙ (ap (λ s. after_all flat_after s (events_of rest)) (closed_at rows u below (n ∷ numbers))
     ∙ (told_below rest (rows ++ (u, suc (node_count below)) ∷ flat_of below) n numbers
     ∙ ap (λ zs. at zs (n ∷ numbers)) (append_assoc rows ((u, suc (node_count below)) ∷ flat_of below) (flat_of rest))))))
 
-told : (t : ResultTree) → after_all after start (events t) ≡ at (flat t) []
+told : (t : ResultTree) → after_all flat_after flat_start (events t) ≡ at (flat t) []
 told t =
-    after_all-append after (at (unknown t.root ∷ []) (0 ∷ [])) (events_of t.below) (closing t.root.valid t.root.note ∷ [])
-    ∙ (ap (λ s. after s (closing t.root.valid t.root.note)) (told_below t.below (unknown t.root ∷ []) 0 [])
+    after_all-append flat_after (at (unknown t.root ∷ []) (0 ∷ [])) (events_of t.below) (closing t.root.valid t.root.note ∷ [])
+    ∙ (ap (λ s. flat_after s (closing t.root.valid t.root.note)) (told_below t.below (unknown t.root ∷ []) 0 [])
     ∙ closed_at [] t.root t.below [])
 
-pub flat_held : (t : ResultTree) (c d : Flat) → state_of c ≡ start → Passes (λ a e b. state_of b ≡ after (state_of a) e) (events t) c d → state_of d ≡ at (flat t) []
-flat_held t c d h p = passes-after_all state_of after (events t) c d p ∙ (ap (λ s. after_all after s (events t)) h ∙ told t)
+pub flat_held : (t : ResultTree) (c d : Flat) → flat_state c ≡ flat_start → Passes (λ a e b. flat_state b ≡ flat_after (flat_state a) e) (events t) c d → flat_state d ≡ at (flat t) []
+flat_held t c d h p = passes-after_all flat_state flat_after (events t) c d p ∙ (ap (λ s. after_all flat_after s (events t)) h ∙ told t)
 
 -- ---- the code's rows and numbers
 
-innermost_first-append : (ns : List ℕ) (n : ℕ) (ms : List ℕ) → innermost_first (ns ++ n ∷ []) ms ≡ n ∷ innermost_first ns ms
-innermost_first-append [] n ms = refl
-innermost_first-append (x ∷ ns) n ms = innermost_first-append ns n (x ∷ ms)
+open_numbers-append : (ns : List ℕ) (n : ℕ) (ms : List ℕ) → open_numbers (ns ++ n ∷ []) ms ≡ n ∷ open_numbers ns ms
+open_numbers-append [] n ms = refl
+open_numbers-append (x ∷ ns) n ms = open_numbers-append ns n (x ∷ ms)
 
 with_closed-beyond : (n : ℕ) (valid : Bool) (note : Note) (size : ℕ) (rows : List FlatRow) → length rows ≤ n → with_closed n valid note size rows ≡ rows
 with_closed-beyond n valid note size [] le = refl
@@ -77,40 +77,40 @@ row_closed [] n old new valid note size lt e f = absurd (omega (arith, lt))
 row_closed (y ∷ ys) zero old new valid note size lt e f = ap (λ z. z ∷ map row_of ys) (f ∙ ap (λ (z : Row). closed_row (row_of z) valid note size) e)
 row_closed (y ∷ ys) (suc n) old new valid note size lt e f = ap (λ zs. row_of y ∷ zs) (row_closed ys n old new valid note size (omega (arith, lt)) e f)
 
-popped : (rows : List FlatRow) (ns ms : List ℕ) (n : ℕ) (valid : Bool) (note : Note) (zs : List FlatRow) → ns ≡ ms ++ n ∷ [] → zs ≡ with_closed n valid note (length rows - n) rows → at zs (innermost_first ms []) ≡ closed rows (innermost_first ns []) valid note
+popped : (rows : List FlatRow) (ns ms : List ℕ) (n : ℕ) (valid : Bool) (note : Note) (zs : List FlatRow) → ns ≡ ms ++ n ∷ [] → zs ≡ with_closed n valid note (length rows - n) rows → at zs (open_numbers ms []) ≡ flat_closed rows (open_numbers ns []) valid note
 popped rows ns ms n valid note zs e f =
-    ap (λ qs. at qs (innermost_first ms [])) f ∙ ap (λ ks. closed rows ks valid note) (sym (ap (λ xs. innermost_first xs []) e ∙ innermost_first-append ms n []))
+    ap (λ qs. at qs (open_numbers ms [])) f ∙ ap (λ ks. flat_closed rows ks valid note) (sym (ap (λ xs. open_numbers xs []) e ∙ open_numbers-append ms n []))
 
 pub closes : (rows : List Row) (ns ms : List ℕ) (n : ℕ) (old new : Row) (valid : Bool) (note : Note) (size : ℕ) → ns ≡ ms ++ n ∷ [] → n < length rows → size ≡ length rows - n → old ≡ slice_index_or rows n old → row_of new ≡ closed_row (row_of old) valid note size
-    → at (map row_of (slice_set rows n new)) (innermost_first ms []) ≡ closed (map row_of rows) (innermost_first ns []) valid note
+    → at (map row_of (slice_set rows n new)) (open_numbers ms []) ≡ flat_closed (map row_of rows) (open_numbers ns []) valid note
 closes rows ns ms n old new valid note size e lt s i f =
     popped (map row_of rows) ns ms n valid note _ e
     (row_closed rows n old new valid note size lt i f ∙ ap (λ k. with_closed n valid note k (map row_of rows)) (let l = length-map rows row_of in omega (arith, s, l)))
 
-pub closes_beyond : (rows : List Row) (ns ms : List ℕ) (n : ℕ) (valid : Bool) (note : Note) → ns ≡ ms ++ n ∷ [] → length rows ≤ n → at (map row_of rows) (innermost_first ms []) ≡ closed (map row_of rows) (innermost_first ns []) valid note
+pub closes_beyond : (rows : List Row) (ns ms : List ℕ) (n : ℕ) (valid : Bool) (note : Note) → ns ≡ ms ++ n ∷ [] → length rows ≤ n → at (map row_of rows) (open_numbers ms []) ≡ flat_closed (map row_of rows) (open_numbers ns []) valid note
 closes_beyond rows ns ms n valid note e le =
     popped (map row_of rows) ns ms n valid note _ e (sym (with_closed-beyond n valid note _ (map row_of rows) (let l = length-map rows row_of in omega (arith, le, l))))
 
 -- a list that is turned onto another isn't empty
-innermost_first-there : (ns : List ℕ) (m : ℕ) (ms : List ℕ) → (y : ℕ) × (ys : List ℕ) × innermost_first ns (m ∷ ms) ≡ y ∷ ys
-innermost_first-there [] m ms = (m, ms, refl)
-innermost_first-there (n ∷ ns) m ms = innermost_first-there ns n (m ∷ ms)
+open_numbers-there : (ns : List ℕ) (m : ℕ) (ms : List ℕ) → (y : ℕ) × (ys : List ℕ) × open_numbers ns (m ∷ ms) ≡ y ∷ ys
+open_numbers-there [] m ms = (m, ms, refl)
+open_numbers-there (n ∷ ns) m ms = open_numbers-there ns n (m ∷ ms)
 
-opened_there : (rows : List FlatRow) (ks : List ℕ) (row : FlatRow) (y : ℕ) (ys : List ℕ) → ks ≡ y ∷ ys → opened rows ks row ≡ at (rows ++ row ∷ []) (length rows ∷ ks)
-opened_there rows ks row y ys e = ap (λ qs. opened rows qs row) e ∙ (opened_below rows y ys row ∙ ap (λ qs. at (rows ++ row ∷ []) (length rows ∷ qs)) (sym e))
+opened_there : (rows : List FlatRow) (ks : List ℕ) (row : FlatRow) (y : ℕ) (ys : List ℕ) → ks ≡ y ∷ ys → flat_opened rows ks row ≡ at (rows ++ row ∷ []) (length rows ∷ ks)
+opened_there rows ks row y ys e = ap (λ qs. flat_opened rows qs row) e ∙ (opened_below rows y ys row ∙ ap (λ qs. at (rows ++ row ∷ []) (length rows ∷ qs)) (sym e))
 
 pub opens : (rows new : List Row) (ns ms : List ℕ) (r : Row) (row : FlatRow) (n : ℕ) → (length ns ≡ 0 → length rows ≡ 0) → row_of r ≡ row → new ≡ rows ++ r ∷ [] → ms ≡ ns ++ n ∷ [] → n ≡ length rows
-    → at (map row_of new) (innermost_first ms []) ≡ opened (map row_of rows) (innermost_first ns []) row
-opens [] new [] ms r row n h f e d l = ap (λ qs. at (map row_of qs) (innermost_first ms [])) e ∙ (ap (λ qs. at (row_of r ∷ []) (innermost_first qs [])) d ∙ (ap (λ q. at (q ∷ []) (n ∷ [])) f ∙ ap (λ q. at (row ∷ []) (q ∷ [])) l))
+    → at (map row_of new) (open_numbers ms []) ≡ flat_opened (map row_of rows) (open_numbers ns []) row
+opens [] new [] ms r row n h f e d l = ap (λ qs. at (map row_of qs) (open_numbers ms [])) e ∙ (ap (λ qs. at (row_of r ∷ []) (open_numbers qs [])) d ∙ (ap (λ q. at (q ∷ []) (n ∷ [])) f ∙ ap (λ q. at (row ∷ []) (q ∷ [])) l))
 opens (y ∷ ys) new [] ms r row n h f e d l = let a : suc (length ys) ≡ 0 = h refl in absurd (omega (arith, a))
 opens rows new (x ∷ xs) ms r row n h f e d l =
-    let w = innermost_first-there xs x [] in
+    let w = open_numbers-there xs x [] in
     let a : map row_of new ≡ map row_of rows ++ row ∷ [] = ap (map row_of) e ∙ (map-append row_of rows (r ∷ []) ∙ ap (λ q. map row_of rows ++ q ∷ []) f) in
-    let b : innermost_first ms [] ≡ n ∷ innermost_first (x ∷ xs) [] = ap (λ qs. innermost_first qs []) d ∙ innermost_first-append (x ∷ xs) n [] in
+    let b : open_numbers ms [] ≡ n ∷ open_numbers (x ∷ xs) [] = ap (λ qs. open_numbers qs []) d ∙ open_numbers-append (x ∷ xs) n [] in
     let k : n ≡ length (map row_of rows) = l ∙ sym (length-map rows row_of) in
-    ap (λ qs. at qs (innermost_first ms [])) a ∙ (ap (λ qs. at (map row_of rows ++ row ∷ []) qs) (b ∙ ap (λ q. q ∷ innermost_first (x ∷ xs) []) k) ∙ sym (opened_there (map row_of rows) (innermost_first (x ∷ xs) []) row w.0 w.1 w.2))
+    ap (λ qs. at qs (open_numbers ms [])) a ∙ (ap (λ qs. at (map row_of rows ++ row ∷ []) qs) (b ∙ ap (λ q. q ∷ open_numbers (x ∷ xs) []) k) ∙ sym (opened_there (map row_of rows) (open_numbers (x ∷ xs) []) row w.0 w.1 w.2))
 
 -- no node is open
-pub none_open : (ns : List ℕ) → innermost_first ns [] ≡ [] → ns ≡ []
+pub none_open : (ns : List ℕ) → open_numbers ns [] ≡ [] → ns ≡ []
 none_open [] e = refl
-none_open (n ∷ ns) e = let w = innermost_first-there ns n [] in let k = w.2 in absurd cc
+none_open (n ∷ ns) e = let w = open_numbers-there ns n [] in let k = w.2 in absurd cc

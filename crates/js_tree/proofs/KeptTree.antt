@@ -1,9 +1,9 @@
 -- The kept tree: a step leaves it as it was, a normal tree is its own, each tree is led to it, and it has the same units.
 use Rattle.std.proofs.Common.{◌≡◌, ℕ, zero, suc, ◌+◌, Bool, true, false, ◌||◌, if◌then◌else◌, ◌∷◌, ◌++◌, refl, ap, sym, ◌∙◌, arith, append_assoc}
 use Rattle.js_tree.specs.Forest.{Forest, empty, tree, Rose, ◌⊹◌, tree_count}
-use Rattle.js_tree.specs.Step.{at_least_one, at_least_two, Step, dropped, lifted, inside, beside, Run, done, next, Normal, StepBelow, RunBelow, stands, all_stand}
-use Rattle.js_tree.specs.Kept.{noted_trees, is_kept, kept_below, kept}
-use Rattle.js_tree.specs.Units.{units_below, units}
+use Rattle.js_tree.specs.Step.{at_least_one, at_least_two, ForestStep, dropped, lifted, inside, beside, ForestRun, done, next, NormalForest, StepBelow, RunBelow, stands, all_stand}
+use Rattle.js_tree.specs.Kept.{noted_trees, is_kept, kept_below, kept_by}
+use Rattle.js_tree.specs.Units.{units_below, units_by}
 use Rattle.js_tree.proofs.Forests.{append-empty, tree_count-append, same_tree}
 use Rattle.js_tree.proofs.Steps.{and_left, and_right, or_left, or_right, normal-all_stand, all_stand-normal, run_append, run_inside, run_beside}
 
@@ -31,7 +31,7 @@ at_most_one true m n e = cc
 module _ {A : Type 0} (noted : A → Bool) where
   -- ---- a step leaves the kept tree as it was
 
-  step-noted_trees : {f g : Forest A} → Step noted f g → noted_trees noted f ≡ noted_trees noted g
+  step-noted_trees : {f g : Forest A} → ForestStep noted f g → noted_trees noted f ≡ noted_trees noted g
   step-noted_trees (dropped n) = rw n refl
   step-noted_trees (lifted {b = b} {below = below} {after = after} n) =
       rw n (one_is_one (noted b || at_least_one (noted_trees noted below)) (noted_trees noted after))
@@ -43,7 +43,7 @@ module _ {A : Type 0} (noted : A → Bool) where
   kept_alone true b f g = refl
   kept_alone false b f g = ap (λ x. x ⊹ g) (append-empty f)
 
-  pub step-kept_below : {f g : Forest A} → Step noted f g → kept_below noted f ≡ kept_below noted g
+  pub step-kept_below : {f g : Forest A} → ForestStep noted f g → kept_below noted f ≡ kept_below noted g
   step-kept_below (dropped n) = rw n refl
   step-kept_below (lifted {b = b} {below = below} {after = after} n) =
       rw (n, one_not_two (noted b || at_least_one (noted_trees noted below)))
@@ -51,7 +51,7 @@ module _ {A : Type 0} (noted : A → Bool) where
   step-kept_below (inside s) = rw (step-noted_trees s, step-kept_below s) refl
   step-kept_below (beside s) = rw (step-kept_below s) refl
 
-  pub run-kept_below : {f g : Forest A} → Run noted f g → kept_below noted f ≡ kept_below noted g
+  pub run-kept_below : {f g : Forest A} → ForestRun noted f g → kept_below noted f ≡ kept_below noted g
   run-kept_below done = refl
   run-kept_below (next s r) = step-kept_below s ∙ run-kept_below r
 
@@ -72,7 +72,7 @@ module _ {A : Type 0} (noted : A → Bool) where
       let under = and_left (all_stand noted below) _ rest in
       rw (normal-noted_trees below under, here, all_stand-kept_below below under, all_stand-kept_below after (and_right (all_stand noted below) _ rest)) refl
 
-  pub normal-kept_below : (f : Forest A) → Normal noted f → kept_below noted f ≡ f
+  pub normal-kept_below : (f : Forest A) → NormalForest noted f → kept_below noted f ≡ f
   normal-kept_below f n = all_stand-kept_below f (normal-all_stand noted f n)
 
   -- ---- the kept tree is normal
@@ -106,24 +106,24 @@ module _ {A : Type 0} (noted : A → Bool) where
   kept_stands empty = refl
   kept_stands (tree a below after) = kept_stands_at (is_kept noted a below) a below after refl (kept_stands below) (kept_stands after)
 
-  pub kept_is_normal : (f : Forest A) → Normal noted (kept_below noted f)
+  pub kept_is_normal : (f : Forest A) → NormalForest noted (kept_below noted f)
   kept_is_normal f = all_stand-normal noted (kept_below noted f) (kept_stands f)
 
   -- ---- a run leads to the kept tree
 
-  goes : (a : A) (below after : Forest A) → noted a ≡ false → at_least_two (tree_count below) ≡ false → Run noted (tree a below after) (below ⊹ after)
+  goes : (a : A) (below after : Forest A) → noted a ≡ false → at_least_two (tree_count below) ≡ false → ForestRun noted (tree a below after) (below ⊹ after)
   goes a empty after e t = next (dropped e) done
   goes a (tree b below empty) after e t = next (lifted e) done
   goes a (tree b below (tree c under others)) after e t = cc
 
-  reached_at : (v : Bool) (a : A) (below after : Forest A) → is_kept noted a below ≡ v → Run noted below (kept_below noted below) → Run noted after (kept_below noted after)
-      → Run noted (tree a below after) (if v then tree a (kept_below noted below) (kept_below noted after) else (kept_below noted below ⊹ kept_below noted after))
+  reached_at : (v : Bool) (a : A) (below after : Forest A) → is_kept noted a below ≡ v → ForestRun noted below (kept_below noted below) → ForestRun noted after (kept_below noted after)
+      → ForestRun noted (tree a below after) (if v then tree a (kept_below noted below) (kept_below noted after) else (kept_below noted below ⊹ kept_below noted after))
   reached_at true a below after e p q = run_append noted (run_inside noted p) (run_beside noted q)
   reached_at false a below after e p q =
       run_append noted (run_append noted (run_inside noted p) (run_beside noted q))
       (goes a (kept_below noted below) (kept_below noted after) (or_left (noted a) (at_least_two (noted_trees noted below)) e) (rw (tree_count-kept_below below) (or_right (noted a) (at_least_two (noted_trees noted below)) e)))
 
-  pub kept_is_reached : (f : Forest A) → Run noted f (kept_below noted f)
+  pub kept_is_reached : (f : Forest A) → ForestRun noted f (kept_below noted f)
   kept_is_reached empty = done
   kept_is_reached (tree a below after) = reached_at (is_kept noted a below) a below after refl (kept_is_reached below) (kept_is_reached after)
 
@@ -147,17 +147,17 @@ module _ {A : Type 0} (noted : A → Bool) where
 
   -- ---- the same of trees
 
-  pub step-kept : (t u : Rose A) → StepBelow noted t u → kept noted u ≡ kept noted t
-  step-kept t u s = same_tree (kept noted t) (kept noted u) s.0 (sym (step-kept_below s.1))
+  pub step-kept : (t u : Rose A) → StepBelow noted t u → kept_by noted u ≡ kept_by noted t
+  step-kept t u s = same_tree (kept_by noted t) (kept_by noted u) s.0 (sym (step-kept_below s.1))
 
-  pub normal-kept : (t : Rose A) → Normal noted t.below → kept noted t ≡ t
+  pub normal-kept : (t : Rose A) → NormalForest noted t.below → kept_by noted t ≡ t
   normal-kept t n = ap (λ f. record { root = t.root; below = f }) (normal-kept_below t.below n)
 
-  pub run-normal : (t u : Rose A) → RunBelow noted t u → Normal noted u.below → u ≡ kept noted t
-  run-normal t u r n = same_tree (kept noted t) u r.0 (sym (run-kept_below r.1 ∙ normal-kept_below u.below n))
+  pub run-normal : (t u : Rose A) → RunBelow noted t u → NormalForest noted u.below → u ≡ kept_by noted t
+  run-normal t u r n = same_tree (kept_by noted t) u r.0 (sym (run-kept_below r.1 ∙ normal-kept_below u.below n))
 
-  pub kept-kept : (t : Rose A) → kept noted (kept noted t) ≡ kept noted t
-  kept-kept t = normal-kept (kept noted t) (kept_is_normal t.below)
+  pub kept-kept : (t : Rose A) → kept_by noted (kept_by noted t) ≡ kept_by noted t
+  kept-kept t = normal-kept (kept_by noted t) (kept_is_normal t.below)
 
-  pub units-kept : (t : Rose A) → units noted (kept noted t) ≡ units noted t
+  pub units-kept : (t : Rose A) → units_by noted (kept_by noted t) ≡ units_by noted t
   units-kept t = rw (units_below-kept_below t.below) refl

@@ -1,9 +1,12 @@
+pub mod AlikeTrees
+pub mod AlikeUnits
 pub mod BoxedTold
 pub mod ChildTexts
 pub mod Compaction
 pub mod FlagText
 pub mod FlatRows
 pub mod FlatTold
+pub mod Giving
 pub mod Marks
 pub mod Forests
 pub mod KeptTree

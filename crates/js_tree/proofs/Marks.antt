@@ -3,13 +3,14 @@ use Rattle.std.proofs.Common.{◌≡◌, ℕ, zero, suc, ◌+◌, ◌-◌, ◌�
 use Rattle.std.proofs.lemmas.List.{append_assoc, append-nil, length-append, length-map, map-append, map-set, set-get_or, drop_all, drop_more, drop-set, take-set-le, drop-set-lt, length-set, get_or-set_same}
 use Rattle.std.proofs.Math.Seq.{drop-length}
 use Rattle.std.specs.List.{swap}
-use Rattle.js_tree.specs.Compacting.{left, left_of, left_trees, stays, room, marked, others, gathered, Tallied, AreMarked}
+use Rattle.js_tree.specs.Compacting.{left, left_of, left_trees, stays, room, marked, gone_with, gathered, IsRemaining, AreMarkedTrees}
 use Rattle.js_tree.specs.Flat.{flat, flat_of}
 use Rattle.js_tree.specs.FlatState.{FlatRow, row_of}
 use Rattle.js_tree.specs.Forest.{Forest, empty, tree, ◌⊹◌, node_count, tree_count}
-use Rattle.js_tree.specs.Kept as keep
+use Rattle.js_tree.specs.Kept.{is_kept, kept_below, noted_trees}
 use Rattle.js_tree.specs.OutputUnit.{OutputUnit, noted}
-use Rattle.js_tree.specs.Result.{ResultTree, has_verdict, kept_below, pruned_below}
+use Rattle.js_tree.specs.Pruned.{pruned_below}
+use Rattle.js_tree.specs.Result.{ResultTree, has_verdict}
 use Rattle.js_tree.specs.Step.{at_least_one, at_least_two}
 use Rattle.js_tree.specs.declared.compacting.Keep.{Keep}
 use Rattle.js_tree.specs.declared.compacting.Keep.TheVariants.{Verdict, Noted}
@@ -59,19 +60,19 @@ one_if : (v : Bool) → at_least_one (if v then 1 else 0) ≡ v
 one_if true = refl
 one_if false = refl
 
-kept_some : (u : OutputUnit) (below : Forest OutputUnit) → at_least_one (node_count (kept_below (tree u below empty))) ≡ (noted u || at_least_one (keep.noted_trees noted below))
+kept_some : (u : OutputUnit) (below : Forest OutputUnit) → at_least_one (node_count (kept_below noted (tree u below empty))) ≡ (noted u || at_least_one (noted_trees noted below))
 kept_some u below =
-    some_node (kept_below (tree u below empty)) ∙ (ap at_least_one (tree_count-kept_below noted (tree u below empty)) ∙ one_if (noted u || at_least_one (keep.noted_trees noted below)))
+    some_node (kept_below noted (tree u below empty)) ∙ (ap at_least_one (tree_count-kept_below noted (tree u below empty)) ∙ one_if (noted u || at_least_one (noted_trees noted below)))
 
-left_trees-noted : (f : Forest OutputUnit) → left_trees Noted f ≡ keep.noted_trees noted f
+left_trees-noted : (f : Forest OutputUnit) → left_trees Noted f ≡ noted_trees noted f
 left_trees-noted empty = refl
 left_trees-noted (tree u below after) = rw (kept_some u below, left_trees-noted after) refl
 
 pub room_is : (k : Keep) (u : OutputUnit) (below : Forest OutputUnit) → room k (stays k u (left_trees k below)) (node_count (left k below)) ≡ node_count (left k (tree u below empty))
-room_is (Verdict v) u below = sym (pruned_room (has_verdict v u) u (pruned_below v below))
+room_is (Verdict v) u below = sym (pruned_room (has_verdict v u) u (pruned_below (has_verdict v) below))
 room_is Noted u below =
-    ap (λ n. room Noted (stays Noted u n) (node_count (kept_below below))) (left_trees-noted below)
-    ∙ sym (kept_room (noted u || at_least_two (keep.noted_trees noted below)) u (kept_below below))
+    ap (λ n. room Noted (stays Noted u n) (node_count (kept_below noted below))) (left_trees-noted below)
+    ∙ sym (kept_room (noted u || at_least_two (noted_trees noted below)) u (kept_below noted below))
 
 -- ---- no more is left than there was
 
@@ -266,9 +267,9 @@ trees_at : (k : Keep) (g after below : Forest OutputUnit) (u : OutputUnit) (tree
 trees_at k g after below u trees trees' all room (inl p) s r e = let o = one_tree k u below after (omega (arith, p.0, r)) in omega (arith, p.1, o, s, e)
 trees_at k g after below u trees trees' all room (inr p) s r e = let o = no_tree k u below after (omega (arith, p.0, r)) in omega (arith, p.1, o, s, e)
 
-pub tallied_more : (rows : List Row) (first end n trees nodes trees' : ℕ) (x : Row) → Tallied rows first end n trees nodes → n < end → end ≤ length rows → x ≡ get_or rows n x
-    → ((0 < x.room) × (trees' ≡ trees + 1)) ⊎ ((x.room ≡ 0) × (trees' ≡ trees)) → Tallied rows first end (n + x.size) trees' (nodes + x.room)
-tallied_more rows first end n trees nodes trees' x i h b e w k f rest d c =
+pub remaining_more : (rows : List Row) (first end n trees nodes trees' : ℕ) (x : Row) → IsRemaining rows first end n trees nodes → n < end → end ≤ length rows → x ≡ get_or rows n x
+    → ((0 < x.room) × (trees' ≡ trees + 1)) ⊎ ((x.room ≡ 0) × (trees' ≡ trees)) → IsRemaining rows first end (n + x.size) trees' (nodes + x.room)
+remaining_more rows first end n trees nodes trees' x i h b e w k f rest d c =
     let t = i k f rest d c in
     let q = next_tree k rows rest t.0 n end x t.1 t.2 h b e in
     let m : node_count t.0 ≡ suc (node_count q.below + node_count q.after) = ap node_count q.is in
@@ -287,9 +288,9 @@ no_node : (f : Forest OutputUnit) → node_count f ≡ 0 → f ≡ empty
 no_node empty e = refl
 no_node (tree u below after) e = absurd (omega (arith, e))
 
-pub tallied_all : (rows : List Row) (first end n trees nodes : ℕ) → Tallied rows first end n trees nodes → end ≤ n → (k : Keep) (f : Forest OutputUnit) (rest : List Row) → drop first rows ≡ marked k f ++ rest → first + node_count f ≡ end
+pub remaining_all : (rows : List Row) (first end n trees nodes : ℕ) → IsRemaining rows first end n trees nodes → end ≤ n → (k : Keep) (f : Forest OutputUnit) (rest : List Row) → drop first rows ≡ marked k f ++ rest → first + node_count f ≡ end
     → (trees ≡ left_trees k f) × (nodes ≡ node_count (left k f))
-tallied_all rows first end n trees nodes i h k f rest d c =
+remaining_all rows first end n trees nodes i h k f rest d c =
     let t = i k f rest d c in
     let z : t.0 ≡ empty = no_node t.0 (let p = t.2 in omega (arith, p, h)) in
     let a : left_trees k t.0 ≡ 0 = ap (left_trees k) z in
@@ -298,13 +299,13 @@ tallied_all rows first end n trees nodes i h k f rest d c =
     let q = t.4 in
     (omega (arith, p, a), omega (arith, q, b))
 
-pub tally_start : (rows : List Row) (first end : ℕ) → Tallied rows first end first 0 0
-tally_start rows first end k f rest d c = (f, d, c, omega arith, omega arith)
+pub remaining_start : (rows : List Row) (first end : ℕ) → IsRemaining rows first end first 0 0
+remaining_start rows first end k f rest d c = (f, d, c, omega arith, omega arith)
 
 -- what is counted stays within the rows
-pub tally_fits : (rows : List Row) (first end n trees nodes : ℕ) (x : Row) → AreMarked rows first end → Tallied rows first end n trees nodes → n < end → end ≤ length rows → x ≡ get_or rows n x
+pub remaining_fits : (rows : List Row) (first end n trees nodes : ℕ) (x : Row) → AreMarkedTrees rows first end → IsRemaining rows first end n trees nodes → n < end → end ≤ length rows → x ≡ get_or rows n x
     → (n + x.size ≤ end) × (n < n + x.size) × (nodes + x.room ≤ end) × (0 < x.room → trees + 1 ≤ end)
-tally_fits rows first end n trees nodes x m i h b e =
+remaining_fits rows first end n trees nodes x m i h b e =
     let t = i m.0 m.1 m.2 m.3 m.4 in
     let q = next_tree m.0 rows m.2 t.0 n end x t.1 t.2 h b e in
     let c : node_count t.0 ≡ suc (node_count q.below + node_count q.after) = ap node_count q.is in
@@ -323,9 +324,9 @@ tally_fits rows first end n trees nodes x m i h b e =
 
 -- ---- what marked rows leave
 
-gathered-others : (k : Keep) (xs ys : List Row) → gathered k (length xs) (xs ++ ys) ≡ gathered k 0 ys
-gathered-others k [] ys = refl
-gathered-others k (x ∷ xs) ys = gathered-others k xs ys
+gathered-gone : (k : Keep) (xs ys : List Row) → gathered k (length xs) (xs ++ ys) ≡ gathered k 0 ys
+gathered-gone k [] ys = refl
+gathered-gone k (x ∷ xs) ys = gathered-gone k xs ys
 
 -- of some rows and of those after them
 both : (k : Keep) (xs ys rest : List Row) (fs gs : List FlatRow) → ((zs : List Row) → gathered k 0 (xs ++ zs) ≡ fs ++ gathered k 0 zs) → gathered k 0 (ys ++ rest) ≡ gs ++ gathered k 0 rest
@@ -337,39 +338,39 @@ plus_none : (n : ℕ) → n + 0 ≡ n
 plus_none n = omega arith
 
 pruned_at : (b v : Bool) (u : OutputUnit) (below after : Forest OutputUnit) (rest : List Row) → has_verdict v u ≡ b
-    → ((zs : List Row) → gathered (Verdict v) 0 (marked (Verdict v) below ++ zs) ≡ flat_of (pruned_below v below) ++ gathered (Verdict v) 0 zs)
-    → gathered (Verdict v) 0 (marked (Verdict v) after ++ rest) ≡ flat_of (pruned_below v after) ++ gathered (Verdict v) 0 rest
-    → gathered (Verdict v) 0 (marked (Verdict v) (tree u below after) ++ rest) ≡ flat_of (pruned_below v (tree u below after)) ++ gathered (Verdict v) 0 rest
+    → ((zs : List Row) → gathered (Verdict v) 0 (marked (Verdict v) below ++ zs) ≡ flat_of (pruned_below (has_verdict v) below) ++ gathered (Verdict v) 0 zs)
+    → gathered (Verdict v) 0 (marked (Verdict v) after ++ rest) ≡ flat_of (pruned_below (has_verdict v) after) ++ gathered (Verdict v) 0 rest
+    → gathered (Verdict v) 0 (marked (Verdict v) (tree u below after) ++ rest) ≡ flat_of (pruned_below (has_verdict v) (tree u below after)) ++ gathered (Verdict v) 0 rest
 pruned_at true v u below after rest e i j =
     rw e
-    (ap (λ n. (u, suc n) ∷ gathered (Verdict v) 0 ((marked (Verdict v) below ++ marked (Verdict v) after) ++ rest)) (plus_none (node_count (pruned_below v below)))
-    ∙ ap (λ xs. (u, suc (node_count (pruned_below v below))) ∷ xs) (both (Verdict v) (marked (Verdict v) below) (marked (Verdict v) after) rest (flat_of (pruned_below v below)) (flat_of (pruned_below v after)) i j))
+    (ap (λ n. (u, suc n) ∷ gathered (Verdict v) 0 ((marked (Verdict v) below ++ marked (Verdict v) after) ++ rest)) (plus_none (node_count (pruned_below (has_verdict v) below)))
+    ∙ ap (λ xs. (u, suc (node_count (pruned_below (has_verdict v) below))) ∷ xs) (both (Verdict v) (marked (Verdict v) below) (marked (Verdict v) after) rest (flat_of (pruned_below (has_verdict v) below)) (flat_of (pruned_below (has_verdict v) after)) i j))
 pruned_at false v u below after rest e i j =
     let z : suc (node_count below) - 1 ≡ length (marked (Verdict v) below) = omega (arith, length-marked (Verdict v) below) in
     rw e
     (ap (λ n. gathered (Verdict v) n ((marked (Verdict v) below ++ marked (Verdict v) after) ++ rest)) z
     ∙ (ap (gathered (Verdict v) (length (marked (Verdict v) below))) (append_assoc (marked (Verdict v) below) (marked (Verdict v) after) rest)
-    ∙ (gathered-others (Verdict v) (marked (Verdict v) below) (marked (Verdict v) after ++ rest) ∙ j)))
+    ∙ (gathered-gone (Verdict v) (marked (Verdict v) below) (marked (Verdict v) after ++ rest) ∙ j)))
 
-kept_at : (b : Bool) (u : OutputUnit) (below after : Forest OutputUnit) (rest : List Row) → (noted u || at_least_two (left_trees Noted below)) ≡ b → keep.is_kept noted u below ≡ b
-    → ((zs : List Row) → gathered Noted 0 (marked Noted below ++ zs) ≡ flat_of (kept_below below) ++ gathered Noted 0 zs)
-    → gathered Noted 0 (marked Noted after ++ rest) ≡ flat_of (kept_below after) ++ gathered Noted 0 rest
-    → gathered Noted 0 (marked Noted (tree u below after) ++ rest) ≡ flat_of (kept_below (tree u below after)) ++ gathered Noted 0 rest
+kept_at : (b : Bool) (u : OutputUnit) (below after : Forest OutputUnit) (rest : List Row) → (noted u || at_least_two (left_trees Noted below)) ≡ b → is_kept noted u below ≡ b
+    → ((zs : List Row) → gathered Noted 0 (marked Noted below ++ zs) ≡ flat_of (kept_below noted below) ++ gathered Noted 0 zs)
+    → gathered Noted 0 (marked Noted after ++ rest) ≡ flat_of (kept_below noted after) ++ gathered Noted 0 rest
+    → gathered Noted 0 (marked Noted (tree u below after) ++ rest) ≡ flat_of (kept_below noted (tree u below after)) ++ gathered Noted 0 rest
 kept_at true u below after rest e f i j =
     rw (e, f)
-    (ap (λ n. (u, suc n) ∷ gathered Noted 0 ((marked Noted below ++ marked Noted after) ++ rest)) (plus_none (node_count (kept_below below)))
-    ∙ ap (λ xs. (u, suc (node_count (kept_below below))) ∷ xs) (both Noted (marked Noted below) (marked Noted after) rest (flat_of (kept_below below)) (flat_of (kept_below after)) i j))
+    (ap (λ n. (u, suc n) ∷ gathered Noted 0 ((marked Noted below ++ marked Noted after) ++ rest)) (plus_none (node_count (kept_below noted below)))
+    ∙ ap (λ xs. (u, suc (node_count (kept_below noted below))) ∷ xs) (both Noted (marked Noted below) (marked Noted after) rest (flat_of (kept_below noted below)) (flat_of (kept_below noted after)) i j))
 kept_at false u below after rest e f i j =
     rw (e, f)
-    (both Noted (marked Noted below) (marked Noted after) rest (flat_of (kept_below below)) (flat_of (kept_below after)) i j
-    ∙ ap (λ xs. xs ++ gathered Noted 0 rest) (sym (flat_of-append (kept_below below) (kept_below after))))
+    (both Noted (marked Noted below) (marked Noted after) rest (flat_of (kept_below noted below)) (flat_of (kept_below noted after)) i j
+    ∙ ap (λ xs. xs ++ gathered Noted 0 rest) (sym (flat_of-append (kept_below noted below) (kept_below noted after))))
 
 pub gathered-marked : (k : Keep) (f : Forest OutputUnit) (rest : List Row) → gathered k 0 (marked k f ++ rest) ≡ flat_of (left k f) ++ gathered k 0 rest
 gathered-marked (Verdict v) empty rest = refl
 gathered-marked Noted empty rest = refl
 gathered-marked (Verdict v) (tree u below after) rest = pruned_at (has_verdict v u) v u below after rest refl (λ zs. gathered-marked (Verdict v) below zs) (gathered-marked (Verdict v) after rest)
 gathered-marked Noted (tree u below after) rest =
-    kept_at (keep.is_kept noted u below) u below after rest (ap (λ n. noted u || at_least_two n) (left_trees-noted below)) refl (λ zs. gathered-marked Noted below zs) (gathered-marked Noted after rest)
+    kept_at (is_kept noted u below) u below after rest (ap (λ n. noted u || at_least_two n) (left_trees-noted below)) refl (λ zs. gathered-marked Noted below zs) (gathered-marked Noted after rest)
 
 -- ---- one row more is gone past
 
@@ -384,10 +385,10 @@ goes_with k rows i (suc n) d h l =
     let z : suc n - 1 ≡ n = omega arith in
     ap (λ m. gathered k m (drop (i + 1) rows)) z ∙ ap (gathered k (suc n)) (sym (drop_more rows i d l))
 
-gathered_at : (k : Keep) (r : Row) (rows : List Row) (b : Bool) → r.stays ≡ b → gathered k 0 (r ∷ rows) ≡ (if b then (r.unit, r.room) ∷ gathered k 0 rows else gathered k (others k r.size) rows)
+gathered_at : (k : Keep) (r : Row) (rows : List Row) (b : Bool) → r.stays ≡ b → gathered k 0 (r ∷ rows) ≡ (if b then (r.unit, r.room) ∷ gathered k 0 rows else gathered k (gone_with k r.size) rows)
 gathered_at k r rows b e = rw e refl
 
-pub goes : (k : Keep) (rows : List Row) (i m : ℕ) (d : Row) → i < length rows → (get_or rows i d).stays ≡ false → m ≡ others k (get_or rows i d).size → gathered k m (drop (i + 1) rows) ≡ gathered k 0 (drop i rows)
+pub goes : (k : Keep) (rows : List Row) (i m : ℕ) (d : Row) → i < length rows → (get_or rows i d).stays ≡ false → m ≡ gone_with k (get_or rows i d).size → gathered k m (drop (i + 1) rows) ≡ gathered k 0 (drop i rows)
 goes k rows i m d l e f =
     ap (λ n. gathered k n (drop (i + 1) rows)) f ∙ (sym (gathered_at k (get_or rows i d) (drop (i + 1) rows) false e) ∙ ap (gathered k 0) (sym (drop_more rows i d l)))
 

@@ -5,8 +5,8 @@ use Rattle.json.specs.Print.{escape_byte}
 use Rattle.js_doc.specs.BytesOut.{Progress, Goes, Stops, Puts}
 use Rattle.js_doc.specs.Compact.{compact, compact_members, quoted}
 use Rattle.js_doc.specs.Value.{Value, items, list, members, object, text, truth}
-use Rattle.js_tree.specs.Form.{annotation, array_of_some, error, given, list_name, node, when}
-use Rattle.js_tree.specs.NodeText.{given_text, annotation_text, error_text, head_text, list_start, tail_text, valid_text, node_text}
+use Rattle.js_tree.specs.Form.{annotation_value, array_of_some, error_value, member_of_some, list_name, node_value, value_if}
+use Rattle.js_tree.specs.NodeText.{given_text, annotation_part, error_part, head_text, list_start, tail_text, valid_text, node_text}
 use Rattle.js_tree.specs.Note.{Note}
 use Rattle.js_tree.specs.OutputUnit.{OutputUnit}
 use Rattle.js_tree.proofs.Pieces.{stops_in, then_puts}
@@ -15,7 +15,7 @@ abbrev Members : Type 0
 Members = List (List ℕ × Value)
 
 -- a member that is there if there is a value for it
-given_member : (name start : List ℕ) (value : Option Value) (later : Members) → start ≡ 44 ∷ (quoted name ++ 58 ∷ []) → compact_members true (members (given name value ++ later)) ≡ given_text start value ++ compact_members true (members later)
+given_member : (name start : List ℕ) (value : Option Value) (later : Members) → start ≡ 44 ∷ (quoted name ++ 58 ∷ []) → compact_members true (members (member_of_some name value ++ later)) ≡ given_text start value ++ compact_members true (members later)
 given_member name start None later e = refl
 given_member name start (Some value) later e =
     sym (append_assoc (44 ∷ (quoted name ++ 58 ∷ [])) (compact value) (compact_members true (members later)) ∙ ap (λ l. 44 ∷ l) (append_assoc (quoted name) (58 ∷ []) (compact value ++ compact_members true (members later))))
@@ -59,70 +59,70 @@ unfolding escape_byte
 last_members u = rw (last_member u.valid) refl
 
 abbrev annotations : Bool → List Value → List ℕ
-annotations valid children = given_text (codes ",\"annotations\":") (when valid (array_of_some children))
+annotations valid children = given_text (codes ",\"annotations\":") (value_if valid (array_of_some children))
 
 abbrev errors : Bool → List Value → List ℕ
-errors valid children = given_text (codes ",\"errors\":") (when (not valid) (array_of_some children))
+errors valid children = given_text (codes ",\"errors\":") (value_if (not valid) (array_of_some children))
 
-node_text_is : (u : OutputUnit) (children : List Value) → node_text u children ≡ compact (node u children)
+node_text_is : (u : OutputUnit) (children : List Value) → node_text u children ≡ compact (node_value u children)
 unfolding escape_byte
 node_text_is u children =
     let last : Members = (codes "instanceLocation", text u.instance) ∷ (codes "keywordLocation", text u.keyword) ∷ (codes "valid", truth u.valid) ∷ [] in
-    let fourth = given_member (codes "errors") (codes ",\"errors\":") (when (not u.valid) (array_of_some children)) last errors_name ∙ ap (λ l. errors u.valid children ++ l) (last_members u) in
-    let third = given_member (codes "error") (codes ",\"error\":") (error u.note) (given (codes "errors") (when (not u.valid) (array_of_some children)) ++ last) error_name ∙ ap (λ l. error_text u.note ++ l) fourth in
-    let second = given_member (codes "annotations") (codes ",\"annotations\":") (when u.valid (array_of_some children)) (given (codes "error") (error u.note) ++ (given (codes "errors") (when (not u.valid) (array_of_some children)) ++ last)) annotations_name ∙ ap (λ l. annotations u.valid children ++ l) third in
-    let first = given_member (codes "annotation") (codes ",\"annotation\":") (annotation u.note) (given (codes "annotations") (when u.valid (array_of_some children)) ++ (given (codes "error") (error u.note) ++ (given (codes "errors") (when (not u.valid) (array_of_some children)) ++ last))) annotation_name ∙ ap (λ l. annotation_text u.note ++ l) second in
-    ap (λ l. codes "{\"absoluteKeywordLocation\":" ++ l) (append_assoc (quoted u.absolute) (annotation_text u.note) (annotations u.valid children ++ (error_text u.note ++ (errors u.valid children ++ tail_text u))) ∙ ap (λ l. quoted u.absolute ++ l) (sym first))
+    let fourth = given_member (codes "errors") (codes ",\"errors\":") (value_if (not u.valid) (array_of_some children)) last errors_name ∙ ap (λ l. errors u.valid children ++ l) (last_members u) in
+    let third = given_member (codes "error") (codes ",\"error\":") (error_value u.note) (member_of_some (codes "errors") (value_if (not u.valid) (array_of_some children)) ++ last) error_name ∙ ap (λ l. error_part u.note ++ l) fourth in
+    let second = given_member (codes "annotations") (codes ",\"annotations\":") (value_if u.valid (array_of_some children)) (member_of_some (codes "error") (error_value u.note) ++ (member_of_some (codes "errors") (value_if (not u.valid) (array_of_some children)) ++ last)) annotations_name ∙ ap (λ l. annotations u.valid children ++ l) third in
+    let first = given_member (codes "annotation") (codes ",\"annotation\":") (annotation_value u.note) (member_of_some (codes "annotations") (value_if u.valid (array_of_some children)) ++ (member_of_some (codes "error") (error_value u.note) ++ (member_of_some (codes "errors") (value_if (not u.valid) (array_of_some children)) ++ last))) annotation_name ∙ ap (λ l. annotation_part u.note ++ l) second in
+    ap (λ l. codes "{\"absoluteKeywordLocation\":" ++ l) (append_assoc (quoted u.absolute) (annotation_part u.note) (annotations u.valid children ++ (error_part u.note ++ (errors u.valid children ++ tail_text u))) ∙ ap (λ l. quoted u.absolute ++ l) (sym first))
 
 -- with the verdict and the note by themselves
-pieces_are : (u : OutputUnit) (children : List Value) (v : Bool) (n : Note) → v ≡ u.valid → n ≡ u.note → head_text u ++ (annotations v children ++ (error_text n ++ (errors v children ++ tail_text u))) ≡ compact (node u children)
+pieces_are : (u : OutputUnit) (children : List Value) (v : Bool) (n : Note) → v ≡ u.valid → n ≡ u.note → head_text u ++ (annotations v children ++ (error_part n ++ (errors v children ++ tail_text u))) ≡ compact (node_value u children)
 pieces_are u children v n e f = rw (e, f) (node_text_is u children)
 
-no_children : (start : List ℕ) (b : Bool) → given_text start (when b None) ≡ []
+no_children : (start : List ℕ) (b : Bool) → given_text start (value_if b None) ≡ []
 no_children start true = refl
 no_children start false = refl
 
-pub leaf_text_is : (u : OutputUnit) (n : Note) → n ≡ u.note → head_text u ++ (error_text n ++ tail_text u) ≡ compact (node u [])
+pub leaf_text_is : (u : OutputUnit) (n : Note) → n ≡ u.note → head_text u ++ (error_part n ++ tail_text u) ≡ compact (node_value u [])
 leaf_text_is u n f =
     let none = no_children (codes ",\"annotations\":") u.valid in
     let nothing = no_children (codes ",\"errors\":") (not u.valid) in
-    rw f (ap (λ l. head_text u ++ (l ++ (error_text u.note ++ tail_text u))) (sym none) ∙ (ap (λ l. head_text u ++ (annotations u.valid [] ++ (error_text u.note ++ (l ++ tail_text u)))) (sym nothing) ∙ node_text_is u []))
+    rw f (ap (λ l. head_text u ++ (l ++ (error_part u.note ++ tail_text u))) (sym none) ∙ (ap (λ l. head_text u ++ (annotations u.valid [] ++ (error_part u.note ++ (l ++ tail_text u)))) (sym nothing) ∙ node_text_is u []))
 
 -- ---- a node that goes out in its pieces, or stops in one of them
 
 module _ {T E : Type 0} (u : OutputUnit) (children : List Value) (v : Bool) (n : Note) (valid_is : v ≡ u.valid) (note_is : n ≡ u.note) (r : Result T E) where
-  pub stops_in_head : (a b : Progress) → IsErr r → Stops a b (head_text u) → Puts a b (compact (node u children)) r
+  pub stops_in_head : (a b : Progress) → IsErr r → Stops a b (head_text u) → Puts a b (compact (node_value u children)) r
   stops_in_head a b h s =
       subst (λ l. Puts a b l r) (pieces_are u children v n valid_is note_is)
-      (stops_in a b (head_text u) (annotations v children ++ (error_text n ++ (errors v children ++ tail_text u))) r h s)
+      (stops_in a b (head_text u) (annotations v children ++ (error_part n ++ (errors v children ++ tail_text u))) r h s)
 
-  pub stops_in_annotations : (a b c : Progress) → IsErr r → Goes a b (head_text u) → Stops b c (annotations v children) → Puts a c (compact (node u children)) r
+  pub stops_in_annotations : (a b c : Progress) → IsErr r → Goes a b (head_text u) → Stops b c (annotations v children) → Puts a c (compact (node_value u children)) r
   stops_in_annotations a b c h g s =
       subst (λ l. Puts a c l r) (pieces_are u children v n valid_is note_is)
-      (then_puts a b c (head_text u) (annotations v children ++ (error_text n ++ (errors v children ++ tail_text u))) r g
-      (stops_in b c (annotations v children) (error_text n ++ (errors v children ++ tail_text u)) r h s))
+      (then_puts a b c (head_text u) (annotations v children ++ (error_part n ++ (errors v children ++ tail_text u))) r g
+      (stops_in b c (annotations v children) (error_part n ++ (errors v children ++ tail_text u)) r h s))
 
-  pub stops_in_error : (a b c d : Progress) → IsErr r → Goes a b (head_text u) → Goes b c (annotations v children) → Stops c d (error_text n) → Puts a d (compact (node u children)) r
+  pub stops_in_error : (a b c d : Progress) → IsErr r → Goes a b (head_text u) → Goes b c (annotations v children) → Stops c d (error_part n) → Puts a d (compact (node_value u children)) r
   stops_in_error a b c d h g1 g2 s =
       subst (λ l. Puts a d l r) (pieces_are u children v n valid_is note_is)
-      (then_puts a b d (head_text u) (annotations v children ++ (error_text n ++ (errors v children ++ tail_text u))) r g1
-      (then_puts b c d (annotations v children) (error_text n ++ (errors v children ++ tail_text u)) r g2
-      (stops_in c d (error_text n) (errors v children ++ tail_text u) r h s)))
+      (then_puts a b d (head_text u) (annotations v children ++ (error_part n ++ (errors v children ++ tail_text u))) r g1
+      (then_puts b c d (annotations v children) (error_part n ++ (errors v children ++ tail_text u)) r g2
+      (stops_in c d (error_part n) (errors v children ++ tail_text u) r h s)))
 
-  pub stops_in_errors : (a b c d e : Progress) → IsErr r → Goes a b (head_text u) → Goes b c (annotations v children) → Goes c d (error_text n) → Stops d e (errors v children) → Puts a e (compact (node u children)) r
+  pub stops_in_errors : (a b c d e : Progress) → IsErr r → Goes a b (head_text u) → Goes b c (annotations v children) → Goes c d (error_part n) → Stops d e (errors v children) → Puts a e (compact (node_value u children)) r
   stops_in_errors a b c d e h g1 g2 g3 s =
       subst (λ l. Puts a e l r) (pieces_are u children v n valid_is note_is)
-      (then_puts a b e (head_text u) (annotations v children ++ (error_text n ++ (errors v children ++ tail_text u))) r g1
-      (then_puts b c e (annotations v children) (error_text n ++ (errors v children ++ tail_text u)) r g2
-      (then_puts c d e (error_text n) (errors v children ++ tail_text u) r g3
+      (then_puts a b e (head_text u) (annotations v children ++ (error_part n ++ (errors v children ++ tail_text u))) r g1
+      (then_puts b c e (annotations v children) (error_part n ++ (errors v children ++ tail_text u)) r g2
+      (then_puts c d e (error_part n) (errors v children ++ tail_text u) r g3
       (stops_in d e (errors v children) (tail_text u) r h s))))
 
-  pub puts_node : (a b c d e f : Progress) → Goes a b (head_text u) → Goes b c (annotations v children) → Goes c d (error_text n) → Goes d e (errors v children) → Puts e f (tail_text u) r → Puts a f (compact (node u children)) r
+  pub puts_node : (a b c d e f : Progress) → Goes a b (head_text u) → Goes b c (annotations v children) → Goes c d (error_part n) → Goes d e (errors v children) → Puts e f (tail_text u) r → Puts a f (compact (node_value u children)) r
   puts_node a b c d e f g1 g2 g3 g4 p =
       subst (λ l. Puts a f l r) (pieces_are u children v n valid_is note_is)
-      (then_puts a b f (head_text u) (annotations v children ++ (error_text n ++ (errors v children ++ tail_text u))) r g1
-      (then_puts b c f (annotations v children) (error_text n ++ (errors v children ++ tail_text u)) r g2
-      (then_puts c d f (error_text n) (errors v children ++ tail_text u) r g3
+      (then_puts a b f (head_text u) (annotations v children ++ (error_part n ++ (errors v children ++ tail_text u))) r g1
+      (then_puts b c f (annotations v children) (error_part n ++ (errors v children ++ tail_text u)) r g2
+      (then_puts c d f (error_part n) (errors v children ++ tail_text u) r g3
       (then_puts d e f (errors v children) (tail_text u) r g4 p))))
 
 -- ---- the list of units
@@ -136,4 +136,4 @@ abbrev pub list_value : Bool → List Value → Value
 list_value valid vs = object (members ((list_name valid, list (items vs)) ∷ (codes "valid", truth valid) ∷ []))
 
 abbrev pub units_value : Bool → List OutputUnit → Value
-units_value valid us = list_value valid (map (λ u. node u []) us)
+units_value valid us = list_value valid (map (λ u. node_value u []) us)

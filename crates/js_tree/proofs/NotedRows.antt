@@ -2,10 +2,11 @@
 use Rattle.std.proofs.Common.{◌≡◌, Bool, true, false, if◌then◌else◌, List, [], ◌∷◌, ◌++◌, ℕ, ◌+◌, ◌<◌, ◌≤◌, length, drop, get_or, map, refl, ap, ◌∙◌}
 use Rattle.js_tree.specs.Flat.{flat, flat_of}
 use Rattle.js_tree.specs.FlatState.{FlatRow, noted_of, row_of}
-use Rattle.js_tree.specs.Form.{node}
+use Rattle.js_tree.specs.Form.{node_value}
 use Rattle.js_tree.specs.Forest.{Forest, empty, tree}
 use Rattle.js_tree.specs.OutputUnit.{OutputUnit, noted}
-use Rattle.js_tree.specs.Result.{ResultTree, units, units_below}
+use Rattle.js_tree.specs.Result.{ResultTree, units}
+use Rattle.js_tree.specs.Units.{units_below}
 use Rattle.js_tree.specs.declared.flat.Row.{Row}
 use Rattle.js_tree.proofs.Pieces.{seen_next, seen_all}
 
@@ -17,27 +18,27 @@ noted_of-append : (xs ys : List FlatRow) → noted_of (xs ++ ys) ≡ noted_of xs
 noted_of-append [] ys = refl
 noted_of-append (x ∷ xs) ys = rw (noted_of-append xs ys) (first (noted x.0) x.0 (noted_of xs) (noted_of ys))
 
-noted_of-flat_of : (f : Forest OutputUnit) → noted_of (flat_of f) ≡ units_below f
+noted_of-flat_of : (f : Forest OutputUnit) → noted_of (flat_of f) ≡ units_below noted f
 noted_of-flat_of empty = refl
 noted_of-flat_of (tree u below after) =
-    rw (noted_of-append (flat_of below) (flat_of after), noted_of-flat_of below, noted_of-flat_of after) (first (noted u) u (units_below below) (units_below after))
+    rw (noted_of-append (flat_of below) (flat_of after), noted_of-flat_of below, noted_of-flat_of after) (first (noted u) u (units_below noted below) (units_below noted after))
 
 pub noted_of-flat : (t : ResultTree) → noted_of (flat t) ≡ units t
 noted_of-flat t = rw (noted_of-flat_of t.below) refl
 
 -- ---- the units of the rows that are left, as nodes without children
 
-leaves_at : (r : FlatRow) (rows : List FlatRow) (b : Bool) → noted r.0 ≡ b → map (λ u. node u []) (noted_of (r ∷ rows)) ≡ (if b then node r.0 [] ∷ map (λ u. node u []) (noted_of rows) else map (λ u. node u []) (noted_of rows))
+leaves_at : (r : FlatRow) (rows : List FlatRow) (b : Bool) → noted r.0 ≡ b → map (λ u. node_value u []) (noted_of (r ∷ rows)) ≡ (if b then node_value r.0 [] ∷ map (λ u. node_value u []) (noted_of rows) else map (λ u. node_value u []) (noted_of rows))
 leaves_at r rows true e = rw e refl
 leaves_at r rows false e = rw e refl
 
 pub leaf_next : (rows : List Row) (i : ℕ) (x : Row) → i < length rows → x ≡ get_or rows i x → noted x.unit ≡ true
-    → map (λ u. node u []) (noted_of (map row_of (drop i rows))) ≡ node x.unit [] ∷ map (λ u. node u []) (noted_of (map row_of (drop (i + 1) rows)))
-leaf_next rows i x h is e = ap (λ rs. map (λ u. node u []) (noted_of rs)) (seen_next row_of rows i x h is) ∙ leaves_at (row_of x) (map row_of (drop (i + 1) rows)) true e
+    → map (λ u. node_value u []) (noted_of (map row_of (drop i rows))) ≡ node_value x.unit [] ∷ map (λ u. node_value u []) (noted_of (map row_of (drop (i + 1) rows)))
+leaf_next rows i x h is e = ap (λ rs. map (λ u. node_value u []) (noted_of rs)) (seen_next row_of rows i x h is) ∙ leaves_at (row_of x) (map row_of (drop (i + 1) rows)) true e
 
 pub leaf_skipped : (rows : List Row) (i : ℕ) (x : Row) → i < length rows → x ≡ get_or rows i x → noted x.unit ≡ false
-    → map (λ u. node u []) (noted_of (map row_of (drop i rows))) ≡ map (λ u. node u []) (noted_of (map row_of (drop (i + 1) rows)))
-leaf_skipped rows i x h is e = ap (λ rs. map (λ u. node u []) (noted_of rs)) (seen_next row_of rows i x h is) ∙ leaves_at (row_of x) (map row_of (drop (i + 1) rows)) false e
+    → map (λ u. node_value u []) (noted_of (map row_of (drop i rows))) ≡ map (λ u. node_value u []) (noted_of (map row_of (drop (i + 1) rows)))
+leaf_skipped rows i x h is e = ap (λ rs. map (λ u. node_value u []) (noted_of rs)) (seen_next row_of rows i x h is) ∙ leaves_at (row_of x) (map row_of (drop (i + 1) rows)) false e
 
-pub no_leaf : (rows : List Row) (i : ℕ) → length rows ≤ i → map (λ u. node u []) (noted_of (map row_of (drop i rows))) ≡ []
-no_leaf rows i h = ap (λ rs. map (λ u. node u []) (noted_of rs)) (seen_all row_of rows i h)
+pub no_leaf : (rows : List Row) (i : ℕ) → length rows ≤ i → map (λ u. node_value u []) (noted_of (map row_of (drop i rows))) ≡ []
+no_leaf rows i h = ap (λ rs. map (λ u. node_value u []) (noted_of rs)) (seen_all row_of rows i h)

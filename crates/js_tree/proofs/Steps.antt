@@ -2,7 +2,7 @@
 use Rattle.std.proofs.Common.{◌≡◌, ℕ, zero, suc, ◌+◌, ◌≤◌, ◌<◌, Bool, true, false, ◌||◌, ◌&&◌, leb, refl, arith}
 use Rattle.std.proofs.lemmas.Bool.{le-leb}
 use Rattle.js_tree.specs.Forest.{Forest, empty, tree, node_count, tree_count}
-use Rattle.js_tree.specs.Step.{at_least_two, Step, dropped, lifted, inside, beside, Run, done, next, Normal, stands, all_stand}
+use Rattle.js_tree.specs.Step.{at_least_two, ForestStep, dropped, lifted, inside, beside, ForestRun, done, next, NormalForest, stands, all_stand}
 
 -- ---- tests
 
@@ -44,7 +44,7 @@ leb-at_least_two (suc (suc n)) = let h : 2 ≤ suc (suc n) = omega arith in le-l
 module _ {A : Type 0} (noted : A → Bool) where
   -- ---- steps
 
-  pub step_takes_one : {f g : Forest A} → Step noted f g → node_count f ≡ node_count g + 1
+  pub step_takes_one : {f g : Forest A} → ForestStep noted f g → node_count f ≡ node_count g + 1
   step_takes_one (dropped n) = omega arith
   step_takes_one (lifted n) = omega arith
   step_takes_one (inside s) = omega (arith, step_takes_one s)
@@ -52,28 +52,28 @@ module _ {A : Type 0} (noted : A → Bool) where
 
   -- ---- normal forests
 
-  normal_inside : {a : A} {below after : Forest A} → Normal noted (tree a below after) → Normal noted below
+  normal_inside : {a : A} {below after : Forest A} → NormalForest noted (tree a below after) → NormalForest noted below
   normal_inside n g s = n _ (inside s)
 
-  normal_beside : {a : A} {below after : Forest A} → Normal noted (tree a below after) → Normal noted after
+  normal_beside : {a : A} {below after : Forest A} → NormalForest noted (tree a below after) → NormalForest noted after
   normal_beside n g s = n _ (beside s)
 
-  normal_stands_at : (v : Bool) (a : A) (below after : Forest A) → noted a ≡ v → Normal noted (tree a below after) → (v || at_least_two (tree_count below)) ≡ true
+  normal_stands_at : (v : Bool) (a : A) (below after : Forest A) → noted a ≡ v → NormalForest noted (tree a below after) → (v || at_least_two (tree_count below)) ≡ true
   normal_stands_at true a below after e n = refl
   normal_stands_at false a empty after e n = absurd (n _ (dropped e))
   normal_stands_at false a (tree b below empty) after e n = absurd (n _ (lifted e))
   normal_stands_at false a (tree b below (tree c under others)) after e n = refl
 
-  normal_stands : (a : A) (below after : Forest A) → Normal noted (tree a below after) → stands noted a below ≡ true
+  normal_stands : (a : A) (below after : Forest A) → NormalForest noted (tree a below after) → stands noted a below ≡ true
   normal_stands a below after n = normal_stands_at (noted a) a below after refl n
 
   -- the test tells normal forests
-  pub normal-all_stand : (f : Forest A) → Normal noted f → all_stand noted f ≡ true
+  pub normal-all_stand : (f : Forest A) → NormalForest noted f → all_stand noted f ≡ true
   normal-all_stand empty n = refl
   normal-all_stand (tree a below after) n =
       rw (normal_stands a below after n, normal-all_stand below (normal_inside n), normal-all_stand after (normal_beside n)) refl
 
-  step_not_all_stand : {f g : Forest A} → Step noted f g → all_stand noted f ≡ true → ⊥
+  step_not_all_stand : {f g : Forest A} → ForestStep noted f g → all_stand noted f ≡ true → ⊥
   step_not_all_stand (dropped n) e = let h = rw n at e in cc
   step_not_all_stand (lifted n) e = let h = rw n at e in cc
   step_not_all_stand (inside {a = a} {f = f} {after = after} s) e =
@@ -81,19 +81,19 @@ module _ {A : Type 0} (noted : A → Bool) where
   step_not_all_stand (beside {a = a} {below = below} s) e =
       step_not_all_stand s (and_right (all_stand noted below) _ (and_right (stands noted a below) _ e))
 
-  pub all_stand-normal : (f : Forest A) → all_stand noted f ≡ true → Normal noted f
+  pub all_stand-normal : (f : Forest A) → all_stand noted f ≡ true → NormalForest noted f
   all_stand-normal f e g s = step_not_all_stand s e
 
   -- ---- runs
 
-  pub run_append : {f g h : Forest A} → Run noted f g → Run noted g h → Run noted f h
+  pub run_append : {f g h : Forest A} → ForestRun noted f g → ForestRun noted g h → ForestRun noted f h
   run_append done q = q
   run_append (next s p) q = next s (run_append p q)
 
-  pub run_inside : {a : A} {f g after : Forest A} → Run noted f g → Run noted (tree a f after) (tree a g after)
+  pub run_inside : {a : A} {f g after : Forest A} → ForestRun noted f g → ForestRun noted (tree a f after) (tree a g after)
   run_inside done = done
   run_inside (next s p) = next (inside s) (run_inside p)
 
-  pub run_beside : {a : A} {below f g : Forest A} → Run noted f g → Run noted (tree a below f) (tree a below g)
+  pub run_beside : {a : A} {below f g : Forest A} → ForestRun noted f g → ForestRun noted (tree a below f) (tree a below g)
   run_beside done = done
   run_beside (next s p) = next (beside s) (run_beside p)

@@ -19,22 +19,22 @@ module _ {A : Type 0} where
   written empty rest = rest
   written (tree a below after) rest = Some a ∷ written below (None ∷ written after rest)
 
-  abbrev opened : A → Reading A → Reading A
-  opened a (below, []) = (below, [])
-  opened a (below, after ∷ waiting) = (tree a below after, waiting)
+  abbrev at_opening : A → Reading A → Reading A
+  at_opening a (below, []) = (below, [])
+  at_opening a (below, after ∷ waiting) = (tree a below after, waiting)
 
-  abbrev closed : Reading A → Reading A
-  closed (after, waiting) = (empty, after ∷ waiting)
+  abbrev at_closing : Reading A → Reading A
+  at_closing (after, waiting) = (empty, after ∷ waiting)
 
   abbrev read : List (Option A) → Reading A
   read [] = (empty, [])
-  read (None ∷ xs) = closed (read xs)
-  read (Some a ∷ xs) = opened a (read xs)
+  read (None ∷ xs) = at_closing (read xs)
+  read (Some a ∷ xs) = at_opening a (read xs)
 
   pub read-written : (f : Forest A) (rest : List (Option A)) (waiting : List (Forest A)) → read rest ≡ (empty, waiting) → read (written f rest) ≡ (f, waiting)
   read-written empty rest waiting e = e
   read-written (tree a below after) rest waiting e =
-      ap (opened a) (read-written below (None ∷ written after rest) (after ∷ waiting) (ap closed (read-written after rest waiting e)))
+      ap (at_opening a) (read-written below (None ∷ written after rest) (after ∷ waiting) (ap at_closing (read-written after rest waiting e)))
 
   abbrev pub forest_code : Coded A → Coded (Forest A)
   forest_code c =

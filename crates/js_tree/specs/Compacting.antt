@@ -3,7 +3,9 @@ use Rattle.std.specs.Prelude.{◌≡◌, ℕ, zero, suc, ◌+◌, ◌-◌, Bool,
 use Rattle.js_tree.specs.FlatState.{FlatRow}
 use Rattle.js_tree.specs.Forest.{Forest, empty, tree, node_count}
 use Rattle.js_tree.specs.OutputUnit.{OutputUnit, noted}
-use Rattle.js_tree.specs.Result.{ResultTree, has_verdict, kept_below, pruned_below}
+use Rattle.js_tree.specs.Kept.{kept_below}
+use Rattle.js_tree.specs.Pruned.{pruned_below}
+use Rattle.js_tree.specs.Result.{ResultTree, has_verdict}
 use Rattle.js_tree.specs.Step.{at_least_one, at_least_two}
 use Rattle.js_tree.specs.declared.compacting.Keep.{Keep}
 use Rattle.js_tree.specs.declared.compacting.Keep.TheVariants.{Verdict, Noted}
@@ -11,8 +13,8 @@ use Rattle.js_tree.specs.declared.flat.Row.{Row}
 
 -- what is left of the trees
 abbrev pub left : Keep → Forest OutputUnit → Forest OutputUnit
-left (Verdict v) = pruned_below v
-left Noted = kept_below
+left (Verdict v) = pruned_below (has_verdict v)
+left Noted = kept_below noted
 
 abbrev pub left_of : Keep → ResultTree → ResultTree
 left_of k t = record { root = t.root; below = left k t.below }
@@ -39,23 +41,23 @@ marked k (tree u below after) =
     record { unit = u; size = suc (node_count below); room = node_count (left k (tree u below empty)); stays = stays k u (left_trees k below) } ∷ (marked k below ++ marked k after)
 
 -- how many rows go with one of that size that goes
-abbrev pub others : Keep → ℕ → ℕ
-others (Verdict v) size = size - 1
-others Noted size = 0
+abbrev pub gone_with : Keep → ℕ → ℕ
+gone_with (Verdict v) size = size - 1
+gone_with Noted size = 0
 
 -- what marked rows leave, when so many go with one before them
 abbrev pub gathered : Keep → ℕ → List Row → List FlatRow
 gathered k n [] = []
-gathered k zero (r ∷ rs) = if r.stays then (r.unit, r.room) ∷ gathered k zero rs else gathered k (others k r.size) rs
+gathered k zero (r ∷ rs) = if r.stays then (r.unit, r.room) ∷ gathered k zero rs else gathered k (gone_with k r.size) rs
 gathered k (suc n) (r ∷ rs) = gathered k n rs
 
 -- The rows from first to end are those of marked trees, and `trees` and `nodes` count what is left of those before next.
-abbrev pub Tallied : List Row → ℕ → ℕ → ℕ → ℕ → ℕ → Type 0
-Tallied rows first end next trees nodes =
+abbrev pub IsRemaining : List Row → ℕ → ℕ → ℕ → ℕ → ℕ → Type 0
+IsRemaining rows first end next trees nodes =
     (k : Keep) (f : Forest OutputUnit) (rest : List Row) → drop first rows ≡ marked k f ++ rest → first + node_count f ≡ end
     → (g : Forest OutputUnit) × (drop next rows ≡ marked k g ++ rest) × (next + node_count g ≡ end)
     × (trees + left_trees k g ≡ left_trees k f) × (nodes + node_count (left k g) ≡ node_count (left k f))
 
 -- The rows from first to end are those of marked trees.
-abbrev pub AreMarked : List Row → ℕ → ℕ → Type 0
-AreMarked rows first end = (k : Keep) × (f : Forest OutputUnit) × (rest : List Row) × (drop first rows ≡ marked k f ++ rest) × (first + node_count f ≡ end)
+abbrev pub AreMarkedTrees : List Row → ℕ → ℕ → Type 0
+AreMarkedTrees rows first end = (k : Keep) × (f : Forest OutputUnit) × (rest : List Row) × (drop first rows ≡ marked k f ++ rest) × (first + node_count f ≡ end)

@@ -12,20 +12,20 @@ abbrev pub FlatRow : Type 0
 FlatRow = OutputUnit × ℕ
 
 -- the rows, and the numbers of those whose nodes are open, the innermost first
-pub record State : Type 0 where
+pub record FlatState : Type 0 where
   pub rows : List FlatRow
   pub numbers : List ℕ
 
-abbrev pub start : State
-start = record { rows = []; numbers = [] }
+abbrev pub flat_start : FlatState
+flat_start = record { rows = []; numbers = [] }
 
 -- a whole tree's
-abbrev pub whole : ResultTree → State
-whole t = record { rows = flat t; numbers = [] }
+abbrev pub whole_tree : ResultTree → FlatState
+whole_tree t = record { rows = flat t; numbers = [] }
 
 -- it is a whole tree's
-abbrev pub IsWhole : State → Type 0
-IsWhole s = (t : ResultTree) × (s ≡ whole t)
+abbrev pub IsWholeTree : FlatState → Type 0
+IsWholeTree s = (t : ResultTree) × (s ≡ whole_tree t)
 
 -- the units with a note
 abbrev pub noted_of : List FlatRow → List OutputUnit
@@ -37,10 +37,10 @@ abbrev pub opening_row : List ℕ → List ℕ → List ℕ → FlatRow
 opening_row keyword absolute instance = (record { valid = false; keyword = keyword; absolute = absolute; instance = instance; note = silent }, 0)
 
 -- no node opens after the root has closed: when there are rows, and none is open
-abbrev pub opened : List FlatRow → List ℕ → FlatRow → State
-opened [] [] row = record { rows = row ∷ []; numbers = 0 ∷ [] }
-opened (r ∷ rows) [] row = record { rows = r ∷ rows; numbers = [] }
-opened rows (n ∷ numbers) row = record { rows = rows ++ row ∷ []; numbers = length rows ∷ n ∷ numbers }
+abbrev pub flat_opened : List FlatRow → List ℕ → FlatRow → FlatState
+flat_opened [] [] row = record { rows = row ∷ []; numbers = 0 ∷ [] }
+flat_opened (r ∷ rows) [] row = record { rows = r ∷ rows; numbers = [] }
+flat_opened rows (n ∷ numbers) row = record { rows = rows ++ row ∷ []; numbers = length rows ∷ n ∷ numbers }
 
 abbrev pub closed_unit : OutputUnit → Bool → Note → OutputUnit
 closed_unit u valid note = record { valid = valid; keyword = u.keyword; absolute = u.absolute; instance = u.instance; note = note }
@@ -55,21 +55,21 @@ with_closed zero valid note size (r ∷ rows) = closed_row r valid note size ∷
 with_closed (suc n) valid note size (r ∷ rows) = r ∷ with_closed n valid note size rows
 
 -- where nothing is open nothing closes
-abbrev pub closed : List FlatRow → List ℕ → Bool → Note → State
-closed rows [] valid note = record { rows = rows; numbers = [] }
-closed rows (n ∷ numbers) valid note = record { rows = with_closed n valid note (length rows - n) rows; numbers = numbers }
+abbrev pub flat_closed : List FlatRow → List ℕ → Bool → Note → FlatState
+flat_closed rows [] valid note = record { rows = rows; numbers = [] }
+flat_closed rows (n ∷ numbers) valid note = record { rows = with_closed n valid note (length rows - n) rows; numbers = numbers }
 
-abbrev pub after : State → Event → State
-after s (opening keyword absolute instance) = opened s.rows s.numbers (opening_row keyword absolute instance)
-after s (closing valid note) = closed s.rows s.numbers valid note
+abbrev pub flat_after : FlatState → Event → FlatState
+flat_after s (opening keyword absolute instance) = flat_opened s.rows s.numbers (opening_row keyword absolute instance)
+flat_after s (closing valid note) = flat_closed s.rows s.numbers valid note
 
 abbrev pub row_of : Row → FlatRow
 row_of r = (r.unit, r.size)
 
 -- the last of the list comes first
-abbrev pub innermost_first : List ℕ → List ℕ → List ℕ
-innermost_first [] numbers = numbers
-innermost_first (n ∷ ns) numbers = innermost_first ns (n ∷ numbers)
+abbrev pub open_numbers : List ℕ → List ℕ → List ℕ
+open_numbers [] numbers = numbers
+open_numbers (n ∷ ns) numbers = open_numbers ns (n ∷ numbers)
 
-abbrev pub state_of : Flat → State
-state_of f = record { rows = map row_of f.rows.items; numbers = innermost_first f.numbers.items [] }
+abbrev pub flat_state : Flat → FlatState
+flat_state f = record { rows = map row_of f.rows.items; numbers = open_numbers f.numbers.items [] }

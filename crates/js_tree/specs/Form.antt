@@ -10,30 +10,30 @@ use Rattle.js_tree.specs.Result.{ResultTree, kept, pruned, units}
 
 -- ---- notes
 
-abbrev pub error : note.Note → Option Value
-error (note.error reason) = Some (text reason)
-error _ = None
+abbrev pub error_value : note.Note → Option Value
+error_value (note.error reason) = Some (text reason)
+error_value _ = None
 
-abbrev pub annotation : note.Note → Option Value
-annotation note.silent = None
-annotation (note.error reason) = None
-annotation (note.value value) = Some value
-annotation (note.names names) = Some (list (items (map text names)))
-annotation (note.index index) = Some (whole (pos index))
-annotation (note.indexes indexes) = Some (list (items (map (λ index. whole (pos index)) indexes)))
-annotation note.truly = Some (truth true)
+abbrev pub annotation_value : note.Note → Option Value
+annotation_value note.silent = None
+annotation_value (note.error reason) = None
+annotation_value (note.value value) = Some value
+annotation_value (note.names names) = Some (list (items (map text names)))
+annotation_value (note.index index) = Some (whole (pos index))
+annotation_value (note.indexes indexes) = Some (list (items (map (λ index. whole (pos index)) indexes)))
+annotation_value note.truly = Some (truth true)
 
 -- ---- a node
 
 -- the member, if there is a value
-abbrev pub given : List ℕ → Option Value → List (List ℕ × Value)
-given name None = []
-given name (Some value) = (name, value) ∷ []
+abbrev pub member_of_some : List ℕ → Option Value → List (List ℕ × Value)
+member_of_some name None = []
+member_of_some name (Some value) = (name, value) ∷ []
 
 -- the value, if the test holds
-abbrev pub when : Bool → Option Value → Option Value
-when true value = value
-when false value = None
+abbrev pub value_if : Bool → Option Value → Option Value
+value_if true value = value
+value_if false value = None
 
 -- the values as an array, if there are any
 abbrev pub array_of_some : List Value → Option Value
@@ -41,26 +41,26 @@ array_of_some [] = None
 array_of_some (v ∷ vs) = Some (list (items (v ∷ vs)))
 
 -- a node over the values of its children, which stand under `annotations` where it passes, and under `errors` where it fails
-abbrev pub node : OutputUnit → List Value → Value
-node u children =
+abbrev pub node_value : OutputUnit → List Value → Value
+node_value u children =
     object (members (
     (codes "absoluteKeywordLocation", text u.absolute)
-    ∷ (given (codes "annotation") (annotation u.note)
-    ++ (given (codes "annotations") (when u.valid (array_of_some children))
-    ++ (given (codes "error") (error u.note)
-    ++ (given (codes "errors") (when (not u.valid) (array_of_some children))
+    ∷ (member_of_some (codes "annotation") (annotation_value u.note)
+    ++ (member_of_some (codes "annotations") (value_if u.valid (array_of_some children))
+    ++ (member_of_some (codes "error") (error_value u.note)
+    ++ (member_of_some (codes "errors") (value_if (not u.valid) (array_of_some children))
     ++ ((codes "instanceLocation", text u.instance) ∷ (codes "keywordLocation", text u.keyword) ∷ (codes "valid", truth u.valid) ∷ [])))))
     ))
 
-abbrev pub nodes : Forest OutputUnit → List Value
-nodes empty = []
-nodes (tree u below after) = node u (nodes below) ∷ nodes after
+abbrev pub node_values : Forest OutputUnit → List Value
+node_values empty = []
+node_values (tree u below after) = node_value u (node_values below) ∷ node_values after
 
 -- ---- the formats
 
 -- the root node of the whole tree
 abbrev pub verbose : ResultTree → Value
-verbose t = node t.root (nodes t.below)
+verbose t = node_value t.root (node_values t.below)
 
 -- the verdict alone
 abbrev pub flag : Bool → Value
@@ -72,7 +72,7 @@ list_name false = codes "errors"
 
 -- the verdict, and the units, each as a node without children, in an array, which is there when empty too
 abbrev pub unit_list : ResultTree → Value
-unit_list t = object (members ((list_name t.root.valid, list (items (map (λ u. node u []) (units t)))) ∷ (codes "valid", truth t.root.valid) ∷ []))
+unit_list t = object (members ((list_name t.root.valid, list (items (map (λ u. node_value u []) (units t)))) ∷ (codes "valid", truth t.root.valid) ∷ []))
 
 -- what a format shows of a tree: of the pruned tree for basic, of the condensed one for detailed, and of the whole tree else
 abbrev pub shown : Format → ResultTree → Value

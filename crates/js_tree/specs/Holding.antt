@@ -1,26 +1,26 @@
 -- What each collector holds after the events of a tree.
 use Rattle.std.specs.Prelude.{◌≡◌, suc, ◌<◌, ◌^◌, Some}
-use Rattle.js_tree.specs.BoxedState as boxed
+use Rattle.js_tree.specs.BoxedState.{boxed_after, boxed_start, boxed_state}
 use Rattle.js_tree.specs.Events.{events, Passes}
-use Rattle.js_tree.specs.FlatState as flat_state
+use Rattle.js_tree.specs.FlatState.{flat_after, flat_start, flat_state, whole_tree}
 use Rattle.js_tree.specs.Forest.{height}
 use Rattle.js_tree.specs.Result.{ResultTree}
-use Rattle.js_tree.specs.VerdictState as verdict
+use Rattle.js_tree.specs.VerdictState.{verdict_after, verdict_start, verdict_state}
 use Rattle.js_tree.specs.declared.boxed.Boxed.{Boxed}
 use Rattle.js_tree.specs.declared.flat.Flat.{Flat}
 use Rattle.js_tree.specs.declared.verdict.Verdict.{Verdict}
 
 abbrev pub VerdictHolds : Type 0
 VerdictHolds =
-    (t : ResultTree) (c d : Verdict) → suc (height t.below) < 2 ^ 64 → verdict.state_of c ≡ verdict.start
-    → Passes (λ a e b. verdict.state_of b ≡ verdict.after (verdict.state_of a) e) (events t) c d → (verdict.state_of d).valid ≡ Some t.root.valid
+    (t : ResultTree) (c d : Verdict) → suc (height t.below) < 2 ^ 64 → verdict_state c ≡ verdict_start
+    → Passes (λ a e b. verdict_state b ≡ verdict_after (verdict_state a) e) (events t) c d → (verdict_state d).valid ≡ Some t.root.valid
 
 abbrev pub BoxedHolds : Type 0
 BoxedHolds =
-    (t : ResultTree) (c d : Boxed) → boxed.state_of c ≡ boxed.start
-    → Passes (λ a e b. boxed.state_of b ≡ boxed.after (boxed.state_of a) e) (events t) c d → (boxed.state_of d).found ≡ Some t
+    (t : ResultTree) (c d : Boxed) → boxed_state c ≡ boxed_start
+    → Passes (λ a e b. boxed_state b ≡ boxed_after (boxed_state a) e) (events t) c d → (boxed_state d).found ≡ Some t
 
 abbrev pub FlatHolds : Type 0
 FlatHolds =
-    (t : ResultTree) (c d : Flat) → flat_state.state_of c ≡ flat_state.start
-    → Passes (λ a e b. flat_state.state_of b ≡ flat_state.after (flat_state.state_of a) e) (events t) c d → flat_state.state_of d ≡ flat_state.whole t
+    (t : ResultTree) (c d : Flat) → flat_state c ≡ flat_start
+    → Passes (λ a e b. flat_state b ≡ flat_after (flat_state a) e) (events t) c d → flat_state d ≡ whole_tree t

@@ -20,5 +20,5 @@ module _ {A : Type 0} (noted : A → Bool) where
   kept_below (tree a below after) = if is_kept a below then tree a (kept_below below) (kept_below after) else (kept_below below ⊹ kept_below after)
 
   -- the root, and below it the nodes that are kept
-  abbrev pub kept : Rose A → Rose A
-  kept t = record { root = t.root; below = kept_below t.below }
+  abbrev pub kept_by : Rose A → Rose A
+  kept_by t = record { root = t.root; below = kept_below t.below }

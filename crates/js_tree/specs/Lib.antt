@@ -1,3 +1,4 @@
+pub mod Alike
 pub mod BoxedState
 pub mod Coding
 pub mod Compacting
@@ -8,6 +9,8 @@ pub mod Forest
 pub mod Form
 pub mod Holding
 pub mod Kept
+pub mod Merged
+pub mod MergedResult
 pub mod Moves
 pub mod Nesting
 pub mod NodeText

@@ -44,10 +44,10 @@ module _ {A : Type 0} (noted : A → Bool) where
   moved_below_root rule (suc n) t = mapped (λ f. record { root = t.root; below = f }) (moved_at rule t.below n)
 
   -- the tree after the move, where it is possible
-  abbrev pub moved : Move → Rose A → Option (Rose A)
-  moved m t = moved_below_root m.rule m.position t
+  abbrev pub moved_by : Move → Rose A → Option (Rose A)
+  moved_by m t = moved_below_root m.rule m.position t
 
   -- the tree after the moves, where each is possible in its turn
-  abbrev pub replayed : List Move → Rose A → Option (Rose A)
-  replayed [] t = Some t
-  replayed (m ∷ ms) t = chained (replayed ms) (moved m t)
+  abbrev pub replayed_by : List Move → Rose A → Option (Rose A)
+  replayed_by [] t = Some t
+  replayed_by (m ∷ ms) t = chained (replayed_by ms) (moved_by m t)

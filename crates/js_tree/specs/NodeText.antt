@@ -2,7 +2,7 @@
 use Rattle.std.specs.Prelude.{ℕ, Bool, true, false, not, List, [], ◌++◌, Option, Some, None, codes}
 use Rattle.js_doc.specs.Compact.{compact, quoted}
 use Rattle.js_doc.specs.Value.{Value}
-use Rattle.js_tree.specs.Form.{annotation, array_of_some, error, when}
+use Rattle.js_tree.specs.Form.{annotation_value, array_of_some, error_value, value_if}
 use Rattle.js_tree.specs.Note.{Note}
 use Rattle.js_tree.specs.OutputUnit.{OutputUnit}
 
@@ -11,15 +11,15 @@ abbrev pub given_text : List ℕ → Option Value → List ℕ
 given_text start None = []
 given_text start (Some value) = start ++ compact value
 
-abbrev pub annotation_text : Note → List ℕ
-annotation_text note = given_text (codes ",\"annotation\":") (annotation note)
+abbrev pub annotation_part : Note → List ℕ
+annotation_part note = given_text (codes ",\"annotation\":") (annotation_value note)
 
-abbrev pub error_text : Note → List ℕ
-error_text note = given_text (codes ",\"error\":") (error note)
+abbrev pub error_part : Note → List ℕ
+error_part note = given_text (codes ",\"error\":") (error_value note)
 
 -- up to where the annotations of a passing node's children stand
 abbrev pub head_text : OutputUnit → List ℕ
-head_text u = codes "{\"absoluteKeywordLocation\":" ++ (quoted u.absolute ++ annotation_text u.note)
+head_text u = codes "{\"absoluteKeywordLocation\":" ++ (quoted u.absolute ++ annotation_part u.note)
 
 abbrev pub valid_text : Bool → List ℕ
 valid_text true = codes ",\"valid\":true}"
@@ -32,9 +32,9 @@ tail_text u = codes ",\"instanceLocation\":" ++ (quoted u.instance ++ (codes ",\
 abbrev pub node_text : OutputUnit → List Value → List ℕ
 node_text u children =
     head_text u
-    ++ (given_text (codes ",\"annotations\":") (when u.valid (array_of_some children))
-    ++ (error_text u.note
-    ++ (given_text (codes ",\"errors\":") (when (not u.valid) (array_of_some children))
+    ++ (given_text (codes ",\"annotations\":") (value_if u.valid (array_of_some children))
+    ++ (error_part u.note
+    ++ (given_text (codes ",\"errors\":") (value_if (not u.valid) (array_of_some children))
     ++ tail_text u)))
 
 -- what stands before the array of units

@@ -1,12 +1,12 @@
 -- Result trees: trees whose labels are output units (JSON Schema Core, section 12.4.4). The definitions of this crate,
 -- said of them.
 use Rattle.std.specs.Prelude.{Bool, true, false, not, List, Option}
-use Rattle.js_tree.specs.Forest.{Forest, Rose}
-use Rattle.js_tree.specs.Step as step
-use Rattle.js_tree.specs.Kept as keep
-use Rattle.js_tree.specs.Units as unit
-use Rattle.js_tree.specs.Pruned as prune
-use Rattle.js_tree.specs.Moves as move
+use Rattle.js_tree.specs.Forest.{Rose}
+use Rattle.js_tree.specs.Step.{NormalForest, RunBelow, StepBelow}
+use Rattle.js_tree.specs.Kept.{kept_by}
+use Rattle.js_tree.specs.Units.{units_by}
+use Rattle.js_tree.specs.Pruned.{pruned_below}
+use Rattle.js_tree.specs.Moves.{moved_by, replayed_by}
 use Rattle.js_tree.specs.declared.moves.Move.{Move}
 use Rattle.js_tree.specs.OutputUnit.{OutputUnit, noted}
 
@@ -16,33 +16,21 @@ ResultTree = Rose OutputUnit
 -- ---- the two condensing rules
 
 abbrev pub Step : ResultTree → ResultTree → Type 0
-Step = step.StepBelow noted
+Step = StepBelow noted
 
 abbrev pub Run : ResultTree → ResultTree → Type 0
-Run = step.RunBelow noted
+Run = RunBelow noted
 
 abbrev pub Normal : ResultTree → Type 0
-Normal t = step.Normal noted t.below
-
-abbrev pub stands : OutputUnit → Forest OutputUnit → Bool
-stands = step.stands noted
-
-abbrev pub all_stand : Forest OutputUnit → Bool
-all_stand = step.all_stand noted
-
-abbrev pub kept_below : Forest OutputUnit → Forest OutputUnit
-kept_below = keep.kept_below noted
+Normal t = NormalForest noted t.below
 
 abbrev pub kept : ResultTree → ResultTree
-kept = keep.kept noted
+kept = kept_by noted
 
 -- ---- units
 
-abbrev pub units_below : Forest OutputUnit → List OutputUnit
-units_below = unit.units_below noted
-
 abbrev pub units : ResultTree → List OutputUnit
-units = unit.units noted
+units = units_by noted
 
 -- ---- pruning
 
@@ -51,17 +39,14 @@ abbrev pub has_verdict : Bool → OutputUnit → Bool
 has_verdict true u = u.valid
 has_verdict false u = not u.valid
 
-abbrev pub pruned_below : Bool → Forest OutputUnit → Forest OutputUnit
-pruned_below verdict = prune.pruned_below (has_verdict verdict)
-
 -- the nodes for which every node from the root down to them has the root's verdict
 abbrev pub pruned : ResultTree → ResultTree
-pruned t = record { root = t.root; below = pruned_below t.root.valid t.below }
+pruned t = record { root = t.root; below = pruned_below (has_verdict t.root.valid) t.below }
 
 -- ---- moves
 
 abbrev pub moved : Move → ResultTree → Option (ResultTree)
-moved = move.moved noted
+moved = moved_by noted
 
 abbrev pub replayed : List Move → ResultTree → Option (ResultTree)
-replayed = move.replayed noted
+replayed = replayed_by noted

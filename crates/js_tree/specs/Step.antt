@@ -15,28 +15,28 @@ at_least_two (suc n) = at_least_one n
 
 module _ {A : Type 0} (noted : A → Bool) where
   -- one node without a note is dropped, having no child, or replaced by its only child
-  pub data Step : Forest A → Forest A → Type 0 where
-    dropped : {a : A} {after : Forest A} → noted a ≡ false → Step (tree a empty after) after
-    lifted : {a b : A} {below after : Forest A} → noted a ≡ false → Step (tree a (tree b below empty) after) (tree b below after)
-    inside : {a : A} {f g after : Forest A} → Step f g → Step (tree a f after) (tree a g after)
-    beside : {a : A} {below f g : Forest A} → Step f g → Step (tree a below f) (tree a below g)
+  pub data ForestStep : Forest A → Forest A → Type 0 where
+    dropped : {a : A} {after : Forest A} → noted a ≡ false → ForestStep (tree a empty after) after
+    lifted : {a b : A} {below after : Forest A} → noted a ≡ false → ForestStep (tree a (tree b below empty) after) (tree b below after)
+    inside : {a : A} {f g after : Forest A} → ForestStep f g → ForestStep (tree a f after) (tree a g after)
+    beside : {a : A} {below f g : Forest A} → ForestStep f g → ForestStep (tree a below f) (tree a below g)
 
   -- steps one after another
-  pub data Run : Forest A → Forest A → Type 0 where
-    done : {f : Forest A} → Run f f
-    next : {f g h : Forest A} → Step f g → Run g h → Run f h
+  pub data ForestRun : Forest A → Forest A → Type 0 where
+    done : {f : Forest A} → ForestRun f f
+    next : {f g h : Forest A} → ForestStep f g → ForestRun g h → ForestRun f h
 
   -- no step leaves the forest
-  abbrev pub Normal : Forest A → Type 0
-  Normal f = (g : Forest A) → Step f g → ⊥
+  abbrev pub NormalForest : Forest A → Type 0
+  NormalForest f = (g : Forest A) → ForestStep f g → ⊥
 
   -- a step below the root of a tree, which itself stays
   abbrev pub StepBelow : Rose A → Rose A → Type 0
-  StepBelow t u = (u.root ≡ t.root) × Step t.below u.below
+  StepBelow t u = (u.root ≡ t.root) × ForestStep t.below u.below
 
   -- a run below the root of a tree
   abbrev pub RunBelow : Rose A → Rose A → Type 0
-  RunBelow t u = (u.root ≡ t.root) × Run t.below u.below
+  RunBelow t u = (u.root ≡ t.root) × ForestRun t.below u.below
 
   -- no step is possible at a node with a note or with at least two children
   abbrev pub stands : A → Forest A → Bool

@@ -8,5 +8,5 @@ module _ {A : Type 0} (noted : A → Bool) where
   units_below (tree a below after) = (if noted a then a ∷ units_below below else units_below below) ++ units_below after
 
   -- the root's label is among them, if it has a note
-  abbrev pub units : Rose A → List A
-  units t = if noted t.root then t.root ∷ units_below t.below else units_below t.below
+  abbrev pub units_by : Rose A → List A
+  units_by t = if noted t.root then t.root ∷ units_below t.below else units_below t.below

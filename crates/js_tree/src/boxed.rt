@@ -27,11 +27,11 @@ pub struct Boxed<'a> {
 }
 
 impl<'a> Boxed<'a> {
-    ghost use Rattle.js_tree.specs.BoxedState.{start, state_of};
+    ghost use Rattle.js_tree.specs.BoxedState.{boxed_start, boxed_state};
 
     /// Of nothing yet. Takes no memory.
     pub fn new(alloc: Global) -> Boxed<'a>
-        ensures { state_of result ≡ start }
+        ensures { boxed_state result ≡ boxed_start }
     {
         Boxed {
             alloc,
@@ -42,7 +42,7 @@ impl<'a> Boxed<'a> {
 
     /// The tree; None before its root has closed.
     pub fn tree(self) -> Option<Tree<'a>>
-        ensures { result ≡ (state_of self.entry).found }
+        ensures { result ≡ (boxed_state self.entry).found }
     {
         let Boxed {
             alloc: _,
@@ -55,15 +55,15 @@ impl<'a> Boxed<'a> {
 
 impl<'a> Collector<'a> for Boxed<'a> {
     ghost use Rattle.std.specs.Prelude.{◌≡◌, IfOk, IfErr};
-    ghost use Rattle.js_tree.specs.BoxedState.{after, state_of};
+    ghost use Rattle.js_tree.specs.BoxedState.{boxed_after, boxed_state};
     ghost use Rattle.js_tree.specs.Events.{opening, closing};
     ghost use Rattle.js_tree.specs.Seen.{note_of};
 
-    ghost takes = { λ a e b. state_of b ≡ after (state_of a) e };
+    ghost takes = { λ a e b. boxed_state b ≡ boxed_after (boxed_state a) e };
 
     fn enter(&mut self, head: Head) -> Result<(), Memory>
-        ensures takes { IfOk result (λ _. state_of self.new ≡ after (state_of self.old) (opening head.keyword head.absolute head.instance)) }
-        ensures kept { IfErr result (λ _. state_of self.new ≡ state_of self.old) }
+        ensures takes { IfOk result (λ _. boxed_state self.new ≡ boxed_after (boxed_state self.old) (opening head.keyword head.absolute head.instance)) }
+        ensures kept { IfErr result (λ _. boxed_state self.new ≡ boxed_state self.old) }
     {
         if self.found.is_none() {
             let node = OpenNode {
@@ -76,8 +76,8 @@ impl<'a> Collector<'a> for Boxed<'a> {
     }
 
     fn leave(&mut self, valid: bool, note: Note<'a>) -> Result<(), Memory>
-        ensures takes { IfOk result (λ _. state_of self.new ≡ after (state_of self.old) (closing valid (note_of note.entry))) }
-        ensures kept { IfErr result (λ _. state_of self.new ≡ state_of self.old) }
+        ensures takes { IfOk result (λ _. boxed_state self.new ≡ boxed_after (boxed_state self.old) (closing valid (note_of note.entry))) }
+        ensures kept { IfErr result (λ _. boxed_state self.new ≡ boxed_state self.old) }
     {
         match self.nodes.pop() {
             None => Ok(()),

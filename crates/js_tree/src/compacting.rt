@@ -1,8 +1,8 @@
 //! Pruning and condensing of flat forms, in place.
 ghost use Rattle.std.specs.Prelude.{◌≡◌, ◌<◌, ◌≤◌, ◌+◌, ◌^◌, ◌++◌, List, drop, take, length, map, suc};
-ghost use Rattle.js_tree.specs.Compacting.{AreMarked, Tallied, gathered, left, left_of, left_trees, marked, others, room, stays};
+ghost use Rattle.js_tree.specs.Compacting.{AreMarkedTrees, IsRemaining, gathered, left, left_of, left_trees, marked, gone_with, room, stays};
 ghost use Rattle.js_tree.specs.Flat.{flat, flat_of};
-ghost use Rattle.js_tree.specs.FlatState.{IsWhole, row_of, state_of, whole};
+ghost use Rattle.js_tree.specs.FlatState.{IsWholeTree, row_of, flat_state, whole_tree};
 ghost use Rattle.js_tree.specs.Forest.{Forest, node_count};
 ghost use Rattle.js_tree.specs.OutputUnit.{OutputUnit};
 ghost use Rattle.js_tree.specs.Result.{ResultTree, kept, pruned};
@@ -23,7 +23,7 @@ enum Keep {
 
 /// What is left of the trees of a node's children: of how many trees something, and how many nodes.
 #[derive(Clone, Copy)]
-struct Tally {
+struct Remaining {
     trees: usize,
     nodes: usize,
 }
@@ -51,8 +51,8 @@ impl Keep {
         }
     }
 
-    fn others(self, size: usize) -> usize
-        ensures { result ≡ others self size }
+    fn gone_with(self, size: usize) -> usize
+        ensures { result ≡ gone_with self size }
     {
         match self {
             Keep::Verdict(_) => size.saturating_sub(1),
@@ -64,8 +64,8 @@ impl Keep {
 /// The rows of the pruned tree: see `prune`. The rows have to be a whole tree's. Takes no memory, and time linear in
 /// the rows.
 pub fn flat_prune(flat: Flat) -> Flat
-    requires { IsWhole (state_of flat) }
-    ensures { (t : ResultTree) → state_of flat.entry ≡ whole t → state_of result ≡ whole (pruned t) }
+    requires { IsWholeTree (flat_state flat) }
+    ensures { (t : ResultTree) → flat_state flat.entry ≡ whole_tree t → flat_state result ≡ whole_tree (pruned t) }
 {
     let mut flat = flat;
     let verdict = flat.rows[0].unit.valid;
@@ -76,8 +76,8 @@ pub fn flat_prune(flat: Flat) -> Flat
 /// The rows of the condensed tree: see `condense`. The rows have to be a whole tree's. Takes no memory, and time linear
 /// in the rows.
 pub fn flat_condense(flat: Flat) -> Flat
-    requires { IsWhole (state_of flat) }
-    ensures { (t : ResultTree) → state_of flat.entry ≡ whole t → state_of result ≡ whole (kept t) }
+    requires { IsWholeTree (flat_state flat) }
+    ensures { (t : ResultTree) → flat_state flat.entry ≡ whole_tree t → flat_state result ≡ whole_tree (kept t) }
 {
     let mut flat = flat;
     keep_rows(&mut flat.rows, Keep::Noted);
@@ -101,9 +101,9 @@ fn mark(rows: &mut [Row], keep: Keep)
     ensures marked { (f : Forest OutputUnit) → map row_of rows.old ≡ flat_of f → rows.new ≡ marked keep f }
 {
     for i in (0..rows.len()).rev() {
-        let tally = children(rows, i + 1, i + rows[i].size);
-        let stays = keep.stays(&rows[i].unit, tally.trees);
-        let room = keep.room(stays, tally.nodes);
+        let remaining = children(rows, i + 1, i + rows[i].size);
+        let stays = keep.stays(&rows[i].unit, remaining.trees);
+        let room = keep.room(stays, remaining.nodes);
         let row = &mut rows[i];
         row.stays = stays;
         row.room = room;
@@ -111,23 +111,23 @@ fn mark(rows: &mut [Row], keep: Keep)
 }
 
 /// What is left of the trees whose rows stand from `first` to `end`.
-fn children(rows: &[Row], first: usize, end: usize) -> Tally
+fn children(rows: &[Row], first: usize, end: usize) -> Remaining
     requires within { end ≤ length rows.now }
-    requires marked { AreMarked rows.now first end }
+    requires marked { AreMarkedTrees rows.now first end }
     ensures { (k : OfKeep) (f : Forest OutputUnit) (rest : List OfRow) → drop first rows.now ≡ marked k f ++ rest → first + node_count f ≡ end
         → (result.trees ≡ left_trees k f) × (result.nodes ≡ node_count (left k f)) }
 {
-    let mut tally = Tally { trees: 0, nodes: 0 };
+    let mut remaining = Remaining { trees: 0, nodes: 0 };
     let mut next = first;
     while next < end {
         let row = &rows[next];
         if row.room > 0 {
-            tally.trees += 1;
+            remaining.trees += 1;
         }
-        tally.nodes += row.room;
+        remaining.nodes += row.room;
         next += row.size;
     }
-    tally
+    remaining
 }
 
 /// Moves the root's row and those that are left to the front, with their new sizes but the root's, and answers how many
@@ -139,10 +139,10 @@ fn gather(rows: &mut [Row], keep: Keep) -> usize
 {
     let mut count = 1;
     // How many rows go with one before them.
-    let mut others = 0;
+    let mut gone = 0;
     for i in 1..rows.len() {
-        if others > 0 {
-            others -= 1;
+        if gone > 0 {
+            gone -= 1;
             continue;
         }
         let row = &mut rows[i];
@@ -151,7 +151,7 @@ fn gather(rows: &mut [Row], keep: Keep) -> usize
             rows.swap(count, i);
             count += 1;
         } else {
-            others = keep.others(row.size);
+            gone = keep.gone_with(row.size);
         }
     }
     count

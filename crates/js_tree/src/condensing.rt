@@ -1,7 +1,10 @@
 //! Condensing: nodes without a note go where they only pass on what stands below them.
 ghost use Rattle.std.specs.Prelude.{◌≡◌, ◌≤◌, ◌↔◌, IsTrue, if◌then◌else◌, length, take};
 ghost use Rattle.js_tree.specs.Forest.{empty, tree as node, forest_of};
-ghost use Rattle.js_tree.specs.Result.{Normal, Run, all_stand, kept, kept_below, units};
+ghost use Rattle.js_tree.specs.Kept.{kept_below};
+ghost use Rattle.js_tree.specs.OutputUnit.{noted};
+ghost use Rattle.js_tree.specs.Result.{Normal, Run, kept, units};
+ghost use Rattle.js_tree.specs.Step.{all_stand};
 
 use crate::tree::{Tree, Trees};
 
@@ -24,7 +27,7 @@ pub fn condense(tree: Tree) -> Tree
 
 #[cycle(condense)]
 fn condense_children(children: &mut Trees)
-    ensures { forest_of children.new ≡ kept_below (forest_of children.old) }
+    ensures { forest_of children.new ≡ kept_below noted (forest_of children.old) }
 {
     let trees = &mut children.trees;
     let count = condense_all(trees);
@@ -35,7 +38,7 @@ fn condense_children(children: &mut Trees)
 #[cycle(condense)]
 fn condense_all(trees: &mut [Tree]) -> usize
     ensures at_most { result ≤ length trees.old }
-    ensures kept { forest_of (take result trees.new) ≡ kept_below (forest_of trees.old) }
+    ensures kept { forest_of (take result trees.new) ≡ kept_below noted (forest_of trees.old) }
 {
     let mut count = 0;
     for i in 0..trees.len() {
@@ -50,7 +53,7 @@ fn condense_all(trees: &mut [Tree]) -> usize
 /// Condenses below the node; then its only child takes its place, if it has no note. Answers whether a tree is left.
 #[cycle(condense)]
 fn condense_one(tree: &mut Tree) -> bool
-    ensures { kept_below (node tree.old.root tree.old.below empty) ≡ (if result then node tree.new.root tree.new.below empty else empty) }
+    ensures { kept_below noted (node tree.old.root tree.old.below empty) ≡ (if result then node tree.new.root tree.new.below empty else empty) }
 {
     condense_children(&mut tree.children);
     // Only now: what stood below the node may be gone.
@@ -75,7 +78,7 @@ pub fn is_normal(tree: &Tree) -> bool
 }
 
 fn all_stand(trees: &[Tree]) -> bool
-    ensures { result ≡ all_stand (forest_of trees.now) }
+    ensures { result ≡ all_stand noted (forest_of trees.now) }
 {
     for tree in trees {
         if !tree.stands() {

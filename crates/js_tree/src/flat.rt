@@ -30,11 +30,11 @@ pub struct Flat<'a> {
 }
 
 impl<'a> Flat<'a> {
-    ghost use Rattle.js_tree.specs.FlatState.{IsWhole, row_of, start, state_of};
+    ghost use Rattle.js_tree.specs.FlatState.{IsWholeTree, row_of, flat_start, flat_state};
 
     /// Of nothing yet. Takes no memory.
     pub fn new(alloc: Global) -> Flat<'a>
-        ensures { state_of result ≡ start }
+        ensures { flat_state result ≡ flat_start }
     {
         Flat {
             rows: Vec::new(alloc),
@@ -44,14 +44,14 @@ impl<'a> Flat<'a> {
 
     /// The rows, in preorder.
     pub fn rows(&self) -> &[Row<'a>]
-        ensures { map row_of result.now ≡ (state_of self.now).rows }
+        ensures { map row_of result.now ≡ (flat_state self.now).rows }
     {
         self.rows.as_slice()
     }
 
     /// The rows are those of a whole tree, and no node is open. Takes no memory, and time linear in the rows.
     pub fn whole(&self) -> bool
-        ensures { IsTrue result ↔ IsWhole (state_of self.now) }
+        ensures { IsTrue result ↔ IsWholeTree (flat_state self.now) }
     {
         self.numbers.is_empty() && are_of_a_tree(self.rows.as_slice())
     }
@@ -60,14 +60,14 @@ impl<'a> Flat<'a> {
 impl<'a> Collector<'a> for Flat<'a> {
     ghost use Rattle.std.specs.Prelude.{◌≡◌, IfOk, IfErr};
     ghost use Rattle.js_tree.specs.Events.{opening, closing};
-    ghost use Rattle.js_tree.specs.FlatState.{after, state_of};
+    ghost use Rattle.js_tree.specs.FlatState.{flat_after, flat_state};
     ghost use Rattle.js_tree.specs.Seen.{note_of};
 
-    ghost takes = { λ a e b. state_of b ≡ after (state_of a) e };
+    ghost takes = { λ a e b. flat_state b ≡ flat_after (flat_state a) e };
 
     fn enter(&mut self, head: Head) -> Result<(), Memory>
-        ensures takes { IfOk result (λ _. state_of self.new ≡ after (state_of self.old) (opening head.keyword head.absolute head.instance)) }
-        ensures kept { IfErr result (λ _. state_of self.new ≡ state_of self.old) }
+        ensures takes { IfOk result (λ _. flat_state self.new ≡ flat_after (flat_state self.old) (opening head.keyword head.absolute head.instance)) }
+        ensures kept { IfErr result (λ _. flat_state self.new ≡ flat_state self.old) }
     {
         // Without an open node there is either no row yet, or the root has closed.
         if !self.numbers.is_empty() || self.rows.is_empty() {
@@ -92,8 +92,8 @@ impl<'a> Collector<'a> for Flat<'a> {
     }
 
     fn leave(&mut self, valid: bool, note: Note<'a>) -> Result<(), Memory>
-        ensures takes { IfOk result (λ _. state_of self.new ≡ after (state_of self.old) (closing valid (note_of note.entry))) }
-        ensures kept { IfErr result (λ _. state_of self.new ≡ state_of self.old) }
+        ensures takes { IfOk result (λ _. flat_state self.new ≡ flat_after (flat_state self.old) (closing valid (note_of note.entry))) }
+        ensures kept { IfErr result (λ _. flat_state self.new ≡ flat_state self.old) }
     {
         if let Some(number) = self.numbers.pop() {
             let count = self.rows.len();

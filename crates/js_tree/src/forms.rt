@@ -4,10 +4,12 @@ ghost use Rattle.js_doc.specs.Members.{put};
 ghost use Rattle.js_doc.specs.Seen.{value_of};
 ghost use Rattle.js_doc.specs.Value.{text, list, members, object, truth, whole, items};
 ghost use Rattle.js_tree.specs.Forest.{forest_of};
-ghost use Rattle.js_tree.specs.Form.{annotation, array_of_some, error, flag, form, list_name, node, nodes, unit_list, verbose, when};
-ghost use Rattle.js_tree.specs.Put.{put_given};
-ghost use Rattle.js_tree.specs.Result.{ResultTree, Normal, Run, pruned, units_below};
+ghost use Rattle.js_tree.specs.Form.{annotation_value, array_of_some, error_value, flag, form, list_name, node_value, node_values, unit_list, verbose, value_if};
+ghost use Rattle.js_tree.specs.OutputUnit.{noted};
+ghost use Rattle.js_tree.specs.Put.{put_some};
+ghost use Rattle.js_tree.specs.Result.{ResultTree, Normal, Run, pruned};
 ghost use Rattle.js_tree.specs.Seen.{note_of};
+ghost use Rattle.js_tree.specs.Units.{units_below};
 ghost use Rattle.js_tree.specs.declared.forms.Format.TheVariants.{Detailed};
 
 use crate::condensing::condense;
@@ -56,12 +58,12 @@ pub fn tree_doc(alloc: Global, tree: &Tree) -> Result<Doc, Memory>
     ensures { IfOk result (λ doc. value_of doc ≡ verbose tree.now) }
 {
     let children = tree_docs(alloc, tree.children.as_slice())?;
-    node(alloc, &tree.unit, children)
+    node_doc(alloc, &tree.unit, children)
 }
 
 #[cycle(tree_doc)]
 fn tree_docs(alloc: Global, trees: &[Tree]) -> Result<Vec<Doc>, Memory>
-    ensures { IfOk result (λ docs. map value_of docs.items ≡ nodes (forest_of trees.now)) }
+    ensures { IfOk result (λ docs. map value_of docs.items ≡ node_values (forest_of trees.now)) }
 {
     let mut docs = Vec::with_capacity(alloc, trees.len())?;
     for tree in trees {
@@ -74,7 +76,7 @@ pub(crate) fn flag(alloc: Global, valid: bool) -> Result<Doc, Memory>
     ensures { IfOk result (λ doc. value_of doc ≡ flag valid) }
 {
     let mut members = Members::new(alloc);
-    put(alloc, &mut members, "valid", Doc::Truth(valid))?;
+    put_member(alloc, &mut members, "valid", Doc::Truth(valid))?;
     Ok(Doc::Members(members))
 }
 
@@ -83,34 +85,34 @@ fn unit_list(alloc: Global, tree: &Tree) -> Result<Doc, Memory>
 {
     let mut docs = Vec::new(alloc);
     if tree.unit.is_noted() {
-        docs.push(node(alloc, &tree.unit, Vec::new(alloc))?)?;
+        docs.push(node_doc(alloc, &tree.unit, Vec::new(alloc))?)?;
     }
     add_unit_docs(alloc, tree.children.as_slice(), &mut docs)?;
-    listed(alloc, tree.unit.valid, docs)
+    list_doc(alloc, tree.unit.valid, docs)
 }
 
 /// The list of units, over the documents of the units.
-pub(crate) fn listed(alloc: Global, valid: bool, docs: Vec<Doc>) -> Result<Doc, Memory>
+pub(crate) fn list_doc(alloc: Global, valid: bool, docs: Vec<Doc>) -> Result<Doc, Memory>
     ensures { IfOk result (λ doc. value_of doc ≡ object (members ((list_name valid, list (items (map value_of docs.items))) ∷ (codes "valid", truth valid) ∷ []))) }
 {
     let mut members = Members::new(alloc);
-    put(
+    put_member(
         alloc,
         &mut members,
         list_name(valid),
         Doc::List(Items::new(docs)),
     )?;
-    put(alloc, &mut members, "valid", Doc::Truth(valid))?;
+    put_member(alloc, &mut members, "valid", Doc::Truth(valid))?;
     Ok(Doc::Members(members))
 }
 
 /// Adds the units with a note, in preorder, each as a node without children.
 fn add_unit_docs(alloc: Global, trees: &[Tree], docs: &mut Vec<Doc>) -> Result<(), Memory>
-    ensures { IfOk result (λ _. map value_of docs.new.items ≡ map value_of docs.old.items ++ map (λ u. node u []) (units_below (forest_of trees.now))) }
+    ensures { IfOk result (λ _. map value_of docs.new.items ≡ map value_of docs.old.items ++ map (λ u. node_value u []) (units_below noted (forest_of trees.now))) }
 {
     for tree in trees {
         if tree.unit.is_noted() {
-            docs.push(node(alloc, &tree.unit, Vec::new(alloc))?)?;
+            docs.push(node_doc(alloc, &tree.unit, Vec::new(alloc))?)?;
         }
         add_unit_docs(alloc, tree.children.as_slice(), docs)?;
     }
@@ -118,50 +120,50 @@ fn add_unit_docs(alloc: Global, trees: &[Tree], docs: &mut Vec<Doc>) -> Result<(
 }
 
 /// A node over the documents of its children.
-pub(crate) fn node(alloc: Global, unit: &Unit, children: Vec<Doc>) -> Result<Doc, Memory>
-    ensures { IfOk result (λ doc. value_of doc ≡ node unit.now (map value_of children.items)) }
+pub(crate) fn node_doc(alloc: Global, unit: &Unit, children: Vec<Doc>) -> Result<Doc, Memory>
+    ensures { IfOk result (λ doc. value_of doc ≡ node_value unit.now (map value_of children.items)) }
 {
     let mut members = Members::new(alloc);
     put_note(alloc, &mut members, &unit.note)?;
     put_children(alloc, &mut members, unit.valid, children)?;
-    put_text(
+    put_text_member(
         alloc,
         &mut members,
         "absoluteKeywordLocation",
         &unit.absolute,
     )?;
-    put_text(alloc, &mut members, "instanceLocation", &unit.instance)?;
-    put_text(alloc, &mut members, "keywordLocation", &unit.keyword)?;
-    put(alloc, &mut members, "valid", Doc::Truth(unit.valid))?;
+    put_text_member(alloc, &mut members, "instanceLocation", &unit.instance)?;
+    put_text_member(alloc, &mut members, "keywordLocation", &unit.keyword)?;
+    put_member(alloc, &mut members, "valid", Doc::Truth(unit.valid))?;
     Ok(Doc::Members(members))
 }
 
 fn put_note(alloc: Global, members: &mut Members, note: &Note) -> Result<(), Memory>
-    ensures { OnOk result (members.new ≡ put_given (codes "error") (error (note_of note.now)) (put_given (codes "annotation") (annotation (note_of note.now)) members.old)) }
+    ensures { OnOk result (members.new ≡ put_some (codes "error") (error_value (note_of note.now)) (put_some (codes "annotation") (annotation_value (note_of note.now)) members.old)) }
 {
     match note {
         Note::Silent => Ok(()),
-        Note::Error(reason) => put_text(alloc, members, "error", reason),
-        Note::Value(value) => put(alloc, members, "annotation", value.copy(alloc)?),
-        Note::Names(names) => put(
+        Note::Error(reason) => put_text_member(alloc, members, "error", reason),
+        Note::Value(value) => put_member(alloc, members, "annotation", value.copy(alloc)?),
+        Note::Names(names) => put_member(
             alloc,
             members,
             "annotation",
             texts(alloc, names.as_slice())?,
         ),
-        Note::Index(index) => put(
+        Note::Index(index) => put_member(
             alloc,
             members,
             "annotation",
             Doc::Whole(Whole::from_u64(*index)),
         ),
-        Note::Indexes(indexes) => put(
+        Note::Indexes(indexes) => put_member(
             alloc,
             members,
             "annotation",
             wholes(alloc, indexes.as_slice())?,
         ),
-        Note::Truth => put(alloc, members, "annotation", Doc::Truth(true)),
+        Note::Truth => put_member(alloc, members, "annotation", Doc::Truth(true)),
     }
 }
 
@@ -172,12 +174,12 @@ fn put_children(
     valid: bool,
     children: Vec<Doc>,
 ) -> Result<(), Memory>
-    ensures { OnOk result (members.new ≡ put_given (codes "errors") (when (not valid) (array_of_some (map value_of children.items))) (put_given (codes "annotations") (when valid (array_of_some (map value_of children.items))) members.old)) }
+    ensures { OnOk result (members.new ≡ put_some (codes "errors") (value_if (not valid) (array_of_some (map value_of children.items))) (put_some (codes "annotations") (value_if valid (array_of_some (map value_of children.items))) members.old)) }
 {
     if children.is_empty() {
         return Ok(());
     }
-    put(
+    put_member(
         alloc,
         members,
         list_name(valid),
@@ -191,13 +193,18 @@ fn list_name(valid: bool) -> &'static str
     if valid { "annotations" } else { "errors" }
 }
 
-fn put_text(alloc: Global, members: &mut Members, name: &str, value: &Text) -> Result<(), Memory>
+fn put_text_member(
+    alloc: Global,
+    members: &mut Members,
+    name: &str,
+    value: &Text,
+) -> Result<(), Memory>
     ensures { OnOk result (members.new ≡ put name.now (text value.now) members.old) }
 {
-    put(alloc, members, name, Doc::Text(value.copy()?))
+    put_member(alloc, members, name, Doc::Text(value.copy()?))
 }
 
-fn put(alloc: Global, members: &mut Members, name: &str, doc: Doc) -> Result<(), Memory>
+fn put_member(alloc: Global, members: &mut Members, name: &str, doc: Doc) -> Result<(), Memory>
     ensures { OnOk result (members.new ≡ put name.now (value_of doc) members.old) }
 {
     members.put(String::from_str(alloc, name)?, doc)

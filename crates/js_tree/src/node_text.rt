@@ -4,8 +4,8 @@ ghost use Rattle.js_doc.specs.BytesOut.{Puts};
 ghost use Rattle.js_doc.specs.Compact.{comma_if, compact, quoted};
 ghost use Rattle.js_doc.specs.Seen.{value_of};
 ghost use Rattle.js_doc.specs.Value.{items, list, text, whole};
-ghost use Rattle.js_tree.specs.Form.{node};
-ghost use Rattle.js_tree.specs.NodeText.{annotation_text, error_text, head_text, tail_text, valid_text};
+ghost use Rattle.js_tree.specs.Form.{node_value};
+ghost use Rattle.js_tree.specs.NodeText.{annotation_part, error_part, head_text, tail_text, valid_text};
 ghost use Rattle.js_tree.specs.Seen.{note_of};
 
 use crate::note::Note;
@@ -14,7 +14,7 @@ use js_doc::{Doc, Out, Stopped, Text, Whole, put_number, put_string, put_text};
 
 /// Puts a node without children.
 pub(crate) fn put_leaf<O: Out>(unit: &Unit, out: &mut O) -> Result<(), Stopped>
-    ensures { Puts (O.progress out.old) (O.progress out.new) (compact (node unit.now [])) result }
+    ensures { Puts (O.progress out.old) (O.progress out.new) (compact (node_value unit.now [])) result }
 {
     put_head(unit, out)?;
     put_error(&unit.note, out)?;
@@ -51,7 +51,7 @@ pub(crate) fn put_valid<O: Out>(valid: bool, out: &mut O) -> Result<(), Stopped>
 
 /// Puts the error, if the note is one.
 pub(crate) fn put_error<O: Out>(note: &Note, out: &mut O) -> Result<(), Stopped>
-    ensures { Puts (O.progress out.old) (O.progress out.new) (error_text (note_of note.now)) result }
+    ensures { Puts (O.progress out.old) (O.progress out.new) (error_part (note_of note.now)) result }
 {
     match note {
         Note::Error(reason) => put_member(b",\"error\":", reason, out),
@@ -66,7 +66,7 @@ pub(crate) fn put_error<O: Out>(note: &Note, out: &mut O) -> Result<(), Stopped>
 
 /// Puts the annotation, if the note is one.
 fn put_annotation<O: Out>(note: &Note, out: &mut O) -> Result<(), Stopped>
-    ensures { Puts (O.progress out.old) (O.progress out.new) (annotation_text (note_of note.now)) result }
+    ensures { Puts (O.progress out.old) (O.progress out.new) (annotation_part (note_of note.now)) result }
 {
     match note {
         Note::Silent => Ok(()),

@@ -1,7 +1,9 @@
 //! The units of a tree that have a note.
 ghost use Rattle.std.specs.Prelude.{◌≡◌, ◌++◌, IfOk, map};
 ghost use Rattle.js_tree.specs.Forest.{forest_of};
-ghost use Rattle.js_tree.specs.Result.{units, units_below};
+ghost use Rattle.js_tree.specs.OutputUnit.{noted};
+ghost use Rattle.js_tree.specs.Result.{units};
+ghost use Rattle.js_tree.specs.Units.{units_below};
 
 use crate::tree::Tree;
 use crate::unit::Unit;
@@ -24,7 +26,7 @@ pub fn units<'t, 'a>(alloc: Global, tree: &'t Tree<'a>) -> Result<Vec<&'t Unit<'
 }
 
 fn add_units<'t, 'a>(trees: &'t [Tree<'a>], found: &mut Vec<&'t Unit<'a>>) -> Result<(), Memory>
-    ensures { IfOk result (λ _. map (λ unit. unit.now) found.new.items ≡ map (λ unit. unit.now) found.old.items ++ units_below (forest_of trees.now)) }
+    ensures { IfOk result (λ _. map (λ unit. unit.now) found.new.items ≡ map (λ unit. unit.now) found.old.items ++ units_below noted (forest_of trees.now)) }
 {
     for tree in trees {
         if tree.unit.is_noted() {

@@ -1,6 +1,6 @@
 //! The units of a flat form that have a note.
 ghost use Rattle.std.specs.Prelude.{◌≡◌, IfOk, map};
-ghost use Rattle.js_tree.specs.FlatState.{IsWhole, noted_of, row_of, state_of, whole};
+ghost use Rattle.js_tree.specs.FlatState.{IsWholeTree, noted_of, row_of, flat_state, whole_tree};
 ghost use Rattle.js_tree.specs.Result.{ResultTree, units};
 
 use crate::flat::{Flat, Row};
@@ -13,8 +13,8 @@ use std::alloc::Global;
 /// # Errors
 /// `Memory`.
 pub fn flat_units<'t, 'a>(alloc: Global, flat: &'t Flat<'a>) -> Result<Vec<&'t Unit<'a>>, Memory>
-    requires { IsWhole (state_of flat.now) }
-    ensures { IfOk result (λ found. (t : ResultTree) → state_of flat.now ≡ whole t → map (λ unit. unit.now) found.items ≡ units t) }
+    requires { IsWholeTree (flat_state flat.now) }
+    ensures { IfOk result (λ found. (t : ResultTree) → flat_state flat.now ≡ whole_tree t → map (λ unit. unit.now) found.items ≡ units t) }
 {
     noted_units(alloc, flat.rows())
 }

@@ -1,7 +1,8 @@
 //! Pruning: what of a result tree bears on its verdict.
 ghost use Rattle.std.specs.Prelude.{◌≡◌, ◌≤◌, if◌then◌else◌, length, take};
 ghost use Rattle.js_tree.specs.Forest.{empty, tree as node, forest_of};
-ghost use Rattle.js_tree.specs.Result.{pruned, pruned_below};
+ghost use Rattle.js_tree.specs.Pruned.{pruned_below};
+ghost use Rattle.js_tree.specs.Result.{has_verdict, pruned};
 
 use crate::tree::{Tree, Trees};
 
@@ -18,7 +19,7 @@ pub fn prune(tree: Tree) -> Tree
 
 #[cycle(prune)]
 fn prune_children(children: &mut Trees, verdict: bool)
-    ensures { forest_of children.new ≡ pruned_below verdict (forest_of children.old) }
+    ensures { forest_of children.new ≡ pruned_below (has_verdict verdict) (forest_of children.old) }
 {
     let trees = &mut children.trees;
     let count = prune_all(trees, verdict);
@@ -29,7 +30,7 @@ fn prune_children(children: &mut Trees, verdict: bool)
 #[cycle(prune)]
 fn prune_all(trees: &mut [Tree], verdict: bool) -> usize
     ensures at_most { result ≤ length trees.old }
-    ensures pruned { forest_of (take result trees.new) ≡ pruned_below verdict (forest_of trees.old) }
+    ensures pruned { forest_of (take result trees.new) ≡ pruned_below (has_verdict verdict) (forest_of trees.old) }
 {
     let mut count = 0;
     for i in 0..trees.len() {
@@ -44,7 +45,7 @@ fn prune_all(trees: &mut [Tree], verdict: bool) -> usize
 /// Prunes below the node, if it has the verdict, and answers whether it has.
 #[cycle(prune)]
 fn prune_one(tree: &mut Tree, verdict: bool) -> bool
-    ensures { pruned_below verdict (node tree.old.root tree.old.below empty) ≡ (if result then node tree.new.root tree.new.below empty else empty) }
+    ensures { pruned_below (has_verdict verdict) (node tree.old.root tree.old.below empty) ≡ (if result then node tree.new.root tree.new.below empty else empty) }
 {
     if tree.unit.valid != verdict {
         return false;

@@ -2,7 +2,7 @@
 ghost use Rattle.std.specs.Prelude.{◌≡◌};
 ghost use Rattle.js_doc.specs.BytesOut.{Puts};
 ghost use Rattle.js_doc.specs.Compact.{compact};
-ghost use Rattle.js_tree.specs.FlatState.{IsWhole, state_of, whole};
+ghost use Rattle.js_tree.specs.FlatState.{IsWholeTree, flat_state, whole_tree};
 ghost use Rattle.js_tree.specs.Form.{flag, shown};
 ghost use Rattle.js_tree.specs.Result.{ResultTree};
 
@@ -17,8 +17,8 @@ use js_doc::{Out, Stopped};
 /// # Errors
 /// `Stopped`; then a beginning of the text has gone out.
 pub fn put_flat<O: Out>(flat: &Flat, format: Format, out: &mut O) -> Result<(), Stopped>
-    requires { IsWhole (state_of flat.now) }
-    ensures { (t : ResultTree) → state_of flat.now ≡ whole t → Puts (O.progress out.old) (O.progress out.new) (compact (shown format t)) result }
+    requires { IsWholeTree (flat_state flat.now) }
+    ensures { (t : ResultTree) → flat_state flat.now ≡ whole_tree t → Puts (O.progress out.old) (O.progress out.new) (compact (shown format t)) result }
 {
     let rows = flat.rows();
     let row = &rows[0];

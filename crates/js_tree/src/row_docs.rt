@@ -2,14 +2,14 @@
 ghost use Rattle.std.specs.Prelude.{◌≡◌, [], IfOk, map};
 ghost use Rattle.js_doc.specs.Seen.{value_of};
 ghost use Rattle.js_tree.specs.Flat.{flat, flat_of};
-ghost use Rattle.js_tree.specs.FlatState.{IsWhole, noted_of, row_of, state_of, whole};
+ghost use Rattle.js_tree.specs.FlatState.{IsWholeTree, noted_of, row_of, flat_state, whole_tree};
 ghost use Rattle.js_tree.specs.Forest.{Forest};
-ghost use Rattle.js_tree.specs.Form.{flag, node, nodes, shown, unit_list, verbose};
+ghost use Rattle.js_tree.specs.Form.{flag, node_value, node_values, shown, unit_list, verbose};
 ghost use Rattle.js_tree.specs.OutputUnit.{OutputUnit};
 ghost use Rattle.js_tree.specs.Result.{ResultTree};
 
 use crate::flat::{Flat, Row};
-use crate::forms::{Format, flag, listed, node};
+use crate::forms::{Format, flag, list_doc, node_doc};
 use js_doc::{Doc, Memory};
 use std::alloc::Global;
 
@@ -19,8 +19,8 @@ use std::alloc::Global;
 /// # Errors
 /// `Memory`.
 pub fn flat_doc(alloc: Global, flat: &Flat, format: Format) -> Result<Doc, Memory>
-    requires { IsWhole (state_of flat.now) }
-    ensures { IfOk result (λ doc. (t : ResultTree) → state_of flat.now ≡ whole t → value_of doc ≡ shown format t) }
+    requires { IsWholeTree (flat_state flat.now) }
+    ensures { IfOk result (λ doc. (t : ResultTree) → flat_state flat.now ≡ whole_tree t → value_of doc ≡ shown format t) }
 {
     let rows = flat.rows();
     match format {
@@ -47,17 +47,17 @@ fn unit_list_doc(alloc: Global, rows: &[Row]) -> Result<Doc, Memory>
     let docs = noted_docs(alloc, rows)?;
     let row = &rows[0];
     let root = &row.unit;
-    listed(alloc, root.valid, docs)
+    list_doc(alloc, root.valid, docs)
 }
 
 /// The units with a note, each as a node without children.
 fn noted_docs(alloc: Global, rows: &[Row]) -> Result<Vec<Doc>, Memory>
-    ensures { IfOk result (λ docs. map value_of docs.items ≡ map (λ u. node u []) (noted_of (map row_of rows.now))) }
+    ensures { IfOk result (λ docs. map value_of docs.items ≡ map (λ u. node_value u []) (noted_of (map row_of rows.now))) }
 {
     let mut docs = Vec::new(alloc);
     for row in rows {
         if row.unit.is_noted() {
-            docs.push(node(alloc, &row.unit, Vec::new(alloc))?)?;
+            docs.push(node_doc(alloc, &row.unit, Vec::new(alloc))?)?;
         }
     }
     Ok(docs)
@@ -71,14 +71,14 @@ fn root_doc(alloc: Global, rows: &[Row]) -> Result<Doc, Memory>
 {
     let children = root_docs(alloc, &rows[1..])?;
     let row = &rows[0];
-    node(alloc, &row.unit, children)
+    node_doc(alloc, &row.unit, children)
 }
 
 /// The documents of the rows' trees.
 #[cycle(root_doc)]
 fn root_docs(alloc: Global, rows: &[Row]) -> Result<Vec<Doc>, Memory>
     requires { (f : Forest OutputUnit) × (map row_of rows.now ≡ flat_of f) }
-    ensures { IfOk result (λ docs. (f : Forest OutputUnit) → map row_of rows.now ≡ flat_of f → map value_of docs.items ≡ nodes f) }
+    ensures { IfOk result (λ docs. (f : Forest OutputUnit) → map row_of rows.now ≡ flat_of f → map value_of docs.items ≡ node_values f) }
 {
     let mut docs = Vec::new(alloc);
     let mut next = 0;

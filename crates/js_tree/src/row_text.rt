@@ -6,7 +6,7 @@ ghost use Rattle.js_doc.specs.Value.{items, list};
 ghost use Rattle.js_tree.specs.Flat.{flat, flat_of};
 ghost use Rattle.js_tree.specs.FlatState.{noted_of, row_of};
 ghost use Rattle.js_tree.specs.Forest.{Forest};
-ghost use Rattle.js_tree.specs.Form.{array_of_some, node, nodes, unit_list, verbose, when};
+ghost use Rattle.js_tree.specs.Form.{array_of_some, node_value, node_values, unit_list, verbose, value_if};
 ghost use Rattle.js_tree.specs.NodeText.{given_text, list_start};
 ghost use Rattle.js_tree.specs.OutputUnit.{OutputUnit};
 ghost use Rattle.js_tree.specs.Result.{ResultTree};
@@ -35,7 +35,7 @@ pub(crate) fn put_root<O: Out>(rows: &[Row], out: &mut O) -> Result<(), Stopped>
 #[cycle(put_root)]
 fn put_children<O: Out>(here: bool, start: &[u8], rows: &[Row], out: &mut O) -> Result<(), Stopped>
     requires { (f : Forest OutputUnit) × (map row_of rows.now ≡ flat_of f) }
-    ensures { (f : Forest OutputUnit) → map row_of rows.now ≡ flat_of f → Puts (O.progress out.old) (O.progress out.new) (given_text start.now (when here (array_of_some (nodes f)))) result }
+    ensures { (f : Forest OutputUnit) → map row_of rows.now ≡ flat_of f → Puts (O.progress out.old) (O.progress out.new) (given_text start.now (value_if here (array_of_some (node_values f)))) result }
 {
     if !here {
         return Ok(());
@@ -51,7 +51,7 @@ fn put_children<O: Out>(here: bool, start: &[u8], rows: &[Row], out: &mut O) -> 
 #[cycle(put_root)]
 fn put_roots<O: Out>(rows: &[Row], out: &mut O) -> Result<(), Stopped>
     requires { (f : Forest OutputUnit) × (map row_of rows.now ≡ flat_of f) }
-    ensures { (f : Forest OutputUnit) → map row_of rows.now ≡ flat_of f → Puts (O.progress out.old) (O.progress out.new) (compact (list (items (nodes f)))) result }
+    ensures { (f : Forest OutputUnit) → map row_of rows.now ≡ flat_of f → Puts (O.progress out.old) (O.progress out.new) (compact (list (items (node_values f)))) result }
 {
     out.put(b"[")?;
     let mut later = false;
@@ -91,7 +91,7 @@ fn put_list_name<O: Out>(valid: bool, out: &mut O) -> Result<(), Stopped>
 
 /// Puts the units with a note, each as a node without children, as an array.
 fn put_noted<O: Out>(rows: &[Row], out: &mut O) -> Result<(), Stopped>
-    ensures { Puts (O.progress out.old) (O.progress out.new) (compact (list (items (map (λ u. node u []) (noted_of (map row_of rows.now)))))) result }
+    ensures { Puts (O.progress out.old) (O.progress out.new) (compact (list (items (map (λ u. node_value u []) (noted_of (map row_of rows.now)))))) result }
 {
     out.put(b"[")?;
     let mut later = false;

@@ -1,6 +1,7 @@
 //! Result trees.
 ghost use Rattle.std.specs.Prelude.{◌≡◌, ◌∷◌, ◌++◌, ◌↔◌, IsTrue, MatchOption, [], length};
-ghost use Rattle.js_tree.specs.Result.{stands};
+ghost use Rattle.js_tree.specs.OutputUnit.{noted};
+ghost use Rattle.js_tree.specs.Step.{stands};
 
 use crate::unit::Unit;
 use std::marker::Model;
@@ -108,7 +109,7 @@ impl<'a> Trees<'a> {
 impl<'a> Tree<'a> {
     /// Neither condensing rule is possible at the node: it has a note or at least two children.
     pub(crate) fn stands(&self) -> bool
-        ensures { result ≡ stands self.now.root self.now.below }
+        ensures { result ≡ stands noted self.now.root self.now.below }
     {
         self.unit.is_noted() || self.children.len() >= 2
     }

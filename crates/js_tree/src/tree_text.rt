@@ -3,7 +3,7 @@ ghost use Rattle.js_doc.specs.BytesOut.{Puts};
 ghost use Rattle.js_doc.specs.Compact.{compact};
 ghost use Rattle.js_doc.specs.Value.{items, list};
 ghost use Rattle.js_tree.specs.Forest.{forest_of};
-ghost use Rattle.js_tree.specs.Form.{array_of_some, nodes, verbose, when};
+ghost use Rattle.js_tree.specs.Form.{array_of_some, node_values, verbose, value_if};
 ghost use Rattle.js_tree.specs.NodeText.{given_text};
 
 use crate::node_text::{put_comma, put_error, put_head, put_tail};
@@ -35,7 +35,7 @@ fn put_children<O: Out>(
     trees: &[Tree],
     out: &mut O,
 ) -> Result<(), Stopped>
-    ensures { Puts (O.progress out.old) (O.progress out.new) (given_text start.now (when here (array_of_some (nodes (forest_of trees.now))))) result }
+    ensures { Puts (O.progress out.old) (O.progress out.new) (given_text start.now (value_if here (array_of_some (node_values (forest_of trees.now))))) result }
 {
     if !here {
         return Ok(());
@@ -50,7 +50,7 @@ fn put_children<O: Out>(
 /// Puts the trees as an array.
 #[cycle(put_tree)]
 fn put_trees<O: Out>(trees: &[Tree], out: &mut O) -> Result<(), Stopped>
-    ensures { Puts (O.progress out.old) (O.progress out.new) (compact (list (items (nodes (forest_of trees.now))))) result }
+    ensures { Puts (O.progress out.old) (O.progress out.new) (compact (list (items (node_values (forest_of trees.now))))) result }
 {
     out.put(b"[")?;
     let mut later = false;

@@ -14,11 +14,11 @@ pub struct Verdict {
 }
 
 impl Verdict {
-    ghost use Rattle.js_tree.specs.VerdictState.{start, state_of};
+    ghost use Rattle.js_tree.specs.VerdictState.{verdict_start, verdict_state};
 
     /// Of nothing yet.
     pub fn new() -> Verdict
-        ensures { state_of result ≡ start }
+        ensures { verdict_state result ≡ verdict_start }
     {
         Verdict {
             depth: 0,
@@ -28,7 +28,7 @@ impl Verdict {
 
     /// The root's verdict; None before the root has closed.
     pub fn valid(&self) -> Option<bool>
-        ensures { result ≡ (state_of self.now).valid }
+        ensures { result ≡ (verdict_state self.now).valid }
     {
         self.valid
     }
@@ -38,12 +38,12 @@ impl<'a> Collector<'a> for Verdict {
     ghost use Rattle.std.specs.Prelude.{◌≡◌, IfOk, IsOk};
     ghost use Rattle.js_tree.specs.Events.{opening, closing};
     ghost use Rattle.js_tree.specs.Seen.{note_of};
-    ghost use Rattle.js_tree.specs.VerdictState.{after, state_of};
+    ghost use Rattle.js_tree.specs.VerdictState.{verdict_after, verdict_state};
 
-    ghost takes = { λ a e b. state_of b ≡ after (state_of a) e };
+    ghost takes = { λ a e b. verdict_state b ≡ verdict_after (verdict_state a) e };
 
     fn enter(&mut self, head: Head) -> Result<(), Memory>
-        ensures takes { IfOk result (λ _. state_of self.new ≡ after (state_of self.old) (opening head.keyword head.absolute head.instance)) }
+        ensures takes { IfOk result (λ _. verdict_state self.new ≡ verdict_after (verdict_state self.old) (opening head.keyword head.absolute head.instance)) }
         ensures ok { IsOk result }
     {
         drop(head);
@@ -54,7 +54,7 @@ impl<'a> Collector<'a> for Verdict {
     }
 
     fn leave(&mut self, valid: bool, note: Note<'a>) -> Result<(), Memory>
-        ensures takes { IfOk result (λ _. state_of self.new ≡ after (state_of self.old) (closing valid (note_of note.entry))) }
+        ensures takes { IfOk result (λ _. verdict_state self.new ≡ verdict_after (verdict_state self.old) (closing valid (note_of note.entry))) }
         ensures ok { IsOk result }
     {
         drop(note);

@@ -15,8 +15,8 @@ overflow_add-i-in-loop-i c =
     let w = tree_fits l.rows c.requires.0 (l.i - 1) c.index-rows-i.result (l.invariant.same ∙ c.requires.1) (omega arith) in
     omega (arith, w)
 
-pub children-tally-requires : goal.children-tally-requires
-children-tally-requires c =
+pub children-remaining-requires : goal.children-remaining-requires
+children-remaining-requires c =
     let l = c.loop-i in
     let n = l.i - 1 in
     let f = c.requires.0 in
@@ -42,7 +42,7 @@ room-room-requires c =
     let later : n + 1 ≡ suc n = omega arith in
     let a = node_at n f (let m = rows_of l.rows f e in omega (arith, m, h)) in
     let s : (get_or l.rows n c.index-rows-i.result).size ≡ suc (node_count a.below) = ap (λ y. y.1) (row_at l.rows f n c.index-rows-i.result e h a) in
-    let t = c.children-tally.ensures c.args.keep a.below (marked c.args.keep a.after) (ap (λ m. drop m l.rows) later ∙ marked_after c.args.keep l.rows f n a (rw (← next) at (l.invariant.marked f c.requires.1))) (omega (arith, s)) in
+    let t = c.children-remaining.ensures c.args.keep a.below (marked c.args.keep a.after) (ap (λ m. drop m l.rows) later ∙ marked_after c.args.keep l.rows f n a (rw (← next) at (l.invariant.marked f c.requires.1))) (omega (arith, s)) in
     omega (arith, t.1, fewer_left c.args.keep a.below, s, c.index-rows-i.element_fits)
 
 pub loop-i-preserved : goal.loop-i-preserved
@@ -61,10 +61,10 @@ loop-i-preserved c =
           let m : drop (suc n) l.rows ≡ marked c.args.keep (from (suc n) f) = rw (← next) at (l.invariant.marked f g) in
           let at : (x : Row) → row_of (get_or l.rows n x) ≡ (a.unit, suc (node_count a.below)) = λ x. row_at l.rows f n x e h a in
           let s : (get_or l.rows n c.index-rows-i.result).size ≡ suc (node_count a.below) = ap (λ y. y.1) (at c.index-rows-i.result) in
-          let t = c.children-tally.ensures c.args.keep a.below (marked c.args.keep a.after) (ap (λ m. drop m l.rows) later ∙ marked_after c.args.keep l.rows f n a m) (omega (arith, s)) in
+          let t = c.children-remaining.ensures c.args.keep a.below (marked c.args.keep a.after) (ap (λ m. drop m l.rows) later ∙ marked_after c.args.keep l.rows f n a m) (omega (arith, s)) in
           let b : c.stays-stays.result ≡ stays c.args.keep a.unit (left_trees c.args.keep a.below) =
-          c.stays-stays.ensures ∙ (ap (λ y. stays c.args.keep y.0 c.children-tally.result.trees) (at c.index-rows-i-in-loop-i.result) ∙ ap (stays c.args.keep a.unit) t.0) in
+          c.stays-stays.ensures ∙ (ap (λ y. stays c.args.keep y.0 c.children-remaining.result.trees) (at c.index-rows-i-in-loop-i.result) ∙ ap (stays c.args.keep a.unit) t.0) in
           let r : c.room-room.result ≡ room c.args.keep (stays c.args.keep a.unit (left_trees c.args.keep a.below)) (node_count (left c.args.keep a.below)) =
-          c.room-room.ensures ∙ (ap (λ y. room c.args.keep y c.children-tally.result.nodes) b ∙ ap (room c.args.keep (stays c.args.keep a.unit (left_trees c.args.keep a.below))) t.1) in
+          c.room-room.ensures ∙ (ap (λ y. room c.args.keep y c.children-remaining.result.nodes) b ∙ ap (room c.args.keep (stays c.args.keep a.unit (left_trees c.args.keep a.below))) t.1) in
           marks_one c.args.keep l.rows f n _ h a m (ap (λ y. y.0) (at d)) (ap (λ y. y.1) (at d)) r b;
     }

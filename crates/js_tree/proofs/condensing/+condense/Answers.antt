@@ -3,7 +3,7 @@ use Rattle.std.proofs.lemmas.List.{take-set-le, drop-set-lt, get_or-set_same}
 use Rattle.js_tree.specs.Forest.{Rose, empty, tree as node, node_count, forest_of}
 use Rattle.js_tree.specs.declared.unit.Unit.{Unit}
 use Rattle.js_tree.specs.OutputUnit.{noted}
-use Rattle.js_tree.specs.Result.{kept_below}
+use Rattle.js_tree.specs.Kept.{kept_below}
 use Rattle.js_tree.proofs.Forests.{fewer_nodes, same_at, same_after}
 use Rattle.js_tree.proofs.Compaction.{take-swap, drop-swap, one_left, none_left, kept_below-append, one_stays, one_goes, few_children, only_last}
 use Rattle.js_tree.proofs.condensing.+condense.Goals as goal
@@ -35,20 +35,20 @@ condense_all-loop-i-preserved t c =
           record {
             at_most = omega arith;
             kept = rw (w.trees-is, w.swap.ensures.after, w.count-is, take-swap one c.loop-i.count c.loop-i.i d le k, front, get_or-set_same c.loop-i.trees c.loop-i.i new d m)
-                (one_left kept_below (kept_below-append noted) (take c.loop-i.count c.loop-i.trees) c.args.trees.now c.loop-i.i d new h c.loop-i.invariant.kept (rw (← same) w.if-condense_one.ensures));
+                (one_left (kept_below noted) (kept_below-append noted) (take c.loop-i.count c.loop-i.trees) c.args.trees.now c.loop-i.i d new h c.loop-i.invariant.kept (rw (← same) w.if-condense_one.ensures));
             rest = rw (w.trees-is, w.swap.ensures.after) (drop-swap one c.loop-i.count c.loop-i.i d le k ∙ rest);
           }
       | condense_all-else-condense_one w ↦
           record {
             at_most = omega arith;
-            kept = rw (w.trees-is, w.count-is, front) (none_left kept_below (kept_below-append noted) (take c.loop-i.count c.loop-i.trees) c.args.trees.now c.loop-i.i d h c.loop-i.invariant.kept (rw (← same) w.if-condense_one.ensures));
+            kept = rw (w.trees-is, w.count-is, front) (none_left (kept_below noted) (kept_below-append noted) (take c.loop-i.count c.loop-i.trees) c.args.trees.now c.loop-i.i d h c.loop-i.invariant.kept (rw (← same) w.if-condense_one.ensures));
             rest = rw w.trees-is rest;
           }
     ]
 
 -- the node as it was opened
-opened : (t : Rose Unit) (u : Rose Unit) → t ≡ u → kept_below (node u.root u.below empty) ≡ kept_below (node t.root t.below empty)
-opened t u e = ap (λ v. kept_below (node v.root v.below empty)) (sym e)
+opened : (t : Rose Unit) (u : Rose Unit) → t ≡ u → kept_below noted (node u.root u.below empty) ≡ kept_below noted (node t.root t.below empty)
+opened t u e = ap (λ v. kept_below noted (node v.root v.below empty)) (sym e)
 
 pub condense_one-returns-then-stays : goal.condense_one-returns-then-stays
 condense_one-returns-then-stays t c =

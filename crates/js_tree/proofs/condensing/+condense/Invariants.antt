@@ -1,6 +1,7 @@
 use Rattle.std.proofs.Common.{◌≡◌, ◌≤◌, ◌+◌, ◌*◌, take, drop}
 use Rattle.js_tree.specs.Forest.{forest_of, node_count}
-use Rattle.js_tree.specs.Result.{kept_below}
+use Rattle.js_tree.specs.Kept.{kept_below}
+use Rattle.js_tree.specs.OutputUnit.{noted}
 use Rattle.js_tree.proofs.condensing.+condense.Given as goal
 
 abbrev pub decreases-condense_one : goal.decreases-condense_one
@@ -15,6 +16,6 @@ decreases-condense_all l = 3 * node_count (forest_of l.trees.now)
 abbrev pub invariant-condense_all-loop-i : goal.invariant-condense_all-loop-i
 invariant-condense_all-loop-i l = record {
   at_most : l.count ≤ l.i;
-  kept : forest_of (take l.count l.trees) ≡ kept_below (forest_of (take l.i l.initial.trees));
+  kept : forest_of (take l.count l.trees) ≡ kept_below noted (forest_of (take l.i l.initial.trees));
   rest : drop l.i l.trees ≡ drop l.i l.initial.trees;
 }

@@ -4,7 +4,7 @@ use Rattle.std.proofs.Math.Seq.{take-suc}
 use Rattle.js_doc.specs.Seen.{value_of}
 use Rattle.js_doc.specs.declared.doc.Doc.{Doc}
 use Rattle.js_tree.specs.Forest.{Forest, empty, tree, Rose, ◌⊹◌, forest_of, node_count}
-use Rattle.js_tree.specs.Form.{node, nodes, verbose}
+use Rattle.js_tree.specs.Form.{node_value, node_values, verbose}
 use Rattle.js_tree.specs.declared.unit.Unit.{Unit}
 use Rattle.js_tree.proofs.Forests.{fewer_nodes, forest_of-append}
 use Rattle.js_tree.proofs.forms.+tree_doc.Goals as goal
@@ -15,13 +15,13 @@ tree_docs-tree_doc-requires t c =
     let e : node_count c.tree-item.result.below ≡ node_count (get_or c.args.trees.now c.loop-tree.tree-index c.tree-item.result).below = ap (λ t. node_count t.below) c.tree-item.is in
     (omega (arith, e, fewer_nodes c.args.trees.now c.loop-tree.tree-index c.tree-item.result h, c.decreases), tt)
 
-nodes-append : (f g : Forest Unit) → nodes (f ⊹ g) ≡ nodes f ++ nodes g
+nodes-append : (f g : Forest Unit) → node_values (f ⊹ g) ≡ node_values f ++ node_values g
 nodes-append empty g = refl
-nodes-append (tree u below after) g = ap (λ vs. node u (nodes below) ∷ vs) (nodes-append after g)
+nodes-append (tree u below after) g = ap (λ vs. node_value u (node_values below) ∷ vs) (nodes-append after g)
 
 -- one document more
-one_more : (docs : List Doc) (ts : List (Rose Unit)) (i : ℕ) (doc : Doc) (t : Rose Unit) → i < length ts → map value_of docs ≡ nodes (forest_of (take i ts)) → value_of doc ≡ verbose t → t ≡ get_or ts i t
-    → map value_of (docs ++ (doc ∷ [])) ≡ nodes (forest_of (take (i + 1) ts))
+one_more : (docs : List Doc) (ts : List (Rose Unit)) (i : ℕ) (doc : Doc) (t : Rose Unit) → i < length ts → map value_of docs ≡ node_values (forest_of (take i ts)) → value_of doc ≡ verbose t → t ≡ get_or ts i t
+    → map value_of (docs ++ (doc ∷ [])) ≡ node_values (forest_of (take (i + 1) ts))
 one_more docs ts i doc t h d e g =
     rw (add-one, take-suc ts i t h, ← g, forest_of-append (take i ts) (t ∷ []), nodes-append (forest_of (take i ts)) (forest_of (t ∷ [])), map-append value_of docs (doc ∷ []), d, e) refl
 

@@ -1,6 +1,6 @@
 use Rattle.std.proofs.Common.{◌++◌, ap, subst, refl}
 use Rattle.js_doc.specs.BytesOut.{Puts}
-use Rattle.js_tree.specs.NodeText.{error_text, head_text, tail_text}
+use Rattle.js_tree.specs.NodeText.{error_part, head_text, tail_text}
 use Rattle.js_tree.specs.Seen.{note_of}
 use Rattle.js_tree.proofs.Pieces.{then_puts, stops_in}
 use Rattle.js_tree.proofs.NodeTexts.{leaf_text_is}
@@ -13,7 +13,7 @@ returns-in_err-put_head g c =
     let n = c.args.unit.now.note in
     let r = c.from_residual.result in
     subst (λ l. Puts (o c.args.out.now) (o c.put_head.new.out) l r) (leaf_text_is u n refl)
-    (stops_in (o c.args.out.now) (o c.put_head.new.out) (head_text u) (error_text n ++ tail_text u) r c.from_residual.ensures.0 c.in_err-put_head.ensures)
+    (stops_in (o c.args.out.now) (o c.put_head.new.out) (head_text u) (error_part n ++ tail_text u) r c.from_residual.ensures.0 c.in_err-put_head.ensures)
 
 pub returns-in_err-put_error : goal.returns-in_err-put_error
 returns-in_err-put_error g c =
@@ -22,8 +22,8 @@ returns-in_err-put_error g c =
     let n = note_of c.unit.inside.note in
     let r = c.from_residual-in_err-put_error.result in
     subst (λ l. Puts (o c.args.out.now) (o c.put_error.new.out) l r) (leaf_text_is u n (ap (λ u. u.note) c.unit.view_is))
-    (then_puts (o c.args.out.now) (o c.put_head.new.out) (o c.put_error.new.out) (head_text u) (error_text n ++ tail_text u) r c.in_ok-put_head.ensures
-    (stops_in (o c.put_head.new.out) (o c.put_error.new.out) (error_text n) (tail_text u) r c.from_residual-in_err-put_error.ensures.0 c.in_err-put_error.ensures))
+    (then_puts (o c.args.out.now) (o c.put_head.new.out) (o c.put_error.new.out) (head_text u) (error_part n ++ tail_text u) r c.in_ok-put_head.ensures
+    (stops_in (o c.put_head.new.out) (o c.put_error.new.out) (error_part n) (tail_text u) r c.from_residual-in_err-put_error.ensures.0 c.in_err-put_error.ensures))
 
 pub returns : goal.returns
 returns g c =
@@ -32,5 +32,5 @@ returns g c =
     let n = note_of c.unit.inside.note in
     let r = c.put_tail.result in
     subst (λ l. Puts (o c.args.out.now) (o c.put_tail.new.out) l r) (leaf_text_is u n (ap (λ u. u.note) c.unit.view_is))
-    (then_puts (o c.args.out.now) (o c.put_head.new.out) (o c.put_tail.new.out) (head_text u) (error_text n ++ tail_text u) r c.in_ok-put_head.ensures
-    (then_puts (o c.put_head.new.out) (o c.put_error.new.out) (o c.put_tail.new.out) (error_text n) (tail_text u) r c.in_ok-put_error.ensures c.put_tail.ensures))
+    (then_puts (o c.args.out.now) (o c.put_head.new.out) (o c.put_tail.new.out) (head_text u) (error_part n ++ tail_text u) r c.in_ok-put_head.ensures
+    (then_puts (o c.put_head.new.out) (o c.put_error.new.out) (o c.put_tail.new.out) (error_part n) (tail_text u) r c.in_ok-put_error.ensures c.put_tail.ensures))

@@ -1,7 +1,8 @@
 use Rattle.std.proofs.Common.{◌≡◌, ◌∙◌, length, arith, take, drop, get_or, set, ◌+◌, ◌<◌, length-set}
 use Rattle.std.proofs.lemmas.List.{take-set-le, drop-set-lt, get_or-set_same}
 use Rattle.js_tree.specs.Forest.{node_count, forest_of}
-use Rattle.js_tree.specs.Result.{has_verdict, pruned_below}
+use Rattle.js_tree.specs.Pruned.{pruned_below}
+use Rattle.js_tree.specs.Result.{has_verdict}
 use Rattle.js_tree.proofs.Forests.{fewer_nodes, same_at, same_after}
 use Rattle.js_tree.proofs.Compaction.{take-swap, drop-swap, one_left, none_left, pruned_below-append}
 use Rattle.js_tree.proofs.pruning.+prune.Goals as goal
@@ -33,13 +34,13 @@ prune_all-loop-i-preserved t c =
           record {
             at_most = omega arith;
             pruned = rw (w.trees-is, w.swap.ensures.after, w.count-is, take-swap one c.loop-i.count c.loop-i.i d le k, front, get_or-set_same c.loop-i.trees c.loop-i.i new d m)
-                (one_left (pruned_below c.args.verdict) (pruned_below-append (has_verdict c.args.verdict)) (take c.loop-i.count c.loop-i.trees) c.args.trees.now c.loop-i.i d new h c.loop-i.invariant.pruned (rw (← same) w.if-prune_one.ensures));
+                (one_left (pruned_below (has_verdict c.args.verdict)) (pruned_below-append (has_verdict c.args.verdict)) (take c.loop-i.count c.loop-i.trees) c.args.trees.now c.loop-i.i d new h c.loop-i.invariant.pruned (rw (← same) w.if-prune_one.ensures));
             rest = rw (w.trees-is, w.swap.ensures.after) (drop-swap one c.loop-i.count c.loop-i.i d le k ∙ rest);
           }
       | prune_all-else-prune_one w ↦
           record {
             at_most = omega arith;
-            pruned = rw (w.trees-is, w.count-is, front) (none_left (pruned_below c.args.verdict) (pruned_below-append (has_verdict c.args.verdict)) (take c.loop-i.count c.loop-i.trees) c.args.trees.now c.loop-i.i d h c.loop-i.invariant.pruned (rw (← same) w.if-prune_one.ensures));
+            pruned = rw (w.trees-is, w.count-is, front) (none_left (pruned_below (has_verdict c.args.verdict)) (pruned_below-append (has_verdict c.args.verdict)) (take c.loop-i.count c.loop-i.trees) c.args.trees.now c.loop-i.i d h c.loop-i.invariant.pruned (rw (← same) w.if-prune_one.ensures));
             rest = rw w.trees-is rest;
           }
     ]

@@ -3,7 +3,7 @@ use Rattle.std.proofs.lemmas.List.{map-append}
 use Rattle.std.proofs.lemmas.Result.{IfOk-weaker}
 use Rattle.js_doc.specs.Seen.{value_of}
 use Rattle.js_tree.specs.FlatState.{row_of}
-use Rattle.js_tree.specs.Form.{node, nodes}
+use Rattle.js_tree.specs.Form.{node_value, node_values}
 use Rattle.js_tree.specs.Result.{ResultTree}
 use Rattle.js_tree.proofs.ChildTexts.{rest_of}
 use Rattle.js_tree.proofs.FlatRows.{first_tree, root_row, rows_below, all_gone, shorter}
@@ -14,11 +14,11 @@ pub root_doc-returns : goal.root_doc-returns
 root_doc-returns t c =
     let rows = c.args.rows.now in
     let u = c.index-rows-0.result.unit in
-    IfOk-weaker c.node.result _ _
+    IfOk-weaker c.node_doc.result _ _
     (λ doc p t' e.
-    p ∙ (ap (node u) (c.in_ok-children.ensures t'.below (ap (map row_of) (rest_of rows) ∙ rows_below rows t' e))
-    ∙ ap (λ u. node u (nodes t'.below)) (root_row rows t' c.index-rows-0.result e c.index-rows-0.is)))
-    c.node.ensures
+    p ∙ (ap (node_value u) (c.in_ok-children.ensures t'.below (ap (map row_of) (rest_of rows) ∙ rows_below rows t' e))
+    ∙ ap (λ u. node_value u (node_values t'.below)) (root_row rows t' c.index-rows-0.result e c.index-rows-0.is)))
+    c.node_doc.ensures
 
 pub root_docs-overflow_add-end : goal.root_docs-overflow_add-end
 root_docs-overflow_add-end t' c =
@@ -77,11 +77,11 @@ root_docs-loop-next-preserved t' c =
           let doc = c.in_ok-root_doc.field-0 in (
             t.after,
             t.more,
-            ap (λ ds. map value_of ds ++ nodes t.after) c.in_ok-push.ensures.items
-                ∙ (ap (λ vs. vs ++ nodes t.after) (map-append value_of l.docs.items (doc ∷ []))
-                ∙ (append_assoc (map value_of l.docs.items) (value_of doc ∷ []) (nodes t.after)
-                ∙ (ap (λ v. map value_of l.docs.items ++ v ∷ nodes t.after) (c.in_ok-root_doc.ensures one all_is)
-                ∙ (ap (λ vs. map value_of l.docs.items ++ vs) (sym (ap nodes t.is)) ∙ w.2)))),
+            ap (λ ds. map value_of ds ++ node_values t.after) c.in_ok-push.ensures.items
+                ∙ (ap (λ vs. vs ++ node_values t.after) (map-append value_of l.docs.items (doc ∷ []))
+                ∙ (append_assoc (map value_of l.docs.items) (value_of doc ∷ []) (node_values t.after)
+                ∙ (ap (λ v. map value_of l.docs.items ++ v ∷ node_values t.after) (c.in_ok-root_doc.ensures one all_is)
+                ∙ (ap (λ vs. map value_of l.docs.items ++ vs) (sym (ap node_values t.is)) ∙ w.2)))),
           ),
     )
 
@@ -91,4 +91,4 @@ root_docs-returns t' c =
     let rows = c.args.rows.now in
     λ f e.
     let w = l.invariant.1 f e in
-    sym (append-nil (map value_of l.docs.items)) ∙ (ap (λ vs. map value_of l.docs.items ++ vs) (sym (ap nodes (all_gone rows l.next w.0 w.1 (omega (arith, c.loop-next-test.false))))) ∙ w.2)
+    sym (append-nil (map value_of l.docs.items)) ∙ (ap (λ vs. map value_of l.docs.items ++ vs) (sym (ap node_values (all_gone rows l.next w.0 w.1 (omega (arith, c.loop-next-test.false))))) ∙ w.2)

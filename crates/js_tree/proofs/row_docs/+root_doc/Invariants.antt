@@ -3,7 +3,7 @@ use Rattle.js_doc.specs.Seen.{value_of}
 use Rattle.js_tree.specs.Flat.{flat_of}
 use Rattle.js_tree.specs.FlatState.{row_of}
 use Rattle.js_tree.specs.Forest.{Forest}
-use Rattle.js_tree.specs.Form.{nodes}
+use Rattle.js_tree.specs.Form.{node_values}
 use Rattle.js_tree.specs.OutputUnit.{OutputUnit}
 use Rattle.js_tree.proofs.row_docs.+root_doc.Given as goal
 
@@ -17,7 +17,7 @@ abbrev pub invariant-root_docs-loop-next : goal.invariant-root_docs-loop-next
 invariant-root_docs-loop-next l =
     (l.next ≤ length l.rows)
     × ((f : Forest OutputUnit) → map row_of l.rows ≡ flat_of f
-    → (left : Forest OutputUnit) × (map row_of (drop l.next l.rows) ≡ flat_of left) × (map value_of l.docs.items ++ nodes left ≡ nodes f))
+    → (left : Forest OutputUnit) × (map row_of (drop l.next l.rows) ≡ flat_of left) × (map value_of l.docs.items ++ node_values left ≡ node_values f))
 
 abbrev pub decreases-root_docs-loop-next : goal.decreases-root_docs-loop-next
 decreases-root_docs-loop-next l = length l.rows - l.next

@@ -1,7 +1,7 @@
 use Rattle.std.proofs.Common.{[], map, ap, ◌∙◌}
 use Rattle.std.proofs.lemmas.Result.{IfOk-weaker}
 use Rattle.js_tree.specs.FlatState.{noted_of}
-use Rattle.js_tree.specs.Form.{node}
+use Rattle.js_tree.specs.Form.{node_value}
 use Rattle.js_tree.specs.Result.{units}
 use Rattle.js_tree.proofs.FlatRows.{root_row}
 use Rattle.js_tree.proofs.NodeTexts.{list_value}
@@ -12,8 +12,8 @@ pub returns : goal.returns
 returns c =
     let rows = c.args.rows.now in
     let v = c.root.inside.valid in
-    IfOk-weaker c.listed.result _ _
+    IfOk-weaker c.list_doc.result _ _
     (λ doc p t e.
-    p ∙ (ap (list_value v) (c.in_ok-docs.ensures ∙ ap (λ rs. map (λ u. node u []) (noted_of rs)) e ∙ ap (map (λ u. node u [])) (noted_of-flat t))
-    ∙ ap (λ u. list_value u.valid (map (λ u. node u []) (units t))) (c.root.view_is ∙ root_row rows t c.index-rows-0.result e c.index-rows-0.is)))
-    c.listed.ensures
+    p ∙ (ap (list_value v) (c.in_ok-docs.ensures ∙ ap (λ rs. map (λ u. node_value u []) (noted_of rs)) e ∙ ap (map (λ u. node_value u [])) (noted_of-flat t))
+    ∙ ap (λ u. list_value u.valid (map (λ u. node_value u []) (units t))) (c.root.view_is ∙ root_row rows t c.index-rows-0.result e c.index-rows-0.is)))
+    c.list_doc.ensures

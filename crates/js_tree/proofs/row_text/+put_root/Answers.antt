@@ -3,7 +3,7 @@ use Rattle.js_doc.specs.BytesOut.{Puts}
 use Rattle.js_doc.specs.Compact.{compact, compact_items}
 use Rattle.js_doc.specs.Value.{items, list}
 use Rattle.js_tree.specs.FlatState.{row_of}
-use Rattle.js_tree.specs.Form.{node, nodes, verbose}
+use Rattle.js_tree.specs.Form.{node_value, node_values, verbose}
 use Rattle.js_tree.specs.Result.{ResultTree}
 use Rattle.js_tree.specs.Seen.{note_of}
 use Rattle.js_tree.proofs.Pieces.{nothing_goes, then_puts, stops_in, stops_at_comma, stops_at_item, item_goes, array_ends}
@@ -23,8 +23,8 @@ put_root-returns-in_err-put_head g t c =
     let u = c.index-rows-0.result.unit in
     let below = ap (map row_of) (rest_of rows) ∙ rows_below rows t' e in
     let r = c.from_residual.result in
-    subst (λ u. Puts (o c.args.out.now) (o c.put_head.new.out) (compact (node u (nodes t'.below))) r) (root_row rows t' c.index-rows-0.result e c.index-rows-0.is)
-    (stops_in_head u (nodes t'.below) (c.index-rows-0.result.unit.valid) (c.index-rows-0.result.unit.note) refl refl r (o c.args.out.now) (o c.put_head.new.out) c.from_residual.ensures.0 c.in_err-put_head.ensures)
+    subst (λ u. Puts (o c.args.out.now) (o c.put_head.new.out) (compact (node_value u (node_values t'.below))) r) (root_row rows t' c.index-rows-0.result e c.index-rows-0.is)
+    (stops_in_head u (node_values t'.below) (c.index-rows-0.result.unit.valid) (c.index-rows-0.result.unit.note) refl refl r (o c.args.out.now) (o c.put_head.new.out) c.from_residual.ensures.0 c.in_err-put_head.ensures)
 
 pub put_root-returns-in_err-put_children : goal.put_root-returns-in_err-put_children
 put_root-returns-in_err-put_children g t c =
@@ -34,8 +34,8 @@ put_root-returns-in_err-put_children g t c =
     let u = c.index-rows-0.result.unit in
     let below = ap (map row_of) (rest_of rows) ∙ rows_below rows t' e in
     let r = c.from_residual-in_err-put_children.result in
-    subst (λ u. Puts (o c.args.out.now) (o c.put_children.new.out) (compact (node u (nodes t'.below))) r) (root_row rows t' c.index-rows-0.result e c.index-rows-0.is)
-    (stops_in_annotations u (nodes t'.below) (c.unit.inside.valid) (note_of c.unit.inside.note) (ap (λ u. u.valid) c.unit.view_is) (ap (λ u. u.note) c.unit.view_is) r (o c.args.out.now) (o c.put_head.new.out) (o c.put_children.new.out) c.from_residual-in_err-put_children.ensures.0 c.in_ok-put_head.ensures (c.in_err-put_children.ensures t'.below below))
+    subst (λ u. Puts (o c.args.out.now) (o c.put_children.new.out) (compact (node_value u (node_values t'.below))) r) (root_row rows t' c.index-rows-0.result e c.index-rows-0.is)
+    (stops_in_annotations u (node_values t'.below) (c.unit.inside.valid) (note_of c.unit.inside.note) (ap (λ u. u.valid) c.unit.view_is) (ap (λ u. u.note) c.unit.view_is) r (o c.args.out.now) (o c.put_head.new.out) (o c.put_children.new.out) c.from_residual-in_err-put_children.ensures.0 c.in_ok-put_head.ensures (c.in_err-put_children.ensures t'.below below))
 
 pub put_root-returns-in_err-put_error : goal.put_root-returns-in_err-put_error
 put_root-returns-in_err-put_error g t c =
@@ -45,8 +45,8 @@ put_root-returns-in_err-put_error g t c =
     let u = c.index-rows-0.result.unit in
     let below = ap (map row_of) (rest_of rows) ∙ rows_below rows t' e in
     let r = c.from_residual-in_err-put_error.result in
-    subst (λ u. Puts (o c.args.out.now) (o c.put_error.new.out) (compact (node u (nodes t'.below))) r) (root_row rows t' c.index-rows-0.result e c.index-rows-0.is)
-    (stops_in_error u (nodes t'.below) (c.unit.inside.valid) (note_of c.unit.inside.note) (ap (λ u. u.valid) c.unit.view_is) (ap (λ u. u.note) c.unit.view_is) r (o c.args.out.now) (o c.put_head.new.out) (o c.put_children.new.out) (o c.put_error.new.out) c.from_residual-in_err-put_error.ensures.0 c.in_ok-put_head.ensures (c.in_ok-put_children.ensures t'.below below) c.in_err-put_error.ensures)
+    subst (λ u. Puts (o c.args.out.now) (o c.put_error.new.out) (compact (node_value u (node_values t'.below))) r) (root_row rows t' c.index-rows-0.result e c.index-rows-0.is)
+    (stops_in_error u (node_values t'.below) (c.unit.inside.valid) (note_of c.unit.inside.note) (ap (λ u. u.valid) c.unit.view_is) (ap (λ u. u.note) c.unit.view_is) r (o c.args.out.now) (o c.put_head.new.out) (o c.put_children.new.out) (o c.put_error.new.out) c.from_residual-in_err-put_error.ensures.0 c.in_ok-put_head.ensures (c.in_ok-put_children.ensures t'.below below) c.in_err-put_error.ensures)
 
 pub put_root-returns-in_err-put_children-2 : goal.put_root-returns-in_err-put_children-2
 put_root-returns-in_err-put_children-2 g t c =
@@ -56,8 +56,8 @@ put_root-returns-in_err-put_children-2 g t c =
     let u = c.index-rows-0.result.unit in
     let below = ap (map row_of) (rest_of rows) ∙ rows_below rows t' e in
     let r = c.from_residual-in_err-put_children-2.result in
-    subst (λ u. Puts (o c.args.out.now) (o c.put_children-2.new.out) (compact (node u (nodes t'.below))) r) (root_row rows t' c.index-rows-0.result e c.index-rows-0.is)
-    (stops_in_errors u (nodes t'.below) (c.unit.inside.valid) (note_of c.unit.inside.note) (ap (λ u. u.valid) c.unit.view_is) (ap (λ u. u.note) c.unit.view_is) r (o c.args.out.now) (o c.put_head.new.out) (o c.put_children.new.out) (o c.put_error.new.out) (o c.put_children-2.new.out) c.from_residual-in_err-put_children-2.ensures.0 c.in_ok-put_head.ensures (c.in_ok-put_children.ensures t'.below below) c.in_ok-put_error.ensures (c.in_err-put_children-2.ensures t'.below below))
+    subst (λ u. Puts (o c.args.out.now) (o c.put_children-2.new.out) (compact (node_value u (node_values t'.below))) r) (root_row rows t' c.index-rows-0.result e c.index-rows-0.is)
+    (stops_in_errors u (node_values t'.below) (c.unit.inside.valid) (note_of c.unit.inside.note) (ap (λ u. u.valid) c.unit.view_is) (ap (λ u. u.note) c.unit.view_is) r (o c.args.out.now) (o c.put_head.new.out) (o c.put_children.new.out) (o c.put_error.new.out) (o c.put_children-2.new.out) c.from_residual-in_err-put_children-2.ensures.0 c.in_ok-put_head.ensures (c.in_ok-put_children.ensures t'.below below) c.in_ok-put_error.ensures (c.in_err-put_children-2.ensures t'.below below))
 
 pub put_root-returns : goal.put_root-returns
 put_root-returns g t c =
@@ -67,8 +67,8 @@ put_root-returns g t c =
     let u = c.index-rows-0.result.unit in
     let below = ap (map row_of) (rest_of rows) ∙ rows_below rows t' e in
     let r = c.put_tail.result in
-    subst (λ u. Puts (o c.args.out.now) (o c.put_tail.new.out) (compact (node u (nodes t'.below))) r) (root_row rows t' c.index-rows-0.result e c.index-rows-0.is)
-    (puts_node u (nodes t'.below) (c.unit.inside.valid) (note_of c.unit.inside.note) (ap (λ u. u.valid) c.unit.view_is) (ap (λ u. u.note) c.unit.view_is) r (o c.args.out.now) (o c.put_head.new.out) (o c.put_children.new.out) (o c.put_error.new.out) (o c.put_children-2.new.out) (o c.put_tail.new.out) c.in_ok-put_head.ensures (c.in_ok-put_children.ensures t'.below below) c.in_ok-put_error.ensures (c.in_ok-put_children-2.ensures t'.below below) c.put_tail.ensures)
+    subst (λ u. Puts (o c.args.out.now) (o c.put_tail.new.out) (compact (node_value u (node_values t'.below))) r) (root_row rows t' c.index-rows-0.result e c.index-rows-0.is)
+    (puts_node u (node_values t'.below) (c.unit.inside.valid) (note_of c.unit.inside.note) (ap (λ u. u.valid) c.unit.view_is) (ap (λ u. u.note) c.unit.view_is) r (o c.args.out.now) (o c.put_head.new.out) (o c.put_children.new.out) (o c.put_error.new.out) (o c.put_children-2.new.out) (o c.put_tail.new.out) c.in_ok-put_head.ensures (c.in_ok-put_children.ensures t'.below below) c.in_ok-put_error.ensures (c.in_ok-put_children-2.ensures t'.below below) c.put_tail.ensures)
 
 pub put_children-returns-then-is_empty : goal.put_children-returns-then-is_empty
 put_children-returns-then-is_empty g t c =
@@ -86,7 +86,7 @@ put_children-returns-in_err-put g t c =
     let some : 0 < length rows = not_none (length rows) c.if-is_empty.ensures in
     let r = c.from_residual.result in
     subst (λ l. Puts (o c.args.out.now) (o c.put.new.self) l r) (sym (row_children_text c.args.start.now c.args.here rows f here some e))
-    (stops_in (o c.args.out.now) (o c.put.new.self) c.args.start.now (compact (list (items (nodes f)))) r c.from_residual.ensures.0 c.in_err-put.ensures)
+    (stops_in (o c.args.out.now) (o c.put.new.self) c.args.start.now (compact (list (items (node_values f)))) r c.from_residual.ensures.0 c.in_err-put.ensures)
 
 pub put_children-returns : goal.put_children-returns
 put_children-returns g t c =
@@ -97,13 +97,13 @@ put_children-returns g t c =
     let some : 0 < length rows = not_none (length rows) c.if-is_empty.ensures in
     let r = c.put_roots.result in
     subst (λ l. Puts (o c.args.out.now) (o c.put_roots.new.out) l r) (sym (row_children_text c.args.start.now c.args.here rows f here some e))
-    (then_puts (o c.args.out.now) (o c.put.new.self) (o c.put_roots.new.out) c.args.start.now (compact (list (items (nodes f)))) r c.in_ok-put.ensures (c.put_roots.ensures f e))
+    (then_puts (o c.args.out.now) (o c.put.new.self) (o c.put_roots.new.out) c.args.start.now (compact (list (items (node_values f)))) r c.in_ok-put.ensures (c.put_roots.ensures f e))
 
 pub put_roots-returns-in_err-put : goal.put_roots-returns-in_err-put
 put_roots-returns-in_err-put g t c =
     λ f e.
     let o = g.O.Out.progress in
-    stops_in (o c.args.out.now) (o c.put.new.self) (91 ∷ []) (compact_items false (items (nodes f))) c.from_residual.result c.from_residual.ensures.0 c.in_err-put.ensures
+    stops_in (o c.args.out.now) (o c.put.new.self) (91 ∷ []) (compact_items false (items (node_values f))) c.from_residual.result c.from_residual.ensures.0 c.in_err-put.ensures
 
 pub put_roots-returns-in_err-put_comma : goal.put_roots-returns-in_err-put_comma
 put_roots-returns-in_err-put_comma g t c =
@@ -111,10 +111,10 @@ put_roots-returns-in_err-put_comma g t c =
     let o = g.O.Out.progress in
     let l = c.loop-next in
     let rows = c.args.rows.now in
-    let all = compact (list (items (nodes f))) in
+    let all = compact (list (items (node_values f))) in
     let w = l.invariant.1 f e in
     let s = some_tree rows l.next w.0 w.1 c.loop-next-test.true in
-    stops_at_comma (o c.args.out.now) (o l.out) (o c.put_comma.new.out) l.later (nodes w.0) (nodes s.after) (node s.unit (nodes s.below)) all c.from_residual-in_err-put_comma.result w.2 (ap nodes s.is) c.from_residual-in_err-put_comma.ensures.0 c.in_err-put_comma.ensures
+    stops_at_comma (o c.args.out.now) (o l.out) (o c.put_comma.new.out) l.later (node_values w.0) (node_values s.after) (node_value s.unit (node_values s.below)) all c.from_residual-in_err-put_comma.result w.2 (ap node_values s.is) c.from_residual-in_err-put_comma.ensures.0 c.in_err-put_comma.ensures
 
 pub put_roots-overflow_add-end : goal.put_roots-overflow_add-end
 put_roots-overflow_add-end g t c =
@@ -153,14 +153,14 @@ put_roots-returns-in_err-put_root g t c =
     let o = g.O.Out.progress in
     let l = c.loop-next in
     let rows = c.args.rows.now in
-    let all = compact (list (items (nodes f))) in
+    let all = compact (list (items (node_values f))) in
     let w = l.invariant.1 f e in
     let x = c.index-rows-next.result in
     let t = first_tree rows l.next w.0 x w.1 c.loop-next-test.true c.index-rows-next.is in
     let one : ResultTree = record { root = t.unit; below = t.below } in
     let size : l.next + x.size - l.next ≡ x.size = omega arith in
     let all_is = ap (λ n. map row_of (take n (drop l.next rows))) size ∙ (t.all ∙ sym (flat-flat_of one)) in
-    stops_at_item (o c.args.out.now) (o l.out) (o c.put_comma.new.out) (o c.put_root.new.out) l.later (nodes w.0) (nodes t.after) (verbose one) all c.from_residual-in_err-put_root.result w.2 (ap nodes t.is) c.in_ok-put_comma.ensures c.from_residual-in_err-put_root.ensures.0 (c.in_err-put_root.ensures one all_is)
+    stops_at_item (o c.args.out.now) (o l.out) (o c.put_comma.new.out) (o c.put_root.new.out) l.later (node_values w.0) (node_values t.after) (verbose one) all c.from_residual-in_err-put_root.result w.2 (ap node_values t.is) c.in_ok-put_comma.ensures c.from_residual-in_err-put_root.ensures.0 (c.in_err-put_root.ensures one all_is)
 
 pub put_roots-loop-next-smaller : goal.put_roots-loop-next-smaller
 put_roots-loop-next-smaller g t c =
@@ -183,14 +183,14 @@ put_roots-loop-next-preserved g t c =
           let o = g.O.Out.progress in
           let l = c.loop-next in
           let rows = c.args.rows.now in
-          let all = compact (list (items (nodes f))) in
+          let all = compact (list (items (node_values f))) in
           let w = l.invariant.1 f e in
           let x = c.index-rows-next.result in
           let t = first_tree rows l.next w.0 x w.1 c.loop-next-test.true c.index-rows-next.is in
           let one : ResultTree = record { root = t.unit; below = t.below } in
           let size : l.next + x.size - l.next ≡ x.size = omega arith in
           let all_is = ap (λ n. map row_of (take n (drop l.next rows))) size ∙ (t.all ∙ sym (flat-flat_of one)) in
-          (t.after, t.more, item_goes (o c.args.out.now) (o l.out) (o c.put_comma.new.out) (o c.put_root.new.out) l.later (nodes w.0) (nodes t.after) (verbose one) all w.2 (ap nodes t.is) c.in_ok-put_comma.ensures (c.in_ok-put_root.ensures one all_is)),
+          (t.after, t.more, item_goes (o c.args.out.now) (o l.out) (o c.put_comma.new.out) (o c.put_root.new.out) l.later (node_values w.0) (node_values t.after) (verbose one) all w.2 (ap node_values t.is) c.in_ok-put_comma.ensures (c.in_ok-put_root.ensures one all_is)),
     )
 
 pub put_roots-returns : goal.put_roots-returns
@@ -199,6 +199,6 @@ put_roots-returns g t c =
     let o = g.O.Out.progress in
     let l = c.loop-next in
     let rows = c.args.rows.now in
-    let all = compact (list (items (nodes f))) in
+    let all = compact (list (items (node_values f))) in
     let w = l.invariant.1 f e in
-    array_ends (o c.args.out.now) (o l.out) (o c.put-2.new.self) l.later (nodes w.0) all c.put-2.result w.2 (ap nodes (all_gone rows l.next w.0 w.1 (omega (arith, c.loop-next-test.false)))) c.put-2.ensures
+    array_ends (o c.args.out.now) (o l.out) (o c.put-2.new.self) l.later (node_values w.0) all c.put-2.result w.2 (ap node_values (all_gone rows l.next w.0 w.1 (omega (arith, c.loop-next-test.false)))) c.put-2.ensures

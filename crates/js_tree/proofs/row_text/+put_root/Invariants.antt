@@ -5,7 +5,7 @@ use Rattle.js_doc.proofs.BytesGone.{Wrote}
 use Rattle.js_tree.specs.Flat.{flat_of}
 use Rattle.js_tree.specs.FlatState.{row_of}
 use Rattle.js_tree.specs.Forest.{Forest}
-use Rattle.js_tree.specs.Form.{nodes}
+use Rattle.js_tree.specs.Form.{node_values}
 use Rattle.js_tree.specs.OutputUnit.{OutputUnit}
 use Rattle.js_tree.proofs.row_text.+put_root.Given as goal
 
@@ -23,7 +23,7 @@ invariant-put_roots-loop-next g l =
     (l.next ≤ length l.rows)
     × ((f : Forest OutputUnit) → map row_of l.rows ≡ flat_of f
     → (left : Forest OutputUnit) × (map row_of (drop l.next l.rows) ≡ flat_of left)
-    × Wrote (g.O.Out.progress l.fn.out) (g.O.Out.progress l.out) (compact_items l.later (items (nodes left))) (compact (list (items (nodes f)))))
+    × Wrote (g.O.Out.progress l.fn.out) (g.O.Out.progress l.out) (compact_items l.later (items (node_values left))) (compact (list (items (node_values f)))))
 
 abbrev pub decreases-put_roots-loop-next : goal.decreases-put_roots-loop-next
 decreases-put_roots-loop-next g l = length l.rows - l.next

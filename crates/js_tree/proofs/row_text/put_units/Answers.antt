@@ -3,7 +3,7 @@ use Rattle.js_doc.specs.BytesOut.{Puts}
 use Rattle.js_doc.specs.Compact.{compact}
 use Rattle.js_doc.specs.Value.{items, list}
 use Rattle.js_tree.specs.FlatState.{noted_of, row_of}
-use Rattle.js_tree.specs.Form.{node}
+use Rattle.js_tree.specs.Form.{node_value}
 use Rattle.js_tree.specs.NodeText.{list_start, valid_text}
 use Rattle.js_tree.specs.Result.{units}
 use Rattle.js_tree.proofs.Pieces.{then_puts, stops_in}
@@ -18,7 +18,7 @@ returns-in_err-put_list_name g c =
     let o = g.O.Out.progress in
     let rows = c.args.rows.now in
     let v = c.root.inside.valid in
-    let us = list (items (map (λ u. node u []) (noted_of (map row_of rows)))) in
+    let us = list (items (map (λ u. node_value u []) (noted_of (map row_of rows)))) in
     let r = c.from_residual.result in
     subst (λ u. Puts (o c.args.out.now) (o c.put_list_name.new.out) (compact (units_value u.valid (units t))) r) (c.root.view_is ∙ root_row rows t c.index-rows-0.result e c.index-rows-0.is)
     (subst (λ xs. Puts (o c.args.out.now) (o c.put_list_name.new.out) (compact (units_value v xs)) r) (ap noted_of e ∙ noted_of-flat t)
@@ -31,7 +31,7 @@ returns-in_err-put_noted g c =
     let o = g.O.Out.progress in
     let rows = c.args.rows.now in
     let v = c.root.inside.valid in
-    let us = list (items (map (λ u. node u []) (noted_of (map row_of rows)))) in
+    let us = list (items (map (λ u. node_value u []) (noted_of (map row_of rows)))) in
     let r = c.from_residual-in_err-put_noted.result in
     subst (λ u. Puts (o c.args.out.now) (o c.put_noted.new.out) (compact (units_value u.valid (units t))) r) (c.root.view_is ∙ root_row rows t c.index-rows-0.result e c.index-rows-0.is)
     (subst (λ xs. Puts (o c.args.out.now) (o c.put_noted.new.out) (compact (units_value v xs)) r) (ap noted_of e ∙ noted_of-flat t)
@@ -44,7 +44,7 @@ returns g c =
     let o = g.O.Out.progress in
     let rows = c.args.rows.now in
     let v = c.root.inside.valid in
-    let us = list (items (map (λ u. node u []) (noted_of (map row_of rows)))) in
+    let us = list (items (map (λ u. node_value u []) (noted_of (map row_of rows)))) in
     let r = c.put_valid.result in
     subst (λ u. Puts (o c.args.out.now) (o c.put_valid.new.out) (compact (units_value u.valid (units t))) r) (c.root.view_is ∙ root_row rows t c.index-rows-0.result e c.index-rows-0.is)
     (subst (λ xs. Puts (o c.args.out.now) (o c.put_valid.new.out) (compact (units_value v xs)) r) (ap noted_of e ∙ noted_of-flat t)

@@ -3,7 +3,7 @@ use Rattle.js_doc.specs.Compact.{compact, compact_items}
 use Rattle.js_doc.specs.Value.{items, list}
 use Rattle.js_doc.proofs.BytesGone.{Wrote}
 use Rattle.js_tree.specs.Forest.{forest_of, node_count}
-use Rattle.js_tree.specs.Form.{nodes}
+use Rattle.js_tree.specs.Form.{node_values}
 use Rattle.js_tree.proofs.tree_text.+put_tree.Given as goal
 
 abbrev pub decreases-put_tree : goal.decreases-put_tree
@@ -17,4 +17,4 @@ decreases-put_trees g l = 3 * node_count (forest_of l.trees.now)
 
 abbrev pub invariant-put_trees-loop-tree : goal.invariant-put_trees-loop-tree
 invariant-put_trees-loop-tree g l =
-    Wrote (g.O.Out.progress l.fn.out) (g.O.Out.progress l.out) (compact_items l.later (items (nodes (forest_of (drop l.tree-index l.trees))))) (compact (list (items (nodes (forest_of l.trees)))))
+    Wrote (g.O.Out.progress l.fn.out) (g.O.Out.progress l.out) (compact_items l.later (items (node_values (forest_of (drop l.tree-index l.trees))))) (compact (list (items (node_values (forest_of l.trees)))))

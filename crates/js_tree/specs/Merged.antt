@@ -1,0 +1,72 @@
+-- A third rule beside the two that condense: a node goes, with all below it, where an earlier sibling is alike. And the
+-- one tree in which every run of the three rules ends, with no word on runs or steps.
+-- `noted` tells which labels have a note, and `same` which are equal once what doesn't count is ignored.
+use Rattle.std.specs.Prelude.{◌≡◌, Bool, true, false, ◌||◌, ◌&&◌, if◌then◌else◌}
+use Rattle.js_tree.specs.Forest.{Forest, empty, tree, Rose, ◌⊹◌}
+use Rattle.js_tree.specs.Step.{Step, stands}
+
+-- ---- alike trees
+
+module _ {A : Type 0} (same : A → A → Bool) where
+  -- the trees are equal once what doesn't count is ignored in each node
+  abbrev pub alike : Forest A → Forest A → Bool
+  alike empty empty = true
+  alike empty (tree b under others) = false
+  alike (tree a below after) empty = false
+  alike (tree a below after) (tree b under others) = (same a b && alike below under) && alike after others
+
+  -- so are the tree of a over the one and the tree of b over the other
+  abbrev pub alike_trees : A → Forest A → A → Forest A → Bool
+  alike_trees a below b under = same a b && alike below under
+
+  -- one of the trees is alike to that of a
+  abbrev pub has_alike : Forest A → A → Forest A → Bool
+  has_alike empty a below = false
+  has_alike (tree b under others) a below = alike_trees b under a below || has_alike others a below
+
+  -- those of the trees that aren't alike to that of a
+  abbrev pub unlike : A → Forest A → Forest A → Forest A
+  unlike a below empty = empty
+  unlike a below (tree b under others) = if alike_trees a below b under then unlike a below others else tree b under (unlike a below others)
+
+  -- the trees without those that are alike to an earlier one
+  abbrev pub firsts : Forest A → Forest A
+  firsts empty = empty
+  firsts (tree a below after) = tree a below (unlike a below (firsts after))
+
+module _ {A : Type 0} (noted : A → Bool) (same : A → A → Bool) where
+  -- ---- the merged tree
+
+  -- the node over the trees, if it has a note or there are at least two of them, else the trees themselves
+  abbrev pub over : A → Forest A → Forest A
+  over a trees = if stands noted a trees then tree a trees empty else trees
+
+  -- what each tree gives, in order: its node over what its children give, without those alike to an earlier one
+  abbrev pub given_trees : Forest A → Forest A
+  given_trees empty = empty
+  given_trees (tree a below after) = over a (firsts same (given_trees below)) ⊹ given_trees after
+
+  abbrev pub merged_below : Forest A → Forest A
+  merged_below f = firsts same (given_trees f)
+
+  -- the root, and below it what its children give, without those alike to an earlier one
+  abbrev pub merged_by : Rose A → Rose A
+  merged_by t = record { root = t.root; below = merged_below t.below }
+
+  -- ---- steps and runs
+
+  -- A step of one of the three rules, at one node of trees that stand after others, which stay as they are.
+  pub data MergeStep : Forest A → Forest A → Forest A → Type 0 where
+    condensed : {before f g : Forest A} → Step noted f g → MergeStep before f g
+    doubled : {before below after : Forest A} {a : A} → has_alike same before a below ≡ true → MergeStep before (tree a below after) after
+    deeper : {before f g after : Forest A} {a : A} → MergeStep empty f g → MergeStep before (tree a f after) (tree a g after)
+    further : {before below f g : Forest A} {a : A} → MergeStep (before ⊹ tree a below empty) f g → MergeStep before (tree a below f) (tree a below g)
+
+  -- steps one after another
+  pub data MergeRun : Forest A → Forest A → Forest A → Type 0 where
+    ended : {before f : Forest A} → MergeRun before f f
+    then_on : {before f g h : Forest A} → MergeStep before f g → MergeRun before g h → MergeRun before f h
+
+  -- no step leaves the trees, where none stand before them
+  abbrev pub MergeNormal : Forest A → Type 0
+  MergeNormal f = (g : Forest A) → MergeStep empty f g → ⊥

@@ -1,0 +1,83 @@
+//! Which trees are alike: equal once every keyword location is ignored.
+ghost use Rattle.std.specs.Prelude.{◌≡◌};
+ghost use Rattle.js_tree.specs.Alike.{same_but_keyword, same_note};
+ghost use Rattle.js_tree.specs.Forest.{forest_of};
+ghost use Rattle.js_tree.specs.Merged.{alike, alike_trees, has_alike};
+ghost use Rattle.js_tree.specs.Seen.{note_of};
+
+use crate::note::Note;
+use crate::tree::Tree;
+use crate::unit::Unit;
+
+impl<'a> Note<'a> {
+    /// The notes are equal.
+    pub(crate) fn is_same(&self, other: &Note) -> bool
+        ensures { result ≡ same_note (note_of self.now) (note_of other.now) }
+    {
+        match self {
+            Note::Silent => matches!(other, Note::Silent),
+            Note::Error(a) => if let Note::Error(b) = other { a == b } else { false },
+            Note::Value(a) => if let Note::Value(b) = other { a == b } else { false },
+            Note::Names(a) => if let Note::Names(b) = other {
+                a.as_slice() == b.as_slice()
+            } else {
+                false
+            },
+            Note::Index(a) => if let Note::Index(b) = other { a == b } else { false },
+            Note::Indexes(a) => if let Note::Indexes(b) = other {
+                a.as_slice() == b.as_slice()
+            } else {
+                false
+            },
+            Note::Truth => matches!(other, Note::Truth),
+        }
+    }
+}
+
+impl<'a> Unit<'a> {
+    /// The units are equal once their keyword locations are ignored.
+    pub(crate) fn is_same_but_keyword(&self, other: &Unit) -> bool
+        ensures { result ≡ same_but_keyword self.now other.now }
+    {
+        self.valid == other.valid
+            && self.instance == other.instance
+            && self.absolute == other.absolute
+            && self.note.is_same(&other.note)
+    }
+}
+
+/// The trees are equal once every keyword location is ignored. The first node that differs ends the search.
+#[cycle(alike)]
+pub(crate) fn are_alike(a: &Tree, b: &Tree) -> bool
+    ensures { result ≡ alike_trees same_but_keyword a.now.root a.now.below b.now.root b.now.below }
+{
+    a.unit.is_same_but_keyword(&b.unit)
+        && all_alike(a.children.as_slice(), b.children.as_slice())
+}
+
+#[cycle(alike)]
+fn all_alike(a: &[Tree], b: &[Tree]) -> bool
+    ensures { result ≡ alike same_but_keyword (forest_of a.now) (forest_of b.now) }
+{
+    if a.len() != b.len() {
+        return false;
+    }
+    for i in 0..a.len() {
+        if !are_alike(&a[i], &b[i]) {
+            return false;
+        }
+    }
+    true
+}
+
+/// One of the trees is alike to the tree.
+pub(crate) fn has_alike(trees: &[Tree], tree: &Tree) -> bool
+    ensures { result ≡ has_alike same_but_keyword (forest_of trees.now) tree.now.root tree.now.below }
+{
+    for other in trees {
+        if are_alike(other, tree) {
+            return true;
+        }
+    }
+    false
+}

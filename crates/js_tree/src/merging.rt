@@ -1,0 +1,94 @@
+//! Condensing with a third rule: a node goes where an earlier sibling is alike.
+ghost use Rattle.std.specs.Prelude.{◌≡◌, ◌≤◌, ◌<◌, if◌then◌else◌, length, take, get_or};
+ghost use Rattle.js_tree.specs.Alike.{same_but_keyword};
+ghost use Rattle.js_tree.specs.Forest.{empty, tree as node, forest_of};
+ghost use Rattle.js_tree.specs.Merged.{firsts, given_trees, has_alike, merged_below};
+ghost use Rattle.js_tree.specs.MergedResult.{merged};
+ghost use Rattle.js_tree.specs.OutputUnit.{noted};
+ghost use Rattle.js_tree.specs.Result.{ResultTree};
+
+use crate::likeness::has_alike;
+use crate::tree::{Tree, Trees};
+
+/// The one tree in which every run of the three rules ends that can't be continued. Takes no memory.
+///
+/// The rules, at any node below the root: drop it, if it has no note and no child; put its child in its place, if it has
+/// no note and exactly one (Core, section 12.4.3); take it away with all below it, if an earlier sibling is alike, which
+/// means equal once every keyword location is ignored.
+pub fn merge_condense(tree: Tree) -> Tree
+    ensures merged { result ≡ merged tree.entry }
+{
+    let mut whole = tree;
+    merge_children(&mut whole.children);
+    whole
+}
+
+#[cycle(merge)]
+fn merge_children(children: &mut Trees)
+    ensures { forest_of children.new ≡ merged_below noted same_but_keyword (forest_of children.old) }
+{
+    let trees = &mut children.trees;
+    let given = merge_all(trees);
+    trees.truncate(given);
+    let count = keep_firsts(trees);
+    trees.truncate(count);
+}
+
+/// Merges below each tree, moves what is left to the front, and answers how many trees that are.
+#[cycle(merge)]
+fn merge_all(trees: &mut [Tree]) -> usize
+    ensures at_most { result ≤ length trees.old }
+    ensures given { forest_of (take result trees.new) ≡ given_trees noted same_but_keyword (forest_of trees.old) }
+{
+    let mut count = 0;
+    for i in 0..trees.len() {
+        if merge_one(&mut trees[i]) {
+            trees.swap(count, i);
+            count += 1;
+        }
+    }
+    count
+}
+
+/// Merges below the node; then its only child takes its place, if it has no note. Answers whether a tree is left.
+#[cycle(merge)]
+fn merge_one(tree: &mut Tree) -> bool
+    ensures { given_trees noted same_but_keyword (node tree.old.root tree.old.below empty) ≡ (if result then node tree.new.root tree.new.below empty else empty) }
+{
+    merge_children(&mut tree.children);
+    // Only now: what stood below the node may be gone.
+    let stays = tree.stands();
+    if stays {
+        return true;
+    }
+    match tree.children.pop() {
+        Some(child) => {
+            *tree = child;
+            true
+        }
+        None => false,
+    }
+}
+
+/// Moves the trees that aren't alike to an earlier one to the front, in their order, and answers how many they are.
+fn keep_firsts(trees: &mut [Tree]) -> usize
+    ensures at_most { result ≤ length trees.old }
+    ensures firsts { forest_of (take result trees.new) ≡ firsts same_but_keyword (forest_of trees.old) }
+{
+    let mut count = 0;
+    for i in 0..trees.len() {
+        if !comes_again(trees, count, i) {
+            trees.swap(count, i);
+            count += 1;
+        }
+    }
+    count
+}
+
+/// The tree at the index is alike to one of the first, so many of them as `count` says.
+fn comes_again(trees: &[Tree], count: usize, index: usize) -> bool
+    requires { (count ≤ index) × (index < length trees.now) }
+    ensures { (d : ResultTree) → result ≡ has_alike same_but_keyword (forest_of (take count trees.now)) (get_or trees.now index d).root (get_or trees.now index d).below }
+{
+    has_alike(&trees[..count], &trees[index])
+}
