@@ -6,13 +6,15 @@ ghost use Rattle.js_doc.specs.Value.{text, list, members, object, truth, whole, 
 ghost use Rattle.js_tree.specs.Forest.{forest_of};
 ghost use Rattle.js_tree.specs.Form.{annotation_value, array_of_some, error_value, flag, form, list_name, node_value, node_values, unit_list, verbose, value_if};
 ghost use Rattle.js_tree.specs.OutputUnit.{noted};
+ghost use Rattle.js_tree.specs.MergedResult.{NormalOfThree, RunOfThree};
 ghost use Rattle.js_tree.specs.Put.{put_some};
 ghost use Rattle.js_tree.specs.Result.{ResultTree, Normal, Run, pruned};
 ghost use Rattle.js_tree.specs.Seen.{note_of};
 ghost use Rattle.js_tree.specs.Units.{units_below};
-ghost use Rattle.js_tree.specs.declared.forms.Format.TheVariants.{Detailed};
+ghost use Rattle.js_tree.specs.declared.forms.Format.TheVariants.{Detailed, Merged};
 
 use crate::condensing::condense;
+use crate::merging::merge_condense;
 use crate::note::Note;
 use crate::pruning::prune;
 use crate::tree::Tree;
@@ -29,6 +31,8 @@ pub enum Format {
     Basic,
     /// The condensed pruned tree (12.4.3).
     Detailed,
+    /// The pruned tree, condensed and without siblings that are alike: this project's own.
+    Merged,
     /// The whole tree (12.4.4).
     Verbose,
 }
@@ -39,12 +43,14 @@ pub enum Format {
 /// `Memory`.
 pub fn form(alloc: Global, tree: Tree, format: Format) -> Result<Doc, Memory>
     ensures form { IfOk result (λ doc. value_of doc ≡ form format tree.entry) }
+    ensures one_merged_form { format ≡ Merged → IfOk result (λ doc. (end : ResultTree) → RunOfThree (pruned tree.entry) end → NormalOfThree end → value_of doc ≡ verbose end) }
     ensures one_normal_form { format ≡ Detailed → IfOk result (λ doc. (end : ResultTree) → Run (pruned tree.entry) end → Normal end → value_of doc ≡ verbose end) }
 {
     match format {
         Format::Flag => flag(alloc, tree.unit.valid),
         Format::Basic => unit_list(alloc, &prune(tree)),
         Format::Detailed => tree_doc(alloc, &condense(prune(tree))),
+        Format::Merged => tree_doc(alloc, &merge_condense(prune(tree))),
         Format::Verbose => tree_doc(alloc, &tree),
     }
 }

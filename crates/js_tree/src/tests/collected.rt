@@ -52,9 +52,9 @@ fn boxed(alloc: Global, rows: &[Row]) -> Result<String, Fail> {
     }
 }
 
-fn put_rows(alloc: Global, flat: &Flat, format: Format) -> Result<String, Fail> {
+fn put_rows(alloc: Global, flat: &Flat) -> Result<String, Fail> {
     let mut out = String::new(alloc);
-    if flat.whole() && put_flat(flat, format, &mut out).is_ok() {
+    if flat.whole() && put_flat(flat, Format::Verbose, &mut out).is_ok() {
         return Ok(out);
     }
     Err(Fail::from("the rows are a whole tree's"))
@@ -65,7 +65,7 @@ fn flat_condensed(alloc: Global, rows: &[Row]) -> Result<String, Fail> {
     if !flat.whole() {
         return Err(Fail::from("the rows are a whole tree's"));
     }
-    put_rows(alloc, &flat_condense(flat), Format::Verbose)
+    put_rows(alloc, &flat_condense(flat))
 }
 
 fn flat_pruned(alloc: Global, rows: &[Row]) -> Result<String, Fail> {
@@ -73,7 +73,7 @@ fn flat_pruned(alloc: Global, rows: &[Row]) -> Result<String, Fail> {
     if !flat.whole() {
         return Err(Fail::from("the rows are a whole tree's"));
     }
-    put_rows(alloc, &flat_prune(flat), Format::Verbose)
+    put_rows(alloc, &flat_prune(flat))
 }
 
 const TREES: [&[Row]; 3] = [

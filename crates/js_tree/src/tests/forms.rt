@@ -2,10 +2,11 @@
 use super::*;
 use js_doc::{Doc, read};
 
-const EVERY_FORMAT: [Format; 4] = [
+const EVERY_FORMAT: [Format; 5] = [
     Format::Flag,
     Format::Basic,
     Format::Detailed,
+    Format::Merged,
     Format::Verbose,
 ];
 
@@ -124,7 +125,7 @@ fn expected(alloc: Global, says: Says, shows: &str, format: Format) -> Result<St
         Format::Flag => format!(in alloc; "{{\"valid\":{valid}}}")?,
         Format::Basic if silent => format!(in alloc; "{{\"{list}\":[],\"valid\":{valid}}}")?,
         Format::Basic => format!(in alloc; "{{\"{list}\":[{below}],\"valid\":{valid}}}")?,
-        Format::Detailed if silent => {
+        Format::Detailed | Format::Merged if silent => {
             format!(in alloc;
                 "{{\"absoluteKeywordLocation\":\"https://a.example/s#\",\"instanceLocation\":\"\",\"keywordLocation\":\"\",\"valid\":{valid}}}"
             )?
