@@ -10,6 +10,8 @@ pub mod Giving
 pub mod Marks
 pub mod Forests
 pub mod KeptTree
+pub mod MergedLaws
+pub mod MergedTree
 pub mod MovesAreSteps
 pub mod Nested
 pub mod NodeTexts

@@ -22,5 +22,6 @@ pub mod Result
 pub mod Search
 pub mod Seen
 pub mod Step
+pub mod Sublist
 pub mod Units
 pub mod VerdictState

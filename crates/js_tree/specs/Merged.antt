@@ -3,7 +3,7 @@
 -- `noted` tells which labels have a note, and `same` which are equal once what doesn't count is ignored.
 use Rattle.std.specs.Prelude.{◌≡◌, Bool, true, false, ◌||◌, ◌&&◌, if◌then◌else◌}
 use Rattle.js_tree.specs.Forest.{Forest, empty, tree, Rose, ◌⊹◌}
-use Rattle.js_tree.specs.Step.{Step, stands}
+use Rattle.js_tree.specs.Step.{ForestStep, stands}
 
 -- ---- alike trees
 
@@ -57,7 +57,7 @@ module _ {A : Type 0} (noted : A → Bool) (same : A → A → Bool) where
 
   -- A step of one of the three rules, at one node of trees that stand after others, which stay as they are.
   pub data MergeStep : Forest A → Forest A → Forest A → Type 0 where
-    condensed : {before f g : Forest A} → Step noted f g → MergeStep before f g
+    condensed : {before f g : Forest A} → ForestStep noted f g → MergeStep before f g
     doubled : {before below after : Forest A} {a : A} → has_alike same before a below ≡ true → MergeStep before (tree a below after) after
     deeper : {before f g after : Forest A} {a : A} → MergeStep empty f g → MergeStep before (tree a f after) (tree a g after)
     further : {before below f g : Forest A} {a : A} → MergeStep (before ⊹ tree a below empty) f g → MergeStep before (tree a below f) (tree a below g)

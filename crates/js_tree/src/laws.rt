@@ -1,9 +1,11 @@
 //! Laws of result trees. Each is the contract of a function that does nothing.
-ghost use Rattle.std.specs.Prelude.{◌≡◌, ◌+◌, ◌↔◌, List, Some, length};
+ghost use Rattle.std.specs.Prelude.{◌≡◌, ◌+◌, ◌<◌, ◌↔◌, List, Some, length};
 ghost use Rattle.js_tree.specs.Forest.{node_count};
 ghost use Rattle.js_tree.specs.Holding.{BoxedHolds, FlatHolds, VerdictHolds};
 ghost use Rattle.js_tree.specs.Result.{ResultTree, Normal, Run, Step, kept, moved, replayed};
 ghost use Rattle.js_tree.specs.declared.moves.Move.{Move};
+
+ghost use Rattle.js_tree.specs.MergedResult.{merged, NormalOfThree, RunOfThree, StepOfThree};
 
 use crate::tree::Tree;
 
@@ -36,6 +38,32 @@ pub fn the_kept_tree_is_reached()
 /// Every run that ends in a normal tree ends in the kept tree.
 pub fn normal_ends_are_the_kept_tree()
     ensures { (t u : ResultTree) → Run t u → Normal u → u ≡ kept t }
+{}
+
+/// A step of the three rules anywhere leaves the merged tree as it was.
+pub fn a_step_of_three_leaves_the_merged_tree()
+    ensures { (t u : ResultTree) → StepOfThree t u → merged u ≡ merged t }
+{}
+
+/// A tree that no step of the three rules leaves is its own merged tree.
+pub fn a_tree_normal_under_three_is_its_merged_tree()
+    ensures { (t : ResultTree) → NormalOfThree t → merged t ≡ t }
+{}
+
+/// A step of the three rules leaves fewer nodes, so a run has at most as many steps as there are nodes below the root.
+pub fn a_step_of_three_leaves_fewer_nodes()
+    ensures { (t u : ResultTree) → StepOfThree t u → node_count u.below < node_count t.below }
+{}
+
+/// From each tree a run of the three rules leads to its merged tree, which no step leaves.
+pub fn the_merged_tree_is_reached()
+    ensures reached { (t : ResultTree) → RunOfThree t (merged t) }
+    ensures normal { (t : ResultTree) → NormalOfThree (merged t) }
+{}
+
+/// Every run of the three rules that ends in a tree which no step leaves ends in the merged tree.
+pub fn normal_ends_of_three_are_the_merged_tree()
+    ensures { (t u : ResultTree) → RunOfThree t u → NormalOfThree u → u ≡ merged t }
 {}
 
 /// After the events of a tree whose nodes stand on fewer than 2^64 levels, `Verdict` holds its root's verdict.

@@ -3,7 +3,7 @@ ghost use Rattle.std.specs.Prelude.{◌≡◌, ◌≤◌, ◌<◌, if◌then◌e
 ghost use Rattle.js_tree.specs.Alike.{same_but_keyword};
 ghost use Rattle.js_tree.specs.Forest.{empty, tree as node, forest_of};
 ghost use Rattle.js_tree.specs.Merged.{firsts, given_trees, has_alike, merged_below};
-ghost use Rattle.js_tree.specs.MergedResult.{merged};
+ghost use Rattle.js_tree.specs.MergedResult.{merged, NormalOfThree, RunOfThree};
 ghost use Rattle.js_tree.specs.OutputUnit.{noted};
 ghost use Rattle.js_tree.specs.Result.{ResultTree};
 
@@ -17,6 +17,9 @@ use crate::tree::{Tree, Trees};
 /// means equal once every keyword location is ignored.
 pub fn merge_condense(tree: Tree) -> Tree
     ensures merged { result ≡ merged tree.entry }
+    ensures normal { NormalOfThree result }
+    ensures reached { RunOfThree tree.entry result }
+    ensures once { merged result ≡ result }
 {
     let mut whole = tree;
     merge_children(&mut whole.children);
