@@ -6,12 +6,11 @@ ghost use Rattle.js_doc.specs.Value.{text, list, members, object, truth, whole, 
 ghost use Rattle.js_tree.specs.Forest.{forest_of};
 ghost use Rattle.js_tree.specs.Form.{annotation_value, array_of_some, error_value, flag, form, list_name, node_value, node_values, unit_list, verbose, value_if};
 ghost use Rattle.js_tree.specs.OutputUnit.{noted};
-ghost use Rattle.js_tree.specs.MergedResult.{NormalOfThree, RunOfThree};
 ghost use Rattle.js_tree.specs.Put.{put_some};
 ghost use Rattle.js_tree.specs.Result.{ResultTree, Normal, Run, pruned};
 ghost use Rattle.js_tree.specs.Seen.{note_of};
 ghost use Rattle.js_tree.specs.Units.{units_below};
-ghost use Rattle.js_tree.specs.declared.forms.Format.TheVariants.{Detailed, Merged};
+ghost use Rattle.js_tree.specs.declared.forms.Format.TheVariants.{Detailed};
 
 use crate::condensing::condense;
 use crate::merging::merge_condense;
@@ -43,7 +42,6 @@ pub enum Format {
 /// `Memory`.
 pub fn form(alloc: Global, tree: Tree, format: Format) -> Result<Doc, Memory>
     ensures form { IfOk result (λ doc. value_of doc ≡ form format tree.entry) }
-    ensures one_merged_form { format ≡ Merged → IfOk result (λ doc. (end : ResultTree) → RunOfThree (pruned tree.entry) end → NormalOfThree end → value_of doc ≡ verbose end) }
     ensures one_normal_form { format ≡ Detailed → IfOk result (λ doc. (end : ResultTree) → Run (pruned tree.entry) end → Normal end → value_of doc ≡ verbose end) }
 {
     match format {

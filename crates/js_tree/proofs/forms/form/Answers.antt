@@ -4,12 +4,10 @@ use Rattle.js_doc.specs.declared.doc.Doc.{Doc}
 use Rattle.js_doc.specs.declared.memory.Memory.{Memory}
 use Rattle.js_tree.specs.Forest.{Rose}
 use Rattle.js_tree.specs.Form.{verbose}
-use Rattle.js_tree.specs.MergedResult.{merged, NormalOfThree, RunOfThree}
 use Rattle.js_tree.specs.OutputUnit.{noted}
 use Rattle.js_tree.specs.Result.{Normal, Run, kept, pruned}
 use Rattle.js_tree.specs.declared.unit.Unit.{Unit}
 use Rattle.js_tree.proofs.KeptTree.{run-normal}
-use Rattle.js_tree.proofs.MergedLaws.{normal_end_of_three}
 use Rattle.js_tree.proofs.forms.form.Goals as goal
 
 -- the document of the kept tree is that of the end of each run that can't be continued
@@ -19,12 +17,3 @@ every_end (Err refused) t u k e = tt
 
 pub returns-in-Detailed-clause-one_normal_form : goal.returns-in-Detailed-clause-one_normal_form
 returns-in-Detailed-clause-one_normal_form c = λ _. every_end c.tree_doc-in-Detailed.result (pruned c.args.tree) c.condense.result (c.condense.ensures.kept ∙ ap kept c.prune-in-Detailed.ensures) c.tree_doc-in-Detailed.ensures
-
--- the document of the merged tree is that of the end of each run of the three rules that can't be continued
-every_end_of_three : (made : Result Doc Memory) (t u : Rose Unit) → u ≡ merged t → IfOk made (λ doc. value_of doc ≡ verbose u) → IfOk made (λ doc. (end : Rose Unit) → RunOfThree t end → NormalOfThree end → value_of doc ≡ verbose end)
-every_end_of_three (Ok doc) t u m e = λ end r n. e ∙ ap verbose (m ∙ sym (normal_end_of_three t end r n))
-every_end_of_three (Err refused) t u m e = tt
-
-pub returns-in-Merged-clause-one_merged_form : goal.returns-in-Merged-clause-one_merged_form
-returns-in-Merged-clause-one_merged_form c =
-    λ _. every_end_of_three c.tree_doc-in-Merged.result (pruned c.args.tree) c.merge_condense.result (c.merge_condense.ensures.merged ∙ ap merged c.prune-in-Merged.ensures) c.tree_doc-in-Merged.ensures
