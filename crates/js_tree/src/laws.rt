@@ -4,6 +4,7 @@ ghost use Rattle.js_tree.specs.Forest.{node_count};
 ghost use Rattle.js_tree.specs.Holding.{BoxedHolds, FlatHolds, VerdictHolds};
 ghost use Rattle.js_tree.specs.Result.{ResultTree, Normal, Run, Step, kept, moved, replayed};
 ghost use Rattle.js_tree.specs.declared.moves.Move.{Move};
+
 ghost use Rattle.js_tree.specs.MergedResult.{merged, NormalOfThree, RunOfThree, StepOfThree};
 
 use crate::tree::Tree;

@@ -16,26 +16,14 @@ impl<'a> Note<'a> {
     {
         match self {
             Note::Silent => matches!(other, Note::Silent),
-            Note::Error(a) => if let Note::Error(b) = other {
-                a == b
-            } else {
-                false
-            },
-            Note::Value(a) => if let Note::Value(b) = other {
-                a == b
-            } else {
-                false
-            },
+            Note::Error(a) => if let Note::Error(b) = other { a == b } else { false },
+            Note::Value(a) => if let Note::Value(b) = other { a == b } else { false },
             Note::Names(a) => if let Note::Names(b) = other {
                 a.as_slice() == b.as_slice()
             } else {
                 false
             },
-            Note::Index(a) => if let Note::Index(b) = other {
-                a == b
-            } else {
-                false
-            },
+            Note::Index(a) => if let Note::Index(b) = other { a == b } else { false },
             Note::Indexes(a) => if let Note::Indexes(b) = other {
                 a.as_slice() == b.as_slice()
             } else {
@@ -63,7 +51,8 @@ impl<'a> Unit<'a> {
 pub(crate) fn are_alike(a: &Tree, b: &Tree) -> bool
     ensures { result ≡ alike_trees same_but_keyword a.now.root a.now.below b.now.root b.now.below }
 {
-    a.unit.is_same_but_keyword(&b.unit) && all_alike(a.children.as_slice(), b.children.as_slice())
+    a.unit.is_same_but_keyword(&b.unit)
+        && all_alike(a.children.as_slice(), b.children.as_slice())
 }
 
 #[cycle(alike)]
