@@ -24,6 +24,16 @@ pub(crate) fn merged_of<'a>(
     ensures fault { IfErr result (IsWalkFault entry.now.schemas
         (place_at entry.now.schemas entry.now.place) (value_of instance.now)) }
 {
-    let tree = walk(alloc, &entry.schemas, entry.place, instance)?;
-    Ok(merge_condense(prune(tree)))
+    match walk(alloc, &entry.schemas, entry.place, instance) {
+        Ok(tree) => Ok(merge_condense(prune(tree))),
+        Err(fault) => Err(Fault::from(fault)),
+    }
+}
+
+/// The verdict of the tree.
+pub(crate) fn root_is_valid(tree: &Tree) -> bool
+    ensures { result ≡ tree.now.root.valid }
+{
+    let root = &tree.unit;
+    root.valid
 }

@@ -59,9 +59,11 @@ fn trimmed<'a>(flat: Flat<'a>, format: Format) -> Flat<'a>
         → flat_state result ≡ whole_tree (trimmed format t) }
 {
     match format {
+        Format::Flag => flat,
         Format::Basic => flat_prune(flat),
         Format::Detailed => flat_condense(flat_prune(flat)),
-        Format::Flag | Format::Merged | Format::Verbose => flat,
+        Format::Merged => flat,
+        Format::Verbose => flat,
     }
 }
 

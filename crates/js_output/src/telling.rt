@@ -8,7 +8,7 @@ ghost use Rattle.js_output.specs.Telling.{Tells};
 
 use crate::entry::Entry;
 use crate::fault::Fault;
-use crate::merged::merged_of;
+use crate::merged::{merged_of, root_is_valid};
 use crate::rows::{is_valid, rows_of};
 use crate::sink::Sink;
 use crate::text::value_from;
@@ -60,8 +60,10 @@ fn tell_value<W: Write>(
 {
     match format {
         Format::Flag => tell_verdict(alloc, entry, instance, out),
+        Format::Basic => tell_form(alloc, entry, Format::Basic, instance, out),
+        Format::Detailed => tell_form(alloc, entry, Format::Detailed, instance, out),
         Format::Merged => tell_merged(alloc, entry, instance, out),
-        _ => tell_form(alloc, entry, format, instance, out),
+        Format::Verbose => tell_form(alloc, entry, Format::Verbose, instance, out),
     }
 }
 
@@ -124,8 +126,7 @@ fn tell_merged<W: Write>(
     ensures sink_stays { out.old.failed ≡ true → out.new ≡ out.old }
 {
     let tree = merged_of(alloc, entry, instance)?;
-    let root = &tree.unit;
-    let valid = root.valid;
+    let valid = root_is_valid(&tree);
     write_tree(&tree, out)?;
     Ok(valid)
 }

@@ -26,5 +26,5 @@ returns-clause-answer g c =
     let entry = place_at docs c.args.entry.now.place in
     let taken = g.W.Write.contents in
     let (t, is, stands, e) = c.in_ok-tree.ensures.tree in
-    tells-sent docs entry (value_of c.args.instance.now) Merged t is stands taken c.args.out.now c.write_tree.new.out c.root.inside.valid (ap (λ u. u.valid) c.root.view_is ∙ ap (λ u. u.root.valid) e)
+    tells-sent docs entry (value_of c.args.instance.now) Merged t is stands taken c.args.out.now c.write_tree.new.out c.root_is_valid-valid.result (c.root_is_valid-valid.ensures ∙ ap (λ u. u.root.valid) e)
     (subst (λ u. Sends taken c.args.out.now c.write_tree.new.out (compact (verbose u) ++ 10 ∷ [])) e c.in_ok-write_tree.ensures.sent)
