@@ -33,7 +33,7 @@ shows Detailed t =
     ((kept p, (refl, kept_is_reached noted p.below), kept_is_normal noted p.below, refl), λ end r n. ap verbose (sym (run-normal noted p end r n)))
 shows Merged t =
     let p = pruned t in
-    ((merged p, (merged_is_reached p, merged_is_normal p, refl)), λ end r n. ap verbose (sym (normal_end_of_three p end r n)))
+    ((merged p, merged_is_reached p, merged_is_normal p, refl), λ end r n. ap verbose (sym (normal_end_of_three p end r n)))
 
 -- ---- of an accepted instance, what comes of its value is the outcome
 
