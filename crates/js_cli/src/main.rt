@@ -36,18 +36,22 @@ fn status(rt: &HostRuntime) -> u8 {
     }
     let mut files = Disk::new(rt);
     let mut input = Source::new(rt.stdin());
-    let Ok(buffered) = BufWriter::new(rt.alloc(), rt.stdout()) else {
+    let Ok(mut buffered) = BufWriter::new(rt.alloc(), rt.stdout()) else {
         return command::FAILED;
     };
-    let mut out = Sink::new(buffered);
-    command(
+    let mut out = Sink::new(&mut buffered);
+    let status = command(
         rt.alloc(),
         lent.as_slice(),
         &mut files,
         &mut input,
         &mut out,
         &mut faults,
-    )
+    );
+    drop(out);
+    // Else what a failed write left would be written once more.
+    drop(buffered.into_parts());
+    status
 }
 
 // Why the words can't be had: there was no memory, or one isn't UTF-8.

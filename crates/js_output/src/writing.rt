@@ -1,11 +1,10 @@
 //! Forms, written into a sink as one line each.
-ghost use Rattle.std.specs.Prelude.{◌≡◌, ◌≢◌, ◌∷◌, ◌++◌, [], true};
+ghost use Rattle.std.specs.Prelude.{◌≡◌, ◌∷◌, ◌++◌, [], true};
 ghost use Rattle.js_doc.specs.BytesOut.{Puts};
 ghost use Rattle.js_doc.specs.Compact.{compact};
 ghost use Rattle.js_tree.specs.FlatState.{IsWholeTree, flat_state, whole_tree};
 ghost use Rattle.js_tree.specs.Form.{flag, shown, verbose};
 ghost use Rattle.js_tree.specs.Result.{ResultTree};
-ghost use Rattle.js_tree.specs.declared.forms.Format.TheVariants.{Merged};
 ghost use Rattle.js_output.specs.Device.{SendsOrFails};
 
 use crate::fault::Fault;
@@ -35,8 +34,7 @@ pub(crate) fn write_rows<W: Write>(
     format: Format,
     out: &mut Sink<W>,
 ) -> Result<(), Fault>
-    requires whole { IsWholeTree (flat_state flat.now) }
-    requires rows { format ≢ Merged }
+    requires { IsWholeTree (flat_state flat.now) }
     ensures sent { (t : ResultTree) → flat_state flat.now ≡ whole_tree t
         → SendsOrFails W.contents out.old out.new (compact (shown format t) ++ 10 ∷ []) result }
     ensures stays { out.old.failed ≡ true → out.new ≡ out.old }
@@ -70,8 +68,7 @@ fn put_flag_line<O: Out>(valid: bool, out: &mut O) -> Result<(), Stopped>
 }
 
 fn put_rows_line<O: Out>(flat: &Flat, format: Format, out: &mut O) -> Result<(), Stopped>
-    requires whole { IsWholeTree (flat_state flat.now) }
-    requires rows { format ≢ Merged }
+    requires { IsWholeTree (flat_state flat.now) }
     ensures { (t : ResultTree) → flat_state flat.now ≡ whole_tree t
         → Puts (O.progress out.old) (O.progress out.new) (compact (shown format t) ++ 10 ∷ [])
         result }

@@ -129,7 +129,7 @@ module _ {A : Type 0} (noted : A → Bool) where
 
   -- ---- the units stay, one by one and in their order
 
-  units_below-append : (f g : Forest A) → units_below noted (f ⊹ g) ≡ units_below noted f ++ units_below noted g
+  pub units_below-append : (f g : Forest A) → units_below noted (f ⊹ g) ≡ units_below noted f ++ units_below noted g
   units_below-append empty g = refl
   units_below-append (tree a below after) g =
       rw (units_below-append after g) (sym (append_assoc (if noted a then a ∷ units_below noted below else units_below noted below) (units_below noted after) (units_below noted g)))

@@ -3,6 +3,7 @@ pub mod AlikeUnits
 pub mod BoxedTold
 pub mod ChildTexts
 pub mod Compaction
+pub mod Earliest
 pub mod FlagText
 pub mod FlatRows
 pub mod FlatTold
@@ -11,7 +12,9 @@ pub mod Marks
 pub mod Forests
 pub mod KeptTree
 pub mod MergedLaws
+pub mod MergedTest
 pub mod MergedTree
+pub mod MergedUnits
 pub mod MovesAreSteps
 pub mod Nested
 pub mod NodeTexts

@@ -10,7 +10,7 @@ use Rattle.js_tree.proofs.Forests.{append-empty, append-append, same_tree}
 use Rattle.js_tree.proofs.Giving.{given_trees-append}
 use Rattle.js_tree.proofs.Steps.{and_left, and_right, or_left, or_right, step_takes_one, normal-all_stand}
 
-or-true : (b c : Bool) → c ≡ true → (b || c) ≡ true
+pub or-true : (b c : Bool) → c ≡ true → (b || c) ≡ true
 or-true true c e = refl
 or-true false c e = e
 
@@ -22,7 +22,7 @@ module _ {A : Type 0} (same : A → A → Bool) where
   unlike-append_at true a x b under others g v i = rw v i
   unlike-append_at false a x b under others g v i = rw v (ap (tree b under) i)
 
-  unlike-append : (a : A) (x f g : Forest A) → unlike same a x (f ⊹ g) ≡ (unlike same a x f ⊹ unlike same a x g)
+  pub unlike-append : (a : A) (x f g : Forest A) → unlike same a x (f ⊹ g) ≡ (unlike same a x f ⊹ unlike same a x g)
   unlike-append a x empty g = refl
   unlike-append a x (tree b under others) g = unlike-append_at (alike_trees same a x b under) a x b under others g refl (unlike-append a x others g)
 
@@ -107,7 +107,7 @@ module _ {A : Type 0} (same : A → A → Bool) (e : IsEquivalence same) where
       ∙ firsts-unlike b under (others ⊹ g))
   firsts-found_at false b under others a x g v h i = ap (λ r. tree b under (unlike same b under r)) (i h)
 
-  firsts-found : (f : Forest A) (a : A) (x g : Forest A) → has_alike same f a x ≡ true → firsts same (f ⊹ tree a x g) ≡ firsts same (f ⊹ g)
+  pub firsts-found : (f : Forest A) (a : A) (x g : Forest A) → has_alike same f a x ≡ true → firsts same (f ⊹ tree a x g) ≡ firsts same (f ⊹ g)
   firsts-found empty a x g h = absurd cc
   firsts-found (tree b under others) a x g h = firsts-found_at (alike_trees same b under a x) b under others a x g refl h (firsts-found others a x g)
 

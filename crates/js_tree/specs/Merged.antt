@@ -1,7 +1,7 @@
 -- A third rule beside the two that condense: a node goes, with all below it, where an earlier sibling is alike. And the
 -- one tree in which every run of the three rules ends, with no word on runs or steps.
 -- `noted` tells which labels have a note, and `same` which are equal once what doesn't count is ignored.
-use Rattle.std.specs.Prelude.{◌≡◌, Bool, true, false, ◌||◌, ◌&&◌, if◌then◌else◌}
+use Rattle.std.specs.Prelude.{◌≡◌, Bool, true, false, not, ◌||◌, ◌&&◌, if◌then◌else◌}
 use Rattle.js_tree.specs.Forest.{Forest, empty, tree, Rose, ◌⊹◌}
 use Rattle.js_tree.specs.Step.{ForestStep, stands}
 
@@ -28,6 +28,11 @@ module _ {A : Type 0} (same : A → A → Bool) where
   abbrev pub unlike : A → Forest A → Forest A → Forest A
   unlike a below empty = empty
   unlike a below (tree b under others) = if alike_trees a below b under then unlike a below others else tree b under (unlike a below others)
+
+  -- none of the trees is alike to an earlier one, nor to one of those before them all
+  abbrev pub none_alike : Forest A → Forest A → Bool
+  none_alike before empty = true
+  none_alike before (tree a below after) = not (has_alike before a below) && none_alike (before ⊹ tree a below empty) after
 
   -- the trees without those that are alike to an earlier one
   abbrev pub firsts : Forest A → Forest A
@@ -66,6 +71,11 @@ module _ {A : Type 0} (noted : A → Bool) (same : A → A → Bool) where
   pub data MergeRun : Forest A → Forest A → Forest A → Type 0 where
     ended : {before f : Forest A} → MergeRun before f f
     then_on : {before f g h : Forest A} → MergeStep before f g → MergeRun before g h → MergeRun before f h
+
+  -- each node stands over trees of which none are alike
+  abbrev pub all_merged : Forest A → Bool
+  all_merged empty = true
+  all_merged (tree a below after) = (stands noted a below && none_alike same empty below) && (all_merged below && all_merged after)
 
   -- no step leaves the trees, where none stand before them
   abbrev pub MergeNormal : Forest A → Type 0

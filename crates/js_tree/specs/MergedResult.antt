@@ -1,10 +1,15 @@
 -- The third rule said of result trees, where keyword locations don't count.
 use Rattle.std.specs.Prelude.{◌≡◌}
-use Rattle.js_tree.specs.Alike.{same_but_keyword}
-use Rattle.js_tree.specs.Forest.{empty}
+use Rattle.js_tree.specs.Alike.{same_but_keyword, without_keyword}
+use Rattle.js_tree.specs.Forest.{Forest, empty, tree}
 use Rattle.js_tree.specs.Merged.{merged_by, MergeStep, MergeRun, MergeNormal}
-use Rattle.js_tree.specs.OutputUnit.{noted}
+use Rattle.js_tree.specs.OutputUnit.{OutputUnit, noted}
 use Rattle.js_tree.specs.Result.{ResultTree}
+
+-- the trees with no keyword locations
+abbrev pub without_keywords : Forest OutputUnit → Forest OutputUnit
+without_keywords empty = empty
+without_keywords (tree u below after) = tree (without_keyword u) (without_keywords below) (without_keywords after)
 
 -- the one tree in which every run of the three rules ends
 abbrev pub merged : ResultTree → ResultTree

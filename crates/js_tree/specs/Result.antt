@@ -1,6 +1,7 @@
 -- Result trees: trees whose labels are output units (JSON Schema Core, section 12.4.4). The definitions of this crate,
 -- said of them.
 use Rattle.std.specs.Prelude.{Bool, true, false, not, List, Option}
+use Rattle.js_tree.specs.Alike.{same_but_keyword}
 use Rattle.js_tree.specs.Forest.{Rose}
 use Rattle.js_tree.specs.Step.{NormalForest, RunBelow, StepBelow}
 use Rattle.js_tree.specs.Kept.{kept_by}
@@ -46,7 +47,7 @@ pruned t = record { root = t.root; below = pruned_below (has_verdict t.root.vali
 -- ---- moves
 
 abbrev pub moved : Move → ResultTree → Option (ResultTree)
-moved = moved_by noted
+moved = moved_by noted same_but_keyword
 
 abbrev pub replayed : List Move → ResultTree → Option (ResultTree)
-replayed = replayed_by noted
+replayed = replayed_by noted same_but_keyword

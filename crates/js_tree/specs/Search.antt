@@ -1,6 +1,7 @@
 -- What a move that looks for its node among some trees, in preorder, has found.
 use Rattle.std.specs.Prelude.{◌≡◌, ℕ, ◌+◌, ◌<◌, Some, None}
-use Rattle.js_tree.specs.Forest.{Forest, node_count}
+use Rattle.js_tree.specs.Alike.{same_but_keyword}
+use Rattle.js_tree.specs.Forest.{Forest, empty, node_count}
 use Rattle.js_tree.specs.Moves.{moved_at}
 use Rattle.js_tree.specs.OutputUnit.{OutputUnit, noted}
 use Rattle.js_tree.specs.declared.moves.Rule.{Rule}
@@ -9,6 +10,6 @@ use Rattle.js_tree.specs.declared.moves.Search.TheVariants.{Made, NotPossible, F
 
 -- the move leads from f to g; or it isn't possible in f; or its node comes `rest` nodes after those of f
 abbrev pub Searched : Search → Rule → ℕ → Forest OutputUnit → Forest OutputUnit → Type 0
-Searched Made rule n f g = moved_at noted rule f n ≡ Some g
-Searched NotPossible rule n f g = (n < node_count f) × (moved_at noted rule f n ≡ None) × (g ≡ f)
+Searched Made rule n f g = moved_at noted same_but_keyword rule empty f n ≡ Some g
+Searched NotPossible rule n f g = (n < node_count f) × (moved_at noted same_but_keyword rule empty f n ≡ None) × (g ≡ f)
 Searched (Further rest) rule n f g = (node_count f + rest ≡ n) × (g ≡ f)

@@ -1,11 +1,14 @@
 //! Laws of result trees. Each is the contract of a function that does nothing.
-ghost use Rattle.std.specs.Prelude.{◌≡◌, ◌+◌, ◌<◌, ◌↔◌, List, Some, length};
-ghost use Rattle.js_tree.specs.Forest.{node_count};
+ghost use Rattle.std.specs.Prelude.{◌≡◌, ◌+◌, ◌<◌, ◌↔◌, List, IsTrue, Some, false, true};
+ghost use Rattle.js_tree.specs.Alike.{same_but_keyword};
+ghost use Rattle.js_tree.specs.Forest.{Forest, ◌⊹◌, node_count, tree};
 ghost use Rattle.js_tree.specs.Holding.{BoxedHolds, FlatHolds, VerdictHolds};
 ghost use Rattle.js_tree.specs.Result.{ResultTree, Normal, Run, Step, kept, moved, replayed};
 ghost use Rattle.js_tree.specs.declared.moves.Move.{Move};
-
-ghost use Rattle.js_tree.specs.MergedResult.{merged, NormalOfThree, RunOfThree, StepOfThree};
+ghost use Rattle.js_tree.specs.Merged.{alike, firsts, has_alike};
+ghost use Rattle.js_tree.specs.MergedResult.{merged, without_keywords, NormalOfThree, RunOfThree, StepOfThree};
+ghost use Rattle.js_tree.specs.Moves.{of_two};
+ghost use Rattle.js_tree.specs.OutputUnit.{OutputUnit};
 
 use crate::tree::Tree;
 
@@ -19,9 +22,9 @@ pub fn a_normal_tree_is_its_kept_tree()
     ensures { (t : ResultTree) → Normal t → kept t ≡ t }
 {}
 
-/// The steps of a tree are its possible moves.
+/// The steps of a tree are its possible moves by the two rules that condense.
 pub fn steps_are_moves()
-    ensures { (t u : ResultTree) → Step t u ↔ ((m : Move) × (moved m t ≡ Some u)) }
+    ensures { (t u : ResultTree) → Step t u ↔ ((m : Move) × IsTrue (of_two m.rule) × (moved m t ≡ Some u)) }
 {}
 
 /// A step takes one node away.
@@ -64,6 +67,22 @@ pub fn the_merged_tree_is_reached()
 /// Every run of the three rules that ends in a tree which no step leaves ends in the merged tree.
 pub fn normal_ends_of_three_are_the_merged_tree()
     ensures { (t u : ResultTree) → RunOfThree t u → NormalOfThree u → u ≡ merged t }
+{}
+
+/// The steps of the three rules are the possible moves.
+pub fn steps_of_three_are_moves()
+    ensures { (t u : ResultTree) → StepOfThree t u ↔ ((m : Move) × (moved m t ≡ Some u)) }
+{}
+
+/// Trees are alike exactly where they are equal without their keyword locations.
+pub fn alike_trees_are_equal_without_keywords()
+    ensures { (f g : Forest OutputUnit) → IsTrue (alike same_but_keyword f g) ↔ (without_keywords f ≡ without_keywords g) }
+{}
+
+/// Of alike trees side by side the earliest stays, with its own keyword locations, and the later ones go.
+pub fn the_earliest_of_alike_trees_stays()
+    ensures stays { (f : Forest OutputUnit) (u : OutputUnit) (below g : Forest OutputUnit) → has_alike same_but_keyword f u below ≡ false → (h : Forest OutputUnit) × (firsts same_but_keyword (f ⊹ tree u below g) ≡ (firsts same_but_keyword f ⊹ tree u below h)) }
+    ensures goes { (f : Forest OutputUnit) (u : OutputUnit) (below g : Forest OutputUnit) → has_alike same_but_keyword f u below ≡ true → firsts same_but_keyword (f ⊹ tree u below g) ≡ firsts same_but_keyword (f ⊹ g) }
 {}
 
 /// After the events of a tree whose nodes stand on fewer than 2^64 levels, `Verdict` holds its root's verdict.

@@ -31,7 +31,7 @@ pub use compacting::{flat_condense, flat_prune};
 pub use condensing::{condense, is_normal};
 pub use flat::{Flat, Row};
 pub use forms::{Format, form, tree_doc};
-pub use merging::merge_condense;
+pub use merging::{is_merged, merge_condense};
 pub use moves::{Move, NoMove, Rule, apply, replay};
 pub use note::{Indexes, Names, Note};
 pub use noted::units;

@@ -1,8 +1,9 @@
 //! Which trees are alike: equal once every keyword location is ignored.
-ghost use Rattle.std.specs.Prelude.{◌≡◌};
+ghost use Rattle.std.specs.Prelude.{◌≡◌, ◌≤◌, ◌<◌, length, take, get_or};
 ghost use Rattle.js_tree.specs.Alike.{same_but_keyword, same_note};
 ghost use Rattle.js_tree.specs.Forest.{forest_of};
 ghost use Rattle.js_tree.specs.Merged.{alike, alike_trees, has_alike};
+ghost use Rattle.js_tree.specs.Result.{ResultTree};
 ghost use Rattle.js_tree.specs.Seen.{note_of};
 
 use crate::note::Note;
@@ -16,14 +17,26 @@ impl<'a> Note<'a> {
     {
         match self {
             Note::Silent => matches!(other, Note::Silent),
-            Note::Error(a) => if let Note::Error(b) = other { a == b } else { false },
-            Note::Value(a) => if let Note::Value(b) = other { a == b } else { false },
+            Note::Error(a) => if let Note::Error(b) = other {
+                a == b
+            } else {
+                false
+            },
+            Note::Value(a) => if let Note::Value(b) = other {
+                a == b
+            } else {
+                false
+            },
             Note::Names(a) => if let Note::Names(b) = other {
                 a.as_slice() == b.as_slice()
             } else {
                 false
             },
-            Note::Index(a) => if let Note::Index(b) = other { a == b } else { false },
+            Note::Index(a) => if let Note::Index(b) = other {
+                a == b
+            } else {
+                false
+            },
             Note::Indexes(a) => if let Note::Indexes(b) = other {
                 a.as_slice() == b.as_slice()
             } else {
@@ -48,11 +61,10 @@ impl<'a> Unit<'a> {
 
 /// The trees are equal once every keyword location is ignored. The first node that differs ends the search.
 #[cycle(alike)]
-pub(crate) fn are_alike(a: &Tree, b: &Tree) -> bool
+fn are_alike(a: &Tree, b: &Tree) -> bool
     ensures { result ≡ alike_trees same_but_keyword a.now.root a.now.below b.now.root b.now.below }
 {
-    a.unit.is_same_but_keyword(&b.unit)
-        && all_alike(a.children.as_slice(), b.children.as_slice())
+    a.unit.is_same_but_keyword(&b.unit) && all_alike(a.children.as_slice(), b.children.as_slice())
 }
 
 #[cycle(alike)]
@@ -71,7 +83,7 @@ fn all_alike(a: &[Tree], b: &[Tree]) -> bool
 }
 
 /// One of the trees is alike to the tree.
-pub(crate) fn has_alike(trees: &[Tree], tree: &Tree) -> bool
+fn has_alike(trees: &[Tree], tree: &Tree) -> bool
     ensures { result ≡ has_alike same_but_keyword (forest_of trees.now) tree.now.root tree.now.below }
 {
     for other in trees {
@@ -80,4 +92,12 @@ pub(crate) fn has_alike(trees: &[Tree], tree: &Tree) -> bool
         }
     }
     false
+}
+
+/// The tree at the index is alike to one of the first, so many of them as `count` says.
+pub(crate) fn comes_again(trees: &[Tree], count: usize, index: usize) -> bool
+    requires { (count ≤ index) × (index < length trees.now) }
+    ensures { (d : ResultTree) → result ≡ has_alike same_but_keyword (forest_of (take count trees.now)) (get_or trees.now index d).root (get_or trees.now index d).below }
+{
+    has_alike(&trees[..count], &trees[index])
 }

@@ -1,13 +1,14 @@
 //! Condensing with a third rule: a node goes where an earlier sibling is alike.
-ghost use Rattle.std.specs.Prelude.{◌≡◌, ◌≤◌, ◌<◌, if◌then◌else◌, length, take, get_or};
+ghost use Rattle.std.specs.Prelude.{◌≡◌, ◌≤◌, ◌↔◌, ◌&&◌, IsTrue, if◌then◌else◌, length, take};
 ghost use Rattle.js_tree.specs.Alike.{same_but_keyword};
 ghost use Rattle.js_tree.specs.Forest.{empty, tree as node, forest_of};
-ghost use Rattle.js_tree.specs.Merged.{firsts, given_trees, has_alike, merged_below};
+ghost use Rattle.js_tree.specs.Merged.{all_merged, firsts, given_trees, merged_below, none_alike};
 ghost use Rattle.js_tree.specs.MergedResult.{merged, NormalOfThree, RunOfThree};
 ghost use Rattle.js_tree.specs.OutputUnit.{noted};
-ghost use Rattle.js_tree.specs.Result.{ResultTree};
+ghost use Rattle.js_tree.specs.Result.{units};
+ghost use Rattle.js_tree.specs.Sublist.{Sublist, none_lost};
 
-use crate::likeness::has_alike;
+use crate::likeness::comes_again;
 use crate::tree::{Tree, Trees};
 
 /// The one tree in which every run of the three rules ends that can't be continued. Takes no memory.
@@ -20,6 +21,8 @@ pub fn merge_condense(tree: Tree) -> Tree
     ensures normal { NormalOfThree result }
     ensures reached { RunOfThree tree.entry result }
     ensures once { merged result ≡ result }
+    ensures units { Sublist (units result) (units tree.entry) }
+    ensures none_lost { IsTrue (none_lost same_but_keyword (units result) (units tree.entry)) }
 {
     let mut whole = tree;
     merge_children(&mut whole.children);
@@ -88,10 +91,45 @@ fn keep_firsts(trees: &mut [Tree]) -> usize
     count
 }
 
-/// The tree at the index is alike to one of the first, so many of them as `count` says.
-fn comes_again(trees: &[Tree], count: usize, index: usize) -> bool
-    requires { (count ≤ index) × (index < length trees.now) }
-    ensures { (d : ResultTree) → result ≡ has_alike same_but_keyword (forest_of (take count trees.now)) (get_or trees.now index d).root (get_or trees.now index d).below }
+/// No step of the three rules is possible anywhere below the root. Takes no memory.
+pub fn is_merged(tree: &Tree) -> bool
+    ensures { IsTrue result ↔ NormalOfThree tree.now }
 {
-    has_alike(&trees[..count], &trees[index])
+    are_merged(tree.children.as_slice())
+}
+
+/// No step is possible among the trees or below them.
+fn are_merged(trees: &[Tree]) -> bool
+    ensures { result ≡ (none_alike same_but_keyword empty (forest_of trees.now) && all_merged noted same_but_keyword (forest_of trees.now)) }
+{
+    siblings_differ(trees) && all_merged(trees)
+}
+
+fn all_merged(trees: &[Tree]) -> bool
+    ensures { result ≡ all_merged noted same_but_keyword (forest_of trees.now) }
+{
+    for tree in trees {
+        if !tree.stands() {
+            return false;
+        }
+        if !siblings_differ(tree.children.as_slice()) {
+            return false;
+        }
+        if !all_merged(tree.children.as_slice()) {
+            return false;
+        }
+    }
+    true
+}
+
+/// None of the trees is alike to an earlier one.
+fn siblings_differ(trees: &[Tree]) -> bool
+    ensures { result ≡ none_alike same_but_keyword empty (forest_of trees.now) }
+{
+    for i in 0..trees.len() {
+        if comes_again(trees, i, i) {
+            return false;
+        }
+    }
+    true
 }

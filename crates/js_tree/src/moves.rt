@@ -1,21 +1,26 @@
-//! Single moves of the two condensing rules, and runs of them.
-ghost use Rattle.std.specs.Prelude.{false, ◌≡◌, ◌+◌, ◌<◌, ◌≤◌, if◌then◌else◌, length, take, vec_len, MatchResult, IfOk};
+//! Single moves of the two condensing rules and of the one that merges, and runs of them.
+ghost use Rattle.std.specs.Prelude.{false, ◌≡◌, ◌+◌, ◌<◌, ◌≤◌, if◌then◌else◌, length, take, vec_len, MatchResult, IfOk, IsTrue};
+ghost use Rattle.js_tree.specs.Alike.{same_but_keyword};
 ghost use Rattle.js_tree.specs.Forest.{forest_of, node_count, empty, tree as node};
-ghost use Rattle.js_tree.specs.Moves.{with_only_child, moved_at};
+ghost use Rattle.js_tree.specs.MergedResult.{merged, NormalOfThree, StepOfThree};
+ghost use Rattle.js_tree.specs.Moves.{all_of_two, of_two, with_only_child, moved_at};
 ghost use Rattle.js_tree.specs.OutputUnit.{noted};
 ghost use Rattle.js_tree.specs.Result.{kept, Normal, Step, moved, replayed};
 ghost use Rattle.js_tree.specs.Search.{Searched};
-ghost use Rattle.js_tree.specs.declared.moves.Rule.TheVariants.{Drop};
+ghost use Rattle.js_tree.specs.declared.moves.Rule.TheVariants.{Drop, Merge};
 
+use crate::likeness::comes_again;
 use crate::tree::Tree;
 
-/// What may be done to a node below the root that has no note (Core, section 12.4.3).
+/// What may be done to a node below the root.
 #[derive(Clone, Copy, Debug, PartialEq, Eq)]
 pub enum Rule {
-    /// The node goes, if it has no child.
+    /// The node goes, if it has no note and no child (Core, section 12.4.3).
     Drop,
-    /// The node's child takes its place, if it has exactly one.
+    /// The node's child takes its place, if it has no note and exactly one child (Core, section 12.4.3).
     Lift,
+    /// The node goes with all below it, if an earlier sibling is alike: equal once every keyword location is ignored.
+    Merge,
 }
 
 /// A rule at a node, which is named by its number in preorder, the root's 0.
@@ -38,14 +43,16 @@ enum Search {
     Further(usize),
 }
 
-/// Makes the move. Takes no memory, and time linear in the nodes up to its position and the siblings after it.
+/// Makes the move. Takes no memory, and time linear in the nodes up to its position and the siblings after it; `Merge`
+/// also looks at the siblings before it.
 ///
 /// # Errors
 /// `NoMove` with the tree as it was, exactly where the rule isn't possible there or no node below the root has the
 /// number.
 pub fn apply<'a>(tree: Tree<'a>, chosen: &Move) -> Result<Tree<'a>, (NoMove, Tree<'a>)>
     ensures moved { MatchResult result (λ made. moved chosen.now tree.entry ≡ Some made) (λ refused. (moved chosen.now tree.entry ≡ None) × (refused.1 ≡ tree.entry)) }
-    ensures step { IfOk result (λ made. Step tree.entry made) }
+    ensures step { IfOk result (λ made. IsTrue (of_two chosen.now.rule) → Step tree.entry made) }
+    ensures step_of_three { IfOk result (λ made. StepOfThree tree.entry made) }
 {
     if chosen.position == 0 {
         return Err((NoMove, tree));
@@ -63,8 +70,10 @@ pub fn apply<'a>(tree: Tree<'a>, chosen: &Move) -> Result<Tree<'a>, (NoMove, Tre
 /// The number of the first that isn't possible, the first move's being 0, and the tree that it met.
 pub fn replay<'a>(tree: Tree<'a>, moves: &[Move]) -> Result<Tree<'a>, (usize, Tree<'a>)>
     ensures run { MatchResult result (λ end. replayed moves.now tree.entry ≡ Some end) (λ stop. (stop.0 < length moves.now) × (replayed (take stop.0 moves.now) tree.entry ≡ Some stop.1) × (replayed (take (stop.0 + 1) moves.now) tree.entry ≡ None)) }
-    ensures length { IfOk result (λ end. length moves.now + node_count end.below ≡ node_count tree.entry.below) }
-    ensures one_normal_form { IfOk result (λ end. Normal end → end ≡ kept tree.entry) }
+    ensures at_most { IfOk result (λ end. length moves.now + node_count end.below ≤ node_count tree.entry.below) }
+    ensures length { IfOk result (λ end. IsTrue (all_of_two moves.now) → length moves.now + node_count end.below ≡ node_count tree.entry.below) }
+    ensures one_normal_form { IfOk result (λ end. IsTrue (all_of_two moves.now) → Normal end → end ≡ kept tree.entry) }
+    ensures one_merged_form { IfOk result (λ end. NormalOfThree end → end ≡ merged tree.entry) }
 {
     let mut tree = tree;
     for i in 0..moves.len() {
@@ -106,6 +115,7 @@ fn move_among(trees: &mut Vec<Tree>, rule: Rule, position: usize) -> Search
             let made = match rule {
                 Rule::Drop => drop_leaf(trees, i),
                 Rule::Lift => lift_child(&mut trees[i]),
+                Rule::Merge => drop_alike(trees, i),
             };
             return if made {
                 Search::Made
@@ -124,11 +134,24 @@ fn move_among(trees: &mut Vec<Tree>, rule: Rule, position: usize) -> Search
 /// Takes the tree at the index away, if it is a leaf without a note.
 fn drop_leaf(trees: &mut Vec<Tree>, i: usize) -> bool
     requires { i < vec_len trees.old }
-    ensures dropped { moved_at noted Drop (forest_of trees.old.items) (node_count (forest_of (take i trees.old.items))) ≡ (if result then Some (forest_of trees.new.items) else None) }
+    ensures dropped { moved_at noted same_but_keyword Drop empty (forest_of trees.old.items) (node_count (forest_of (take i trees.old.items))) ≡ (if result then Some (forest_of trees.new.items) else None) }
     ensures unchanged { result ≡ false → trees.new.items ≡ trees.old.items }
 {
     let tree = &trees[i];
     if tree.unit.is_noted() || !tree.children.is_empty() {
+        return false;
+    }
+    drop(trees.remove(i));
+    true
+}
+
+/// Takes the tree at the index away, if one before it is alike.
+fn drop_alike(trees: &mut Vec<Tree>, i: usize) -> bool
+    requires { i < vec_len trees.old }
+    ensures merged { moved_at noted same_but_keyword Merge empty (forest_of trees.old.items) (node_count (forest_of (take i trees.old.items))) ≡ (if result then Some (forest_of trees.new.items) else None) }
+    ensures unchanged { result ≡ false → trees.new.items ≡ trees.old.items }
+{
+    if !comes_again(trees.as_slice(), i, i) {
         return false;
     }
     drop(trees.remove(i));

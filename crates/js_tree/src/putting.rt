@@ -1,11 +1,10 @@
 //! Forms put out piece by piece.
-ghost use Rattle.std.specs.Prelude.{◌≡◌, ◌≢◌};
+ghost use Rattle.std.specs.Prelude.{◌≡◌};
 ghost use Rattle.js_doc.specs.BytesOut.{Puts};
 ghost use Rattle.js_doc.specs.Compact.{compact};
 ghost use Rattle.js_tree.specs.FlatState.{IsWholeTree, flat_state, whole_tree};
 ghost use Rattle.js_tree.specs.Form.{flag, shown};
 ghost use Rattle.js_tree.specs.Result.{ResultTree};
-ghost use Rattle.js_tree.specs.declared.forms.Format.TheVariants.{Merged};
 
 use crate::flat::Flat;
 use crate::forms::Format;
@@ -13,14 +12,12 @@ use crate::row_text::{put_root, put_units};
 use js_doc::{Out, Stopped};
 
 /// Puts the compact text of what the format shows of the rows' tree (Core, section 12.4): for basic the rows have to be
-/// the pruned tree's, for detailed the condensed one's, and else the whole tree's. Rows aren't merged, so the format isn't
-/// merged. It takes no memory.
+/// the pruned tree's, for detailed the condensed one's, for merged the merged one's, and else the whole tree's. It takes no memory.
 ///
 /// # Errors
 /// `Stopped`; then a beginning of the text has gone out.
 pub fn put_flat<O: Out>(flat: &Flat, format: Format, out: &mut O) -> Result<(), Stopped>
-    requires whole { IsWholeTree (flat_state flat.now) }
-    requires rows { format ≢ Merged }
+    requires { IsWholeTree (flat_state flat.now) }
     ensures { (t : ResultTree) → flat_state flat.now ≡ whole_tree t → Puts (O.progress out.old) (O.progress out.new) (compact (shown format t)) result }
 {
     let rows = flat.rows();
@@ -29,7 +26,9 @@ pub fn put_flat<O: Out>(flat: &Flat, format: Format, out: &mut O) -> Result<(), 
     match format {
         Format::Flag => put_flag(root.valid, out),
         Format::Basic => put_units(rows, out),
-        Format::Detailed | Format::Merged | Format::Verbose => put_root(rows, out),
+        Format::Detailed => put_root(rows, out),
+        Format::Merged => put_root(rows, out),
+        Format::Verbose => put_root(rows, out),
     }
 }
 

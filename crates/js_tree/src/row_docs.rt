@@ -1,5 +1,5 @@
 //! The documents of a flat form.
-ghost use Rattle.std.specs.Prelude.{◌≡◌, ◌≢◌, [], IfOk, map};
+ghost use Rattle.std.specs.Prelude.{◌≡◌, [], IfOk, map};
 ghost use Rattle.js_doc.specs.Seen.{value_of};
 ghost use Rattle.js_tree.specs.Flat.{flat, flat_of};
 ghost use Rattle.js_tree.specs.FlatState.{IsWholeTree, noted_of, row_of, flat_state, whole_tree};
@@ -7,7 +7,6 @@ ghost use Rattle.js_tree.specs.Forest.{Forest};
 ghost use Rattle.js_tree.specs.Form.{flag, node_value, node_values, shown, unit_list, verbose};
 ghost use Rattle.js_tree.specs.OutputUnit.{OutputUnit};
 ghost use Rattle.js_tree.specs.Result.{ResultTree};
-ghost use Rattle.js_tree.specs.declared.forms.Format.TheVariants.{Merged};
 
 use crate::flat::{Flat, Row};
 use crate::forms::{Format, flag, list_doc, node_doc};
@@ -15,20 +14,21 @@ use js_doc::{Doc, Memory};
 use std::alloc::Global;
 
 /// The document of what the format shows of the rows' tree (Core, section 12.4): for basic the rows have to be the
-/// pruned tree's, for detailed the condensed one's, and else the whole tree's. Rows aren't merged, so the format isn't merged.
+/// pruned tree's, for detailed the condensed one's, for merged the merged one's, and else the whole tree's.
 ///
 /// # Errors
 /// `Memory`.
 pub fn flat_doc(alloc: Global, flat: &Flat, format: Format) -> Result<Doc, Memory>
-    requires whole { IsWholeTree (flat_state flat.now) }
-    requires rows { format ≢ Merged }
+    requires { IsWholeTree (flat_state flat.now) }
     ensures { IfOk result (λ doc. (t : ResultTree) → flat_state flat.now ≡ whole_tree t → value_of doc ≡ shown format t) }
 {
     let rows = flat.rows();
     match format {
         Format::Flag => flag_doc(alloc, rows),
         Format::Basic => unit_list_doc(alloc, rows),
-        Format::Detailed | Format::Merged | Format::Verbose => root_doc(alloc, rows),
+        Format::Detailed => root_doc(alloc, rows),
+        Format::Merged => root_doc(alloc, rows),
+        Format::Verbose => root_doc(alloc, rows),
     }
 }
 

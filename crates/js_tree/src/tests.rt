@@ -5,12 +5,21 @@ mod every_run;
 mod forms;
 mod hand_made;
 mod large;
+mod merging;
 mod parts;
+mod pieces;
 
 use super::*;
 use js_doc::{Text, text};
 use std::alloc::Global;
 use std::test::Fail;
+
+const EVERY_FORMAT: [Format; 4] = [
+    Format::Flag,
+    Format::Basic,
+    Format::Detailed,
+    Format::Verbose,
+];
 
 // A node of an outline: how deep it stands, and its name. A node whose name begins with `-` fails, and one whose name
 // ends with `!` has a note: an error if it fails, and an annotation else.

@@ -1,4 +1,7 @@
 //! Collectors that are told the events of trees by hand, and the calls on flat rows.
+ghost use Rattle.std.specs.Prelude.{IfOk};
+ghost use Rattle.js_tree.specs.FlatState.{IsWholeTree, flat_state};
+
 use super::*;
 
 // Tells the events of an outline's tree.
@@ -37,13 +40,62 @@ fn close<'a, C: Collector<'a>>(
     Ok(())
 }
 
-fn flattened<'a>(alloc: Global, rows: &[Row]) -> Result<Flat<'a>, Fail> {
+pub(super) fn flattened<'a>(alloc: Global, rows: &[Row]) -> Result<Flat<'a>, Fail> {
     let mut flat = Flat::new(alloc);
     tell(alloc, rows, &mut flat)?;
     Ok(flat)
 }
 
-fn boxed(alloc: Global, rows: &[Row]) -> Result<String, Fail> {
+// The rows, if they are a whole tree's.
+fn whole<'a>(rows: Flat<'a>) -> Result<Flat<'a>, Fail>
+    ensures { IfOk result (λ found. IsWholeTree (flat_state found)) }
+{
+    if rows.whole() {
+        return Ok(rows);
+    }
+    Err(Fail::from("the rows are a whole tree's"))
+}
+
+// The rows of what the format shows.
+fn trimmed<'a>(rows: Flat<'a>, format: Format) -> Result<Flat<'a>, Fail>
+    ensures { IfOk result (λ found. IsWholeTree (flat_state found)) }
+{
+    match format {
+        Format::Flag => whole(rows),
+        Format::Basic => whole(flat_prune(whole(rows)?)),
+        Format::Detailed => whole(flat_condense(whole(flat_prune(whole(rows)?))?)),
+        Format::Merged => Err(Fail::from("rows aren't merged")),
+        Format::Verbose => whole(rows),
+    }
+}
+
+// The text of the document of what the format shows of the rows' tree.
+pub(super) fn flat_text(alloc: Global, rows: Flat, format: Format) -> Result<String, Fail> {
+    let rows = trimmed(rows, format)?;
+    let doc = flat_doc(alloc, &rows, format)?;
+    Ok(text(alloc, &doc)?)
+}
+
+// The same text, put out piece by piece.
+pub(super) fn flat_put(alloc: Global, rows: Flat, format: Format) -> Result<String, Fail> {
+    let rows = trimmed(rows, format)?;
+    let mut out = String::new(alloc);
+    if put_flat(&rows, format, &mut out).is_ok() {
+        return Ok(out);
+    }
+    Err(Fail::from("memory is there"))
+}
+
+// How many units with a note the rows have.
+pub(super) fn flat_unit_count(alloc: Global, rows: Flat) -> Result<usize, Fail> {
+    let rows = whole(rows)?;
+    let found = flat_units(alloc, &rows)?;
+    let count = found.len();
+    drop(found);
+    Ok(count)
+}
+
+pub(super) fn boxed(alloc: Global, rows: &[Row]) -> Result<String, Fail> {
     let mut boxed = Boxed::new(alloc);
     tell(alloc, rows, &mut boxed)?;
     match boxed.tree() {
@@ -52,28 +104,20 @@ fn boxed(alloc: Global, rows: &[Row]) -> Result<String, Fail> {
     }
 }
 
-fn put_rows(alloc: Global, flat: &Flat) -> Result<String, Fail> {
-    let mut out = String::new(alloc);
-    if flat.whole() && put_flat(flat, Format::Verbose, &mut out).is_ok() {
-        return Ok(out);
-    }
-    Err(Fail::from("the rows are a whole tree's"))
+pub(super) fn verdict(alloc: Global, rows: &[Row]) -> Result<Option<bool>, Fail> {
+    let mut verdict = Verdict::new();
+    tell(alloc, rows, &mut verdict)?;
+    Ok(verdict.valid())
 }
 
-fn flat_condensed(alloc: Global, rows: &[Row]) -> Result<String, Fail> {
-    let flat = flattened(alloc, rows)?;
-    if !flat.whole() {
-        return Err(Fail::from("the rows are a whole tree's"));
-    }
-    put_rows(alloc, &flat_condense(flat))
+pub(super) fn flat_condensed(alloc: Global, rows: &[Row]) -> Result<String, Fail> {
+    let condensed = flat_condense(whole(flattened(alloc, rows)?)?);
+    flat_put(alloc, condensed, Format::Verbose)
 }
 
 fn flat_pruned(alloc: Global, rows: &[Row]) -> Result<String, Fail> {
-    let flat = flattened(alloc, rows)?;
-    if !flat.whole() {
-        return Err(Fail::from("the rows are a whole tree's"));
-    }
-    put_rows(alloc, &flat_prune(flat))
+    let pruned = flat_prune(whole(flattened(alloc, rows)?)?);
+    flat_put(alloc, pruned, Format::Verbose)
 }
 
 const TREES: [&[Row]; 3] = [
@@ -94,6 +138,7 @@ fn collectors_hold_the_tree(rt: HostRuntime) -> Result<(), Fail> {
     let alloc = rt.alloc();
     for rows in TREES {
         assert_eq!(rt; boxed(alloc, rows)?, drawn(alloc, rows)?);
+        assert_eq!(rt; verdict(alloc, rows)?, Some(passes(rows[0].1)));
         assert_eq!(rt; flat_condensed(alloc, rows)?, condensed(alloc, rows)?);
         assert_eq!(rt; flat_pruned(alloc, rows)?, pruned(alloc, rows)?);
     }

@@ -1,4 +1,5 @@
 //! Every run that can't be continued, of each tree of up to five nodes with or without notes, ends in one tree.
+use super::collected::flat_condensed;
 use super::*;
 
 const SILENT: [&str; 5] = ["a", "b", "c", "d", "e"];
@@ -46,7 +47,7 @@ fn move_after(last: Move) -> Option<Move> {
     }
     match last.rule {
         Rule::Drop => Some(lift_at(1)),
-        Rule::Lift => None,
+        Rule::Lift | Rule::Merge => None,
     }
 }
 
@@ -114,6 +115,7 @@ fn all_runs_of_small_trees_end_in_one(rt: HostRuntime) -> Result<(), Fail> {
                 for label in 0..labels {
                     let rows = labelled(alloc, &depths, label)?;
                     assert!(rt; ends_in_one_tree(alloc, &rows)?);
+                    assert_eq!(rt; flat_condensed(alloc, &rows)?, condensed(alloc, &rows)?);
                     trees = trees.wrapping_add(1);
                 }
             }

@@ -1,20 +1,11 @@
-//! Each kind of note in each form, byte for byte.
+//! Each kind of note in each form, byte for byte: as a document, and piece by piece.
+use super::collected::{flat_put, flat_text};
 use super::*;
 use js_doc::{Doc, read};
 
-const EVERY_FORMAT: [Format; 5] = [
-    Format::Flag,
-    Format::Basic,
-    Format::Detailed,
-    Format::Merged,
-    Format::Verbose,
-];
-
-const ROOT: &str = "https://a.example/s#";
-
-// What a node says. A value is the one that the tree is built with.
+// What a leaf says. A value is the one that the tree is built with.
 #[derive(Clone, Copy)]
-enum Says<'r> {
+pub(super) enum Says<'r> {
     Nothing,
     Error(&'r str),
     Value,
@@ -24,18 +15,23 @@ enum Says<'r> {
     Truth,
 }
 
-// A node of a tree in preorder: how deep it stands, its verdict, its places (by keyword, absolute, of the instance),
-// and what it says.
-type Told<'r> = (usize, bool, [&'r str; 3], Says<'r>);
+// A title with what JSON escapes, what it needn't, and a character outside the basic plane.
+pub(super) const VALUE: &str = "{\"b\": [1, null], \"a\": \"\\\"\\n\\u0001\\u00e9\\ud83c\\udf33\"}";
 
 // One note of each kind, annotations that are empty lists among them, and what a node shows of it.
 const NOTES: [(Says, &str); 9] = [
     (Says::Nothing, ""),
-    (Says::Error("no \"x\""), "\"error\":\"no \\\"x\\\"\","),
-    (Says::Value, "\"annotation\":{\"a\":[1,null]},"),
     (
-        Says::Names(&["b", "a\n"]),
-        "\"annotation\":[\"b\",\"a\\n\"],",
+        Says::Error("no \"x\"\u{1}"),
+        "\"error\":\"no \\\"x\\\"\\u0001\",",
+    ),
+    (
+        Says::Value,
+        "\"annotation\":{\"a\":\"\\\"\\n\\u0001\u{e9}\u{1f333}\",\"b\":[1,null]},",
+    ),
+    (
+        Says::Names(&["b", "a\n\u{1f333}"]),
+        "\"annotation\":[\"b\",\"a\\n\u{1f333}\"],",
     ),
     (Says::Names(&[]), "\"annotation\":[],"),
     (
@@ -46,6 +42,14 @@ const NOTES: [(Says, &str); 9] = [
     (Says::Indexes(&[]), "\"annotation\":[],"),
     (Says::Truth, "\"annotation\":true,"),
 ];
+
+fn is_error(says: Says) -> bool {
+    matches!(says, Says::Error(_))
+}
+
+fn is_silent(says: Says) -> bool {
+    matches!(says, Says::Nothing)
+}
 
 fn copied<T: Copy + Drop>(alloc: Global, items: &[T]) -> Result<Vec<T>, Fail> {
     let mut copies = Vec::new(alloc);
@@ -65,67 +69,72 @@ fn note<'a>(alloc: Global, says: Says<'a>, value: &'a Doc) -> Result<Note<'a>, F
     })
 }
 
-fn unit<'a>(alloc: Global, told: &Told<'a>, value: &'a Doc) -> Result<Unit<'a>, Fail> {
-    let (_depth, valid, [keyword, absolute, instance], says) = *told;
-    Ok(Unit {
-        valid,
-        keyword: text_of(alloc, keyword)?,
-        absolute: text_of(alloc, absolute)?,
-        instance: text_of(alloc, instance)?,
-        note: note(alloc, says, value)?,
+fn root_head(alloc: Global) -> Result<Head, Fail> {
+    Ok(Head {
+        keyword: text_of(alloc, "")?,
+        absolute: text_of(alloc, "https://a.example/s#")?,
+        instance: text_of(alloc, "")?,
     })
 }
 
-fn built<'a>(alloc: Global, rows: &[Told<'a>], value: &'a Doc) -> Result<Tree<'a>, Fail> {
-    let mut trees: Vec<(usize, Tree)> = Vec::new(alloc);
-    for told in rows.iter().rev() {
-        let children = Trees::new(taken_below(alloc, &mut trees, told.0)?);
-        let unit = unit(alloc, told, value)?;
-        trees.push((told.0, Tree { unit, children }))?;
-    }
-    match trees.pop() {
-        Some((_depth, tree)) => Ok(tree),
-        None => Err(Fail::from("a tree has a root")),
-    }
+fn leaf_head(alloc: Global) -> Result<Head, Fail> {
+    Ok(Head {
+        keyword: text_of(alloc, "/\"k\u{e9}")?,
+        absolute: text_of(alloc, "https://a.example/s#/%22k%C3%A9")?,
+        instance: text_of(alloc, "/0")?,
+    })
 }
 
-// The form of the tree, whose one value is read from that text.
-fn formed(alloc: Global, rows: &[Told], source: &str, format: Format) -> Result<String, Fail> {
-    let value = read(alloc, source.as_bytes())?;
-    let doc = form(alloc, built(alloc, rows, &value)?, format)?;
-    Ok(text(alloc, &doc)?)
-}
-
-fn is_error(says: Says) -> bool {
-    matches!(says, Says::Error(_))
-}
-
-fn is_silent(says: Says) -> bool {
-    matches!(says, Says::Nothing)
-}
-
-// A root over a leaf that says this; both fail exactly if it is an error.
-fn small(says: Says<'static>) -> [Told<'static>; 2] {
+// Tells of a root over a leaf that says this. Both fail exactly if it is an error.
+fn tell_small<'a, C: Collector<'a>>(
+    alloc: Global,
+    says: Says<'a>,
+    value: &'a Doc,
+    into: &mut C,
+) -> Result<(), Fail> {
     let valid = !is_error(says);
-    let below = ["/k", "https://a.example/s#/k", "/0"];
-    [
-        (0, valid, ["", ROOT, ""], Says::Nothing),
-        (1, valid, below, says),
-    ]
+    into.enter(root_head(alloc)?)?;
+    into.enter(leaf_head(alloc)?)?;
+    into.leave(valid, note(alloc, says, value)?)?;
+    into.leave(valid, Note::Silent)?;
+    Ok(())
+}
+
+pub(super) fn small_tree<'a>(
+    alloc: Global,
+    says: Says<'a>,
+    value: &'a Doc,
+) -> Result<Tree<'a>, Fail> {
+    let mut boxed = Boxed::new(alloc);
+    tell_small(alloc, says, value, &mut boxed)?;
+    match boxed.tree() {
+        Some(tree) => Ok(tree),
+        None => Err(Fail::from("the root has closed")),
+    }
+}
+
+pub(super) fn small_rows<'a>(
+    alloc: Global,
+    says: Says<'a>,
+    value: &'a Doc,
+) -> Result<Flat<'a>, Fail> {
+    let mut flat = Flat::new(alloc);
+    tell_small(alloc, says, value, &mut flat)?;
+    Ok(flat)
 }
 
 fn expected(alloc: Global, says: Says, shows: &str, format: Format) -> Result<String, Fail> {
     let valid = !is_error(says);
     let list = if valid { "annotations" } else { "errors" };
     let below = format!(in alloc;
-        "{{\"absoluteKeywordLocation\":\"https://a.example/s#/k\",{shows}\"instanceLocation\":\"/0\",\"keywordLocation\":\"/k\",\"valid\":{valid}}}"
+        "{{\"absoluteKeywordLocation\":\"https://a.example/s#/%22k%C3%A9\",{shows}\"instanceLocation\":\"/0\",\"keywordLocation\":\"/\\\"k\u{e9}\",\"valid\":{valid}}}"
     )?;
     let silent = is_silent(says);
     Ok(match format {
         Format::Flag => format!(in alloc; "{{\"valid\":{valid}}}")?,
         Format::Basic if silent => format!(in alloc; "{{\"{list}\":[],\"valid\":{valid}}}")?,
         Format::Basic => format!(in alloc; "{{\"{list}\":[{below}],\"valid\":{valid}}}")?,
-        Format::Detailed | Format::Merged if silent => {
+        Format::Detailed if silent => {
             format!(in alloc;
                 "{{\"absoluteKeywordLocation\":\"https://a.example/s#\",\"instanceLocation\":\"\",\"keywordLocation\":\"\",\"valid\":{valid}}}"
             )?
@@ -138,13 +147,36 @@ fn expected(alloc: Global, says: Says, shows: &str, format: Format) -> Result<St
     })
 }
 
+// The text of the tree's form.
+fn formed_small(alloc: Global, says: Says, format: Format) -> Result<String, Fail> {
+    let value = read(alloc, VALUE.as_bytes())?;
+    let doc = form(alloc, small_tree(alloc, says, &value)?, format)?;
+    Ok(text(alloc, &doc)?)
+}
+
+// The text of the rows' document.
+fn rows_formed(alloc: Global, says: Says, format: Format) -> Result<String, Fail> {
+    let value = read(alloc, VALUE.as_bytes())?;
+    let rows = small_rows(alloc, says, &value)?;
+    flat_text(alloc, rows, format)
+}
+
+// The rows' text, put out piece by piece.
+fn rows_put(alloc: Global, says: Says, format: Format) -> Result<String, Fail> {
+    let value = read(alloc, VALUE.as_bytes())?;
+    let rows = small_rows(alloc, says, &value)?;
+    flat_put(alloc, rows, format)
+}
+
 #[test]
 fn every_note_in_every_format(rt: HostRuntime) -> Result<(), Fail> {
     let alloc = rt.alloc();
     for (says, shows) in NOTES {
         for format in EVERY_FORMAT {
-            let found = formed(alloc, &small(says), "{\"a\": [1, null]}", format)?;
-            assert_eq!(rt; found, expected(alloc, says, shows, format)?);
+            let want = expected(alloc, says, shows, format)?;
+            assert_eq!(rt; formed_small(alloc, says, format)?, want);
+            assert_eq!(rt; rows_formed(alloc, says, format)?, want);
+            assert_eq!(rt; rows_put(alloc, says, format)?, want);
         }
     }
     Ok(())

@@ -11,8 +11,8 @@ use Rattle.js_output.proofs.telling.tell_form.Goals as goal
 pub is_valid-valid-requires : goal.is_valid-valid-requires
 is_valid-valid-requires g c = let (t, is, stands, e) = c.in_ok-flat.ensures.rows in (trimmed c.args.format t, e)
 
-pub write_rows-requires-clause-whole : goal.write_rows-requires-clause-whole
-write_rows-requires-clause-whole g c = let (t, is, stands, e) = c.in_ok-flat.ensures.rows in (trimmed c.args.format t, e)
+pub write_rows-requires : goal.write_rows-requires
+write_rows-requires g c = let (t, is, stands, e) = c.in_ok-flat.ensures.rows in (trimmed c.args.format t, e)
 
 pub returns-in_err-write_rows-clause-answer : goal.returns-in_err-write_rows-clause-answer
 returns-in_err-write_rows-clause-answer g c =

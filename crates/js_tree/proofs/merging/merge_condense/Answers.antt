@@ -1,8 +1,13 @@
 use Rattle.std.proofs.Common.{◌≡◌, ◌∙◌, sym, ap, subst}
+use Rattle.js_tree.specs.Alike.{same_but_keyword}
 use Rattle.js_tree.specs.Forest.{forest_of}
 use Rattle.js_tree.specs.MergedResult.{merged, NormalOfThree, RunOfThree}
-use Rattle.js_tree.specs.Result.{ResultTree}
-use Rattle.js_tree.proofs.MergedLaws.{merged-merged, merged_is_normal, merged_is_reached}
+use Rattle.js_tree.specs.OutputUnit.{noted}
+use Rattle.js_tree.specs.Result.{ResultTree, units}
+use Rattle.js_tree.specs.Sublist.{Sublist, none_lost}
+use Rattle.js_tree.proofs.AlikeUnits.{same_but_keyword_equiv}
+use Rattle.js_tree.proofs.MergedLaws.{merged-merged, merged_is_normal, merged_is_reached, same_notes}
+use Rattle.js_tree.proofs.MergedUnits.{merged_lost, merged_sublist}
 use Rattle.js_tree.proofs.merging.merge_condense.Goals as goal
 
 pub returns : goal.returns
@@ -15,4 +20,6 @@ returns c =
       normal = subst NormalOfThree (sym e) (merged_is_normal t);
       reached = subst (RunOfThree t) (sym e) (merged_is_reached t);
       once = ap merged e ∙ merged-merged t ∙ sym e;
+      units = subst (λ v. Sublist (units v) (units t)) (sym e) (merged_sublist noted same_but_keyword t);
+      none_lost = ap (λ v. none_lost same_but_keyword (units v) (units t)) e ∙ merged_lost noted same_but_keyword same_but_keyword_equiv same_notes t;
     }

@@ -1,12 +1,13 @@
 use Rattle.std.proofs.Common.{◌≡◌, ◌∙◌, ◌<◌, sym, ap, length, get_or, set, arith, take, suc, ◌+◌, ◌-◌}
 use Rattle.std.proofs.lemmas.List.{set-get_or}
+use Rattle.js_tree.specs.Alike.{same_but_keyword}
 use Rattle.js_tree.specs.Forest.{forest_of, node_count}
 use Rattle.js_tree.specs.OutputUnit.{noted}
 use Rattle.js_tree.proofs.Forests.{fewer_nodes, replaced_by_same, nodes_through, nodes_through_le, nodes_before_lt}
 use Rattle.js_tree.proofs.Siblings.{lifted, not_lifted}
 use Rattle.js_tree.proofs.Searching.{searched_child}
 use Rattle.js_tree.proofs.moves.+moves.Goals as goal
-use Rattle.js_tree.proofs.moves.+moves.Goals.{move_among-in-Drop, move_among-in-Lift}
+use Rattle.js_tree.proofs.moves.+moves.Goals.{move_among-in-Drop, move_among-in-Lift, move_among-in-Merge}
 
 pub move_among-returns-then-made : goal.move_among-returns-then-made
 move_among-returns-then-made t c =
@@ -16,10 +17,11 @@ move_among-returns-then-made t c =
     let h : c.loop-i.i < length c.loop-i.trees.items = rw same (omega (arith, c.args.trees.now.ok.0)) in
     elim c.match-rule.branch [
       | move_among-in-Drop w ↦ rw (w.in-Drop.is, ← same, p, w.trees-is) (rw (sym w.made-is ∙ c.if-made.true) at w.drop_leaf-made.ensures.dropped)
+      | move_among-in-Merge w ↦ rw (w.in-Merge.is, ← same, p, w.trees-is) (rw (sym w.made-is ∙ c.if-made.true) at w.drop_alike-made.ensures.merged)
       | move_among-in-Lift w ↦
           let e = rw (sym w.made-is ∙ c.if-made.true) at w.lift_child-made.ensures.lifted in
           rw (w.in-Lift.is, ← same, p, w.trees-is)
-          (lifted noted c.loop-i.trees.items c.loop-i.i w.index_mut.result.now w.lift_child-made.new.tree h (rw (← w.index_mut.ensures.value) e))
+          (lifted noted same_but_keyword c.loop-i.trees.items c.loop-i.i w.index_mut.result.now w.lift_child-made.new.tree h (rw (← w.index_mut.ensures.value) e))
     ]
 
 pub move_among-returns-else-made : goal.move_among-returns-else-made
@@ -34,13 +36,18 @@ move_among-returns-else-made t c =
           let l : c.args.position < node_count (forest_of c.loop-i.trees.items) = omega (arith, p, nodes_before_lt c.loop-i.trees.items c.loop-i.i h) in
           rw (w.in-Drop.is, ← same, w.trees-is)
           (l, rw p e, ap forest_of (w.drop_leaf-made.ensures.unchanged (sym w.made-is ∙ c.if-made.false)))
+      | move_among-in-Merge w ↦
+          let e = rw (sym w.made-is ∙ c.if-made.false) at w.drop_alike-made.ensures.merged in
+          let l : c.args.position < node_count (forest_of c.loop-i.trees.items) = omega (arith, p, nodes_before_lt c.loop-i.trees.items c.loop-i.i h) in
+          rw (w.in-Merge.is, ← same, w.trees-is)
+          (l, rw p e, ap forest_of (w.drop_alike-made.ensures.unchanged (sym w.made-is ∙ c.if-made.false)))
       | move_among-in-Lift w ↦
           let e = rw (sym w.made-is ∙ c.if-made.false) at w.lift_child-made.ensures.lifted in
           let x = w.index_mut.result.now in
           let l : c.args.position < node_count (forest_of c.loop-i.trees.items) = omega (arith, p, nodes_through_le c.loop-i.trees.items c.loop-i.i x h) in
           rw (w.in-Lift.is, ← same, w.trees-is) (
             l,
-            rw p (not_lifted noted c.loop-i.trees.items c.loop-i.i x h (rw (← w.index_mut.ensures.value) e)),
+            rw p (not_lifted noted same_but_keyword c.loop-i.trees.items c.loop-i.i x h (rw (← w.index_mut.ensures.value) e)),
             ap forest_of (ap (set c.loop-i.trees.items c.loop-i.i) (w.lift_child-made.ensures.unchanged (sym w.made-is ∙ c.if-made.false) ∙ w.index_mut.ensures.value) ∙ set-get_or c.loop-i.trees.items c.loop-i.i x),
           )
     ]
