@@ -9,18 +9,19 @@ POLYGON = (
     '{"$id":"https://example.com/polygon","$schema":"https://json-schema.org/draft/2020-12/schema","$defs":{"point":'
     '{"type":"object","properties":{"x":{"type":"integer"},"y":{"type":"integer"}},"additionalProperties":false,'
     '"required":["x","y"]}},"type":"array","items":{"$ref":"#/$defs/point"},"minItems":3}')
+ITEMS, DEEP = '{"items":true}', '{"items":{"allOf":[{"$ref":"#"}]}}'
 POINTS = '[{"x":2,"y":1},{"x":1,"z":6}]'
 
 
 @dataclass
 class Case:
-    """A run of the program. Without `out` the text is the reference's."""
+    """A run of the program. Without `out` the text is the reference's; a large one is a function that yields its pieces."""
 
     name: str
     words: list
     files: dict = field(default_factory=dict)
     given: bytes = b""
-    out: bytes | None = b""
+    out: object = b""
     faults: bytes = b""
     status: int = 0
 
@@ -71,18 +72,76 @@ def nested(n, inmost=""):
     return "[" * n + inmost + "]" * n
 
 
+def head(absolute, keyword, instance="", annotation="", has_children=True):
+    """A passing node's text, up to its children."""
+    told = f'"annotation":{annotation},' if annotation else ""
+    return f'{{"absoluteKeywordLocation":"{U}#{absolute}",{told}' + '"annotations":[' * has_children, \
+        "]," * has_children + f'"instanceLocation":"{instance}","keywordLocation":"{keyword}","valid":true}}'
+
+
+def pieces(node):
+    """The pieces of a passing node's text. A node is what `head` takes but for the last, and a function to its children."""
+    left = [node]
+    while left:
+        it = left.pop()
+        if isinstance(it, str):
+            yield it.encode()
+            continue
+        *told, below = it
+        children = list(below())
+        begin, end = head(*told, has_children=bool(children))
+        yield begin.encode()
+        left.append(end)
+        for i, child in reversed(list(enumerate(children))):
+            left += [child, ","] if i else [child]
+
+
+def no_children():
+    return ()
+
+
+def widest_text(format_, count=999_998):
+    """The text of ITEMS on so many numbers."""
+    items = ("/items", "/items", "", "true")
+    if format_ == "flag":
+        yield VALID
+    elif format_ == "basic":
+        yield b'{"annotations":[' + b"".join(pieces((*items, no_children))) + b'],"valid":true}\n'
+    else:
+        each = (("/items", "/items", f"/{i}", "", no_children) for i in range(count)) if format_ == "verbose" else ()
+        yield from pieces(("", "", "", "", lambda: [(*items, lambda: each)]))
+        yield b"\n"
+
+
+def doubled_text(k, format_):
+    """The text of `doubling`: nothing has a note, so all but verbose show the root alone."""
+
+    def named(number, at):
+        place = f"/$defs/d{number}"
+        return place, at, "", "", lambda: [(f"{place}/allOf", f"{at}/allOf", "", "", lambda: [
+            (f"{place}/allOf/{i}", f"{at}/allOf/{i}", "", "", lambda i=i: [
+                (f"{place}/allOf/{i}/$ref", f"{at}/allOf/{i}/$ref", "", "", lambda: [
+                    named(number - 1, f"{at}/allOf/{i}/$ref")])]) for i in (0, 1)])] if number else []
+
+    if format_ == "flag":
+        yield VALID
+    elif format_ == "basic":
+        yield b'{"annotations":[],"valid":true}\n'
+    else:
+        below = [("/$ref", "/$ref", "", "", lambda: [named(k, "/$ref")])] if format_ == "verbose" else []
+        yield from pieces(("", "", "", "", lambda: below))
+        yield b"\n"
+
+
 def limits():
     """What stands just within each limit, and just past it."""
-    yield valid("99,998 items", '{"items":true}', compact([0] * 99_998))
-    yield from too_large("99,999 items", '{"items":true}', compact([0] * 99_999))
-    deep = '{"items":{"allOf":[{"$ref":"#"}]}}'
-    yield valid("256 schemas on a way", deep, nested(86))
-    yield from too_large("259 schemas on a way", deep, nested(87))
-    yield valid("a chain of 254 references", chain(254), "0")
-    yield from too_large("a chain of 255 references", chain(255))
-    for it in FORMATS:
-        yield check(f"57,340 nodes, {it}", doubling(13), "0", it, out=None)
-    yield from too_large("114,684 nodes", doubling(14))
+    yield valid("999,998 items", ITEMS, compact([0] * 999_998))
+    yield from too_large("999,999 items", ITEMS, compact([0] * 999_999))
+    yield valid("379 schemas on a way", DEEP, nested(127))
+    yield valid("a chain of 510 references", chain(510), "0")
+    yield from too_large("a chain of 511 references", chain(511))
+    yield valid("917,500 nodes", doubling(17), "0")
+    yield from too_large("1,835,004 nodes", doubling(18))
     yield from too_large("an endless reference", '{"$ref":"#"}')
     yield from too_large("an endless reference below not", '{"not":{"$ref":"#"}}')
     yield from too_large("an endless reference beside an assertion", '{"$ref":"#","type":"string"}')
@@ -135,9 +194,9 @@ def large():
     yield check("a keyword of 1,000,000 bytes", compact({name: 1}), "0", "verbose", out=None)
     members = compact({f"m{i}": 0 for i in range(1_000_000)})
     yield valid("an object of 1,000,000 members", '{"type":"object","minProperties":1000000}', members)
-    keywords = compact({f"k{i}": i for i in range(99_999)})
-    yield valid("a schema of 99,999 keywords", keywords, "0")
-    yield from too_large("a schema of 100,000 keywords", compact({f"k{i}": i for i in range(100_000)}))
+    keywords = compact({f"k{i}": 0 for i in range(999_999)})
+    yield valid("a schema of 999,999 keywords", keywords, "0")
+    yield from too_large("a schema of 1,000,000 keywords", compact({f"k{i}": 0 for i in range(1_000_000)}))
     yield valid("a pattern that is slow to compile", compact({"pattern": "(\\pL{40}){8}"}), "0")
     yield refused("a pattern that is too large", 'document 0 at "/pattern": PatternTooLarge',
                   compact({"pattern": "((a{100}){100}){100}"}))
@@ -155,13 +214,12 @@ def large():
 
 
 def at_the_limit():
-    """What goes deepest, to be run with little stack."""
-    yield valid("256 schemas on a way, by items", '{"items":{"allOf":[{"$ref":"#"}]}}', nested(86))
-    yield valid("a chain of 254 references", chain(254), "0")
+    """What goes deepest and what is largest, to be run with little stack and with a bound on memory."""
     for it in FORMATS:
-        yield check(f"256 schemas on a way, {it}", chain(254), "0", it, out=None)
-        yield check(f"86 nested arrays, {it}", '{"items":{"allOf":[{"$ref":"#"}]}}', nested(86), it, out=None)
-        yield check(f"57,340 nodes, {it}", doubling(13), "0", it, out=None)
+        yield check(f"512 schemas on a way, {it}", chain(510), "0", it, out=None)
+        yield check(f"127 nested arrays, {it}", DEEP, nested(127), it, out=None)
+        yield check(f"1,000,000 nodes, {it}", ITEMS, compact([0] * 999_998), it, out=lambda it=it: widest_text(it))
+        yield check(f"917,500 nodes, {it}", doubling(17), "0", it, out=lambda it=it: doubled_text(17, it))
     yield from too_large("an endless reference", '{"$ref":"#"}')
     yield valid("an instance nested 127 times", "{}", nested(127))
     yield valid("equality of values nested 126 times", '{"const":' + nested(126) + "}", nested(126))

@@ -1,5 +1,7 @@
 """Schema documents under their URIs: places, resources, names, references, and what is refused, in its order
 (Core, sections 8 and 9)."""
+import functools
+
 import url
 from assertions import FORMS, compiled
 from json_text import NotJson, NotWhole, decoded, fragment, pointer_of, read
@@ -42,6 +44,7 @@ class Place:
     def has_id(self):
         return isinstance(self.schema, dict) and "$id" in self.schema
 
+    @functools.cache
     def absolute(self, keyword=None):
         pointer = self.pointer[len(self.resource.pointer):]
         return f"{self.base.text()}#{fragment(pointer if keyword is None else (*pointer, keyword))}"

@@ -3,6 +3,7 @@
 
     reference/jschema.py (check FORMAT INSTANCE ENTRY | suite SUITE | places) [URI FILE]...
 """
+import functools
 import os
 import sys
 import threading
@@ -51,8 +52,16 @@ def finished(documents):
     return bundle
 
 
-def run(documents, entry, data, format_):
-    """The outcome of a run: its text and its verdict."""
+@functools.lru_cache(maxsize=1)
+def judged(documents, entry, data):
+    """The result of a run, or its fault: the last one is kept, for the other formats."""
+    try:
+        return judge(documents, entry, data)
+    except Fault as fault:
+        return fault
+
+
+def judge(documents, entry, data):
     try:
         bundle = finished(documents)
         place = bundle.entry(entry)
@@ -67,9 +76,16 @@ def run(documents, entry, data, format_):
     except NotWhole as fault:
         raise refused("instance", fault.pointer, "NotWhole") from None
     try:
-        node = result(bundle, place, value)
+        return result(bundle, place, value)
     except TooLarge:
         raise Fault(3, "refused: walk: TooLarge") from None
+
+
+def run(documents, entry, data, format_):
+    """The outcome of a run: its text and its verdict."""
+    node = judged(tuple(documents), entry, data)
+    if isinstance(node, Fault):
+        raise node
     return form_text(node, format_), node.valid
 
 

@@ -4,7 +4,7 @@ from dataclasses import dataclass, field
 from assertions import FORMS, compiled, error
 from json_text import pointer_text
 
-DEEPEST, MOST_NODES = 256, 100_000
+DEEPEST, MOST_NODES = 512, 1_000_000
 WITHOUT_NODE = {"$schema", "$id", "$anchor", "$dynamicAnchor", "$vocabulary", "$comment", "$defs", "definitions"}
 IN_PLACE = {"allOf", "anyOf", "oneOf", "if", "then", "else", "dependentSchemas", "$ref", "$dynamicRef"}
 ON_ARRAYS = {"prefixItems", "items", "contains", "unevaluatedItems"}
@@ -19,7 +19,7 @@ class TooLarge(Exception):
     """No result stands within the limits."""
 
 
-@dataclass
+@dataclass(slots=True)
 class Node:
     """A unit of the result and what stands below it. A note is none, ('error', text) or ('annotation', value)."""
 
@@ -44,7 +44,7 @@ class Walk:
         self.nodes += 1
         if self.nodes > MOST_NODES:
             raise TooLarge
-        return Node(pointer_text(keyword), absolute, pointer_text(instance))
+        return Node(keyword, absolute, instance)
 
     def schema(self, path, keyword, instance, value):
         """The node of the path's last place on a value, and which members and items it has evaluated."""
@@ -60,7 +60,7 @@ class Walk:
         names = [it for it in sorted(place.schema, key=order) if it not in WITHOUT_NODE]
         for name in sorted(names, key=lambda it: it.startswith("unevaluated")):
             seen = union([gives[it] for it in gives if not it.startswith("unevaluated")])
-            made[name], gives[name] = self.keyword(path, name, (*keyword, name), instance, value, made, seen)
+            made[name], gives[name] = self.keyword(path, name, keyword + pointer_text((name,)), instance, value, made, seen)
         node.children = [made[it] for it in names]
         node.valid = all(it.valid for it in node.children)
         return node, union(gives.values()) if node.valid else NONE
@@ -72,7 +72,7 @@ class Walk:
         below = []
         asked = self.asked(path, name, value, made, seen)
         for target, steps, instance_steps, part in asked:
-            below.append(self.schema((*path, target), keyword + steps, instance + instance_steps, part))
+            below.append(self.schema((*path, target), keyword + pointer_text(steps), instance + pointer_text(instance_steps), part))
         node.children = [it for it, _ in below]
         passing = [i for i, it in enumerate(node.children) if it.valid]
         self.judge(node, place.schema, name, value, passing, asked, made)
@@ -160,15 +160,21 @@ class Walk:
         elif name == "contains":
             if isinstance(value, list):
                 node.valid = count > 0 or schema.get("minContains") == 0
-                node.note = ("annotation", passing) if node.valid else ("error", "no matching item")
+                node.note = ("annotation", every_item_or(passing, passing, value)) if node.valid else ("error", "no matching item")
         elif name in IN_PLACE | ON_ARRAYS | ON_OBJECTS:
             node.valid = name == "if" or count == len(node.children)
             if node.valid and name in MEMBERS and isinstance(value, dict):
                 node.note = ("annotation", sorted({it[2][0] for it in asked}))
             elif node.valid and name in ITEMS and asked:
-                node.note = ("annotation", len(asked) - 1 if name == "prefixItems" else True)
+                applied = [int(it[2][0]) for it in asked]
+                node.note = ("annotation", every_item_or(max(applied), applied, value) if name == "prefixItems" else True)
         else:
             node.note = ("annotation", schema[name])
+
+
+def every_item_or(otherwise, indexes, items):
+    """`true` where these are the indexes of every item of an array that isn't empty."""
+    return True if items and set(indexes) == set(range(len(items))) else otherwise
 
 
 def union(parts):
@@ -177,4 +183,4 @@ def union(parts):
 
 def result(bundle, entry, value):
     """The result tree of an entry on a value."""
-    return Walk(bundle).schema((entry,), (), (), value)[0]
+    return Walk(bundle).schema((entry,), "", "", value)[0]

@@ -1,6 +1,6 @@
 ghost use Rattle.std.specs.Prelude.{◌≡◌, IfOk, IfErr, true, codes, option_map, string_bytes};
 
-use crate::error_text::text_of;
+use crate::error_text::error_text;
 use crate::fault::KeywordFault;
 use crate::instance_type::Types;
 use crate::keyword::Keyword;
@@ -91,7 +91,7 @@ impl Assertion {
             keyword.now ≡ codes "pattern" → is_pattern (string (value_of argument.now)) ≡ true) }
         ensures refused { IfErr result (IsKeywordFault keyword.now (value_of argument.now)) }
     {
-        let Some(keyword) = Keyword::named(keyword) else {
+        let Some(keyword) = Keyword::keyword_named(keyword) else {
             return Ok(None);
         };
         let test = test_of(alloc, keyword, argument)?;
@@ -122,7 +122,7 @@ impl Assertion {
             Test::ExclusiveMinimum(limit) => Ok(numbers::exclusive_minimum(*limit, value)),
             Test::MaxLength(limit) => Ok(strings::max_length(*limit, value)),
             Test::MinLength(limit) => Ok(strings::min_length(*limit, value)),
-            Test::Pattern(pattern) => strings::matches_pattern(alloc, pattern, value),
+            Test::Pattern(pattern) => strings::has_match(alloc, pattern, value),
             Test::MaxItems(limit) => Ok(arrays::max_items(*limit, value)),
             Test::MinItems(limit) => Ok(arrays::min_items(*limit, value)),
             Test::UniqueItems(asked) => arrays::unique_items(alloc, *asked, value),
@@ -144,7 +144,7 @@ impl Assertion {
     pub fn error(&self, alloc: Global, value: &Doc, matching: u64) -> Result<String, Memory>
         ensures { IfOk result (λ s. string_bytes s ≡ error_text self.now (value_of value.now) matching) }
     {
-        text_of(alloc, &self.test, value, matching)
+        error_text(alloc, &self.test, value, matching)
     }
 
     /// The error's text, or None where the value meets the assertion.

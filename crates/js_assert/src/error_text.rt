@@ -17,7 +17,7 @@ use js_doc::{Doc, Memory};
 use std::alloc::Global;
 
 /// The text of the error that the value makes, where it doesn't meet the test.
-pub(crate) fn text_of(
+pub(crate) fn error_text(
     alloc: Global,
     test: &Test,
     value: &Doc,

@@ -1,9 +1,9 @@
 //! The forms of arguments (JSON Schema Validation, section 6), read into what the tests keep.
-ghost use Rattle.std.specs.Prelude.{◌≡◌, IfOk, IfErr, true, false, pos, map, []};
+ghost use Rattle.std.specs.Prelude.{◌≡◌, IfOk, IfErr, true, pos, map, []};
 ghost use Rattle.std.specs.Int.NonZero.{non_zero_u64_get};
 ghost use Rattle.js_doc.specs.Seen.{value_of};
 ghost use Rattle.js_doc.specs.Value.{truth, whole, text, list, object, items, members};
-ghost use Rattle.js_assert.specs.Form.{is_boolean, is_number, is_number_above, is_count, is_string, is_list, is_list_of_names, is_object_of_names, is_type, are_new_types, are_new_names, IsFaultOf, IsBadUnless};
+ghost use Rattle.js_assert.specs.Form.{is_boolean, is_number, is_number_above, is_count, is_list, is_list_of_names, is_object_of_names, is_type, are_new_types, are_new_names, IsFaultOf, IsBadUnless};
 ghost use Rattle.js_assert.specs.Names.{names_value};
 ghost use Rattle.js_assert.specs.Dependences.{dependence_of};
 ghost use Rattle.js_assert.specs.Types.{type_name, types_value};
@@ -30,7 +30,7 @@ pub(crate) fn boolean(argument: &Doc) -> Result<bool, KeywordFault>
     }
 }
 
-pub(crate) fn number(argument: &Doc) -> Result<Whole, KeywordFault>
+pub(crate) fn number_argument(argument: &Doc) -> Result<Whole, KeywordFault>
     ensures ok { IfOk result (λ z. value_of argument.now ≡ whole z) }
     ensures refused { IfErr result (IsBadUnless (is_number (value_of argument.now))) }
 {
@@ -93,7 +93,7 @@ pub(crate) fn constant(alloc: Global, argument: &Doc) -> Result<Doc, KeywordFaul
     Ok(argument.copy(alloc)?)
 }
 
-pub(crate) fn pattern(alloc: Global, argument: &Doc) -> Result<Pattern, KeywordFault>
+pub(crate) fn pattern_argument(alloc: Global, argument: &Doc) -> Result<Pattern, KeywordFault>
     ensures ok { IfOk result (λ p. value_of argument.now ≡ text p) }
     ensures read { IfOk result (λ p. is_pattern p ≡ true) }
     ensures refused { IfErr result (IsFaultOf Keyword.Pattern (value_of argument.now)) }
@@ -147,7 +147,7 @@ pub(crate) fn types(alloc: Global, argument: &Doc) -> Result<Types, KeywordFault
     ensures refused { IfErr result (IsBadUnless (is_type (value_of argument.now))) }
 {
     match argument {
-        Doc::Text(name) => match InstanceType::named(name.as_str()) {
+        Doc::Text(name) => match InstanceType::type_named(name.as_str()) {
             Some(one) => Ok(Types::One(one)),
             None => Err(KeywordFault::BadKeyword),
         },
@@ -171,7 +171,7 @@ fn distinct_types(alloc: Global, docs: &[Doc]) -> Result<Vec<InstanceType>, Keyw
         let Doc::Text(name) = doc else {
             return Err(KeywordFault::BadKeyword);
         };
-        let Some(one) = InstanceType::named(name.as_str()) else {
+        let Some(one) = InstanceType::type_named(name.as_str()) else {
             return Err(KeywordFault::BadKeyword);
         };
         if types.as_slice().contains(&one) {

@@ -1,5 +1,5 @@
 //! The types that `type` can name (JSON Schema Validation, section 6.1.1).
-ghost use Rattle.std.specs.Prelude.{◌≡◌, map, IfSome, is_some};
+ghost use Rattle.std.specs.Prelude.{◌≡◌, IfSome, is_some};
 ghost use Rattle.js_assert.specs.Form.{is_type_name};
 ghost use Rattle.std.specs.List.{list_any};
 ghost use Rattle.js_assert.specs.Argument.{strings};
@@ -29,7 +29,7 @@ pub(crate) enum Types {
 
 impl InstanceType {
     /// The type of this name.
-    pub(crate) fn named(name: &str) -> Option<InstanceType>
+    pub(crate) fn type_named(name: &str) -> Option<InstanceType>
         ensures some { IfSome result (λ t. type_name t ≡ name.now) }
         ensures exact { is_some result ≡ is_type_name name.now }
     {

@@ -29,7 +29,7 @@ pub(crate) enum Keyword {
 impl Keyword {
     /// The keyword of this name, or None where it is none of the twenty.
     #[tactic(auto, unfolding(crate::specs::Keyword::keyword_named))]
-    pub(crate) fn named(name: &str) -> Option<Keyword>
+    pub(crate) fn keyword_named(name: &str) -> Option<Keyword>
         ensures { result ≡ keyword_named name.now }
     {
         match name {

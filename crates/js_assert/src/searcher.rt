@@ -12,7 +12,8 @@ use std::marker::Model;
 #[derive(Drop)]
 pub struct Searcher<'p> {
     regex: &'p Regex,
-    matcher: Matcher<'p>,
+    // A matcher is large, and a searcher is kept while others are made.
+    matcher: Box<Matcher<'p>>,
 }
 
 impl<'p> Model for Searcher<'p> {
@@ -24,7 +25,7 @@ impl<'p> Model for Searcher<'p> {
 
     ghost view = { λ s. regex_source s.regex.now };
 
-    ghost invariant = { λ s. IsSearchedBy s.regex.now s.matcher };
+    ghost invariant = { λ s. IsSearchedBy s.regex.now s.matcher.value };
 }
 
 impl<'p> Searcher<'p> {
@@ -34,7 +35,7 @@ impl<'p> Searcher<'p> {
         requires { IsCompiled regex.now }
         ensures { IfOk result (λ s. s ≡ regex_source regex.now) }
     {
-        let matcher = regex.matcher(alloc)?;
+        let matcher = Box::new(alloc, regex.matcher(alloc)?)?;
         Ok(Searcher { regex, matcher })
     }
 

@@ -28,7 +28,7 @@ pub(crate) fn min_length(limit: u64, value: &Doc) -> bool
     }
 }
 
-pub(crate) fn matches_pattern(alloc: Global, pattern: &Pattern, value: &Doc) -> Result<bool, Memory>
+pub(crate) fn has_match(alloc: Global, pattern: &Pattern, value: &Doc) -> Result<bool, Memory>
     ensures { IfOk result (λ b. b ≡ says_by (text pattern.now) false (value_of value.now) 0 Keyword.Pattern) }
 {
     match value {

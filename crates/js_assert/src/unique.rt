@@ -8,7 +8,7 @@ use std::alloc::Global;
 use std::collections::BTreeSet;
 
 // So many items are compared with one another as they are.
-const FEW: usize = 16;
+const FEW_ITEMS: usize = 16;
 
 /// The least position that has an equal later one, with the least such later one.
 pub(crate) fn least_equal_pair(
@@ -33,7 +33,7 @@ fn first_repeated(alloc: Global, docs: &[Doc]) -> Result<usize, Memory>
     ensures skipped { IfOk result (λ start.
         equal_pair 0 (map value_of docs.now) ≡ equal_pair start (map value_of (drop start docs.now))) }
 {
-    if docs.len() < FEW {
+    if docs.len() < FEW_ITEMS {
         return Ok(0);
     }
     let mut first = docs.len();

@@ -55,7 +55,7 @@ pub record UnderItem (least most : ℕ) (p q : Tokens) : Type 0 where
   pub high : index < most
   pub starts : Starts (p ++ decimal index ∷ []) q
 
-pub all_as : (P Q : Place → Type 0) → ((t : Place) → P t → Q t) → (xs : List Place) → AllByRecursion P xs → AllByRecursion Q xs
+pub all_as : {A : Type 0} (P Q : A → Type 0) → ((t : A) → P t → Q t) → (xs : List A) → AllByRecursion P xs → AllByRecursion Q xs
 all_as P Q f [] h = tt
 all_as P Q f (x ∷ xs) h = (f x h.0, all_as P Q f xs h.1)
 

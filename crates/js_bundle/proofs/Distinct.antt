@@ -17,7 +17,7 @@ use Rattle.js_bundle.proofs.Numbers.{nat_eq-refl, number_finds_it, number_passes
 
 -- ---- the test of where a place stands
 
-tokens-refl : (p : Tokens) → same_tokens p p ≡ true
+pub tokens-refl : (p : Tokens) → same_tokens p p ≡ true
 tokens-refl [] = refl
 tokens-refl (k ∷ p) = let here : same_tokens (k ∷ p) (k ∷ p) ≡ same_tokens p p = rw (is_text-refl k) refl in here ∙ tokens-refl p
 

@@ -66,12 +66,9 @@ finds_held docs documents kept place above k s n same e here found = by_fit (fit
 
 -- ---- what a URI names
 
-pub names_it : (docs documents : Documents) (listed : List Site) (uri : Parts) (n : ℕ) → docs ≡ documents → listed ≡ sites docs → Some n ≡ number_named listed uri
+pub names_it : (documents : Documents) (listed : List Site) (uri : Parts) (n : ℕ) → listed ≡ sites documents → Some n ≡ number_named listed uri
     → StandsFor documents n (named (sites documents) uri)
-names_it docs documents listed uri n same is e =
-    finds_place documents (names (sites documents) uri) (Some n) (e ∙ ap (λ ss. number_named ss uri) (is ∙ ap sites same))
+names_it documents listed uri n is e = finds_place documents (names (sites documents) uri) (Some n) (e ∙ ap (λ ss. number_named ss uri) is)
 
-pub names_none : (docs documents : Documents) (listed : List Site) (uri : Parts) → docs ≡ documents → listed ≡ sites docs → None ≡ number_named listed uri
-    → named (sites documents) uri ≡ None
-names_none docs documents listed uri same is e =
-    finds_place documents (names (sites documents) uri) None (e ∙ ap (λ ss. number_named ss uri) (is ∙ ap sites same))
+pub names_none : (documents : Documents) (listed : List Site) (uri : Parts) → listed ≡ sites documents → None ≡ number_named listed uri → named (sites documents) uri ≡ None
+names_none documents listed uri is e = finds_place documents (names (sites documents) uri) None (e ∙ ap (λ ss. number_named ss uri) is)

@@ -69,7 +69,7 @@ or_any : {A : Type 0} (b c : Bool) (x : A) → option_or (if b then Some x else 
 or_any true c x = refl
 or_any false c x = refl
 
-any_append : {A : Type 0} (f : A → Bool) (xs ys : List A) → list_any f (xs ++ ys) ≡ (list_any f xs || list_any f ys)
+pub any_append : {A : Type 0} (f : A → Bool) (xs ys : List A) → list_any f (xs ++ ys) ≡ (list_any f xs || list_any f ys)
 any_append f [] ys = refl
 any_append f (x ∷ xs) ys = by_test (f x) (list_any f (xs ++ ys)) (list_any f xs) (list_any f ys) (any_append f xs ys)
   where
@@ -174,10 +174,10 @@ covers_by d r k name s b m =
     let parts = and_parts (s.document == d) (same_tokens s.own.resource r) b in
     covers_text d r name s.document s.own.resource (text_argument k s.schema) (eqb-true s.document d parts.0) (tokens-sound s.own.resource r parts.1) m
 
-or_left : (b c : Bool) → b ≡ true → (b || c) ≡ true
+pub or_left : (b c : Bool) → b ≡ true → (b || c) ≡ true
 or_left b c e = ap (λ x. x || c) e
 
-or_right : (b c : Bool) → c ≡ true → (b || c) ≡ true
+pub or_right : (b c : Bool) → c ≡ true → (b || c) ≡ true
 or_right true c e = refl
 or_right false c e = e
 

@@ -24,7 +24,13 @@ pub mod Whole
 pub mod Kept
 pub mod Finds
 pub mod KeyedBelow
+pub mod LeadingDown
+pub mod Ways
 pub mod Schema
 pub mod BuiltThere
 pub mod Dynamic
 pub mod Known
+pub mod Rooted
+pub mod RootNumbers
+pub mod Anchors
+pub mod Anchored

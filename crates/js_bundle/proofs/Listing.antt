@@ -24,7 +24,7 @@ is-among x [] i h e = absurd (omega arith)
 is-among x (y ∷ ys) zero h e = inl e
 is-among x (y ∷ ys) (suc i) h e = inr (is-among x ys i (omega (arith, h)) e)
 
-pub all_append : (P : Place → Type 0) (xs ys : List Place) → AllByRecursion P xs → AllByRecursion P ys → AllByRecursion P (xs ++ ys)
+pub all_append : {A : Type 0} (P : A → Type 0) (xs ys : List A) → AllByRecursion P xs → AllByRecursion P ys → AllByRecursion P (xs ++ ys)
 all_append P [] ys h g = g
 all_append P (x ∷ xs) ys h g = (h.0, all_append P xs ys h.1 g)
 

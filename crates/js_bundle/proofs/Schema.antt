@@ -1,7 +1,8 @@
 -- The schema of a place that is kept.
 use Rattle.std.specs.Option.{option_map_or}
 use Rattle.js_bundle.specs.Keyword.{Text, has}
-use Rattle.std.proofs.Common.{◌≡◌, ℕ, ◌<◌, List, map, length, get_or, slice_get, false, Option, Some, None, option_map, refl, sym, ap, ◌∙◌, subst}
+use Rattle.std.proofs.Common.{◌≡◌, ℕ, ◌+◌, ◌<◌, List, [], ◌∷◌, ◌++◌, map, take, length, get_or, slice_get, false, Option, Some, None, option_map, refl, sym, ap, ◌∙◌, subst}
+use Rattle.std.proofs.lemmas.List.{take_more}
 use Rattle.std.proofs.lemmas.Option.{slice_get_within, get_or_from_slice_get}
 use Rattle.js_doc.specs.Lookup.{at}
 use Rattle.js_doc.specs.Seen.{value_of}
@@ -60,3 +61,19 @@ some_there items x (Some s) there h e = absurd (cc)
 pub has_at : (k : Text) (o : Option Site) (v : Value) → option_map (λ s. s.schema) o ≡ Some v → has k v ≡ option_map_or (λ place. has k place.schema) o false
 has_at k None v e = absurd (cc)
 has_at k (Some s) v e = let same : v ≡ s.schema = cc in ap (has k) same
+
+-- ---- a place as the scan found it
+
+pub site_by : (o : Option Site) (x : Spot) (v : Value) → option_map spot o ≡ Some x → option_map (λ s. s.schema) o ≡ Some v
+    → o ≡ Some (record { document = x.document; pointer = x.pointer; above = x.above; own = x.own; identifies = x.identifies; schema = v })
+site_by None x v e h = absurd (cc)
+site_by (Some s) x v e h =
+    let there : spot s ≡ x = cc in
+    let schema : s.schema ≡ v = cc in
+    ap (λ y. Some (record { document = y.document; pointer = y.pointer; above = y.above; own = y.own; identifies = y.identifies; schema = s.schema })) there
+    ∙ ap (λ w. Some (record { document = x.document; pointer = x.pointer; above = x.above; own = x.own; identifies = x.identifies; schema = w })) schema
+
+-- one place more of all
+pub site_next : (all : List Site) (i : ℕ) (s : Site) (old new : List Site) → slice_get all i ≡ Some s → new ≡ old ++ s ∷ [] → old ≡ take i all → new ≡ take (i + 1) all
+site_next all i s old new e pushed h =
+    pushed ∙ ap (λ l. l ++ s ∷ []) h ∙ ap (λ x. take i all ++ x ∷ []) (sym (get_or_from_slice_get all i s s e)) ∙ sym (take_more all i s (slice_get_within all i s e))

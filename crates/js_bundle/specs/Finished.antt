@@ -4,11 +4,13 @@ use Rattle.js_bundle.specs.declared.checked.Checked.{Checked}
 use Rattle.js_bundle.specs.Built.{assertions_at, assertions_in, patterns_at, patterns_in}
 use Rattle.js_bundle.specs.Candidate.{IsClear}
 use Rattle.js_bundle.specs.Document.{Documents}
+use Rattle.js_bundle.specs.Edges.{LeadDown}
 use Rattle.js_bundle.specs.Finding.{dynamic_at, number_of_target}
 use Rattle.js_bundle.specs.Index.{IsIndex}
 use Rattle.js_bundle.specs.Location.{location}
 use Rattle.js_bundle.specs.Refusals.{candidates}
 use Rattle.js_bundle.specs.Resource.{sites}
+use Rattle.js_bundle.specs.ResourceTable.{IsResourceTable}
 use Rattle.js_bundle.specs.Seen.{AreRead}
 use Rattle.js_bundle.specs.Spot.{spot, spot_of}
 
@@ -22,3 +24,5 @@ pub record IsFinished (documents : Documents) (kept : Checked) : Type 0 where
   pub plain : kept.references.plain.items ≡ map (number_of_target (sites documents) (codes "$ref")) (sites documents)
   pub locations : kept.locations.items ≡ map location (sites documents)
   pub index : IsIndex kept.index (sites documents)
+  pub resources : IsResourceTable kept.resources (sites documents)
+  pub edges : LeadDown kept.edges.items (map spot_of kept.spots.items)

@@ -20,5 +20,8 @@ pub mod Finding
 pub mod Built
 pub mod Schemas
 pub mod Spot
+pub mod ResourceNumber
+pub mod ResourceTable
+pub mod Edges
 pub mod Finished
 pub mod NameLaws

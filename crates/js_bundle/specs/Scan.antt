@@ -14,7 +14,7 @@ use Rattle.js_bundle.specs.Place.{holding}
 use Rattle.js_bundle.specs.Resource.{Site, sites, identified, scope_below, root_scope}
 
 abbrev pub site_of : rust.Site → Site
-site_of s = record { document = s.document; pointer = s.pointer; above = s.above.value; own = s.own.value; identifies = s.identifies; schema = value_of s.schema.now }
+site_of s = record { document = s.document; pointer = s.pointer.value; above = s.above.value; own = s.own.value; identifies = s.identifies; schema = value_of s.schema.now }
 
 -- ---- the scan, with the scope handed down
 

@@ -20,7 +20,7 @@ abbrev pub spot : Site → Spot
 spot s = record { document = s.document; pointer = s.pointer; above = s.above; own = s.own; identifies = s.identifies }
 
 abbrev pub spot_of : rust.Spot → Spot
-spot_of s = record { document = s.document; pointer = s.pointer; above = s.above.value; own = s.own.value; identifies = s.identifies }
+spot_of s = record { document = s.document; pointer = s.pointer.value; above = s.above.value; own = s.own.value; identifies = s.identifies }
 
 -- the place stands at the step through a keyword of another one
 abbrev pub stands_below : Spot → Text → Step → Spot → Bool

@@ -1,6 +1,7 @@
 //! What the keywords of a place hold.
 ghost use Rattle.std.specs.Prelude.{◌≡◌, ◌++◌, [], ◌∷◌, true, find, map, option_map, option_and_then, bytes_eq, decimal, None, Some, IfOk, OnOk, string_bytes, if◌then◌else◌};
-ghost use Rattle.std.specs.List.{list_any, position_from};
+ghost use Rattle.std.specs.List.{list_all, list_any, position_from};
+ghost use Rattle.js_bundle.specs.Edges.{leads_down, AreAlone};
 ghost use Rattle.js_bundle.specs.Index.{place_key, StandsFirst};
 ghost use Rattle.js_bundle.specs.Names.{same_tokens};
 ghost use Rattle.js_bundle.specs.Place.{holding};
@@ -8,6 +9,7 @@ ghost use Rattle.js_bundle.specs.Schemas.{is_place, place_at, below, fits, step_
 ghost use Rattle.js_bundle.specs.Spot.{spot_of, stands_below};
 
 use crate::checked::Spot;
+use crate::edges::{edge_to, edges_under};
 use crate::holding::Holding;
 use crate::index::place_key;
 use crate::numbering::Numbering;
@@ -17,9 +19,6 @@ use crate::scan::holding_of;
 use crate::schemas::Schemas;
 use js_doc::{Memory, Pointer, Text};
 use std::alloc::Global;
-
-/// So many places are searched as fast as one is found by its key.
-const FEW: usize = 64;
 
 impl Schemas {
     ghost use Rattle.js_doc.specs.Value.{Value};
@@ -39,7 +38,8 @@ impl Schemas {
         let alloc = *self.documents.allocator();
         let places = &self.kept.index.places;
         let spots = self.kept.spots.as_slice();
-        match number_held(alloc, places, spots, self.spot(place), keyword, step) {
+        let edges = edges_under(self.kept.edges.as_slice(), place.number);
+        match number_held(alloc, places, spots, edges, self.spot(place), keyword, step) {
             Some(number) => Some(Place { number }),
             None => None,
         }
@@ -50,16 +50,19 @@ fn number_held(
     alloc: Global,
     places: &Numbering,
     spots: &[Spot],
+    edges: &[usize],
     above: &Spot,
     keyword: &str,
     step: Step<'_>,
 ) -> Option<usize>
-    requires { StandsFirst places.now (map spot_of spots.now) }
+    requires first { StandsFirst places.now (map spot_of spots.now) }
+    requires down { list_all (leads_down (spot_of above.now) (map spot_of spots.now)) edges.now ≡ true }
+    requires alone { AreAlone (map spot_of spots.now) }
     ensures { result ≡ (if fits (holding keyword.now) (step_of step.entry) then position_from
         (stands_below (spot_of above.now) keyword.now (step_of step.entry)) 0 (map spot_of spots.now) else None) }
 {
     if fits(holding_of(keyword), step) {
-        number_below(alloc, places, spots, above, keyword, step)
+        number_below(alloc, places, spots, edges, above, keyword, step)
     } else {
         None
     }
@@ -76,9 +79,30 @@ fn fits(holding: Holding, step: Step<'_>) -> bool
     }
 }
 
-// The number of the first place that stands at the step through the keyword. Few places are searched, and so are all
-// where there is no memory for a key.
+// The number of the first place that stands at the step through the keyword.
 fn number_below(
+    alloc: Global,
+    places: &Numbering,
+    spots: &[Spot],
+    edges: &[usize],
+    above: &Spot,
+    keyword: &str,
+    step: Step<'_>,
+) -> Option<usize>
+    requires first { StandsFirst places.now (map spot_of spots.now) }
+    requires down { list_all (leads_down (spot_of above.now) (map spot_of spots.now)) edges.now ≡ true }
+    requires alone { AreAlone (map spot_of spots.now) }
+    ensures { result ≡ position_from (stands_below (spot_of above.now) keyword.now (step_of step.entry)) 0
+        (map spot_of spots.now) }
+{
+    match edge_to(spots, edges, above, keyword, step) {
+        Some(number) => Some(number),
+        None => number_apart(alloc, places, spots, above, keyword, step),
+    }
+}
+
+// The same, by the key of what stands there. Where there is no memory for it all places are searched.
+fn number_apart(
     alloc: Global,
     places: &Numbering,
     spots: &[Spot],
@@ -90,16 +114,13 @@ fn number_below(
     ensures { result ≡ position_from (stands_below (spot_of above.now) keyword.now (step_of step.entry)) 0
         (map spot_of spots.now) }
 {
-    if spots.len() <= FEW {
-        return search_below(spots, above, keyword, step);
-    }
     match key_below(alloc, above, keyword, step) {
         Ok(key) => keyed_below(places, spots, key.as_str(), above, keyword, step),
         Err(_) => search_below(spots, above, keyword, step),
     }
 }
 
-// The same, by the key of what stands there.
+// The same, by its key.
 fn keyed_below(
     places: &Numbering,
     spots: &[Spot],
@@ -110,7 +131,7 @@ fn keyed_below(
 ) -> Option<usize>
     requires first { StandsFirst places.now (map spot_of spots.now) }
     requires key { key.now ≡ place_key above.now.document
-        (above.now.pointer ++ keyword.now ∷ step_tokens (step_of step)) }
+        (above.now.pointer.value ++ keyword.now ∷ step_tokens (step_of step)) }
     ensures { result ≡ position_from (stands_below (spot_of above.now) keyword.now (step_of step.entry)) 0
         (map spot_of spots.now) }
 {
@@ -129,7 +150,7 @@ fn first_below(
     step: Step<'_>,
 ) -> Option<usize>
     requires { position_from (λ s. list_any (bytes_eq (place_key above.now.document
-        (above.now.pointer ++ keyword.now ∷ step_tokens (step_of step)))) (place_key s.document s.pointer ∷ []))
+        (above.now.pointer.value ++ keyword.now ∷ step_tokens (step_of step)))) (place_key s.document s.pointer ∷ []))
         0 (map spot_of spots.now) ≡ Some number }
     ensures { result ≡ position_from (stands_below (spot_of above.now) keyword.now (step_of step.entry)) 0
         (map spot_of spots.now) }
@@ -155,7 +176,7 @@ fn search_below(spots: &[Spot], above: &Spot, keyword: &str, step: Step<'_>) -> 
 // The key of what stands at the step.
 fn key_below(alloc: Global, above: &Spot, keyword: &str, step: Step<'_>) -> Result<String, Memory>
     ensures { IfOk result (λ t. string_bytes t ≡ place_key above.now.document
-        (above.now.pointer ++ keyword.now ∷ step_tokens (step_of step.entry))) }
+        (above.now.pointer.value ++ keyword.now ∷ step_tokens (step_of step.entry))) }
 {
     let mut pointer = further(alloc, &above.pointer, keyword)?;
     push_step(alloc, &mut pointer, step)?;
@@ -200,7 +221,7 @@ fn goes_on(tokens: &[Text], above: &[Text], keyword: &str, step: Step<'_>) -> bo
     }
 }
 
-fn is_step(tokens: &[Text], step: Step<'_>) -> bool
+pub(crate) fn is_step(tokens: &[Text], step: Step<'_>) -> bool
     ensures { result ≡ same_tokens tokens.now (step_tokens (step_of step.entry)) }
 {
     match step {

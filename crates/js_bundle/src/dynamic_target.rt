@@ -1,20 +1,17 @@
 //! What dynamic references lead to (JSON Schema Core, sections 7.1 and 8.2.3.2).
-ghost use Rattle.std.specs.Prelude.{◌≡◌, ◌&&◌, true, false, codes, bytes_eq, nat_eq, option_map, option_and_then};
-ghost use Rattle.std.specs.Option.{option_map_or};
+ghost use Rattle.std.specs.Prelude.{◌≡◌, true, codes, slice_get, option_map, option_and_then};
 ghost use Rattle.js_bundle.specs.Finding.{by_scope, under_number};
-ghost use Rattle.js_doc.specs.Seen.{value_of};
-ghost use Rattle.js_bundle.specs.Keyword.{text_argument};
-ghost use Rattle.js_bundle.specs.Names.{makes, belongs_to, same_tokens};
+ghost use Rattle.js_bundle.specs.Index.{under};
 ghost use Rattle.js_bundle.specs.Resource.{sites};
+ghost use Rattle.js_bundle.specs.ResourceNumber.{dynamic_target_in, roots, roots_at};
 ghost use Rattle.js_bundle.specs.Schemas.{is_place, has_keyword, place_at, path_at, StandsFor, Finds};
 ghost use Rattle.js_bundle.specs.Target.{dynamic_anchor, dynamic_target, outermost};
 
-use crate::checked::Spot;
 use crate::keyword::text_argument;
+use crate::numbering::Numbering;
 use crate::place::Place;
 use crate::reference::DynamicReference;
 use crate::schemas::Schemas;
-use js_doc::Doc;
 
 impl Schemas {
     /// The place that the `$dynamicRef` of the place names in a dynamic scope (JSON Schema Core, section 8.2.3.2): `path`
@@ -28,6 +25,21 @@ impl Schemas {
     {
         match reference_under(self.kept.references.dynamic.as_slice(), place.number) {
             Some(reference) => self.led_to(reference, path),
+            None => place, // never: each reference of finished schemas has its target
+        }
+    }
+
+    /// The same in a dynamic scope that is told by the numbers of its resources, from the entry's to the place's: where
+    /// `dynamic_target` asks the places of a path, it asks these, and the first whose resource has the name decides. A path
+    /// and the numbers of its resources, of equal neighbours one, lead to the same place
+    /// (`laws::numbers_tell_the_dynamic_scope`). It takes no memory.
+    pub fn dynamic_target_in(&self, place: Place, resources: &[usize]) -> Place
+        requires { has_keyword (codes "$dynamicRef") self.now place ≡ true }
+        ensures { StandsFor self.now result (option_and_then
+            (dynamic_target_in (sites self.now) resources.now) (place_at self.now place)) }
+    {
+        match reference_under(self.kept.references.dynamic.as_slice(), place.number) {
+            Some(reference) => self.led_in(reference, resources),
             None => place, // never: each reference of finished schemas has its target
         }
     }
@@ -53,12 +65,46 @@ impl Schemas {
         }
     }
 
+    // The same in a scope that is told by numbers.
+    fn led_in(&self, reference: DynamicReference, resources: &[usize]) -> Place
+        requires { is_place self.now reference.target ≡ true }
+        ensures { StandsFor self.now result (option_map
+            (by_scope (sites self.now) (roots_at (sites self.now) resources.now) reference.by_name) (place_at self.now reference.target)) }
+    {
+        let first = Place {
+            number: reference.target,
+        };
+        if !reference.by_name {
+            return first;
+        }
+        match text_argument(self.schema(first), "$dynamicAnchor") {
+            Some(name) => match self.outermost_in(name, resources) {
+                Some(place) => place,
+                None => first,
+            },
+            None => first,
+        }
+    }
+
     // The place that the first resource of the path which has the name gives it to.
     fn outermost(&self, name: &str, path: &[Place]) -> Option<Place>
         ensures { Finds self.now result (outermost (sites self.now) name.now (path_at self.now path.now)) }
     {
         for place in path {
             if let Some(found) = self.dynamic_anchor(name, *place) {
+                return Some(found);
+            }
+        }
+        None
+    }
+
+    // The same of resources by their numbers.
+    fn outermost_in(&self, name: &str, resources: &[usize]) -> Option<Place>
+        ensures { Finds self.now result
+            (outermost (sites self.now) name.now (roots_at (sites self.now) resources.now)) }
+    {
+        for resource in resources {
+            if let Some(found) = self.anchor_in(name, *resource) {
                 return Some(found);
             }
         }
@@ -73,40 +119,28 @@ impl Schemas {
         if !self.has(place) {
             return None;
         }
-        let spot = self.spot(place);
-        for number in 0..self.kept.spots.len() {
-            if self.names_beside(Place { number }, spot, name) {
-                return Some(Place { number });
-            }
-        }
-        None
+        self.anchor_in(name, self.resource_number(place))
     }
 
-    // Whether a place makes the name by `$dynamicAnchor` in the same resource.
-    fn names_beside(&self, place: Place, beside: &Spot, name: &str) -> bool
-        requires { is_place self.now place ≡ true }
-        ensures { option_map (λ t. belongs_to beside.now.document beside.now.own.value.resource t
-            && makes (codes "$dynamicAnchor") name.now t) (place_at self.now place) ≡ Some result }
+    // The same in the resource with the number.
+    fn anchor_in(&self, name: &str, resource: usize) -> Option<Place>
+        ensures { Finds self.now result
+            (option_and_then (dynamic_anchor (sites self.now) name.now) (slice_get (roots (sites self.now)) resource)) }
     {
-        is_beside(self.spot(place), beside) && makes_dynamically(self.schema(place), name)
+        match anchored(self.kept.resources.anchors.as_slice(), resource, name) {
+            Some(number) => Some(Place { number }),
+            None => None,
+        }
     }
 }
 
-// Whether two places are of one resource.
-fn is_beside(spot: &Spot, beside: &Spot) -> bool
-    ensures { result ≡ (nat_eq spot.now.document beside.now.document
-        && same_tokens spot.now.own.value.resource beside.now.own.value.resource) }
+// The number that is kept under a name, in the resource with the number.
+fn anchored(anchors: &[Numbering], resource: usize, name: &str) -> Option<usize>
+    ensures { result ≡ option_and_then (λ names. under names name.now) (slice_get anchors.now resource) }
 {
-    spot.document == beside.document && spot.own.resource == beside.own.resource
-}
-
-fn makes_dynamically(schema: &Doc, name: &str) -> bool
-    ensures { result ≡ option_map_or (bytes_eq name.now)
-        (text_argument (codes "$dynamicAnchor") (value_of schema.now)) false }
-{
-    match text_argument(schema, "$dynamicAnchor") {
-        Some(text) => name == text,
-        None => false,
+    match anchors.get(resource) {
+        Some(names) => names.get(name),
+        None => None,
     }
 }
 

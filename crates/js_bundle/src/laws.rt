@@ -1,5 +1,6 @@
 //! Laws of the definitions that this crate's contracts speak of. Calling one does nothing.
 ghost use Rattle.js_bundle.specs.NameLaws.{NamesOneResource, NamesOnePlace};
+ghost use Rattle.js_bundle.specs.ResourceNumber.{NumbersResources, ScopeByNumbers};
 ghost use Rattle.js_bundle.specs.PlaceLaws.{ListsThePlaces, ListsEachOnce, ListsTheirPlaces, ListsTheirsOnce};
 
 /// The list of a document's places has exactly the places: the least set that has the document's root and is closed
@@ -32,4 +33,16 @@ pub fn a_uri_names_one_resource()
 /// sections 8.2.2 and 9.2.1).
 pub fn a_uri_names_one_place()
     ensures { NamesOnePlace }
+{}
+
+/// Each place has the number of its resource, and two places have the same number exactly where they are of one resource
+/// (JSON Schema Core, section 8.2.1).
+pub fn a_number_tells_a_resource()
+    ensures { NumbersResources }
+{}
+
+/// A dynamic scope that is told by the numbers of its resources, of equal neighbours one, leads to what the path of all
+/// places leads to (JSON Schema Core, sections 7.1 and 8.2.3.2).
+pub fn numbers_tell_the_dynamic_scope()
+    ensures { ScopeByNumbers }
 {}

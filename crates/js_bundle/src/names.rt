@@ -5,13 +5,13 @@ ghost use Rattle.js_doc.specs.PointerReading.{pointer_of};
 ghost use Rattle.std.specs.Str.{is_utf8};
 ghost use Rattle.js_bundle.specs.Finding.{number_named, number_in, number_below, number_anchored, is_pointer_read, IfNotRead};
 ghost use Rattle.js_bundle.specs.Index.{IsIndex, name_key, name_keys, place_key, place_keys};
-ghost use Rattle.js_bundle.specs.Names.{is_root, is_known_as, root_of, stands_at, belongs_to, makes, by_pointer, by_anchor, by_dynamic_anchor, is_pointer, is_read};
+ghost use Rattle.js_bundle.specs.Names.{same_tokens, is_root, is_known_as, root_of, stands_at, belongs_to, makes, by_pointer, by_anchor, by_dynamic_anchor, is_pointer, is_read};
 ghost use Rattle.js_bundle.specs.Scan.{site_of};
 ghost use Rattle.js_bundle.specs.Url as spec;
 
 use crate::index::{Index, name_key, place_key};
 use crate::keyword::text_argument;
-use crate::pointers::joined;
+use crate::pointers::extended;
 use crate::scan::Site;
 use crate::uri;
 use js_doc::{Memory, Pointer, PointerFault};
@@ -52,7 +52,14 @@ fn identifies(site: &Site<'_>, uri: &str) -> bool
 fn stands_at(site: &Site<'_>, document: usize, pointer: &Pointer) -> bool
     ensures { result ≡ stands_at document pointer.now (site_of site.now) }
 {
-    site.document == document && site.pointer == *pointer
+    site.document == document && is_same(&site.pointer, pointer)
+}
+
+/// Whether two pointers are the same.
+pub(crate) fn is_same(first: &Pointer, second: &Pointer) -> bool
+    ensures { result ≡ same_tokens first.now second.now }
+{
+    *first == *second
 }
 
 /// Whether the place's resource has its root at the pointer.
@@ -97,8 +104,8 @@ fn numbered<'s, 'a>(sites: &'s [Site<'a>], number: usize) -> Option<&'s Site<'a>
     sites.get(number)
 }
 
-// The number of the place at a pointer.
-fn place_at(
+/// The number of the place at a pointer.
+pub(crate) fn place_at(
     alloc: Global,
     index: &Index,
     sites: &[Site<'_>],
@@ -159,7 +166,7 @@ fn place_with_anchor(
 
 // The same, where the first place with the key has this number.
 fn first_anchored(sites: &[Site<'_>], number: usize, root: &Site<'_>, name: &str) -> Option<usize>
-    requires { position_from (λ s. list_any (bytes_eq (name_key root.now.document root.now.pointer name.now))
+    requires { position_from (λ s. list_any (bytes_eq (name_key root.now.document root.now.pointer.value name.now))
         (name_keys s)) 0 (map site_of sites.now) ≡ Some number }
     ensures { result ≡ position_from (λ s. by_anchor (site_of root.now) name.now s
         || by_dynamic_anchor (site_of root.now) name.now s) 0 (map site_of sites.now) }
@@ -217,7 +224,7 @@ fn place_below(
 {
     match root {
         Some(root) => {
-            let whole = joined(alloc, &root.pointer, pointer)?;
+            let whole = extended(alloc, &root.pointer, pointer)?;
             place_at(alloc, index, sites, root.document, &whole)
         }
         None => Ok(None),
@@ -296,7 +303,7 @@ fn place_in(
 }
 
 /// The number of the place that a URI names, if it names one.
-pub(crate) fn place_named(
+pub(crate) fn number_named(
     alloc: Global,
     index: &Index,
     sites: &[Site<'_>],

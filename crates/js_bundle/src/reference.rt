@@ -14,7 +14,7 @@ ghost use Rattle.js_bundle.specs.Target.{reference, is_dynamic};
 use crate::fault::{Fault, refuse};
 use crate::index::Index;
 use crate::keyword::text_argument;
-use crate::names::{NameFault, place_named};
+use crate::names::{NameFault, number_named};
 use crate::refusal::RefusalKind;
 use crate::scan::Site;
 use crate::scope::joined;
@@ -38,7 +38,7 @@ fn resolve_url(
     ensures err { IfErr result (IsStopped
         (at_joined_reference (map site_of sites.now) (site_of site.now) (keyword.now ∷ []) (Ok url))) }
 {
-    match place_named(alloc, index, sites, url) {
+    match number_named(alloc, index, sites, url) {
         Ok(Some(place)) => Ok(Some(place)),
         Ok(None) => Err(refuse(alloc, site, Some(keyword), RefusalKind::Unresolved)),
         Err(NameFault::NotRead) => {

@@ -1,7 +1,9 @@
 //! The resources of finished schemas (JSON Schema Core, sections 4.3.5 and 8.2.1).
-ghost use Rattle.std.specs.Prelude.{◌≡◌, ◌++◌, ◌&&◌, [], ◌∷◌, not, map, bytes_eq, option_copied, IfOk, OnOk};
+ghost use Rattle.std.specs.Prelude.{◌≡◌, ◌++◌, ◌&&◌, [], ◌∷◌, Some, true, not, map, bytes_eq, option_copied, option_and_then, IfOk, OnOk};
 ghost use Rattle.js_bundle.specs.Names.{same_tokens};
-ghost use Rattle.js_bundle.specs.Schemas.{resources, lent};
+ghost use Rattle.js_bundle.specs.Resource.{sites};
+ghost use Rattle.js_bundle.specs.ResourceNumber.{resource_count, resource_number};
+ghost use Rattle.js_bundle.specs.Schemas.{is_place, place_at, resources, lent};
 ghost use Rattle.js_bundle.specs.Spot.{spot_of, document_uri, base_made, resource_of};
 ghost use Rattle.js_bundle.specs.Url as spec;
 
@@ -29,6 +31,21 @@ impl Schemas {
             push_resource(&mut resources, base_made(spot), place)?;
         }
         Ok(resources)
+    }
+
+    /// The number of the place's resource: how many resources have their root before its own in scan order.
+    pub fn resource_number(&self, place: Place) -> usize
+        requires { is_place self.now place ≡ true }
+        ensures { option_and_then (resource_number (sites self.now)) (place_at self.now place) ≡ Some result }
+    {
+        self.kept.resources.numbers[place.number]
+    }
+
+    /// How many resources there are. Each number is below.
+    pub fn resource_count(&self) -> usize
+        ensures { result ≡ resource_count (sites self.now) }
+    {
+        self.kept.resources.anchors.len()
     }
 }
 
@@ -79,7 +96,7 @@ fn base_made(spot: &Spot) -> Option<&str>
 }
 
 fn is_root(spot: &Spot) -> bool
-    ensures { result ≡ same_tokens spot.now.pointer [] }
+    ensures { result ≡ same_tokens spot.now.pointer.value [] }
 {
     spot.pointer.tokens().is_empty()
 }

@@ -9,7 +9,7 @@ ghost use Rattle.js_bundle.specs.Seen.{document_of};
 
 use crate::document::Document;
 use crate::holding::Holding;
-use crate::pointers::{copy, further};
+use crate::pointers::{shared, shared_further};
 use crate::scope::{Scope, Scopes, scopes_at};
 use js_doc::{Doc, Members, Memory, Pointer};
 use std::alloc::Global;
@@ -22,7 +22,7 @@ const MOST_SITES: usize = 100_001;
 #[derive(Drop)]
 pub(crate) struct Site<'a> {
     pub(crate) document: usize,
-    pub(crate) pointer: Pointer,
+    pub(crate) pointer: Rc<Pointer>,
     /// The scope that the place is in.
     pub(crate) above: Rc<Scope>,
     /// Its own.
@@ -62,13 +62,13 @@ fn add_site<'a>(
     out: &mut Vec<Site<'a>>,
     document: usize,
     above: &Rc<Scope>,
-    pointer: &Pointer,
+    pointer: &Rc<Pointer>,
     schema: &'a Doc,
 ) -> Result<Rc<Scope>, Memory>
     ensures added { OnOk result (map site_of out.new.items ≡ map site_of out.old.items
-        ++ site_at document above.now.value pointer.now (value_of schema.now) ∷ []) }
+        ++ site_at document above.now.value pointer.now.value (value_of schema.now) ∷ []) }
     ensures below { IfOk result
-        (λ s. s.value ≡ below above.now.value pointer.now (value_of schema.now)) }
+        (λ s. s.value ≡ below above.now.value pointer.now.value (value_of schema.now)) }
 {
     let Scopes {
         own,
@@ -77,7 +77,7 @@ fn add_site<'a>(
     } = scopes_at(alloc, above, pointer, schema)?;
     out.push(Site {
         document,
-        pointer: copy(alloc, pointer)?,
+        pointer: pointer.clone()?,
         above: above.clone()?,
         own,
         identifies,
@@ -92,11 +92,11 @@ fn scan_schema<'a>(
     out: &mut Vec<Site<'a>>,
     document: usize,
     above: &Rc<Scope>,
-    pointer: &Pointer,
+    pointer: &Rc<Pointer>,
     schema: &'a Doc,
 ) -> Result<(), Memory>
     ensures { OnOk result (SameFront (map site_of out.new.items) (map site_of out.old.items
-        ++ sites_at document above.now.value pointer.now (value_of schema.now))) }
+        ++ sites_at document above.now.value pointer.now.value (value_of schema.now))) }
 {
     if MOST_SITES <= out.len() {
         return Ok(());
@@ -152,7 +152,7 @@ fn scan_keyword<'a>(
     if matches!(held, Holding::Nothing) {
         return Ok(());
     }
-    let at = further(alloc, pointer, keyword)?;
+    let at = shared_further(alloc, pointer, keyword)?;
     scan_held(alloc, out, document, above, &at, held, argument)
 }
 
@@ -162,14 +162,14 @@ fn scan_held<'a>(
     out: &mut Vec<Site<'a>>,
     document: usize,
     above: &Rc<Scope>,
-    pointer: &Pointer,
+    pointer: &Rc<Pointer>,
     held: Holding,
     argument: &'a Doc,
 ) -> Result<(), Memory>
     ensures { OnOk result (SameFront (map site_of out.new.items) (map site_of out.old.items
-        ++ sites_held held (sites_at document above.now.value pointer.now (value_of argument.now))
-        (sites_in_list document above.now.value pointer.now (value_of argument.now))
-        (sites_in_object document above.now.value pointer.now (value_of argument.now)))) }
+        ++ sites_held held (sites_at document above.now.value pointer.now.value (value_of argument.now))
+        (sites_in_list document above.now.value pointer.now.value (value_of argument.now))
+        (sites_in_object document above.now.value pointer.now.value (value_of argument.now)))) }
 {
     match held {
         Holding::One => scan_schema(alloc, out, document, above, pointer, argument),
@@ -200,7 +200,7 @@ fn scan_items<'a>(
 {
     for i in 0..schemas.len() {
         let token = i.to_string(alloc)?;
-        let at = further(alloc, pointer, token.as_str())?;
+        let at = shared_further(alloc, pointer, token.as_str())?;
         scan_schema(alloc, out, document, above, &at, &schemas[i])?;
     }
     Ok(())
@@ -219,7 +219,7 @@ fn scan_members<'a>(
         ++ sites_of_members document above.now.value pointer.now (spec.members members.now))) }
 {
     for (name, schema) in members.pairs() {
-        let at = further(alloc, pointer, name.as_str())?;
+        let at = shared_further(alloc, pointer, name.as_str())?;
         scan_schema(alloc, out, document, above, &at, schema)?;
     }
     Ok(())
@@ -235,14 +235,8 @@ fn scan_document<'a>(
         ++ sites_at number (root_scope document.now.uri) [] (value_of document.now.root))) }
 {
     let above = Scope::root(alloc, &document.uri)?;
-    scan_schema(
-        alloc,
-        out,
-        number,
-        &above,
-        &Pointer::new(alloc),
-        &document.root,
-    )
+    let at = shared(alloc, Pointer::new(alloc))?;
+    scan_schema(alloc, out, number, &above, &at, &document.root)
 }
 
 /// The places of the documents, in order: as many as a bundle may have, and one more.

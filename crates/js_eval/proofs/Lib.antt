@@ -10,10 +10,12 @@ pub mod Among
 pub mod HowMany
 pub mod JudgedDocuments
 pub mod Largest
+pub mod EveryItem
 pub mod Paths
 pub mod ItemsLeft
 pub mod MembersLeft
 pub mod PatternsLeft
+pub mod Shared
 pub mod Started
 pub mod Recursion
 pub mod Counts

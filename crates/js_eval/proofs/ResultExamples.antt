@@ -35,8 +35,10 @@ given = record {
   members = record { bound = 2; settled = refl; node = (refl, (refl, (refl, (refl, tt, tt), tt), (refl, (refl, tt, tt), (refl, (refl, (refl, tt, tt), (refl, (refl, tt, tt), tt)), (refl, (refl, tt, tt), tt))))) };
   dependent = record { bound = 2; settled = refl; node = (refl, (refl, (refl, (refl, tt, tt), tt), tt)) };
   items_at_once = record { bound = 2; settled = refl; node = (refl, (refl, (refl, (refl, tt, tt), (refl, (refl, tt, tt), (refl, (refl, tt, tt), tt))), (refl, (refl, (refl, tt, tt), (refl, (refl, tt, tt), tt)), (refl, tt, (refl, (refl, tt, tt), tt))))) };
+  every_item = record { bound = 2; settled = refl; node = (refl, (refl, (refl, tt, tt), (refl, tt, (refl, (refl, tt, tt), tt)))) };
+  no_item = record { bound = 1; settled = refl; node = (refl, (refl, tt, (refl, tt, (refl, tt, tt)))) };
   alternatives = record { bound = 2; settled = refl; node = (refl, (refl, (refl, tt, (refl, (refl, tt, tt), tt)), (refl, (refl, (refl, tt, tt), (refl, (refl, tt, tt), tt)), tt))) };
   into_a_document = record { bound = 2; settled = refl; node = (refl, (refl, (refl, (refl, tt, tt), tt), tt)) };
-  within_256 = chain_settled (chain 255) 255 [];
-  not_within_255 = not_both _ (chain_open (chain 255) 255 []);
+  within_512 = chain_settled (chain 511) 511 [];
+  not_within_511 = not_both _ (chain_open (chain 511) 511 []);
 }

@@ -1,5 +1,5 @@
 -- What the cursors of a walk have still to ask for.
-use Rattle.std.specs.Prelude.{◌≡◌, ℕ, ◌<◌, Bool, true, false, not, ◌||◌, List, [], ◌++◌, Option, Some, None, String, map, filter, drop, get_or}
+use Rattle.std.specs.Prelude.{◌≡◌, ℕ, ◌<◌, Bool, true, false, not, ◌||◌, List, [], ◌∷◌, ◌++◌, Option, Some, None, String, map, filter, drop, get_or}
 use Rattle.std.specs.Borrow.{Bor}
 use Rattle.std.specs.Global.{Global}
 use Rattle.std.specs.Cmp.Lexicographic.{slice_cmp}
@@ -7,6 +7,7 @@ use Rattle.std.specs.List.{list_any, flat_map}
 use Rattle.std.specs.Ordering.{is_eq, nat_cmp}
 use Rattle.js_assert.specs.Argument.{has}
 use Rattle.js_assert.specs.Pattern.{matches}
+use Rattle.js_doc.specs.Members.{get}
 use Rattle.js_doc.specs.Seen.{pair_of, value_of}
 use Rattle.js_doc.specs.Value.{Value, Named}
 use Rattle.js_doc.specs.declared.doc.Doc.{Doc}
@@ -23,6 +24,7 @@ use Rattle.js_eval.specs.declared.member_cursor.Choice.{Choice}
 use Rattle.js_eval.specs.declared.member_cursor.Choice.TheVariants as choice
 use Rattle.js_eval.specs.declared.member_cursor.MemberCursor.{MemberCursor}
 use Rattle.js_eval.specs.declared.pattern_cursor.PatternCursor.{PatternCursor}
+use Rattle.js_eval.specs.declared.property_cursor.PropertyCursor.{PropertyCursor}
 
 -- ---- items
 
@@ -65,7 +67,7 @@ is_matched patterns name = list_any (λ p. matches p.0 name) (named_in patterns)
 abbrev pub chosen : Choice → Text → Bool
 chosen choice.All name = true
 chosen (choice.Named named) name = has name named.now
-chosen (choice.Additional adjacent) name = not (is_named adjacent.properties name || is_matched adjacent.patterns name)
+chosen (choice.Additional adjacent) name = not (is_named adjacent.properties name || list_any (λ p. matches p name) adjacent.searchers)
 chosen (choice.Except names) name = not (is_key names.keys name)
 
 -- those of the members that are chosen
@@ -74,6 +76,22 @@ members_left choice members = filter (λ m. chosen choice m.0) (map pair_of memb
 
 abbrev pub members_asked : Documents → MemberCursor → List (Application Site)
 members_asked documents c = map (λ m. applied documents c.held c.to (Name m.0) m.1) (members_left c.choice c.members)
+
+-- ---- the members that have some names
+
+-- in front, the member of this name, where there is one
+abbrev pub member_first : Text → Option Value → Named → Named
+member_first name None rest = rest
+member_first name (Some v) rest = (name, v) ∷ rest
+
+-- the members that have these names, name by name
+abbrev pub members_named : Named → Named → Named
+members_named [] ms = []
+members_named (n ∷ ns) ms = member_first n.0 (get n.0 ms) (members_named ns ms)
+
+abbrev pub properties_asked : Documents → PropertyCursor → List (Application Site)
+properties_asked documents c =
+    map (λ m. application (schemas_of documents) (site_at documents c.place) c.keyword.now (Name m.0) (Name m.0) m.1) (members_named (map pair_of c.names) c.members.now)
 
 -- ---- the members whose names patterns match
 
@@ -86,10 +104,14 @@ matching_asked documents place keyword pattern members =
 abbrev pub on_member : Documents → ℕ → Text → Text × Value → Application Site
 on_member documents place pattern m = record { place = site_at documents place; step = Name pattern; at = Name m.0; value = m.1 }
 
--- the schema at a place, on those of the members that are left and that its pattern matches
-abbrev pub present_asked : Documents → Option (Bor Text) → ℕ → Text → List (String Global × Doc) → List (Application Site)
-present_asked documents None place name left = []
-present_asked documents (Some pattern) place name left = map (on_member documents place name) (filter (λ m. matches pattern.now m.0) (map pair_of left))
+-- those of the members that are left and that the present pattern matches
+abbrev pub matched_left : Option Text → List (String Global × Doc) → Named
+matched_left None left = []
+matched_left (Some pattern) left = filter (λ m. matches pattern m.0) (map pair_of left)
+
+-- the schema at a place on them
+abbrev pub present_asked : Documents → Option Text → ℕ → Text → List (String Global × Doc) → List (Application Site)
+present_asked documents present place name left = map (on_member documents place name) (matched_left present left)
 
 -- what the patterns that are still to come ask for
 abbrev pub coming_asked : Documents → PatternCursor → List (String Global × Doc) → List (Application Site)
@@ -98,10 +120,8 @@ coming_asked documents c patterns = flat_map (λ p. matching_asked documents (si
 abbrev pub patterns_asked : Documents → PatternCursor → List (Application Site)
 patterns_asked documents c = present_asked documents c.present c.below c.name.now c.left ++ coming_asked documents c c.patterns
 
--- this pattern is the present one, and all members are left of it
-pub record IsBegun (documents : Documents) (name : Text) (pattern : Bor Text) (c d : PatternCursor) : Type 0 where
-  pub present : d.present ≡ Some pattern
-  pub pattern_is : pattern.now ≡ name
+-- the pattern of this text is the present one, and all members are left of it
+pub record IsBegun (documents : Documents) (name : Text) (c d : PatternCursor) : Type 0 where
   pub asks : present_asked documents d.present d.below d.name.now d.left ≡ matching_asked documents (site_at documents c.place) c.keyword.now name c.members.now
   pub is : is_place documents d.below ≡ true
   pub place : d.place ≡ c.place

@@ -1,14 +1,19 @@
 -- Laws of the definitions: that they say what they seem to say.
-use Rattle.std.specs.Prelude.{◌≡◌, ◌↔◌, ℕ, ◌≤◌, List, not, filter}
-use Rattle.std.specs.List.{flat_map}
-use Rattle.js_doc.specs.Value.{Value}
-use Rattle.js_eval.specs.Keywords.{keywords}
+use Rattle.std.specs.Prelude.{◌≡◌, ◌↔◌, ℕ, ◌≤◌, List, [], ◌∷◌, Bool, false, not, filter, Option}
+use Rattle.std.specs.List.{flat_map, list_all}
+use Rattle.js_doc.specs.Value.{Value, Named}
+use Rattle.js_eval.specs.Applications.{Application, asks_of, among_indexes, indexed}
+use Rattle.js_eval.specs.Evaluated.{indexes_applied}
+use Rattle.js_eval.specs.Keywords.{Keyword, keywords}
 use Rattle.js_eval.specs.Kind.{kind, is_unevaluated_items, is_unevaluated_properties}
 use Rattle.js_eval.specs.Location.{Location}
+use Rattle.js_eval.specs.Note.{are_all_items}
 use Rattle.js_eval.specs.Result.{ResultTree, IsResult, StandsWithin, depth, size}
-use Rattle.js_eval.specs.Schemas.{Schemas}
+use Rattle.js_eval.specs.Schemas.{Text, Schemas}
 use Rattle.js_eval.specs.Size.{node_total}
 use Rattle.js_eval.specs.Verdict.{Known, within, Settled, gives_names, gives_indexes, evaluated_names, evaluated_indexes}
+use Rattle.js_eval.specs.declared.kind.Kind.{Kind}
+use Rattle.js_eval.specs.declared.kind.Kind.TheVariants.{PrefixItems, Contains}
 
 -- v is judged at a place, to which these places led
 
@@ -54,3 +59,25 @@ module _ {Place : Type 0} (S : Schemas Place) (above : List Place) (place : Plac
       ≡ evaluated_names S known above place v)
       × (flat_map (gives_indexes S known above place v) (filter (λ k. not (is_unevaluated_items (kind k.0))) (keywords (S.schema place)))
       ≡ evaluated_indexes S known above place v)
+
+-- ---- `true` of every item
+
+-- each of these items, of which there are some, is among those at these indexes
+abbrev pub are_each_among : List (ℕ × Value) → List ℕ → Bool
+are_each_among [] among = false
+are_each_among (e ∷ es) among = list_all (λ e. among_indexes e.0 among) (e ∷ es)
+
+abbrev pub is_every_item : Value → List ℕ → Bool
+is_every_item v among = are_each_among (indexed v) among
+
+-- That these are all items of an array that isn't empty is told by their number: of what `prefixItems` was applied to
+-- (10.3.1.1), and of what matches `contains` (10.3.1.3).
+module _ {Place : Type 0} (S : Schemas Place) (path : List Place) (place : Place) (v : Value) (siblings : Named) (condition : Option Bool) (names : List Text) (indexes : List ℕ) (k : Keyword) where
+  abbrev asked_of_items : Kind → List (Application Place)
+  asked_of_items κ = asks_of S path place siblings v condition names indexes k κ
+
+  pub record TellsEveryItem : Type 0 where
+    pub applied : are_all_items v (indexes_applied (asked_of_items PrefixItems)) ≡ is_every_item v (indexes_applied (asked_of_items PrefixItems))
+    pub matching :
+        (holds : Application Place → Bool)
+        → are_all_items v (indexes_applied (filter holds (asked_of_items Contains))) ≡ is_every_item v (indexes_applied (filter holds (asked_of_items Contains)))

@@ -1,10 +1,10 @@
 -- What a node of the result has to say: an error where it fails, an annotation where it passes, or nothing
--- (JSON Schema Core, sections 7.7, 10 to 12.3.4). The standard leaves the texts of errors open, and asks for
--- `prefixItems` and `contains` to be annotated by `true` where all items are: these are this project's own choices.
-use Rattle.std.specs.Prelude.{ℕ, List, [], ◌∷◌, ◌++◌, Bool, true, false, Option, Some, None, map, filter, length, codes, decimal}
+-- (JSON Schema Core, sections 7.7, 10 to 12.3.4). The standard leaves the texts of errors open, and lets `prefixItems` and
+-- `contains` say `true` where it is about every item: the texts, and that they always do, are this project's own choices.
+use Rattle.std.specs.Prelude.{ℕ, ◌==◌, List, [], ◌∷◌, ◌++◌, Bool, true, false, Option, Some, None, map, filter, length, codes, decimal, if◌then◌else◌}
 use Rattle.std.specs.Option.{option_map_or}
 use Rattle.js_doc.specs.Value.{Value, truth, list, object, Named}
-use Rattle.js_assert.specs.Argument.{entries}
+use Rattle.js_assert.specs.Argument.{values, entries}
 use Rattle.js_assert.specs.Assertion.{asserted}
 use Rattle.js_assert.specs.ErrorText as assertion
 pub use Rattle.js_tree.specs.Note.{Note, silent, error, value, names, index, indexes, truly}
@@ -31,6 +31,15 @@ abbrev pub largest : List ℕ → Note
 largest [] = silent
 largest (i ∷ []) = index i
 largest (i ∷ j ∷ js) = largest (j ∷ js)
+
+-- these are all items of an array that isn't empty: no keyword is applied to an item twice, so they are as many
+abbrev pub are_all_items : Value → List ℕ → Bool
+are_all_items v [] = false
+are_all_items v (i ∷ is) = length (i ∷ is) == length (values v)
+
+-- `true` where these are all items, else that note
+abbrev pub true_or : Bool → Note → Note
+true_or are_all note = if are_all then truly else note
 
 -- a note on arrays alone, and one on objects alone
 abbrev pub on_array : Value → Note → Note
@@ -61,10 +70,12 @@ module _ {Place : Type 0} (siblings : Named) (v : Value) (matching : ℕ) (k : K
 
   -- where it passes (10.3, 11)
   abbrev pub annotation_of : Kind → Note
-  -- 10.3.1: the largest index that it was applied to; whether it was applied to any item; the indexes of those that match
-  annotation_of PrefixItems = largest (indexes_applied apps)
+  -- 10.3.1.1: `true` if it was applied to every item, else the largest index that it was applied to
+  annotation_of PrefixItems = true_or (are_all_items v (indexes_applied apps)) (largest (indexes_applied apps))
+  -- 10.3.1.2: `true` if it was applied to any item
   annotation_of Items = if_any (indexes_applied apps)
-  annotation_of Contains = on_array v (indexes (indexes_applied holding))
+  -- 10.3.1.3: `true` if every item matches, else the indexes of those that do; of an empty array there are none
+  annotation_of Contains = on_array v (true_or (are_all_items v (indexes_applied holding)) (indexes (indexes_applied holding)))
   -- 10.3.2: the names of the members that it was applied to
   annotation_of Properties = on_object v (names (names_applied apps))
   annotation_of PatternProperties = on_object v (names (members_among v (names_applied apps)))

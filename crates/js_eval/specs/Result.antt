@@ -98,5 +98,11 @@ pub record StandsWithin (deepest most : ℕ) (t : ResultTree) : Type 0 where
   pub deep : depth t ≤ deepest
   pub many : size t ≤ most
 
+abbrev pub most_levels : ℕ
+most_levels = 512
+
+abbrev pub most_nodes : ℕ
+most_nodes = 1000000
+
 abbrev pub IsWithinLimits : ResultTree → Type 0
-IsWithinLimits = StandsWithin 256 100000
+IsWithinLimits = StandsWithin most_levels most_nodes

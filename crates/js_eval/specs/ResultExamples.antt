@@ -197,6 +197,31 @@ items_at_once_result = record {
       (tree (unit true (codes "/prefixItems/0") (codes "https://a.example/s#/prefixItems/0") (codes "/0") silent) empty empty) empty))));
 }
 
+-- ---- `true` of every item; of an array without items, no note and a list without indexes
+
+abbrev pub every_item_schema : Documents
+every_item_schema = document (codes "https://a.example/s") (obj ((codes "contains", truth true) ∷ (codes "minContains", num 0) ∷ (codes "prefixItems", arr ((truth true) ∷ (truth true) ∷ [])) ∷ []))
+
+abbrev pub every_item_result : ResultTree
+every_item_result = record {
+  root = unit true [] (codes "https://a.example/s#") [] silent;
+  below =
+      (tree (unit true (codes "/contains") (codes "https://a.example/s#/contains") [] truly)
+      (tree (unit true (codes "/contains") (codes "https://a.example/s#/contains") (codes "/0") silent) empty empty)
+      (tree (unit true (codes "/minContains") (codes "https://a.example/s#/minContains") [] silent) empty
+      (tree (unit true (codes "/prefixItems") (codes "https://a.example/s#/prefixItems") [] truly)
+      (tree (unit true (codes "/prefixItems/0") (codes "https://a.example/s#/prefixItems/0") (codes "/0") silent) empty empty) empty)));
+}
+
+abbrev pub no_item_result : ResultTree
+no_item_result = record {
+  root = unit true [] (codes "https://a.example/s#") [] silent;
+  below =
+      (tree (unit true (codes "/contains") (codes "https://a.example/s#/contains") [] (indexes [])) empty
+      (tree (unit true (codes "/minContains") (codes "https://a.example/s#/minContains") [] silent) empty
+      (tree (unit true (codes "/prefixItems") (codes "https://a.example/s#/prefixItems") [] silent) empty empty)));
+}
+
 -- ---- alternatives, and `false`
 
 abbrev pub alternatives_schema : Documents
@@ -237,14 +262,14 @@ into_a_document_result = record {
       (tree (unit false (codes "/$ref/type") (codes "https://a.example/t#/$defs/i/type") [] (error (codes "type is string"))) empty empty) empty) empty);
 }
 
--- ---- schemas of `not`, one within another: 256 of them stand on the way, and no less
+-- ---- schemas of `not`, one within another: 512 of them stand on the way, and no less
 
 abbrev pub chain : ℕ → Value
 chain zero = truth true
 chain (suc n) = not_of (chain n)
 
 abbrev pub ChainIsSettled : ℕ → Type 0
-ChainIsSettled n = Settled (one_document (chain 255)) n [] (chain 255) null
+ChainIsSettled n = Settled (one_document (chain 511)) n [] (chain 511) null
 
 -- ---- the documents and instances give these results
 
@@ -257,7 +282,9 @@ pub record GiveTheseResults : Type 0 where
   pub members : IsResultOf members_schema members_instance members_result
   pub dependent : IsResultOf dependent_schema dependent_instance dependent_result
   pub items_at_once : IsResultOf items_at_once_schema items_at_once_instance items_at_once_result
+  pub every_item : IsResultOf every_item_schema (arr (num 1 ∷ [])) every_item_result
+  pub no_item : IsResultOf every_item_schema (arr []) no_item_result
   pub alternatives : IsResultOf alternatives_schema alternatives_instance alternatives_result
   pub into_a_document : IsResultOf into_a_document_schema into_a_document_instance into_a_document_result
-  pub within_256 : ChainIsSettled 256
-  pub not_within_255 : ChainIsSettled 255 → ⊥
+  pub within_512 : ChainIsSettled 512
+  pub not_within_511 : ChainIsSettled 511 → ⊥

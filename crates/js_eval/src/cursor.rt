@@ -3,7 +3,7 @@ ghost use Rattle.std.specs.Prelude.{◌≡◌, ◌&&◌, ◌∷◌, [], IfOk, Ma
 ghost use Rattle.js_bundle.specs.Document.{Documents};
 ghost use Rattle.js_bundle.specs.Schemas.{is_place};
 ghost use Rattle.js_eval.specs.Applied.{applied_of};
-ghost use Rattle.js_eval.specs.Asked.{asked, items_of_asking, members_of_asking, one_of_asking, patterns_of_asking};
+ghost use Rattle.js_eval.specs.Asked.{asked, items_of_asking, members_of_asking, one_of_asking, patterns_of_asking, properties_of_asking};
 ghost use Rattle.js_eval.specs.Schemas as spec;
 ghost use Rattle.js_eval.specs.Seen.{instance_of};
 ghost use Rattle.js_eval.specs.Sited.{site_at};
@@ -12,6 +12,7 @@ use crate::item_cursor::{ItemCursor, next_on_item};
 use crate::member_cursor::{MemberCursor, next_on_member};
 use crate::parts::{Applied, Instance, Step};
 use crate::pattern_cursor::{PatternCursor, next_matching};
+use crate::property_cursor::{PropertyCursor, next_on_property};
 use js_bundle::{Place, Schemas};
 use js_doc::Memory;
 use std::alloc::Global;
@@ -23,6 +24,7 @@ pub(crate) enum Asking<'a> {
     One(Option<Applied<'a>>),
     Items(ItemCursor<'a>),
     Members(MemberCursor<'a>),
+    Properties(PropertyCursor<'a>),
     Patterns(PatternCursor<'a>),
 }
 
@@ -55,7 +57,8 @@ pub(crate) fn next_asked<'a>(
     match asking {
         Asking::One(one) => Ok(next_alone(schemas, one)),
         Asking::Items(items) => Ok(next_item(schemas, items)),
-        Asking::Members(members) => next_member(alloc, schemas, members),
+        Asking::Members(members) => Ok(next_member(schemas, members)),
+        Asking::Properties(properties) => Ok(next_property(schemas, properties)),
         Asking::Patterns(patterns) => next_pattern(alloc, schemas, patterns),
     }
 }
@@ -87,19 +90,26 @@ fn next_item<'a>(schemas: &Schemas, items: &mut ItemCursor<'a>) -> Option<Applie
     next_on_item(schemas, items)
 }
 
-fn next_member<'a>(
-    alloc: Global,
-    schemas: &Schemas,
-    members: &mut MemberCursor<'a>,
-) -> Result<Option<Applied<'a>>, Memory>
-    ensures next { IfOk result (λ o. MatchOption o (members_of_asking schemas.now members.old ≡ [])
-        (λ a. members_of_asking schemas.now members.old ≡ applied_of schemas.now a ∷ members_of_asking schemas.now members.new)) }
-    ensures is { IfOk result (λ o. MatchOption o (Unit {0}) (λ a. is_place schemas.now a.place ≡ true)) }
+fn next_member<'a>(schemas: &Schemas, members: &mut MemberCursor<'a>) -> Option<Applied<'a>>
+    ensures next { MatchOption result (members_of_asking schemas.now members.old ≡ [])
+        (λ a. members_of_asking schemas.now members.old ≡ applied_of schemas.now a ∷ members_of_asking schemas.now members.new) }
+    ensures is { MatchOption result (Unit {0}) (λ a. is_place schemas.now a.place ≡ true) }
 {
     if !schemas.has(members.held.number()) {
-        return Ok(None);
+        return None;
     }
-    next_on_member(alloc, schemas, members)
+    next_on_member(schemas, members)
+}
+
+fn next_property<'a>(schemas: &Schemas, properties: &mut PropertyCursor<'a>) -> Option<Applied<'a>>
+    ensures next { MatchOption result (properties_of_asking schemas.now properties.old ≡ [])
+        (λ a. properties_of_asking schemas.now properties.old ≡ applied_of schemas.now a ∷ properties_of_asking schemas.now properties.new) }
+    ensures is { MatchOption result (Unit {0}) (λ a. is_place schemas.now a.place ≡ true) }
+{
+    if !schemas.has(properties.place) {
+        return None;
+    }
+    next_on_property(schemas, properties)
 }
 
 fn next_pattern<'a>(

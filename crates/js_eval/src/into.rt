@@ -14,8 +14,8 @@ use js_tree::{Boxed, Collector, Tree};
 use std::alloc::Global;
 use std::marker::PhantomData;
 
-/// Judges the value at the place, and hands the result to the collector, node by node, as it is made: 256 schemas may stand on a
-/// way, and the result may have 100,000 nodes.
+/// Judges the value at the place, and hands the result to the collector, node by node, as it is made: 512 schemas may stand on a
+/// way, and the result may have 1,000,000 nodes.
 ///
 /// # Errors
 /// `Memory`; `TooLarge` exactly where no result stands within the limits. The collector comes back with the fault; nothing is
@@ -50,7 +50,7 @@ pub fn walk_into<'a, C: Collector<'a>>(
 /// The result of judging the value at the place (JSON Schema Core, section 12.4.4).
 ///
 /// # Errors
-/// `Memory`; `TooLarge` exactly where no result stands within 256 schemas on a way and 100,000 nodes.
+/// `Memory`; `TooLarge` exactly where no result stands within 512 schemas on a way and 1,000,000 nodes.
 pub fn walk<'a>(
     alloc: Global,
     schemas: &'a Schemas,

@@ -1,10 +1,11 @@
 //! Laws of the definitions. Each is the contract of a function that does nothing.
-ghost use Rattle.std.specs.Prelude.{List};
-ghost use Rattle.js_doc.specs.Value.{Value as JsonValue};
+ghost use Rattle.std.specs.Prelude.{ℕ, Bool, List, Option};
+ghost use Rattle.js_doc.specs.Value.{Named, Value as JsonValue};
 ghost use Rattle.js_eval.specs.Examples.{Shown};
-ghost use Rattle.js_eval.specs.Laws.{AtMostOneResult, DepthIsLeast, LimitsAreExact, NoCircle, ResultExactlyIfSettled, SizeIsTotal, StaysSettled};
+ghost use Rattle.js_eval.specs.Laws.{AtMostOneResult, DepthIsLeast, LimitsAreExact, NoCircle, ResultExactlyIfSettled, SizeIsTotal, StaysSettled, TellsEveryItem};
+ghost use Rattle.js_eval.specs.Keywords.{Keyword};
 ghost use Rattle.js_eval.specs.ResultExamples.{GiveTheseResults};
-ghost use Rattle.js_eval.specs.Schemas.{Schemas};
+ghost use Rattle.js_eval.specs.Schemas.{Schemas, Text};
 
 /// What is settled within a number of schemas on a way is settled alike within each greater number.
 pub fn settled_stays<Place>()
@@ -30,12 +31,19 @@ pub fn no_circle<Place>()
     ensures { (S : Schemas Place) (above : List Place) (place : Place) (v : JsonValue) → NoCircle S above place v }
 {}
 
+/// That `prefixItems` was applied to every item of an array that isn't empty, or that every item matches `contains`, is told by
+/// the number of items.
+pub fn every_item<Place>()
+    ensures { (S : Schemas Place) (path : List Place) (place : Place) (v : JsonValue) (siblings : Named) (condition : Option Bool) (names : List Text) (indexes : List ℕ) (k : Keyword)
+        → TellsEveryItem S path place v siblings condition names indexes k }
+{}
+
 /// The definitions say of some schemas and instances what the standard says of them.
 pub fn examples()
     ensures { Shown }
 {}
 
-/// Documents and instances give whole results, told node by node; 256 schemas on a way are within the limit, and a chain of so many
+/// Documents and instances give whole results, told node by node; 512 schemas on a way are within the limit, and a chain of so many
 /// isn't settled within one less.
 pub fn results()
     ensures { GiveTheseResults }

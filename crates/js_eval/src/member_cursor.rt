@@ -22,7 +22,8 @@ ghost use Rattle.js_eval.specs.Sited.{site_at};
 use crate::applied::{Held, To, apply};
 use crate::name_set::{is_in, set_of};
 use crate::parts::{Applied, Instance, Step, argument_in, members_in};
-use js_assert::Pattern;
+use crate::searchers::Searchers;
+use js_assert::{Pattern, Searcher};
 use js_bundle::{Place, Schemas};
 use js_doc::{Doc, Members, Memory};
 use std::alloc::Global;
@@ -41,12 +42,12 @@ pub(crate) enum Choice<'a> {
     Except(BTreeSet<&'a str>),
 }
 
-/// The arguments of the adjacent `properties` and `patternProperties`, where they are objects.
-#[derive(Clone, Copy)]
+/// What the adjacent keywords speak of: the argument of `properties`, where it is an object, and what searches with each pattern
+/// of `patternProperties`.
+#[derive(Drop)]
 pub(crate) struct Adjacent<'a> {
-    pub place: Place,
     pub properties: Option<&'a Members>,
-    pub patterns: Option<&'a Members>,
+    pub searchers: Searchers<'a>,
 }
 
 /// The members that a keyword is still to ask for.
@@ -56,26 +57,6 @@ pub(crate) struct MemberCursor<'a> {
     pub to: To<'a>,
     pub members: Iter<'a, String, Doc>,
     pub choice: Choice<'a>,
-}
-
-/// The schema of each name that is a member's, on the member.
-pub(crate) fn each_named<'a>(
-    place: Place,
-    keyword: &'a str,
-    named: &'a Members,
-    members: &'a Members,
-) -> MemberCursor<'a>
-    ensures asked { (documents : Documents) → members_asked documents result
-        ≡ map (λ m. application (schemas_of documents) (site_at documents place) keyword.now (spec.Name m.0) (spec.Name m.0) m.1)
-        (filter (λ m. has m.0 named.now) members.now) }
-    ensures number { number_in result.held ≡ place }
-{
-    MemberCursor {
-        held: Held::Each(place, keyword),
-        to: To::Part,
-        members: members.pairs(),
-        choice: Choice::Named(named),
-    }
 }
 
 /// The schema of each name that is a member's, on the value itself.
@@ -114,29 +95,64 @@ pub(crate) fn each_name<'a>(below: Place, members: &'a Members) -> MemberCursor<
     }
 }
 
-/// The schema at a place, on each member of which the adjacent keywords don't speak.
+/// The schema at a place, on each member of which the adjacent keywords don't speak. `patterns` are those of `place`.
+///
+/// # Errors
+/// `Memory`.
 pub(crate) fn each_additional<'a>(
+    alloc: Global,
+    schemas: &'a Schemas,
     below: Place,
     place: Place,
     properties: Option<&'a Members>,
     patterns: Option<&'a Members>,
     members: &'a Members,
-) -> MemberCursor<'a>
-    ensures asked { (documents : Documents) → members_asked documents result
+) -> Result<MemberCursor<'a>, Memory>
+    ensures asked { IfOk result (λ c. (documents : Documents) → members_asked documents c
         ≡ map (λ m. record { place = site_at documents below; step = spec.Alone; at = spec.Name m.0; value = m.1 })
-        (filter (λ m. not (is_named properties.entry m.0 || is_matched patterns.entry m.0)) members.now) }
-    ensures number { number_in result.held ≡ below }
+        (filter (λ m. not (is_named properties.entry m.0 || is_matched patterns.entry m.0)) members.now)) }
+    ensures number { IfOk result (λ c. number_in c.held ≡ below) }
 {
-    MemberCursor {
+    let searchers = searchers(alloc, schemas, place, patterns)?;
+    Ok(MemberCursor {
         held: Held::One(below),
         to: To::Part,
         members: members.pairs(),
         choice: Choice::Additional(Adjacent {
-            place,
             properties,
-            patterns,
+            searchers,
         }),
+    })
+}
+
+// What searches with each of the patterns of the place.
+fn searchers<'a>(
+    alloc: Global,
+    schemas: &'a Schemas,
+    place: Place,
+    patterns: Option<&'a Members>,
+) -> Result<Searchers<'a>, Memory>
+    ensures { IfOk result (λ s. s ≡ map (λ p. p.0) (named_in patterns.entry)) }
+{
+    match patterns {
+        Some(patterns) => searchers_of(alloc, schemas, place, patterns),
+        None => Ok(Searchers::new(alloc)),
     }
+}
+
+fn searchers_of<'a>(
+    alloc: Global,
+    schemas: &'a Schemas,
+    place: Place,
+    patterns: &'a Members,
+) -> Result<Searchers<'a>, Memory>
+    ensures { IfOk result (λ s. s ≡ map (λ p. p.0) patterns.now) }
+{
+    let mut made = Searchers::new(alloc);
+    for (name, _) in patterns.pairs() {
+        made.push(searcher_of(alloc, schemas, place, name.as_str())?)?;
+    }
+    Ok(made)
 }
 
 /// The schema at a place, on each member that isn't among these.
@@ -174,87 +190,71 @@ pub(crate) fn object_at<'a>(schema: &'a Doc, keyword: &str) -> Option<&'a Member
 }
 
 /// The next application.
-///
-/// # Errors
-/// `Memory`: a pattern is searched for.
 pub(crate) fn next_on_member<'a>(
-    alloc: Global,
     schemas: &Schemas,
     cursor: &mut MemberCursor<'a>,
-) -> Result<Option<Applied<'a>>, Memory>
+) -> Option<Applied<'a>>
     requires { IsHeld schemas.now cursor.old.held }
-    ensures next { IfOk result (λ o. MatchOption o (members_asked schemas.now cursor.old ≡ [])
-        (λ a. members_asked schemas.now cursor.old ≡ applied_of schemas.now a ∷ members_asked schemas.now cursor.new)) }
-    ensures is { IfOk result (λ o. MatchOption o (Unit {0}) (λ a. is_place schemas.now a.place ≡ true)) }
+    ensures next { MatchOption result (members_asked schemas.now cursor.old ≡ [])
+        (λ a. members_asked schemas.now cursor.old ≡ applied_of schemas.now a ∷ members_asked schemas.now cursor.new) }
+    ensures is { MatchOption result (Unit {0}) (λ a. is_place schemas.now a.place ≡ true) }
     ensures held { cursor.new.held ≡ cursor.old.held }
 {
-    match next_member(alloc, schemas, &cursor.choice, &mut cursor.members)? {
-        Some((name, member)) => Ok(Some(apply(
+    match next_member(&mut cursor.choice, &mut cursor.members) {
+        Some((name, member)) => Some(apply(
             schemas,
             &cursor.held,
             &cursor.to,
             Step::Name(name),
             member,
-        ))),
-        None => Ok(None),
+        )),
+        None => None,
     }
 }
 
 // The next member that is chosen.
 fn next_member<'a>(
-    alloc: Global,
-    schemas: &Schemas,
-    choice: &Choice<'a>,
+    choice: &mut Choice<'a>,
     members: &mut Iter<'a, String, Doc>,
-) -> Result<Option<(&'a str, &'a Doc)>, Memory>
-    ensures { IfOk result (λ o. MatchOption o (members_left choice.now members.old ≡ [])
-        (λ m. members_left choice.now members.old ≡ (m.0.now, value_of m.1.now) ∷ members_left choice.now members.new)) }
+) -> Option<(&'a str, &'a Doc)>
+    ensures same { choice.new ≡ choice.old }
+    ensures next { MatchOption result (members_left choice.old members.old ≡ [])
+        (λ m. members_left choice.old members.old ≡ (m.0.now, value_of m.1.now) ∷ members_left choice.old members.new) }
 {
     while let Some((name, member)) = members.next() {
         let name = name.as_str();
-        if is_chosen(alloc, schemas, choice, name)? {
-            return Ok(Some((name, member)));
+        if is_chosen(choice, name) {
+            return Some((name, member));
         }
     }
-    Ok(None)
+    None
 }
 
-fn is_chosen(
-    alloc: Global,
-    schemas: &Schemas,
-    choice: &Choice<'_>,
-    name: &str,
-) -> Result<bool, Memory>
-    ensures { IfOk result (λ b. b ≡ chosen choice.now name.now) }
+fn is_chosen(choice: &mut Choice<'_>, name: &str) -> bool
+    ensures chosen { result ≡ chosen choice.old name.now }
+    ensures same { choice.new ≡ choice.old }
 {
     match choice {
-        Choice::All => Ok(true),
-        Choice::Named(named) => Ok(named.get(name).is_some()),
-        Choice::Additional(adjacent) => Ok(!is_spoken_of(alloc, schemas, adjacent, name)?),
-        Choice::Except(names) => Ok(!is_in(names, name)),
+        Choice::All => true,
+        Choice::Named(named) => named.get(name).is_some(),
+        Choice::Additional(adjacent) => !is_spoken_of(adjacent, name),
+        Choice::Except(names) => !is_in(names, name),
     }
 }
 
 // The adjacent keywords speak of the name.
-fn is_spoken_of(
-    alloc: Global,
-    schemas: &Schemas,
-    adjacent: &Adjacent<'_>,
-    name: &str,
-) -> Result<bool, Memory>
-    ensures { IfOk result (λ b. b ≡ (is_named adjacent.now.properties name.now || is_matched adjacent.now.patterns name.now)) }
+fn is_spoken_of(adjacent: &mut Adjacent<'_>, name: &str) -> bool
+    ensures spoken { result ≡ (is_named adjacent.old.properties name.now || list_any (λ p. matches p name.now) adjacent.old.searchers) }
+    ensures same { adjacent.new ≡ adjacent.old }
 {
-    if is_named(adjacent.properties, name) {
-        return Ok(true);
+    if is_named(&adjacent.properties, name) {
+        return true;
     }
-    match adjacent.patterns {
-        Some(patterns) => matches_any(alloc, schemas, adjacent.place, patterns, name),
-        None => Ok(false),
-    }
+    adjacent.searchers.any_holds(name)
 }
 
-fn is_named(properties: Option<&Members>, name: &str) -> bool
-    ensures { result ≡ is_named properties.entry name.now }
+fn is_named(properties: &Option<&Members>, name: &str) -> bool
+    ensures { result ≡ is_named properties.now name.now }
 {
     match properties {
         Some(named) => named.get(name).is_some(),
@@ -262,45 +262,27 @@ fn is_named(properties: Option<&Members>, name: &str) -> bool
     }
 }
 
-fn matches_any(
+/// What searches with the pattern of this name among the `patternProperties` of the place.
+///
+/// # Errors
+/// `Memory`.
+// What a search works with is large until it is boxed: that takes a frame of its own, not one of each level of the walk.
+#[inline(never)]
+pub(crate) fn searcher_of<'s>(
     alloc: Global,
-    schemas: &Schemas,
-    place: Place,
-    patterns: &Members,
-    name: &str,
-) -> Result<bool, Memory>
-    ensures { IfOk result (λ b. b ≡ list_any (λ p. matches p.0 name.now) patterns.now) }
-{
-    for (pattern, _) in patterns.pairs() {
-        if matches(alloc, schemas, place, pattern.as_str(), name)? {
-            return Ok(true);
-        }
-    }
-    Ok(false)
-}
-
-// Whether a pattern of the place's `patternProperties` matches somewhere in a name.
-fn matches(
-    alloc: Global,
-    schemas: &Schemas,
+    schemas: &'s Schemas,
     place: Place,
     pattern: &str,
-    name: &str,
-) -> Result<bool, Memory>
-    ensures { IfOk result (λ b. b ≡ matches pattern.now name.now) }
+) -> Result<Searcher<'s>, Memory>
+    ensures { IfOk result (λ s. s ≡ pattern.now) }
 {
     match pattern_of(schemas, place, pattern) {
-        Some(built) => built.holds(alloc, name),
+        Some(pattern) => pattern.searcher(alloc),
         None => Err(Memory), // never: each pattern of finished schemas is built
     }
 }
 
-/// The pattern of this name among the `patternProperties` of the place.
-pub(crate) fn pattern_of<'s>(
-    schemas: &'s Schemas,
-    place: Place,
-    pattern: &str,
-) -> Option<&'s Pattern>
+fn pattern_of<'s>(schemas: &'s Schemas, place: Place, pattern: &str) -> Option<&'s Pattern>
     ensures { MatchOption result (Unit {0}) (λ p. p.now ≡ pattern.now) }
 {
     if schemas.has(place) {

@@ -17,11 +17,10 @@ ghost use Rattle.js_eval.specs.Sited.{site_at};
 use crate::bundled::below;
 use crate::cursor::Asking;
 use crate::keyword::Keyword;
-use crate::member_cursor::{
-    each_additional, each_in_place, each_name, each_named, each_other, object_at,
-};
+use crate::member_cursor::{each_additional, each_in_place, each_name, each_other, object_at};
 use crate::parts::{Instance, Step, members_in};
 use crate::pattern_cursor::each_matching;
+use crate::property_cursor::each_property;
 use js_bundle::{Place, Schemas};
 use js_doc::{Doc, Memory};
 use std::alloc::Global;
@@ -63,7 +62,7 @@ pub(crate) fn properties<'a>(
         return Asking::One(None);
     };
     match value.members() {
-        Some(members) => Asking::Members(each_named(place, keyword.name, named, members)),
+        Some(members) => each_property(place, keyword.name, named, members),
         None => Asking::One(None),
     }
 }
@@ -90,27 +89,30 @@ pub(crate) fn patterns<'a>(
 }
 
 /// What `additionalProperties` asks for.
+///
+/// # Errors
+/// `Memory`.
 pub(crate) fn additional<'a>(
-    schemas: &Schemas,
+    alloc: Global,
+    schemas: &'a Schemas,
     place: Place,
     keyword: &str,
     schema: &'a Doc,
     value: Instance<'a>,
-) -> Asking<'a>
+) -> Result<Asking<'a>, Memory>
     requires { is_place schemas.now place ≡ true }
-    ensures { asked schemas.now result
+    ensures { IfOk result (λ a. asked schemas.now a
         ≡ map (λ m. application (schemas_of schemas.now) (site_at schemas.now place) keyword.now spec.Alone (spec.Name m.0) m.1)
-        (filter (λ m. not (is_property (entries (value_of schema.now)) m.0 || matches_pattern (entries (value_of schema.now)) m.0)) (entries (instance_of value.entry))) }
+        (filter (λ m. not (is_property (entries (value_of schema.now)) m.0 || matches_pattern (entries (value_of schema.now)) m.0)) (entries (instance_of value.entry)))) }
 {
+    let Some(members) = value.members() else {
+        return Ok(Asking::One(None));
+    };
     let below = below(schemas, place, keyword, Step::Alone);
     let properties = object_at(schema, "properties");
     let patterns = object_at(schema, "patternProperties");
-    match value.members() {
-        Some(members) => Asking::Members(each_additional(
-            below, place, properties, patterns, members,
-        )),
-        None => Asking::One(None),
-    }
+    let members = each_additional(alloc, schemas, below, place, properties, patterns, members)?;
+    Ok(Asking::Members(members))
 }
 
 /// What `propertyNames` asks for.

@@ -93,7 +93,7 @@ fn annotation_of<'a>(
         → IfOk result (λ n. note_of n ≡ keyword_says siblings (instance_of value.entry) matching (keyword_of keyword.entry) held (texts_of names.now) indexes.now true kind) }
 {
     match kind {
-        Kind::PrefixItems => Ok(largest(indexes)),
+        Kind::PrefixItems => Ok(true_or_largest(value, indexes)),
         Kind::Items => Ok(if_any(indexes)),
         Kind::Contains => matching_items(alloc, value, indexes),
         Kind::Properties => members_applied(alloc, value, names),
@@ -156,6 +156,27 @@ fn error_or_none<'a>(error: Option<String>) -> Note<'a>
     }
 }
 
+// `true` where a schema was applied to every item, else the largest index.
+fn true_or_largest<'a>(value: Instance<'a>, indexes: &[usize]) -> Note<'a>
+    ensures { note_of result ≡ spec.true_or (spec.are_all_items (instance_of value.entry) indexes.now) (spec.largest indexes.now) }
+{
+    if are_all_items(value, indexes) {
+        Note::Truth
+    } else {
+        largest(indexes)
+    }
+}
+
+// Whether these are all items of an array that isn't empty.
+fn are_all_items(value: Instance<'_>, indexes: &[usize]) -> bool
+    ensures { result ≡ spec.are_all_items (instance_of value.entry) indexes.now }
+{
+    match indexes.last() {
+        Some(_) => indexes.len() == value.items().len(),
+        None => false,
+    }
+}
+
 // The largest index that a schema was applied to, which is the last.
 fn largest<'a>(indexes: &[usize]) -> Note<'a>
     ensures { note_of result ≡ spec.largest indexes.now }
@@ -176,20 +197,29 @@ fn if_any<'a>(indexes: &[usize]) -> Note<'a>
     }
 }
 
-// The indexes of the items that match.
+// `true` where every item of an array matches, else the indexes of those that do.
 fn matching_items<'a>(
     alloc: Global,
     value: Instance<'a>,
     indexes: &[usize],
 ) -> Result<Note<'a>, Memory>
-    ensures { IfOk result (λ n. note_of n ≡ spec.on_array (instance_of value.entry) (spec.indexes indexes.now)) }
+    ensures { IfOk result (λ n. note_of n ≡ spec.on_array (instance_of value.entry)
+        (spec.true_or (spec.are_all_items (instance_of value.entry) indexes.now) (spec.indexes indexes.now))) }
 {
+    let are_all = are_all_items(value, indexes);
     match value {
-        Instance::Doc(Doc::List(_)) => {
-            Ok(Note::Indexes(Indexes::new(as_numbers(alloc, indexes)?)))
-        }
+        Instance::Doc(Doc::List(_)) => true_or_indexes(alloc, are_all, indexes),
         _ => Ok(Note::Silent),
     }
+}
+
+fn true_or_indexes<'a>(alloc: Global, are_all: bool, indexes: &[usize]) -> Result<Note<'a>, Memory>
+    ensures { IfOk result (λ n. note_of n ≡ spec.true_or are_all (spec.indexes indexes.now)) }
+{
+    if are_all {
+        return Ok(Note::Truth);
+    }
+    Ok(Note::Indexes(Indexes::new(as_numbers(alloc, indexes)?)))
 }
 
 fn as_numbers(alloc: Global, indexes: &[usize]) -> Result<Vec<u64>, Memory>

@@ -58,11 +58,6 @@ opens (Some t) old new o h e f = cc
 abbrev tree_of : OpenNode → Bool → Note → ResultTree
 tree_of o valid note = record { root = unit_of (frame_of o) valid note; below = (frame_of o).below }
 
--- the only node that is open closes
-pub root_closes : (found : Option ResultTree) (old : List OpenNode) (o : OpenNode) (valid : Bool) (note : Note) (t : ResultTree) → old ≡ o ∷ [] → t ≡ tree_of o valid note
-    → holding (Some t) [] ≡ boxed_closed found (frames_of old []) valid note
-root_closes found old o valid note t e f = ap (λ u. holding (Some u) []) f ∙ ap (λ xs. boxed_closed found (frames_of xs []) valid note) (sym e)
-
 -- the innermost node closes below p, which is then q
 pub closes : (found : Option ResultTree) (old rest : List OpenNode) (o p q : OpenNode) (valid : Bool) (note : Note) (t : ResultTree) → old ≡ (rest ++ p ∷ []) ++ o ∷ [] → t ≡ tree_of o valid note
     → q.head ≡ p.head → q.children.items ≡ p.children.items ++ t ∷ []

@@ -21,6 +21,7 @@ pub mod NodeTexts
 pub mod NotedRows
 pub mod Pieces
 pub mod Searching
+pub mod SeenTrees
 pub mod Siblings
 pub mod Steps
 pub mod Telling

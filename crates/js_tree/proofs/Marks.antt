@@ -299,9 +299,6 @@ remaining_all rows first end n trees nodes i h k f rest d c =
     let q = t.4 in
     (omega (arith, p, a), omega (arith, q, b))
 
-pub remaining_start : (rows : List Row) (first end : ℕ) → IsRemaining rows first end first 0 0
-remaining_start rows first end k f rest d c = (f, d, c, omega arith, omega arith)
-
 -- what is counted stays within the rows
 pub remaining_fits : (rows : List Row) (first end n trees nodes : ℕ) (x : Row) → AreMarkedTrees rows first end → IsRemaining rows first end n trees nodes → n < end → end ≤ length rows → x ≡ get_or rows n x
     → (n + x.size ≤ end) × (n < n + x.size) × (nodes + x.room ≤ end) × (0 < x.room → trees + 1 ≤ end)
@@ -409,14 +406,6 @@ stays_here k rows count i d new c l e f =
     ∙ (append_assoc (map row_of (take count rows)) (row_of new ∷ []) (gathered k 0 (drop (i + 1) rows))
     ∙ (ap (λ y. map row_of (take count rows) ++ y ∷ gathered k 0 (drop (i + 1) rows)) f
     ∙ ap (λ xs. map row_of (take count rows) ++ xs) (sym g)))))
-
-gathered_none : (k : Keep) (n : ℕ) → gathered k n [] ≡ []
-gathered_none k zero = refl
-gathered_none k (suc n) = refl
-
--- all rows are gone past
-pub gathered_all : (k : Keep) (rows : List Row) (n : ℕ) (fs gs : List FlatRow) → fs ++ gathered k n (drop (length rows) rows) ≡ gs → fs ≡ gs
-gathered_all k rows n fs gs e = sym (append-nil fs) ∙ (ap (λ xs. fs ++ xs) (sym (ap (gathered k n) (drop-length rows) ∙ gathered_none k n)) ∙ e)
 
 -- ---- the whole
 

@@ -1,7 +1,7 @@
 -- Where trees end, and whether rows are those of trees.
 use Rattle.std.proofs.Common.{◌≡◌, ℕ, zero, suc, ◌+◌, ◌-◌, ◌≤◌, ◌<◌, Bool, true, false, ltb, ◌==◌, if◌then◌else◌, List, [], ◌∷◌, length, drop, map, get_or, refl, ap, sym, ◌∙◌, arith}
 use Rattle.std.proofs.lemmas.Bool.Decides.{nat_tests}
-use Rattle.std.proofs.lemmas.Bool.{lt-ltb, le-ltb, ltb-false}
+use Rattle.std.proofs.lemmas.Bool.{le-ltb, ltb-false}
 use Rattle.std.proofs.lemmas.List.{drop_more}
 use Rattle.js_tree.specs.Flat.{flat, flat_of}
 use Rattle.js_tree.specs.FlatState.{row_of}
@@ -38,10 +38,6 @@ ends_at (suc n) u below after h =
     let m : suc n - suc (node_count below) ≡ n - node_count below = omega arith in
     rw (m, le-ltb n (node_count below) (omega (arith, h))) refl
 
-pub ends_within : (n : ℕ) (u : OutputUnit) (below after : Forest OutputUnit) → 0 < n → n < suc (node_count below) → ends_after n (tree u below after) ≡ false
-ends_within zero u below after p h = absurd (omega (arith, p))
-ends_within (suc n) u below after p h = rw (lt-ltb n (node_count below) (omega (arith, h))) refl
-
 pub ends_there : (f g : Forest OutputUnit) → ends_after (node_count f) (f ⊹ g) ≡ true
 ends_there empty g = refl
 ends_there (tree u below after) g =
@@ -57,12 +53,6 @@ goes_on rows n left all f g x e lt is fits same =
     let t = first_tree rows n g x e lt is in
     let m : left - x.size ≡ left - suc (node_count t.below) = omega (arith, t.size) in
     (t.after, t.more, ap (λ n. ends_after n t.after) m ∙ (sym (ends_at left t.unit t.below t.after (omega (arith, t.size, fits))) ∙ (ap (ends_after left) (sym t.is) ∙ same)))
-
--- the next tree goes past the end
-pub goes_past : (rows : List Row) (n left : ℕ) (g : Forest OutputUnit) (x : Row) → map row_of (drop n rows) ≡ flat_of g → n < length rows → x ≡ get_or rows n x → 0 < left → left < x.size → ends_after left g ≡ false
-goes_past rows n left g x e lt is some past =
-    let t = first_tree rows n g x e lt is in
-    ap (ends_after left) t.is ∙ ends_within left t.unit t.below t.after some (omega (arith, t.size, past))
 
 ends_nowhere : (n : ℕ) (f : Forest OutputUnit) → 0 < n → f ≡ empty → ends_after n f ≡ false
 ends_nowhere zero f h e = absurd (omega (arith, h))

@@ -37,18 +37,6 @@ errors_name : codes ",\"errors\":" ≡ 44 ∷ (quoted (codes "errors") ++ 58 ∷
 unfolding escape_byte
 errors_name = refl
 
-absolute_name : codes "{\"absoluteKeywordLocation\":" ≡ 123 ∷ (quoted (codes "absoluteKeywordLocation") ++ 58 ∷ [])
-unfolding escape_byte
-absolute_name = refl
-
-instance_name : codes ",\"instanceLocation\":" ≡ 44 ∷ (quoted (codes "instanceLocation") ++ 58 ∷ [])
-unfolding escape_byte
-instance_name = refl
-
-keyword_name : codes ",\"keywordLocation\":" ≡ 44 ∷ (quoted (codes "keywordLocation") ++ 58 ∷ [])
-unfolding escape_byte
-keyword_name = refl
-
 last_member : (valid : Bool) → compact_members true (members ((codes "valid", truth valid) ∷ [])) ≡ valid_text valid
 unfolding escape_byte
 last_member true = refl

@@ -3,6 +3,7 @@ pub mod BoxedState
 pub mod Coding
 pub mod Compacting
 pub mod Events
+pub mod Fingerprint
 pub mod Flat
 pub mod FlatState
 pub mod Forest

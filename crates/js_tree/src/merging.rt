@@ -1,5 +1,5 @@
 //! Condensing with a third rule: a node goes where an earlier sibling is alike.
-ghost use Rattle.std.specs.Prelude.{◌≡◌, ◌≤◌, ◌↔◌, ◌&&◌, IsTrue, if◌then◌else◌, length, take};
+ghost use Rattle.std.specs.Prelude.{◌≡◌, ◌≤◌, ◌↔◌, ◌&&◌, IsTrue, ◌<◌, if◌then◌else◌, length, take};
 ghost use Rattle.js_tree.specs.Alike.{same_but_keyword};
 ghost use Rattle.js_tree.specs.Forest.{empty, tree as node, forest_of};
 ghost use Rattle.js_tree.specs.Merged.{all_merged, firsts, given_trees, merged_below, none_alike};
@@ -8,8 +8,13 @@ ghost use Rattle.js_tree.specs.OutputUnit.{noted};
 ghost use Rattle.js_tree.specs.Result.{units};
 ghost use Rattle.js_tree.specs.Sublist.{Sublist, none_lost};
 
-use crate::likeness::comes_again;
+use crate::likeness::comes_first;
 use crate::tree::{Tree, Trees};
+
+/// From so many siblings on their fingerprints are looked up in a table of so many places, which stands on the stack.
+const MANY: usize = 512;
+
+const PLACES: usize = 262_144;
 
 /// The one tree in which every run of the three rules ends that can't be continued. Takes no memory.
 ///
@@ -81,9 +86,32 @@ fn keep_firsts(trees: &mut [Tree]) -> usize
     ensures at_most { result ≤ length trees.old }
     ensures firsts { forest_of (take result trees.new) ≡ firsts same_but_keyword (forest_of trees.old) }
 {
+    if trees.len() < MANY {
+        let mut table = [false];
+        return keep_firsts_by(trees, &mut table);
+    }
+    keep_firsts_of_many(trees)
+}
+
+// Never inlined: else the table stands on the stack once for each level.
+#[inline(never)]
+fn keep_firsts_of_many(trees: &mut [Tree]) -> usize
+    ensures at_most { result ≤ length trees.old }
+    ensures firsts { forest_of (take result trees.new) ≡ firsts same_but_keyword (forest_of trees.old) }
+{
+    let mut table = [false; PLACES];
+    keep_firsts_by(trees, &mut table)
+}
+
+/// The same by a table of the fingerprints that were seen.
+fn keep_firsts_by(trees: &mut [Tree], table: &mut [bool]) -> usize
+    requires { 0 < length table.old }
+    ensures at_most { result ≤ length trees.old }
+    ensures firsts { forest_of (take result trees.new) ≡ firsts same_but_keyword (forest_of trees.old) }
+{
     let mut count = 0;
     for i in 0..trees.len() {
-        if !comes_again(trees, count, i) {
+        if comes_first(trees, count, i, table) {
             trees.swap(count, i);
             count += 1;
         }
@@ -126,8 +154,29 @@ fn all_merged(trees: &[Tree]) -> bool
 fn siblings_differ(trees: &[Tree]) -> bool
     ensures { result ≡ none_alike same_but_keyword empty (forest_of trees.now) }
 {
+    if trees.len() < MANY {
+        let mut table = [false];
+        return differ_by(trees, &mut table);
+    }
+    differ_of_many(trees)
+}
+
+// Never inlined: else the table stands on the stack once for each level.
+#[inline(never)]
+fn differ_of_many(trees: &[Tree]) -> bool
+    ensures { result ≡ none_alike same_but_keyword empty (forest_of trees.now) }
+{
+    let mut table = [false; PLACES];
+    differ_by(trees, &mut table)
+}
+
+/// The same by a table of the fingerprints that were seen.
+fn differ_by(trees: &[Tree], table: &mut [bool]) -> bool
+    requires { 0 < length table.old }
+    ensures { result ≡ none_alike same_but_keyword empty (forest_of trees.now) }
+{
     for i in 0..trees.len() {
-        if comes_again(trees, i, i) {
+        if !comes_first(trees, i, i, table) {
             return false;
         }
     }

@@ -3,7 +3,7 @@ use Rattle.std.specs.Prelude.{◌≡◌, ℕ, Bool, true, false, List, []}
 use Rattle.std.proofs.Common.{sym, ◌∙◌, ap, arith, inl, inr}
 use Rattle.js_doc.specs.Value.{Value}
 use Rattle.js_eval.specs.Location.{at_root}
-use Rattle.js_eval.specs.Result.{ResultTree, IsResult, IsWithinLimits}
+use Rattle.js_eval.specs.Result.{ResultTree, IsResult, IsWithinLimits, most_levels, most_nodes}
 use Rattle.js_eval.specs.Schemas.{Schemas}
 use Rattle.js_eval.proofs.Limits.{settled_from_depth, depth_from_settled, size_from_settled}
 use Rattle.js_tree.specs.Events.{Event}
@@ -13,7 +13,7 @@ use Rattle.js_eval.specs.Walk.Told.{HasNone}
 use Rattle.js_eval.specs.declared.walking.way.Way.{Way}
 
 module _ {M C P : Type 0} (S : Schemas P) (text_of : M → List ℕ) (takes : C → Event → C → Type 0) (place : P) (v : Value) (n most : ℕ) where
-  pub led : (valid : Bool) (path : List P) (w w' : Way M) (c d : C) → path ≡ [] → n ≡ 256 → w.left ≡ 100000 → w.keyword ≡ [] → w.instance ≡ [] → NodeDone S text_of takes n path place v valid w w' c d → Leads S place v takes valid c d
+  pub led : (valid : Bool) (path : List P) (w w' : Way M) (c d : C) → path ≡ [] → n ≡ most_levels → w.left ≡ most_nodes → w.keyword ≡ [] → w.instance ≡ [] → NodeDone S text_of takes n path place v valid w w' c d → Leads S place v takes valid c d
   led valid path w w' c d p e l k i walk =
       let done = rw p at walk in
       let t = done.told at_root (record { schemas = k; value = i }) in
@@ -29,7 +29,7 @@ module _ {M C P : Type 0} (S : Schemas P) (text_of : M → List ℕ) (takes : C 
         passes = t.passes;
       }
 
-  pub none_led : (path : List P) (old : ℕ) → path ≡ [] → n ≡ 256 → old ≡ 100000 → HasNone S n path place v old → (t : ResultTree) → IsResult S [] place at_root v t → IsWithinLimits t → ⊥
+  pub none_led : (path : List P) (old : ℕ) → path ≡ [] → n ≡ most_levels → old ≡ most_nodes → HasNone S n path place v old → (t : ResultTree) → IsResult S [] place at_root v t → IsWithinLimits t → ⊥
   none_led path old p e l one t is stands =
       let none = rw p at one in
       let settled = settled_from_depth S is.bound n [] place at_root v t is.settled is.node (let d = stands.deep in omega (arith, d, e)) in

@@ -14,6 +14,12 @@ use crate::walking::world::World;
 use js_bundle::Place;
 use std::alloc::Global;
 
+/// How many nodes of schemas may stand on a way from the root.
+const MOST_LEVELS: usize = 512;
+
+/// How many nodes a result may have.
+const MOST_NODES: usize = 1_000_000;
+
 /// Judges a value at a place, and reports the result node by node.
 ///
 /// # Errors
@@ -34,11 +40,11 @@ pub(crate) fn walk_from<W: World, R: Reporter<W>>(
         path: Vec::new(alloc),
         keyword: Trail::new(alloc),
         instance: Trail::new(alloc),
-        left: 100000,
+        left: MOST_NODES,
         names: Vec::new(alloc),
         indexes: Vec::new(alloc),
     };
-    match node(alloc, world, &mut way, into, 256, place, value) {
+    match node(alloc, world, &mut way, into, MOST_LEVELS, place, value) {
         Ok(valid) => Ok(valid),
         Err(fault) => Err(fault),
     }

@@ -5,9 +5,11 @@ use Rattle.js_bundle.specs.Finding.{dynamic_at, number_of_target}
 use Rattle.js_bundle.specs.Index.{IsIndex}
 use Rattle.js_bundle.specs.Location.{location}
 use Rattle.js_bundle.specs.Resource.{sites}
+use Rattle.js_bundle.specs.ResourceTable.{AreRooted, IsResourceTable}
 use Rattle.js_bundle.specs.Scan.{site_of}
 use Rattle.js_bundle.specs.Seen.{document_of}
 use Rattle.js_bundle.specs.Spot.{spot}
+use Rattle.js_bundle.proofs.Rooted.{all_are_rooted}
 use Rattle.js_bundle.proofs.Whole.{lists_all, first_stops, second_stops, whole_clear}
 use Rattle.js_bundle.proofs.checked.check_whole.Goals as goal
 
@@ -85,3 +87,42 @@ returns-clause-index c =
     let first : map site_of c.as_slice.result.now ≡ sites ds =
     lists_all ds (map site_of c.as_slice.result.now) (ap (map site_of) c.as_slice.ensures.value ∙ c.in_ok-sites.ensures) c.in_ok-built.ensures.clear in
     subst (IsIndex c.in_ok-built.field-0.index) first c.in_ok-built.ensures.index
+
+pub resources_of-requires-clause-index : goal.resources_of-requires-clause-index
+resources_of-requires-clause-index c =
+    let ds = map document_of c.args.documents.now in
+    let first : map site_of c.as_slice.result.now ≡ sites ds =
+    lists_all ds (map site_of c.as_slice.result.now) (ap (map site_of) c.as_slice.ensures.value ∙ c.in_ok-sites.ensures) c.in_ok-built.ensures.clear in
+    let fourth : map site_of c.as_slice-4.result.now ≡ sites ds = ap (map site_of) (c.as_slice-4.ensures.value ∙ sym c.as_slice.ensures.value) ∙ first in
+    subst (IsIndex c.in_ok-built.field-0.index) (first ∙ sym fourth) c.in_ok-built.ensures.index
+
+pub resources_of-requires-clause-rooted : goal.resources_of-requires-clause-rooted
+resources_of-requires-clause-rooted c =
+    let ds = map document_of c.args.documents.now in
+    let first : map site_of c.as_slice.result.now ≡ sites ds =
+    lists_all ds (map site_of c.as_slice.result.now) (ap (map site_of) c.as_slice.ensures.value ∙ c.in_ok-sites.ensures) c.in_ok-built.ensures.clear in
+    let fourth : map site_of c.as_slice-4.result.now ≡ sites ds = ap (map site_of) (c.as_slice-4.ensures.value ∙ sym c.as_slice.ensures.value) ∙ first in
+    subst AreRooted (sym fourth) (all_are_rooted ds c.requires)
+
+pub returns-clause-resources : goal.returns-clause-resources
+returns-clause-resources c =
+    let ds = map document_of c.args.documents.now in
+    let first : map site_of c.as_slice.result.now ≡ sites ds =
+    lists_all ds (map site_of c.as_slice.result.now) (ap (map site_of) c.as_slice.ensures.value ∙ c.in_ok-sites.ensures) c.in_ok-built.ensures.clear in
+    let fourth : map site_of c.as_slice-4.result.now ≡ sites ds = ap (map site_of) (c.as_slice-4.ensures.value ∙ sym c.as_slice.ensures.value) ∙ first in
+    subst (IsResourceTable c.in_ok-resources.resources) fourth c.in_ok-resources.ensures
+
+pub returns-in_err-spots-clause-err : goal.returns-in_err-spots-clause-err
+returns-in_err-spots-clause-err c =
+    let p = err_from_is_err_and c.from_residual-in_err-spots.result c.from_residual-in_err-spots.ensures.1 in
+    rw (p.1, p.2) tt
+
+pub returns-in_err-edges-clause-err : goal.returns-in_err-edges-clause-err
+returns-in_err-edges-clause-err c =
+    let p = err_from_is_err_and c.from_residual-in_err-edges.result c.from_residual-in_err-edges.ensures.1 in
+    rw (p.1, p.2) tt
+
+pub returns-in_err-resources-clause-err : goal.returns-in_err-resources-clause-err
+returns-in_err-resources-clause-err c =
+    let p = err_from_is_err_and c.from_residual-in_err-resources.result c.from_residual-in_err-resources.ensures.1 in
+    rw (p.1, p.2) tt

@@ -23,7 +23,7 @@ scan_items-scan_schema-requires t c =
 pub scan_items-loop-i-preserved : goal.scan_items-loop-i-preserved
 scan_items-loop-i-preserved t c =
     let l = c.loop-i in
-    item_next c.args.document c.args.above.now.value c.args.pointer.now c.args.schemas.now l.i-counter c.index-schemas-i.result c.in_ok-at.at (map site_of l.out.items) (map site_of c.scan_schema.new.out.items) _
+    item_next c.args.document c.args.above.now.value c.args.pointer.now c.args.schemas.now l.i-counter c.index-schemas-i.result c.in_ok-at.at.value (map site_of l.out.items) (map site_of c.scan_schema.new.out.items) _
     (omega arith) c.index-schemas-i.is
     (c.in_ok-at.ensures ∙ ap (λ k. c.args.pointer.now ++ k ∷ []) (c.as_str.ensures.value ∙ c.in_ok-token.ensures.ok))
     c.in_ok-scan_schema.ensures l.invariant
@@ -65,7 +65,7 @@ scan_members-loop-name-preserved t c =
         l.invariant.split.0 ++ (c.in-Some.name.now, c.in-Some.schema.now) ∷ [],
         l.invariant.split.1 ∙ ap (λ es. l.invariant.split.0 ++ es) c.in-Some.ensures.steps ∙ sym (append_assoc l.invariant.split.0 ((c.in-Some.name.now, c.in-Some.schema.now) ∷ []) c.next.new.self),
       );
-      told = member_next c.args.document c.args.above.now.value c.args.pointer.now (string_bytes c.in-Some.name.now) (value_of c.in-Some.schema.now) (members (map pair_of c.next.new.self)) c.in_ok-at.at (map site_of l.out.items) (map site_of c.scan_schema.new.out.items) _
+      told = member_next c.args.document c.args.above.now.value c.args.pointer.now (string_bytes c.in-Some.name.now) (value_of c.in-Some.schema.now) (members (map pair_of c.next.new.self)) c.in_ok-at.at.value (map site_of l.out.items) (map site_of c.scan_schema.new.out.items) _
           (c.in_ok-at.ensures ∙ ap (λ k. c.args.pointer.now ++ k ∷ []) c.as_str.ensures.value) c.in_ok-scan_schema.ensures
           (subst (λ es. SameFront (map site_of l.out.items ++ sites_of_members c.args.document c.args.above.now.value c.args.pointer.now (members (map pair_of es))) (map site_of c.args.out.now.items ++ sites_of_members c.args.document c.args.above.now.value c.args.pointer.now (members (map pair_of c.into_iter-name-iterator.result)))) c.in-Some.ensures.steps l.invariant.told);
     }

@@ -8,7 +8,7 @@ use Rattle.js_assert.proofs.assertion.Assertion.read.Goals as goal
 
 pub returns-in_default-clause-pattern : goal.returns-in_default-clause-pattern
 returns-in_default-clause-pattern c = λ e.
-    let known : keyword_named c.args.keyword.now ≡ Some Pattern = ap keyword_named e ∙ named-pattern in absurd (cc (known, c.named.ensures, c.in_default.is))
+    let known : keyword_named c.args.keyword.now ≡ Some Pattern = ap keyword_named e ∙ named-pattern in absurd (cc (known, c.keyword_named.ensures, c.in_default.is))
 
 pub returns-in_err-test-clause-refused : goal.returns-in_err-test-clause-refused
 returns-in_err-test-clause-refused c =

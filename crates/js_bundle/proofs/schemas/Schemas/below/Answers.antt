@@ -1,5 +1,6 @@
-use Rattle.std.proofs.Common.{map, Some, None, if◌then◌else◌, ap, sym, subst, ◌∙◌}
-use Rattle.std.specs.List.{position_from}
+use Rattle.std.proofs.Common.{◌≡◌, true, map, Some, None, if◌then◌else◌, ap, sym, subst, ◌∙◌}
+use Rattle.std.specs.List.{list_all, position_from}
+use Rattle.js_bundle.specs.Edges.{leads_down, edges_under, AreAlone}
 use Rattle.js_bundle.specs.Index.{StandsFirst}
 use Rattle.js_bundle.specs.Place.{holding}
 use Rattle.js_bundle.specs.Schemas.{fits, step_of}
@@ -8,6 +9,7 @@ use Rattle.js_bundle.specs.Spot.{spot_of, stands_below}
 use Rattle.js_bundle.proofs.Finds.{finds_held}
 use Rattle.js_bundle.proofs.KeyedBelow.{kept_first}
 use Rattle.js_bundle.proofs.Held.{held_found}
+use Rattle.js_bundle.proofs.LeadingDown.{kept_alone, kept_down}
 use Rattle.js_bundle.proofs.schemas.Schemas.below.Goals as goal
 
 pub returns-in-Some-clause-found : goal.returns-in-Some-clause-found
@@ -38,5 +40,16 @@ returns-in-None-clause-held c =
 
 pub number_held-requires : goal.number_held-requires
 number_held-requires c =
-    let first = kept_first c.self.inside.kept.index.places (map document_of c.self.inside.documents.items) c.self.inside.kept.spots.items c.self.invariant.index.standing c.self.invariant.spots in
-    subst (λ ss. StandsFirst c.self.inside.kept.index.places (map spot_of ss)) (sym c.as_slice-spots.ensures.value) first
+    let spots = c.self.inside.kept.spots.items in
+    let docs = map document_of c.self.inside.documents.items in
+    let above = spot_of c.spot.result.now in
+    let same = sym c.as_slice-spots.ensures.value in
+    let first = kept_first c.self.inside.kept.index.places docs spots c.self.invariant.index.standing c.self.invariant.spots in
+    let alone = kept_alone docs spots c.self.invariant.read c.self.invariant.spots in
+    let down = kept_down c.self.inside.kept.edges.items spots docs c.args.self.now c.place.inside.number c.args.place above c.self.invariant.edges c.self.invariant.spots c.self.view_is c.place.view_is c.spot.ensures in
+    record {
+      first = subst (λ ss. StandsFirst c.self.inside.kept.index.places (map spot_of ss)) same first;
+      down = subst (λ ss. list_all (leads_down above (map spot_of ss)) c.edges_under-edges.result.now ≡ true) same
+          (ap (list_all (leads_down above (map spot_of spots))) (c.edges_under-edges.ensures ∙ ap (λ es. edges_under es c.place.inside.number) c.as_slice.ensures.value) ∙ down);
+      alone = subst (λ ss. AreAlone (map spot_of ss)) same alone;
+    }

@@ -1,4 +1,6 @@
-use Rattle.std.proofs.Common.{◌<◌, sym, ◌∙◌, subst}
+use Rattle.std.proofs.Common.{◌<◌, sym, ap, ◌∙◌, subst}
+use Rattle.js_doc.specs.Lookup.{at}
+use Rattle.js_doc.specs.Seen.{value_of}
 use Rattle.js_bundle.specs.Schemas.{place_at}
 use Rattle.js_bundle.specs.Spot.{spot_of}
 use Rattle.js_bundle.proofs.Schema.{schema_there, at_index, some_there}
@@ -16,7 +18,7 @@ returns-in-Some c =
     let items = c.self.inside.documents.items in
     let x = spot_of c.spot-spot.result.now in
     let there = schema_there items c.args.self.now c.args.place x c.self.view_is c.self.invariant.read c.spot-spot.ensures in
-    sym (at_index items x (place_at c.args.self.now c.args.place) c.index.result.now there c.index.ensures) ∙ sym c.in-Some.ensures
+    sym (at_index items x (place_at c.args.self.now c.args.place) c.index.result.now there c.index.ensures) ∙ ap (λ p. at p (value_of c.index.result.now.root)) (sym c.deref.ensures) ∙ sym c.in-Some.ensures
 
 pub returns-in-None : goal.returns-in-None
 returns-in-None c =
@@ -24,4 +26,4 @@ returns-in-None c =
     let x = spot_of c.spot-spot.result.now in
     let there = schema_there items c.args.self.now c.args.place x c.self.view_is c.self.invariant.read c.spot-spot.ensures in
     absurd (some_there items x (place_at c.args.self.now c.args.place) there c.spot-spot.ensures
-    (sym (at_index items x (place_at c.args.self.now c.args.place) c.index.result.now there c.index.ensures) ∙ sym c.in-None.ensures))
+    (sym (at_index items x (place_at c.args.self.now c.args.place) c.index.result.now there c.index.ensures) ∙ ap (λ p. at p (value_of c.index.result.now.root)) (sym c.deref.ensures) ∙ sym c.in-None.ensures))

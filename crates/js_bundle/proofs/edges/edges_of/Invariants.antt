@@ -1,0 +1,7 @@
+use Rattle.std.proofs.Common.{◌≡◌, length, map}
+use Rattle.js_bundle.specs.Edges.{LeadDown}
+use Rattle.js_bundle.specs.Spot.{spot_of}
+use Rattle.js_bundle.proofs.edges.edges_of.Given as goal
+
+abbrev pub invariant-loop-i : goal.invariant-loop-i
+invariant-loop-i l = (length l.edges.items ≡ l.i) × LeadDown l.edges.items (map spot_of l.spots)

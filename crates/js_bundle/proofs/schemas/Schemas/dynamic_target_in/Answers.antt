@@ -1,0 +1,27 @@
+use Rattle.std.proofs.Common.{map, ap, ◌∙◌}
+use Rattle.js_bundle.specs.Finding.{under_number}
+use Rattle.js_bundle.specs.Resource.{sites}
+use Rattle.js_bundle.specs.ResourceNumber.{roots_at}
+use Rattle.js_bundle.specs.Seen.{document_of}
+use Rattle.js_bundle.proofs.Dynamic.{reference_is, target_place, led, reference_missing}
+use Rattle.js_bundle.proofs.schemas.Schemas.dynamic_target_in.Goals as goal
+
+pub led_in-requires : goal.led_in-requires
+led_in-requires c =
+    let n = c.place.inside.number in
+    target_place c.args.self.now c.args.place c.in-Some.reference
+    (reference_is (map document_of c.self.inside.documents.items) c.args.self.now c.self.inside.kept.references.dynamic.items n c.args.place c.in-Some.reference c.self.view_is c.place.view_is c.self.invariant.dynamic
+    (c.in-Some.ensures ∙ ap (λ items. under_number items n) c.as_slice.ensures.value))
+
+pub returns-in-Some : goal.returns-in-Some
+returns-in-Some c =
+    let n = c.place.inside.number in
+    led c.args.self.now (roots_at (sites c.args.self.now) c.args.resources.now) c.args.place c.led_in.result c.in-Some.reference
+    (reference_is (map document_of c.self.inside.documents.items) c.args.self.now c.self.inside.kept.references.dynamic.items n c.args.place c.in-Some.reference c.self.view_is c.place.view_is c.self.invariant.dynamic
+    (c.in-Some.ensures ∙ ap (λ items. under_number items n) c.as_slice.ensures.value)) c.led_in.ensures
+
+pub returns-in-None : goal.returns-in-None
+returns-in-None c =
+    let n = c.place.inside.number in
+    absurd (reference_missing (map document_of c.self.inside.documents.items) c.args.self.now c.self.inside.kept.references.dynamic.items n c.args.place c.self.view_is c.place.view_is c.self.invariant.clear
+    c.self.invariant.dynamic c.requires (c.in-None.ensures ∙ ap (λ items. under_number items n) c.as_slice.ensures.value))

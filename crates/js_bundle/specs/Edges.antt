@@ -1,0 +1,40 @@
+-- The ways from each place to those below it, by their numbers.
+use Rattle.std.specs.Prelude.{◌≡◌, ℕ, List, [], ◌∷◌, Bool, true, false, ◌&&◌, ◌==◌, bytes_eq, drop, Some, Option, slice_get}
+use Rattle.std.specs.List.{list_all, position_from}
+use Rattle.std.specs.Option.{option_map_or}
+use Rattle.js_doc.specs.Pointer.{Tokens}
+use Rattle.js_bundle.specs.declared.edges.Edges.{Edges}
+use Rattle.js_bundle.specs.Keyword.{Text}
+use Rattle.js_bundle.specs.Names.{same_tokens}
+use Rattle.js_bundle.specs.Schemas.{Step, step_tokens}
+use Rattle.js_bundle.specs.Spot.{Spot}
+
+abbrev pub begins_with : Tokens → Tokens → Bool
+begins_with tokens [] = true
+begins_with [] (k ∷ front) = false
+begins_with (l ∷ tokens) (k ∷ front) = bytes_eq l k && begins_with tokens front
+
+-- it stands below another one, however deep
+abbrev pub is_below : Spot → Spot → Bool
+is_below above place = place.document == above.document && begins_with place.pointer above.pointer
+
+-- the place of this number does
+abbrev pub leads_down : Spot → List Spot → ℕ → Bool
+leads_down above places n = option_map_or (is_below above) (slice_get places n) false
+
+-- the edges of the place with this number
+abbrev pub edges_under : List Edges → ℕ → List ℕ
+edges_under edges n = option_map_or (λ e. e.places.items) (slice_get edges n) []
+
+pub record LeadDown (edges : List Edges) (places : List Spot) : Type 0 where
+  pub down : (n : ℕ) (above : Spot) → slice_get places n ≡ Some above → list_all (leads_down above places) (edges_under edges n) ≡ true
+
+-- the place of this number goes on by the step through a keyword, after so many tokens
+abbrev pub goes_by : ℕ → Text → Step → List Spot → ℕ → Bool
+goes_by depth keyword step places n =
+    option_map_or (λ place. same_tokens (drop depth place.pointer) (keyword ∷ step_tokens step)) (slice_get places n) false
+
+-- each stands alone where it stands
+pub record AreAlone (places : List Spot) : Type 0 where
+  pub alone : (n : ℕ) (place : Spot) → slice_get places n ≡ Some place
+      → position_from (λ other. other.document == place.document && same_tokens other.pointer place.pointer) 0 places ≡ Some n

@@ -1,0 +1,216 @@
+//! The ways from each place to those that stand directly below it.
+ghost use Rattle.std.specs.Prelude.{◌≡◌, ◌<◌, ◌≤◌, ◌∷◌, ◌&&◌, ◌==◌, true, drop, length, map, slice_get, Some, IfOk, MatchOption, bytes_eq};
+ghost use Rattle.std.specs.List.{list_all, position_from};
+ghost use Rattle.js_bundle.specs.Edges.{begins_with, is_below, leads_down, goes_by, edges_under, LeadDown, AreAlone};
+ghost use Rattle.js_bundle.specs.Names.{same_tokens};
+ghost use Rattle.js_bundle.specs.Schemas.{step_of, step_tokens};
+ghost use Rattle.js_bundle.specs.Spot.{spot_of, stands_below};
+
+use crate::below::is_step;
+use crate::checked::Spot;
+use crate::place::Step;
+use js_doc::{Memory, Text};
+use std::alloc::Global;
+
+/// The places that stand directly below a place, by their numbers: by keyword ascending, then by index or by name
+/// ascending.
+#[derive(Drop)]
+pub(crate) struct Edges {
+    pub(crate) places: Vec<usize>,
+}
+
+/// The edges of each place.
+pub(crate) fn edges_of(alloc: Global, spots: &[Spot]) -> Result<Vec<Edges>, Memory>
+    ensures { IfOk result (λ v. LeadDown v.items (map spot_of spots.now)) }
+{
+    let ends = ends_of(alloc, spots)?;
+    let mut edges = Vec::new(alloc);
+    for i in 0..spots.len() {
+        let places = places_below(alloc, spots, ends.as_slice(), &spots[i], i)?;
+        edges.push(Edges { places })?;
+    }
+    Ok(edges)
+}
+
+// The places directly below one: the next, and each that stands where those below the last one end.
+fn places_below(
+    alloc: Global,
+    spots: &[Spot],
+    ends: &[usize],
+    above: &Spot,
+    number: usize,
+) -> Result<Vec<usize>, Memory>
+    requires { number < length spots.now }
+    ensures { IfOk result (λ v. list_all (leads_down (spot_of above.now) (map spot_of spots.now)) v.items ≡ true) }
+{
+    let mut places = Vec::new(alloc);
+    let mut next = number + 1;
+    while next < spots.len() {
+        if !leads_down(spots, above, next) {
+            return Ok(places);
+        }
+        places.push(next)?;
+        next = end_of(ends, next, next + 1);
+    }
+    Ok(places)
+}
+
+// Where what stands below each place ends, from the last place to the first.
+fn ends_of(alloc: Global, spots: &[Spot]) -> Result<Vec<usize>, Memory> {
+    let mut ends = Vec::new(alloc);
+    for _ in 0..spots.len() {
+        ends.push(0)?;
+    }
+    for i in (0..spots.len()).rev() {
+        let end = end_below(spots, ends.as_slice(), &spots[i], i);
+        ends[i] = end;
+    }
+    Ok(ends)
+}
+
+// Where what stands below a place ends.
+fn end_below(spots: &[Spot], ends: &[usize], above: &Spot, number: usize) -> usize
+    requires { number < length spots.now }
+{
+    let mut next = number + 1;
+    while next < spots.len() {
+        if !leads_down(spots, above, next) {
+            return next;
+        }
+        next = end_of(ends, next, next + 1);
+    }
+    next
+}
+
+fn end_of(ends: &[usize], number: usize, least: usize) -> usize
+    ensures { least ≤ result }
+{
+    match ends.get(number) {
+        Some(end) if least <= *end => *end,
+        _ => least,
+    }
+}
+
+// Whether the place of this number stands below another one.
+fn leads_down(spots: &[Spot], above: &Spot, number: usize) -> bool
+    ensures { result ≡ leads_down (spot_of above.now) (map spot_of spots.now) number }
+{
+    match spots.get(number) {
+        Some(spot) => is_below(spot, above),
+        None => false,
+    }
+}
+
+fn is_below(spot: &Spot, above: &Spot) -> bool
+    ensures { result ≡ is_below (spot_of above.now) (spot_of spot.now) }
+{
+    spot.document == above.document && begins_with(spot.pointer.tokens(), above.pointer.tokens())
+}
+
+fn begins_with(tokens: &[Text], front: &[Text]) -> bool
+    ensures { result ≡ begins_with tokens.now front.now }
+{
+    let Some((wanted, more)) = front.split_first() else {
+        return true;
+    };
+    match tokens.split_first() {
+        Some((token, rest)) => token.as_str() == wanted.as_str() && begins_with(rest, more),
+        None => false,
+    }
+}
+
+/// The edges of the place with this number.
+pub(crate) fn edges_under(edges: &[Edges], number: usize) -> &[usize]
+    ensures { result.now ≡ edges_under edges.now number }
+{
+    match edges.get(number) {
+        Some(edges) => edges.places.as_slice(),
+        None => &[],
+    }
+}
+
+/// The place that stands at the step through the keyword, if one of the edges leads there.
+pub(crate) fn edge_to(
+    spots: &[Spot],
+    edges: &[usize],
+    above: &Spot,
+    keyword: &str,
+    step: Step<'_>,
+) -> Option<usize>
+    requires down { list_all (leads_down (spot_of above.now) (map spot_of spots.now)) edges.now ≡ true }
+    requires alone { AreAlone (map spot_of spots.now) }
+    ensures { MatchOption result (Unit {0}) (λ n. position_from
+        (stands_below (spot_of above.now) keyword.now (step_of step.entry)) 0 (map spot_of spots.now) ≡ Some n) }
+{
+    let depth = above.pointer.tokens().len();
+    let first = first_edge(spots, edges, depth, keyword, name_in(step));
+    let Some(at) = first.checked_add(index_in(step)) else {
+        return None;
+    };
+    match edges.get(at) {
+        Some(number) if goes_by(spots, *number, depth, keyword, step) => Some(*number),
+        _ => None,
+    }
+}
+
+// The first of the edges that doesn't come before the name, through the keyword.
+fn first_edge(spots: &[Spot], edges: &[usize], depth: usize, keyword: &str, name: &str) -> usize {
+    edges.partition_point(|number| comes_before(spots, *number, depth, keyword, name))
+}
+
+fn comes_before(spots: &[Spot], number: usize, depth: usize, keyword: &str, name: &str) -> bool {
+    match spots.get(number) {
+        Some(spot) => precedes(spot.pointer.tokens(), depth, keyword, name),
+        None => false,
+    }
+}
+
+// Whether the tokens after so many come before the keyword with the name.
+fn precedes(tokens: &[Text], depth: usize, keyword: &str, name: &str) -> bool {
+    let Some(token) = tokens.get(depth) else {
+        return true;
+    };
+    if token.as_str() != keyword {
+        return token.as_str() < keyword;
+    }
+    match tokens.last() {
+        Some(token) => depth + 1 < tokens.len() && token.as_str() < name,
+        None => true,
+    }
+}
+
+fn name_in(step: Step<'_>) -> &str {
+    match step {
+        Step::Name(name) => name,
+        _ => "",
+    }
+}
+
+fn index_in(step: Step<'_>) -> usize {
+    match step {
+        Step::Index(index) => index,
+        _ => 0,
+    }
+}
+
+// Whether the place goes on so, after as many tokens.
+fn goes_by(spots: &[Spot], number: usize, depth: usize, keyword: &str, step: Step<'_>) -> bool
+    ensures { result ≡ goes_by depth keyword.now (step_of step.entry) (map spot_of spots.now) number }
+{
+    match spots.get(number) {
+        Some(spot) => goes_on(spot.pointer.tokens(), depth, keyword, step),
+        None => false,
+    }
+}
+
+fn goes_on(tokens: &[Text], depth: usize, keyword: &str, step: Step<'_>) -> bool
+    ensures { result ≡ same_tokens (drop depth tokens.now) (keyword.now ∷ step_tokens (step_of step.entry)) }
+{
+    if tokens.len() <= depth {
+        return false;
+    }
+    match tokens[depth..].split_first() {
+        Some((token, more)) => token.as_str() == keyword && is_step(more, step),
+        None => false,
+    }
+}

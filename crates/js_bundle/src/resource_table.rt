@@ -1,0 +1,147 @@
+//! What is kept of resources, by their numbers (JSON Schema Core, sections 4.3.5 and 8.2.1).
+ghost use Rattle.std.specs.Prelude.{◌≡◌, ◌<◌, Some, map, length, codes, slice_get, unwrap_or, option_and_then, option_to_list, OnOk, IfOk};
+ghost use Rattle.std.specs.List.{position_from};
+ghost use Rattle.js_bundle.specs.Index.{IsIndex};
+ghost use Rattle.js_bundle.specs.Keyword.{text_argument};
+ghost use Rattle.js_bundle.specs.Names.{stands_at};
+ghost use Rattle.js_bundle.specs.ResourceNumber.{begins_resource, roots, resource_number};
+ghost use Rattle.js_bundle.specs.ResourceTable.{AreAnchors, AreEmpty, AreNamed, AreRooted, IsOpened, IsResourceTable, rank_of_root, ranks_from};
+ghost use Rattle.js_bundle.specs.Scan.{site_of};
+
+use crate::index::Index;
+use crate::keyword::text_argument;
+use crate::names::{is_same, place_at};
+use crate::numbering::Numbering;
+use crate::scan::Site;
+use js_doc::Memory;
+use std::alloc::Global;
+
+/// What is kept of resources.
+#[derive(Drop)]
+pub(crate) struct Resources {
+    /// The number of each place's resource, in scan order.
+    pub(crate) numbers: Vec<usize>,
+    /// Of each resource, the places to which `$dynamicAnchor` gives names.
+    pub(crate) anchors: Vec<Numbering>,
+}
+
+// The roots of resources, counted.
+struct Roots {
+    // How many stand before each place.
+    ranks: Vec<usize>,
+    // Of each, the names in its resource: none yet.
+    anchors: Vec<Numbering>,
+}
+
+// Whether the place is the root of its own resource.
+fn begins_resource(site: &Site<'_>) -> bool
+    ensures { result ≡ begins_resource (site_of site.now) }
+{
+    is_same(&site.pointer, &site.own.resource)
+}
+
+// Opens the resource of a root.
+fn open_resource(alloc: Global, anchors: &mut Vec<Numbering>, site: &Site<'_>) -> Result<(), Memory>
+    ensures { OnOk result (IsOpened (begins_resource (site_of site.now)) anchors.old.items anchors.new.items) }
+{
+    if begins_resource(site) {
+        anchors.push(Numbering::new(alloc))?;
+    }
+    Ok(())
+}
+
+fn roots_of(alloc: Global, sites: &[Site<'_>]) -> Result<Roots, Memory>
+    ensures ranks { IfOk result (λ r. r.ranks.items ≡ ranks_from 0 (map site_of sites.now)) }
+    ensures many { IfOk result (λ r. length r.anchors.items ≡ length (roots (map site_of sites.now))) }
+    ensures empty { IfOk result (λ r. AreEmpty r.anchors.items) }
+{
+    let mut ranks = Vec::new(alloc);
+    let mut anchors = Vec::new(alloc);
+    for i in 0..sites.len() {
+        ranks.push(anchors.len())?;
+        open_resource(alloc, &mut anchors, &sites[i])?;
+    }
+    Ok(Roots { ranks, anchors })
+}
+
+fn rank_under(ranks: &[usize], root: Option<usize>) -> usize
+    ensures { result ≡ unwrap_or (option_and_then (slice_get ranks.now) root) 0 }
+{
+    let Some(root) = root else {
+        return 0; // never: each resource has its root
+    };
+    match ranks.get(root) {
+        Some(rank) => *rank,
+        None => 0,
+    }
+}
+
+// The number of each place's resource.
+fn numbers_of(
+    alloc: Global,
+    index: &Index,
+    sites: &[Site<'_>],
+    ranks: &[usize],
+) -> Result<Vec<usize>, Memory>
+    requires index { IsIndex index.now (map site_of sites.now) }
+    requires ranks { ranks.now ≡ ranks_from 0 (map site_of sites.now) }
+    ensures { IfOk result (λ v. v.items ≡ map (rank_of_root (map site_of sites.now)) (map site_of sites.now)) }
+{
+    let mut numbers = Vec::new(alloc);
+    for i in 0..sites.len() {
+        let site = &sites[i];
+        let root = place_at(alloc, index, sites, site.document, &site.own.resource)?;
+        numbers.push(rank_under(ranks, root))?;
+    }
+    Ok(numbers)
+}
+
+// Keeps the name that the place makes in its resource, if it makes one.
+fn name(
+    alloc: Global,
+    anchors: &mut Vec<Numbering>,
+    resource: usize,
+    site: &Site<'_>,
+    number: usize,
+) -> Result<(), Memory>
+    requires { resource < length anchors.now.items }
+    ensures { OnOk result (AreNamed anchors.old.items resource
+        (option_to_list (text_argument (codes "$dynamicAnchor") (site_of site.now).schema)) number anchors.new.items) }
+{
+    let name = text_argument(site.schema, "$dynamicAnchor");
+    anchors[resource].put_given(alloc, name, number)
+}
+
+fn name_all(
+    alloc: Global,
+    anchors: &mut Vec<Numbering>,
+    sites: &[Site<'_>],
+    numbers: &[usize],
+) -> Result<(), Memory>
+    requires rooted { AreRooted (map site_of sites.now) }
+    requires numbers { map Some numbers.now ≡ map (resource_number (map site_of sites.now)) (map site_of sites.now) }
+    requires many { length anchors.now.items ≡ length (roots (map site_of sites.now)) }
+    requires empty { AreEmpty anchors.now.items }
+    ensures { OnOk result (AreAnchors (roots (map site_of sites.now)) anchors.new.items (map site_of sites.now)) }
+{
+    for i in 0..sites.len() {
+        name(alloc, anchors, numbers[i], &sites[i], i)?;
+    }
+    Ok(())
+}
+
+/// The table of the resources of all places.
+pub(crate) fn resources_of(
+    alloc: Global,
+    index: &Index,
+    sites: &[Site<'_>],
+) -> Result<Resources, Memory>
+    requires index { IsIndex index.now (map site_of sites.now) }
+    requires rooted { AreRooted (map site_of sites.now) }
+    ensures { IfOk result (λ r. IsResourceTable r (map site_of sites.now)) }
+{
+    let Roots { ranks, mut anchors } = roots_of(alloc, sites)?;
+    let numbers = numbers_of(alloc, index, sites, ranks.as_slice())?;
+    name_all(alloc, &mut anchors, sites, numbers.as_slice())?;
+    Ok(Resources { numbers, anchors })
+}
