@@ -1,9 +1,9 @@
-"""What is shown of a result tree: pruned, condensed to its normal form, and the four output formats."""
+"""What is shown of a result tree: pruned, condensed to its normal form, merged, and the five output formats."""
 from dataclasses import replace
 
 from json_text import text
 
-FORMATS = ("flag", "basic", "detailed", "verbose")
+FORMATS = ("flag", "basic", "detailed", "merged", "verbose")
 
 
 def pruned(node, verdict=None):
@@ -26,6 +26,23 @@ def condensed(node):
         else:
             children += it.children
     return replace(node, children=children)
+
+
+def alike(one, other):
+    """They are equal once every keyword location is ignored."""
+    return unkeyed(one) == unkeyed(other)
+
+
+def unkeyed(node):
+    return text([node.valid, node.absolute, node.instance, [] if node.note is None else list(node.note)]), tuple(map(unkeyed, node.children))
+
+
+def merged(node):
+    """The tree in which each run of three rules ends, by taking steps, from below, as long as there is one: by the third a
+    node goes, with all below it, where an earlier sibling is alike."""
+    node = condensed(replace(node, children=[merged(it) for it in node.children]))
+    children = [it for at, it in enumerate(node.children) if not any(alike(other, it) for other in node.children[:at])]
+    return node if len(children) == len(node.children) else merged(replace(node, children=children))
 
 
 def unit(node, children=()):
@@ -51,6 +68,8 @@ def form(node, format_):
         return tree(node)
     if format_ == "detailed":
         return tree(condensed(pruned(node)))
+    if format_ == "merged":
+        return tree(merged(pruned(node)))
     return {"annotations" if node.valid else "errors": [unit(it) for it in units(pruned(node))], "valid": node.valid}
 
 

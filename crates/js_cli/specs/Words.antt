@@ -5,7 +5,7 @@ use Rattle.std.specs.Borrow.{Bor}
 use Rattle.clap.specs.Words.{Text}
 use Rattle.js_cli.specs.Plain.{plain_of}
 use Rattle.js_tree.specs.declared.forms.Format.{Format}
-use Rattle.js_tree.specs.declared.forms.Format.TheVariants.{Flag, Basic, Detailed, Verbose}
+use Rattle.js_tree.specs.declared.forms.Format.TheVariants.{Flag, Basic, Detailed, Merged, Verbose}
 use Rattle.js_cli.specs.declared.words.Misuse.{Misuse}
 use Rattle.js_cli.specs.declared.words.Misuse.TheVariants as misuse
 use Rattle.js_cli.specs.declared.words.DocumentFile.{DocumentFile}
@@ -27,7 +27,8 @@ format_of word =
     if bytes_eq word (codes "flag") then Some Flag
     else (if bytes_eq word (codes "basic") then Some Basic
     else (if bytes_eq word (codes "detailed") then Some Detailed
-    else (if bytes_eq word (codes "verbose") then Some Verbose else None)))
+    else (if bytes_eq word (codes "merged") then Some Merged
+    else (if bytes_eq word (codes "verbose") then Some Verbose else None))))
 
 -- words two by two
 abbrev pub pairs_after : Text × Text → Option Pairs → Option Pairs

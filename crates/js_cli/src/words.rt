@@ -258,6 +258,7 @@ fn format_of(word: &str) -> Option<Format>
         "flag" => Some(Format::Flag),
         "basic" => Some(Format::Basic),
         "detailed" => Some(Format::Detailed),
+        "merged" => Some(Format::Merged),
         "verbose" => Some(Format::Verbose),
         _ => None,
     }

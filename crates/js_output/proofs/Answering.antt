@@ -4,7 +4,7 @@ use Rattle.std.proofs.lemmas.Bool.{lt-ltb, le-ltb}
 use Rattle.std.specs.Io.KnownBytes.{Consumes, IsAtEnd}
 use Rattle.js_doc.specs.Value.{Value}
 use Rattle.js_tree.specs.Form.{form, shown}
-use Rattle.js_tree.specs.declared.forms.Format.TheVariants.{Flag, Basic, Detailed, Verbose}
+use Rattle.js_tree.specs.declared.forms.Format.TheVariants.{Flag, Basic, Detailed, Merged, Verbose}
 use Rattle.js_eval.specs.Result.{ResultTree, IsWithinLimits}
 use Rattle.js_bundle.specs.Document as bundle
 use Rattle.js_bundle.specs.Resource.{Site}
@@ -137,12 +137,14 @@ pub shown-trimmed : (format : Format) (t : ResultTree) → shown format (trimmed
 shown-trimmed Flag t = refl
 shown-trimmed Basic t = refl
 shown-trimmed Detailed t = refl
+shown-trimmed Merged t = refl
 shown-trimmed Verbose t = refl
 
 pub root-trimmed : (format : Format) (t : ResultTree) → (trimmed format t).root ≡ t.root
 root-trimmed Flag t = refl
 root-trimmed Basic t = refl
 root-trimmed Detailed t = refl
+root-trimmed Merged t = refl
 root-trimmed Verbose t = refl
 
 pub walk-late : (docs : bundle.Documents) (entry : Option Site) (v : Value) (e : Fault) → IsWalkFault docs entry v e → IsLateOrMemory e

@@ -4,10 +4,12 @@ use Rattle.std.proofs.lemmas.Bool.{le-ltb}
 use Rattle.js_doc.specs.Value.{Value}
 use Rattle.js_tree.specs.Form.{form, verbose}
 use Rattle.js_tree.specs.OutputUnit.{noted}
+use Rattle.js_tree.specs.MergedResult.{merged}
 use Rattle.js_tree.specs.Result.{pruned, kept}
 use Rattle.js_tree.specs.declared.forms.Format.{Format}
-use Rattle.js_tree.specs.declared.forms.Format.TheVariants.{Flag, Basic, Detailed, Verbose}
+use Rattle.js_tree.specs.declared.forms.Format.TheVariants.{Flag, Basic, Detailed, Merged, Verbose}
 use Rattle.js_tree.proofs.KeptTree.{kept_is_reached, kept_is_normal, run-normal}
+use Rattle.js_tree.proofs.MergedLaws.{merged_is_reached, merged_is_normal, normal_end_of_three}
 use Rattle.js_bundle.specs.Resource.{Site}
 use Rattle.js_eval.specs.Result.{ResultTree, IsWithinLimits}
 use Rattle.js_output.specs.Cause.{IsFirstFault}
@@ -29,6 +31,9 @@ shows Verbose t = refl
 shows Detailed t =
     let p = pruned t in
     ((kept p, (refl, kept_is_reached noted p.below), kept_is_normal noted p.below, refl), λ end r n. ap verbose (sym (run-normal noted p end r n)))
+shows Merged t =
+    let p = pruned t in
+    ((merged p, merged_is_reached p, merged_is_normal p, refl), λ end r n. ap verbose (sym (normal_end_of_three p end r n)))
 
 -- ---- of an accepted instance, what comes of its value is the outcome
 

@@ -5,9 +5,10 @@ use Rattle.std.specs.Prelude.{◌≡◌, ◌≤◌, ℕ, List, [], ◌∷◌, �
 use Rattle.js_doc.specs.Compact.{compact}
 use Rattle.js_doc.specs.Value.{Value}
 use Rattle.js_tree.specs.Form.{flag, unit_list, verbose}
+use Rattle.js_tree.specs.MergedResult.{RunOfThree, NormalOfThree}
 use Rattle.js_tree.specs.Result.{Run, Normal, pruned}
 use Rattle.js_tree.specs.declared.forms.Format.{Format}
-use Rattle.js_tree.specs.declared.forms.Format.TheVariants.{Flag, Basic, Detailed, Verbose}
+use Rattle.js_tree.specs.declared.forms.Format.TheVariants.{Flag, Basic, Detailed, Merged, Verbose}
 use Rattle.js_bundle.specs.Resource.{Site}
 use Rattle.js_eval.specs.Bundle.{schemas_of}
 use Rattle.js_eval.specs.Location.{at_root}
@@ -24,13 +25,17 @@ use Rattle.js_output.specs.declared.fault.Fault.TheVariants as fault
 
 -- What a format shows of a result (JSON Schema Core, section 12.4): flag its verdict, basic the units with a note of the
 -- pruned tree, verbose the whole tree. Detailed shows the one tree in which every run of the two condensing rules from the
--- pruned tree ends.
+-- pruned tree ends. Merged, this project's own, shows the one in which every run of these and of the third rule ends: a node
+-- goes, with all below it, where an earlier sibling is equal once keyword locations are ignored.
 abbrev pub Shows : Format → ResultTree → Value → Type 0
 Shows Flag t shown = shown ≡ flag t.root.valid
 Shows Basic t shown = shown ≡ unit_list (pruned t)
 Shows Detailed t shown =
     ((end : ResultTree) × Run (pruned t) end × Normal end × (shown ≡ verbose end))
     × ((end : ResultTree) → Run (pruned t) end → Normal end → shown ≡ verbose end)
+Shows Merged t shown =
+    ((end : ResultTree) × RunOfThree (pruned t) end × NormalOfThree end × (shown ≡ verbose end))
+    × ((end : ResultTree) → RunOfThree (pruned t) end → NormalOfThree end → shown ≡ verbose end)
 Shows Verbose t shown = shown ≡ verbose t
 
 -- The documents and the entry, which is this place, are accepted: at most given causes stand against them, which may be

@@ -6,10 +6,11 @@ use Rattle.js_doc.specs.Value.{Value}
 use Rattle.js_doc.specs.declared.reading.ReadFault.{ReadFault}
 use Rattle.js_tree.specs.FlatState.{flat_state, whole_tree}
 use Rattle.js_tree.specs.Form.{form}
+use Rattle.js_tree.specs.MergedResult.{merged}
 use Rattle.js_tree.specs.Result.{pruned, kept}
 use Rattle.js_tree.specs.declared.flat.Flat.{Flat}
 use Rattle.js_tree.specs.declared.forms.Format.{Format}
-use Rattle.js_tree.specs.declared.forms.Format.TheVariants.{Flag, Basic, Detailed, Verbose}
+use Rattle.js_tree.specs.declared.forms.Format.TheVariants.{Flag, Basic, Detailed, Merged, Verbose}
 use Rattle.js_bundle.specs.Document as bundle
 use Rattle.js_bundle.specs.Resource.{Site}
 use Rattle.js_eval.specs.Bundle.{schemas_of}
@@ -146,12 +147,18 @@ abbrev pub trimmed : Format → ResultTree → ResultTree
 trimmed Flag t = t
 trimmed Basic t = pruned t
 trimmed Detailed t = kept (pruned t)
+trimmed Merged t = merged (pruned t)
 trimmed Verbose t = t
 
 -- the rows are those of what the format shows of the result within the limits
 abbrev pub AreRows : bundle.Documents → Option Site → Value → Format → Flat → Type 0
 AreRows documents entry v format flat =
     (t : ResultTree) × IsResultOf documents entry v t × IsWithinLimits t × (flat_state flat ≡ whole_tree (trimmed format t))
+
+-- the tree is what the format shows of the result within the limits
+abbrev pub IsTrimmed : bundle.Documents → Option Site → Value → Format → ResultTree → Type 0
+IsTrimmed documents entry v format tree =
+    (t : ResultTree) × IsResultOf documents entry v t × IsWithinLimits t × (tree ≡ trimmed format t)
 
 -- why there is none: none stands within them, or want of memory
 abbrev pub IsWalkFault : bundle.Documents → Option Site → Value → Fault → Type 0

@@ -9,7 +9,8 @@ ghost use Rattle.js_output.specs.Headline.{Headline};
 /// For every accepted bundle and entry, and each instance text that is read and isn't too large,
 /// the bytes written are the requested form of the standard's result, and the verdict is answered:
 /// flag shows the verdict, verbose the whole tree, basic the units with a note of the pruned tree,
-/// detailed the one tree in which every run of the two condensing rules from the pruned tree ends.
+/// detailed the one tree in which every run of the two condensing rules from the pruned tree ends,
+/// merged the one in which every run of these and of the rule that merges alike siblings ends.
 /// Or `TooLarge` is answered, exactly where no result stands within the limits.
 pub fn headline<Device>()
     ensures { (taken : Device → Option (List ℕ)) (old new : Tracked Device)

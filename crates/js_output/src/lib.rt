@@ -7,6 +7,7 @@ mod fault;
 mod input;
 pub mod laws;
 mod line;
+mod merged;
 mod pair;
 mod places;
 mod rows;

@@ -1,9 +1,9 @@
 //! The result of a judgement as rows, as far as a format shows them.
-ghost use Rattle.std.specs.Prelude.{◌≡◌, true, IfErr, IfOk};
+ghost use Rattle.std.specs.Prelude.{◌≡◌, ◌≢◌, true, IfErr, IfOk};
 ghost use Rattle.js_doc.specs.Seen.{value_of};
 ghost use Rattle.js_tree.specs.FlatState.{IsWholeTree, flat_state, whole_tree};
 ghost use Rattle.js_tree.specs.Result.{ResultTree};
-ghost use Rattle.js_tree.specs.declared.forms.Format.TheVariants.{Verbose};
+ghost use Rattle.js_tree.specs.declared.forms.Format.TheVariants.{Merged, Verbose};
 ghost use Rattle.js_bundle.specs.Schemas.{is_place, place_at};
 ghost use Rattle.js_output.specs.Outcome.{AreRows, IsWalkFault, trimmed};
 
@@ -21,7 +21,8 @@ pub(crate) fn rows_of<'a>(
     format: Format,
     instance: &'a Doc,
 ) -> Result<Flat<'a>, Fault>
-    requires { is_place entry.now.schemas entry.now.place ≡ true }
+    requires place { is_place entry.now.schemas entry.now.place ≡ true }
+    requires rows { format ≢ Merged }
     ensures rows { IfOk result (AreRows entry.now.schemas
         (place_at entry.now.schemas entry.now.place) (value_of instance.now) format) }
     ensures fault { IfErr result (IsWalkFault entry.now.schemas
@@ -52,7 +53,8 @@ fn walked<'a>(alloc: Global, entry: &'a Entry, instance: &'a Doc) -> Result<Flat
 
 // Takes no memory.
 fn trimmed<'a>(flat: Flat<'a>, format: Format) -> Flat<'a>
-    requires { IsWholeTree (flat_state flat) }
+    requires whole { IsWholeTree (flat_state flat) }
+    requires rows { format ≢ Merged }
     ensures { (t : ResultTree) → flat_state flat.entry ≡ whole_tree t
         → flat_state result ≡ whole_tree (trimmed format t) }
 {
@@ -60,6 +62,7 @@ fn trimmed<'a>(flat: Flat<'a>, format: Format) -> Flat<'a>
         Format::Flag => flat,
         Format::Basic => flat_prune(flat),
         Format::Detailed => flat_condense(flat_prune(flat)),
+        Format::Merged => flat,
         Format::Verbose => flat,
     }
 }

@@ -24,9 +24,9 @@ use std::io::{Read, Write};
 /// # Errors
 /// The first that applies, of: the refusal of a document, in their order, and the first refusal of
 /// all; that of the entry; `Read` and `InputTooLarge` of the instance's source; the refusal of the
-/// instance's text; `TooLarge` where no result stands within 512 schemas on a way and 1,000,000
-/// nodes; `Write`. `Memory` may come at any point before the first write. After `Write` a beginning of the text is out, and after any other fault nothing
-/// is.
+/// instance's text; `TooLarge` where no result stands within the limits of `js_eval`; `Write`.
+/// `Memory` may come at any point before the first write. After `Write` a beginning of the text is
+/// out, and after any other fault nothing is.
 pub fn run<R: Read, W: Write>(
     alloc: Global,
     docs: &[(&str, &[u8])],

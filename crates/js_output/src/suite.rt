@@ -25,8 +25,8 @@ use std::io::{Read, Write};
 /// 0, its schema stands after them, at `https://suite.example/G`, and is the entry. A line is written
 /// for each test: `pass` if the verdict on its data is the one that it tells, `fail` if not, and
 /// `skip` if there is no verdict, since the group's documents are refused, the data's numbers aren't
-/// whole, or no result stands within 512 schemas on a way and 1,000,000 nodes; then `G.T`, `T` being
-/// the test's number in its group, and the description as JSON text. At the end stands
+/// whole, or no result stands within the limits of `js_eval`; then `G.T`, `T` being the test's
+/// number in its group, and the description as JSON text. At the end stands
 /// `passed P, failed F, skipped S`; these counts are answered.
 ///
 /// # Errors

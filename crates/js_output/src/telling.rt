@@ -1,17 +1,18 @@
 //! From the instance's text to what is answered and written.
 ghost use Rattle.std.specs.Prelude.{◌≡◌, ◌≢◌, true, IfErr, IfOk};
 ghost use Rattle.js_doc.specs.Seen.{value_of};
-ghost use Rattle.js_tree.specs.declared.forms.Format.TheVariants.{Flag};
+ghost use Rattle.js_tree.specs.declared.forms.Format.TheVariants.{Flag, Merged};
 ghost use Rattle.js_bundle.specs.Schemas.{is_place, place_at};
 ghost use Rattle.js_output.specs.Outcome.{ValueOutcome, TextOutcome, telling_output, IsLateOrMemory, IsJudged, IsWalkFault};
 ghost use Rattle.js_output.specs.Telling.{Tells};
 
 use crate::entry::Entry;
 use crate::fault::Fault;
+use crate::merged::{merged_of, root_is_valid};
 use crate::rows::{is_valid, rows_of};
 use crate::sink::Sink;
 use crate::text::value_from;
-use crate::writing::{write_flag, write_rows};
+use crate::writing::{write_flag, write_rows, write_tree};
 use js_doc::{Doc, ReadFault};
 use js_eval::verdict;
 use js_tree::Format;
@@ -59,7 +60,10 @@ fn tell_value<W: Write>(
 {
     match format {
         Format::Flag => tell_verdict(alloc, entry, instance, out),
-        _ => tell_form(alloc, entry, format, instance, out),
+        Format::Basic => tell_form(alloc, entry, Format::Basic, instance, out),
+        Format::Detailed => tell_form(alloc, entry, Format::Detailed, instance, out),
+        Format::Merged => tell_merged(alloc, entry, instance, out),
+        Format::Verbose => tell_form(alloc, entry, Format::Verbose, instance, out),
     }
 }
 
@@ -91,7 +95,8 @@ fn tell_form<W: Write>(
     instance: &Doc,
     out: &mut Sink<W>,
 ) -> Result<bool, Fault>
-    requires { is_place entry.now.schemas entry.now.place ≡ true }
+    requires place { is_place entry.now.schemas entry.now.place ≡ true }
+    requires rows { format ≢ Merged }
     ensures answer { Tells telling_output (ValueOutcome entry.now.schemas
         (place_at entry.now.schemas entry.now.place) (value_of instance.now) format)
         W.contents out.old out.new result }
@@ -102,6 +107,27 @@ fn tell_form<W: Write>(
     let flat = rows_of(alloc, entry, format, instance)?;
     let valid = is_valid(&flat);
     write_rows(&flat, format, out)?;
+    Ok(valid)
+}
+
+// Siblings are compared in the tree, which is made whole before a byte goes out.
+fn tell_merged<W: Write>(
+    alloc: Global,
+    entry: &Entry,
+    instance: &Doc,
+    out: &mut Sink<W>,
+) -> Result<bool, Fault>
+    requires { is_place entry.now.schemas entry.now.place ≡ true }
+    ensures answer { Tells telling_output (ValueOutcome entry.now.schemas
+        (place_at entry.now.schemas entry.now.place) (value_of instance.now) Merged)
+        W.contents out.old out.new result }
+    ensures late { IfErr result IsLateOrMemory }
+    ensures nothing { IfErr result (λ e. e ≢ Fault.Write → out.new ≡ out.old) }
+    ensures sink_stays { out.old.failed ≡ true → out.new ≡ out.old }
+{
+    let tree = merged_of(alloc, entry, instance)?;
+    let valid = root_is_valid(&tree);
+    write_tree(&tree, out)?;
     Ok(valid)
 }
 

@@ -3,14 +3,14 @@ ghost use Rattle.std.specs.Prelude.{◌≡◌, ◌∷◌, ◌++◌, [], true};
 ghost use Rattle.js_doc.specs.BytesOut.{Puts};
 ghost use Rattle.js_doc.specs.Compact.{compact};
 ghost use Rattle.js_tree.specs.FlatState.{IsWholeTree, flat_state, whole_tree};
-ghost use Rattle.js_tree.specs.Form.{flag, shown};
+ghost use Rattle.js_tree.specs.Form.{flag, shown, verbose};
 ghost use Rattle.js_tree.specs.Result.{ResultTree};
 ghost use Rattle.js_output.specs.Device.{SendsOrFails};
 
 use crate::fault::Fault;
 use crate::sink::Sink;
 use js_doc::{Out, Stopped};
-use js_tree::{Flat, Format, put_flag, put_flat};
+use js_tree::{Flat, Format, Tree, put_flag, put_flat, put_tree};
 use std::io::Write;
 
 /// Writes what the flag format tells of a verdict (JSON Schema Core, section 12.4.1), and a line
@@ -46,6 +46,19 @@ pub(crate) fn write_rows<W: Write>(
     Ok(())
 }
 
+/// Writes the compact text of the tree's root node, and a line feed. It takes no memory.
+pub(crate) fn write_tree<W: Write>(tree: &Tree, out: &mut Sink<W>) -> Result<(), Fault>
+    ensures sent { SendsOrFails W.contents out.old out.new (compact (verbose tree.now) ++ 10 ∷ [])
+        result }
+    ensures stays { out.old.failed ≡ true → out.new ≡ out.old }
+{
+    if out.failed() {
+        return Err(Fault::Write);
+    }
+    put_tree_line(tree, out)?;
+    Ok(())
+}
+
 fn put_flag_line<O: Out>(valid: bool, out: &mut O) -> Result<(), Stopped>
     ensures { Puts (O.progress out.old) (O.progress out.new) (compact (flag valid) ++ 10 ∷ [])
         result }
@@ -61,6 +74,14 @@ fn put_rows_line<O: Out>(flat: &Flat, format: Format, out: &mut O) -> Result<(),
         result }
 {
     put_flat(flat, format, out)?;
+    put_line_feed(out)
+}
+
+fn put_tree_line<O: Out>(tree: &Tree, out: &mut O) -> Result<(), Stopped>
+    ensures { Puts (O.progress out.old) (O.progress out.new) (compact (verbose tree.now) ++ 10 ∷ [])
+        result }
+{
+    put_tree(tree, out)?;
     put_line_feed(out)
 }
 

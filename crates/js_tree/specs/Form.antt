@@ -1,9 +1,11 @@
--- The four output formats as JSON values (JSON Schema Core, section 12.4; the members of a node are those of 12.3).
+-- The output formats as JSON values: the four of the standard (JSON Schema Core, section 12.4; the members of a node are those
+-- of 12.3), and merged, which is this project's own.
 use Rattle.std.specs.Prelude.{ℕ, pos, Bool, true, false, not, List, [], ◌∷◌, ◌++◌, map, Option, Some, None, codes}
 use Rattle.js_doc.specs.Value.{Value, truth, whole, text, list, object, items, members}
 use Rattle.js_tree.specs.Forest.{Forest, empty, tree}
 use Rattle.js_tree.specs.declared.forms.Format.{Format}
-use Rattle.js_tree.specs.declared.forms.Format.TheVariants.{Flag, Basic, Detailed, Verbose}
+use Rattle.js_tree.specs.declared.forms.Format.TheVariants.{Flag, Basic, Detailed, Merged, Verbose}
+use Rattle.js_tree.specs.MergedResult.{merged}
 use Rattle.js_tree.specs.Note as note
 use Rattle.js_tree.specs.OutputUnit.{OutputUnit}
 use Rattle.js_tree.specs.Result.{ResultTree, kept, pruned, units}
@@ -74,15 +76,18 @@ list_name false = codes "errors"
 abbrev pub unit_list : ResultTree → Value
 unit_list t = object (members ((list_name t.root.valid, list (items (map (λ u. node_value u []) (units t)))) ∷ (codes "valid", truth t.root.valid) ∷ []))
 
--- what a format shows of a tree: of the pruned tree for basic, of the condensed one for detailed, and of the whole tree else
+-- what a format shows of a tree: of the pruned tree for basic, of the condensed one for detailed, of the merged one for merged,
+-- and of the whole tree else
 abbrev pub shown : Format → ResultTree → Value
 shown Flag t = flag t.root.valid
 shown Basic t = unit_list t
 shown Detailed t = verbose t
+shown Merged t = verbose t
 shown Verbose t = verbose t
 
 abbrev pub form : Format → ResultTree → Value
 form Flag t = flag t.root.valid
 form Basic t = unit_list (pruned t)
 form Detailed t = verbose (kept (pruned t))
+form Merged t = verbose (merged (pruned t))
 form Verbose t = verbose t

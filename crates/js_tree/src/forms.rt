@@ -13,6 +13,7 @@ ghost use Rattle.js_tree.specs.Units.{units_below};
 ghost use Rattle.js_tree.specs.declared.forms.Format.TheVariants.{Detailed};
 
 use crate::condensing::condense;
+use crate::merging::merge_condense;
 use crate::note::Note;
 use crate::pruning::prune;
 use crate::tree::Tree;
@@ -29,6 +30,8 @@ pub enum Format {
     Basic,
     /// The condensed pruned tree (12.4.3).
     Detailed,
+    /// The pruned tree, condensed and without siblings that are alike: this project's own.
+    Merged,
     /// The whole tree (12.4.4).
     Verbose,
 }
@@ -45,6 +48,7 @@ pub fn form(alloc: Global, tree: Tree, format: Format) -> Result<Doc, Memory>
         Format::Flag => flag(alloc, tree.unit.valid),
         Format::Basic => unit_list(alloc, &prune(tree)),
         Format::Detailed => tree_doc(alloc, &condense(prune(tree))),
+        Format::Merged => tree_doc(alloc, &merge_condense(prune(tree))),
         Format::Verbose => tree_doc(alloc, &tree),
     }
 }

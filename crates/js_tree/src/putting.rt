@@ -12,7 +12,7 @@ use crate::row_text::{put_root, put_units};
 use js_doc::{Out, Stopped};
 
 /// Puts the compact text of what the format shows of the rows' tree (Core, section 12.4): for basic the rows have to be
-/// the pruned tree's, for detailed the condensed one's, and else the whole tree's. It takes no memory.
+/// the pruned tree's, for detailed the condensed one's, for merged the merged one's, and else the whole tree's. It takes no memory.
 ///
 /// # Errors
 /// `Stopped`; then a beginning of the text has gone out.
@@ -27,6 +27,7 @@ pub fn put_flat<O: Out>(flat: &Flat, format: Format, out: &mut O) -> Result<(), 
         Format::Flag => put_flag(root.valid, out),
         Format::Basic => put_units(rows, out),
         Format::Detailed => put_root(rows, out),
+        Format::Merged => put_root(rows, out),
         Format::Verbose => put_root(rows, out),
     }
 }

@@ -14,7 +14,7 @@ use js_doc::{Doc, Memory};
 use std::alloc::Global;
 
 /// The document of what the format shows of the rows' tree (Core, section 12.4): for basic the rows have to be the
-/// pruned tree's, for detailed the condensed one's, and else the whole tree's.
+/// pruned tree's, for detailed the condensed one's, for merged the merged one's, and else the whole tree's.
 ///
 /// # Errors
 /// `Memory`.
@@ -27,6 +27,7 @@ pub fn flat_doc(alloc: Global, flat: &Flat, format: Format) -> Result<Doc, Memor
         Format::Flag => flag_doc(alloc, rows),
         Format::Basic => unit_list_doc(alloc, rows),
         Format::Detailed => root_doc(alloc, rows),
+        Format::Merged => root_doc(alloc, rows),
         Format::Verbose => root_doc(alloc, rows),
     }
 }

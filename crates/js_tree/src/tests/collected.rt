@@ -64,6 +64,7 @@ fn trimmed<'a>(rows: Flat<'a>, format: Format) -> Result<Flat<'a>, Fail>
         Format::Flag => whole(rows),
         Format::Basic => whole(flat_prune(whole(rows)?)),
         Format::Detailed => whole(flat_condense(whole(flat_prune(whole(rows)?))?)),
+        Format::Merged => Err(Fail::from("rows aren't merged")),
         Format::Verbose => whole(rows),
     }
 }

@@ -68,7 +68,9 @@ fn expected(alloc: Global, shape: Shape, format: Format) -> Result<String, Fail>
             alloc,
             &[(1, "{\"errors\":["), (1, LAST), (1, "],\"valid\":false}")],
         ),
-        (Format::Detailed, _) => joined(alloc, &[(1, OPENING), (1, LAST), (1, CLOSING)]),
+        (Format::Detailed | Format::Merged, _) => {
+            joined(alloc, &[(1, OPENING), (1, LAST), (1, CLOSING)])
+        }
         (Format::Verbose, Shape::Chain { above }) => joined(
             alloc,
             &[(above, OPENING), (1, LAST), (above, CLOSING)],
