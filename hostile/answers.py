@@ -93,7 +93,8 @@ def of_values():
     polygon = compact(json.loads(cases.POLYGON))
     for call in ("read", "from_value", "copy", "text"):
         yield Call([call], polygon)
-    yield Call(["push"], "/a~1b/c d", "/a~1b")
+    yield Call(["put"], '{"b":true}', "{}")
+    yield Call(["push"], "/a~1b/0/1/2/c d", "/a~1b/0/1/2")
     yield Call(["parse"], "/a~1b/c d/~0/0")
     yield Call(["pointer"], "/a~1b/c d")
     yield Call(["fragment"], "/a~1b/c%20d")
