@@ -266,8 +266,6 @@ fn is_named(properties: &Option<&Members>, name: &str) -> bool
 ///
 /// # Errors
 /// `Memory`.
-// What a search works with is large until it is boxed: that takes a frame of its own, not one of each level of the walk.
-#[inline(never)]
 pub(crate) fn searcher_of<'s>(
     alloc: Global,
     schemas: &'s Schemas,
