@@ -5,14 +5,13 @@ use Rattle.js_bundle.specs.Resource.{Site}
 use Rattle.js_bundle.specs.Schemas.{is_place}
 use Rattle.js_eval.specs.Applications.{Application}
 use Rattle.js_eval.specs.Applied.{applied_of, number_in}
-use Rattle.js_eval.specs.Cursors.{items_asked, members_asked, patterns_asked, properties_asked}
+use Rattle.js_eval.specs.Cursors.{items_asked, members_asked, patterns_asked}
 use Rattle.js_eval.specs.declared.parts.Applied.{Applied}
 use Rattle.js_eval.specs.declared.cursor.Asking.{Asking}
-use Rattle.js_eval.specs.declared.cursor.Asking.TheVariants.{One, Items, Members, Properties, Patterns}
+use Rattle.js_eval.specs.declared.cursor.Asking.TheVariants.{One, Items, Members, Patterns}
 use Rattle.js_eval.specs.declared.item_cursor.ItemCursor.{ItemCursor}
 use Rattle.js_eval.specs.declared.member_cursor.MemberCursor.{MemberCursor}
 use Rattle.js_eval.specs.declared.pattern_cursor.PatternCursor.{PatternCursor}
-use Rattle.js_eval.specs.declared.property_cursor.PropertyCursor.{PropertyCursor}
 
 abbrev pub one_of_asking : Documents → Option Applied → List (Application Site)
 one_of_asking documents None = []
@@ -24,9 +23,6 @@ items_of_asking documents c = cond (is_place documents (number_in c.held)) (item
 abbrev pub members_of_asking : Documents → MemberCursor → List (Application Site)
 members_of_asking documents c = cond (is_place documents (number_in c.held)) (members_asked documents c) []
 
-abbrev pub properties_of_asking : Documents → PropertyCursor → List (Application Site)
-properties_of_asking documents c = cond (is_place documents c.place) (properties_asked documents c) []
-
 abbrev pub patterns_of_asking : Documents → PatternCursor → List (Application Site)
 patterns_of_asking documents c = cond (is_place documents c.place && is_place documents c.below) (patterns_asked documents c) []
 
@@ -34,5 +30,4 @@ abbrev pub asked : Documents → Asking → List (Application Site)
 asked documents (One one) = one_of_asking documents one
 asked documents (Items c) = items_of_asking documents c
 asked documents (Members c) = members_of_asking documents c
-asked documents (Properties c) = properties_of_asking documents c
 asked documents (Patterns c) = patterns_of_asking documents c

@@ -1,5 +1,5 @@
 -- What the cursors of a walk have still to ask for.
-use Rattle.std.specs.Prelude.{◌≡◌, ℕ, ◌<◌, Bool, true, false, not, ◌||◌, List, [], ◌∷◌, ◌++◌, Option, Some, None, String, map, filter, drop, get_or}
+use Rattle.std.specs.Prelude.{◌≡◌, ℕ, ◌<◌, Bool, true, false, not, ◌||◌, List, [], ◌++◌, Option, Some, None, String, map, filter, drop, get_or}
 use Rattle.std.specs.Borrow.{Bor}
 use Rattle.std.specs.Global.{Global}
 use Rattle.std.specs.Cmp.Lexicographic.{slice_cmp}
@@ -7,7 +7,6 @@ use Rattle.std.specs.List.{list_any, flat_map}
 use Rattle.std.specs.Ordering.{is_eq, nat_cmp}
 use Rattle.js_assert.specs.Argument.{has}
 use Rattle.js_assert.specs.Pattern.{matches}
-use Rattle.js_doc.specs.Members.{get}
 use Rattle.js_doc.specs.Seen.{pair_of, value_of}
 use Rattle.js_doc.specs.Value.{Value, Named}
 use Rattle.js_doc.specs.declared.doc.Doc.{Doc}
@@ -24,7 +23,6 @@ use Rattle.js_eval.specs.declared.member_cursor.Choice.{Choice}
 use Rattle.js_eval.specs.declared.member_cursor.Choice.TheVariants as choice
 use Rattle.js_eval.specs.declared.member_cursor.MemberCursor.{MemberCursor}
 use Rattle.js_eval.specs.declared.pattern_cursor.PatternCursor.{PatternCursor}
-use Rattle.js_eval.specs.declared.property_cursor.PropertyCursor.{PropertyCursor}
 
 -- ---- items
 
@@ -76,22 +74,6 @@ members_left choice members = filter (λ m. chosen choice m.0) (map pair_of memb
 
 abbrev pub members_asked : Documents → MemberCursor → List (Application Site)
 members_asked documents c = map (λ m. applied documents c.held c.to (Name m.0) m.1) (members_left c.choice c.members)
-
--- ---- the members that have some names
-
--- in front, the member of this name, where there is one
-abbrev pub member_first : Text → Option Value → Named → Named
-member_first name None rest = rest
-member_first name (Some v) rest = (name, v) ∷ rest
-
--- the members that have these names, name by name
-abbrev pub members_named : Named → Named → Named
-members_named [] ms = []
-members_named (n ∷ ns) ms = member_first n.0 (get n.0 ms) (members_named ns ms)
-
-abbrev pub properties_asked : Documents → PropertyCursor → List (Application Site)
-properties_asked documents c =
-    map (λ m. application (schemas_of documents) (site_at documents c.place) c.keyword.now (Name m.0) (Name m.0) m.1) (members_named (map pair_of c.names) c.members.now)
 
 -- ---- the members whose names patterns match
 

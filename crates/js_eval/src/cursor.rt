@@ -3,7 +3,7 @@ ghost use Rattle.std.specs.Prelude.{◌≡◌, ◌&&◌, ◌∷◌, [], IfOk, Ma
 ghost use Rattle.js_bundle.specs.Document.{Documents};
 ghost use Rattle.js_bundle.specs.Schemas.{is_place};
 ghost use Rattle.js_eval.specs.Applied.{applied_of};
-ghost use Rattle.js_eval.specs.Asked.{asked, items_of_asking, members_of_asking, one_of_asking, patterns_of_asking, properties_of_asking};
+ghost use Rattle.js_eval.specs.Asked.{asked, items_of_asking, members_of_asking, one_of_asking, patterns_of_asking};
 ghost use Rattle.js_eval.specs.Schemas as spec;
 ghost use Rattle.js_eval.specs.Seen.{instance_of};
 ghost use Rattle.js_eval.specs.Sited.{site_at};
@@ -12,7 +12,6 @@ use crate::item_cursor::{ItemCursor, next_on_item};
 use crate::member_cursor::{MemberCursor, next_on_member};
 use crate::parts::{Applied, Instance, Step};
 use crate::pattern_cursor::{PatternCursor, next_matching};
-use crate::property_cursor::{PropertyCursor, next_on_property};
 use js_bundle::{Place, Schemas};
 use js_doc::Memory;
 use std::alloc::Global;
@@ -24,7 +23,6 @@ pub(crate) enum Asking<'a> {
     One(Option<Applied<'a>>),
     Items(ItemCursor<'a>),
     Members(MemberCursor<'a>),
-    Properties(PropertyCursor<'a>),
     Patterns(PatternCursor<'a>),
 }
 
@@ -58,7 +56,6 @@ pub(crate) fn next_asked<'a>(
         Asking::One(one) => Ok(next_alone(schemas, one)),
         Asking::Items(items) => Ok(next_item(schemas, items)),
         Asking::Members(members) => Ok(next_member(schemas, members)),
-        Asking::Properties(properties) => Ok(next_property(schemas, properties)),
         Asking::Patterns(patterns) => next_pattern(alloc, schemas, patterns),
     }
 }
@@ -99,17 +96,6 @@ fn next_member<'a>(schemas: &Schemas, members: &mut MemberCursor<'a>) -> Option<
         return None;
     }
     next_on_member(schemas, members)
-}
-
-fn next_property<'a>(schemas: &Schemas, properties: &mut PropertyCursor<'a>) -> Option<Applied<'a>>
-    ensures next { MatchOption result (properties_of_asking schemas.now properties.old ≡ [])
-        (λ a. properties_of_asking schemas.now properties.old ≡ applied_of schemas.now a ∷ properties_of_asking schemas.now properties.new) }
-    ensures is { MatchOption result (Unit {0}) (λ a. is_place schemas.now a.place ≡ true) }
-{
-    if !schemas.has(properties.place) {
-        return None;
-    }
-    next_on_property(schemas, properties)
 }
 
 fn next_pattern<'a>(

@@ -59,6 +59,26 @@ pub(crate) struct MemberCursor<'a> {
     pub choice: Choice<'a>,
 }
 
+/// The schema of each name that is a member's, on the member.
+pub(crate) fn each_named<'a>(
+    place: Place,
+    keyword: &'a str,
+    named: &'a Members,
+    members: &'a Members,
+) -> MemberCursor<'a>
+    ensures asked { (documents : Documents) → members_asked documents result
+        ≡ map (λ m. application (schemas_of documents) (site_at documents place) keyword.now (spec.Name m.0) (spec.Name m.0) m.1)
+        (filter (λ m. has m.0 named.now) members.now) }
+    ensures number { number_in result.held ≡ place }
+{
+    MemberCursor {
+        held: Held::Each(place, keyword),
+        to: To::Part,
+        members: members.pairs(),
+        choice: Choice::Named(named),
+    }
+}
+
 /// The schema of each name that is a member's, on the value itself.
 pub(crate) fn each_in_place<'a>(
     place: Place,

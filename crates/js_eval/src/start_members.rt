@@ -17,10 +17,11 @@ ghost use Rattle.js_eval.specs.Sited.{site_at};
 use crate::bundled::below;
 use crate::cursor::Asking;
 use crate::keyword::Keyword;
-use crate::member_cursor::{each_additional, each_in_place, each_name, each_other, object_at};
+use crate::member_cursor::{
+    each_additional, each_in_place, each_name, each_named, each_other, object_at,
+};
 use crate::parts::{Instance, Step, members_in};
 use crate::pattern_cursor::each_matching;
-use crate::property_cursor::each_property;
 use js_bundle::{Place, Schemas};
 use js_doc::{Doc, Memory};
 use std::alloc::Global;
@@ -62,7 +63,7 @@ pub(crate) fn properties<'a>(
         return Asking::One(None);
     };
     match value.members() {
-        Some(members) => each_property(place, keyword.name, named, members),
+        Some(members) => Asking::Members(each_named(place, keyword.name, named, members)),
         None => Asking::One(None),
     }
 }
