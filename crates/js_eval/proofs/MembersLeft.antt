@@ -1,5 +1,5 @@
 -- The members that a cursor has left, where it begins.
-use Rattle.std.proofs.Common.{◌≡◌, ℕ, Bool, true, false, not, ◌||◌, cond, List, [], ◌∷◌, ◌++◌, ◌+◌, ◌<◌, length, get_or, Option, Bor, filter, map, take, refl, sym, ap, ap₂, ◌∙◌}
+use Rattle.std.proofs.Common.{◌≡◌, ℕ, Bool, true, false, not, ◌||◌, cond, List, [], ◌∷◌, ◌++◌, ◌+◌, ◌<◌, length, get_or, Bor, filter, take, refl, sym, ap, ap₂, ◌∙◌}
 use Rattle.std.proofs.lemmas.List.{take_more, map-append}
 use Rattle.std.proofs.lemmas.List.Folds.{list_any-append}
 use Rattle.std.specs.Cmp.Lexicographic.{slice_cmp, texts_ties, nat_list_eq_equiv}
@@ -8,8 +8,7 @@ use Rattle.std.specs.Ordering.{is_eq, nat_cmp}
 use Rattle.std.specs.Str.{bytes_eq}
 use Rattle.js_doc.specs.Value.{Value, Named}
 use Rattle.js_eval.specs.Applications.{among_names}
-use Rattle.js_assert.specs.Pattern.{matches}
-use Rattle.js_eval.specs.Cursors.{HasNames, is_key, is_matched, is_named, named_in}
+use Rattle.js_eval.specs.Cursors.{HasNames, is_key}
 use Rattle.js_eval.specs.Schemas.{Text}
 use Rattle.js_eval.specs.Seen.{texts_of}
 
@@ -35,21 +34,6 @@ except_names keys names ms has = filter_alike (λ (m : List ℕ × Value). not (
 pub names_by_set : (keys : List (Bor Text)) (names : List Text) (all found : List Text) → HasNames keys names
     → found ≡ filter (λ name. is_key keys name) all → found ≡ filter (λ name. among_names name names) all
 names_by_set keys names all found has e = e ∙ filter_alike (λ (name : Text). is_key keys name) (λ name. among_names name names) has all
-
--- ---- what searches with each pattern of these members
-
-any_of_names : (t : Text → Bool) (ps : Named) → list_any t (map (λ p. p.0) ps) ≡ list_any (λ p. t p.0) ps
-any_of_names t [] = refl
-any_of_names t (p ∷ ps) =
-    let r = any_of_names t ps in
-    cc
-
-pub spoken_left : (properties patterns : Option (Bor Named)) (searched : List Text) (ms ns : Named) → searched ≡ map (λ p. p.0) (named_in patterns) → ms ≡ ns
-    → filter (λ m. not (is_named properties m.0 || list_any (λ p. matches p m.0) searched)) ms ≡ filter (λ m. not (is_named properties m.0 || is_matched patterns m.0)) ns
-spoken_left properties patterns searched ms ns e f =
-    ap (filter (λ (m : List ℕ × Value). not (is_named properties m.0 || list_any (λ p. matches p m.0) searched))) f
-    ∙ filter_alike (λ (m : List ℕ × Value). not (is_named properties m.0 || list_any (λ p. matches p m.0) searched)) (λ m. not (is_named properties m.0 || is_matched patterns m.0))
-    (λ m. ap (λ b. not (is_named properties m.0 || b)) (ap (list_any (λ p. matches p m.0)) e ∙ any_of_names (λ p. matches p m.0) (named_in patterns))) ns
 
 -- ---- a set of names, one name more
 

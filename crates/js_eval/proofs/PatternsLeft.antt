@@ -1,23 +1,43 @@
--- What a pattern asks for when it is begun.
-use Rattle.std.proofs.Common.{◌≡◌, ℕ, List, Some, String, Global, map, filter, ap, ap₂, ◌∙◌}
+-- What patterns have left, one member or one pattern further.
+use Rattle.std.proofs.Common.{◌≡◌, ℕ, List, [], ◌∷◌, ◌++◌, Option, Some, String, Global, Bor, string_bytes, map, filter, refl, sym, ap, ap₂, ◌∙◌}
 use Rattle.js_assert.specs.Pattern.{matches}
 use Rattle.js_bundle.specs.Document.{Documents}
-use Rattle.js_bundle.specs.Resource.{Site}
 use Rattle.js_doc.specs.Seen.{pair_of}
-use Rattle.js_doc.specs.Value.{Value, Named}
+use Rattle.js_doc.specs.Value.{Value}
 use Rattle.js_doc.specs.declared.doc.Doc.{Doc}
-use Rattle.js_eval.specs.Applications.{Application}
-use Rattle.js_eval.specs.Bundle.{schemas_of}
-use Rattle.js_eval.specs.Cursors.{matching_asked, present_asked}
-use Rattle.js_eval.specs.Schemas.{Text, Name}
+use Rattle.js_eval.specs.Cursors.{IsBegun, coming_asked, matching_asked, on_member, patterns_asked, present_asked}
+use Rattle.js_eval.specs.Schemas.{Text}
 use Rattle.js_eval.specs.Sited.{site_at}
+use Rattle.js_eval.specs.declared.pattern_cursor.PatternCursor.{PatternCursor}
 
-abbrev on_it : Site → Text → Text × Value → Application Site
-on_it place pattern m = record { place = place; step = Name pattern; at = Name m.0; value = m.1 }
+module _ (documents : Documents) where
+  -- the present pattern's schema is applied to one member more
+  present_more : (o : Option (Bor Text)) (p : Bor Text) (place : ℕ) (name : Text) (left left' : List (String Global × Doc)) (m : List ℕ × Value)
+      → o ≡ Some p → filter (λ m. matches p.now m.0) (map pair_of left) ≡ m ∷ filter (λ m. matches p.now m.0) (map pair_of left')
+      → present_asked documents o place name left ≡ on_member documents place name m ∷ present_asked documents o place name left'
+  present_more o p place name left left' m e f = rw e (ap (map (on_member documents place name)) f)
 
-pub begun : (documents : Documents) (place below : ℕ) (keyword searched name : Text) (left : List (String Global × Doc)) (members : Named)
-    → searched ≡ name → map pair_of left ≡ members → site_at documents below ≡ (schemas_of documents).below (site_at documents place) keyword (Name name)
-    → present_asked documents (Some searched) below name left ≡ matching_asked documents (site_at documents place) keyword name members
-begun documents place below keyword searched name left members e f h =
-    ap₂ (λ t ms. map (on_it (site_at documents below) name) (filter (λ m. matches t m.0) ms)) e f
-    ∙ ap (λ p. map (on_it p name) (filter (λ m. matches name m.0) members)) h
+  pub found_in : (c : PatternCursor) (p : Bor Text) (left' : List (String Global × Doc)) (m : List ℕ × Value)
+      → c.present ≡ Some p → filter (λ m. matches p.now m.0) (map pair_of c.left) ≡ m ∷ filter (λ m. matches p.now m.0) (map pair_of left')
+      → patterns_asked documents c ≡ on_member documents c.below c.name.now m ∷ patterns_asked documents (record c { left = left' })
+  found_in c p left' m e f =
+      ap (λ xs. xs ++ coming_asked documents c c.patterns) (present_more c.present p c.below c.name.now c.left left' m e f)
+
+  -- it is applied to none any more
+  present_none : (o : Option (Bor Text)) (p : Bor Text) (place : ℕ) (name : Text) (left : List (String Global × Doc))
+      → o ≡ Some p → filter (λ m. matches p.now m.0) (map pair_of left) ≡ [] → present_asked documents o place name left ≡ []
+  present_none o p place name left e f = rw e (ap (map (on_member documents place name)) f)
+
+  pub none_in : (c : PatternCursor) (p : Bor Text) → c.present ≡ Some p → filter (λ m. matches p.now m.0) (map pair_of c.left) ≡ []
+      → patterns_asked documents c ≡ coming_asked documents c c.patterns
+  none_in c p e f = ap (λ xs. xs ++ coming_asked documents c c.patterns) (present_none c.present p c.below c.name.now c.left e f)
+
+  -- a pattern is begun
+  pub begun_asks : (c d : PatternCursor) (e : String Global × Doc) (rest : List (String Global × Doc)) (name : Text) (p : Bor Text)
+      → string_bytes e.0 ≡ name → IsBegun documents name p (record c { patterns = rest }) d
+      → coming_asked documents c (e ∷ rest) ≡ patterns_asked documents d
+  begun_asks c d e rest name p n b =
+      let first : matching_asked documents (site_at documents c.place) c.keyword.now (string_bytes e.0) c.members.now ≡ present_asked documents d.present d.below d.name.now d.left =
+      ap (λ x. matching_asked documents (site_at documents c.place) c.keyword.now x c.members.now) n ∙ sym b.asks in
+      let later : coming_asked documents c rest ≡ coming_asked documents d d.patterns = rw (b.place, b.keyword, b.members, b.patterns) in
+      ap₂ (λ xs ys. xs ++ ys) first later

@@ -65,7 +65,7 @@ is_matched patterns name = list_any (λ p. matches p.0 name) (named_in patterns)
 abbrev pub chosen : Choice → Text → Bool
 chosen choice.All name = true
 chosen (choice.Named named) name = has name named.now
-chosen (choice.Additional adjacent) name = not (is_named adjacent.properties name || list_any (λ p. matches p name) adjacent.searchers)
+chosen (choice.Additional adjacent) name = not (is_named adjacent.properties name || is_matched adjacent.patterns name)
 chosen (choice.Except names) name = not (is_key names.keys name)
 
 -- those of the members that are chosen
@@ -86,14 +86,10 @@ matching_asked documents place keyword pattern members =
 abbrev pub on_member : Documents → ℕ → Text → Text × Value → Application Site
 on_member documents place pattern m = record { place = site_at documents place; step = Name pattern; at = Name m.0; value = m.1 }
 
--- those of the members that are left and that the present pattern matches
-abbrev pub matched_left : Option Text → List (String Global × Doc) → Named
-matched_left None left = []
-matched_left (Some pattern) left = filter (λ m. matches pattern m.0) (map pair_of left)
-
--- the schema at a place on them
-abbrev pub present_asked : Documents → Option Text → ℕ → Text → List (String Global × Doc) → List (Application Site)
-present_asked documents present place name left = map (on_member documents place name) (matched_left present left)
+-- the schema at a place, on those of the members that are left and that its pattern matches
+abbrev pub present_asked : Documents → Option (Bor Text) → ℕ → Text → List (String Global × Doc) → List (Application Site)
+present_asked documents None place name left = []
+present_asked documents (Some pattern) place name left = map (on_member documents place name) (filter (λ m. matches pattern.now m.0) (map pair_of left))
 
 -- what the patterns that are still to come ask for
 abbrev pub coming_asked : Documents → PatternCursor → List (String Global × Doc) → List (Application Site)
@@ -102,8 +98,10 @@ coming_asked documents c patterns = flat_map (λ p. matching_asked documents (si
 abbrev pub patterns_asked : Documents → PatternCursor → List (Application Site)
 patterns_asked documents c = present_asked documents c.present c.below c.name.now c.left ++ coming_asked documents c c.patterns
 
--- the pattern of this text is the present one, and all members are left of it
-pub record IsBegun (documents : Documents) (name : Text) (c d : PatternCursor) : Type 0 where
+-- this pattern is the present one, and all members are left of it
+pub record IsBegun (documents : Documents) (name : Text) (pattern : Bor Text) (c d : PatternCursor) : Type 0 where
+  pub present : d.present ≡ Some pattern
+  pub pattern_is : pattern.now ≡ name
   pub asks : present_asked documents d.present d.below d.name.now d.left ≡ matching_asked documents (site_at documents c.place) c.keyword.now name c.members.now
   pub is : is_place documents d.below ≡ true
   pub place : d.place ≡ c.place

@@ -55,7 +55,7 @@ pub(crate) fn next_asked<'a>(
     match asking {
         Asking::One(one) => Ok(next_alone(schemas, one)),
         Asking::Items(items) => Ok(next_item(schemas, items)),
-        Asking::Members(members) => Ok(next_member(schemas, members)),
+        Asking::Members(members) => next_member(alloc, schemas, members),
         Asking::Patterns(patterns) => next_pattern(alloc, schemas, patterns),
     }
 }
@@ -87,15 +87,19 @@ fn next_item<'a>(schemas: &Schemas, items: &mut ItemCursor<'a>) -> Option<Applie
     next_on_item(schemas, items)
 }
 
-fn next_member<'a>(schemas: &Schemas, members: &mut MemberCursor<'a>) -> Option<Applied<'a>>
-    ensures next { MatchOption result (members_of_asking schemas.now members.old ≡ [])
-        (λ a. members_of_asking schemas.now members.old ≡ applied_of schemas.now a ∷ members_of_asking schemas.now members.new) }
-    ensures is { MatchOption result (Unit {0}) (λ a. is_place schemas.now a.place ≡ true) }
+fn next_member<'a>(
+    alloc: Global,
+    schemas: &Schemas,
+    members: &mut MemberCursor<'a>,
+) -> Result<Option<Applied<'a>>, Memory>
+    ensures next { IfOk result (λ o. MatchOption o (members_of_asking schemas.now members.old ≡ [])
+        (λ a. members_of_asking schemas.now members.old ≡ applied_of schemas.now a ∷ members_of_asking schemas.now members.new)) }
+    ensures is { IfOk result (λ o. MatchOption o (Unit {0}) (λ a. is_place schemas.now a.place ≡ true)) }
 {
     if !schemas.has(members.held.number()) {
-        return None;
+        return Ok(None);
     }
-    next_on_member(schemas, members)
+    next_on_member(alloc, schemas, members)
 }
 
 fn next_pattern<'a>(

@@ -17,7 +17,6 @@ mod member_cursor;
 mod name_set;
 mod parts;
 mod pattern_cursor;
-mod searchers;
 mod start;
 mod start_items;
 mod start_members;

@@ -22,8 +22,7 @@ ghost use Rattle.js_eval.specs.Sited.{site_at};
 use crate::applied::{Held, To, apply};
 use crate::name_set::{is_in, set_of};
 use crate::parts::{Applied, Instance, Step, argument_in, members_in};
-use crate::searchers::Searchers;
-use js_assert::{Pattern, Searcher};
+use js_assert::Pattern;
 use js_bundle::{Place, Schemas};
 use js_doc::{Doc, Members, Memory};
 use std::alloc::Global;
@@ -42,12 +41,12 @@ pub(crate) enum Choice<'a> {
     Except(BTreeSet<&'a str>),
 }
 
-/// What the adjacent keywords speak of: the argument of `properties`, where it is an object, and what searches with each pattern
-/// of `patternProperties`.
-#[derive(Drop)]
+/// The arguments of the adjacent `properties` and `patternProperties`, where they are objects.
+#[derive(Clone, Copy)]
 pub(crate) struct Adjacent<'a> {
+    pub place: Place,
     pub properties: Option<&'a Members>,
-    pub searchers: Searchers<'a>,
+    pub patterns: Option<&'a Members>,
 }
 
 /// The members that a keyword is still to ask for.
@@ -115,64 +114,29 @@ pub(crate) fn each_name<'a>(below: Place, members: &'a Members) -> MemberCursor<
     }
 }
 
-/// The schema at a place, on each member of which the adjacent keywords don't speak. `patterns` are those of `place`.
-///
-/// # Errors
-/// `Memory`.
+/// The schema at a place, on each member of which the adjacent keywords don't speak.
 pub(crate) fn each_additional<'a>(
-    alloc: Global,
-    schemas: &'a Schemas,
     below: Place,
     place: Place,
     properties: Option<&'a Members>,
     patterns: Option<&'a Members>,
     members: &'a Members,
-) -> Result<MemberCursor<'a>, Memory>
-    ensures asked { IfOk result (λ c. (documents : Documents) → members_asked documents c
+) -> MemberCursor<'a>
+    ensures asked { (documents : Documents) → members_asked documents result
         ≡ map (λ m. record { place = site_at documents below; step = spec.Alone; at = spec.Name m.0; value = m.1 })
-        (filter (λ m. not (is_named properties.entry m.0 || is_matched patterns.entry m.0)) members.now)) }
-    ensures number { IfOk result (λ c. number_in c.held ≡ below) }
+        (filter (λ m. not (is_named properties.entry m.0 || is_matched patterns.entry m.0)) members.now) }
+    ensures number { number_in result.held ≡ below }
 {
-    let searchers = searchers(alloc, schemas, place, patterns)?;
-    Ok(MemberCursor {
+    MemberCursor {
         held: Held::One(below),
         to: To::Part,
         members: members.pairs(),
         choice: Choice::Additional(Adjacent {
+            place,
             properties,
-            searchers,
+            patterns,
         }),
-    })
-}
-
-// What searches with each of the patterns of the place.
-fn searchers<'a>(
-    alloc: Global,
-    schemas: &'a Schemas,
-    place: Place,
-    patterns: Option<&'a Members>,
-) -> Result<Searchers<'a>, Memory>
-    ensures { IfOk result (λ s. s ≡ map (λ p. p.0) (named_in patterns.entry)) }
-{
-    match patterns {
-        Some(patterns) => searchers_of(alloc, schemas, place, patterns),
-        None => Ok(Searchers::new(alloc)),
     }
-}
-
-fn searchers_of<'a>(
-    alloc: Global,
-    schemas: &'a Schemas,
-    place: Place,
-    patterns: &'a Members,
-) -> Result<Searchers<'a>, Memory>
-    ensures { IfOk result (λ s. s ≡ map (λ p. p.0) patterns.now) }
-{
-    let mut made = Searchers::new(alloc);
-    for (name, _) in patterns.pairs() {
-        made.push(searcher_of(alloc, schemas, place, name.as_str())?)?;
-    }
-    Ok(made)
 }
 
 /// The schema at a place, on each member that isn't among these.
@@ -210,71 +174,87 @@ pub(crate) fn object_at<'a>(schema: &'a Doc, keyword: &str) -> Option<&'a Member
 }
 
 /// The next application.
+///
+/// # Errors
+/// `Memory`: a pattern is searched for.
 pub(crate) fn next_on_member<'a>(
+    alloc: Global,
     schemas: &Schemas,
     cursor: &mut MemberCursor<'a>,
-) -> Option<Applied<'a>>
+) -> Result<Option<Applied<'a>>, Memory>
     requires { IsHeld schemas.now cursor.old.held }
-    ensures next { MatchOption result (members_asked schemas.now cursor.old ≡ [])
-        (λ a. members_asked schemas.now cursor.old ≡ applied_of schemas.now a ∷ members_asked schemas.now cursor.new) }
-    ensures is { MatchOption result (Unit {0}) (λ a. is_place schemas.now a.place ≡ true) }
+    ensures next { IfOk result (λ o. MatchOption o (members_asked schemas.now cursor.old ≡ [])
+        (λ a. members_asked schemas.now cursor.old ≡ applied_of schemas.now a ∷ members_asked schemas.now cursor.new)) }
+    ensures is { IfOk result (λ o. MatchOption o (Unit {0}) (λ a. is_place schemas.now a.place ≡ true)) }
     ensures held { cursor.new.held ≡ cursor.old.held }
 {
-    match next_member(&mut cursor.choice, &mut cursor.members) {
-        Some((name, member)) => Some(apply(
+    match next_member(alloc, schemas, &cursor.choice, &mut cursor.members)? {
+        Some((name, member)) => Ok(Some(apply(
             schemas,
             &cursor.held,
             &cursor.to,
             Step::Name(name),
             member,
-        )),
-        None => None,
+        ))),
+        None => Ok(None),
     }
 }
 
 // The next member that is chosen.
 fn next_member<'a>(
-    choice: &mut Choice<'a>,
+    alloc: Global,
+    schemas: &Schemas,
+    choice: &Choice<'a>,
     members: &mut Iter<'a, String, Doc>,
-) -> Option<(&'a str, &'a Doc)>
-    ensures same { choice.new ≡ choice.old }
-    ensures next { MatchOption result (members_left choice.old members.old ≡ [])
-        (λ m. members_left choice.old members.old ≡ (m.0.now, value_of m.1.now) ∷ members_left choice.old members.new) }
+) -> Result<Option<(&'a str, &'a Doc)>, Memory>
+    ensures { IfOk result (λ o. MatchOption o (members_left choice.now members.old ≡ [])
+        (λ m. members_left choice.now members.old ≡ (m.0.now, value_of m.1.now) ∷ members_left choice.now members.new)) }
 {
     while let Some((name, member)) = members.next() {
         let name = name.as_str();
-        if is_chosen(choice, name) {
-            return Some((name, member));
+        if is_chosen(alloc, schemas, choice, name)? {
+            return Ok(Some((name, member)));
         }
     }
-    None
+    Ok(None)
 }
 
-fn is_chosen(choice: &mut Choice<'_>, name: &str) -> bool
-    ensures chosen { result ≡ chosen choice.old name.now }
-    ensures same { choice.new ≡ choice.old }
+fn is_chosen(
+    alloc: Global,
+    schemas: &Schemas,
+    choice: &Choice<'_>,
+    name: &str,
+) -> Result<bool, Memory>
+    ensures { IfOk result (λ b. b ≡ chosen choice.now name.now) }
 {
     match choice {
-        Choice::All => true,
-        Choice::Named(named) => named.get(name).is_some(),
-        Choice::Additional(adjacent) => !is_spoken_of(adjacent, name),
-        Choice::Except(names) => !is_in(names, name),
+        Choice::All => Ok(true),
+        Choice::Named(named) => Ok(named.get(name).is_some()),
+        Choice::Additional(adjacent) => Ok(!is_spoken_of(alloc, schemas, adjacent, name)?),
+        Choice::Except(names) => Ok(!is_in(names, name)),
     }
 }
 
 // The adjacent keywords speak of the name.
-fn is_spoken_of(adjacent: &mut Adjacent<'_>, name: &str) -> bool
-    ensures spoken { result ≡ (is_named adjacent.old.properties name.now || list_any (λ p. matches p name.now) adjacent.old.searchers) }
-    ensures same { adjacent.new ≡ adjacent.old }
+fn is_spoken_of(
+    alloc: Global,
+    schemas: &Schemas,
+    adjacent: &Adjacent<'_>,
+    name: &str,
+) -> Result<bool, Memory>
+    ensures { IfOk result (λ b. b ≡ (is_named adjacent.now.properties name.now || is_matched adjacent.now.patterns name.now)) }
 {
-    if is_named(&adjacent.properties, name) {
-        return true;
+    if is_named(adjacent.properties, name) {
+        return Ok(true);
     }
-    adjacent.searchers.any_holds(name)
+    match adjacent.patterns {
+        Some(patterns) => matches_any(alloc, schemas, adjacent.place, patterns, name),
+        None => Ok(false),
+    }
 }
 
-fn is_named(properties: &Option<&Members>, name: &str) -> bool
-    ensures { result ≡ is_named properties.now name.now }
+fn is_named(properties: Option<&Members>, name: &str) -> bool
+    ensures { result ≡ is_named properties.entry name.now }
 {
     match properties {
         Some(named) => named.get(name).is_some(),
@@ -282,25 +262,45 @@ fn is_named(properties: &Option<&Members>, name: &str) -> bool
     }
 }
 
-/// What searches with the pattern of this name among the `patternProperties` of the place.
-///
-/// # Errors
-/// `Memory`.
-pub(crate) fn searcher_of<'s>(
+fn matches_any(
     alloc: Global,
-    schemas: &'s Schemas,
+    schemas: &Schemas,
+    place: Place,
+    patterns: &Members,
+    name: &str,
+) -> Result<bool, Memory>
+    ensures { IfOk result (λ b. b ≡ list_any (λ p. matches p.0 name.now) patterns.now) }
+{
+    for (pattern, _) in patterns.pairs() {
+        if matches(alloc, schemas, place, pattern.as_str(), name)? {
+            return Ok(true);
+        }
+    }
+    Ok(false)
+}
+
+// Whether a pattern of the place's `patternProperties` matches somewhere in a name.
+fn matches(
+    alloc: Global,
+    schemas: &Schemas,
     place: Place,
     pattern: &str,
-) -> Result<Searcher<'s>, Memory>
-    ensures { IfOk result (λ s. s ≡ pattern.now) }
+    name: &str,
+) -> Result<bool, Memory>
+    ensures { IfOk result (λ b. b ≡ matches pattern.now name.now) }
 {
     match pattern_of(schemas, place, pattern) {
-        Some(pattern) => pattern.searcher(alloc),
+        Some(built) => built.holds(alloc, name),
         None => Err(Memory), // never: each pattern of finished schemas is built
     }
 }
 
-fn pattern_of<'s>(schemas: &'s Schemas, place: Place, pattern: &str) -> Option<&'s Pattern>
+/// The pattern of this name among the `patternProperties` of the place.
+pub(crate) fn pattern_of<'s>(
+    schemas: &'s Schemas,
+    place: Place,
+    pattern: &str,
+) -> Option<&'s Pattern>
     ensures { MatchOption result (Unit {0}) (λ p. p.now ≡ pattern.now) }
 {
     if schemas.has(place) {

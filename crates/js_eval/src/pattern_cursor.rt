@@ -1,19 +1,19 @@
 //! What `patternProperties` asks for (Core, section 10.3.2.2): for each pattern, its schema on each member whose name it
 //! matches.
-ghost use Rattle.std.specs.Prelude.{◌≡◌, ◌∷◌, [], IfOk, MatchOption, OnOk, filter, map, true};
+ghost use Rattle.std.specs.Prelude.{◌≡◌, ◌∷◌, [], IfOk, MatchOption, filter, map, true};
 ghost use Rattle.std.specs.List.{flat_map};
 ghost use Rattle.js_assert.specs.Pattern.{matches};
 ghost use Rattle.js_bundle.specs.Document.{Documents};
 ghost use Rattle.js_bundle.specs.Schemas.{is_place};
 ghost use Rattle.js_doc.specs.Seen.{pair_of, value_of};
 ghost use Rattle.js_eval.specs.Applied.{applied_of};
-ghost use Rattle.js_eval.specs.Cursors.{IsBegun, matched_left, matching_asked, on_member, patterns_asked};
+ghost use Rattle.js_eval.specs.Cursors.{IsBegun, matching_asked, on_member, patterns_asked};
 ghost use Rattle.js_eval.specs.Sited.{site_at};
 
 use crate::bundled::below;
-use crate::member_cursor::searcher_of;
+use crate::member_cursor::pattern_of;
 use crate::parts::{Applied, Instance, Step};
-use js_assert::Searcher;
+use js_assert::Pattern;
 use js_bundle::{Place, Schemas};
 use js_doc::{Doc, Members, Memory};
 use std::alloc::Global;
@@ -26,8 +26,8 @@ pub(crate) struct PatternCursor<'a> {
     pub keyword: &'a str,
     pub patterns: Iter<'a, String, Doc>,
     pub members: &'a Members,
-    /// What searches with the present pattern, where there is one; its text and the place of its schema.
-    pub present: Option<Searcher<'a>>,
+    /// The present pattern, where there is one, its text and the place of its schema.
+    pub present: Option<&'a Pattern>,
     pub name: &'a str,
     pub below: Place,
     pub left: Iter<'a, String, Doc>,
@@ -98,65 +98,55 @@ fn next_match<'a>(
     ensures place { IfOk result (λ _. cursor.new.place ≡ cursor.old.place) }
     ensures below { IfOk result (λ _. is_place schemas.now cursor.new.below ≡ true) }
 {
-    if let Some(found) = next_present(&mut cursor.present, &mut cursor.left) {
-        return Ok(Some(found));
+    if let Some(pattern) = cursor.present {
+        if let Some(found) = next_member(alloc, pattern, &mut cursor.left)? {
+            return Ok(Some(found));
+        }
     }
     while let Some((name, _)) = cursor.patterns.next() {
-        begin(alloc, schemas, cursor, name.as_str())?;
-        if let Some(found) = next_present(&mut cursor.present, &mut cursor.left) {
+        let pattern = begin(schemas, cursor, name.as_str())?;
+        if let Some(found) = next_member(alloc, pattern, &mut cursor.left)? {
             return Ok(Some(found));
         }
     }
     Ok(None)
 }
 
-// The next member whose name the present pattern matches.
-fn next_present<'a>(
-    present: &mut Option<Searcher<'_>>,
-    members: &mut Iter<'a, String, Doc>,
-) -> Option<(&'a str, &'a Doc)>
-    ensures same { present.new ≡ present.old }
-    ensures next { MatchOption result (matched_left present.old members.old ≡ [])
-        (λ m. matched_left present.old members.old ≡ (m.0.now, value_of m.1.now) ∷ matched_left present.old members.new) }
-{
-    match present {
-        Some(searcher) => next_member(searcher, members),
-        None => None,
-    }
-}
-
 // Makes a pattern the present one.
 fn begin<'a>(
-    alloc: Global,
     schemas: &'a Schemas,
     cursor: &mut PatternCursor<'a>,
     name: &'a str,
-) -> Result<(), Memory>
+) -> Result<&'a Pattern, Memory>
     requires { is_place schemas.now cursor.old.place ≡ true }
-    ensures { OnOk result (IsBegun schemas.now name.now cursor.old cursor.new) }
+    ensures { IfOk result (λ p. IsBegun schemas.now name.now p cursor.old cursor.new) }
 {
-    let searcher = searcher_of(alloc, schemas, cursor.place, name)?;
-    cursor.present = Some(searcher);
-    cursor.name = name;
-    cursor.below = below(schemas, cursor.place, cursor.keyword, Step::Name(name));
-    cursor.left = cursor.members.pairs();
-    Ok(())
+    match pattern_of(schemas, cursor.place, name) {
+        Some(pattern) => {
+            cursor.present = Some(pattern);
+            cursor.name = name;
+            cursor.below = below(schemas, cursor.place, cursor.keyword, Step::Name(name));
+            cursor.left = cursor.members.pairs();
+            Ok(pattern)
+        }
+        None => Err(Memory), // never: each pattern of finished schemas is built
+    }
 }
 
 // The next member whose name the pattern matches.
 fn next_member<'a>(
-    searcher: &mut Searcher<'_>,
+    alloc: Global,
+    pattern: &Pattern,
     members: &mut Iter<'a, String, Doc>,
-) -> Option<(&'a str, &'a Doc)>
-    ensures same { searcher.new ≡ searcher.old }
-    ensures next { MatchOption result (filter (λ m. matches searcher.old m.0) (map pair_of members.old) ≡ [])
-        (λ m. filter (λ m. matches searcher.old m.0) (map pair_of members.old) ≡ (m.0.now, value_of m.1.now) ∷ filter (λ m. matches searcher.old m.0) (map pair_of members.new)) }
+) -> Result<Option<(&'a str, &'a Doc)>, Memory>
+    ensures { IfOk result (λ o. MatchOption o (filter (λ m. matches pattern.now m.0) (map pair_of members.old) ≡ [])
+        (λ m. filter (λ m. matches pattern.now m.0) (map pair_of members.old) ≡ (m.0.now, value_of m.1.now) ∷ filter (λ m. matches pattern.now m.0) (map pair_of members.new))) }
 {
     while let Some((name, member)) = members.next() {
         let name = name.as_str();
-        if searcher.holds(name) {
-            return Some((name, member));
+        if pattern.holds(alloc, name)? {
+            return Ok(Some((name, member)));
         }
     }
-    None
+    Ok(None)
 }

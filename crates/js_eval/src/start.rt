@@ -51,7 +51,7 @@ pub(crate) struct Facts<'s, 'a> {
 /// `Memory`.
 pub(crate) fn start<'a>(
     alloc: Global,
-    schemas: &'a Schemas,
+    schemas: &Schemas,
     scene: Scene<'_, 'a>,
     facts: Facts<'_, 'a>,
     keyword: Keyword<'a>,
@@ -86,9 +86,9 @@ pub(crate) fn start<'a>(
         Kind::Contains => Ok(start_items::every(alloc, schemas, place, name, value)),
         Kind::Properties => Ok(start_members::properties(schemas, place, keyword, value)),
         Kind::PatternProperties => Ok(start_members::patterns(schemas, place, keyword, value)),
-        Kind::AdditionalProperties => start_members::additional(
-            alloc, schemas, place, name, schema, value,
-        ),
+        Kind::AdditionalProperties => Ok(start_members::additional(
+            schemas, place, name, schema, value,
+        )),
         Kind::PropertyNames => Ok(start_members::names(schemas, place, name, value)),
         Kind::UnevaluatedItems => start_items::unevaluated(
             alloc,

@@ -90,30 +90,27 @@ pub(crate) fn patterns<'a>(
 }
 
 /// What `additionalProperties` asks for.
-///
-/// # Errors
-/// `Memory`.
 pub(crate) fn additional<'a>(
-    alloc: Global,
-    schemas: &'a Schemas,
+    schemas: &Schemas,
     place: Place,
     keyword: &str,
     schema: &'a Doc,
     value: Instance<'a>,
-) -> Result<Asking<'a>, Memory>
+) -> Asking<'a>
     requires { is_place schemas.now place ≡ true }
-    ensures { IfOk result (λ a. asked schemas.now a
+    ensures { asked schemas.now result
         ≡ map (λ m. application (schemas_of schemas.now) (site_at schemas.now place) keyword.now spec.Alone (spec.Name m.0) m.1)
-        (filter (λ m. not (is_property (entries (value_of schema.now)) m.0 || matches_pattern (entries (value_of schema.now)) m.0)) (entries (instance_of value.entry)))) }
+        (filter (λ m. not (is_property (entries (value_of schema.now)) m.0 || matches_pattern (entries (value_of schema.now)) m.0)) (entries (instance_of value.entry))) }
 {
-    let Some(members) = value.members() else {
-        return Ok(Asking::One(None));
-    };
     let below = below(schemas, place, keyword, Step::Alone);
     let properties = object_at(schema, "properties");
     let patterns = object_at(schema, "patternProperties");
-    let members = each_additional(alloc, schemas, below, place, properties, patterns, members)?;
-    Ok(Asking::Members(members))
+    match value.members() {
+        Some(members) => Asking::Members(each_additional(
+            below, place, properties, patterns, members,
+        )),
+        None => Asking::One(None),
+    }
 }
 
 /// What `propertyNames` asks for.

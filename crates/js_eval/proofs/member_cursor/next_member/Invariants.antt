@@ -6,6 +6,5 @@ abbrev pub invariant-loop-name : goal.invariant-loop-name
 invariant-loop-name l =
     record {
       can : (goal.iterator-loop-name).can_next l.members × (goal.iterator-loop-name).is_finite l.members;
-      kept : l.choice ≡ l.fn.choice;
-      same : members_left l.fn.choice l.members ≡ members_left l.fn.choice l.initial.members;
+      same : members_left l.choice l.members ≡ members_left l.choice l.initial.members;
     }

@@ -7,6 +7,5 @@ abbrev pub invariant-loop-name : goal.invariant-loop-name
 invariant-loop-name l =
     record {
       can : (goal.iterator-loop-name).can_next l.members × (goal.iterator-loop-name).is_finite l.members;
-      kept : l.searcher ≡ l.fn.searcher;
-      same : filter (λ m. matches l.fn.searcher m.0) (map pair_of l.members) ≡ filter (λ m. matches l.fn.searcher m.0) (map pair_of l.initial.members);
+      same : filter (λ m. matches l.pattern m.0) (map pair_of l.members) ≡ filter (λ m. matches l.pattern m.0) (map pair_of l.initial.members);
     }

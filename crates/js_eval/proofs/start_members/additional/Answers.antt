@@ -9,11 +9,11 @@ use Rattle.js_eval.specs.Sited.{site_at}
 use Rattle.js_eval.proofs.Started.{additional_by, moved, on_members, there}
 use Rattle.js_eval.proofs.start_members.additional.Goals as goal
 
-pub returns : goal.returns
-returns c =
+pub returns-in-Some : goal.returns-in-Some
+returns-in-Some c =
     let documents = c.args.schemas.now in
-    there documents _ c.below-below.result _ _ c.in_ok-members.ensures.number c.below-below.ensures.is
+    there documents _ c.below-below.result _ _ c.each_additional.ensures.number c.below-below.ensures.is
     (moved (on_members (λ n. not (is_named c.object_at-properties.result n || is_matched c.object_at-patterns.result n))) _ _ _ _ _
-    (c.in_ok-members.ensures.asked documents) c.below-below.ensures.site c.in-Some.ensures
+    (c.each_additional.ensures.asked documents) c.below-below.ensures.site c.in-Some.ensures
     ∙ ap (map (λ m. record { place = (schemas_of documents).below (site_at documents c.args.place) c.args.keyword.now spec.Alone; step = spec.Alone; at = spec.Name m.0; value = m.1 }))
     (additional_by c.object_at-properties.result c.object_at-patterns.result (entries (value_of c.args.schema.now)) (entries (instance_of c.args.value)) c.object_at-properties.ensures c.object_at-patterns.ensures))
