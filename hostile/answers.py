@@ -122,14 +122,14 @@ def of_bundles():
 
 
 def of_results(row):
-    text = {it: shown(it, row) for it in cases.FORMATS}
+    text = {it: shown(it, row) for it in cases.STANDARD_FORMATS}
     whole = json.loads(text["verbose"])
     verdict = "valid" if whole["valid"] else "invalid"
     for call in ("walk", "walk_into_boxed", "walk_into_flat", "tree_doc"):
         yield Call([call, row], text["verbose"])
     for call in ("walk_into_verdict", "verdict"):
         yield Call([call, row], verdict)
-    for it in cases.FORMATS:
+    for it in cases.STANDARD_FORMATS:
         yield Call([f"form_{it}", row], text[it])
         yield Call([f"flat_{it}", row], text[it])
     for call in ("units", "flat_units"):
@@ -150,7 +150,7 @@ def jobs():
     """What `devices` runs by itself: the text that is written, and how many reads and writes matter."""
     pair, suite = b"true\nnull", small_suite()
     yield "pair", '{"valid":true}\n', len(pair) + 1
-    for it in cases.FORMATS:
+    for it in cases.STANDARD_FORMATS:
         yield f"polygon_{it}", shown(it, "polygon") + "\n", len(cases.POINTS) + 1
     yield "suite", 'pass 0.0 "i"\nfail 0.1 "s"\nskip 0.2 "f"\npassed 1, failed 1, skipped 1\n', len(suite) + 1
     yield "places", LOCATIONS, 0

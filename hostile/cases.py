@@ -3,7 +3,8 @@ import json
 from dataclasses import dataclass, field
 
 U = "https://a.example/s"
-FORMATS = ("flag", "basic", "detailed", "verbose")
+STANDARD_FORMATS = ("flag", "basic", "detailed", "verbose")
+FORMATS = (*STANDARD_FORMATS, "merged")
 VALID, INVALID = b'{"valid":true}\n', b'{"valid":false}\n'
 POLYGON = (
     '{"$id":"https://example.com/polygon","$schema":"https://json-schema.org/draft/2020-12/schema","$defs":{"point":'
