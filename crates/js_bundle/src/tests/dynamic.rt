@@ -1,7 +1,7 @@
 //! What dynamic references lead to in a dynamic scope.
 use super::*;
 
-// What the `$dynamicRef` of a path's last place leads to.
+// What the `$dynamicRef` of a path's last place leads to, by the path and by the numbers of its resources.
 fn target(alloc: Global, schemas: &Schemas, uris: &[&str]) -> Result<String, Fail> {
     let mut path = Vec::new(alloc);
     for uri in uris {
@@ -25,7 +25,32 @@ fn target_in(
     if !schemas.has_dynamic_ref(place) {
         return Err(Fail::from("it has a dynamic reference"));
     }
-    location(alloc, schemas, Some(schemas.dynamic_target(place, path)))
+    let by_path = location(alloc, schemas, Some(schemas.dynamic_target(place, path)))?;
+    let numbers = numbers_on(alloc, schemas, path)?;
+    let found = schemas.dynamic_target_in(place, numbers.as_slice());
+    let by_numbers = location(alloc, schemas, Some(found))?;
+    if by_path.as_str() != by_numbers.as_str() {
+        return Err(Fail::from("the path and the numbers lead to two places"));
+    }
+    Ok(by_path)
+}
+
+// The numbers of a path's resources, of equal neighbours one.
+fn numbers_on(alloc: Global, schemas: &Schemas, path: &[Place]) -> Result<Vec<usize>, Fail> {
+    let mut numbers = Vec::new(alloc);
+    for place in path {
+        if schemas.has(*place) {
+            push_apart(&mut numbers, schemas.resource_number(*place))?;
+        }
+    }
+    Ok(numbers)
+}
+
+fn push_apart(numbers: &mut Vec<usize>, number: usize) -> Result<(), Fail> {
+    if numbers.last() != Some(&number) {
+        numbers.push(number)?;
+    }
+    Ok(())
 }
 
 #[test]
@@ -140,5 +165,30 @@ fn a_plain_anchor_on_the_path_is_passed_over(rt: HostRuntime) -> Result<(), Fail
         target(alloc, &schemas, &[URI, "https://a.example/l"])?.as_str(),
         "https://a.example/l#/$defs/x"
     );
+    Ok(())
+}
+
+// The number of the resource that a URI is in.
+fn number(alloc: Global, schemas: &Schemas, uri: &str) -> Result<usize, Fail> {
+    let place = at(alloc, schemas, uri)?;
+    Ok(schemas.resource_number(place))
+}
+
+#[test]
+fn resources_are_numbered_by_their_roots(rt: HostRuntime) -> Result<(), Fail> {
+    let alloc = rt.alloc();
+    let schemas = finished(alloc, &[(URI, EMBEDDED), TREE])?;
+    assert_eq!(rt; schemas.resource_count(), 3);
+    for (uri, want) in [
+        ("https://a.example/x", 0),
+        ("https://a.example/x#/allOf/0", 0),
+        ("https://a.example/y", 1),
+        ("https://a.example/y#/not", 1),
+        ("https://a.example/x#q", 0),
+        ("https://example.com/tree", 2),
+        ("https://example.com/tree#/properties/data", 2),
+    ] {
+        assert_eq!(rt; number(alloc, &schemas, uri)?, want, "{uri}");
+    }
     Ok(())
 }
