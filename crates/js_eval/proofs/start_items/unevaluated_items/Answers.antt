@@ -1,7 +1,7 @@
 use Rattle.std.proofs.Common.{not}
 use Rattle.js_eval.specs.Applications.{among_indexes}
 use Rattle.js_eval.proofs.Started.{moved, on_items, there}
-use Rattle.js_eval.proofs.start_items.unevaluated.Goals as goal
+use Rattle.js_eval.proofs.start_items.unevaluated_items.Goals as goal
 
 pub returns : goal.returns
 returns c =
