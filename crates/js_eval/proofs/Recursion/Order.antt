@@ -16,7 +16,7 @@ use Rattle.js_doc.specs.Members.{get, name_cmp, IsAscending}
 use Rattle.js_assert.specs.Argument.{entries}
 use Rattle.js_eval.specs.Applications.{Application, application, asks_of}
 use Rattle.js_eval.specs.Keywords.{Keyword, keywords, keywords_that, comes_before_else, comes_after_else, is_else}
-use Rattle.js_eval.specs.Kind.{Row, kind, kind_in, applicators}
+use Rattle.js_eval.specs.Kind.{Applicator, kind, kind_in, applicators}
 use Rattle.js_eval.specs.SchemaSet.{Text, SchemaSet, Alone}
 use Rattle.js_eval.specs.Verdict as verdict
 use Rattle.js_eval.specs.Verdict.{Known}
@@ -115,11 +115,11 @@ module _ (schema : Value) (ascending : IsAscending (entries schema)) (done more 
 
 -- ---- a name's kind, by its row
 
-row_at : (q : Text → Kind → Bool) (b : Bool) (row : Row) (rows : List Row) (name : Text) → bytes_eq name row.0 ≡ b → q row.0 row.1 ≡ true → q name (kind_in rows name) ≡ true → q name (cond b row.1 (kind_in rows name)) ≡ true
+row_at : (q : Text → Kind → Bool) (b : Bool) (row : Applicator) (rows : List Applicator) (name : Text) → bytes_eq name row.0 ≡ b → q row.0 row.1 ≡ true → q name (kind_in rows name) ≡ true → q name (cond b row.1 (kind_in rows name)) ≡ true
 row_at q true row rows name e h r = ap (λ n. q n row.1) ((bytes_eq-Decides name row.0).0 e) ∙ h
 row_at q false row rows name e h r = r
 
-in_rows : (q : Text → Kind → Bool) → ((name : Text) (b : Bool) → q name (cond b Assertion Annotation) ≡ true) → (rows : List Row) → list_all (λ row. q row.0 row.1) rows ≡ true → (name : Text) → q name (kind_in rows name) ≡ true
+in_rows : (q : Text → Kind → Bool) → ((name : Text) (b : Bool) → q name (cond b Assertion Annotation) ≡ true) → (rows : List Applicator) → list_all (λ row. q row.0 row.1) rows ≡ true → (name : Text) → q name (kind_in rows name) ≡ true
 in_rows q other [] h name = other name _
 in_rows q other (row ∷ rows) h name = let p = and_parts _ _ h in row_at q (bytes_eq name row.0) row rows name refl p.0 (in_rows q other rows p.1 name)
 

@@ -11,4 +11,4 @@ pub returns : goal.returns
 returns c =
     there c.args.schemas.now _ c.args.place _ _ c.each_listed.ensures.number c.requires
     (c.each_listed.ensures.asked c.args.schemas.now
-    ∙ ap (λ vs. map (λ e. application (schemas_of c.args.schemas.now) (numbered_site c.args.schemas.now c.args.place) c.args.keyword.name.now (spec.Index e.0) spec.Alone (instance_of c.args.value)) (indexed_from 0 vs)) c.items_in.ensures)
+    ∙ ap (λ vs. map (λ e. application (schemas_of c.args.schemas.now) (numbered_site c.args.schemas.now c.args.place) c.args.keyword.name.now (spec.Index e.0) spec.Alone (instance_of c.args.value)) (indexed_from 0 vs)) c.array_in.ensures)

@@ -6,4 +6,4 @@ use Rattle.js_eval.proofs.start_items.unevaluated_items.Goals as goal
 pub returns : goal.returns
 returns c =
     there c.args.schemas.now _ c.below-below.result _ _ c.in_ok-items.ensures.number c.below-below.ensures.is
-    (moved (on_items (λ i. not (among_indexes i c.args.indexes.now))) _ _ _ _ _ (c.in_ok-items.ensures.asked c.args.schemas.now) c.below-below.ensures.site c.items.ensures)
+    (moved (on_items (λ i. not (among_indexes i c.args.indexes.now))) _ _ _ _ _ (c.in_ok-items.ensures.asked c.args.schemas.now) c.below-below.ensures.site c.array.ensures)
