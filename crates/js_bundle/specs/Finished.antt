@@ -1,6 +1,6 @@
 -- What finished schemas keep of their documents, beside them: for each place, in scan order, what the definitions tell of it.
 use Rattle.std.specs.Prelude.{◌≡◌, map, codes}
-use Rattle.js_bundle.specs.declared.checked.Checked.{Checked}
+use Rattle.js_bundle.specs.declared.whole_check.Checked.{Checked}
 use Rattle.js_bundle.specs.Built.{assertions_at, assertions_in, patterns_at, patterns_in}
 use Rattle.js_bundle.specs.Candidate.{IsClear}
 use Rattle.js_bundle.specs.Document.{Documents}

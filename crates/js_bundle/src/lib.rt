@@ -5,8 +5,6 @@
 mod below;
 mod built;
 mod bundle;
-mod check;
-mod checked;
 mod document;
 mod dynamic_target;
 mod edges;
@@ -27,6 +25,7 @@ mod reference;
 mod refusal;
 mod resource_table;
 mod resources;
+mod rules;
 mod scan;
 mod schemas;
 mod scope;
@@ -34,6 +33,7 @@ mod target;
 #[cfg(test)]
 mod tests;
 mod uri;
+mod whole_check;
 
 pub use bundle::Bundle;
 pub use place::{Place, Step};

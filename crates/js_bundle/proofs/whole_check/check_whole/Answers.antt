@@ -11,7 +11,7 @@ use Rattle.js_bundle.specs.Seen.{document_of}
 use Rattle.js_bundle.specs.Spot.{spot}
 use Rattle.js_bundle.proofs.Rooted.{all_are_rooted}
 use Rattle.js_bundle.proofs.Whole.{lists_all, first_stops, second_stops, whole_clear}
-use Rattle.js_bundle.proofs.checked.check_whole.Goals as goal
+use Rattle.js_bundle.proofs.whole_check.check_whole.Goals as goal
 
 pub returns-in_err-built-clause-err : goal.returns-in_err-built-clause-err
 returns-in_err-built-clause-err c =
