@@ -11,19 +11,19 @@ ghost use Rattle.js_doc.specs.Members.{get};
 ghost use Rattle.js_doc.specs.Seen.{value_of};
 ghost use Rattle.js_doc.specs.Value.{text};
 ghost use Rattle.js_eval.specs.Applications.{among_names, application};
-ghost use Rattle.js_eval.specs.Applied.{IsHeld, applied_of, number_in};
+ghost use Rattle.js_eval.specs.Applied.{IsHeld, applied_of, kept_place};
 ghost use Rattle.js_eval.specs.Bundle.{schemas_of};
-ghost use Rattle.js_eval.specs.Cursors.{chosen, is_matched, is_named, members_asked, members_left, named_in};
-ghost use Rattle.js_eval.specs.Schemas as spec;
-ghost use Rattle.js_eval.specs.Schemas.{Text};
+ghost use Rattle.js_eval.specs.Cursors.{is_chosen, is_matched, is_named, members_asked, members_left, named_in};
+ghost use Rattle.js_eval.specs.SchemaSet as spec;
+ghost use Rattle.js_eval.specs.SchemaSet.{Text};
 ghost use Rattle.js_eval.specs.Seen.{instance_of, texts_of};
-ghost use Rattle.js_eval.specs.Sited.{site_at};
+ghost use Rattle.js_eval.specs.Sited.{numbered_site};
 
-use crate::applied::{Held, To, apply};
+use crate::applied::{Held, To, apply_to_part};
 use crate::name_set::{is_in, set_of};
-use crate::parts::{Applied, Instance, Step, argument_in, members_in};
+use crate::parts::{Applied, Instance, argument_in, object_in};
 use crate::searchers::{NamedPattern, Searchers};
-use js_bundle::{Place, Schemas};
+use js_bundle::{Place, Schemas, Step};
 use js_doc::{Doc, Members, Memory};
 use std::alloc::Global;
 use std::collections::BTreeSet;
@@ -66,9 +66,9 @@ pub(crate) fn each_named<'a>(
     members: &'a Members,
 ) -> MemberCursor<'a>
     ensures asked { (documents : Documents) → members_asked documents result
-        ≡ map (λ m. application (schemas_of documents) (site_at documents place) keyword.now (spec.Name m.0) (spec.Name m.0) m.1)
+        ≡ map (λ m. application (schemas_of documents) (numbered_site documents place) keyword.now (spec.Name m.0) (spec.Name m.0) m.1)
         (filter (λ m. has m.0 named.now) members.now) }
-    ensures number { number_in result.held ≡ place }
+    ensures number { kept_place result.held ≡ place }
 {
     MemberCursor {
         held: Held::Each(place, keyword),
@@ -87,9 +87,9 @@ pub(crate) fn each_in_place<'a>(
     value: Instance<'a>,
 ) -> MemberCursor<'a>
     ensures asked { (documents : Documents) → members_asked documents result
-        ≡ map (λ m. application (schemas_of documents) (site_at documents place) keyword.now (spec.Name m.0) spec.Alone (instance_of value.entry))
+        ≡ map (λ m. application (schemas_of documents) (numbered_site documents place) keyword.now (spec.Name m.0) spec.Alone (instance_of value.entry))
         (filter (λ m. has m.0 members.now) named.now) }
-    ensures number { number_in result.held ≡ place }
+    ensures number { kept_place result.held ≡ place }
 {
     MemberCursor {
         held: Held::Each(place, keyword),
@@ -103,8 +103,8 @@ pub(crate) fn each_in_place<'a>(
 #[tactic(auto, using(crate::proofs::MembersLeft::all_chosen))]
 pub(crate) fn each_name<'a>(below: Place, members: &'a Members) -> MemberCursor<'a>
     ensures asked { (documents : Documents) → members_asked documents result
-        ≡ map (λ m. record { place = site_at documents below; step = spec.Alone; at = spec.Name m.0; value = text m.0 }) members.now }
-    ensures number { number_in result.held ≡ below }
+        ≡ map (λ m. record { place = numbered_site documents below; step = spec.Alone; at = spec.Name m.0; value = text m.0 }) members.now }
+    ensures number { kept_place result.held ≡ below }
 {
     MemberCursor {
         held: Held::One(below),
@@ -123,9 +123,9 @@ pub(crate) fn each_additional<'a>(
     members: &'a Members,
 ) -> MemberCursor<'a>
     ensures asked { (documents : Documents) → members_asked documents result
-        ≡ map (λ m. record { place = site_at documents below; step = spec.Alone; at = spec.Name m.0; value = m.1 })
+        ≡ map (λ m. record { place = numbered_site documents below; step = spec.Alone; at = spec.Name m.0; value = m.1 })
         (filter (λ m. not (is_named properties.entry m.0 || is_matched patterns.entry m.0)) members.now) }
-    ensures number { number_in result.held ≡ below }
+    ensures number { kept_place result.held ≡ below }
 {
     MemberCursor {
         held: Held::One(below),
@@ -150,9 +150,9 @@ pub(crate) fn each_other<'a>(
     members: &'a Members,
 ) -> Result<MemberCursor<'a>, Memory>
     ensures asked { IfOk result (λ c. (documents : Documents) → members_asked documents c
-        ≡ map (λ m. record { place = site_at documents below; step = spec.Alone; at = spec.Name m.0; value = m.1 })
+        ≡ map (λ m. record { place = numbered_site documents below; step = spec.Alone; at = spec.Name m.0; value = m.1 })
         (filter (λ m. not (among_names m.0 (texts_of names.now))) members.now)) }
-    ensures number { IfOk result (λ c. number_in c.held ≡ below) }
+    ensures number { IfOk result (λ c. kept_place c.held ≡ below) }
 {
     let set = set_of(alloc, names)?;
     Ok(MemberCursor {
@@ -168,7 +168,7 @@ pub(crate) fn object_at<'a>(schema: &'a Doc, keyword: &str) -> Option<&'a Member
     ensures { named_in result ≡ option_map_or entries (get keyword.now (entries (value_of schema.now))) [] }
 {
     match argument_in(schema, keyword) {
-        Some(argument) => members_in(argument),
+        Some(argument) => object_in(argument),
         None => None,
     }
 }
@@ -196,7 +196,7 @@ pub(crate) fn next_on_member<'a>(
         &cursor.choice,
         &mut cursor.members,
     )? {
-        Some((name, member)) => Ok(Some(apply(
+        Some((name, member)) => Ok(Some(apply_to_part(
             schemas,
             &cursor.held,
             &cursor.to,
@@ -234,7 +234,7 @@ fn is_chosen<'a>(
     choice: &Choice<'a>,
     name: &str,
 ) -> Result<bool, Memory>
-    ensures { IfOk result (λ b. b ≡ chosen choice.now name.now) }
+    ensures { IfOk result (λ b. b ≡ is_chosen choice.now name.now) }
 {
     match choice {
         Choice::All => Ok(true),

@@ -7,14 +7,14 @@ ghost use Rattle.js_bundle.specs.Document.{Documents};
 ghost use Rattle.js_bundle.specs.Schemas.{is_place};
 ghost use Rattle.js_doc.specs.Seen.{pair_of, value_of};
 ghost use Rattle.js_eval.specs.Applied.{applied_of};
-ghost use Rattle.js_eval.specs.Cursors.{IsBegun, matching_asked, on_member, patterns_asked};
-ghost use Rattle.js_eval.specs.Sited.{site_at};
+ghost use Rattle.js_eval.specs.Cursors.{IsBegun, matching_asked, on_matched_member, patterns_asked};
+ghost use Rattle.js_eval.specs.Sited.{numbered_site};
 
 use crate::bundled::below;
 use crate::member_cursor::pattern_of;
-use crate::parts::{Applied, Instance, Step};
+use crate::parts::{Applied, Instance};
 use crate::searchers::{NamedPattern, Searchers};
-use js_bundle::{Place, Schemas};
+use js_bundle::{Place, Schemas, Step};
 use js_doc::{Doc, Members, Memory};
 use std::alloc::Global;
 use std::collections::btree_map::Iter;
@@ -41,7 +41,7 @@ pub(crate) fn each_matching<'a>(
     members: &'a Members,
 ) -> PatternCursor<'a>
     ensures asked { (documents : Documents) → patterns_asked documents result
-        ≡ flat_map (λ p. matching_asked documents (site_at documents place) keyword.now p.0 members.now) patterns.now }
+        ≡ flat_map (λ p. matching_asked documents (numbered_site documents place) keyword.now p.0 members.now) patterns.now }
     ensures place { result.place ≡ place }
     ensures below { result.below ≡ place }
 {
@@ -96,7 +96,7 @@ fn next_match<'a>(
     requires place { is_place schemas.now cursor.old.place ≡ true }
     requires below { is_place schemas.now cursor.old.below ≡ true }
     ensures next { IfOk result (λ o. MatchOption o (patterns_asked schemas.now cursor.old ≡ [])
-        (λ m. patterns_asked schemas.now cursor.old ≡ on_member schemas.now cursor.new.below cursor.new.name.now (m.0.now, value_of m.1.now) ∷ patterns_asked schemas.now cursor.new)) }
+        (λ m. patterns_asked schemas.now cursor.old ≡ on_matched_member schemas.now cursor.new.below cursor.new.name.now (m.0.now, value_of m.1.now) ∷ patterns_asked schemas.now cursor.new)) }
     ensures place { IfOk result (λ _. cursor.new.place ≡ cursor.old.place) }
     ensures below { IfOk result (λ _. is_place schemas.now cursor.new.below ≡ true) }
 {

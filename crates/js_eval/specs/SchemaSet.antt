@@ -1,17 +1,11 @@
 -- What a judgement asks of a set of schemas, whose places are values of any one type.
-use Rattle.std.specs.Prelude.{ℕ, List, Option}
+use Rattle.std.specs.Prelude.{List, Option}
 use Rattle.js_doc.specs.Value.{Value}
-
-abbrev pub Text : Type 0
-Text = List ℕ
-
+pub use Rattle.js_bundle.specs.Keyword.{Text}
 -- one step down: to the value itself, to an item, to a member
-pub data Step : Type 0 where
-  Alone : Step
-  Index : ℕ → Step
-  Name : Text → Step
+pub use Rattle.js_bundle.specs.Schemas.{Step, Alone, Index, Name}
 
-pub record Schemas (Place : Type 0) : Type 0 where
+pub record SchemaSet (Place : Type 0) : Type 0 where
   -- the schema that stands at a place (Core, section 4.3)
   pub schema : Place → Value
   -- the place of the subschema to which a step leads from a keyword's argument (sections 10 and 11): Alone where the
