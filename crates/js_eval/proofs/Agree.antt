@@ -9,9 +9,9 @@ use Rattle.js_doc.specs.Value.{Value, Named}
 use Rattle.js_doc.specs.Members.{get}
 use Rattle.js_assert.specs.Argument.{entries}
 use Rattle.js_eval.specs.Applications.{Application, application, asks_of}
-use Rattle.js_eval.specs.Keywords.{Keyword, keywords, chosen, comes_first, comes_last, is_else}
+use Rattle.js_eval.specs.Keywords.{Keyword, keywords, keywords_that, comes_before_else, comes_after_else, is_else}
 use Rattle.js_eval.specs.Kind.{kind, is_unevaluated}
-use Rattle.js_eval.specs.Schemas.{Text, Schemas, Alone}
+use Rattle.js_eval.specs.SchemaSet.{Text, SchemaSet, Alone}
 use Rattle.js_eval.specs.Verdict as verdict
 use Rattle.js_eval.specs.Verdict.{Known, next, nothing, within}
 use Rattle.js_eval.specs.declared.kind.Kind.{Kind}
@@ -26,13 +26,13 @@ pub record Agrees {Place : Type 0} (w x : Known Place) : Type 0 where
   pub indexes : (above : List Place) (place : Place) (v : Value) → w.settled above place v ≡ true → w.indexes above place v ≡ x.indexes above place v
 
 -- a keyword that is found is among those that have a node
-pub found_keyword : (f : Keyword → Bool) (schema : Value) (name : Text) (y : Value) → get name (entries schema) ≡ Some y → comes_first name ≡ true → list_all f (keywords schema) ≡ true → f (name, y) ≡ true
+pub found_keyword : (f : Keyword → Bool) (schema : Value) (name : Text) (y : Value) → get name (entries schema) ≡ Some y → comes_before_else name ≡ true → list_all f (keywords schema) ≡ true → f (name, y) ≡ true
 found_keyword f schema name y e t h =
-    let p = and_parts _ _ (sym (list_all-append f (chosen comes_first schema) (chosen is_else schema ++ chosen comes_last schema)) ∙ h) in
-    found f (λ k. comes_first k.0) name (entries schema) y e p.0 t
+    let p = and_parts _ _ (sym (list_all-append f (keywords_that comes_before_else schema) (keywords_that is_else schema ++ keywords_that comes_after_else schema)) ∙ h) in
+    found f (λ k. comes_before_else k.0) name (entries schema) y e p.0 t
 
 -- what another keyword asks for doesn't look at what is evaluated
-pub plain : {Place : Type 0} (S : Schemas Place) (path : List Place) (place : Place) (siblings : Named) (v : Value) (c : Option Bool) (ns : List Text) (is : List ℕ) (k : Keyword) (κ : Kind) → is_unevaluated κ ≡ false → asks_of S path place siblings v c ns is k κ ≡ asks_of S path place siblings v c [] [] k κ
+pub plain : {Place : Type 0} (S : SchemaSet Place) (path : List Place) (place : Place) (siblings : Named) (v : Value) (c : Option Bool) (ns : List Text) (is : List ℕ) (k : Keyword) (κ : Kind) → is_unevaluated κ ≡ false → asks_of S path place siblings v c ns is k κ ≡ asks_of S path place siblings v c [] [] k κ
 plain S path place siblings v c ns is k UnevaluatedItems h = cc
 plain S path place siblings v c ns is k UnevaluatedProperties h = cc
 plain S path place siblings v c ns is k _ h = refl
@@ -41,7 +41,7 @@ not_true : (b : Bool) → not b ≡ true → b ≡ false
 not_true true h = cc
 not_true false h = refl
 
-module _ {Place : Type 0} (S : Schemas Place) (w x : Known Place) (agree : Agrees w x) (above : List Place) (place : Place) (v : Value) where
+module _ {Place : Type 0} (S : SchemaSet Place) (w x : Known Place) (agree : Agrees w x) (above : List Place) (place : Place) (v : Value) where
   abbrev path : List Place
   path = above ++ place ∷ []
 
@@ -211,7 +211,7 @@ module _ {Place : Type 0} (S : Schemas Place) (w x : Known Place) (agree : Agree
   pub indexes_next : KeywordsSettled → (next S w).indexes above place v ≡ (next S x).indexes above place v
   indexes_next h = let e = schema_passes_same h in let f = all_indexes_same h in cc
 
-next_agrees : {Place : Type 0} (S : Schemas Place) (w x : Known Place) → Agrees w x → Agrees (next S w) (next S x)
+next_agrees : {Place : Type 0} (S : SchemaSet Place) (w x : Known Place) → Agrees w x → Agrees (next S w) (next S x)
 next_agrees S w x agree = record {
   settled = λ above place v h. schema_settled_same S w x agree above place v h;
   holds = λ above place v h. holds_next S w x agree above place v h;
@@ -220,7 +220,7 @@ next_agrees S w x agree = record {
 }
 
 -- what is settled within n is settled alike within n + 1
-pub within_agrees : {Place : Type 0} (S : Schemas Place) (n : ℕ) → Agrees (within S n) (within S (suc n))
+pub within_agrees : {Place : Type 0} (S : SchemaSet Place) (n : ℕ) → Agrees (within S n) (within S (suc n))
 unfolding within
 within_agrees S zero = record { settled = λ _ _ _ h. cc; holds = λ _ _ _ h. cc; names = λ _ _ _ h. cc; indexes = λ _ _ _ h. cc }
 within_agrees S (suc n) = next_agrees S (within S n) (within S (suc n)) (within_agrees S n)
@@ -235,7 +235,7 @@ plus_is : (k n : ℕ) → plus k n ≡ k + n
 plus_is zero n = omega arith
 plus_is (suc k) n = omega (arith, plus_is k n)
 
-more : {Place : Type 0} (S : Schemas Place) (k n : ℕ) → Agrees (within S n) (within S (plus k n))
+more : {Place : Type 0} (S : SchemaSet Place) (k n : ℕ) → Agrees (within S n) (within S (plus k n))
 more S zero n = record { settled = λ _ _ _ h. h; holds = λ _ _ _ h. refl; names = λ _ _ _ h. refl; indexes = λ _ _ _ h. refl }
 more S (suc k) n =
     let f = more S k n in
@@ -248,7 +248,7 @@ more S (suc k) n =
     }
 
 -- what is settled within n is settled alike within each greater number
-pub up_to : {Place : Type 0} (S : Schemas Place) (n m : ℕ) → n ≤ m → Agrees (within S n) (within S m)
+pub up_to : {Place : Type 0} (S : SchemaSet Place) (n m : ℕ) → n ≤ m → Agrees (within S n) (within S m)
 up_to S n m le =
     let e : plus (m - n) n ≡ m = omega (arith, plus_is (m - n) n) in
     subst (λ i. Agrees (within S n) (within S i)) e (more S (m - n) n)

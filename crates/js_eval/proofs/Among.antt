@@ -9,7 +9,7 @@ use Rattle.std.proofs.lemmas.Cmp.{nat_list_cmp_total}
 use Rattle.js_doc.specs.Value.{Value, Named}
 use Rattle.js_doc.specs.Members.{get, name_cmp, IsBelowHead, IsAscending}
 use Rattle.js_assert.specs.Argument.{entries}
-use Rattle.js_eval.specs.Keywords.{Keyword, keywords, chosen, comes_first, comes_last, is_else}
+use Rattle.js_eval.specs.Keywords.{Keyword, keywords, keywords_that, comes_before_else, comes_after_else, is_else}
 
 -- the keyword stands among these
 abbrev pub IsAmong : Named → Keyword → Type 0
@@ -73,8 +73,8 @@ each_among (m ∷ ms) a = (found_here m ms, all_later m ms ms (below_all ms m.0 
 pub keywords_among : (schema : Value) → IsAscending (entries schema) → AreAmong (entries schema) (keywords schema)
 keywords_among schema a =
     let each = each_among (entries schema) a in
-    all_of_both (IsAmong (entries schema)) (chosen comes_first schema) (chosen is_else schema ++ chosen comes_last schema)
-    (all_of_filter (IsAmong (entries schema)) (λ k. comes_first k.0) (entries schema) each)
-    (all_of_both (IsAmong (entries schema)) (chosen is_else schema) (chosen comes_last schema)
+    all_of_both (IsAmong (entries schema)) (keywords_that comes_before_else schema) (keywords_that is_else schema ++ keywords_that comes_after_else schema)
+    (all_of_filter (IsAmong (entries schema)) (λ k. comes_before_else k.0) (entries schema) each)
+    (all_of_both (IsAmong (entries schema)) (keywords_that is_else schema) (keywords_that comes_after_else schema)
     (all_of_filter (IsAmong (entries schema)) (λ k. is_else k.0) (entries schema) each)
-    (all_of_filter (IsAmong (entries schema)) (λ k. comes_last k.0) (entries schema) each))
+    (all_of_filter (IsAmong (entries schema)) (λ k. comes_after_else k.0) (entries schema) each))

@@ -11,7 +11,7 @@ use Rattle.js_bundle.proofs.OnLiterals.{url_on_literals}
 use Rattle.js_eval.specs.Bundle.{schemas_of}
 use Rattle.js_eval.specs.Examples.{obj, arr, str, num, only, of_type}
 use Rattle.js_eval.specs.Kind.{kind}
-use Rattle.js_eval.specs.Schemas.{Text}
+use Rattle.js_eval.specs.SchemaSet.{Text}
 use Rattle.js_eval.specs.Verdict.{within}
 use Rattle.js_assert.specs.Keyword.{keyword_named}
 use Rattle.js_doc.specs.Value.{truth}

@@ -9,9 +9,9 @@ use Rattle.js_doc.specs.Value.{Value}
 use Rattle.js_tree.specs.Forest.{Forest, empty, tree, node_count}
 use Rattle.js_eval.specs.Applications.{Application}
 use Rattle.js_eval.specs.Keywords.{Keyword, keywords}
-use Rattle.js_eval.specs.Location.{Location, at_keyword, at_application}
+use Rattle.js_eval.specs.Location.{Location, at_keyword_named, at_application}
 use Rattle.js_eval.specs.Result.{OutputUnit, ResultTree, AreKeywordNodes, AreSchemaNodes, IsNode, depth_below_schema, depth_of_schemas, depth, size}
-use Rattle.js_eval.specs.Schemas.{Schemas}
+use Rattle.js_eval.specs.SchemaSet.{SchemaSet}
 use Rattle.js_eval.specs.Size.{nodes_of_application, nodes_of_keyword, node_total}
 use Rattle.js_eval.specs.Verdict.{Known, within, Settled, asks, keyword_settled}
 use Rattle.js_eval.proofs.Lists.{and_true, all_more}
@@ -29,7 +29,7 @@ all_both p q (x ∷ xs) h g =
 abbrev meet : {Place : Type 0} → Known Place → Known Place → Known Place
 meet w x = record { settled = λ above place v. w.settled above place v && x.settled above place v; holds = w.holds; names = w.names; indexes = w.indexes }
 
-meet_by : {Place : Type 0} (S : Schemas Place) (n m : ℕ) → (n < m) ⊎ (m ≤ n) → Agrees (meet (within S n) (within S m)) (within S m)
+meet_by : {Place : Type 0} (S : SchemaSet Place) (n m : ℕ) → (n < m) ⊎ (m ≤ n) → Agrees (meet (within S n) (within S m)) (within S m)
 meet_by S n m (inl lt) =
     let f = up_to S n m (omega arith) in
     record {
@@ -47,10 +47,10 @@ meet_by S n m (inr le) =
       indexes = λ a p v h. sym (f.indexes a p v ((and_parts _ _ h).1));
     }
 
-meet_agrees : {Place : Type 0} (S : Schemas Place) (n m : ℕ) → Agrees (meet (within S n) (within S m)) (within S m)
+meet_agrees : {Place : Type 0} (S : SchemaSet Place) (n m : ℕ) → Agrees (meet (within S n) (within S m)) (within S m)
 meet_agrees S n m = meet_by S n m (cases_lt n m)
 
-module _ {Place : Type 0} (S : Schemas Place) where
+module _ {Place : Type 0} (S : SchemaSet Place) where
   abbrev Every : ℕ → List Place → Place → Value → Type 0
   Every n above place v = KeywordsSettled S n above place v (keywords (S.schema place))
 
@@ -106,7 +106,7 @@ module _ {Place : Type 0} (S : Schemas Place) where
       low_below_schema (tree t below after) m above place at v (k ∷ ks) h r le =
           let p = and_parts _ _ h in
           and_true
-          (low_below_keyword below m (above ++ place ∷ []) (at_keyword at k.0) (asks S (within S n) above place v k) p.0 r.1 (omega arith))
+          (low_below_keyword below m (above ++ place ∷ []) (at_keyword_named at k.0) (asks S (within S n) above place v k) p.0 r.1 (omega arith))
           (low_below_schema after m above place at v ks p.1 r.2 (omega arith))
 
       low_below_keyword : (f : Forest OutputUnit) (m : ℕ) (path : List Place) (at : Location) (apps : List (Application Place)) → AllSettled S n path apps → AreSchemaNodes S n path at apps f → depth_of_schemas f ≤ m → AllSettled S m path apps
@@ -130,7 +130,7 @@ module _ {Place : Type 0} (S : Schemas Place) where
           let p = and_parts _ _ h in
           let q = and_parts _ _ g in
           let s : AllSettled S m (above ++ place ∷ []) (asks S (within S n) above place v k) = subst (λ apps. AllSettled S m (above ++ place ∷ []) apps) (sym (asks_both n m above place v x y k)) q.0 in
-          let b = high_below_keyword below m (above ++ place ∷ []) (at_keyword at k.0) (asks S (within S n) above place v k) p.0 s r.1 in
+          let b = high_below_keyword below m (above ++ place ∷ []) (at_keyword_named at k.0) (asks S (within S n) above place v k) p.0 s r.1 in
           let a = high_below_schema after m above place at v x y ks p.1 q.1 r.2 in
           omega (arith, b, a)
 
@@ -159,7 +159,7 @@ module _ {Place : Type 0} (S : Schemas Place) where
           let q = and_parts _ _ g in
           let e = asks_both n m above place v x y k in
           let s : AllSettled S m (above ++ place ∷ []) (asks S (within S n) above place v k) = subst (λ apps. AllSettled S m (above ++ place ∷ []) apps) (sym e) q.0 in
-          let b = count_below_keyword below m (above ++ place ∷ []) (at_keyword at k.0) (asks S (within S n) above place v k) p.0 s r.1
+          let b = count_below_keyword below m (above ++ place ∷ []) (at_keyword_named at k.0) (asks S (within S n) above place v k) p.0 s r.1
           ∙ ap (sum_by (nodes_of_application (node_total S m) (above ++ place ∷ []))) e in
           let a = count_below_schema after m above place at v x y ks p.1 q.1 r.2 in
           omega (arith, b, a, sum_by-cons (nodes_of_keyword S (within S m) (node_total S m) above place v) k ks)

@@ -7,7 +7,7 @@ use Rattle.js_eval.specs.Applications.{Application}
 use Rattle.js_eval.specs.Evaluated.{names_of, indexes_of}
 use Rattle.js_eval.specs.Keywords.{Keyword, keywords}
 use Rattle.js_eval.specs.Kind.{kind, is_unevaluated, is_unevaluated_items, is_unevaluated_properties}
-use Rattle.js_eval.specs.Schemas.{Text, Schemas}
+use Rattle.js_eval.specs.SchemaSet.{Text, SchemaSet}
 use Rattle.js_eval.specs.Verdict as verdict
 use Rattle.js_eval.specs.Verdict.{Known}
 use Rattle.js_eval.specs.declared.kind.Kind.{Kind}
@@ -51,7 +51,7 @@ either_way false false = refl
 neither : (b c : Bool) → b ≡ false → c ≡ false → (b || c) ≡ false
 neither b c p q = cc
 
-module _ {Place : Type 0} (S : Schemas Place) (known : Known Place) (above : List Place) (place : Place) (v : Value) where
+module _ {Place : Type 0} (S : SchemaSet Place) (known : Known Place) (above : List Place) (place : Place) (v : Value) where
   asks_plain : (k : Keyword) → is_unevaluated (kind k.0) ≡ false → verdict.asks S known above place v k ≡ verdict.others_ask S known above place v k
   asks_plain k h =
       plain S (verdict.path S known above place v) place (verdict.siblings S known above place v) v (verdict.condition S known above place v) (verdict.evaluated_names S known above place v)

@@ -13,7 +13,7 @@ use Rattle.js_bundle.specs.Document.{Documents}
 use Rattle.js_bundle.specs.Location.{absolute, canonical, location, way}
 use Rattle.js_bundle.specs.Resource.{Site, sites}
 use Rattle.js_bundle.specs.Schemas.{is_place, place_at, path_at}
-use Rattle.js_eval.specs.Sited.{site_at, nowhere}
+use Rattle.js_eval.specs.Sited.{numbered_site, nowhere}
 
 one : (o : Option Site) (s : Site) → o ≡ Some s → option_to_list o ≡ unwrap_or o nowhere ∷ []
 one o s e = cc
@@ -22,14 +22,14 @@ its_schema : (o : Option Site) (v : Value) → option_map (λ s. s.schema) o ≡
 its_schema None v e = absurd (cc)
 its_schema (Some s) v e = cc
 
-pub schema_is : (documents : Documents) (n : ℕ) (v : Value) → option_map (λ s. s.schema) (place_at documents n) ≡ Some v → v ≡ (site_at documents n).schema
+pub schema_is : (documents : Documents) (n : ℕ) (v : Value) → option_map (λ s. s.schema) (place_at documents n) ≡ Some v → v ≡ (numbered_site documents n).schema
 schema_is documents n v e = its_schema (place_at documents n) v e
 
 its_location : (o : Option Site) (t : List ℕ) → option_map location o ≡ Some t → t ≡ absolute (unwrap_or o nowhere) []
 its_location None t e = absurd (cc)
 its_location (Some s) t e = cc
 
-pub location_is : (documents : Documents) (n : ℕ) (t : List ℕ) → option_map location (place_at documents n) ≡ Some t → t ≡ absolute (site_at documents n) []
+pub location_is : (documents : Documents) (n : ℕ) (t : List ℕ) → option_map location (place_at documents n) ≡ Some t → t ≡ absolute (numbered_site documents n) []
 location_is documents n t e = its_location (place_at documents n) t e
 
 -- a keyword's location is its place's, one token further
@@ -39,12 +39,12 @@ one_further s keyword =
     ∙ ap (λ x. canonical s ++ (codes "#" ++ x)) (ap (λ w. fragment_text w ++ fragment_token keyword) (append-nil (way s)) ∙ sym (fragment_text-push (way s) keyword))
 
 pub keyword_location_is : (documents : Documents) (n : ℕ) (keyword t u : List ℕ) → option_map location (place_at documents n) ≡ Some t → u ≡ t ++ fragment_token keyword
-    → u ≡ absolute (site_at documents n) (keyword ∷ [])
+    → u ≡ absolute (numbered_site documents n) (keyword ∷ [])
 keyword_location_is documents n keyword t u e f =
-    f ∙ ap (λ x. x ++ fragment_token keyword) (location_is documents n t e) ∙ one_further (site_at documents n) keyword
+    f ∙ ap (λ x. x ++ fragment_token keyword) (location_is documents n t e) ∙ one_further (numbered_site documents n) keyword
 
 -- where all are places, those of a path are the places that they stand for
-pub path_is : (documents : Documents) (path : List ℕ) → list_all (is_place documents) path ≡ true → path_at documents path ≡ map (site_at documents) path
+pub path_is : (documents : Documents) (path : List ℕ) → list_all (is_place documents) path ≡ true → path_at documents path ≡ map (numbered_site documents) path
 path_is documents [] h = refl
 path_is documents (n ∷ path) h =
     let p = and_parts _ _ h in

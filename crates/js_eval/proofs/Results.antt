@@ -7,13 +7,13 @@ use Rattle.js_doc.specs.Value.{Value}
 use Rattle.js_tree.specs.Forest.{Forest, empty, tree}
 use Rattle.js_eval.specs.Applications.{Application}
 use Rattle.js_eval.specs.Keywords.{Keyword, keywords}
-use Rattle.js_eval.specs.Location.{Location, at_keyword, at_application}
+use Rattle.js_eval.specs.Location.{Location, at_keyword_named, at_application}
 use Rattle.js_eval.specs.Result.{OutputUnit, ResultTree, schema_unit, keyword_unit, AreKeywordNodes, AreSchemaNodes, IsNode, IsResult}
-use Rattle.js_eval.specs.Schemas.{Schemas}
+use Rattle.js_eval.specs.SchemaSet.{SchemaSet}
 use Rattle.js_eval.specs.Verdict.{within, Settled, asks, keyword_settled}
 use Rattle.js_eval.proofs.Agree.{Agrees, within_agrees, up_to, asks_same, passes_same, matching_same, holding_same, schema_settled_same}
 
-module _ {Place : Type 0} (S : Schemas Place) where
+module _ {Place : Type 0} (S : SchemaSet Place) where
   -- ---- what a settled schema's keywords ask for is settled as well
 
   abbrev pub KeywordsSettled : ℕ → List Place → Place → Value → List Keyword → Type 0
@@ -39,7 +39,7 @@ module _ {Place : Type 0} (S : Schemas Place) where
       one_below_schema above place at v (k ∷ ks) (tree t tb ta) empty r q = absurd q
       one_below_schema above place at v (k ∷ ks) (tree t tb ta) (tree s sb sa) r q =
           let u : t ≡ s = r.0 ∙ sym q.0 in
-          let b = one_below_keyword (above ++ place ∷ []) (at_keyword at k.0) (asks S (within S n) above place v k) tb sb r.1 q.1 in
+          let b = one_below_keyword (above ++ place ∷ []) (at_keyword_named at k.0) (asks S (within S n) above place v k) tb sb r.1 q.1 in
           let a = one_below_schema above place at v ks ta sa r.2 q.2 in
           cc
 
@@ -84,8 +84,8 @@ module _ {Place : Type 0} (S : Schemas Place) where
       carried_below_schema above place at v all (k ∷ ks) (tree t below after) h r =
           let p = and_parts _ _ h in (
             r.0 ∙ keyword_unit_same above place at v all k p.0,
-            subst (λ apps. AreSchemaNodes S m (above ++ place ∷ []) (at_keyword at k.0) apps below) (asks_same S (within S n) (within S m) agree above place v all k)
-                (carried_below_keyword (above ++ place ∷ []) (at_keyword at k.0) (asks S (within S n) above place v k) below p.0 r.1),
+            subst (λ apps. AreSchemaNodes S m (above ++ place ∷ []) (at_keyword_named at k.0) apps below) (asks_same S (within S n) (within S m) agree above place v all k)
+                (carried_below_keyword (above ++ place ∷ []) (at_keyword_named at k.0) (asks S (within S n) above place v k) below p.0 r.1),
             carried_below_schema above place at v all ks after p.1 r.2,
           )
 
@@ -128,7 +128,7 @@ module _ {Place : Type 0} (S : Schemas Place) where
     grown_below_schema above place at v [] h = (empty, tt)
     grown_below_schema above place at v (k ∷ ks) h =
         let p = and_parts _ _ h in
-        let b = grown_below_keyword (above ++ place ∷ []) (at_keyword at k.0) (asks S (within S n) above place v k) p.0 in
+        let b = grown_below_keyword (above ++ place ∷ []) (at_keyword_named at k.0) (asks S (within S n) above place v k) p.0 in
         let f = grown_below_schema above place at v ks p.1 in
         (tree (keyword_unit S n above place at v k) b.0 f.0, (refl, b.1, f.1))
 

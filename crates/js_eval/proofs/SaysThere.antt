@@ -6,12 +6,12 @@ use Rattle.js_assert.specs.Argument.{entries}
 use Rattle.js_tree.specs.Note.{Note}
 use Rattle.js_eval.specs.Keywords.{Keyword}
 use Rattle.js_eval.specs.Kind.{kind}
-use Rattle.js_eval.specs.Schemas.{Text, Schemas}
+use Rattle.js_eval.specs.SchemaSet.{Text, SchemaSet}
 use Rattle.js_eval.specs.Walk.Said.{keyword_says}
 use Rattle.js_eval.specs.Walk.Told.{says_at}
 use Rattle.js_eval.specs.declared.kind.Kind.{Kind}
 
-pub says_there : {P : Type 0} (S : Schemas P) (place : P) (v : Value) (matching : ℕ) (k : Keyword) (held : ℕ) (given : List Text) (at : List ℕ) (b passes : Bool) (κ : Kind) (n : Note)
+pub says_there : {P : Type 0} (S : SchemaSet P) (place : P) (v : Value) (matching : ℕ) (k : Keyword) (held : ℕ) (given : List Text) (at : List ℕ) (b passes : Bool) (κ : Kind) (n : Note)
     → κ ≡ kind k.0 → passes ≡ b → n ≡ keyword_says (entries (S.schema place)) v matching k held given at b κ → n ≡ says_at S place v matching k held given at passes
 unfolding says_at
 says_there S place v matching k held given at b passes κ n e f h =

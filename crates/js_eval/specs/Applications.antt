@@ -10,7 +10,7 @@ use Rattle.js_doc.specs.Members.{get}
 use Rattle.js_assert.specs.Argument.{values, entries, has}
 use Rattle.js_assert.specs.Pattern.{matches}
 use Rattle.js_eval.specs.Keywords.{Keyword}
-use Rattle.js_eval.specs.Schemas.{Text, Schemas, Step, Alone, Index, Name}
+use Rattle.js_eval.specs.SchemaSet.{Text, SchemaSet, Step, Alone, Index, Name}
 use Rattle.js_eval.specs.declared.kind.Kind.{Kind}
 use Rattle.js_eval.specs.declared.kind.Kind.TheVariants.{Reference, DynamicReference, AllOf, AnyOf, OneOf, Not, If, Then, Else, DependentSchemas, PrefixItems, Items, Contains, Properties, PatternProperties, AdditionalProperties, PropertyNames, UnevaluatedItems, UnevaluatedProperties, Assertion, Annotation}
 
@@ -63,14 +63,14 @@ if_fails None apps = []
 if_fails (Some holds) apps = if holds then [] else apps
 
 -- the schema to which the step leads from a keyword's argument, applied to a value
-abbrev pub application : {Place : Type 0} → Schemas Place → Place → Text → Step → Step → Value → Application Place
+abbrev pub application : {Place : Type 0} → SchemaSet Place → Place → Text → Step → Step → Value → Application Place
 application S place name step at value = record { place = S.below place name step; step = step; at = at; value = value }
 
 -- ---- the table: at the last place of the path stands the keyword k among its siblings, and v is judged there.
 -- ---- `condition`: the verdict of the adjacent `if`, None where there is none.
 -- ---- `names` and `indexes`: the members and the items that the other keywords of the schema have evaluated.
 
-module _ {Place : Type 0} (S : Schemas Place) (path : List Place) (place : Place) (siblings : Named) (v : Value) (condition : Option Bool) (names : List Text) (indexes : List ℕ) (k : Keyword) where
+module _ {Place : Type 0} (S : SchemaSet Place) (path : List Place) (place : Place) (siblings : Named) (v : Value) (condition : Option Bool) (names : List Text) (indexes : List ℕ) (k : Keyword) where
   -- the keyword's schema at the step, on the whole of v, on an item of v, on a member of v
   abbrev in_place : Step → Application Place
   in_place step = application S place k.0 step Alone v

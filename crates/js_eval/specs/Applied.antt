@@ -6,9 +6,9 @@ use Rattle.js_bundle.specs.Resource.{Site}
 use Rattle.js_bundle.specs.Schemas.{is_place}
 use Rattle.js_eval.specs.Applications.{Application}
 use Rattle.js_eval.specs.Bundle.{schemas_of}
-use Rattle.js_eval.specs.Schemas.{Step, Alone, Index, Name}
+use Rattle.js_eval.specs.SchemaSet.{Step, Alone, Index, Name}
 use Rattle.js_eval.specs.Seen.{step_of, instance_of}
-use Rattle.js_eval.specs.Sited.{site_at}
+use Rattle.js_eval.specs.Sited.{numbered_site}
 use Rattle.js_eval.specs.declared.parts.Applied.{Applied}
 use Rattle.js_eval.specs.declared.applied.Held.{Held}
 use Rattle.js_eval.specs.declared.applied.Held.TheVariants.{One, Each}
@@ -16,21 +16,21 @@ use Rattle.js_eval.specs.declared.applied.To.{To}
 use Rattle.js_eval.specs.declared.applied.To.TheVariants as to
 
 abbrev pub applied_of : Documents → Applied → Application Site
-applied_of documents a = record { place = site_at documents a.place; step = step_of a.step; at = step_of a.at; value = instance_of a.value }
+applied_of documents a = record { place = numbered_site documents a.place; step = step_of a.step; at = step_of a.at; value = instance_of a.value }
 
 -- ---- the schema for the part of a value to which a step leads
 
 -- the place that is kept of it
-abbrev pub number_in : Held → ℕ
-number_in (One place) = place
-number_in (Each place keyword) = place
+abbrev pub kept_place : Held → ℕ
+kept_place (One place) = place
+kept_place (Each place keyword) = place
 
 abbrev pub IsHeld : Documents → Held → Type 0
-IsHeld documents held = is_place documents (number_in held) ≡ true
+IsHeld documents held = is_place documents (kept_place held) ≡ true
 
 abbrev pub site_in : Documents → Held → Step → Site
-site_in documents (One place) step = site_at documents place
-site_in documents (Each place keyword) step = (schemas_of documents).below (site_at documents place) keyword.now step
+site_in documents (One place) step = numbered_site documents place
+site_in documents (Each place keyword) step = (schemas_of documents).below (numbered_site documents place) keyword.now step
 
 abbrev pub step_in : Held → Step → Step
 step_in (One place) step = Alone

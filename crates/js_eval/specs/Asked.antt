@@ -4,7 +4,7 @@ use Rattle.js_bundle.specs.Document.{Documents}
 use Rattle.js_bundle.specs.Resource.{Site}
 use Rattle.js_bundle.specs.Schemas.{is_place}
 use Rattle.js_eval.specs.Applications.{Application}
-use Rattle.js_eval.specs.Applied.{applied_of, number_in}
+use Rattle.js_eval.specs.Applied.{applied_of, kept_place}
 use Rattle.js_eval.specs.Cursors.{items_asked, members_asked, patterns_asked}
 use Rattle.js_eval.specs.declared.parts.Applied.{Applied}
 use Rattle.js_eval.specs.declared.cursor.Asking.{Asking}
@@ -18,10 +18,10 @@ one_of_asking documents None = []
 one_of_asking documents (Some a) = cond (is_place documents a.place) (applied_of documents a ∷ []) []
 
 abbrev pub items_of_asking : Documents → ItemCursor → List (Application Site)
-items_of_asking documents c = cond (is_place documents (number_in c.held)) (items_asked documents c) []
+items_of_asking documents c = cond (is_place documents (kept_place c.held)) (items_asked documents c) []
 
 abbrev pub members_of_asking : Documents → MemberCursor → List (Application Site)
-members_of_asking documents c = cond (is_place documents (number_in c.held)) (members_asked documents c) []
+members_of_asking documents c = cond (is_place documents (kept_place c.held)) (members_asked documents c) []
 
 abbrev pub patterns_of_asking : Documents → PatternCursor → List (Application Site)
 patterns_of_asking documents c = cond (is_place documents c.place && is_place documents c.below) (patterns_asked documents c) []

@@ -6,18 +6,13 @@ use Rattle.js_bundle.specs.Location.{absolute}
 use Rattle.js_bundle.specs.Resource.{Site, sites}
 use Rattle.js_bundle.specs.Schemas as bundle
 use Rattle.js_bundle.specs.Target.{target, dynamic_target}
-use Rattle.js_eval.specs.Schemas.{Schemas, Step, Alone, Index, Name}
+use Rattle.js_eval.specs.SchemaSet.{SchemaSet}
 
-abbrev pub step_through : Step → bundle.Step
-step_through Alone = bundle.Alone
-step_through (Index i) = bundle.Index i
-step_through (Name name) = bundle.Name name
-
-abbrev pub schemas_of : Documents → Schemas Site
+abbrev pub schemas_of : Documents → SchemaSet Site
 schemas_of documents =
     record {
       schema = λ place. place.schema;
-      below = λ place keyword step. unwrap_or (bundle.below documents place keyword (step_through step)) place;
+      below = λ place keyword step. unwrap_or (bundle.below documents place keyword step) place;
       target = λ place. unwrap_or (target (sites documents) place) place;
       dynamic_target = λ path place. unwrap_or (dynamic_target (sites documents) path place) place;
       absolute = λ place keyword. absolute place (option_to_list keyword);

@@ -16,13 +16,14 @@ use Rattle.js_bundle.specs.Schemas.{is_place}
 use Rattle.js_eval.specs.Applications.{Application, application, among_indexes, among_names, indexed_from}
 use Rattle.js_eval.specs.Applied.{applied}
 use Rattle.js_eval.specs.Bundle.{schemas_of}
-use Rattle.js_eval.specs.Schemas.{Text, Index, Name}
-use Rattle.js_eval.specs.Sited.{site_at}
+use Rattle.js_eval.specs.SchemaSet.{Text, Index, Name}
+use Rattle.js_eval.specs.Sited.{numbered_site}
 use Rattle.js_eval.specs.declared.item_cursor.ItemCursor.{ItemCursor}
 use Rattle.js_eval.specs.declared.member_cursor.Choice.{Choice}
 use Rattle.js_eval.specs.declared.member_cursor.Choice.TheVariants as choice
 use Rattle.js_eval.specs.declared.member_cursor.MemberCursor.{MemberCursor}
 use Rattle.js_eval.specs.declared.pattern_cursor.PatternCursor.{PatternCursor}
+use Rattle.js_eval.specs.declared.searchers.NamedPattern.{NamedPattern}
 
 -- ---- items
 
@@ -62,15 +63,15 @@ abbrev pub is_matched : Option (Bor Named) → Text → Bool
 is_matched patterns name = list_any (λ p. matches p.0 name) (named_in patterns)
 
 -- the member of this name is chosen
-abbrev pub chosen : Choice → Text → Bool
-chosen choice.All name = true
-chosen (choice.Named named) name = has name named.now
-chosen (choice.Additional adjacent) name = not (is_named adjacent.properties name || is_matched adjacent.patterns name)
-chosen (choice.Except names) name = not (is_key names.keys name)
+abbrev pub is_chosen : Choice → Text → Bool
+is_chosen choice.All name = true
+is_chosen (choice.Named named) name = has name named.now
+is_chosen (choice.Additional adjacent) name = not (is_named adjacent.properties name || is_matched adjacent.patterns name)
+is_chosen (choice.Except names) name = not (is_key names.keys name)
 
 -- those of the members that are chosen
 abbrev pub members_left : Choice → List (String Global × Doc) → Named
-members_left choice members = filter (λ m. chosen choice m.0) (map pair_of members)
+members_left choice members = filter (λ m. is_chosen choice m.0) (map pair_of members)
 
 abbrev pub members_asked : Documents → MemberCursor → List (Application Site)
 members_asked documents c = map (λ m. applied documents c.held c.to (Name m.0) m.1) (members_left c.choice c.members)
@@ -83,26 +84,26 @@ matching_asked documents place keyword pattern members =
     map (λ m. application (schemas_of documents) place keyword (Name pattern) (Name m.0) m.1) (filter (λ m. matches pattern m.0) members)
 
 -- the schema at a place, by its pattern, on a member
-abbrev pub on_member : Documents → ℕ → Text → Text × Value → Application Site
-on_member documents place pattern m = record { place = site_at documents place; step = Name pattern; at = Name m.0; value = m.1 }
+abbrev pub on_matched_member : Documents → ℕ → Text → Text × Value → Application Site
+on_matched_member documents place pattern m = record { place = numbered_site documents place; step = Name pattern; at = Name m.0; value = m.1 }
 
 -- the schema at a place, on those of the members that are left and that its pattern matches
-abbrev pub present_asked : Documents → Option (Bor Text) → ℕ → Text → List (String Global × Doc) → List (Application Site)
+abbrev pub present_asked : Documents → Option NamedPattern → ℕ → Text → List (String Global × Doc) → List (Application Site)
 present_asked documents None place name left = []
-present_asked documents (Some pattern) place name left = map (on_member documents place name) (filter (λ m. matches pattern.now m.0) (map pair_of left))
+present_asked documents (Some pattern) place name left = map (on_matched_member documents place name) (filter (λ m. matches pattern.text.now m.0) (map pair_of left))
 
 -- what the patterns that are still to come ask for
 abbrev pub coming_asked : Documents → PatternCursor → List (String Global × Doc) → List (Application Site)
-coming_asked documents c patterns = flat_map (λ p. matching_asked documents (site_at documents c.place) c.keyword.now p.0 c.members.now) (map pair_of patterns)
+coming_asked documents c patterns = flat_map (λ p. matching_asked documents (numbered_site documents c.place) c.keyword.now p.0 c.members.now) (map pair_of patterns)
 
 abbrev pub patterns_asked : Documents → PatternCursor → List (Application Site)
 patterns_asked documents c = present_asked documents c.present c.below c.name.now c.left ++ coming_asked documents c c.patterns
 
 -- this pattern is the present one, and all members are left of it
-pub record IsBegun (documents : Documents) (name : Text) (pattern : Bor Text) (c d : PatternCursor) : Type 0 where
+pub record IsBegun (documents : Documents) (name : Text) (pattern : NamedPattern) (c d : PatternCursor) : Type 0 where
   pub present : d.present ≡ Some pattern
-  pub pattern_is : pattern.now ≡ name
-  pub asks : present_asked documents d.present d.below d.name.now d.left ≡ matching_asked documents (site_at documents c.place) c.keyword.now name c.members.now
+  pub pattern_is : pattern.text.now ≡ name
+  pub asks : present_asked documents d.present d.below d.name.now d.left ≡ matching_asked documents (numbered_site documents c.place) c.keyword.now name c.members.now
   pub is : is_place documents d.below ≡ true
   pub place : d.place ≡ c.place
   pub keyword : d.keyword ≡ c.keyword

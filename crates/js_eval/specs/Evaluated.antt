@@ -3,7 +3,7 @@
 use Rattle.std.specs.Prelude.{ℕ, List, [], ◌∷◌}
 use Rattle.std.specs.List.{flat_map}
 use Rattle.js_eval.specs.Applications.{Application}
-use Rattle.js_eval.specs.Schemas.{Text, Step, Index, Name}
+use Rattle.js_eval.specs.SchemaSet.{Text, Step, Index, Name}
 use Rattle.js_eval.specs.declared.kind.Kind.{Kind}
 use Rattle.js_eval.specs.declared.kind.Kind.TheVariants.{Reference, DynamicReference, AllOf, AnyOf, OneOf, If, Then, Else, DependentSchemas, PrefixItems, Items, Contains, Properties, PatternProperties, AdditionalProperties, UnevaluatedItems, UnevaluatedProperties}
 

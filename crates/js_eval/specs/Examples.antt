@@ -9,8 +9,8 @@ use Rattle.js_tree.specs.Forest.{empty, tree}
 use Rattle.js_eval.specs.Location.{at_root}
 use Rattle.js_eval.specs.Note.{Note, silent, error, value}
 use Rattle.js_eval.specs.Result.{OutputUnit, ResultTree, IsResult}
-use Rattle.js_eval.specs.Schemas.{Text, Schemas, Step, Alone, Index, Name}
-use Rattle.js_eval.specs.Verdict.{Settled, Holds, Fails}
+use Rattle.js_eval.specs.SchemaSet.{Text, SchemaSet, Step, Alone, Index, Name}
+use Rattle.js_eval.specs.Verdict.{Settled, Succeeds, Fails}
 
 -- ---- The schemas of one document. A place is told by the schema that stands there, which is enough without `$id`.
 -- ---- A reference is `#` and a pointer.
@@ -27,7 +27,7 @@ abbrev pub named_by : Value → Value → Value
 named_by root (text reference) = unwrap_or (option_and_then (λ p. at p root) (pointer_of (drop 1 reference))) null
 named_by root _ = null
 
-abbrev pub one_document : Value → Schemas Value
+abbrev pub one_document : Value → SchemaSet Value
 one_document root = record {
   schema = λ schema. schema;
   below = λ schema keyword step. subschema (argument_of keyword schema) step;
@@ -59,7 +59,7 @@ of_type name = only (codes "type") (str name)
 
 module _ (schema : Value) (n : ℕ) (instance : Value) where
   abbrev pub Accepts : Type 0
-  Accepts = Holds (one_document schema) n [] schema instance
+  Accepts = Succeeds (one_document schema) n [] schema instance
 
   abbrev pub Refuses : Type 0
   Refuses = Fails (one_document schema) n [] schema instance
@@ -198,20 +198,20 @@ pub data Resource : Type 0 where
   extensible : Resource
   strict : Resource
 
-abbrev pub root_of : Resource → Resource × Value
-root_of extensible = (extensible, tree_schema)
-root_of strict = (strict, strict_tree_schema)
+abbrev pub tree_root : Resource → Resource × Value
+tree_root extensible = (extensible, tree_schema)
+tree_root strict = (strict, strict_tree_schema)
 
 -- the root of the resource of the first place of the path
 abbrev pub first_root : List (Resource × Value) → Resource × Value
-first_root [] = root_of extensible
-first_root (p ∷ ps) = root_of p.0
+first_root [] = tree_root extensible
+first_root (p ∷ ps) = tree_root p.0
 
-abbrev pub trees : Schemas (Resource × Value)
+abbrev pub trees : SchemaSet (Resource × Value)
 trees = record {
   schema = λ p. p.1;
   below = λ p keyword step. (p.0, subschema (argument_of keyword p.1) step);
-  target = λ p. root_of extensible;
+  target = λ p. tree_root extensible;
   dynamic_target = λ path p. first_root path;
   absolute = λ p keyword. [];
 }
@@ -222,18 +222,18 @@ misspelled = only (codes "children") (arr (with_one (codes "daat") ∷ []))
 
 -- ---- the result of `double_not` on 1
 
-abbrev pub unit : Bool → Text → Note → OutputUnit
-unit valid keyword note = record { valid = valid; keyword = keyword; absolute = []; instance = []; note = note }
+abbrev pub plain_unit : Bool → Text → Note → OutputUnit
+plain_unit valid keyword note = record { valid = valid; keyword = keyword; absolute = []; instance = []; note = note }
 
 abbrev pub double_not_result : ResultTree
 double_not_result = record {
-  root = unit true [] silent;
+  root = plain_unit true [] silent;
   below =
-      tree (unit true (codes "/not") silent)
-      (tree (unit false (codes "/not") silent)
-      (tree (unit false (codes "/not/not") (error (codes "the subschema holds")))
-      (tree (unit true (codes "/not/not") silent)
-      (tree (unit true (codes "/not/not/title") (value (str (codes "t")))) empty empty) empty) empty) empty) empty;
+      tree (plain_unit true (codes "/not") silent)
+      (tree (plain_unit false (codes "/not") silent)
+      (tree (plain_unit false (codes "/not/not") (error (codes "the subschema holds")))
+      (tree (plain_unit true (codes "/not/not") silent)
+      (tree (plain_unit true (codes "/not/not/title") (value (str (codes "t")))) empty empty) empty) empty) empty) empty;
 }
 
 -- ---- what the definitions say of them
@@ -274,6 +274,6 @@ pub record Shown : Type 0 where
   pub name_is_b : Refuses names_are_a 2 (with_one (codes "b"))
   pub dependent_refuses : Refuses dependent 2 (with_one (codes "a"))
   pub dependent_accepts : Accepts dependent 2 (with_one (codes "b"))
-  pub tree_accepts : Holds trees 6 [] (root_of extensible) misspelled
-  pub strict_tree_refuses : Fails trees 6 [] (root_of strict) misspelled
+  pub tree_accepts : Succeeds trees 6 [] (tree_root extensible) misspelled
+  pub strict_tree_refuses : Fails trees 6 [] (tree_root strict) misspelled
   pub double_not_gives : IsResult (one_document double_not) [] double_not at_root (num 1) double_not_result

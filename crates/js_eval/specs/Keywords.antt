@@ -31,18 +31,18 @@ abbrev pub is_after_if : List ℕ → Bool
 is_after_if name = is_gt (name_cmp name (codes "if"))
 
 -- it has a node before that of `else`
-abbrev pub comes_first : List ℕ → Bool
-comes_first name = has_node name && (not (is_else name) && not (is_after_if name))
+abbrev pub comes_before_else : List ℕ → Bool
+comes_before_else name = has_node name && (not (is_else name) && not (is_after_if name))
 
 -- it has a node after that of `else`
-abbrev pub comes_last : List ℕ → Bool
-comes_last name = has_node name && is_after_if name
+abbrev pub comes_after_else : List ℕ → Bool
+comes_after_else name = has_node name && is_after_if name
 
 -- those of a schema's keywords whose names pass a test
-abbrev pub chosen : (List ℕ → Bool) → Value → List Keyword
-chosen test schema = filter (λ k. test k.0) (entries schema)
+abbrev pub keywords_that : (List ℕ → Bool) → Value → List Keyword
+keywords_that test schema = filter (λ k. test k.0) (entries schema)
 
 -- a schema's keywords that have a node, in the order of their nodes; the members of a schema ascend,
 -- and a schema that is `true` or `false` has none
 abbrev pub keywords : Value → List Keyword
-keywords schema = chosen comes_first schema ++ (chosen is_else schema ++ chosen comes_last schema)
+keywords schema = keywords_that comes_before_else schema ++ (keywords_that is_else schema ++ keywords_that comes_after_else schema)

@@ -5,11 +5,11 @@ use Rattle.js_assert.specs.Keyword.{keyword_named}
 use Rattle.js_eval.specs.declared.kind.Kind.{Kind}
 use Rattle.js_eval.specs.declared.kind.Kind.TheVariants.{Reference, DynamicReference, AllOf, AnyOf, OneOf, Not, If, Then, Else, DependentSchemas, PrefixItems, Items, Contains, Properties, PatternProperties, AdditionalProperties, PropertyNames, UnevaluatedItems, UnevaluatedProperties, Assertion, Annotation}
 
-abbrev pub Row : Type 0
-Row = List ℕ × Kind
+abbrev pub Applicator : Type 0
+Applicator = List ℕ × Kind
 
 -- the keywords that apply schemas, in the order of the standard
-abbrev pub applicators : List Row
+abbrev pub applicators : List Applicator
 applicators =
     -- 8.2.3: references
     (codes "$ref", Reference) ∷ (codes "$dynamicRef", DynamicReference)
@@ -25,7 +25,7 @@ applicators =
     ∷ (codes "unevaluatedItems", UnevaluatedItems) ∷ (codes "unevaluatedProperties", UnevaluatedProperties) ∷ []
 
 -- a name that is in none of the rows is an assertion's, or only annotates
-abbrev pub kind_in : List Row → List ℕ → Kind
+abbrev pub kind_in : List Applicator → List ℕ → Kind
 kind_in [] name = if is_some (keyword_named name) then Assertion else Annotation
 kind_in (row ∷ rows) name = if bytes_eq name row.0 then row.1 else kind_in rows name
 

@@ -9,7 +9,7 @@ use Rattle.js_eval.specs.Kind.{kind, is_unevaluated_items, is_unevaluated_proper
 use Rattle.js_eval.specs.Location.{Location}
 use Rattle.js_eval.specs.Note.{are_all_items}
 use Rattle.js_eval.specs.Result.{ResultTree, IsResult, StandsWithin, depth, size}
-use Rattle.js_eval.specs.Schemas.{Text, Schemas}
+use Rattle.js_eval.specs.SchemaSet.{Text, SchemaSet}
 use Rattle.js_eval.specs.Size.{node_total}
 use Rattle.js_eval.specs.Verdict.{Known, within, Settled, gives_names, gives_indexes, evaluated_names, evaluated_indexes}
 use Rattle.js_eval.specs.declared.kind.Kind.{Kind}
@@ -17,7 +17,7 @@ use Rattle.js_eval.specs.declared.kind.Kind.TheVariants.{PrefixItems, Contains}
 
 -- v is judged at a place, to which these places led
 
-module _ {Place : Type 0} (S : Schemas Place) (above : List Place) (place : Place) (v : Value) where
+module _ {Place : Type 0} (S : SchemaSet Place) (above : List Place) (place : Place) (v : Value) where
   -- what is settled within n is settled alike within each greater number
   abbrev pub StaysSettled : Type 0
   StaysSettled =
@@ -72,7 +72,7 @@ is_every_item v among = are_each_among (indexed v) among
 
 -- That these are all items of an array that isn't empty is told by their number: of what `prefixItems` was applied to
 -- (10.3.1.1), and of what matches `contains` (10.3.1.3).
-module _ {Place : Type 0} (S : Schemas Place) (path : List Place) (place : Place) (v : Value) (siblings : Named) (condition : Option Bool) (names : List Text) (indexes : List ℕ) (k : Keyword) where
+module _ {Place : Type 0} (S : SchemaSet Place) (path : List Place) (place : Place) (v : Value) (siblings : Named) (condition : Option Bool) (names : List Text) (indexes : List ℕ) (k : Keyword) where
   abbrev asked_of_items : Kind → List (Application Place)
   asked_of_items κ = asks_of S path place siblings v condition names indexes k κ
 

@@ -1,6 +1,6 @@
 pub mod Kind
 pub mod Keywords
-pub mod Schemas
+pub mod SchemaSet
 pub mod Bundle
 pub mod Sited
 pub mod Applications

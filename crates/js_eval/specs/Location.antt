@@ -1,8 +1,10 @@
 -- Where a node of the result stands (JSON Schema Core, sections 12.3.1 and 12.3.3).
 use Rattle.std.specs.Prelude.{[], ◌∷◌, ◌++◌, decimal}
 use Rattle.js_doc.specs.Pointer.{Tokens}
+-- what a step adds to a pointer
+pub use Rattle.js_bundle.specs.Schemas.{step_tokens}
 use Rattle.js_eval.specs.Applications.{Application}
-use Rattle.js_eval.specs.Schemas.{Text, Step, Alone, Index, Name}
+use Rattle.js_eval.specs.SchemaSet.{Text}
 
 pub record Location : Type 0 where
   -- the way through the schemas, references included (12.3.1)
@@ -10,20 +12,14 @@ pub record Location : Type 0 where
   -- the way through the instance (12.3.3)
   pub instance : Tokens
 
--- what a step adds to a pointer
-abbrev pub tokens : Step → Tokens
-tokens Alone = []
-tokens (Index i) = decimal i ∷ []
-tokens (Name name) = name ∷ []
-
 -- at the root of the schema and of the instance
 abbrev pub at_root : Location
 at_root = record { keyword = []; instance = [] }
 
 -- at the keyword of this name
-abbrev pub at_keyword : Location → Text → Location
-at_keyword at name = record { keyword = at.keyword ++ name ∷ []; instance = at.instance }
+abbrev pub at_keyword_named : Location → Text → Location
+at_keyword_named at name = record { keyword = at.keyword ++ name ∷ []; instance = at.instance }
 
 -- from a keyword to an application that it asked for
 abbrev pub at_application : {Place : Type 0} → Location → Application Place → Location
-at_application at a = record { keyword = at.keyword ++ tokens a.step; instance = at.instance ++ tokens a.at }
+at_application at a = record { keyword = at.keyword ++ step_tokens a.step; instance = at.instance ++ step_tokens a.at }

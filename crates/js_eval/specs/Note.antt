@@ -11,7 +11,7 @@ pub use Rattle.js_tree.specs.Note.{Note, silent, error, value, names, index, ind
 use Rattle.js_eval.specs.Applications.{Application, among_names}
 use Rattle.js_eval.specs.Evaluated.{names_applied, indexes_applied}
 use Rattle.js_eval.specs.Keywords.{Keyword}
-use Rattle.js_eval.specs.Schemas.{Text}
+use Rattle.js_eval.specs.SchemaSet.{Text}
 use Rattle.js_eval.specs.declared.kind.Kind.{Kind}
 use Rattle.js_eval.specs.declared.kind.Kind.TheVariants.{AnyOf, OneOf, Not, PrefixItems, Items, Contains, Properties, PatternProperties, AdditionalProperties, UnevaluatedItems, UnevaluatedProperties, Assertion, Annotation}
 
@@ -42,13 +42,13 @@ abbrev pub true_or : Bool → Note → Note
 true_or are_all note = if are_all then truly else note
 
 -- a note on arrays alone, and one on objects alone
-abbrev pub on_array : Value → Note → Note
-on_array (list _) note = note
-on_array _ note = silent
+abbrev pub said_of_array : Value → Note → Note
+said_of_array (list _) note = note
+said_of_array _ note = silent
 
-abbrev pub on_object : Value → Note → Note
-on_object (object _) note = note
-on_object _ note = silent
+abbrev pub said_of_object : Value → Note → Note
+said_of_object (object _) note = note
+said_of_object _ note = silent
 
 -- the names of v's members that are among these, ascending, each once
 abbrev pub members_among : Value → List Text → List Text
@@ -75,14 +75,14 @@ module _ {Place : Type 0} (siblings : Named) (v : Value) (matching : ℕ) (k : K
   -- 10.3.1.2: `true` if it was applied to any item
   annotation_of Items = if_any (indexes_applied apps)
   -- 10.3.1.3: `true` if every item matches, else the indexes of those that do; of an empty array there are none
-  annotation_of Contains = on_array v (true_or (are_all_items v (indexes_applied holding)) (indexes (indexes_applied holding)))
+  annotation_of Contains = said_of_array v (true_or (are_all_items v (indexes_applied holding)) (indexes (indexes_applied holding)))
   -- 10.3.2: the names of the members that it was applied to
-  annotation_of Properties = on_object v (names (names_applied apps))
-  annotation_of PatternProperties = on_object v (names (members_among v (names_applied apps)))
-  annotation_of AdditionalProperties = on_object v (names (names_applied apps))
+  annotation_of Properties = said_of_object v (names (names_applied apps))
+  annotation_of PatternProperties = said_of_object v (names (members_among v (names_applied apps)))
+  annotation_of AdditionalProperties = said_of_object v (names (names_applied apps))
   -- 11
   annotation_of UnevaluatedItems = if_any (indexes_applied apps)
-  annotation_of UnevaluatedProperties = on_object v (names (names_applied apps))
+  annotation_of UnevaluatedProperties = said_of_object v (names (names_applied apps))
   -- 6.5, 7.7: each keyword that does nothing else annotates its value
   annotation_of Annotation = value k.1
   annotation_of _ = silent

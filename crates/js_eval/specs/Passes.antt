@@ -9,7 +9,7 @@ use Rattle.js_doc.specs.Members.{get}
 use Rattle.js_assert.specs.Argument.{entries, on_array}
 use Rattle.js_assert.specs.Assertion.{Asserted, asserted, says}
 use Rattle.js_eval.specs.Keywords.{Keyword}
-use Rattle.js_eval.specs.Schemas.{Text}
+use Rattle.js_eval.specs.SchemaSet.{Text}
 use Rattle.js_eval.specs.declared.kind.Kind.{Kind}
 use Rattle.js_eval.specs.declared.kind.Kind.TheVariants.{AnyOf, OneOf, Not, If, Contains, Assertion, Annotation}
 

@@ -11,14 +11,14 @@ pub use Rattle.js_tree.specs.Result.{ResultTree}
 use Rattle.js_eval.specs.Applications.{Application}
 use Rattle.js_eval.specs.Keywords.{Keyword, keywords}
 use Rattle.js_eval.specs.Kind.{kind}
-use Rattle.js_eval.specs.Location.{Location, at_keyword, at_application}
+use Rattle.js_eval.specs.Location.{Location, at_keyword_named, at_application}
 use Rattle.js_eval.specs.Note.{keyword_note, schema_note}
-use Rattle.js_eval.specs.Schemas.{Text, Schemas}
+use Rattle.js_eval.specs.SchemaSet.{Text, SchemaSet}
 use Rattle.js_eval.specs.Verdict.{within, siblings, matching, asks, passes, application_holds, Settled}
 
 -- ---- the units, by what is known within n
 
-module _ {Place : Type 0} (S : Schemas Place) (n : ℕ) (above : List Place) (place : Place) (at : Location) (v : Value) where
+module _ {Place : Type 0} (S : SchemaSet Place) (n : ℕ) (above : List Place) (place : Place) (at : Location) (v : Value) where
   abbrev pub schema_unit : OutputUnit
   schema_unit = record {
     valid = (within S n).holds above place v;
@@ -28,30 +28,30 @@ module _ {Place : Type 0} (S : Schemas Place) (n : ℕ) (above : List Place) (pl
     note = schema_note (S.schema place);
   }
 
-  abbrev pub note_of : Keyword → Note
-  note_of k =
+  abbrev pub note_of_keyword : Keyword → Note
+  note_of_keyword k =
       keyword_note (siblings S (within S n) above place v) v (matching S (within S n) above place v) k (asks S (within S n) above place v k)
       (filter (application_holds S (within S n) above place v) (asks S (within S n) above place v k)) (passes S (within S n) above place v k) (kind k.0)
 
   abbrev pub keyword_unit : Keyword → OutputUnit
   keyword_unit k = record {
     valid = passes S (within S n) above place v k;
-    keyword = pointer_text (at_keyword at k.0).keyword;
+    keyword = pointer_text (at_keyword_named at k.0).keyword;
     absolute = S.absolute place (Some k.0);
     instance = pointer_text at.instance;
-    note = note_of k;
+    note = note_of_keyword k;
   }
 
 -- ---- the tree, by what is known within n
 
-module _ {Place : Type 0} (S : Schemas Place) (n : ℕ) where
+module _ {Place : Type 0} (S : SchemaSet Place) (n : ℕ) where
   abbrev mutual
     -- they are the nodes of these keywords of a place, in order
     pub AreKeywordNodes : List Place → Place → Location → Value → List Keyword → Forest OutputUnit → Type 0
     AreKeywordNodes above place at v [] empty = Unit {0}
     AreKeywordNodes above place at v (k ∷ ks) (tree u below after) =
         (u ≡ keyword_unit S n above place at v k)
-        × AreSchemaNodes (above ++ place ∷ []) (at_keyword at k.0) (asks S (within S n) above place v k) below
+        × AreSchemaNodes (above ++ place ∷ []) (at_keyword_named at k.0) (asks S (within S n) above place v k) below
         × AreKeywordNodes above place at v ks after
     AreKeywordNodes above place at v _ _ = ⊥
 
@@ -69,7 +69,7 @@ module _ {Place : Type 0} (S : Schemas Place) (n : ℕ) where
   IsNode above place at v t = (t.root ≡ schema_unit S n above place at v) × AreKeywordNodes above place at v (keywords (S.schema place)) t.below
 
 -- t is the result of judging v at a place, to which these places led
-pub record IsResult {Place : Type 0} (S : Schemas Place) (above : List Place) (place : Place) (at : Location) (v : Value) (t : ResultTree) : Type 0 where
+pub record IsResult {Place : Type 0} (S : SchemaSet Place) (above : List Place) (place : Place) (at : Location) (v : Value) (t : ResultTree) : Type 0 where
   pub bound : ℕ
   pub settled : Settled S bound above place v
   pub node : IsNode S bound above place at v t

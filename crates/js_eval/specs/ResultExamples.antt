@@ -12,12 +12,12 @@ use Rattle.js_eval.specs.Examples.{obj, arr, str, num, only, of_type, not_of, re
 use Rattle.js_eval.specs.Location.{at_root}
 use Rattle.js_eval.specs.Note.{Note, silent, error, value, names, index, indexes, truly}
 use Rattle.js_eval.specs.Result.{OutputUnit, ResultTree, IsResult}
-use Rattle.js_eval.specs.Schemas.{Text}
+use Rattle.js_eval.specs.SchemaSet.{Text}
 use Rattle.js_eval.specs.Verdict.{Settled}
 
 -- a document under its URI
-abbrev pub document : Text → Value → Documents
-document uri root = option_map_or (λ u. record { uri = u; root = root } ∷ []) (uri_of uri) []
+abbrev pub document_at : Text → Value → Documents
+document_at uri root = option_map_or (λ u. record { uri = u; root = root } ∷ []) (uri_of uri) []
 
 -- t is the result of judging v at the first of these places
 abbrev pub IsResultAtFirst : Documents → List Site → Value → ResultTree → Type 0
@@ -33,7 +33,7 @@ unit valid keyword absolute instance note = record { valid = valid; keyword = ke
 -- ---- a name that a pointer escapes, and a fragment more
 
 abbrev pub escaped_name_schema : Documents
-escaped_name_schema = document (codes "https://a.example/s") (only (codes "properties") (only (codes "a/b %") (only (codes "type") (str (codes "null")))))
+escaped_name_schema = document_at (codes "https://a.example/s") (only (codes "properties") (only (codes "a/b %") (only (codes "type") (str (codes "null")))))
 
 abbrev pub escaped_name_instance : Value
 escaped_name_instance = only (codes "a/b %") (num 1)
@@ -50,7 +50,7 @@ escaped_name_result = record {
 -- ---- members of a failing keyword are not evaluated
 
 abbrev pub failing_properties_schema : Documents
-failing_properties_schema = document (codes "https://a.example/s") (obj ((codes "properties", only (codes "a") (truth false)) ∷ (codes "unevaluatedProperties", only (codes "const") (num 1)) ∷ []))
+failing_properties_schema = document_at (codes "https://a.example/s") (obj ((codes "properties", only (codes "a") (truth false)) ∷ (codes "unevaluatedProperties", only (codes "const") (num 1)) ∷ []))
 
 abbrev pub failing_properties_instance : Value
 failing_properties_instance = only (codes "a") (num 1)
@@ -69,7 +69,7 @@ failing_properties_result = record {
 -- ---- `if`, `else`, and a keyword whose name stands between theirs
 
 abbrev pub if_before_else_schema : Documents
-if_before_else_schema = document (codes "https://a.example/s") (obj ((codes "else", only (codes "minimum") (num 2)) ∷ (codes "if", truth false) ∷ (codes "iff", num 1) ∷ []))
+if_before_else_schema = document_at (codes "https://a.example/s") (obj ((codes "else", only (codes "minimum") (num 2)) ∷ (codes "if", truth false) ∷ (codes "iff", num 1) ∷ []))
 
 abbrev pub if_before_else_instance : Value
 if_before_else_instance = num 1
@@ -89,7 +89,7 @@ if_before_else_result = record {
 -- ---- what `if` and `then` evaluate
 
 abbrev pub then_evaluates_schema : Documents
-then_evaluates_schema = document (codes "https://a.example/s") (obj ((codes "if", only (codes "properties") (only (codes "a") (truth true))) ∷ (codes "then", only (codes "properties") (only (codes "b") (truth true))) ∷ (codes "unevaluatedProperties", truth false) ∷ []))
+then_evaluates_schema = document_at (codes "https://a.example/s") (obj ((codes "if", only (codes "properties") (only (codes "a") (truth true))) ∷ (codes "then", only (codes "properties") (only (codes "b") (truth true))) ∷ (codes "unevaluatedProperties", truth false) ∷ []))
 
 abbrev pub then_evaluates_instance : Value
 then_evaluates_instance = obj ((codes "a", num 1) ∷ (codes "b", num 2) ∷ [])
@@ -112,7 +112,7 @@ then_evaluates_result = record {
 -- ---- no `if` is there
 
 abbrev pub else_alone_schema : Documents
-else_alone_schema = document (codes "https://a.example/s") (obj ((codes "else", truth false) ∷ (codes "then", truth false) ∷ []))
+else_alone_schema = document_at (codes "https://a.example/s") (obj ((codes "else", truth false) ∷ (codes "then", truth false) ∷ []))
 
 abbrev pub else_alone_instance : Value
 else_alone_instance = null
@@ -128,7 +128,7 @@ else_alone_result = record {
 -- ---- the keywords on members at once
 
 abbrev pub members_schema : Documents
-members_schema = document (codes "https://a.example/s") (obj ((codes "additionalProperties", only (codes "type") (str (codes "null"))) ∷ (codes "properties", only (codes "a") (truth true)) ∷ (codes "propertyNames", only (codes "maxLength") (num 1)) ∷ (codes "unevaluatedProperties", truth false) ∷ []))
+members_schema = document_at (codes "https://a.example/s") (obj ((codes "additionalProperties", only (codes "type") (str (codes "null"))) ∷ (codes "properties", only (codes "a") (truth true)) ∷ (codes "propertyNames", only (codes "maxLength") (num 1)) ∷ (codes "unevaluatedProperties", truth false) ∷ []))
 
 abbrev pub members_instance : Value
 members_instance = obj ((codes "a", num 1) ∷ (codes "bc", num 2) ∷ [])
@@ -154,7 +154,7 @@ members_result = record {
 -- ---- a schema of a member that is there, and one that is not
 
 abbrev pub dependent_schema : Documents
-dependent_schema = document (codes "https://a.example/s") (only (codes "dependentSchemas") (obj ((codes "a", only (codes "maxProperties") (num 0)) ∷ (codes "b", truth false) ∷ [])))
+dependent_schema = document_at (codes "https://a.example/s") (only (codes "dependentSchemas") (obj ((codes "a", only (codes "maxProperties") (num 0)) ∷ (codes "b", truth false) ∷ [])))
 
 abbrev pub dependent_instance : Value
 dependent_instance = only (codes "a") (num 1)
@@ -171,7 +171,7 @@ dependent_result = record {
 -- ---- the keywords on items at once
 
 abbrev pub items_at_once_schema : Documents
-items_at_once_schema = document (codes "https://a.example/s") (obj ((codes "contains", only (codes "const") (num 3)) ∷ (codes "items", only (codes "type") (str (codes "integer"))) ∷ (codes "maxContains", num 0) ∷ (codes "prefixItems", arr ((truth true) ∷ [])) ∷ []))
+items_at_once_schema = document_at (codes "https://a.example/s") (obj ((codes "contains", only (codes "const") (num 3)) ∷ (codes "items", only (codes "type") (str (codes "integer"))) ∷ (codes "maxContains", num 0) ∷ (codes "prefixItems", arr ((truth true) ∷ [])) ∷ []))
 
 abbrev pub items_at_once_instance : Value
 items_at_once_instance = arr ((num 1) ∷ (str (codes "b")) ∷ (num 3) ∷ [])
@@ -200,7 +200,7 @@ items_at_once_result = record {
 -- ---- `true` of every item; of an array without items, no note and a list without indexes
 
 abbrev pub every_item_schema : Documents
-every_item_schema = document (codes "https://a.example/s") (obj ((codes "contains", truth true) ∷ (codes "minContains", num 0) ∷ (codes "prefixItems", arr ((truth true) ∷ (truth true) ∷ [])) ∷ []))
+every_item_schema = document_at (codes "https://a.example/s") (obj ((codes "contains", truth true) ∷ (codes "minContains", num 0) ∷ (codes "prefixItems", arr ((truth true) ∷ (truth true) ∷ [])) ∷ []))
 
 abbrev pub every_item_result : ResultTree
 every_item_result = record {
@@ -225,7 +225,7 @@ no_item_result = record {
 -- ---- alternatives, and `false`
 
 abbrev pub alternatives_schema : Documents
-alternatives_schema = document (codes "https://a.example/s") (obj ((codes "anyOf", arr ((truth false) ∷ (only (codes "maximum") (num 1)) ∷ [])) ∷ (codes "oneOf", arr ((only (codes "minimum") (num 2)) ∷ (only (codes "title") (str (codes "t"))) ∷ [])) ∷ []))
+alternatives_schema = document_at (codes "https://a.example/s") (obj ((codes "anyOf", arr ((truth false) ∷ (only (codes "maximum") (num 1)) ∷ [])) ∷ (codes "oneOf", arr ((only (codes "minimum") (num 2)) ∷ (only (codes "title") (str (codes "t"))) ∷ [])) ∷ []))
 
 abbrev pub alternatives_instance : Value
 alternatives_instance = num 2
@@ -248,7 +248,7 @@ alternatives_result = record {
 -- ---- a reference into another document
 
 abbrev pub into_a_document_schema : Documents
-into_a_document_schema = document (codes "https://a.example/s") (only (codes "$ref") (str (codes "t#/$defs/i"))) ++ document (codes "https://a.example/t") (only (codes "$defs") (only (codes "i") (only (codes "type") (str (codes "integer")))))
+into_a_document_schema = document_at (codes "https://a.example/s") (only (codes "$ref") (str (codes "t#/$defs/i"))) ++ document_at (codes "https://a.example/t") (only (codes "$defs") (only (codes "i") (only (codes "type") (str (codes "integer")))))
 
 abbrev pub into_a_document_instance : Value
 into_a_document_instance = str (codes "x")

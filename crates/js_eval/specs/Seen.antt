@@ -4,31 +4,24 @@ use denote.Ref.{Bor}
 use Rattle.js_doc.specs.Seen.{value_of}
 use Rattle.js_doc.specs.Value.{Value, text}
 use Rattle.js_eval.specs.Keywords as table
-use Rattle.js_eval.specs.Schemas as schemas
+pub use Rattle.js_bundle.specs.Schemas.{step_of}
 use Rattle.js_eval.specs.declared.keyword.Keyword.{Keyword}
 use Rattle.js_eval.specs.declared.keyword.Turn.{Turn}
 use Rattle.js_eval.specs.declared.keyword.Turn.TheVariants.{First, Else, Last}
 use Rattle.js_eval.specs.declared.parts.Instance.{Instance}
 use Rattle.js_eval.specs.declared.parts.Instance.TheVariants.{Doc, Name}
-use Rattle.js_eval.specs.declared.parts.Step.{Step}
-use Rattle.js_eval.specs.declared.parts.Step.TheVariants as step
 
 abbrev pub keyword_of : Keyword → table.Keyword
 keyword_of k = (k.name.now, value_of k.argument.now)
 
 abbrev pub has_turn : Turn → List ℕ → Bool
-has_turn First = table.comes_first
+has_turn First = table.comes_before_else
 has_turn Else = table.is_else
-has_turn Last = table.comes_last
+has_turn Last = table.comes_after_else
 
 abbrev pub instance_of : Instance → Value
 instance_of (Doc d) = value_of d.now
 instance_of (Name n) = text n.now
-
-abbrev pub step_of : Step → schemas.Step
-step_of step.Alone = schemas.Alone
-step_of (step.Index i) = schemas.Index i
-step_of (step.Name n) = schemas.Name n.now
 
 abbrev pub texts_of : List (Bor (List ℕ)) → List (List ℕ)
 texts_of names = map (λ name. name.now) names

@@ -12,7 +12,7 @@ use Rattle.js_eval.specs.Evaluated.{names_of, indexes_of}
 use Rattle.js_eval.specs.Keywords.{Keyword, keywords}
 use Rattle.js_eval.specs.Kind.{kind, is_unevaluated}
 use Rattle.js_eval.specs.Passes.{passes_of}
-use Rattle.js_eval.specs.Schemas.{Text, Schemas, Alone}
+use Rattle.js_eval.specs.SchemaSet.{Text, SchemaSet, Alone}
 use Rattle.js_eval.specs.declared.kind.Kind.TheVariants.{Contains}
 
 -- What is known of applications. Each is told by the places that were applied before it, from the entry on, by its
@@ -33,7 +33,7 @@ accepts _ = true
 
 -- ---- a schema and its keywords, by what is known of their applications
 
-module _ {Place : Type 0} (S : Schemas Place) (known : Known Place) (above : List Place) (place : Place) (v : Value) where
+module _ {Place : Type 0} (S : SchemaSet Place) (known : Known Place) (above : List Place) (place : Place) (v : Value) where
   -- the dynamic scope (section 7.1)
   abbrev pub path : List Place
   path = above ++ place ∷ []
@@ -119,7 +119,7 @@ module _ {Place : Type 0} (S : Schemas Place) (known : Known Place) (above : Lis
   schema_passes = accepts (S.schema place) && list_all passes (keywords (S.schema place))
 
 -- what is known with one schema more on the way; a schema that fails has evaluated nothing (7.7.1.2)
-abbrev pub next : {Place : Type 0} → Schemas Place → Known Place → Known Place
+abbrev pub next : {Place : Type 0} → SchemaSet Place → Known Place → Known Place
 next S known = record {
   settled = λ above place v. schema_settled S known above place v;
   holds = λ above place v. schema_settled S known above place v && schema_passes S known above place v;
@@ -131,18 +131,18 @@ abbrev pub nothing : {Place : Type 0} → Known Place
 nothing = record { settled = λ _ _ _. false; holds = λ _ _ _. false; names = λ _ _ _. []; indexes = λ _ _ _. [] }
 
 -- what is known within n schemas on a way
-unfoldable pub within : {Place : Type 0} → Schemas Place → ℕ → Known Place
+unfoldable pub within : {Place : Type 0} → SchemaSet Place → ℕ → Known Place
 within S zero = nothing
 within S (suc n) = next S (within S n)
 
 -- ---- verdicts: v is judged at a place, to which these places led
 
-module _ {Place : Type 0} (S : Schemas Place) (n : ℕ) (above : List Place) (place : Place) (v : Value) where
+module _ {Place : Type 0} (S : SchemaSet Place) (n : ℕ) (above : List Place) (place : Place) (v : Value) where
   abbrev pub Settled : Type 0
   Settled = (within S n).settled above place v ≡ true
 
-  abbrev pub Holds : Type 0
-  Holds = (within S n).holds above place v ≡ true
+  abbrev pub Succeeds : Type 0
+  Succeeds = (within S n).holds above place v ≡ true
 
   abbrev pub Fails : Type 0
   Fails = Settled × ((within S n).holds above place v ≡ false)

@@ -2,4 +2,4 @@ pub mod Keeping
 pub mod Said
 pub mod Told
 pub mod Steps
-pub mod Leads
+pub mod Reported

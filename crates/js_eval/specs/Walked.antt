@@ -6,7 +6,7 @@ use Rattle.js_bundle.specs.Document.{Documents}
 use Rattle.js_eval.specs.Bundle.{schemas_of}
 use Rattle.js_eval.specs.Location.{at_root}
 use Rattle.js_eval.specs.Result.{ResultTree, IsResult, IsWithinLimits}
-use Rattle.js_eval.specs.Sited.{site_at}
+use Rattle.js_eval.specs.Sited.{numbered_site}
 use Rattle.js_eval.specs.declared.walking.fault.WalkFault.{WalkFault}
 use Rattle.js_eval.specs.declared.walking.fault.WalkFault.TheVariants.{Memory, TooLarge}
 
@@ -19,7 +19,7 @@ OnTooLarge TooLarge P = P
 
 module _ (documents : Documents) (place : ℕ) (v : Value) where
   abbrev pub IsResultThere : ResultTree → Type 0
-  IsResultThere t = IsResult (schemas_of documents) [] (site_at documents place) at_root v t
+  IsResultThere t = IsResult (schemas_of documents) [] (numbered_site documents place) at_root v t
 
   abbrev pub NoneStands : Type 0
   NoneStands = (t : ResultTree) → IsResultThere t → IsWithinLimits t → ⊥

@@ -2,14 +2,14 @@
 ghost use Rattle.std.specs.Prelude.{◌≡◌, true};
 ghost use Rattle.js_bundle.specs.Schemas.{is_place};
 ghost use Rattle.js_doc.specs.Seen.{value_of};
-ghost use Rattle.js_eval.specs.Applied.{IsHeld, applied, applied_of, at_in, number_in, site_in, step_in, value_in};
+ghost use Rattle.js_eval.specs.Applied.{IsHeld, applied, applied_of, at_in, kept_place, site_in, step_in, value_in};
 ghost use Rattle.js_eval.specs.Seen.{instance_of, step_of};
-ghost use Rattle.js_eval.specs.Sited.{site_at};
+ghost use Rattle.js_eval.specs.Sited.{numbered_site};
 ghost use Rattle.js_eval.specs.declared.applied.To.TheVariants as to;
 
 use crate::bundled::below;
-use crate::parts::{Applied, Instance, Step};
-use js_bundle::{Place, Schemas};
+use crate::parts::{Applied, Instance};
+use js_bundle::{Place, Schemas, Step};
 use js_doc::Doc;
 
 /// Where the schemas that a keyword applies to the parts of a value stand.
@@ -34,8 +34,8 @@ pub(crate) enum To<'a> {
 
 impl<'a> Held<'a> {
     /// The place that is kept of it.
-    pub fn number(&self) -> Place
-        ensures { result ≡ number_in self.now }
+    pub fn kept_place(&self) -> Place
+        ensures { result ≡ kept_place self.now }
     {
         match self {
             Held::One(place) => *place,
@@ -46,7 +46,7 @@ impl<'a> Held<'a> {
     fn place(&self, schemas: &Schemas, step: Step<'_>) -> Place
         requires { IsHeld schemas.now self.now }
         ensures is { is_place schemas.now result ≡ true }
-        ensures site { site_at schemas.now result ≡ site_in schemas.now self.now (step_of step.entry) }
+        ensures site { numbered_site schemas.now result ≡ site_in schemas.now self.now (step_of step.entry) }
     {
         match self {
             Held::One(place) => *place,
@@ -98,7 +98,7 @@ fn named<'a>(step: Step<'a>, part: &'a Doc) -> Instance<'a>
 }
 
 /// The schema for a part of a value, applied as the keyword does.
-pub(crate) fn apply<'a>(
+pub(crate) fn apply_to_part<'a>(
     schemas: &Schemas,
     held: &Held<'a>,
     to: &To<'a>,

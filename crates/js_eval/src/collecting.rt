@@ -81,7 +81,7 @@ impl<'a, C: Collector<'a>> Reporter<Here<'a>> for Collecting<'a, C> {
         place: Place,
         valid: bool,
     ) -> Result<(), Memory> {
-        let note = world.schema_note(alloc, place)?;
+        let note = world.schema_says(alloc, place)?;
         self.collector.leave(valid, note)
     }
 }

@@ -10,11 +10,11 @@ ghost use Rattle.js_eval.specs.Bundle.{schemas_of};
 ghost use Rattle.js_eval.specs.Keywords as table;
 ghost use Rattle.js_eval.specs.Passes.{all, any, how_many, may_contain_none, passes_of};
 ghost use Rattle.js_eval.specs.Seen.{instance_of, keyword_of};
-ghost use Rattle.js_eval.specs.Sited.{site_at};
+ghost use Rattle.js_eval.specs.Sited.{numbered_site};
 ghost use Rattle.js_eval.specs.Walk.Told.{IsKeywordAt, passes_at};
 ghost use Rattle.js_eval.specs.declared.kind.Kind.TheVariants.{Assertion as AssertionKind};
 
-use crate::bundled::schema;
+use crate::bundled::schema_at;
 use crate::keyword::Keyword;
 use crate::kind::{Kind, kind_of};
 use crate::parts::{Instance, argument_in};
@@ -40,16 +40,16 @@ pub(crate) fn passes(
     matching: u64,
 ) -> Result<bool, Memory>
     requires place { is_place schemas.now place ≡ true }
-    requires keyword { IsKeywordAt (schemas_of schemas.now) (site_at schemas.now place) (keyword_of keyword) }
+    requires keyword { IsKeywordAt (schemas_of schemas.now) (numbered_site schemas.now place) (keyword_of keyword) }
     ensures { IfOk result (λ b. (verdicts : List Bool) → length verdicts ≡ tally.asked → how_many verdicts ≡ tally.held
-        → b ≡ passes_at (schemas_of schemas.now) (site_at schemas.now place) (instance_of value.entry) matching (keyword_of keyword.entry) verdicts) }
+        → b ≡ passes_at (schemas_of schemas.now) (numbered_site schemas.now place) (instance_of value.entry) matching (keyword_of keyword.entry) verdicts) }
 {
     let kind = kind_of(keyword.name);
     let said = match kind {
         Kind::Assertion => says_at(alloc, schemas, place, value, keyword, matching)?,
         _ => true,
     };
-    Ok(passes_by_count(kind, schema(schemas, place), value, said, tally))
+    Ok(passes_by_count(kind, schema_at(schemas, place), value, said, tally))
 }
 
 /// Whether a keyword of this kind passes, which stands in the schema. `said`: whether the value holds under it, where it is an
@@ -122,9 +122,9 @@ fn says_at(
     matching: u64,
 ) -> Result<bool, Memory>
     requires place { is_place schemas.now place ≡ true }
-    requires keyword { IsKeywordAt (schemas_of schemas.now) (site_at schemas.now place) (keyword_of keyword) }
+    requires keyword { IsKeywordAt (schemas_of schemas.now) (numbered_site schemas.now place) (keyword_of keyword) }
     ensures { IfOk result (λ b. b ≡ option_map_or (λ a. spec.says a (instance_of value.entry) matching)
-        (asserted keyword.entry.name.now (value_of keyword.entry.argument.now) (entries (site_at schemas.now place).schema)) true) }
+        (asserted keyword.entry.name.now (value_of keyword.entry.argument.now) (entries (numbered_site schemas.now place).schema)) true) }
 {
     says(
         alloc,

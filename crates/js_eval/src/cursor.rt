@@ -4,15 +4,16 @@ ghost use Rattle.js_bundle.specs.Document.{Documents};
 ghost use Rattle.js_bundle.specs.Schemas.{is_place};
 ghost use Rattle.js_eval.specs.Applied.{applied_of};
 ghost use Rattle.js_eval.specs.Asked.{asked, items_of_asking, members_of_asking, one_of_asking, patterns_of_asking};
-ghost use Rattle.js_eval.specs.Schemas as spec;
+ghost use Rattle.js_eval.specs.SchemaSet as spec;
 ghost use Rattle.js_eval.specs.Seen.{instance_of};
-ghost use Rattle.js_eval.specs.Sited.{site_at};
+ghost use Rattle.js_eval.specs.Sited.{numbered_site};
 
 use crate::item_cursor::{ItemCursor, next_on_item};
 use crate::member_cursor::{MemberCursor, next_on_member};
-use crate::parts::{Applied, Instance, Step};
+use crate::parts::{Applied, Instance};
 use crate::pattern_cursor::{PatternCursor, next_matching};
-use js_bundle::{Place, Schemas};
+use crate::searchers::Searchers;
+use js_bundle::{Place, Schemas, Step};
 use js_doc::Memory;
 use std::alloc::Global;
 
@@ -29,7 +30,7 @@ pub(crate) enum Asking<'a> {
 /// The schema at a place, on the value itself.
 pub(crate) fn alone<'a>(place: Place, value: Instance<'a>) -> Asking<'a>
     ensures { (documents : Documents) → is_place documents place ≡ true → asked documents result
-        ≡ record { place = site_at documents place; step = spec.Alone; at = spec.Alone; value = instance_of value.entry } ∷ [] }
+        ≡ record { place = numbered_site documents place; step = spec.Alone; at = spec.Alone; value = instance_of value.entry } ∷ [] }
 {
     Asking::One(Some(Applied {
         place,
@@ -46,6 +47,7 @@ pub(crate) fn alone<'a>(place: Place, value: Instance<'a>) -> Asking<'a>
 pub(crate) fn next_asked<'a>(
     alloc: Global,
     schemas: &'a Schemas,
+    searchers: &Searchers<'a>,
     asking: &mut Asking<'a>,
 ) -> Result<Option<Applied<'a>>, Memory>
     ensures next { IfOk result (λ o. MatchOption o (asked schemas.now asking.old ≡ [])
@@ -55,8 +57,8 @@ pub(crate) fn next_asked<'a>(
     match asking {
         Asking::One(one) => Ok(next_alone(schemas, one)),
         Asking::Items(items) => Ok(next_item(schemas, items)),
-        Asking::Members(members) => next_member(alloc, schemas, members),
-        Asking::Patterns(patterns) => next_pattern(alloc, schemas, patterns),
+        Asking::Members(members) => next_member(alloc, schemas, searchers, members),
+        Asking::Patterns(patterns) => next_pattern(alloc, schemas, searchers, patterns),
     }
 }
 
@@ -81,7 +83,7 @@ fn next_item<'a>(schemas: &Schemas, items: &mut ItemCursor<'a>) -> Option<Applie
         (λ a. items_of_asking schemas.now items.old ≡ applied_of schemas.now a ∷ items_of_asking schemas.now items.new) }
     ensures is { MatchOption result (Unit {0}) (λ a. is_place schemas.now a.place ≡ true) }
 {
-    if !schemas.has(items.held.number()) {
+    if !schemas.has(items.held.kept_place()) {
         return None;
     }
     next_on_item(schemas, items)
@@ -89,22 +91,24 @@ fn next_item<'a>(schemas: &Schemas, items: &mut ItemCursor<'a>) -> Option<Applie
 
 fn next_member<'a>(
     alloc: Global,
-    schemas: &Schemas,
+    schemas: &'a Schemas,
+    searchers: &Searchers<'a>,
     members: &mut MemberCursor<'a>,
 ) -> Result<Option<Applied<'a>>, Memory>
     ensures next { IfOk result (λ o. MatchOption o (members_of_asking schemas.now members.old ≡ [])
         (λ a. members_of_asking schemas.now members.old ≡ applied_of schemas.now a ∷ members_of_asking schemas.now members.new)) }
     ensures is { IfOk result (λ o. MatchOption o (Unit {0}) (λ a. is_place schemas.now a.place ≡ true)) }
 {
-    if !schemas.has(members.held.number()) {
+    if !schemas.has(members.held.kept_place()) {
         return Ok(None);
     }
-    next_on_member(alloc, schemas, members)
+    next_on_member(alloc, schemas, searchers, members)
 }
 
 fn next_pattern<'a>(
     alloc: Global,
     schemas: &'a Schemas,
+    searchers: &Searchers<'a>,
     patterns: &mut PatternCursor<'a>,
 ) -> Result<Option<Applied<'a>>, Memory>
     ensures next { IfOk result (λ o. MatchOption o (patterns_of_asking schemas.now patterns.old ≡ [])
@@ -114,7 +118,7 @@ fn next_pattern<'a>(
     if !has_both(schemas, patterns.place, patterns.below) {
         return Ok(None);
     }
-    next_matching(alloc, schemas, patterns)
+    next_matching(alloc, schemas, searchers, patterns)
 }
 
 fn has_both(schemas: &Schemas, one: Place, other: Place) -> bool

@@ -5,29 +5,32 @@ ghost use Rattle.js_doc.specs.Fragment.{fragment_token};
 ghost use Rattle.js_eval.specs.Bundle.{schemas_of};
 ghost use Rattle.js_eval.specs.Evaluated.{index_in, name_in};
 ghost use Rattle.js_eval.specs.Seen.{instance_of, step_of};
-ghost use Rattle.js_eval.specs.Sited.{site_at};
+ghost use Rattle.js_eval.specs.Sited.{numbered_site};
 ghost use Rattle.js_eval.specs.Walk.Told.{at_step, schema_says};
 ghost use Rattle.js_tree.specs.Seen.{note_of};
 
-use crate::bundled::schema;
+use crate::bundled::schema_at;
 use crate::counted;
 use crate::cursor::{Asking, next_asked};
 use crate::keyword::Keyword;
 use crate::keyword_cursor::Keywords;
 use crate::kind::{Kind, kind_of};
-use crate::parts::{Applied, Instance, Step, is_accepting};
+use crate::parts::{Applied, Instance, is_accepting};
+use crate::searchers::Searchers;
 use crate::start::{Facts, Scene, start};
 use crate::telling::schema_note;
 use crate::walking::{Tally, Trail, World};
-use js_bundle::{Place, Schemas};
+use js_bundle::{Place, Schemas, Step};
 use js_doc::{Doc, Memory, Text, push_fragment_token};
 use js_tree::Note;
 use std::alloc::Global;
 
-/// Finished schemas. Values of the instance, and what the schemas' keywords hold, live as long as they do.
-#[derive(Clone, Copy)]
+/// Finished schemas, and what searches with their patterns. Values of the instance, and what the schemas' keywords hold, live as
+/// long as the schemas do.
+#[derive(Drop)]
 pub(crate) struct Here<'a> {
     pub schemas: &'a Schemas,
+    pub searchers: Searchers<'a>,
 }
 
 impl<'a> World for Here<'a> {
@@ -37,7 +40,7 @@ impl<'a> World for Here<'a> {
     ghost use Rattle.js_eval.specs.Bundle.{schemas_of};
     ghost use Rattle.js_eval.specs.KeywordsLeft as left;
     ghost use Rattle.js_eval.specs.Seen.{instance_of, keyword_of};
-    ghost use Rattle.js_eval.specs.Sited.{site_at};
+    ghost use Rattle.js_eval.specs.Sited.{numbered_site};
 
     type Value = Instance<'a>;
 
@@ -55,7 +58,7 @@ impl<'a> World for Here<'a> {
 
     ghost is_place = { λ h n. is_place h.schemas.now n };
 
-    ghost site = { λ h n. site_at h.schemas.now n };
+    ghost site = { λ h n. numbered_site h.schemas.now n };
 
     ghost value_of = { instance_of };
 
@@ -73,12 +76,12 @@ impl<'a> World for Here<'a> {
 
     #[tactic(auto, unfolding(crate::specs::Walk::Told::accepts_at))]
     fn accepts(&self, place: Place) -> bool {
-        is_accepting(schema(self.schemas, place))
+        is_accepting(schema_at(self.schemas, place))
     }
 
     #[tactic(auto, unfolding(crate::specs::Walk::Told::keywords_at))]
     fn keywords(&self, place: Place) -> Keywords<'a> {
-        Keywords::new(schema(self.schemas, place))
+        Keywords::new(schema_at(self.schemas, place))
     }
 
     fn next_keyword(&self, keywords: &mut Keywords<'a>) -> Option<Keyword<'a>> {
@@ -102,7 +105,7 @@ impl<'a> World for Here<'a> {
         names: &[&'a str],
         indexes: &[usize],
     ) -> Result<Asking<'a>, Memory> {
-        let schema = schema(self.schemas, place);
+        let schema = schema_at(self.schemas, place);
         let scene = Scene {
             path,
             place,
@@ -125,7 +128,7 @@ impl<'a> World for Here<'a> {
     }
 
     fn next(&self, alloc: Global, asking: &mut Asking<'a>) -> Result<Option<Applied<'a>>, Memory> {
-        next_asked(alloc, self.schemas, asking)
+        next_asked(alloc, self.schemas, &self.searchers, asking)
     }
 
     fn place(&self, application: Applied<'a>) -> Place {
@@ -158,7 +161,7 @@ impl<'a> World for Here<'a> {
 
     #[tactic(auto, unfolding(crate::specs::Walk::Told::at_name))]
     fn go_to_keyword(&self, keyword: Keyword<'a>, trail: &mut Trail) -> Result<(), Memory> {
-        trail.push(keyword.name)
+        trail.push_name(keyword.name)
     }
 
     fn go_to_schema(&self, application: Applied<'a>, trail: &mut Trail) -> Result<(), Memory> {
@@ -213,7 +216,7 @@ fn go<'a>(step: Step<'a>, _doc: Option<&'a Doc>, trail: &mut Trail) -> Result<()
     match step {
         Step::Alone => Ok(()),
         Step::Index(index) => trail.push_index(index),
-        Step::Name(name) => trail.push(name),
+        Step::Name(name) => trail.push_name(name),
     }
 }
 
@@ -225,7 +228,7 @@ impl Here<'_> {
     #[tactic(auto, using(crate::proofs::Paths::location_is))]
     pub fn absolute(&self, alloc: Global, place: Place) -> Result<Text, Memory>
         requires { is_place self.now.schemas.now place ≡ true }
-        ensures { IfOk result (λ t. t ≡ (schemas_of self.now.schemas.now).absolute (site_at self.now.schemas.now place) None) }
+        ensures { IfOk result (λ t. t ≡ (schemas_of self.now.schemas.now).absolute (numbered_site self.now.schemas.now place) None) }
     {
         Ok(Text::new(String::from_str(alloc, self.schemas.absolute_of(place))?))
     }
@@ -241,7 +244,7 @@ impl Here<'_> {
         keyword: &str,
     ) -> Result<Text, Memory>
         requires { is_place self.now.schemas.now place ≡ true }
-        ensures { IfOk result (λ t. t ≡ (schemas_of self.now.schemas.now).absolute (site_at self.now.schemas.now place) (Some keyword.now)) }
+        ensures { IfOk result (λ t. t ≡ (schemas_of self.now.schemas.now).absolute (numbered_site self.now.schemas.now place) (Some keyword.now)) }
     {
         let location = one_further(alloc, self.schemas.absolute_of(place), keyword)?;
         Ok(Text::new(location))
@@ -252,11 +255,11 @@ impl Here<'_> {
     /// # Errors
     /// `Memory`.
     #[tactic(auto, unfolding(crate::specs::Walk::Told::schema_says))]
-    pub fn schema_note<'n>(&self, alloc: Global, place: Place) -> Result<Note<'n>, Memory>
+    pub fn schema_says<'n>(&self, alloc: Global, place: Place) -> Result<Note<'n>, Memory>
         requires { is_place self.now.schemas.now place ≡ true }
-        ensures { IfOk result (λ n. note_of n ≡ schema_says (schemas_of self.now.schemas.now) (site_at self.now.schemas.now place)) }
+        ensures { IfOk result (λ n. note_of n ≡ schema_says (schemas_of self.now.schemas.now) (numbered_site self.now.schemas.now place)) }
     {
-        schema_note(alloc, schema(self.schemas, place))
+        schema_note(alloc, schema_at(self.schemas, place))
     }
 }
 

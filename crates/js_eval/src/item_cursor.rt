@@ -5,16 +5,16 @@ ghost use Rattle.js_bundle.specs.Schemas.{is_place};
 ghost use Rattle.js_doc.specs.Seen.{value_of};
 ghost use Rattle.js_bundle.specs.Document.{Documents};
 ghost use Rattle.js_eval.specs.Applications.{among_indexes, application, indexed_from};
-ghost use Rattle.js_eval.specs.Applied.{IsHeld, applied_of, number_in};
+ghost use Rattle.js_eval.specs.Applied.{IsHeld, applied_of, kept_place};
 ghost use Rattle.js_eval.specs.Bundle.{schemas_of};
 ghost use Rattle.js_eval.specs.Cursors.{AreMarked, is_marked, items_asked, items_left};
-ghost use Rattle.js_eval.specs.Schemas as spec;
+ghost use Rattle.js_eval.specs.SchemaSet as spec;
 ghost use Rattle.js_eval.specs.Seen.{instance_of};
-ghost use Rattle.js_eval.specs.Sited.{site_at};
+ghost use Rattle.js_eval.specs.Sited.{numbered_site};
 
-use crate::applied::{Held, To, apply};
-use crate::parts::{Applied, Instance, Step};
-use js_bundle::{Place, Schemas};
+use crate::applied::{Held, To, apply_to_part};
+use crate::parts::{Applied, Instance};
+use js_bundle::{Place, Schemas, Step};
 use js_doc::{Doc, Memory};
 use std::alloc::Global;
 
@@ -40,9 +40,9 @@ pub(crate) fn each_listed<'a>(
     value: Instance<'a>,
 ) -> ItemCursor<'a>
     ensures asked { (documents : Documents) → items_asked documents result
-        ≡ map (λ e. application (schemas_of documents) (site_at documents place) keyword.now (spec.Index e.0) spec.Alone (instance_of value.entry))
+        ≡ map (λ e. application (schemas_of documents) (numbered_site documents place) keyword.now (spec.Index e.0) spec.Alone (instance_of value.entry))
         (indexed_from 0 (map value_of list.now)) }
-    ensures number { number_in result.held ≡ place }
+    ensures number { kept_place result.held ≡ place }
 {
     ItemCursor {
         held: Held::Each(place, keyword),
@@ -63,9 +63,9 @@ pub(crate) fn each_in_step<'a>(
     items: &'a [Doc],
 ) -> ItemCursor<'a>
     ensures asked { (documents : Documents) → items_asked documents result
-        ≡ map (λ e. application (schemas_of documents) (site_at documents place) keyword.now (spec.Index e.0) (spec.Index e.0) e.1)
+        ≡ map (λ e. application (schemas_of documents) (numbered_site documents place) keyword.now (spec.Index e.0) (spec.Index e.0) e.1)
         (filter (λ e. nat_lt e.0 (length list.now)) (indexed_from 0 (map value_of items.now))) }
-    ensures number { number_in result.held ≡ place }
+    ensures number { kept_place result.held ≡ place }
 {
     ItemCursor {
         held: Held::Each(place, keyword),
@@ -95,9 +95,9 @@ pub(crate) fn each_from<'a>(
     first: usize,
 ) -> ItemCursor<'a>
     ensures asked { (documents : Documents) → items_asked documents result
-        ≡ map (λ e. record { place = site_at documents below; step = spec.Alone; at = spec.Index e.0; value = e.1 })
+        ≡ map (λ e. record { place = numbered_site documents below; step = spec.Alone; at = spec.Index e.0; value = e.1 })
         (filter (λ e. nat_le first e.0) (indexed_from 0 (map value_of items.now))) }
-    ensures number { number_in result.held ≡ below }
+    ensures number { kept_place result.held ≡ below }
 {
     ItemCursor {
         held: Held::One(below),
@@ -119,9 +119,9 @@ pub(crate) fn each_except<'a>(
     indexes: &[usize],
 ) -> Result<ItemCursor<'a>, Memory>
     ensures asked { IfOk result (λ c. (documents : Documents) → items_asked documents c
-        ≡ map (λ e. record { place = site_at documents below; step = spec.Alone; at = spec.Index e.0; value = e.1 })
+        ≡ map (λ e. record { place = numbered_site documents below; step = spec.Alone; at = spec.Index e.0; value = e.1 })
         (filter (λ e. not (among_indexes e.0 indexes.now)) (indexed_from 0 (map value_of items.now)))) }
-    ensures number { IfOk result (λ c. number_in c.held ≡ below) }
+    ensures number { IfOk result (λ c. kept_place c.held ≡ below) }
 {
     Ok(ItemCursor {
         held: Held::One(below),
@@ -161,7 +161,7 @@ pub(crate) fn next_on_item<'a>(
         cursor.passed_over.as_slice(),
         &mut cursor.next,
     )?;
-    Some(apply(schemas, &cursor.held, &cursor.to, Step::Index(index), item))
+    Some(apply_to_part(schemas, &cursor.held, &cursor.to, Step::Index(index), item))
 }
 
 // The next item that isn't passed over.

@@ -9,7 +9,7 @@ ghost use Rattle.js_eval.specs.Seen.{keyword_of};
 ghost use Rattle.js_eval.specs.declared.keyword.Turn.TheVariants as turn;
 
 use crate::keyword::{Keyword, Turn, is_turn_of};
-use crate::parts::members_in;
+use crate::parts::object_in;
 use js_doc::{Doc, Members};
 use std::collections::btree_map::Iter;
 
@@ -36,7 +36,7 @@ impl<'a> Keywords<'a> {
         ensures all { keywords_in result ≡ table.keywords (value_of schema.now) }
         ensures ascending { IsAscending (entries (value_of schema.now)) }
     {
-        match members_in(schema) {
+        match object_in(schema) {
             Some(members) => Keywords::Of(KeywordCursor::new(members)),
             None => Keywords::Nothing,
         }

@@ -5,36 +5,36 @@ ghost use Rattle.js_eval.specs.Examples.{Shown};
 ghost use Rattle.js_eval.specs.Laws.{AtMostOneResult, DepthIsLeast, LimitsAreExact, NoCircle, ResultExactlyIfSettled, SizeIsTotal, StaysSettled, TellsEveryItem};
 ghost use Rattle.js_eval.specs.Keywords.{Keyword};
 ghost use Rattle.js_eval.specs.ResultExamples.{GiveTheseResults};
-ghost use Rattle.js_eval.specs.Schemas.{Schemas, Text};
+ghost use Rattle.js_eval.specs.SchemaSet.{SchemaSet, Text};
 
 /// What is settled within a number of schemas on a way is settled alike within each greater number.
 pub fn settled_stays<Place>()
-    ensures { (S : Schemas Place) (above : List Place) (place : Place) (v : JsonValue) → StaysSettled S above place v }
+    ensures { (S : SchemaSet Place) (above : List Place) (place : Place) (v : JsonValue) → StaysSettled S above place v }
 {}
 
 /// At most one tree is the result, and there is one exactly if the place and the value are settled.
 pub fn one_result<Place>()
-    ensures most { (S : Schemas Place) (above : List Place) (place : Place) (v : JsonValue) → AtMostOneResult S above place v }
-    ensures exactly { (S : Schemas Place) (above : List Place) (place : Place) (v : JsonValue) → ResultExactlyIfSettled S above place v }
+    ensures most { (S : SchemaSet Place) (above : List Place) (place : Place) (v : JsonValue) → AtMostOneResult S above place v }
+    ensures exactly { (S : SchemaSet Place) (above : List Place) (place : Place) (v : JsonValue) → ResultExactlyIfSettled S above place v }
 {}
 
 /// The result's depth is the least number of schemas on a way within which it is settled, its size is told without it,
 /// and so are the limits.
 pub fn limits<Place>()
-    ensures depth { (S : Schemas Place) (above : List Place) (place : Place) (v : JsonValue) → DepthIsLeast S above place v }
-    ensures size { (S : Schemas Place) (above : List Place) (place : Place) (v : JsonValue) → SizeIsTotal S above place v }
-    ensures exact { (S : Schemas Place) (above : List Place) (place : Place) (v : JsonValue) → LimitsAreExact S above place v }
+    ensures depth { (S : SchemaSet Place) (above : List Place) (place : Place) (v : JsonValue) → DepthIsLeast S above place v }
+    ensures size { (S : SchemaSet Place) (above : List Place) (place : Place) (v : JsonValue) → SizeIsTotal S above place v }
+    ensures exact { (S : SchemaSet Place) (above : List Place) (place : Place) (v : JsonValue) → LimitsAreExact S above place v }
 {}
 
 /// Neither of the two unevaluated keywords hangs on what the other gives.
 pub fn no_circle<Place>()
-    ensures { (S : Schemas Place) (above : List Place) (place : Place) (v : JsonValue) → NoCircle S above place v }
+    ensures { (S : SchemaSet Place) (above : List Place) (place : Place) (v : JsonValue) → NoCircle S above place v }
 {}
 
 /// That `prefixItems` was applied to every item of an array that isn't empty, or that every item matches `contains`, is told by
 /// the number of items.
 pub fn every_item<Place>()
-    ensures { (S : Schemas Place) (path : List Place) (place : Place) (v : JsonValue) (siblings : Named) (condition : Option Bool) (names : List Text) (indexes : List ℕ) (k : Keyword)
+    ensures { (S : SchemaSet Place) (path : List Place) (place : Place) (v : JsonValue) (siblings : Named) (condition : Option Bool) (names : List Text) (indexes : List ℕ) (k : Keyword)
         → TellsEveryItem S path place v siblings condition names indexes k }
 {}
 

@@ -11,19 +11,19 @@ ghost use Rattle.js_doc.specs.Members.{get};
 ghost use Rattle.js_doc.specs.Seen.{value_of};
 ghost use Rattle.js_doc.specs.Value.{text};
 ghost use Rattle.js_eval.specs.Applications.{among_names, application};
-ghost use Rattle.js_eval.specs.Applied.{IsHeld, applied_of, number_in};
+ghost use Rattle.js_eval.specs.Applied.{IsHeld, applied_of, kept_place};
 ghost use Rattle.js_eval.specs.Bundle.{schemas_of};
-ghost use Rattle.js_eval.specs.Cursors.{chosen, is_matched, is_named, members_asked, members_left, named_in};
-ghost use Rattle.js_eval.specs.Schemas as spec;
-ghost use Rattle.js_eval.specs.Schemas.{Text};
+ghost use Rattle.js_eval.specs.Cursors.{is_chosen, is_matched, is_named, members_asked, members_left, named_in};
+ghost use Rattle.js_eval.specs.SchemaSet as spec;
+ghost use Rattle.js_eval.specs.SchemaSet.{Text};
 ghost use Rattle.js_eval.specs.Seen.{instance_of, texts_of};
-ghost use Rattle.js_eval.specs.Sited.{site_at};
+ghost use Rattle.js_eval.specs.Sited.{numbered_site};
 
-use crate::applied::{Held, To, apply};
+use crate::applied::{Held, To, apply_to_part};
 use crate::name_set::{is_in, set_of};
-use crate::parts::{Applied, Instance, Step, argument_in, members_in};
-use js_assert::Pattern;
-use js_bundle::{Place, Schemas};
+use crate::parts::{Applied, Instance, argument_in, object_in};
+use crate::searchers::{NamedPattern, Searchers};
+use js_bundle::{Place, Schemas, Step};
 use js_doc::{Doc, Members, Memory};
 use std::alloc::Global;
 use std::collections::BTreeSet;
@@ -66,9 +66,9 @@ pub(crate) fn each_named<'a>(
     members: &'a Members,
 ) -> MemberCursor<'a>
     ensures asked { (documents : Documents) → members_asked documents result
-        ≡ map (λ m. application (schemas_of documents) (site_at documents place) keyword.now (spec.Name m.0) (spec.Name m.0) m.1)
+        ≡ map (λ m. application (schemas_of documents) (numbered_site documents place) keyword.now (spec.Name m.0) (spec.Name m.0) m.1)
         (filter (λ m. has m.0 named.now) members.now) }
-    ensures number { number_in result.held ≡ place }
+    ensures number { kept_place result.held ≡ place }
 {
     MemberCursor {
         held: Held::Each(place, keyword),
@@ -87,9 +87,9 @@ pub(crate) fn each_in_place<'a>(
     value: Instance<'a>,
 ) -> MemberCursor<'a>
     ensures asked { (documents : Documents) → members_asked documents result
-        ≡ map (λ m. application (schemas_of documents) (site_at documents place) keyword.now (spec.Name m.0) spec.Alone (instance_of value.entry))
+        ≡ map (λ m. application (schemas_of documents) (numbered_site documents place) keyword.now (spec.Name m.0) spec.Alone (instance_of value.entry))
         (filter (λ m. has m.0 members.now) named.now) }
-    ensures number { number_in result.held ≡ place }
+    ensures number { kept_place result.held ≡ place }
 {
     MemberCursor {
         held: Held::Each(place, keyword),
@@ -103,8 +103,8 @@ pub(crate) fn each_in_place<'a>(
 #[tactic(auto, using(crate::proofs::MembersLeft::all_chosen))]
 pub(crate) fn each_name<'a>(below: Place, members: &'a Members) -> MemberCursor<'a>
     ensures asked { (documents : Documents) → members_asked documents result
-        ≡ map (λ m. record { place = site_at documents below; step = spec.Alone; at = spec.Name m.0; value = text m.0 }) members.now }
-    ensures number { number_in result.held ≡ below }
+        ≡ map (λ m. record { place = numbered_site documents below; step = spec.Alone; at = spec.Name m.0; value = text m.0 }) members.now }
+    ensures number { kept_place result.held ≡ below }
 {
     MemberCursor {
         held: Held::One(below),
@@ -123,9 +123,9 @@ pub(crate) fn each_additional<'a>(
     members: &'a Members,
 ) -> MemberCursor<'a>
     ensures asked { (documents : Documents) → members_asked documents result
-        ≡ map (λ m. record { place = site_at documents below; step = spec.Alone; at = spec.Name m.0; value = m.1 })
+        ≡ map (λ m. record { place = numbered_site documents below; step = spec.Alone; at = spec.Name m.0; value = m.1 })
         (filter (λ m. not (is_named properties.entry m.0 || is_matched patterns.entry m.0)) members.now) }
-    ensures number { number_in result.held ≡ below }
+    ensures number { kept_place result.held ≡ below }
 {
     MemberCursor {
         held: Held::One(below),
@@ -150,9 +150,9 @@ pub(crate) fn each_other<'a>(
     members: &'a Members,
 ) -> Result<MemberCursor<'a>, Memory>
     ensures asked { IfOk result (λ c. (documents : Documents) → members_asked documents c
-        ≡ map (λ m. record { place = site_at documents below; step = spec.Alone; at = spec.Name m.0; value = m.1 })
+        ≡ map (λ m. record { place = numbered_site documents below; step = spec.Alone; at = spec.Name m.0; value = m.1 })
         (filter (λ m. not (among_names m.0 (texts_of names.now))) members.now)) }
-    ensures number { IfOk result (λ c. number_in c.held ≡ below) }
+    ensures number { IfOk result (λ c. kept_place c.held ≡ below) }
 {
     let set = set_of(alloc, names)?;
     Ok(MemberCursor {
@@ -168,7 +168,7 @@ pub(crate) fn object_at<'a>(schema: &'a Doc, keyword: &str) -> Option<&'a Member
     ensures { named_in result ≡ option_map_or entries (get keyword.now (entries (value_of schema.now))) [] }
 {
     match argument_in(schema, keyword) {
-        Some(argument) => members_in(argument),
+        Some(argument) => object_in(argument),
         None => None,
     }
 }
@@ -179,7 +179,8 @@ pub(crate) fn object_at<'a>(schema: &'a Doc, keyword: &str) -> Option<&'a Member
 /// `Memory`: a pattern is searched for.
 pub(crate) fn next_on_member<'a>(
     alloc: Global,
-    schemas: &Schemas,
+    schemas: &'a Schemas,
+    searchers: &Searchers<'a>,
     cursor: &mut MemberCursor<'a>,
 ) -> Result<Option<Applied<'a>>, Memory>
     requires { IsHeld schemas.now cursor.old.held }
@@ -188,8 +189,14 @@ pub(crate) fn next_on_member<'a>(
     ensures is { IfOk result (λ o. MatchOption o (Unit {0}) (λ a. is_place schemas.now a.place ≡ true)) }
     ensures held { cursor.new.held ≡ cursor.old.held }
 {
-    match next_member(alloc, schemas, &cursor.choice, &mut cursor.members)? {
-        Some((name, member)) => Ok(Some(apply(
+    match next_member(
+        alloc,
+        schemas,
+        searchers,
+        &cursor.choice,
+        &mut cursor.members,
+    )? {
+        Some((name, member)) => Ok(Some(apply_to_part(
             schemas,
             &cursor.held,
             &cursor.to,
@@ -203,7 +210,8 @@ pub(crate) fn next_on_member<'a>(
 // The next member that is chosen.
 fn next_member<'a>(
     alloc: Global,
-    schemas: &Schemas,
+    schemas: &'a Schemas,
+    searchers: &Searchers<'a>,
     choice: &Choice<'a>,
     members: &mut Iter<'a, String, Doc>,
 ) -> Result<Option<(&'a str, &'a Doc)>, Memory>
@@ -212,34 +220,38 @@ fn next_member<'a>(
 {
     while let Some((name, member)) = members.next() {
         let name = name.as_str();
-        if is_chosen(alloc, schemas, choice, name)? {
+        if is_chosen(alloc, schemas, searchers, choice, name)? {
             return Ok(Some((name, member)));
         }
     }
     Ok(None)
 }
 
-fn is_chosen(
+fn is_chosen<'a>(
     alloc: Global,
-    schemas: &Schemas,
-    choice: &Choice<'_>,
+    schemas: &'a Schemas,
+    searchers: &Searchers<'a>,
+    choice: &Choice<'a>,
     name: &str,
 ) -> Result<bool, Memory>
-    ensures { IfOk result (λ b. b ≡ chosen choice.now name.now) }
+    ensures { IfOk result (λ b. b ≡ is_chosen choice.now name.now) }
 {
     match choice {
         Choice::All => Ok(true),
         Choice::Named(named) => Ok(named.get(name).is_some()),
-        Choice::Additional(adjacent) => Ok(!is_spoken_of(alloc, schemas, adjacent, name)?),
+        Choice::Additional(adjacent) => Ok(!is_spoken_of(
+            alloc, schemas, searchers, adjacent, name,
+        )?),
         Choice::Except(names) => Ok(!is_in(names, name)),
     }
 }
 
 // The adjacent keywords speak of the name.
-fn is_spoken_of(
+fn is_spoken_of<'a>(
     alloc: Global,
-    schemas: &Schemas,
-    adjacent: &Adjacent<'_>,
+    schemas: &'a Schemas,
+    searchers: &Searchers<'a>,
+    adjacent: &Adjacent<'a>,
     name: &str,
 ) -> Result<bool, Memory>
     ensures { IfOk result (λ b. b ≡ (is_named adjacent.now.properties name.now || is_matched adjacent.now.patterns name.now)) }
@@ -247,8 +259,9 @@ fn is_spoken_of(
     if is_named(adjacent.properties, name) {
         return Ok(true);
     }
+    let place = adjacent.place;
     match adjacent.patterns {
-        Some(patterns) => matches_any(alloc, schemas, adjacent.place, patterns, name),
+        Some(patterns) => matches_any(alloc, schemas, searchers, place, patterns, name),
         None => Ok(false),
     }
 }
@@ -262,17 +275,18 @@ fn is_named(properties: Option<&Members>, name: &str) -> bool
     }
 }
 
-fn matches_any(
+fn matches_any<'a>(
     alloc: Global,
-    schemas: &Schemas,
+    schemas: &'a Schemas,
+    searchers: &Searchers<'a>,
     place: Place,
-    patterns: &Members,
+    patterns: &'a Members,
     name: &str,
 ) -> Result<bool, Memory>
     ensures { IfOk result (λ b. b ≡ list_any (λ p. matches p.0 name.now) patterns.now) }
 {
     for (pattern, _) in patterns.pairs() {
-        if matches(alloc, schemas, place, pattern.as_str(), name)? {
+        if matches(alloc, schemas, searchers, place, pattern.as_str(), name)? {
             return Ok(true);
         }
     }
@@ -280,32 +294,35 @@ fn matches_any(
 }
 
 // Whether a pattern of the place's `patternProperties` matches somewhere in a name.
-fn matches(
+fn matches<'a>(
     alloc: Global,
-    schemas: &Schemas,
+    schemas: &'a Schemas,
+    searchers: &Searchers<'a>,
     place: Place,
-    pattern: &str,
+    pattern: &'a str,
     name: &str,
 ) -> Result<bool, Memory>
     ensures { IfOk result (λ b. b ≡ matches pattern.now name.now) }
 {
     match pattern_of(schemas, place, pattern) {
-        Some(built) => built.holds(alloc, name),
+        Some(built) => searchers.matches(alloc, built, name),
         None => Err(Memory), // never: each pattern of finished schemas is built
     }
 }
 
 /// The pattern of this name among the `patternProperties` of the place.
-pub(crate) fn pattern_of<'s>(
-    schemas: &'s Schemas,
+pub(crate) fn pattern_of<'a>(
+    schemas: &'a Schemas,
     place: Place,
-    pattern: &str,
-) -> Option<&'s Pattern>
-    ensures { MatchOption result (Unit {0}) (λ p. p.now ≡ pattern.now) }
+    text: &'a str,
+) -> Option<NamedPattern<'a>>
+    ensures { MatchOption result (Unit {0}) (λ p. p.text.now ≡ text.now) }
 {
-    if schemas.has(place) {
-        schemas.pattern(place, pattern)
-    } else {
-        None
+    if !schemas.has(place) {
+        return None;
+    }
+    match schemas.pattern(place, text) {
+        Some(pattern) => Some(NamedPattern::new(pattern, text)),
+        None => None,
     }
 }

@@ -1,7 +1,7 @@
 //! A set of names, in which each name is looked up at once.
 ghost use Rattle.std.specs.Prelude.{◌≡◌, ◌++◌, ◌∷◌, [], IfOk, List, OnOk};
 ghost use Rattle.js_eval.specs.Cursors.{HasNames, is_key};
-ghost use Rattle.js_eval.specs.Schemas.{Text};
+ghost use Rattle.js_eval.specs.SchemaSet.{Text};
 ghost use Rattle.js_eval.specs.Seen.{texts_of};
 
 use js_doc::Memory;

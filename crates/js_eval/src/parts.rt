@@ -1,4 +1,4 @@
-//! A value that is judged, steps down to its parts, a schema applied to one.
+//! A value that is judged, and a schema applied to one.
 ghost use Rattle.std.specs.Prelude.{◌≡◌, [], MatchOption, map, option_map};
 ghost use Rattle.js_assert.specs.Argument.{entries, values};
 ghost use Rattle.js_doc.specs.Members.{get};
@@ -6,24 +6,13 @@ ghost use Rattle.js_doc.specs.Seen.{value_of};
 ghost use Rattle.js_eval.specs.Seen.{instance_of};
 ghost use Rattle.js_eval.specs.Verdict.{accepts};
 
-use js_bundle::Place;
+use js_bundle::{Place, Step};
 use js_doc::{Doc, Members};
 
 /// What is judged: a value of the instance, or the name of one of its members.
 #[derive(Clone, Copy)]
 pub(crate) enum Instance<'a> {
     Doc(&'a Doc),
-    Name(&'a str),
-}
-
-/// One step down: to the value itself, to an item, to a member.
-#[derive(Clone, Copy)]
-pub(crate) enum Step<'a> {
-    /// To the value itself.
-    Alone,
-    /// To the item at this index.
-    Index(usize),
-    /// To the member of this name.
     Name(&'a str),
 }
 
@@ -52,28 +41,28 @@ impl<'a> Instance<'a> {
     }
 
     /// The items, none where it is no array.
-    pub fn items(self) -> &'a [Doc]
+    pub fn array(self) -> &'a [Doc]
         ensures { map value_of result.now ≡ values (instance_of self.entry) }
     {
         match self {
-            Instance::Doc(doc) => items_in(doc),
+            Instance::Doc(doc) => array_in(doc),
             Instance::Name(_) => &[],
         }
     }
 
     /// The members, where it is an object.
-    pub fn members(self) -> Option<&'a Members>
+    pub fn object(self) -> Option<&'a Members>
         ensures { MatchOption result (entries (instance_of self.entry) ≡ []) (λ ms. ms.now ≡ entries (instance_of self.entry)) }
     {
         match self {
-            Instance::Doc(doc) => members_in(doc),
+            Instance::Doc(doc) => object_in(doc),
             Instance::Name(_) => None,
         }
     }
 }
 
 /// The items, none where it is no array.
-pub(crate) fn items_in(doc: &Doc) -> &[Doc]
+pub(crate) fn array_in(doc: &Doc) -> &[Doc]
     ensures { map value_of result.now ≡ values (value_of doc.now) }
 {
     match doc {
@@ -83,7 +72,7 @@ pub(crate) fn items_in(doc: &Doc) -> &[Doc]
 }
 
 /// The members, where it is an object.
-pub(crate) fn members_in(doc: &Doc) -> Option<&Members>
+pub(crate) fn object_in(doc: &Doc) -> Option<&Members>
     ensures { MatchOption result (entries (value_of doc.now) ≡ []) (λ ms. ms.now ≡ entries (value_of doc.now)) }
 {
     match doc {
@@ -96,7 +85,7 @@ pub(crate) fn members_in(doc: &Doc) -> Option<&Members>
 pub(crate) fn argument_in<'a>(schema: &'a Doc, name: &str) -> Option<&'a Doc>
     ensures { option_map (λ d. value_of d.now) result ≡ get name.now (entries (value_of schema.now)) }
 {
-    match members_in(schema) {
+    match object_in(schema) {
         Some(members) => members.get(name),
         None => None,
     }

@@ -7,17 +7,17 @@ ghost use Rattle.js_doc.specs.Seen.{value_of};
 ghost use Rattle.js_eval.specs.Applications.{application, asks_of, if_fails, if_holds};
 ghost use Rattle.js_eval.specs.Asked.{asked};
 ghost use Rattle.js_eval.specs.Bundle.{schemas_of};
-ghost use Rattle.js_eval.specs.Schemas as spec;
+ghost use Rattle.js_eval.specs.SchemaSet as spec;
 ghost use Rattle.js_eval.specs.Seen.{instance_of, keyword_of, texts_of};
-ghost use Rattle.js_eval.specs.Sited.{site_at};
+ghost use Rattle.js_eval.specs.Sited.{numbered_site};
 
-use crate::bundled::{below, dynamic_target, target};
+use crate::bundled::{below, dynamic_target_at, target_at};
 use crate::cursor::{Asking, alone};
 use crate::keyword::Keyword;
 use crate::kind::Kind;
-use crate::parts::{Instance, Step};
+use crate::parts::Instance;
 use crate::{start_items, start_members};
-use js_bundle::{Place, Schemas};
+use js_bundle::{Place, Schemas, Step};
 use js_doc::{Doc, Memory};
 use std::alloc::Global;
 
@@ -60,7 +60,7 @@ pub(crate) fn start<'a>(
     requires place { is_place schemas.now scene.place ≡ true }
     requires path { list_all (is_place schemas.now) scene.path.now ≡ true }
     ensures { IfOk result (λ a. asked schemas.now a
-        ≡ asks_of (schemas_of schemas.now) (map (site_at schemas.now) scene.entry.path.now) (site_at schemas.now scene.entry.place) (entries (value_of scene.entry.schema.now))
+        ≡ asks_of (schemas_of schemas.now) (map (numbered_site schemas.now) scene.entry.path.now) (numbered_site schemas.now scene.entry.place) (entries (value_of scene.entry.schema.now))
         (instance_of scene.entry.value) facts.entry.condition (texts_of facts.entry.names.now) facts.entry.indexes.now (keyword_of keyword.entry) kind) }
 {
     let Scene {
@@ -89,8 +89,8 @@ pub(crate) fn start<'a>(
         Kind::AdditionalProperties => Ok(start_members::additional(
             schemas, place, name, schema, value,
         )),
-        Kind::PropertyNames => Ok(start_members::names(schemas, place, name, value)),
-        Kind::UnevaluatedItems => start_items::unevaluated(
+        Kind::PropertyNames => Ok(start_members::property_names(schemas, place, name, value)),
+        Kind::UnevaluatedItems => start_items::unevaluated_items(
             alloc,
             schemas,
             place,
@@ -98,7 +98,7 @@ pub(crate) fn start<'a>(
             facts.indexes,
             value,
         ),
-        Kind::UnevaluatedProperties => start_members::unevaluated(
+        Kind::UnevaluatedProperties => start_members::unevaluated_properties(
             alloc,
             schemas,
             place,
@@ -115,13 +115,13 @@ pub(crate) fn start<'a>(
 fn referred<'a>(schemas: &Schemas, place: Place, value: Instance<'a>) -> Asking<'a>
     requires { is_place schemas.now place ≡ true }
     ensures { asked schemas.now result ≡ record {
-      place = (schemas_of schemas.now).target (site_at schemas.now place);
+      place = (schemas_of schemas.now).target (numbered_site schemas.now place);
       step = spec.Alone;
       at = spec.Alone;
       value = instance_of value.entry;
     } ∷ [] }
 {
-    alone(target(schemas, place), value)
+    alone(target_at(schemas, place), value)
 }
 
 // What `$dynamicRef` names, on the value itself.
@@ -135,20 +135,20 @@ fn referred_dynamically<'a>(
     requires path { list_all (is_place schemas.now) path.now ≡ true }
     ensures { asked schemas.now result
         ≡ record {
-          place = (schemas_of schemas.now).dynamic_target (map (site_at schemas.now) path.now) (site_at schemas.now place);
+          place = (schemas_of schemas.now).dynamic_target (map (numbered_site schemas.now) path.now) (numbered_site schemas.now place);
           step = spec.Alone;
           at = spec.Alone;
           value = instance_of value.entry;
         } ∷ [] }
 {
-    alone(dynamic_target(schemas, place, path), value)
+    alone(dynamic_target_at(schemas, place, path), value)
 }
 
 // The keyword's schema, on the value itself.
 fn held<'a>(schemas: &Schemas, place: Place, keyword: &str, value: Instance<'a>) -> Asking<'a>
     requires { is_place schemas.now place ≡ true }
     ensures { asked schemas.now result
-        ≡ application (schemas_of schemas.now) (site_at schemas.now place) keyword.now spec.Alone spec.Alone (instance_of value.entry) ∷ [] }
+        ≡ application (schemas_of schemas.now) (numbered_site schemas.now place) keyword.now spec.Alone spec.Alone (instance_of value.entry) ∷ [] }
 {
     alone(below(schemas, place, keyword, Step::Alone), value)
 }
@@ -163,7 +163,7 @@ fn held_then<'a>(
 ) -> Asking<'a>
     requires { is_place schemas.now place ≡ true }
     ensures { asked schemas.now result ≡ if_holds condition
-        (application (schemas_of schemas.now) (site_at schemas.now place) keyword.now spec.Alone spec.Alone (instance_of value.entry) ∷ []) }
+        (application (schemas_of schemas.now) (numbered_site schemas.now place) keyword.now spec.Alone spec.Alone (instance_of value.entry) ∷ []) }
 {
     match condition {
         Some(true) => held(schemas, place, keyword, value),
@@ -182,7 +182,7 @@ fn held_else<'a>(
 ) -> Asking<'a>
     requires { is_place schemas.now place ≡ true }
     ensures { asked schemas.now result ≡ if_fails condition
-        (application (schemas_of schemas.now) (site_at schemas.now place) keyword.now spec.Alone spec.Alone (instance_of value.entry) ∷ []) }
+        (application (schemas_of schemas.now) (numbered_site schemas.now place) keyword.now spec.Alone spec.Alone (instance_of value.entry) ∷ []) }
 {
     match condition {
         Some(false) => held(schemas, place, keyword, value),

@@ -7,16 +7,16 @@ ghost use Rattle.js_doc.specs.Seen.{value_of};
 ghost use Rattle.js_eval.specs.Applications.{among_indexes, application, indexed, prefix_length};
 ghost use Rattle.js_eval.specs.Asked.{asked};
 ghost use Rattle.js_eval.specs.Bundle.{schemas_of};
-ghost use Rattle.js_eval.specs.Schemas as spec;
+ghost use Rattle.js_eval.specs.SchemaSet as spec;
 ghost use Rattle.js_eval.specs.Seen.{instance_of};
-ghost use Rattle.js_eval.specs.Sited.{site_at};
+ghost use Rattle.js_eval.specs.Sited.{numbered_site};
 
 use crate::bundled::below;
 use crate::cursor::Asking;
 use crate::item_cursor::{each_except, each_from, each_in_step, each_listed};
 use crate::keyword::Keyword;
-use crate::parts::{Instance, Step, argument_in, items_in};
-use js_bundle::{Place, Schemas};
+use crate::parts::{Instance, argument_in, array_in};
+use js_bundle::{Place, Schemas, Step};
 use js_doc::{Doc, Memory};
 use std::alloc::Global;
 
@@ -30,14 +30,14 @@ pub(crate) fn listed<'a>(
 ) -> Asking<'a>
     requires { is_place schemas.now place ≡ true }
     ensures { asked schemas.now result
-        ≡ map (λ e. application (schemas_of schemas.now) (site_at schemas.now place) keyword.entry.name.now (spec.Index e.0) spec.Alone (instance_of value.entry))
+        ≡ map (λ e. application (schemas_of schemas.now) (numbered_site schemas.now place) keyword.entry.name.now (spec.Index e.0) spec.Alone (instance_of value.entry))
         (indexed (value_of keyword.entry.argument.now)) }
 {
     Asking::Items(each_listed(
         alloc,
         place,
         keyword.name,
-        items_in(keyword.argument),
+        array_in(keyword.argument),
         value,
     ))
 }
@@ -52,15 +52,15 @@ pub(crate) fn prefix<'a>(
 ) -> Asking<'a>
     requires { is_place schemas.now place ≡ true }
     ensures { asked schemas.now result
-        ≡ map (λ e. application (schemas_of schemas.now) (site_at schemas.now place) keyword.entry.name.now (spec.Index e.0) (spec.Index e.0) e.1)
+        ≡ map (λ e. application (schemas_of schemas.now) (numbered_site schemas.now place) keyword.entry.name.now (spec.Index e.0) (spec.Index e.0) e.1)
         (filter (λ e. nat_lt e.0 (length (values (value_of keyword.entry.argument.now)))) (indexed (instance_of value.entry))) }
 {
     Asking::Items(each_in_step(
         alloc,
         place,
         keyword.name,
-        items_in(keyword.argument),
-        value.items(),
+        array_in(keyword.argument),
+        value.array(),
     ))
 }
 
@@ -75,7 +75,7 @@ pub(crate) fn following<'a>(
 ) -> Asking<'a>
     requires { is_place schemas.now place ≡ true }
     ensures { asked schemas.now result
-        ≡ map (λ e. application (schemas_of schemas.now) (site_at schemas.now place) keyword.now spec.Alone (spec.Index e.0) e.1)
+        ≡ map (λ e. application (schemas_of schemas.now) (numbered_site schemas.now place) keyword.now spec.Alone (spec.Index e.0) e.1)
         (filter (λ e. nat_le (prefix_length (entries (value_of schema.now))) e.0) (indexed (instance_of value.entry))) }
 {
     from_index(
@@ -98,7 +98,7 @@ pub(crate) fn every<'a>(
 ) -> Asking<'a>
     requires { is_place schemas.now place ≡ true }
     ensures { asked schemas.now result
-        ≡ map (λ e. application (schemas_of schemas.now) (site_at schemas.now place) keyword.now spec.Alone (spec.Index e.0) e.1)
+        ≡ map (λ e. application (schemas_of schemas.now) (numbered_site schemas.now place) keyword.now spec.Alone (spec.Index e.0) e.1)
         (indexed (instance_of value.entry)) }
 {
     from_index(alloc, schemas, place, keyword, value, 0)
@@ -114,11 +114,11 @@ fn from_index<'a>(
 ) -> Asking<'a>
     requires { is_place schemas.now place ≡ true }
     ensures { asked schemas.now result
-        ≡ map (λ e. application (schemas_of schemas.now) (site_at schemas.now place) keyword.now spec.Alone (spec.Index e.0) e.1)
+        ≡ map (λ e. application (schemas_of schemas.now) (numbered_site schemas.now place) keyword.now spec.Alone (spec.Index e.0) e.1)
         (filter (λ e. nat_le first e.0) (indexed (instance_of value.entry))) }
 {
     let below = below(schemas, place, keyword, Step::Alone);
-    Asking::Items(each_from(alloc, below, value.items(), first))
+    Asking::Items(each_from(alloc, below, value.array(), first))
 }
 
 // How many schemas the adjacent `prefixItems` holds.
@@ -126,7 +126,7 @@ fn prefix_length_in(schema: &Doc) -> usize
     ensures { result ≡ prefix_length (entries (value_of schema.now)) }
 {
     match argument_in(schema, "prefixItems") {
-        Some(argument) => items_in(argument).len(),
+        Some(argument) => array_in(argument).len(),
         None => 0,
     }
 }
@@ -135,7 +135,7 @@ fn prefix_length_in(schema: &Doc) -> usize
 ///
 /// # Errors
 /// `Memory`.
-pub(crate) fn unevaluated<'a>(
+pub(crate) fn unevaluated_items<'a>(
     alloc: Global,
     schemas: &Schemas,
     place: Place,
@@ -145,10 +145,10 @@ pub(crate) fn unevaluated<'a>(
 ) -> Result<Asking<'a>, Memory>
     requires { is_place schemas.now place ≡ true }
     ensures { IfOk result (λ a. asked schemas.now a
-        ≡ map (λ e. application (schemas_of schemas.now) (site_at schemas.now place) keyword.now spec.Alone (spec.Index e.0) e.1)
+        ≡ map (λ e. application (schemas_of schemas.now) (numbered_site schemas.now place) keyword.now spec.Alone (spec.Index e.0) e.1)
         (filter (λ e. not (among_indexes e.0 indexes.now)) (indexed (instance_of value.entry)))) }
 {
     let below = below(schemas, place, keyword, Step::Alone);
-    let items = each_except(alloc, below, value.items(), indexes)?;
+    let items = each_except(alloc, below, value.array(), indexes)?;
     Ok(Asking::Items(items))
 }

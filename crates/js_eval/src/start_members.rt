@@ -10,9 +10,9 @@ ghost use Rattle.js_doc.specs.Value.{text};
 ghost use Rattle.js_eval.specs.Applications.{among_names, application, is_property, matches_pattern};
 ghost use Rattle.js_eval.specs.Asked.{asked};
 ghost use Rattle.js_eval.specs.Bundle.{schemas_of};
-ghost use Rattle.js_eval.specs.Schemas as spec;
+ghost use Rattle.js_eval.specs.SchemaSet as spec;
 ghost use Rattle.js_eval.specs.Seen.{instance_of, texts_of};
-ghost use Rattle.js_eval.specs.Sited.{site_at};
+ghost use Rattle.js_eval.specs.Sited.{numbered_site};
 
 use crate::bundled::below;
 use crate::cursor::Asking;
@@ -20,9 +20,9 @@ use crate::keyword::Keyword;
 use crate::member_cursor::{
     each_additional, each_in_place, each_name, each_named, each_other, object_at,
 };
-use crate::parts::{Instance, Step, members_in};
+use crate::parts::{Instance, object_in};
 use crate::pattern_cursor::each_matching;
-use js_bundle::{Place, Schemas};
+use js_bundle::{Place, Schemas, Step};
 use js_doc::{Doc, Memory};
 use std::alloc::Global;
 
@@ -35,13 +35,13 @@ pub(crate) fn dependent<'a>(
 ) -> Asking<'a>
     requires { is_place schemas.now place ≡ true }
     ensures { asked schemas.now result
-        ≡ map (λ m. application (schemas_of schemas.now) (site_at schemas.now place) keyword.entry.name.now (spec.Name m.0) spec.Alone (instance_of value.entry))
+        ≡ map (λ m. application (schemas_of schemas.now) (numbered_site schemas.now place) keyword.entry.name.now (spec.Name m.0) spec.Alone (instance_of value.entry))
         (filter (λ m. has m.0 (entries (instance_of value.entry))) (entries (value_of keyword.entry.argument.now))) }
 {
-    let Some(named) = members_in(keyword.argument) else {
+    let Some(named) = object_in(keyword.argument) else {
         return Asking::One(None);
     };
-    match value.members() {
+    match value.object() {
         Some(members) => Asking::Members(each_in_place(place, keyword.name, named, members, value)),
         None => Asking::One(None),
     }
@@ -56,13 +56,13 @@ pub(crate) fn properties<'a>(
 ) -> Asking<'a>
     requires { is_place schemas.now place ≡ true }
     ensures { asked schemas.now result
-        ≡ map (λ m. application (schemas_of schemas.now) (site_at schemas.now place) keyword.entry.name.now (spec.Name m.0) (spec.Name m.0) m.1)
+        ≡ map (λ m. application (schemas_of schemas.now) (numbered_site schemas.now place) keyword.entry.name.now (spec.Name m.0) (spec.Name m.0) m.1)
         (filter (λ m. has m.0 (entries (value_of keyword.entry.argument.now))) (entries (instance_of value.entry))) }
 {
-    let Some(named) = members_in(keyword.argument) else {
+    let Some(named) = object_in(keyword.argument) else {
         return Asking::One(None);
     };
-    match value.members() {
+    match value.object() {
         Some(members) => Asking::Members(each_named(place, keyword.name, named, members)),
         None => Asking::One(None),
     }
@@ -77,13 +77,13 @@ pub(crate) fn patterns<'a>(
 ) -> Asking<'a>
     requires { is_place schemas.now place ≡ true }
     ensures { asked schemas.now result
-        ≡ flat_map (λ p. map (λ m. application (schemas_of schemas.now) (site_at schemas.now place) keyword.entry.name.now (spec.Name p.0) (spec.Name m.0) m.1)
+        ≡ flat_map (λ p. map (λ m. application (schemas_of schemas.now) (numbered_site schemas.now place) keyword.entry.name.now (spec.Name p.0) (spec.Name m.0) m.1)
         (filter (λ m. matches p.0 m.0) (entries (instance_of value.entry)))) (entries (value_of keyword.entry.argument.now)) }
 {
-    let Some(patterns) = members_in(keyword.argument) else {
+    let Some(patterns) = object_in(keyword.argument) else {
         return Asking::One(None);
     };
-    match value.members() {
+    match value.object() {
         Some(members) => Asking::Patterns(each_matching(place, keyword.name, patterns, members)),
         None => Asking::One(None),
     }
@@ -99,13 +99,13 @@ pub(crate) fn additional<'a>(
 ) -> Asking<'a>
     requires { is_place schemas.now place ≡ true }
     ensures { asked schemas.now result
-        ≡ map (λ m. application (schemas_of schemas.now) (site_at schemas.now place) keyword.now spec.Alone (spec.Name m.0) m.1)
+        ≡ map (λ m. application (schemas_of schemas.now) (numbered_site schemas.now place) keyword.now spec.Alone (spec.Name m.0) m.1)
         (filter (λ m. not (is_property (entries (value_of schema.now)) m.0 || matches_pattern (entries (value_of schema.now)) m.0)) (entries (instance_of value.entry))) }
 {
     let below = below(schemas, place, keyword, Step::Alone);
     let properties = object_at(schema, "properties");
     let patterns = object_at(schema, "patternProperties");
-    match value.members() {
+    match value.object() {
         Some(members) => Asking::Members(each_additional(
             below, place, properties, patterns, members,
         )),
@@ -114,7 +114,7 @@ pub(crate) fn additional<'a>(
 }
 
 /// What `propertyNames` asks for.
-pub(crate) fn names<'a>(
+pub(crate) fn property_names<'a>(
     schemas: &Schemas,
     place: Place,
     keyword: &str,
@@ -122,10 +122,10 @@ pub(crate) fn names<'a>(
 ) -> Asking<'a>
     requires { is_place schemas.now place ≡ true }
     ensures { asked schemas.now result
-        ≡ map (λ m. application (schemas_of schemas.now) (site_at schemas.now place) keyword.now spec.Alone (spec.Name m.0) (text m.0)) (entries (instance_of value.entry)) }
+        ≡ map (λ m. application (schemas_of schemas.now) (numbered_site schemas.now place) keyword.now spec.Alone (spec.Name m.0) (text m.0)) (entries (instance_of value.entry)) }
 {
     let below = below(schemas, place, keyword, Step::Alone);
-    match value.members() {
+    match value.object() {
         Some(members) => Asking::Members(each_name(below, members)),
         None => Asking::One(None),
     }
@@ -135,7 +135,7 @@ pub(crate) fn names<'a>(
 ///
 /// # Errors
 /// `Memory`.
-pub(crate) fn unevaluated<'a>(
+pub(crate) fn unevaluated_properties<'a>(
     alloc: Global,
     schemas: &Schemas,
     place: Place,
@@ -145,10 +145,10 @@ pub(crate) fn unevaluated<'a>(
 ) -> Result<Asking<'a>, Memory>
     requires { is_place schemas.now place ≡ true }
     ensures { IfOk result (λ a. asked schemas.now a
-        ≡ map (λ m. application (schemas_of schemas.now) (site_at schemas.now place) keyword.now spec.Alone (spec.Name m.0) m.1)
+        ≡ map (λ m. application (schemas_of schemas.now) (numbered_site schemas.now place) keyword.now spec.Alone (spec.Name m.0) m.1)
         (filter (λ m. not (among_names m.0 (texts_of evaluated.now))) (entries (instance_of value.entry)))) }
 {
-    let Some(members) = value.members() else {
+    let Some(members) = value.object() else {
         return Ok(Asking::One(None));
     };
     let below = below(schemas, place, keyword, Step::Alone);

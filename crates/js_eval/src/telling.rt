@@ -14,8 +14,8 @@ ghost use Rattle.js_eval.specs.Bundle.{schemas_of};
 ghost use Rattle.js_eval.specs.Keywords as table;
 ghost use Rattle.js_eval.specs.Note as spec;
 ghost use Rattle.js_eval.specs.Seen.{instance_of, keyword_of, texts_of};
-ghost use Rattle.js_eval.specs.Schemas.{Text as Bytes};
-ghost use Rattle.js_eval.specs.Sited.{site_at};
+ghost use Rattle.js_eval.specs.SchemaSet.{Text as Bytes};
+ghost use Rattle.js_eval.specs.Sited.{numbered_site};
 ghost use Rattle.js_eval.specs.Walk.Said.{keyword_says};
 ghost use Rattle.js_eval.specs.Walk.Told.{IsKeywordAt, says_at};
 ghost use Rattle.js_tree.specs.Seen.{note_of};
@@ -51,8 +51,8 @@ pub(crate) fn keyword_note<'a>(
     indexes: &[usize],
 ) -> Result<Note<'a>, Memory>
     requires place { is_place schemas.now place ≡ true }
-    requires keyword { IsKeywordAt (schemas_of schemas.now) (site_at schemas.now place) (keyword_of keyword) }
-    ensures { IfOk result (λ n. note_of n ≡ says_at (schemas_of schemas.now) (site_at schemas.now place) (instance_of value.entry) matching (keyword_of keyword.entry)
+    requires keyword { IsKeywordAt (schemas_of schemas.now) (numbered_site schemas.now place) (keyword_of keyword) }
+    ensures { IfOk result (λ n. note_of n ≡ says_at (schemas_of schemas.now) (numbered_site schemas.now place) (instance_of value.entry) matching (keyword_of keyword.entry)
         judged.held (texts_of names.now) indexes.now judged.passes) }
 {
     let kind = kind_of(keyword.name);
@@ -172,7 +172,7 @@ fn are_all_items(value: Instance<'_>, indexes: &[usize]) -> bool
     ensures { result ≡ spec.are_all_items (instance_of value.entry) indexes.now }
 {
     match indexes.last() {
-        Some(_) => indexes.len() == value.items().len(),
+        Some(_) => indexes.len() == value.array().len(),
         None => false,
     }
 }
@@ -203,7 +203,7 @@ fn matching_items<'a>(
     value: Instance<'a>,
     indexes: &[usize],
 ) -> Result<Note<'a>, Memory>
-    ensures { IfOk result (λ n. note_of n ≡ spec.on_array (instance_of value.entry)
+    ensures { IfOk result (λ n. note_of n ≡ spec.said_of_array (instance_of value.entry)
         (spec.true_or (spec.are_all_items (instance_of value.entry) indexes.now) (spec.indexes indexes.now))) }
 {
     let are_all = are_all_items(value, indexes);
@@ -238,7 +238,7 @@ fn members_applied<'a>(
     value: Instance<'a>,
     names: &[&'a str],
 ) -> Result<Note<'a>, Memory>
-    ensures { IfOk result (λ n. note_of n ≡ spec.on_object (instance_of value.entry) (spec.names (texts_of names.now))) }
+    ensures { IfOk result (λ n. note_of n ≡ spec.said_of_object (instance_of value.entry) (spec.names (texts_of names.now))) }
 {
     match value {
         Instance::Doc(Doc::Members(_)) => Ok(Note::Names(Names::new(copies(alloc, names)?))),
@@ -262,7 +262,7 @@ fn members_in_order<'a>(
     value: Instance<'a>,
     applied: &[&'a str],
 ) -> Result<Note<'a>, Memory>
-    ensures { IfOk result (λ n. note_of n ≡ spec.on_object (instance_of value.entry)
+    ensures { IfOk result (λ n. note_of n ≡ spec.said_of_object (instance_of value.entry)
         (spec.names (spec.members_among (instance_of value.entry) (texts_of applied.now)))) }
 {
     let names = members_among(alloc, value, applied)?;
@@ -270,7 +270,7 @@ fn members_in_order<'a>(
 }
 
 fn names_on_object<'a>(value: Instance<'a>, names: Vec<&'a str>) -> Note<'a>
-    ensures { note_of result ≡ spec.on_object (instance_of value.entry) (spec.names (texts_of names.entry.items)) }
+    ensures { note_of result ≡ spec.said_of_object (instance_of value.entry) (spec.names (texts_of names.entry.items)) }
 {
     match value {
         Instance::Doc(Doc::Members(_)) => Note::Names(Names::new(names)),
@@ -286,7 +286,7 @@ fn members_among<'a>(
 ) -> Result<Vec<&'a str>, Memory>
     ensures { IfOk result (λ ns. texts_of ns.items ≡ spec.members_among (instance_of value.entry) (texts_of among.now)) }
 {
-    match value.members() {
+    match value.object() {
         Some(members) => names_among(alloc, members, among),
         None => Ok(Vec::new(alloc)),
     }
@@ -339,9 +339,9 @@ fn error_at(
     matching: u64,
 ) -> Result<Option<String>, Memory>
     requires place { is_place schemas.now place ≡ true }
-    requires keyword { IsKeywordAt (schemas_of schemas.now) (site_at schemas.now place) (keyword_of keyword) }
+    requires keyword { IsKeywordAt (schemas_of schemas.now) (numbered_site schemas.now place) (keyword_of keyword) }
     ensures { IfOk result (λ e. option_map string_bytes e ≡ option_map_or (λ a. texts.error a (instance_of value.entry) matching)
-        (asserted keyword.entry.name.now (value_of keyword.entry.argument.now) (entries (site_at schemas.now place).schema)) None) }
+        (asserted keyword.entry.name.now (value_of keyword.entry.argument.now) (entries (numbered_site schemas.now place).schema)) None) }
 {
     error_of(
         alloc,

@@ -12,7 +12,7 @@ use Rattle.js_doc.specs.Value.{Value}
 use Rattle.js_eval.specs.Bundle.{schemas_of}
 use Rattle.js_eval.specs.Location.{at_root}
 use Rattle.js_eval.specs.Result.{ResultTree, IsResult}
-use Rattle.js_eval.specs.Sited.{site_at, nowhere}
+use Rattle.js_eval.specs.Sited.{numbered_site, nowhere}
 use Rattle.js_eval.specs.Walked.{OnTooLarge, IsResultThere, IsVerdict}
 use Rattle.js_eval.specs.Walked.{NoneStands as NoneStandsThere}
 use Rattle.js_eval.specs.declared.walking.fault.WalkFault.{WalkFault}
@@ -32,7 +32,7 @@ some_is : {A : Type 0} (a b : A) → Some a ≡ Some b → a ≡ b
 some_is a b e = cc
 
 -- the place of a number, as the walk tells it
-pub site_there : (docs : Documents) (n : ℕ) → is_place docs n ≡ true → place_at docs n ≡ Some (site_at docs n)
+pub site_there : (docs : Documents) (n : ℕ) → is_place docs n ≡ true → place_at docs n ≡ Some (numbered_site docs n)
 site_there docs n there =
     let within : n < length (sites docs) = ltb-true n (length (sites docs)) there in
     slice_get-get_or (sites docs) n nowhere within ∙ ap Some (sym (unwrap_or-slice_get (sites docs) n nowhere))
@@ -88,11 +88,11 @@ count_is docs items is = ap length is ∙ length-range_with_len 0 (length (sites
 
 module _ (docs : Documents) (n : ℕ) (v : Value) (there : is_place docs n ≡ true) where
   pub result-there : (t : ResultTree) → IsResultThere docs n v t → IsResultOf docs (place_at docs n) v t
-  result-there t r = record { place = site_at docs n; is_entry = site_there docs n there; is_result = r }
+  result-there t r = record { place = numbered_site docs n; is_entry = site_there docs n there; is_result = r }
 
   pub none-there : NoneStandsThere docs n v → NoResultStands docs (place_at docs n) v
   none-there none t r stands =
-      let is : r.place ≡ site_at docs n = some_is r.place (site_at docs n) (sym r.is_entry ∙ site_there docs n there) in
+      let is : r.place ≡ numbered_site docs n = some_is r.place (numbered_site docs n) (sym r.is_entry ∙ site_there docs n there) in
       none t (subst (λ s. IsResult (schemas_of docs) [] s at_root v t) is r.is_result) stands
 
   -- its verdict alone

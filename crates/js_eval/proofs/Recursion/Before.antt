@@ -20,23 +20,23 @@ use Rattle.js_assert.specs.Assertion.{asserted}
 use Rattle.js_assert.specs.ErrorText as text
 use Rattle.js_eval.specs.Applications.{Application, application, asks_of}
 use Rattle.js_eval.specs.Evaluated.{names_of, indexes_of}
-use Rattle.js_eval.specs.Keywords.{Keyword, keywords, chosen, comes_first, comes_last, is_else}
+use Rattle.js_eval.specs.Keywords.{Keyword, keywords, keywords_that, comes_before_else, comes_after_else, is_else}
 use Rattle.js_eval.specs.Kind.{kind, is_unevaluated_items, is_unevaluated_properties}
 use Rattle.js_doc.specs.Pointer.{pointer_text}
-use Rattle.js_eval.specs.Location.{Location, at_keyword}
+use Rattle.js_eval.specs.Location.{Location, at_keyword_named}
 use Rattle.js_eval.specs.Result.{OutputUnit}
 use Rattle.js_eval.specs.Note.{Note, error_or_none, keyword_note}
 use Rattle.js_eval.specs.Passes.{passes_of}
-use Rattle.js_eval.specs.Schemas.{Text, Schemas, Alone}
+use Rattle.js_eval.specs.SchemaSet.{Text, SchemaSet, Alone}
 use Rattle.js_eval.specs.Verdict as verdict
 use Rattle.js_eval.specs.Verdict.{Known, within, asks, passes}
 use Rattle.js_eval.specs.declared.kind.Kind.{Kind}
 use Rattle.js_eval.specs.declared.kind.Kind.TheVariants.{Then, Else, Assertion, Annotation, UnevaluatedItems, UnevaluatedProperties}
 use Rattle.js_eval.proofs.Among.{IsAmong, AreAmong, all_of_filter, keywords_among}
 use Rattle.js_eval.proofs.NoCircle.{names_in_no_circle, indexes_in_no_circle}
-use Rattle.js_eval.specs.Walk.Keeping.{names_source, indexes_source}
-use Rattle.js_eval.specs.declared.walking.keeping.Source.{Source}
-use Rattle.js_eval.specs.declared.walking.keeping.Source.TheVariants.{Nowhere}
+use Rattle.js_eval.specs.Walk.Keeping.{names_origin, indexes_origin}
+use Rattle.js_eval.specs.declared.walking.keeping.Origin.{Origin}
+use Rattle.js_eval.specs.declared.walking.keeping.Origin.TheVariants.{Nowhere}
 use Rattle.js_eval.specs.Walk.Told.{IsKeywordAt, asked_by, passes_by, unit_by, passes_at}
 use Rattle.js_eval.proofs.Recursion.NodeTelling.{IsAsBefore}
 use Rattle.js_eval.proofs.Recursion.Sources.{silent_names, silent_indexes}
@@ -46,12 +46,12 @@ use Rattle.js_eval.proofs.Recursion.Order.{itself, is_branch, matches, by_kind, 
 
 -- a lemma of js_assert, whose keywords can't be named here
 pub record CountsLater : Type 0 where
-  pub says : (name : Text) (argument : Value) (siblings : Named) (v : Value) (m n : ℕ) → comes_first name ≡ true
+  pub says : (name : Text) (argument : Value) (siblings : Named) (v : Value) (m n : ℕ) → comes_before_else name ≡ true
       → option_map_or (λ a. assertion.says a v m) (asserted name argument siblings) true ≡ option_map_or (λ a. assertion.says a v n) (asserted name argument siblings) true
-  pub error : (name : Text) (argument : Value) (siblings : Named) (v : Value) (m n : ℕ) → comes_first name ≡ true
+  pub error : (name : Text) (argument : Value) (siblings : Named) (v : Value) (m n : ℕ) → comes_before_else name ≡ true
       → option_map_or (λ a. text.error a v m) (asserted name argument siblings) None ≡ option_map_or (λ a. text.error a v n) (asserted name argument siblings) None
 
-module _ (later : CountsLater) (siblings : Named) (v : Value) (m n : ℕ) (k : Keyword) (first : comes_first k.0 ≡ true) where
+module _ (later : CountsLater) (siblings : Named) (v : Value) (m n : ℕ) (k : Keyword) (first : comes_before_else k.0 ≡ true) where
   pub passes_first : (verdicts : List Bool) (κ : Kind) → passes_of siblings v m k verdicts κ ≡ passes_of siblings v n k verdicts κ
   passes_first verdicts Assertion = later.says k.0 k.1 siblings v m n first
   passes_first verdicts _ = refl
@@ -134,21 +134,21 @@ by_test p R f [] = tt
 by_test p R f (x ∷ xs) = by_test_at p R x xs f (by_test p R f xs) (p x) refl
 
 module _ (schema : Value) (ascending : IsAscending (entries schema)) (done more : List Keyword) (k : Keyword) (split : done ++ k ∷ more ≡ keywords schema)
-    (u : Keyword → Bool) (not_first : comes_first k.0 ≡ false) (not_else : is_else k.0 ≡ false)
-    (first : (x : Keyword) → comes_first x.0 ≡ true → u x ≡ false) (other : (x : Keyword) → is_else x.0 ≡ true → u x ≡ false) (less : (x : Keyword) → name_cmp x.0 k.0 ≡ Less → u x ≡ false) (it : u k ≡ true)
+    (u : Keyword → Bool) (not_first : comes_before_else k.0 ≡ false) (not_else : is_else k.0 ≡ false)
+    (first : (x : Keyword) → comes_before_else x.0 ≡ true → u x ≡ false) (other : (x : Keyword) → is_else x.0 ≡ true → u x ≡ false) (less : (x : Keyword) → name_cmp x.0 k.0 ≡ Less → u x ≡ false) (it : u k ≡ true)
     {A : Type 0} (f : Keyword → List A) (behind : (x : Keyword) → name_cmp k.0 x.0 ≡ Less → f x ≡ []) where
   pub all_before : flat_map f (filter (λ x. not (u x)) (keywords schema)) ≡ flat_map f done
   all_before =
       let q = λ (x : Keyword). not (u x) in
-      let d = behind_first (λ l. comes_first l.0) (chosen comes_first schema) (chosen is_else schema ++ chosen comes_last schema) done more k (all_pass (λ l. comes_first l.0) (entries schema)) not_first split in
-      let s2 : d.0 ++ k ∷ more ≡ chosen is_else schema ++ chosen comes_last schema = append_cancel_left (chosen comes_first schema) _ _ (sym (append_assoc (chosen comes_first schema) d.0 (k ∷ more)) ∙ (ap (λ l. l ++ k ∷ more) (sym d.1) ∙ split)) in
-      let e = behind_first (λ l. is_else l.0) (chosen is_else schema) (chosen comes_last schema) d.0 more k (all_pass (λ l. is_else l.0) (entries schema)) not_else s2 in
-      let s3 : e.0 ++ k ∷ more ≡ chosen comes_last schema = append_cancel_left (chosen is_else schema) _ _ (sym (append_assoc (chosen is_else schema) e.0 (k ∷ more)) ∙ (ap (λ l. l ++ k ∷ more) (sym e.1) ∙ s2)) in
-      let a : Ascends (e.0 ++ k ∷ more) = subst Ascends (sym s3) (ascends_chosen (λ l. comes_last l.0) (entries schema) (ascends (entries schema) ascending)) in
+      let d = behind_first (λ l. comes_before_else l.0) (keywords_that comes_before_else schema) (keywords_that is_else schema ++ keywords_that comes_after_else schema) done more k (all_pass (λ l. comes_before_else l.0) (entries schema)) not_first split in
+      let s2 : d.0 ++ k ∷ more ≡ keywords_that is_else schema ++ keywords_that comes_after_else schema = append_cancel_left (keywords_that comes_before_else schema) _ _ (sym (append_assoc (keywords_that comes_before_else schema) d.0 (k ∷ more)) ∙ (ap (λ l. l ++ k ∷ more) (sym d.1) ∙ split)) in
+      let e = behind_first (λ l. is_else l.0) (keywords_that is_else schema) (keywords_that comes_after_else schema) d.0 more k (all_pass (λ l. is_else l.0) (entries schema)) not_else s2 in
+      let s3 : e.0 ++ k ∷ more ≡ keywords_that comes_after_else schema = append_cancel_left (keywords_that is_else schema) _ _ (sym (append_assoc (keywords_that is_else schema) e.0 (k ∷ more)) ∙ (ap (λ l. l ++ k ∷ more) (sym e.1) ∙ s2)) in
+      let a : Ascends (e.0 ++ k ∷ more) = subst Ascends (sym s3) (ascends_chosen (λ l. comes_after_else l.0) (entries schema) (ascends (entries schema) ascending)) in
       let pass = λ (x : Keyword) (h : u x ≡ false). let r : not (u x) ≡ true = ap not h in r in
-      let whole : AllByRecursion (λ x. q x ≡ true) done = subst (AllByRecursion (λ x. q x ≡ true)) (sym (d.1 ∙ ap (λ l. chosen comes_first schema ++ l) e.1))
-      (all_both_ways (λ x. q x ≡ true) (chosen comes_first schema) (chosen is_else schema ++ e.0) (by_test (λ l. comes_first l.0) (λ x. q x ≡ true) (λ x h. pass x (first x h)) (entries schema))
-      (all_both_ways (λ x. q x ≡ true) (chosen is_else schema) e.0 (by_test (λ l. is_else l.0) (λ x. q x ≡ true) (λ x h. pass x (other x h)) (entries schema))
+      let whole : AllByRecursion (λ x. q x ≡ true) done = subst (AllByRecursion (λ x. q x ≡ true)) (sym (d.1 ∙ ap (λ l. keywords_that comes_before_else schema ++ l) e.1))
+      (all_both_ways (λ x. q x ≡ true) (keywords_that comes_before_else schema) (keywords_that is_else schema ++ e.0) (by_test (λ l. comes_before_else l.0) (λ x. q x ≡ true) (λ x h. pass x (first x h)) (entries schema))
+      (all_both_ways (λ x. q x ≡ true) (keywords_that is_else schema) e.0 (by_test (λ l. is_else l.0) (λ x. q x ≡ true) (λ x h. pass x (other x h)) (entries schema))
       (all_so (λ x. name_cmp x.0 k.0 ≡ Less) (λ x. q x ≡ true) (λ x h. pass x (less x h)) e.0 (before_it e.0 more k a)))) in
       let none : flat_map f (filter q more) ≡ [] = nothing_behind f q more (all_so (λ x. name_cmp k.0 x.0 ≡ Less) (λ x. f x ≡ []) behind more (after_it e.0 more k a)) in
       let gone : filter q (k ∷ more) ≡ filter q more = let n : not (u k) ≡ false = ap not it in rw n refl in
@@ -162,18 +162,18 @@ abbrev is_less : Ordering → Bool
 is_less Less = true
 is_less _ = false
 
-abbrev is_nowhere : Source → Bool
+abbrev is_nowhere : Origin → Bool
 is_nowhere Nowhere = true
 is_nowhere _ = false
 
-nowhere : (s : Source) → is_nowhere s ≡ true → s ≡ Nowhere
+nowhere : (s : Origin) → is_nowhere s ≡ true → s ≡ Nowhere
 nowhere Nowhere h = refl
 nowhere _ h = cc
 
 abbrev placed : (Kind → Bool) → Text → Text → Kind → Bool
-placed is w n κ = not (is κ) || (not (comes_first n) && (not (is_else n) && bytes_eq n w))
+placed is w n κ = not (is κ) || (not (comes_before_else n) && (not (is_else n) && bytes_eq n w))
 
-abbrev silent_after : (Kind → Source) → Text → Text → Kind → Bool
+abbrev silent_after : (Kind → Origin) → Text → Text → Kind → Bool
 silent_after source w n κ = not (is_less (name_cmp w n)) || is_nowhere (source κ)
 
 implied : (a b : Bool) → (not a || b) ≡ true → a ≡ true → b ≡ true
@@ -188,14 +188,14 @@ excluded : (a b : Bool) → (a ≡ true → b ≡ false) → b ≡ true → a �
 excluded true b f h = absurd (let e = f refl in let z : true ≡ false = sym h ∙ e in cc)
 excluded false b f h = refl
 
-module _ (is : Kind → Bool) (w : Text) (source : Kind → Source)
+module _ (is : Kind → Bool) (w : Text) (source : Kind → Origin)
     (where_it_is : (name : Text) → placed is w name (kind name) ≡ true) (silent_behind : (name : Text) → silent_after source w name (kind name) ≡ true) where
-  place_of : (name : Text) → is (kind name) ≡ true → (comes_first name ≡ false) × (is_else name ≡ false) × (name ≡ w)
+  place_of : (name : Text) → is (kind name) ≡ true → (comes_before_else name ≡ false) × (is_else name ≡ false) × (name ≡ w)
   place_of name h =
-      let a = implied (is (kind name)) (not (comes_first name) && (not (is_else name) && bytes_eq name w)) (where_it_is name) h in
-      let b = and_parts (not (comes_first name)) (not (is_else name) && bytes_eq name w) a in
+      let a = implied (is (kind name)) (not (comes_before_else name) && (not (is_else name) && bytes_eq name w)) (where_it_is name) h in
+      let b = and_parts (not (comes_before_else name)) (not (is_else name) && bytes_eq name w) a in
       let c = and_parts (not (is_else name)) (bytes_eq name w) b.1 in
-      (not_so (comes_first name) b.0, not_so (is_else name) c.0, (bytes_eq-Decides name w).0 c.1)
+      (not_so (comes_before_else name) b.0, not_so (is_else name) c.0, (bytes_eq-Decides name w).0 c.1)
 
   below_not : (k x : Keyword) → is (kind k.0) ≡ true → name_cmp x.0 k.0 ≡ Less → is (kind x.0) ≡ false
   below_not k x h l = at (is (kind x.0)) refl
@@ -215,7 +215,7 @@ module _ (is : Kind → Bool) (w : Text) (source : Kind → Source)
     others_before =
         let p = place_of k.0 h in
         all_before schema ascending done more k split (λ x. is (kind x.0)) p.0 p.1
-        (λ x c. excluded (is (kind x.0)) (comes_first x.0) (λ e. (place_of x.0 e).0) c)
+        (λ x c. excluded (is (kind x.0)) (comes_before_else x.0) (λ e. (place_of x.0 e).0) c)
         (λ x c. excluded (is (kind x.0)) (is_else x.0) (λ e. (place_of x.0 e).1) c)
         (λ x l. below_not k x h l) h f (λ x l. f_silent x (behind_silent k x h l))
 
@@ -226,52 +226,52 @@ or_true : (b : Bool) → (b || true) ≡ true
 or_true true = refl
 or_true false = refl
 
-names_silent : (name : Text) → silent_after names_source (codes "unevaluatedProperties") name (kind name) ≡ true
-names_silent name = by_kind (silent_after names_source (codes "unevaluatedProperties")) (λ n b. elim b as (λ c. silent_after names_source (codes "unevaluatedProperties") n (cond c Assertion Annotation) ≡ true) [ true ↦ or_true _ | false ↦ or_true _ ]) refl name
+names_silent : (name : Text) → silent_after names_origin (codes "unevaluatedProperties") name (kind name) ≡ true
+names_silent name = by_kind (silent_after names_origin (codes "unevaluatedProperties")) (λ n b. elim b as (λ c. silent_after names_origin (codes "unevaluatedProperties") n (cond c Assertion Annotation) ≡ true) [ true ↦ or_true _ | false ↦ or_true _ ]) refl name
 
 indexes_placed : (name : Text) → placed is_unevaluated_items (codes "unevaluatedItems") name (kind name) ≡ true
 indexes_placed name = by_kind (placed is_unevaluated_items (codes "unevaluatedItems")) (λ n b. elim b as (λ c. placed is_unevaluated_items (codes "unevaluatedItems") n (cond c Assertion Annotation) ≡ true) [ true ↦ refl | false ↦ refl ]) refl name
 
-indexes_silent : (name : Text) → silent_after indexes_source (codes "unevaluatedItems") name (kind name) ≡ true
-indexes_silent name = by_kind (silent_after indexes_source (codes "unevaluatedItems")) (λ n b. elim b as (λ c. silent_after indexes_source (codes "unevaluatedItems") n (cond c Assertion Annotation) ≡ true) [ true ↦ or_true _ | false ↦ or_true _ ]) refl name
+indexes_silent : (name : Text) → silent_after indexes_origin (codes "unevaluatedItems") name (kind name) ≡ true
+indexes_silent name = by_kind (silent_after indexes_origin (codes "unevaluatedItems")) (λ n b. elim b as (λ c. silent_after indexes_origin (codes "unevaluatedItems") n (cond c Assertion Annotation) ≡ true) [ true ↦ or_true _ | false ↦ or_true _ ]) refl name
 
 cond_nothing : {A : Type 0} (b : Bool) (xs : List A) → xs ≡ [] → cond b xs [] ≡ []
 cond_nothing true xs e = e
 cond_nothing false xs e = refl
 
-module _ {P : Type 0} (later : CountsLater) (S : Schemas P) (known : Known P) (above : List P) (place : P) (v : Value) (ascending : IsAscending (entries (S.schema place))) (done more : List Keyword) (k : Keyword) (split : done ++ k ∷ more ≡ keywords (S.schema place)) where
-  no_names_given : (x : Keyword) → names_source (kind x.0) ≡ Nowhere → verdict.gives_names S known above place v x ≡ []
+module _ {P : Type 0} (later : CountsLater) (S : SchemaSet P) (known : Known P) (above : List P) (place : P) (v : Value) (ascending : IsAscending (entries (S.schema place))) (done more : List Keyword) (k : Keyword) (split : done ++ k ∷ more ≡ keywords (S.schema place)) where
+  no_names_given : (x : Keyword) → names_origin (kind x.0) ≡ Nowhere → verdict.gives_names S known above place v x ≡ []
   no_names_given x h =
       cond_nothing (verdict.passes S known above place v x) (names_of (verdict.asks S known above place v x) (filter (verdict.application_holds S known above place v) (verdict.asks S known above place v x)) (flat_map (λ a. known.names (above ++ place ∷ []) a.place a.value) (filter (verdict.application_holds S known above place v) (verdict.asks S known above place v x))) (kind x.0))
       (silent_names (verdict.asks S known above place v x) (filter (verdict.application_holds S known above place v) (verdict.asks S known above place v x)) (flat_map (λ a. known.names (above ++ place ∷ []) a.place a.value) (filter (verdict.application_holds S known above place v) (verdict.asks S known above place v x))) (kind x.0) h)
 
-  no_indexes_given : (x : Keyword) → indexes_source (kind x.0) ≡ Nowhere → verdict.gives_indexes S known above place v x ≡ []
+  no_indexes_given : (x : Keyword) → indexes_origin (kind x.0) ≡ Nowhere → verdict.gives_indexes S known above place v x ≡ []
   no_indexes_given x h =
       cond_nothing (verdict.passes S known above place v x) (indexes_of (verdict.asks S known above place v x) (filter (verdict.application_holds S known above place v) (verdict.asks S known above place v x)) (flat_map (λ a. known.indexes (above ++ place ∷ []) a.place a.value) (filter (verdict.application_holds S known above place v) (verdict.asks S known above place v x))) (kind x.0))
       (silent_indexes (verdict.asks S known above place v x) (filter (verdict.application_holds S known above place v) (verdict.asks S known above place v x)) (flat_map (λ a. known.indexes (above ++ place ∷ []) a.place a.value) (filter (verdict.application_holds S known above place v) (verdict.asks S known above place v x))) (kind x.0) h)
 
   names_before : is_unevaluated_properties (kind k.0) ≡ true → names_in S known above place v done ≡ verdict.evaluated_names S known above place v
   names_before h =
-      sym (others_before is_unevaluated_properties (codes "unevaluatedProperties") names_source names_placed names_silent (S.schema place) ascending done more k split h (verdict.gives_names S known above place v) no_names_given)
+      sym (others_before is_unevaluated_properties (codes "unevaluatedProperties") names_origin names_placed names_silent (S.schema place) ascending done more k split h (verdict.gives_names S known above place v) no_names_given)
       ∙ names_in_no_circle S known above place v
 
   indexes_before : is_unevaluated_items (kind k.0) ≡ true → indexes_in S known above place v done ≡ verdict.evaluated_indexes S known above place v
   indexes_before h =
-      sym (others_before is_unevaluated_items (codes "unevaluatedItems") indexes_source indexes_placed indexes_silent (S.schema place) ascending done more k split h (verdict.gives_indexes S known above place v) no_indexes_given)
+      sym (others_before is_unevaluated_items (codes "unevaluatedItems") indexes_origin indexes_placed indexes_silent (S.schema place) ascending done more k split h (verdict.gives_indexes S known above place v) no_indexes_given)
       ∙ indexes_in_no_circle S known above place v
 
-  condition_before : comes_first k.0 ≡ false → condition_in S known above place v done ≡ verdict.condition S known above place v
+  condition_before : comes_before_else k.0 ≡ false → condition_in S known above place v done ≡ verdict.condition S known above place v
   condition_before h = ap (option_map (λ _. verdict.application_holds S known above place v (application S place (codes "if") Alone Alone v))) (found_before (S.schema place) ascending done more k split (codes "if") refl h)
 
-  matching_before : comes_first k.0 ≡ false → matching_in S known above place v done ≡ verdict.matching S known above place v
+  matching_before : comes_before_else k.0 ≡ false → matching_in S known above place v done ≡ verdict.matching S known above place v
   matching_before h = ap (λ o. option_map_or (λ _. matches S known above place v) o 0) (found_before (S.schema place) ascending done more k split (codes "contains") refl h)
 
   -- what is known of the keywords before it serves a keyword as well as what there is to be known
   asks_before_at : (κ : Kind) → kind k.0 ≡ κ
       → asks_of S (above ++ place ∷ []) place (entries (S.schema place)) v (condition_in S known above place v done) (names_in S known above place v done) (indexes_in S known above place v done) k κ
       ≡ asks_of S (above ++ place ∷ []) place (entries (S.schema place)) v (verdict.condition S known above place v) (verdict.evaluated_names S known above place v) (verdict.evaluated_indexes S known above place v) k κ
-  asks_before_at Then e = let c = condition_before (then_later k.0 (comes_first k.0) (ap is_branch e) refl) in cc
-  asks_before_at Else e = let c = condition_before (then_later k.0 (comes_first k.0) (ap is_branch e) refl) in cc
+  asks_before_at Then e = let c = condition_before (then_later k.0 (comes_before_else k.0) (ap is_branch e) refl) in cc
+  asks_before_at Else e = let c = condition_before (then_later k.0 (comes_before_else k.0) (ap is_branch e) refl) in cc
   asks_before_at UnevaluatedItems e = let c = indexes_before (ap is_unevaluated_items e) in ap (λ is. asks_of S (above ++ place ∷ []) place (entries (S.schema place)) v None [] is k UnevaluatedItems) c
   asks_before_at UnevaluatedProperties e = let c = names_before (ap is_unevaluated_properties e) in ap (λ ns. asks_of S (above ++ place ∷ []) place (entries (S.schema place)) v None ns [] k UnevaluatedProperties) c
   asks_before_at _ e = refl
@@ -279,25 +279,25 @@ module _ {P : Type 0} (later : CountsLater) (S : Schemas P) (known : Known P) (a
   pub asks_before : asks_of S (above ++ place ∷ []) place (entries (S.schema place)) v (condition_in S known above place v done) (names_in S known above place v done) (indexes_in S known above place v done) k (kind k.0) ≡ verdict.asks S known above place v k
   asks_before = asks_before_at (kind k.0) refl
 
-  passes_before_at : (b : Bool) → comes_first k.0 ≡ b → (verdicts : List Bool) → passes_of (entries (S.schema place)) v (matching_in S known above place v done) k verdicts (kind k.0) ≡ passes_of (entries (S.schema place)) v (verdict.matching S known above place v) k verdicts (kind k.0)
+  passes_before_at : (b : Bool) → comes_before_else k.0 ≡ b → (verdicts : List Bool) → passes_of (entries (S.schema place)) v (matching_in S known above place v done) k verdicts (kind k.0) ≡ passes_of (entries (S.schema place)) v (verdict.matching S known above place v) k verdicts (kind k.0)
   passes_before_at true e verdicts = passes_first later (entries (S.schema place)) v _ _ k e verdicts (kind k.0)
   passes_before_at false e verdicts = ap (λ m. passes_of (entries (S.schema place)) v m k verdicts (kind k.0)) (matching_before e)
 
   pub passes_before : (verdicts : List Bool) → passes_of (entries (S.schema place)) v (matching_in S known above place v done) k verdicts (kind k.0) ≡ passes_of (entries (S.schema place)) v (verdict.matching S known above place v) k verdicts (kind k.0)
-  passes_before = passes_before_at (comes_first k.0) refl
+  passes_before = passes_before_at (comes_before_else k.0) refl
 
-  note_before_at : (b : Bool) → comes_first k.0 ≡ b → (apps holding : List (Application P)) (p : Bool) → keyword_note (entries (S.schema place)) v (matching_in S known above place v done) k apps holding p (kind k.0) ≡ keyword_note (entries (S.schema place)) v (verdict.matching S known above place v) k apps holding p (kind k.0)
+  note_before_at : (b : Bool) → comes_before_else k.0 ≡ b → (apps holding : List (Application P)) (p : Bool) → keyword_note (entries (S.schema place)) v (matching_in S known above place v done) k apps holding p (kind k.0) ≡ keyword_note (entries (S.schema place)) v (verdict.matching S known above place v) k apps holding p (kind k.0)
   note_before_at true e apps holding p = note_first later (entries (S.schema place)) v _ _ k e apps holding p (kind k.0)
   note_before_at false e apps holding p = ap (λ m. keyword_note (entries (S.schema place)) v m k apps holding p (kind k.0)) (matching_before e)
 
   pub note_before : (apps holding : List (Application P)) (p : Bool) → keyword_note (entries (S.schema place)) v (matching_in S known above place v done) k apps holding p (kind k.0) ≡ keyword_note (entries (S.schema place)) v (verdict.matching S known above place v) k apps holding p (kind k.0)
-  note_before = note_before_at (comes_first k.0) refl
+  note_before = note_before_at (comes_before_else k.0) refl
 
-abbrev unit_with : {P : Type 0} → Schemas P → List P → P → Location → Keyword → Bool → Note → OutputUnit
-unit_with S above place at k b note = record { valid = b; keyword = pointer_text (at_keyword at k.0).keyword; absolute = S.absolute place (Some k.0); instance = pointer_text at.instance; note = note }
+abbrev unit_with : {P : Type 0} → SchemaSet P → List P → P → Location → Keyword → Bool → Note → OutputUnit
+unit_with S above place at k b note = record { valid = b; keyword = pointer_text (at_keyword_named at k.0).keyword; absolute = S.absolute place (Some k.0); instance = pointer_text at.instance; note = note }
 
 -- what the walk knows of the keywords before one serves
-pub is_as_before : {P : Type 0} → CountsLater → (S : Schemas P) (m : ℕ) (above : List P) (place : P) (v : Value) → IsAscending (entries (S.schema place)) → (done more : List Keyword) (k : Keyword) → done ++ k ∷ more ≡ keywords (S.schema place) → IsAsBefore S m above place v done k
+pub is_as_before : {P : Type 0} → CountsLater → (S : SchemaSet P) (m : ℕ) (above : List P) (place : P) (v : Value) → IsAscending (entries (S.schema place)) → (done more : List Keyword) (k : Keyword) → done ++ k ∷ more ≡ keywords (S.schema place) → IsAsBefore S m above place v done k
 unfolding asked_by passes_by unit_by passes_at
 is_as_before later S m above place v a done more k split =
     record {
@@ -314,7 +314,7 @@ behind_them : {X : Type 0} (P : X → Type 0) (xs ys : List X) (y : X) → AllBy
 behind_them P [] ys y h = h.0
 behind_them P (x ∷ xs) ys y h = behind_them P xs ys y h.1
 
-pub is_keyword_at : {P : Type 0} (S : Schemas P) (place : P) → IsAscending (entries (S.schema place)) → (done more : List Keyword) (k : Keyword) → done ++ k ∷ more ≡ keywords (S.schema place) → IsKeywordAt S place k
+pub is_keyword_at : {P : Type 0} (S : SchemaSet P) (place : P) → IsAscending (entries (S.schema place)) → (done more : List Keyword) (k : Keyword) → done ++ k ∷ more ≡ keywords (S.schema place) → IsKeywordAt S place k
 unfolding IsKeywordAt
 is_keyword_at S place a done more k split =
     behind_them (IsAmong (entries (S.schema place))) done more k (subst (AreAmong (entries (S.schema place))) (sym split) (keywords_among (S.schema place) a))

@@ -5,14 +5,14 @@ use Rattle.std.proofs.Common.{sym, ◌∙◌, ap}
 use Rattle.std.proofs.lemmas.Slice.Eq.{bytes_eq-Decides}
 use Rattle.js_assert.proofs.Counting.{says_whatever_matches, error_whatever_matches}
 use Rattle.js_assert.specs.Laws.{is_counting}
-use Rattle.js_eval.specs.Keywords.{comes_first}
+use Rattle.js_eval.specs.Keywords.{comes_before_else}
 use Rattle.js_eval.proofs.Recursion.Before.{CountsLater}
 
-not_named : (name other : List ℕ) (b : Bool) → bytes_eq name other ≡ b → comes_first other ≡ false → comes_first name ≡ true → b ≡ false
-not_named name other true e o h = absurd (let n = (bytes_eq-Decides name other).0 e in let z : true ≡ false = sym h ∙ (ap comes_first n ∙ o) in cc)
+not_named : (name other : List ℕ) (b : Bool) → bytes_eq name other ≡ b → comes_before_else other ≡ false → comes_before_else name ≡ true → b ≡ false
+not_named name other true e o h = absurd (let n = (bytes_eq-Decides name other).0 e in let z : true ≡ false = sym h ∙ (ap comes_before_else n ∙ o) in cc)
 not_named name other false e o h = refl
 
-neither : (name : List ℕ) → comes_first name ≡ true → is_counting name ≡ false
+neither : (name : List ℕ) → comes_before_else name ≡ true → is_counting name ≡ false
 neither name h =
     let a = not_named name (codes "maxContains") (bytes_eq name (codes "maxContains")) refl refl h in
     let b = not_named name (codes "minContains") (bytes_eq name (codes "minContains")) refl refl h in

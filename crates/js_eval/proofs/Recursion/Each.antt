@@ -11,13 +11,13 @@ use Rattle.js_doc.specs.Pointer.{pointer_text}
 use Rattle.js_tree.specs.Forest.{empty, tree, ◌⊹◌}
 use Rattle.js_eval.specs.Applications.{Application}
 use Rattle.js_eval.specs.Evaluated.{name_in, index_in}
-use Rattle.js_eval.specs.Location.{Location, at_application, tokens}
-use Rattle.js_eval.specs.Schemas.{Text, Schemas}
+use Rattle.js_eval.specs.Location.{Location, at_application, step_tokens}
+use Rattle.js_eval.specs.SchemaSet.{Text, SchemaSet}
 use Rattle.js_eval.specs.Verdict.{within}
 use Rattle.js_eval.specs.declared.kind.Kind.{Kind}
 use Rattle.js_eval.proofs.Lists.{and_true}
 use Rattle.js_tree.specs.Events.{Event, Passes, events, events_of}
-use Rattle.js_eval.specs.Walk.Keeping.{names_source, indexes_source, kept}
+use Rattle.js_eval.specs.Walk.Keeping.{names_origin, indexes_origin, keeps}
 use Rattle.js_eval.specs.Walk.Told.{IsAt, at_step, EachWalked, EachTold, SomeHasNone, NodeWalked, NodeTold, HasNone, settled_at, holds_at, nodes_at, names_given, indexes_given}
 use Rattle.js_eval.proofs.Recursion.Sources.{names_of_none, indexes_of_none, names_more, indexes_more}
 use Rattle.js_tree.proofs.Telling.{passes-append}
@@ -27,8 +27,8 @@ IsAt_step : {P : Type 0} (at : Location) (keyword instance : Text) (a : Applicat
 unfolding at_step
 IsAt_step at keyword instance a h =
     record {
-      schemas = ap (λ t. t ++ pointer_text (tokens a.step)) h.schemas ∙ sym (pointer_text_append at.keyword (tokens a.step));
-      value = ap (λ t. t ++ pointer_text (tokens a.at)) h.value ∙ sym (pointer_text_append at.instance (tokens a.at));
+      schemas = ap (λ t. t ++ pointer_text (step_tokens a.step)) h.schemas ∙ sym (pointer_text_append at.keyword (step_tokens a.step));
+      value = ap (λ t. t ++ pointer_text (step_tokens a.at)) h.value ∙ sym (pointer_text_append at.instance (step_tokens a.at));
     }
 
 pub kept_behind : {A : Type 0} (f : List A → List A) (base given list list' : List A) → list ≡ base ++ given → list' ≡ take (length base) list ++ f (drop (length base) list) → list' ≡ base ++ f given
@@ -44,7 +44,7 @@ counted_more p xs x = ap length (filter-append p xs (x ∷ [])) ∙ (length-appe
     one true = refl
     one false = refl
 
-module _ {P C : Type 0} (S : Schemas P) (n : ℕ) (path : List P) (κ : Kind) (takes : C → Event → C → Type 0) where
+module _ {P C : Type 0} (S : SchemaSet P) (n : ℕ) (path : List P) (κ : Kind) (takes : C → Event → C → Type 0) where
   -- all but the rest are walked and told
   pub record EachSoFar (all rest : List (Application P)) (asked held : ℕ) (names names' : List Text) (indexes indexes' : List ℕ) (old left : ℕ) (keyword instance : Text) (c d : C) : Type 0 where
     pub done : List (Application P)
@@ -72,8 +72,8 @@ module _ {P C : Type 0} (S : Schemas P) (n : ℕ) (path : List P) (κ : Kind) (t
       → EachSoFar all (a ∷ rest) asked held names names' indexes indexes' old left keyword instance c d
       → NodeWalked S n path a.place a.value holds names' names₁ indexes' indexes₁ left left₁
       → ((at : Location) → IsAt at (at_step keyword a.step) (at_step instance a.at) → NodeTold S n path a.place a.value takes at d e)
-      → names₂ ≡ take (length names') names₁ ++ kept (names_source κ) holds (name_in a.at) (drop (length names') names₁)
-      → indexes₂ ≡ take (length indexes') indexes₁ ++ kept (indexes_source κ) holds (index_in a.at) (drop (length indexes') indexes₁)
+      → names₂ ≡ take (length names') names₁ ++ keeps (names_origin κ) holds (name_in a.at) (drop (length names') names₁)
+      → indexes₂ ≡ take (length indexes') indexes₁ ++ keeps (indexes_origin κ) holds (index_in a.at) (drop (length indexes') indexes₁)
       → EachSoFar all rest (asked + 1) (held + cond holds 1 0) names names₂ indexes indexes₂ old left₁ keyword instance c e
   each_more all rest a asked held names names' names₁ names₂ indexes indexes' indexes₁ indexes₂ old left left₁ keyword instance c d e holds so node tells f g =
       let w = so.walked in
@@ -85,14 +85,14 @@ module _ {P C : Type 0} (S : Schemas P) (n : ℕ) (path : List P) (κ : Kind) (t
           many = ap (λ m. m + 1) w.many ∙ sym (length-append so.done (a ∷ []));
           holding = let x = counted_more (holds_at S n path) so.done a in let y = node.verdict in let z = w.holding in cc;
           of_names =
-              let x = kept_behind (kept (names_source κ) holds (name_in a.at)) names' _ names₁ names₂ node.of_names f in
+              let x = kept_behind (keeps (names_origin κ) holds (name_in a.at)) names' _ names₁ names₂ node.of_names f in
               let y = names_more S n path κ so.done a node.settled in
-              let z = append_assoc names (names_given S n path κ so.done) (kept (names_source κ) (holds_at S n path a) (name_in a.at) ((within S n).names path a.place a.value)) in
+              let z = append_assoc names (names_given S n path κ so.done) (keeps (names_origin κ) (holds_at S n path a) (name_in a.at) ((within S n).names path a.place a.value)) in
               let v = node.verdict in let u = w.of_names in cc;
           of_indexes =
-              let x = kept_behind (kept (indexes_source κ) holds (index_in a.at)) indexes' _ indexes₁ indexes₂ node.of_indexes g in
+              let x = kept_behind (keeps (indexes_origin κ) holds (index_in a.at)) indexes' _ indexes₁ indexes₂ node.of_indexes g in
               let y = indexes_more S n path κ so.done a node.settled in
-              let z = append_assoc indexes (indexes_given S n path κ so.done) (kept (indexes_source κ) (holds_at S n path a) (index_in a.at) ((within S n).indexes path a.place a.value)) in
+              let z = append_assoc indexes (indexes_given S n path κ so.done) (keeps (indexes_origin κ) (holds_at S n path a) (index_in a.at) ((within S n).indexes path a.place a.value)) in
               let v = node.verdict in let u = w.of_indexes in cc;
           spent = omega (arith, w.spent, node.spent, sum_by-append (nodes_at S n path) so.done (a ∷ []), sum_by-cons (nodes_at S n path) a []);
         };

@@ -4,16 +4,16 @@ use Rattle.std.proofs.Common.{sym, ◌∙◌, ap, arith, inl, inr}
 use Rattle.js_doc.specs.Value.{Value}
 use Rattle.js_eval.specs.Location.{at_root}
 use Rattle.js_eval.specs.Result.{ResultTree, IsResult, IsWithinLimits, most_levels, most_nodes}
-use Rattle.js_eval.specs.Schemas.{Schemas}
+use Rattle.js_eval.specs.SchemaSet.{SchemaSet}
 use Rattle.js_eval.proofs.Limits.{settled_from_depth, depth_from_settled, size_from_settled}
 use Rattle.js_tree.specs.Events.{Event}
-use Rattle.js_eval.specs.Walk.Leads.{Leads}
+use Rattle.js_eval.specs.Walk.Reported.{Reported}
 use Rattle.js_eval.specs.Walk.Steps.{NodeDone}
 use Rattle.js_eval.specs.Walk.Told.{HasNone}
 use Rattle.js_eval.specs.declared.walking.way.Way.{Way}
 
-module _ {M C P : Type 0} (S : Schemas P) (text_of : M → List ℕ) (takes : C → Event → C → Type 0) (place : P) (v : Value) (n most : ℕ) where
-  pub led : (valid : Bool) (path : List P) (w w' : Way M) (c d : C) → path ≡ [] → n ≡ most_levels → w.left ≡ most_nodes → w.keyword ≡ [] → w.instance ≡ [] → NodeDone S text_of takes n path place v valid w w' c d → Leads S place v takes valid c d
+module _ {M C P : Type 0} (S : SchemaSet P) (text_of : M → List ℕ) (takes : C → Event → C → Type 0) (place : P) (v : Value) (n most : ℕ) where
+  pub led : (valid : Bool) (path : List P) (w w' : Way M) (c d : C) → path ≡ [] → n ≡ most_levels → w.left ≡ most_nodes → w.keyword ≡ [] → w.instance ≡ [] → NodeDone S text_of takes n path place v valid w w' c d → Reported S place v takes valid c d
   led valid path w w' c d p e l k i walk =
       let done = rw p at walk in
       let t = done.told at_root (record { schemas = k; value = i }) in

@@ -10,10 +10,10 @@ use Rattle.js_eval.specs.Applications.{Application}
 use Rattle.js_eval.specs.Evaluated.{names_of, indexes_of}
 use Rattle.js_eval.specs.Keywords.{Keyword}
 use Rattle.js_eval.specs.Kind.{kind}
-use Rattle.js_eval.specs.Location.{Location, at_keyword}
+use Rattle.js_eval.specs.Location.{Location, at_keyword_named}
 use Rattle.js_eval.specs.Note.{Note, keyword_note}
 use Rattle.js_eval.specs.Passes.{how_many}
-use Rattle.js_eval.specs.Schemas.{Text, Schemas}
+use Rattle.js_eval.specs.SchemaSet.{Text, SchemaSet}
 use Rattle.js_eval.specs.declared.kind.Kind.{Kind}
 use Rattle.js_eval.specs.declared.kind.Kind.TheVariants.{AnyOf, Properties}
 use Rattle.js_eval.proofs.HowMany.{count_of}
@@ -34,7 +34,7 @@ stays_if : {A : Type 0} (b : Bool) (base given list : List A) → list ≡ base 
 stays_if true base given list e = e
 stays_if false base given list e = ap (take (length base)) e ∙ (take-append_seam base given ∙ sym (append-nil base))
 
-module _ {P : Type 0} (S : Schemas P) (n : ℕ) (path : List P) (place : P) (v : Value) (k : Keyword) (matching : ℕ) (apps : List (Application P)) where
+module _ {P : Type 0} (S : SchemaSet P) (n : ℕ) (path : List P) (place : P) (v : Value) (k : Keyword) (matching : ℕ) (apps : List (Application P)) where
   pub keyword_walked : (b : Bool) (asked held : ℕ) (names names₁ names₂ : List Text) (indexes indexes₁ indexes₂ : List ℕ) (old left₀ left : ℕ)
       → EachWalked S n path (kind_at k) apps asked held names names₁ indexes indexes₁ left₀ left
       → left₀ + 1 ≡ old
@@ -70,8 +70,8 @@ module _ {P : Type 0} (S : Schemas P) (n : ℕ) (path : List P) (place : P) (v :
       → KeywordTold S n path place v k takes at matching apps c d
   unfolding kind_at passes_by unit_by names_given indexes_given says_at at_name
   keyword_told takes b asked held names names₁ indexes indexes₁ left₀ left keyword instance absolute text said seg seg' c c' d' d at h w p t a o each x y s e =
-      let here : IsAt (at_keyword at k.0) text instance = record { schemas = t ∙ (ap (λ l. l ++ pointer_text (k.0 ∷ [])) h.schemas ∙ sym (pointer_text_append at.keyword (k.0 ∷ []))); value = h.value } in
-      let told = each (at_keyword at k.0) here in
+      let here : IsAt (at_keyword_named at k.0) text instance = record { schemas = t ∙ (ap (λ l. l ++ pointer_text (k.0 ∷ [])) h.schemas ∙ sym (pointer_text_append at.keyword (k.0 ∷ []))); value = h.value } in
+      let told = each (at_keyword_named at k.0) here in
       let u = unit_by S n path place v k at matching apps in
       let n₁ : said ≡ u.note =
       s ∙ (ap (λ m. keyword_says (entries (S.schema place)) v matching k m seg seg' b (kind k.0)) w.holding

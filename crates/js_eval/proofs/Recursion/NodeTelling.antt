@@ -12,10 +12,10 @@ use Rattle.js_tree.specs.Forest.{Forest, empty, tree, ◌⊹◌}
 use Rattle.js_eval.specs.Applications.{Application}
 use Rattle.js_eval.specs.Keywords.{Keyword, keywords}
 use Rattle.js_eval.specs.Kind.{kind}
-use Rattle.js_eval.specs.Location.{Location, at_keyword}
+use Rattle.js_eval.specs.Location.{Location, at_keyword_named}
 use Rattle.js_eval.specs.Note.{Note, schema_note}
 use Rattle.js_eval.specs.Result.{OutputUnit, AreKeywordNodes, AreSchemaNodes, keyword_unit, schema_unit}
-use Rattle.js_eval.specs.Schemas.{Text, Schemas}
+use Rattle.js_eval.specs.SchemaSet.{Text, SchemaSet}
 use Rattle.js_eval.specs.Size.{node_total, nodes_of_keyword}
 use Rattle.js_eval.specs.Verdict.{within, accepts, asks, passes, gives_names, gives_indexes, keyword_settled, schema_settled, schema_passes}
 use Rattle.js_eval.proofs.Agree.{within_agrees}
@@ -33,11 +33,11 @@ pub one_less : (n : ℕ) → n ≢ 0 → suc (n - 1) ≡ n
 one_less n h = omega (arith, h)
 
 -- what the keywords before one tell of it: the lemma of Before
-pub record IsAsBefore {P : Type 0} (S : Schemas P) (m : ℕ) (above : List P) (place : P) (v : Value) (done : List Keyword) (k : Keyword) : Type 0 where
+pub record IsAsBefore {P : Type 0} (S : SchemaSet P) (m : ℕ) (above : List P) (place : P) (v : Value) (done : List Keyword) (k : Keyword) : Type 0 where
   pub same_asks : asked_by S m (above ++ place ∷ []) place v k (condition_in S (within S m) above place v done) (names_in S (within S m) above place v done) (indexes_in S (within S m) above place v done) ≡ asks S (within S m) above place v k
   pub same_unit : (at : Location) → unit_by S m (above ++ place ∷ []) place v k at (matching_in S (within S m) above place v done) (asks S (within S m) above place v k) ≡ keyword_unit S m above place at v k
 
-module _ {P : Type 0} (S : Schemas P) (m : ℕ) (above : List P) (place : P) (v : Value) where
+module _ {P : Type 0} (S : SchemaSet P) (m : ℕ) (above : List P) (place : P) (v : Value) where
   abbrev all : List Keyword
   all = keywords (S.schema place)
 
@@ -141,7 +141,7 @@ module _ {P : Type 0} (S : Schemas P) (m : ℕ) (above : List P) (place : P) (v 
         ap (λ l. unit_by S m (above ++ place ∷ []) place v k at count l) apps_is ∙ (ap (λ n. unit_by S m (above ++ place ∷ []) place v k at n (asks S (within S m) above place v k)) so.matching ∙ before.same_unit at) in
         record {
           forest = h.forest ⊹ tree (keyword_unit S m above place at v k) t.forest empty;
-          nodes = keywords_more S m above place at v done h.forest k t.forest h.nodes (subst (λ l. AreSchemaNodes S m (above ++ place ∷ []) (at_keyword at k.0) l t.forest) apps_is t.nodes);
+          nodes = keywords_more S m above place at v done h.forest k t.forest h.nodes (subst (λ l. AreSchemaNodes S m (above ++ place ∷ []) (at_keyword_named at k.0) l t.forest) apps_is t.nodes);
           passes = subst (λ es. Passes takes (opening (pointer_text at.keyword) (S.absolute place None) (pointer_text at.instance) ∷ es) c e) (sym (events_beside h.forest (tree (keyword_unit S m above place at v k) t.forest empty)))
               (passes-append takes (opening (pointer_text at.keyword) (S.absolute place None) (pointer_text at.instance) ∷ events_of h.forest) _ c d e h.passes
               (subst (λ w. Passes takes (events_of (tree w t.forest empty)) d e) u t.passes));

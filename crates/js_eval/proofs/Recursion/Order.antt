@@ -15,9 +15,9 @@ use Rattle.js_doc.specs.Value.{Value, Named}
 use Rattle.js_doc.specs.Members.{get, name_cmp, IsAscending}
 use Rattle.js_assert.specs.Argument.{entries}
 use Rattle.js_eval.specs.Applications.{Application, application, asks_of}
-use Rattle.js_eval.specs.Keywords.{Keyword, keywords, chosen, comes_first, comes_last, is_else}
-use Rattle.js_eval.specs.Kind.{Row, kind, kind_in, applicators}
-use Rattle.js_eval.specs.Schemas.{Text, Schemas, Alone}
+use Rattle.js_eval.specs.Keywords.{Keyword, keywords, keywords_that, comes_before_else, comes_after_else, is_else}
+use Rattle.js_eval.specs.Kind.{Applicator, kind, kind_in, applicators}
+use Rattle.js_eval.specs.SchemaSet.{Text, SchemaSet, Alone}
 use Rattle.js_eval.specs.Verdict as verdict
 use Rattle.js_eval.specs.Verdict.{Known}
 use Rattle.js_eval.specs.declared.kind.Kind.{Kind}
@@ -106,20 +106,20 @@ module _ (schema : Value) (ascending : IsAscending (entries schema)) (done more 
   are_among = among_first (entries schema) done (k ∷ more) (subst (AreAmong (entries schema)) (sym split) (keywords_among schema ascending))
 
   -- a keyword that comes first is found before one that doesn't, if there is one
-  pub found_before : (x : Text) → comes_first x ≡ true → comes_first k.0 ≡ false → get x done ≡ get x (entries schema)
+  pub found_before : (x : Text) → comes_before_else x ≡ true → comes_before_else k.0 ≡ false → get x done ≡ get x (entries schema)
   found_before x h q =
-      let d = behind_first (λ l. comes_first l.0) (chosen comes_first schema) (chosen is_else schema ++ chosen comes_last schema) done more k (all_pass (λ l. comes_first l.0) (entries schema)) q split in
+      let d = behind_first (λ l. comes_before_else l.0) (keywords_that comes_before_else schema) (keywords_that is_else schema ++ keywords_that comes_after_else schema) done more k (all_pass (λ l. comes_before_else l.0) (entries schema)) q split in
       found_before_at schema x (get x (entries schema)) (get x done) done refl refl
-      (λ y e. ap (get x) d.1 ∙ found_first x (chosen comes_first schema) d.0 y (found_chosen comes_first x (entries schema) y h e))
+      (λ y e. ap (get x) d.1 ∙ found_first x (keywords_that comes_before_else schema) d.0 y (found_chosen comes_before_else x (entries schema) y h e))
       (λ z e. found_among (entries schema) x done z are_among e)
 
 -- ---- a name's kind, by its row
 
-row_at : (q : Text → Kind → Bool) (b : Bool) (row : Row) (rows : List Row) (name : Text) → bytes_eq name row.0 ≡ b → q row.0 row.1 ≡ true → q name (kind_in rows name) ≡ true → q name (cond b row.1 (kind_in rows name)) ≡ true
+row_at : (q : Text → Kind → Bool) (b : Bool) (row : Applicator) (rows : List Applicator) (name : Text) → bytes_eq name row.0 ≡ b → q row.0 row.1 ≡ true → q name (kind_in rows name) ≡ true → q name (cond b row.1 (kind_in rows name)) ≡ true
 row_at q true row rows name e h r = ap (λ n. q n row.1) ((bytes_eq-Decides name row.0).0 e) ∙ h
 row_at q false row rows name e h r = r
 
-in_rows : (q : Text → Kind → Bool) → ((name : Text) (b : Bool) → q name (cond b Assertion Annotation) ≡ true) → (rows : List Row) → list_all (λ row. q row.0 row.1) rows ≡ true → (name : Text) → q name (kind_in rows name) ≡ true
+in_rows : (q : Text → Kind → Bool) → ((name : Text) (b : Bool) → q name (cond b Assertion Annotation) ≡ true) → (rows : List Applicator) → list_all (λ row. q row.0 row.1) rows ≡ true → (name : Text) → q name (kind_in rows name) ≡ true
 in_rows q other [] h name = other name _
 in_rows q other (row ∷ rows) h name = let p = and_parts _ _ h in row_at q (bytes_eq name row.0) row rows name refl p.0 (in_rows q other rows p.1 name)
 
@@ -137,16 +137,16 @@ either : (b : Bool) → (not b || true) ≡ true
 either true = refl
 either false = refl
 
-branch_later : (name : Text) → (not (is_branch (kind name)) || not (comes_first name)) ≡ true
-branch_later name = by_kind (λ n κ. not (is_branch κ) || not (comes_first n)) (λ n b. elim b as (λ c. (not (is_branch (cond c Assertion Annotation)) || not (comes_first n)) ≡ true) [ true ↦ refl | false ↦ refl ]) refl name
+branch_later : (name : Text) → (not (is_branch (kind name)) || not (comes_before_else name)) ≡ true
+branch_later name = by_kind (λ n κ. not (is_branch κ) || not (comes_before_else n)) (λ n b. elim b as (λ c. (not (is_branch (cond c Assertion Annotation)) || not (comes_before_else n)) ≡ true) [ true ↦ refl | false ↦ refl ]) refl name
 
-pub then_later : (name : Text) (b : Bool) → is_branch (kind name) ≡ true → comes_first name ≡ b → b ≡ false
+pub then_later : (name : Text) (b : Bool) → is_branch (kind name) ≡ true → comes_before_else name ≡ b → b ≡ false
 then_later name true h e = absurd (let q = branch_later name in cc)
 then_later name false h e = refl
 
 -- ---- the facts, from some of the keywords
 
-module _ {P : Type 0} (S : Schemas P) (known : Known P) (above : List P) (place : P) (v : Value) where
+module _ {P : Type 0} (S : SchemaSet P) (known : Known P) (above : List P) (place : P) (v : Value) where
   abbrev siblings : Named
   siblings = entries (S.schema place)
 

@@ -6,8 +6,8 @@ use Rattle.std.proofs.Common.{sym, subst, arith}
 use Rattle.std.proofs.lemmas.List.{length-append}
 use Rattle.js_doc.specs.Pointer.{Tokens, pointer_text}
 use Rattle.js_eval.specs.Keywords.{Keyword}
-use Rattle.js_eval.specs.Location.{tokens}
-use Rattle.js_eval.specs.Schemas.{Text, Step}
+use Rattle.js_eval.specs.Location.{step_tokens}
+use Rattle.js_eval.specs.SchemaSet.{Text, Step}
 use Rattle.js_eval.specs.Walk.Told.{at_name, at_step}
 
 low_at : (s r : List ℕ) → slice_index (s ++ 47 ∷ r) (length s) ≡ 47
@@ -26,4 +26,4 @@ split_at_name old new k mark m e = subst (λ n. IsSplitPoint new n) (sym m) (sub
 
 pub split_at_step : (old new : Text) (s : Step) (mark : ℕ) → mark ≡ length old → new ≡ at_step old s → IsSplitPoint new mark
 unfolding at_step
-split_at_step old new s mark m e = subst (λ n. IsSplitPoint new n) (sym m) (subst (λ x. IsSplitPoint x (length old)) (sym e) (seam old (tokens s)))
+split_at_step old new s mark m e = subst (λ n. IsSplitPoint new n) (sym m) (subst (λ x. IsSplitPoint x (length old)) (sym e) (seam old (step_tokens s)))

@@ -11,8 +11,8 @@ use Rattle.js_tree.specs.Forest.{empty}
 use Rattle.js_eval.specs.Applications.{Application}
 use Rattle.js_eval.specs.Keywords.{Keyword, keywords}
 use Rattle.js_eval.specs.Kind.{kind}
-use Rattle.js_eval.specs.Location.{tokens}
-use Rattle.js_eval.specs.Schemas.{Text, Schemas, Step}
+use Rattle.js_eval.specs.Location.{step_tokens}
+use Rattle.js_eval.specs.SchemaSet.{Text, SchemaSet, Step}
 use Rattle.js_eval.specs.declared.kind.Kind.{Kind}
 use Rattle.js_tree.specs.Events.{Event, opening}
 use Rattle.js_eval.specs.Walk.Keeping.{condition_step, matching_step}
@@ -30,7 +30,7 @@ use Rattle.js_eval.proofs.Recursion.Each.{EachSoFar, each_more, each_none}
 use Rattle.js_eval.proofs.Recursion.KeywordTelling.{keyword_walked, keyword_told}
 use Rattle.js_eval.proofs.Recursion.NodeTelling.{KeywordsLoop, keywords_start, keyword_more, keyword_told_more, keyword_is_none, node_walked, node_told}
 
-pub asked_same : {P : Type 0} (S : Schemas P) (n : ℕ) (path : List P) (place : P) (v : Value) (k : Keyword) (c : Option Bool) (ns : List Text) (is : List ℕ) → asked_by S 0 path place v k c ns is ≡ asked_by S n path place v k c ns is
+pub asked_same : {P : Type 0} (S : SchemaSet P) (n : ℕ) (path : List P) (place : P) (v : Value) (k : Keyword) (c : Option Bool) (ns : List Text) (is : List ℕ) → asked_by S 0 path place v k c ns is ≡ asked_by S n path place v k c ns is
 unfolding asked_by
 asked_same S n path place v k c ns is = refl
 
@@ -44,7 +44,7 @@ trail_back old new k mark m e = ap (λ n. take n new) m ∙ (ap (take (length ol
 
 pub step_back : (old new : Text) (s : Step) (mark : ℕ) → mark ≡ length old → new ≡ at_step old s → take mark new ≡ old
 unfolding at_step
-step_back old new s mark m e = ap (λ n. take n new) m ∙ (ap (take (length old)) e ∙ take-append_seam old (pointer_text (tokens s)))
+step_back old new s mark m e = ap (λ n. take n new) m ∙ (ap (take (length old)) e ∙ take-append_seam old (pointer_text (step_tokens s)))
 
 pub kind_is : (k : Keyword) → kind_at k ≡ kind k.0
 unfolding kind_at
@@ -58,7 +58,7 @@ pub on_too_large : (P Q : Type 0) (e : WalkFault) → (P → Q) → OnTooLarge e
 on_too_large P Q Memory f h = tt
 on_too_large P Q TooLarge f h = f h
 
-module _ {M C P : Type 0} (S : Schemas P) (text_of : M → Text) (takes : C → Event → C → Type 0) (n : ℕ) where
+module _ {M C P : Type 0} (S : SchemaSet P) (text_of : M → Text) (takes : C → Event → C → Type 0) (n : ℕ) where
   -- ---- applications
 
   module _ (path : List P) (κ : Kind) (all rest : List (Application P)) (a : Application P) (names : List Text) (indexes : List ℕ) (old : ℕ) (keyword instance : Text) where

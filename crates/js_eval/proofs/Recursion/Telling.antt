@@ -9,8 +9,8 @@ use Rattle.js_eval.specs.Applications.{Application}
 use Rattle.js_eval.specs.Keywords.{Keyword}
 use Rattle.js_eval.specs.Location.{Location, at_application}
 use Rattle.js_eval.specs.Result.{OutputUnit, ResultTree, IsNode, AreSchemaNodes, AreKeywordNodes, keyword_unit}
-use Rattle.js_eval.specs.Location.{at_keyword}
-use Rattle.js_eval.specs.Schemas.{Schemas}
+use Rattle.js_eval.specs.Location.{at_keyword_named}
+use Rattle.js_eval.specs.SchemaSet.{SchemaSet}
 use Rattle.js_eval.specs.Verdict.{within, asks}
 use Rattle.js_tree.specs.Events.{Event, Passes, opening_of, closing_of, events_of}
 
@@ -25,7 +25,7 @@ pointer_text_append [] t = refl
 pointer_text_append (x ∷ s) t =
     ap (λ l. 47 ∷ (escape x ++ l)) (pointer_text_append s t) ∙ ap (λ l. 47 ∷ l) (sym (append_assoc (escape x) (pointer_text s) (pointer_text t)))
 
-module _ {P : Type 0} (S : Schemas P) (n : ℕ) where
+module _ {P : Type 0} (S : SchemaSet P) (n : ℕ) where
   pub nodes_more : (path : List P) (at : Location) (apps : List (Application P)) (f : Forest OutputUnit) (a : Application P) (t : ResultTree)
       → AreSchemaNodes S n path at apps f → IsNode S n path a.place (at_application at a) a.value t → AreSchemaNodes S n path at (apps ++ a ∷ []) (f ⊹ tree t.root t.below empty)
   nodes_more path at [] empty a t h r = (r.0, r.1, tt)
@@ -34,7 +34,7 @@ module _ {P : Type 0} (S : Schemas P) (n : ℕ) where
   nodes_more path at (b ∷ apps) (tree u below after) a t h r = (h.0, h.1, nodes_more path at apps after a t h.2 r)
 
   pub keywords_more : (above : List P) (place : P) (at : Location) (v : Value) (ks : List Keyword) (f : Forest OutputUnit) (k : Keyword) (below : Forest OutputUnit)
-      → AreKeywordNodes S n above place at v ks f → AreSchemaNodes S n (above ++ place ∷ []) (at_keyword at k.0) (asks S (within S n) above place v k) below
+      → AreKeywordNodes S n above place at v ks f → AreSchemaNodes S n (above ++ place ∷ []) (at_keyword_named at k.0) (asks S (within S n) above place v k) below
       → AreKeywordNodes S n above place at v (ks ++ k ∷ []) (f ⊹ tree (keyword_unit S n above place at v k) below empty)
   keywords_more above place at v [] empty k below h r = (refl, r, tt)
   keywords_more above place at v [] (tree u b a) k below h r = absurd h

@@ -2,47 +2,47 @@
 use Rattle.std.specs.Prelude.{ℕ, ◌==◌, List, [], Bool, cond, Option, Some}
 use Rattle.js_eval.specs.declared.kind.Kind.{Kind}
 use Rattle.js_eval.specs.declared.kind.Kind.TheVariants.{Reference, DynamicReference, AllOf, AnyOf, OneOf, If, Then, Else, DependentSchemas, PrefixItems, Items, Contains, Properties, PatternProperties, AdditionalProperties, UnevaluatedItems, UnevaluatedProperties}
-use Rattle.js_eval.specs.declared.walking.keeping.Source.{Source}
-use Rattle.js_eval.specs.declared.walking.keeping.Source.TheVariants.{Applied, Holding, Below, Nowhere}
+use Rattle.js_eval.specs.declared.walking.keeping.Origin.{Origin}
+use Rattle.js_eval.specs.declared.walking.keeping.Origin.TheVariants.{Applied, Holding, Below, Nowhere}
 
-abbrev pub names_source : Kind → Source
-names_source Properties = Applied
-names_source PatternProperties = Applied
-names_source AdditionalProperties = Applied
-names_source UnevaluatedProperties = Applied
-names_source Reference = Below
-names_source DynamicReference = Below
-names_source AllOf = Below
-names_source AnyOf = Below
-names_source OneOf = Below
-names_source If = Below
-names_source Then = Below
-names_source Else = Below
-names_source DependentSchemas = Below
-names_source _ = Nowhere
+abbrev pub names_origin : Kind → Origin
+names_origin Properties = Applied
+names_origin PatternProperties = Applied
+names_origin AdditionalProperties = Applied
+names_origin UnevaluatedProperties = Applied
+names_origin Reference = Below
+names_origin DynamicReference = Below
+names_origin AllOf = Below
+names_origin AnyOf = Below
+names_origin OneOf = Below
+names_origin If = Below
+names_origin Then = Below
+names_origin Else = Below
+names_origin DependentSchemas = Below
+names_origin _ = Nowhere
 
-abbrev pub indexes_source : Kind → Source
-indexes_source PrefixItems = Applied
-indexes_source Items = Applied
-indexes_source UnevaluatedItems = Applied
-indexes_source Contains = Holding
-indexes_source Reference = Below
-indexes_source DynamicReference = Below
-indexes_source AllOf = Below
-indexes_source AnyOf = Below
-indexes_source OneOf = Below
-indexes_source If = Below
-indexes_source Then = Below
-indexes_source Else = Below
-indexes_source DependentSchemas = Below
-indexes_source _ = Nowhere
+abbrev pub indexes_origin : Kind → Origin
+indexes_origin PrefixItems = Applied
+indexes_origin Items = Applied
+indexes_origin UnevaluatedItems = Applied
+indexes_origin Contains = Holding
+indexes_origin Reference = Below
+indexes_origin DynamicReference = Below
+indexes_origin AllOf = Below
+indexes_origin AnyOf = Below
+indexes_origin OneOf = Below
+indexes_origin If = Below
+indexes_origin Then = Below
+indexes_origin Else = Below
+indexes_origin DependentSchemas = Below
+indexes_origin _ = Nowhere
 
 -- of one application, made to `own`, whose schema gave `given`
-abbrev pub kept : {A : Type 0} → Source → Bool → List A → List A → List A
-kept Applied holds own given = own
-kept Holding holds own given = cond holds own []
-kept Below holds own given = given
-kept Nowhere holds own given = []
+abbrev pub keeps : {A : Type 0} → Origin → Bool → List A → List A → List A
+keeps Applied holds own given = own
+keeps Holding holds own given = cond holds own []
+keeps Below holds own given = given
+keeps Nowhere holds own given = []
 
 -- the verdict of `if`, and how many items match `contains`, after a keyword of which so many applications hold
 abbrev pub condition_step : Kind → ℕ → Option Bool → Option Bool

@@ -6,10 +6,10 @@ use Rattle.js_eval.specs.Evaluated.{name_in, index_in}
 use Rattle.js_eval.specs.Keywords.{Keyword}
 use Rattle.js_eval.specs.Location.{Location}
 use Rattle.js_eval.specs.Passes.{how_many}
-use Rattle.js_eval.specs.Schemas.{Text, Schemas}
+use Rattle.js_eval.specs.SchemaSet.{Text, SchemaSet}
 use Rattle.js_eval.specs.declared.kind.Kind.{Kind}
 use Rattle.js_tree.specs.Events.{Event, opening, closing}
-use Rattle.js_eval.specs.Walk.Keeping.{kept, names_source, indexes_source}
+use Rattle.js_eval.specs.Walk.Keeping.{keeps, names_origin, indexes_origin}
 use Rattle.js_eval.specs.Walk.Told.{IsAt, IsBack, NodeWalked, NodeTold, KeywordWalked, KeywordTold, EachWalked, EachTold, passes_at, says_at, schema_says, at_name, at_step}
 use Rattle.js_eval.specs.declared.walking.way.Mark.{Mark}
 use Rattle.js_eval.specs.declared.walking.tally.Tally.{Tally}
@@ -35,11 +35,11 @@ pub record CameBack {M P : Type 0} (text_of : M → Text) (κ : Kind) (a : Appli
   pub path : w'.path.items ≡ w.path.items
   pub keyword : w'.keyword ≡ take here.keyword w.keyword
   pub instance : w'.instance ≡ take here.instance w.instance
-  pub names : map text_of w'.names.items ≡ take here.names (map text_of w.names.items) ++ kept (names_source κ) holds (name_in a.at) (drop here.names (map text_of w.names.items))
-  pub indexes : w'.indexes.items ≡ take here.indexes w.indexes.items ++ kept (indexes_source κ) holds (index_in a.at) (drop here.indexes w.indexes.items)
+  pub names : map text_of w'.names.items ≡ take here.names (map text_of w.names.items) ++ keeps (names_origin κ) holds (name_in a.at) (drop here.names (map text_of w.names.items))
+  pub indexes : w'.indexes.items ≡ take here.indexes w.indexes.items ++ keeps (indexes_origin κ) holds (index_in a.at) (drop here.indexes w.indexes.items)
   pub left : w'.left ≡ w.left
 
-module _ {M C P : Type 0} (S : Schemas P) (text_of : M → Text) (takes : C → Event → C → Type 0) where
+module _ {M C P : Type 0} (S : SchemaSet P) (text_of : M → Text) (takes : C → Event → C → Type 0) where
   pub record SchemaOpened (site : P) (place : ℕ) (w w' : Way M) (c d : C) : Type 0 where
     pub path : w'.path.items ≡ w.path.items ++ place ∷ []
     pub keyword : w'.keyword ≡ w.keyword

@@ -10,11 +10,11 @@ use Rattle.js_eval.specs.Applications.{Application, asks_of}
 use Rattle.js_eval.specs.Evaluated.{names_of, indexes_of}
 use Rattle.js_eval.specs.Keywords.{Keyword, keywords}
 use Rattle.js_eval.specs.Kind.{kind}
-use Rattle.js_eval.specs.Location.{Location, at_keyword, tokens}
+use Rattle.js_eval.specs.Location.{Location, at_keyword_named, step_tokens}
 use Rattle.js_eval.specs.Note.{Note, keyword_note, schema_note}
 use Rattle.js_eval.specs.Passes.{passes_of}
 use Rattle.js_eval.specs.Result.{OutputUnit, ResultTree, IsNode, AreSchemaNodes}
-use Rattle.js_eval.specs.Schemas.{Text, Schemas, Step}
+use Rattle.js_eval.specs.SchemaSet.{Text, SchemaSet, Step}
 use Rattle.js_eval.specs.Size.{node_total}
 use Rattle.js_eval.specs.Verdict.{within, accepts}
 use Rattle.js_eval.specs.declared.kind.Kind.{Kind}
@@ -28,7 +28,7 @@ pub record IsAt (at : Location) (keyword instance : Text) : Type 0 where
   pub value : instance ≡ pointer_text at.instance
 
 -- what stands at a place, in words that stay closed in the goals of the walk
-module _ {Place : Type 0} (S : Schemas Place) (place : Place) where
+module _ {Place : Type 0} (S : SchemaSet Place) (place : Place) where
   unfoldable pub keywords_at : List Keyword
   keywords_at = keywords (S.schema place)
 
@@ -56,7 +56,7 @@ unfoldable pub at_name : Text → Keyword → Text
 at_name trail k = trail ++ pointer_text (k.0 ∷ [])
 
 unfoldable pub at_step : Text → Step → Text
-at_step trail s = trail ++ pointer_text (tokens s)
+at_step trail s = trail ++ pointer_text (step_tokens s)
 
 -- the path is that of before, and so are the trails
 pub record IsBack {M : Type 0} (w w' : Way M) : Type 0 where
@@ -64,7 +64,7 @@ pub record IsBack {M : Type 0} (w w' : Way M) : Type 0 where
   pub keyword : w'.keyword ≡ w.keyword
   pub instance : w'.instance ≡ w.instance
 
-module _ {Place : Type 0} (S : Schemas Place) (n : ℕ) where
+module _ {Place : Type 0} (S : SchemaSet Place) (n : ℕ) where
   -- ---- applications to which a path led, by what is known within n
 
   module _ (path : List Place) where
@@ -113,7 +113,7 @@ module _ {Place : Type 0} (S : Schemas Place) (n : ℕ) where
       unfoldable pub unit_by : Location → ℕ → List (Application Place) → OutputUnit
       unit_by at matching apps = record {
         valid = passes_by matching apps;
-        keyword = pointer_text (at_keyword at k.0).keyword;
+        keyword = pointer_text (at_keyword_named at k.0).keyword;
         absolute = S.absolute place (Some k.0);
         instance = pointer_text at.instance;
         note = keyword_note (entries (S.schema place)) v matching k apps (filter holds_at apps) (passes_by matching apps) (kind k.0);
@@ -129,7 +129,7 @@ module _ {Place : Type 0} (S : Schemas Place) (n : ℕ) where
 
       pub record KeywordTold {C : Type 0} (takes : C → Event → C → Type 0) (at : Location) (matching : ℕ) (apps : List (Application Place)) (c d : C) : Type 0 where
         pub forest : Forest OutputUnit
-        pub nodes : AreSchemaNodes S n path (at_keyword at k.0) apps forest
+        pub nodes : AreSchemaNodes S n path (at_keyword_named at k.0) apps forest
         pub passes : Passes takes (events_of (tree (unit_by at matching apps) forest empty)) c d
 
       abbrev pub KeywordHasNone : List (Application Place) → ℕ → Type 0

@@ -1,13 +1,13 @@
 //! What a keyword keeps of what its applications have evaluated.
 ghost use Rattle.std.specs.Prelude.{◌≡◌, ◌++◌, OnOk, take, drop, cond, option_to_list};
-ghost use Rattle.js_eval.specs.Walk.Keeping.{kept, names_source, indexes_source};
+ghost use Rattle.js_eval.specs.Walk.Keeping.{keeps, names_origin, indexes_origin};
 
 use crate::kind::Kind;
 use js_doc::Memory;
 
 /// Where what a keyword has evaluated comes from.
 #[derive(Clone, Copy, Debug, PartialEq, Eq)]
-pub(crate) enum Source {
+pub(crate) enum Origin {
     /// From what it was applied to.
     Applied,
     /// From what it was applied to and holds.
@@ -21,23 +21,23 @@ pub(crate) enum Source {
 pub(crate) fn keep<M: Copy>(
     list: &mut Vec<M>,
     from: usize,
-    source: Source,
+    source: Origin,
     holds: bool,
     own: Option<M>,
 ) -> Result<(), Memory>
-    ensures { OnOk result (list.new.items ≡ take from list.old.items ++ kept source holds (option_to_list own) (drop from list.old.items)) }
+    ensures { OnOk result (list.new.items ≡ take from list.old.items ++ keeps source holds (option_to_list own) (drop from list.old.items)) }
 {
     match source {
-        Source::Below => Ok(()),
-        Source::Applied => {
+        Origin::Below => Ok(()),
+        Origin::Applied => {
             list.truncate(from);
             push_given(list, own)
         }
-        Source::Holding => {
+        Origin::Holding => {
             list.truncate(from);
             if holds { push_given(list, own) } else { Ok(()) }
         }
-        Source::Nowhere => {
+        Origin::Nowhere => {
             list.truncate(from);
             Ok(())
         }
@@ -63,45 +63,45 @@ pub(crate) fn cut_unless<M: Copy>(list: &mut Vec<M>, from: usize, stays: bool)
 }
 
 /// Where the members that a keyword of this kind has evaluated come from.
-pub(crate) fn names_source(kind: Kind) -> Source
-    ensures { result ≡ names_source kind }
+pub(crate) fn names_origin(kind: Kind) -> Origin
+    ensures { result ≡ names_origin kind }
 {
     match kind {
-        Kind::Properties => Source::Applied,
-        Kind::PatternProperties => Source::Applied,
-        Kind::AdditionalProperties => Source::Applied,
-        Kind::UnevaluatedProperties => Source::Applied,
-        Kind::Reference => Source::Below,
-        Kind::DynamicReference => Source::Below,
-        Kind::AllOf => Source::Below,
-        Kind::AnyOf => Source::Below,
-        Kind::OneOf => Source::Below,
-        Kind::If => Source::Below,
-        Kind::Then => Source::Below,
-        Kind::Else => Source::Below,
-        Kind::DependentSchemas => Source::Below,
-        _ => Source::Nowhere,
+        Kind::Properties => Origin::Applied,
+        Kind::PatternProperties => Origin::Applied,
+        Kind::AdditionalProperties => Origin::Applied,
+        Kind::UnevaluatedProperties => Origin::Applied,
+        Kind::Reference => Origin::Below,
+        Kind::DynamicReference => Origin::Below,
+        Kind::AllOf => Origin::Below,
+        Kind::AnyOf => Origin::Below,
+        Kind::OneOf => Origin::Below,
+        Kind::If => Origin::Below,
+        Kind::Then => Origin::Below,
+        Kind::Else => Origin::Below,
+        Kind::DependentSchemas => Origin::Below,
+        _ => Origin::Nowhere,
     }
 }
 
 /// Where the items that a keyword of this kind has evaluated come from.
-pub(crate) fn indexes_source(kind: Kind) -> Source
-    ensures { result ≡ indexes_source kind }
+pub(crate) fn indexes_origin(kind: Kind) -> Origin
+    ensures { result ≡ indexes_origin kind }
 {
     match kind {
-        Kind::PrefixItems => Source::Applied,
-        Kind::Items => Source::Applied,
-        Kind::UnevaluatedItems => Source::Applied,
-        Kind::Contains => Source::Holding,
-        Kind::Reference => Source::Below,
-        Kind::DynamicReference => Source::Below,
-        Kind::AllOf => Source::Below,
-        Kind::AnyOf => Source::Below,
-        Kind::OneOf => Source::Below,
-        Kind::If => Source::Below,
-        Kind::Then => Source::Below,
-        Kind::Else => Source::Below,
-        Kind::DependentSchemas => Source::Below,
-        _ => Source::Nowhere,
+        Kind::PrefixItems => Origin::Applied,
+        Kind::Items => Origin::Applied,
+        Kind::UnevaluatedItems => Origin::Applied,
+        Kind::Contains => Origin::Holding,
+        Kind::Reference => Origin::Below,
+        Kind::DynamicReference => Origin::Below,
+        Kind::AllOf => Origin::Below,
+        Kind::AnyOf => Origin::Below,
+        Kind::OneOf => Origin::Below,
+        Kind::If => Origin::Below,
+        Kind::Then => Origin::Below,
+        Kind::Else => Origin::Below,
+        Kind::DependentSchemas => Origin::Below,
+        _ => Origin::Nowhere,
     }
 }

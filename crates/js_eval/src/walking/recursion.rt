@@ -64,7 +64,7 @@ pub(crate) fn node<W: World, R: Reporter<W>>(
             start,
             known,
         )?;
-        known = known.after(world.kind(keyword), judged.passes, judged.held);
+        known = known.with_keyword(world.kind(keyword), judged.passes, judged.held);
     }
     close_schema(alloc, world, way, into, place, start, known.valid)?;
     Ok(known.valid)
@@ -170,7 +170,7 @@ pub(crate) fn applications<W: World, R: Reporter<W>>(
             world.value(application),
         )?;
         come_back(world, way, application, kind, here, holds)?;
-        tally = tally.after(holds);
+        tally = tally.with_application(holds);
     }
     Ok(tally)
 }

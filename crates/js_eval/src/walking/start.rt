@@ -3,7 +3,7 @@ ghost use Rattle.std.specs.Prelude.{◌≡◌, [], true, MatchResult};
 ghost use Rattle.js_eval.specs.Location.{at_root};
 ghost use Rattle.js_eval.specs.Result.{ResultTree, IsResult, IsWithinLimits};
 ghost use Rattle.js_eval.specs.Walked.{OnTooLarge};
-ghost use Rattle.js_eval.specs.Walk.Leads.{Leads};
+ghost use Rattle.js_eval.specs.Walk.Reported.{Reported};
 
 use crate::walking::fault::WalkFault;
 use crate::walking::recursion::node;
@@ -33,7 +33,7 @@ pub(crate) fn walk_from<W: World, R: Reporter<W>>(
 ) -> Result<bool, WalkFault>
     requires { W.is_place world.now place ≡ true }
     ensures { MatchResult result
-        (λ valid. Leads (W.schemas world.now) (W.site world.now place) (W.value_of value) R.takes valid into.old into.new)
+        (λ valid. Reported (W.schemas world.now) (W.site world.now place) (W.value_of value) R.takes valid into.old into.new)
         (λ e. OnTooLarge e ((t : ResultTree) → IsResult (W.schemas world.now) [] (W.site world.now place) at_root (W.value_of value) t → IsWithinLimits t → ⊥)) }
 {
     let mut way = Way {

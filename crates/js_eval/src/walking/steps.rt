@@ -6,7 +6,7 @@ ghost use Rattle.js_eval.specs.Walk.Steps.{SchemaOpened, SchemaClosed, KeywordOp
 ghost use Rattle.js_eval.specs.Walk.Told.{IsKeywordAt, asked_by};
 
 use crate::kind::Kind;
-use crate::walking::keeping::{cut_unless, indexes_source, keep, names_source};
+use crate::walking::keeping::{cut_unless, indexes_origin, keep, names_origin};
 use crate::walking::reporter::Reporter;
 use crate::walking::tally::{Judged, Tally};
 use crate::walking::way::{Mark, Way};
@@ -169,14 +169,14 @@ pub(crate) fn come_back<W: World>(
     keep(
         &mut way.names,
         here.names,
-        names_source(kind),
+        names_origin(kind),
         holds,
         world.member(application),
     )?;
     keep(
         &mut way.indexes,
         here.indexes,
-        indexes_source(kind),
+        indexes_origin(kind),
         holds,
         world.item(application),
     )

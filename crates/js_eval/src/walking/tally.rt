@@ -29,7 +29,7 @@ pub(crate) struct Known {
 
 impl Tally {
     /// One application more.
-    pub fn after(self, holds: bool) -> Tally
+    pub fn with_application(self, holds: bool) -> Tally
         requires few { self.asked < usize.MAX }
         requires held { self.held ≤ self.asked }
         ensures asked { result.asked ≡ self.asked + 1 }
@@ -44,7 +44,7 @@ impl Tally {
 
 impl Known {
     /// One keyword more.
-    pub fn after(self, kind: Kind, passes: bool, held: usize) -> Known
+    pub fn with_keyword(self, kind: Kind, passes: bool, held: usize) -> Known
         ensures valid { result.valid ≡ (self.valid && passes) }
         ensures condition { result.condition ≡ condition_step kind held self.condition }
         ensures matching { result.matching ≡ matching_step kind held self.matching }

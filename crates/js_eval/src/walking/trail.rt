@@ -39,7 +39,7 @@ impl Trail {
     }
 
     /// Goes one token further.
-    pub fn push(&mut self, token: &str) -> Result<(), Memory>
+    pub fn push_name(&mut self, token: &str) -> Result<(), Memory>
         ensures { OnOk result (self.new ≡ self.old ++ 47 ∷ escape token.now) }
     {
         self.text.push('/')?;
@@ -51,7 +51,7 @@ impl Trail {
         ensures { OnOk result (self.new ≡ self.old ++ 47 ∷ escape (decimal index)) }
     {
         let mut buffer = itoa::Buffer::new();
-        self.push(buffer.format(index))
+        self.push_name(buffer.format(index))
     }
 
     /// Goes back to where the text was so long.

@@ -9,7 +9,7 @@ ghost use Rattle.js_eval.specs.Applications.{Application as Applied};
 ghost use Rattle.js_eval.specs.Evaluated.{name_in, index_in};
 ghost use Rattle.js_eval.specs.Keywords as table;
 ghost use Rattle.js_eval.specs.Passes.{how_many};
-ghost use Rattle.js_eval.specs.Schemas.{Text as Bytes, Schemas};
+ghost use Rattle.js_eval.specs.SchemaSet.{Text as Bytes, SchemaSet};
 ghost use Rattle.js_eval.specs.Walk.Told.{IsKeywordAt, asked_by, accepts_at, keywords_at, kind_at, passes_at, at_name, at_step};
 
 use crate::kind::Kind;
@@ -35,7 +35,7 @@ pub(crate) trait World {
     type Asking: Drop;
 
     /// The set of schemas, over the places of documents.
-    ghost schemas: { Self → Schemas Site };
+    ghost schemas: { Self → SchemaSet Site };
 
     /// Whether a place's number is one of them, and the place of that number.
     ghost is_place: { Self → ℕ → Bool };

@@ -3,9 +3,9 @@ use Rattle.js_assert.specs.Argument.{entries}
 use Rattle.js_doc.specs.Seen.{value_of}
 use Rattle.js_eval.specs.Bundle.{schemas_of}
 use Rattle.js_eval.specs.Cursors.{is_matched, is_named}
-use Rattle.js_eval.specs.Schemas as spec
+use Rattle.js_eval.specs.SchemaSet as spec
 use Rattle.js_eval.specs.Seen.{instance_of}
-use Rattle.js_eval.specs.Sited.{site_at}
+use Rattle.js_eval.specs.Sited.{numbered_site}
 use Rattle.js_eval.proofs.Started.{additional_by, moved, on_members, there}
 use Rattle.js_eval.proofs.start_members.additional.Goals as goal
 
@@ -15,5 +15,5 @@ returns-in-Some c =
     there documents _ c.below-below.result _ _ c.each_additional.ensures.number c.below-below.ensures.is
     (moved (on_members (λ n. not (is_named c.object_at-properties.result n || is_matched c.object_at-patterns.result n))) _ _ _ _ _
     (c.each_additional.ensures.asked documents) c.below-below.ensures.site c.in-Some.ensures
-    ∙ ap (map (λ m. record { place = (schemas_of documents).below (site_at documents c.args.place) c.args.keyword.now spec.Alone; step = spec.Alone; at = spec.Name m.0; value = m.1 }))
+    ∙ ap (map (λ m. record { place = (schemas_of documents).below (numbered_site documents c.args.place) c.args.keyword.now spec.Alone; step = spec.Alone; at = spec.Name m.0; value = m.1 }))
     (additional_by c.object_at-properties.result c.object_at-patterns.result (entries (value_of c.args.schema.now)) (entries (instance_of c.args.value)) c.object_at-properties.ensures c.object_at-patterns.ensures))

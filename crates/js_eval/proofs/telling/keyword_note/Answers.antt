@@ -4,13 +4,13 @@ use Rattle.js_assert.specs.Argument.{entries}
 use Rattle.js_tree.specs.Seen.{note_of}
 use Rattle.js_eval.specs.Bundle.{schemas_of}
 use Rattle.js_eval.specs.Seen.{instance_of, keyword_of, texts_of}
-use Rattle.js_eval.specs.Sited.{site_at}
+use Rattle.js_eval.specs.Sited.{numbered_site}
 use Rattle.js_eval.proofs.SaysThere.{says_there}
 use Rattle.js_eval.proofs.telling.keyword_note.Goals as goal
 
 pub returns-then-judged : goal.returns-then-judged
 returns-then-judged c =
-    let place = site_at c.args.schemas.now c.args.place in
+    let place = numbered_site c.args.schemas.now c.args.place in
     IfOk-weaker c.annotation_of.result _ _
     (λ n told. says_there (schemas_of c.args.schemas.now) place (instance_of c.args.value) c.args.matching (keyword_of c.args.keyword) c.args.judged.held (texts_of c.args.names.now) c.args.indexes.now
     true c.args.judged.passes c.kind_of-kind.result (note_of n) c.kind_of-kind.ensures c.if-judged.true told)
@@ -18,7 +18,7 @@ returns-then-judged c =
 
 pub returns-in_ok-error : goal.returns-in_ok-error
 returns-in_ok-error c =
-    let place = site_at c.args.schemas.now c.args.place in
+    let place = numbered_site c.args.schemas.now c.args.place in
     IfOk-weaker c.failure_of.result _ _
     (λ n told. says_there (schemas_of c.args.schemas.now) place (instance_of c.args.value) c.args.matching (keyword_of c.args.keyword) c.args.judged.held (texts_of c.args.names.now) c.args.indexes.now
     false c.args.judged.passes c.kind_of-kind.result (note_of n) c.kind_of-kind.ensures c.if-judged.false told)

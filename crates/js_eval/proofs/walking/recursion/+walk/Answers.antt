@@ -36,8 +36,8 @@ pub applications-come_back-requires-clause-instance : goal.applications-come_bac
 applications-come_back-requires-clause-instance g t c =
     split_at_step c.each.way.instance c.node.new.way.instance (g.W.World.application_of c.args.world.now c.in-Some.application).at c.mark-here.result.instance c.mark-here.ensures.instance (c.in_ok-holds.ensures.back.instance ∙ c.in_ok-go_down.ensures.instance)
 
-pub applications-after-tally-requires-clause-few : goal.applications-after-tally-requires-clause-few
-applications-after-tally-requires-clause-few g t c =
+pub applications-with_application-tally-requires-clause-few : goal.applications-with_application-tally-requires-clause-few
+applications-with_application-tally-requires-clause-few g t c =
     let f = c.in_ok-holds.ensures.falls in let l = c.in_ok-go_down.ensures.left in let i = c.each.invariant.few in omega (arith, f, l, i)
 
 pub applications-each-preserved : goal.applications-each-preserved
@@ -54,7 +54,7 @@ applications-each-preserved g t c =
     let back = c.in_ok-come_back.ensures in
     let same : c.go_down.new.way.path.items ≡ c.args.way.now.path.items = down.path ∙ c.each.invariant.back.path in
     record {
-      so = rw (c.after-tally.ensures.asked, c.after-tally.ensures.held) (each_step S g.W.World.text_of g.R.Reporter.takes c.args.depth path c.args.kind (g.W.World.asked c.args.world.now c.args.asking.now) rest a (map g.W.World.text_of c.args.way.now.names.items) c.args.way.now.indexes.items c.args.way.now.left c.args.way.now.keyword c.args.way.now.instance
+      so = rw (c.with_application-tally.ensures.asked, c.with_application-tally.ensures.held) (each_step S g.W.World.text_of g.R.Reporter.takes c.args.depth path c.args.kind (g.W.World.asked c.args.world.now c.args.asking.now) rest a (map g.W.World.text_of c.args.way.now.names.items) c.args.way.now.indexes.items c.args.way.now.left c.args.way.now.keyword c.args.way.now.instance
           c.each.tally c.each.way c.go_down.new.way c.node.new.way c.come_back.new.way c.mark-here.result (g.W.World.site c.args.world.now c.place.result) (map (g.W.World.site c.args.world.now) c.go_down.new.way.path.items) (g.W.World.value_of c.value.result) c.in_ok-holds.holds c.args.into.now c.each.into c.node.new.into
           so c.each.invariant.back.keyword c.each.invariant.back.instance c.mark-here.ensures down (ap (map (g.W.World.site c.args.world.now)) same) c.place.ensures.site c.value.ensures done back);
       back = record {
@@ -62,8 +62,8 @@ applications-each-preserved g t c =
         keyword = back.keyword ∙ (step_back c.each.way.keyword c.node.new.way.keyword a.step c.mark-here.result.keyword c.mark-here.ensures.keyword (done.back.keyword ∙ down.keyword) ∙ c.each.invariant.back.keyword);
         instance = back.instance ∙ (step_back c.each.way.instance c.node.new.way.instance a.at c.mark-here.result.instance c.mark-here.ensures.instance (done.back.instance ∙ down.instance) ∙ c.each.invariant.back.instance);
       };
-      few = let e = c.after-tally.ensures.asked in let f = done.falls in let l = down.left in let m = back.left in let i = c.each.invariant.few in omega (arith, e, f, l, m, i);
-      held = let e = c.after-tally.ensures.asked in let f = c.after-tally.ensures.held in let i = c.each.invariant.held in omega (arith, e, f, i, at_most_one c.in_ok-holds.holds);
+      few = let e = c.with_application-tally.ensures.asked in let f = done.falls in let l = down.left in let m = back.left in let i = c.each.invariant.few in omega (arith, e, f, l, m, i);
+      held = let e = c.with_application-tally.ensures.asked in let f = c.with_application-tally.ensures.held in let i = c.each.invariant.held in omega (arith, e, f, i, at_most_one c.in_ok-holds.holds);
     }
 
 pub keyword_node-returns-in_err-tally : goal.keyword_node-returns-in_err-tally
@@ -181,9 +181,9 @@ node-keywords-preserved g t c =
     let same : map site c.keywords.way.path.items ≡ path ++ place ∷ [] = ap (map site) c.keywords.invariant.path ∙ map-append site c.args.way.now.path.items (c.args.place ∷ []) in
     let done = c.in_ok-judged.ensures in
     record {
-      loop = loop_as S g.W.World.text_of g.R.Reporter.takes (c.args.depth - 1) path place v k rest c.keywords.known.valid c.in_ok-judged.judged.passes c.after-known.result.valid c.keywords.known.condition c.after-known.result.condition c.keywords.known.matching c.after-known.result.matching
+      loop = loop_as S g.W.World.text_of g.R.Reporter.takes (c.args.depth - 1) path place v k rest c.keywords.known.valid c.in_ok-judged.judged.passes c.with_keyword-known.result.valid c.keywords.known.condition c.with_keyword-known.result.condition c.keywords.known.matching c.with_keyword-known.result.matching
           c.in_ok-judged.judged.held c.kind.result (map g.W.World.text_of c.args.way.now.names.items) (map g.W.World.text_of c.keyword_node.new.way.names.items) c.args.way.now.indexes.items c.keyword_node.new.way.indexes.items c.args.way.now.left c.keyword_node.new.way.left c.args.way.now.keyword c.args.way.now.instance c.args.into.now c.keyword_node.new.into
-          c.after-known.ensures.valid c.after-known.ensures.condition c.after-known.ensures.matching c.kind.ensures (node_more S g.W.World.text_of g.R.Reporter.takes (c.args.depth - 1) path place v counts_later c.keywords-keywords.ensures.ascending k rest
+          c.with_keyword-known.ensures.valid c.with_keyword-known.ensures.condition c.with_keyword-known.ensures.matching c.kind.ensures (node_more S g.W.World.text_of g.R.Reporter.takes (c.args.depth - 1) path place v counts_later c.keywords-keywords.ensures.ascending k rest
           c.keywords.known.valid c.keywords.known.condition c.keywords.known.matching c.args.way.now c.keywords.way c.keyword_node.new.way c.mark-start.result c.in_ok-judged.judged (map site c.keywords.way.path.items) c.args.into.now c.keywords.into c.keyword_node.new.into
           c.mark-start.ensures same c.keywords.invariant.keyword c.keywords.invariant.instance loop done);
       path = done.back.path ∙ c.keywords.invariant.path;

@@ -9,7 +9,7 @@ returns g c =
       path = refl;
       keyword = c.cut.ensures;
       instance = c.cut-2.ensures;
-      names = kept_mapped g.W.World.text_of c.names_source.result c.names_source.ensures c.args.holds (option_to_list c.member.result) c.member.ensures c.args.here.names c.args.way.now.names.items c.keep.new.list.items c.in_ok-keep.ensures;
-      indexes = kept_given c.indexes_source.result c.indexes_source.ensures c.args.holds (option_to_list c.item.result) c.item.ensures c.args.here.indexes c.args.way.now.indexes.items c.keep-2.new.list.items gives;
+      names = kept_mapped g.W.World.text_of c.names_origin.result c.names_origin.ensures c.args.holds (option_to_list c.member.result) c.member.ensures c.args.here.names c.args.way.now.names.items c.keep.new.list.items c.in_ok-keep.ensures;
+      indexes = kept_given c.indexes_origin.result c.indexes_origin.ensures c.args.holds (option_to_list c.item.result) c.item.ensures c.args.here.indexes c.args.way.now.indexes.items c.keep-2.new.list.items gives;
       left = refl;
     }) c.keep-2.ensures

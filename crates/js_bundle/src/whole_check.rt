@@ -1,0 +1,129 @@
+//! The check of documents as a whole.
+ghost use Rattle.std.specs.Prelude.{◌≡◌, ◌++◌, [], ◌∷◌, codes, map, OnOk, IfOk, IfErr};
+ghost use Rattle.js_bundle.specs.Built.{assertions_at, assertions_in, patterns_at, patterns_in};
+ghost use Rattle.js_bundle.specs.Candidate.{IsClear, IsStopped};
+ghost use Rattle.js_bundle.specs.Edges.{LeadDown};
+ghost use Rattle.js_bundle.specs.Finding.{dynamic_at, number_of_target};
+ghost use Rattle.js_bundle.specs.Grouped.{IsGrouped};
+ghost use Rattle.js_bundle.specs.Index.{IsIndex};
+ghost use Rattle.js_bundle.specs.KeywordName.{keyword_names};
+ghost use Rattle.js_bundle.specs.Location.{location};
+ghost use Rattle.js_bundle.specs.Refusals.{candidates};
+ghost use Rattle.js_bundle.specs.Resource.{sites};
+ghost use Rattle.js_bundle.specs.ResourceTable.{IsResourceTable};
+ghost use Rattle.js_bundle.specs.Scan.{site_of};
+ghost use Rattle.js_bundle.specs.Seen.{document_of, AreRead};
+ghost use Rattle.js_bundle.specs.Spot.{spot, spot_of};
+
+use crate::built::Built;
+use crate::document::Document;
+use crate::edges::{Edges, edges_of};
+use crate::fault::Fault;
+use crate::first_pass::{Passed, first_pass};
+use crate::index::Index;
+use crate::keyword_table::{KeywordTable, keyword_table};
+use crate::location::locations_of;
+use crate::reference::{References, resolve_all};
+use crate::resource_table::{Resources, resources_of};
+use crate::scan::{Site, scan};
+use crate::scope::Scope;
+use js_doc::{Memory, Pointer, Text};
+use std::alloc::Global;
+use std::rc::Rc;
+
+/// Where a place stands. Its schema is in its document.
+#[derive(Drop)]
+pub(crate) struct Spot {
+    pub(crate) document: usize,
+    pub(crate) pointer: Rc<Pointer>,
+    /// The scope that the place is in.
+    pub(crate) above: Rc<Scope>,
+    /// Its own.
+    pub(crate) own: Rc<Scope>,
+    /// Whether its `$id` makes a base.
+    pub(crate) identifies: bool,
+}
+
+/// What is kept of documents that are checked, place by place.
+#[derive(Drop)]
+pub(crate) struct Checked {
+    pub(crate) spots: Vec<Spot>,
+    pub(crate) built: Vec<Built>,
+    pub(crate) keywords: KeywordTable,
+    pub(crate) references: References,
+    /// The absolute location of each.
+    pub(crate) locations: Vec<Text>,
+    pub(crate) index: Index,
+    pub(crate) resources: Resources,
+    /// What stands directly below each.
+    pub(crate) edges: Vec<Edges>,
+}
+
+fn spots_of(alloc: Global, sites: Vec<Site<'_>>) -> Result<Vec<Spot>, Memory>
+    ensures { IfOk result (λ v. map spot_of v.items ≡ map spot (map site_of sites.entry.items)) }
+{
+    let mut spots = Vec::new(alloc);
+    for site in sites {
+        let Site {
+            document,
+            pointer,
+            above,
+            own,
+            identifies,
+            schema: _,
+        } = site;
+        spots.push(Spot {
+            document,
+            pointer,
+            above,
+            own,
+            identifies,
+        })?;
+    }
+    Ok(spots)
+}
+
+/// Checks documents whole: each place with its keywords, and then each reference.
+pub(crate) fn check_whole(alloc: Global, documents: &[Document]) -> Result<Checked, Fault>
+    requires { AreRead (map document_of documents.now) }
+    ensures clear { OnOk result (IsClear (candidates (map document_of documents.now))) }
+    ensures spots { IfOk result
+        (λ c. map spot_of c.spots.items ≡ map spot (sites (map document_of documents.now))) }
+    ensures assertions { IfOk result (λ c. map assertions_in c.built.items
+        ≡ map assertions_at (sites (map document_of documents.now))) }
+    ensures patterns { IfOk result (λ c. map patterns_in c.built.items
+        ≡ map patterns_at (sites (map document_of documents.now))) }
+    ensures keywords { IfOk result (λ c. IsGrouped keyword_names (sites (map document_of documents.now))
+        c.keywords.names.items c.keywords.ends.items) }
+    ensures dynamic { IfOk result (λ c. c.references.dynamic.items
+        ≡ map (dynamic_at (sites (map document_of documents.now))) (sites (map document_of documents.now))) }
+    ensures plain { IfOk result (λ c. c.references.plain.items
+        ≡ map (number_of_target (sites (map document_of documents.now)) (codes "$ref"))
+        (sites (map document_of documents.now))) }
+    ensures locations { IfOk result (λ c. c.locations.items
+        ≡ map location (sites (map document_of documents.now))) }
+    ensures index { IfOk result (λ c. IsIndex c.index (sites (map document_of documents.now))) }
+    ensures resources { IfOk result
+        (λ c. IsResourceTable c.resources (sites (map document_of documents.now))) }
+    ensures edges { IfOk result (λ c. LeadDown c.edges.items (map spot_of c.spots.items)) }
+    ensures err { IfErr result (IsStopped (candidates (map document_of documents.now))) }
+{
+    let sites = scan(alloc, documents)?;
+    let Passed { built, index } = first_pass(alloc, sites.as_slice())?;
+    let references = resolve_all(alloc, &index, sites.as_slice())?;
+    let locations = locations_of(alloc, sites.as_slice())?;
+    let resources = resources_of(alloc, &index, sites.as_slice())?;
+    let keywords = keyword_table(alloc, sites.as_slice())?;
+    let spots = spots_of(alloc, sites)?;
+    let edges = edges_of(alloc, spots.as_slice())?;
+    Ok(Checked {
+        spots,
+        built,
+        keywords,
+        references,
+        locations,
+        index,
+        resources,
+        edges,
+    })
+}
