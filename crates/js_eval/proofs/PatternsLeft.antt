@@ -1,5 +1,5 @@
 -- What patterns have left, one member or one pattern further.
-use Rattle.std.proofs.Common.{◌≡◌, ℕ, List, [], ◌∷◌, ◌++◌, Option, Some, String, Global, Bor, string_bytes, map, filter, refl, sym, ap, ap₂, ◌∙◌}
+use Rattle.std.proofs.Common.{◌≡◌, ℕ, List, [], ◌∷◌, ◌++◌, Option, Some, String, Global, string_bytes, map, filter, refl, sym, ap, ap₂, ◌∙◌}
 use Rattle.js_assert.specs.Pattern.{matches}
 use Rattle.js_bundle.specs.Document.{Documents}
 use Rattle.js_doc.specs.Seen.{pair_of}
@@ -9,31 +9,32 @@ use Rattle.js_eval.specs.Cursors.{IsBegun, coming_asked, matching_asked, on_matc
 use Rattle.js_eval.specs.SchemaSet.{Text}
 use Rattle.js_eval.specs.Sited.{numbered_site}
 use Rattle.js_eval.specs.declared.pattern_cursor.PatternCursor.{PatternCursor}
+use Rattle.js_eval.specs.declared.searchers.NamedPattern.{NamedPattern}
 
 module _ (documents : Documents) where
   -- the present pattern's schema is applied to one member more
-  present_more : (o : Option (Bor Text)) (p : Bor Text) (place : ℕ) (name : Text) (left left' : List (String Global × Doc)) (m : List ℕ × Value)
-      → o ≡ Some p → filter (λ m. matches p.now m.0) (map pair_of left) ≡ m ∷ filter (λ m. matches p.now m.0) (map pair_of left')
+  present_more : (o : Option NamedPattern) (p : NamedPattern) (place : ℕ) (name : Text) (left left' : List (String Global × Doc)) (m : List ℕ × Value)
+      → o ≡ Some p → filter (λ m. matches p.text.now m.0) (map pair_of left) ≡ m ∷ filter (λ m. matches p.text.now m.0) (map pair_of left')
       → present_asked documents o place name left ≡ on_matched_member documents place name m ∷ present_asked documents o place name left'
   present_more o p place name left left' m e f = rw e (ap (map (on_matched_member documents place name)) f)
 
-  pub found_in : (c : PatternCursor) (p : Bor Text) (left' : List (String Global × Doc)) (m : List ℕ × Value)
-      → c.present ≡ Some p → filter (λ m. matches p.now m.0) (map pair_of c.left) ≡ m ∷ filter (λ m. matches p.now m.0) (map pair_of left')
+  pub found_in : (c : PatternCursor) (p : NamedPattern) (left' : List (String Global × Doc)) (m : List ℕ × Value)
+      → c.present ≡ Some p → filter (λ m. matches p.text.now m.0) (map pair_of c.left) ≡ m ∷ filter (λ m. matches p.text.now m.0) (map pair_of left')
       → patterns_asked documents c ≡ on_matched_member documents c.below c.name.now m ∷ patterns_asked documents (record c { left = left' })
   found_in c p left' m e f =
       ap (λ xs. xs ++ coming_asked documents c c.patterns) (present_more c.present p c.below c.name.now c.left left' m e f)
 
   -- it is applied to none any more
-  present_none : (o : Option (Bor Text)) (p : Bor Text) (place : ℕ) (name : Text) (left : List (String Global × Doc))
-      → o ≡ Some p → filter (λ m. matches p.now m.0) (map pair_of left) ≡ [] → present_asked documents o place name left ≡ []
+  present_none : (o : Option NamedPattern) (p : NamedPattern) (place : ℕ) (name : Text) (left : List (String Global × Doc))
+      → o ≡ Some p → filter (λ m. matches p.text.now m.0) (map pair_of left) ≡ [] → present_asked documents o place name left ≡ []
   present_none o p place name left e f = rw e (ap (map (on_matched_member documents place name)) f)
 
-  pub none_in : (c : PatternCursor) (p : Bor Text) → c.present ≡ Some p → filter (λ m. matches p.now m.0) (map pair_of c.left) ≡ []
+  pub none_in : (c : PatternCursor) (p : NamedPattern) → c.present ≡ Some p → filter (λ m. matches p.text.now m.0) (map pair_of c.left) ≡ []
       → patterns_asked documents c ≡ coming_asked documents c c.patterns
   none_in c p e f = ap (λ xs. xs ++ coming_asked documents c c.patterns) (present_none c.present p c.below c.name.now c.left e f)
 
   -- a pattern is begun
-  pub begun_asks : (c d : PatternCursor) (e : String Global × Doc) (rest : List (String Global × Doc)) (name : Text) (p : Bor Text)
+  pub begun_asks : (c d : PatternCursor) (e : String Global × Doc) (rest : List (String Global × Doc)) (name : Text) (p : NamedPattern)
       → string_bytes e.0 ≡ name → IsBegun documents name p (record c { patterns = rest }) d
       → coming_asked documents c (e ∷ rest) ≡ patterns_asked documents d
   begun_asks c d e rest name p n b =

@@ -23,6 +23,7 @@ use Rattle.js_eval.specs.declared.member_cursor.Choice.{Choice}
 use Rattle.js_eval.specs.declared.member_cursor.Choice.TheVariants as choice
 use Rattle.js_eval.specs.declared.member_cursor.MemberCursor.{MemberCursor}
 use Rattle.js_eval.specs.declared.pattern_cursor.PatternCursor.{PatternCursor}
+use Rattle.js_eval.specs.declared.searchers.NamedPattern.{NamedPattern}
 
 -- ---- items
 
@@ -87,9 +88,9 @@ abbrev pub on_matched_member : Documents → ℕ → Text → Text × Value → 
 on_matched_member documents place pattern m = record { place = numbered_site documents place; step = Name pattern; at = Name m.0; value = m.1 }
 
 -- the schema at a place, on those of the members that are left and that its pattern matches
-abbrev pub present_asked : Documents → Option (Bor Text) → ℕ → Text → List (String Global × Doc) → List (Application Site)
+abbrev pub present_asked : Documents → Option NamedPattern → ℕ → Text → List (String Global × Doc) → List (Application Site)
 present_asked documents None place name left = []
-present_asked documents (Some pattern) place name left = map (on_matched_member documents place name) (filter (λ m. matches pattern.now m.0) (map pair_of left))
+present_asked documents (Some pattern) place name left = map (on_matched_member documents place name) (filter (λ m. matches pattern.text.now m.0) (map pair_of left))
 
 -- what the patterns that are still to come ask for
 abbrev pub coming_asked : Documents → PatternCursor → List (String Global × Doc) → List (Application Site)
@@ -99,9 +100,9 @@ abbrev pub patterns_asked : Documents → PatternCursor → List (Application Si
 patterns_asked documents c = present_asked documents c.present c.below c.name.now c.left ++ coming_asked documents c c.patterns
 
 -- this pattern is the present one, and all members are left of it
-pub record IsBegun (documents : Documents) (name : Text) (pattern : Bor Text) (c d : PatternCursor) : Type 0 where
+pub record IsBegun (documents : Documents) (name : Text) (pattern : NamedPattern) (c d : PatternCursor) : Type 0 where
   pub present : d.present ≡ Some pattern
-  pub pattern_is : pattern.now ≡ name
+  pub pattern_is : pattern.text.now ≡ name
   pub asks : present_asked documents d.present d.below d.name.now d.left ≡ matching_asked documents (numbered_site documents c.place) c.keyword.now name c.members.now
   pub is : is_place documents d.below ≡ true
   pub place : d.place ≡ c.place

@@ -12,6 +12,7 @@ use crate::item_cursor::{ItemCursor, next_on_item};
 use crate::member_cursor::{MemberCursor, next_on_member};
 use crate::parts::{Applied, Instance};
 use crate::pattern_cursor::{PatternCursor, next_matching};
+use crate::searchers::Searchers;
 use js_bundle::{Place, Schemas, Step};
 use js_doc::Memory;
 use std::alloc::Global;
@@ -46,6 +47,7 @@ pub(crate) fn alone<'a>(place: Place, value: Instance<'a>) -> Asking<'a>
 pub(crate) fn next_asked<'a>(
     alloc: Global,
     schemas: &'a Schemas,
+    searchers: &Searchers<'a>,
     asking: &mut Asking<'a>,
 ) -> Result<Option<Applied<'a>>, Memory>
     ensures next { IfOk result (λ o. MatchOption o (asked schemas.now asking.old ≡ [])
@@ -55,8 +57,8 @@ pub(crate) fn next_asked<'a>(
     match asking {
         Asking::One(one) => Ok(next_alone(schemas, one)),
         Asking::Items(items) => Ok(next_item(schemas, items)),
-        Asking::Members(members) => next_member(alloc, schemas, members),
-        Asking::Patterns(patterns) => next_pattern(alloc, schemas, patterns),
+        Asking::Members(members) => next_member(alloc, schemas, searchers, members),
+        Asking::Patterns(patterns) => next_pattern(alloc, schemas, searchers, patterns),
     }
 }
 
@@ -89,7 +91,8 @@ fn next_item<'a>(schemas: &Schemas, items: &mut ItemCursor<'a>) -> Option<Applie
 
 fn next_member<'a>(
     alloc: Global,
-    schemas: &Schemas,
+    schemas: &'a Schemas,
+    searchers: &Searchers<'a>,
     members: &mut MemberCursor<'a>,
 ) -> Result<Option<Applied<'a>>, Memory>
     ensures next { IfOk result (λ o. MatchOption o (members_of_asking schemas.now members.old ≡ [])
@@ -99,12 +102,13 @@ fn next_member<'a>(
     if !schemas.has(members.held.kept_place()) {
         return Ok(None);
     }
-    next_on_member(alloc, schemas, members)
+    next_on_member(alloc, schemas, searchers, members)
 }
 
 fn next_pattern<'a>(
     alloc: Global,
     schemas: &'a Schemas,
+    searchers: &Searchers<'a>,
     patterns: &mut PatternCursor<'a>,
 ) -> Result<Option<Applied<'a>>, Memory>
     ensures next { IfOk result (λ o. MatchOption o (patterns_of_asking schemas.now patterns.old ≡ [])
@@ -114,7 +118,7 @@ fn next_pattern<'a>(
     if !has_both(schemas, patterns.place, patterns.below) {
         return Ok(None);
     }
-    next_matching(alloc, schemas, patterns)
+    next_matching(alloc, schemas, searchers, patterns)
 }
 
 fn has_both(schemas: &Schemas, one: Place, other: Place) -> bool

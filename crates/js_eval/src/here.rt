@@ -16,6 +16,7 @@ use crate::keyword::Keyword;
 use crate::keyword_cursor::Keywords;
 use crate::kind::{Kind, kind_of};
 use crate::parts::{Applied, Instance, is_accepting};
+use crate::searchers::Searchers;
 use crate::start::{Facts, Scene, start};
 use crate::telling::schema_note;
 use crate::walking::{Tally, Trail, World};
@@ -24,10 +25,12 @@ use js_doc::{Doc, Memory, Text, push_fragment_token};
 use js_tree::Note;
 use std::alloc::Global;
 
-/// Finished schemas. Values of the instance, and what the schemas' keywords hold, live as long as they do.
-#[derive(Clone, Copy)]
+/// Finished schemas, and what searches with their patterns. Values of the instance, and what the schemas' keywords hold, live as
+/// long as the schemas do.
+#[derive(Drop)]
 pub(crate) struct Here<'a> {
     pub schemas: &'a Schemas,
+    pub searchers: Searchers<'a>,
 }
 
 impl<'a> World for Here<'a> {
@@ -125,7 +128,7 @@ impl<'a> World for Here<'a> {
     }
 
     fn next(&self, alloc: Global, asking: &mut Asking<'a>) -> Result<Option<Applied<'a>>, Memory> {
-        next_asked(alloc, self.schemas, asking)
+        next_asked(alloc, self.schemas, &self.searchers, asking)
     }
 
     fn place(&self, application: Applied<'a>) -> Place {

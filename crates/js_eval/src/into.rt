@@ -7,6 +7,7 @@ ghost use Rattle.js_eval.specs.Walked.{IsResultWithin, IsVerdict, LeadsTo, NoneS
 use crate::collecting::Collecting;
 use crate::here::Here;
 use crate::parts::Instance;
+use crate::searchers::Searchers;
 use crate::walking::{Silent, WalkFault, walk_from};
 use js_bundle::{Place, Schemas};
 use js_doc::Doc;
@@ -31,7 +32,10 @@ pub fn walk_into<'a, C: Collector<'a>>(
     ensures ok { IfOk result (λ d. LeadsTo schemas.now place (value_of value.now) C.takes collector d) }
     ensures too_large { IfErr result (λ e. OnTooLarge (e.0) (NoneStands schemas.now place (value_of value.now))) }
 {
-    let here = Here { schemas };
+    let here = Here {
+        schemas,
+        searchers: Searchers::new(alloc),
+    };
     let mut collecting = Collecting {
         collector,
         notes: PhantomData,
@@ -81,7 +85,10 @@ pub fn verdict<'a>(
     ensures ok { IfOk result (λ b. IsVerdict schemas.now place (value_of value.now) b) }
     ensures too_large { IfErr result (λ e. OnTooLarge e (NoneStands schemas.now place (value_of value.now))) }
 {
-    let here = Here { schemas };
+    let here = Here {
+        schemas,
+        searchers: Searchers::new(alloc),
+    };
     match walk_from(alloc, &here, &mut Silent, place, Instance::Doc(value)) {
         Ok(valid) => Ok(valid),
         Err(fault) => Err(fault),

@@ -17,6 +17,7 @@ mod member_cursor;
 mod name_set;
 mod parts;
 mod pattern_cursor;
+mod searchers;
 mod start;
 mod start_items;
 mod start_members;

@@ -22,7 +22,7 @@ ghost use Rattle.js_eval.specs.Sited.{numbered_site};
 use crate::applied::{Held, To, apply_to_part};
 use crate::name_set::{is_in, set_of};
 use crate::parts::{Applied, Instance, argument_in, object_in};
-use js_assert::Pattern;
+use crate::searchers::{NamedPattern, Searchers};
 use js_bundle::{Place, Schemas, Step};
 use js_doc::{Doc, Members, Memory};
 use std::alloc::Global;
@@ -179,7 +179,8 @@ pub(crate) fn object_at<'a>(schema: &'a Doc, keyword: &str) -> Option<&'a Member
 /// `Memory`: a pattern is searched for.
 pub(crate) fn next_on_member<'a>(
     alloc: Global,
-    schemas: &Schemas,
+    schemas: &'a Schemas,
+    searchers: &Searchers<'a>,
     cursor: &mut MemberCursor<'a>,
 ) -> Result<Option<Applied<'a>>, Memory>
     requires { IsHeld schemas.now cursor.old.held }
@@ -188,7 +189,13 @@ pub(crate) fn next_on_member<'a>(
     ensures is { IfOk result (λ o. MatchOption o (Unit {0}) (λ a. is_place schemas.now a.place ≡ true)) }
     ensures held { cursor.new.held ≡ cursor.old.held }
 {
-    match next_member(alloc, schemas, &cursor.choice, &mut cursor.members)? {
+    match next_member(
+        alloc,
+        schemas,
+        searchers,
+        &cursor.choice,
+        &mut cursor.members,
+    )? {
         Some((name, member)) => Ok(Some(apply_to_part(
             schemas,
             &cursor.held,
@@ -203,7 +210,8 @@ pub(crate) fn next_on_member<'a>(
 // The next member that is chosen.
 fn next_member<'a>(
     alloc: Global,
-    schemas: &Schemas,
+    schemas: &'a Schemas,
+    searchers: &Searchers<'a>,
     choice: &Choice<'a>,
     members: &mut Iter<'a, String, Doc>,
 ) -> Result<Option<(&'a str, &'a Doc)>, Memory>
@@ -212,17 +220,18 @@ fn next_member<'a>(
 {
     while let Some((name, member)) = members.next() {
         let name = name.as_str();
-        if is_chosen(alloc, schemas, choice, name)? {
+        if is_chosen(alloc, schemas, searchers, choice, name)? {
             return Ok(Some((name, member)));
         }
     }
     Ok(None)
 }
 
-fn is_chosen(
+fn is_chosen<'a>(
     alloc: Global,
-    schemas: &Schemas,
-    choice: &Choice<'_>,
+    schemas: &'a Schemas,
+    searchers: &Searchers<'a>,
+    choice: &Choice<'a>,
     name: &str,
 ) -> Result<bool, Memory>
     ensures { IfOk result (λ b. b ≡ is_chosen choice.now name.now) }
@@ -230,16 +239,19 @@ fn is_chosen(
     match choice {
         Choice::All => Ok(true),
         Choice::Named(named) => Ok(named.get(name).is_some()),
-        Choice::Additional(adjacent) => Ok(!is_spoken_of(alloc, schemas, adjacent, name)?),
+        Choice::Additional(adjacent) => Ok(!is_spoken_of(
+            alloc, schemas, searchers, adjacent, name,
+        )?),
         Choice::Except(names) => Ok(!is_in(names, name)),
     }
 }
 
 // The adjacent keywords speak of the name.
-fn is_spoken_of(
+fn is_spoken_of<'a>(
     alloc: Global,
-    schemas: &Schemas,
-    adjacent: &Adjacent<'_>,
+    schemas: &'a Schemas,
+    searchers: &Searchers<'a>,
+    adjacent: &Adjacent<'a>,
     name: &str,
 ) -> Result<bool, Memory>
     ensures { IfOk result (λ b. b ≡ (is_named adjacent.now.properties name.now || is_matched adjacent.now.patterns name.now)) }
@@ -247,8 +259,9 @@ fn is_spoken_of(
     if is_named(adjacent.properties, name) {
         return Ok(true);
     }
+    let place = adjacent.place;
     match adjacent.patterns {
-        Some(patterns) => matches_any(alloc, schemas, adjacent.place, patterns, name),
+        Some(patterns) => matches_any(alloc, schemas, searchers, place, patterns, name),
         None => Ok(false),
     }
 }
@@ -262,17 +275,18 @@ fn is_named(properties: Option<&Members>, name: &str) -> bool
     }
 }
 
-fn matches_any(
+fn matches_any<'a>(
     alloc: Global,
-    schemas: &Schemas,
+    schemas: &'a Schemas,
+    searchers: &Searchers<'a>,
     place: Place,
-    patterns: &Members,
+    patterns: &'a Members,
     name: &str,
 ) -> Result<bool, Memory>
     ensures { IfOk result (λ b. b ≡ list_any (λ p. matches p.0 name.now) patterns.now) }
 {
     for (pattern, _) in patterns.pairs() {
-        if matches(alloc, schemas, place, pattern.as_str(), name)? {
+        if matches(alloc, schemas, searchers, place, pattern.as_str(), name)? {
             return Ok(true);
         }
     }
@@ -280,32 +294,35 @@ fn matches_any(
 }
 
 // Whether a pattern of the place's `patternProperties` matches somewhere in a name.
-fn matches(
+fn matches<'a>(
     alloc: Global,
-    schemas: &Schemas,
+    schemas: &'a Schemas,
+    searchers: &Searchers<'a>,
     place: Place,
-    pattern: &str,
+    pattern: &'a str,
     name: &str,
 ) -> Result<bool, Memory>
     ensures { IfOk result (λ b. b ≡ matches pattern.now name.now) }
 {
     match pattern_of(schemas, place, pattern) {
-        Some(built) => built.holds(alloc, name),
+        Some(built) => searchers.matches(alloc, built, name),
         None => Err(Memory), // never: each pattern of finished schemas is built
     }
 }
 
 /// The pattern of this name among the `patternProperties` of the place.
-pub(crate) fn pattern_of<'s>(
-    schemas: &'s Schemas,
+pub(crate) fn pattern_of<'a>(
+    schemas: &'a Schemas,
     place: Place,
-    pattern: &str,
-) -> Option<&'s Pattern>
-    ensures { MatchOption result (Unit {0}) (λ p. p.now ≡ pattern.now) }
+    text: &'a str,
+) -> Option<NamedPattern<'a>>
+    ensures { MatchOption result (Unit {0}) (λ p. p.text.now ≡ text.now) }
 {
-    if schemas.has(place) {
-        schemas.pattern(place, pattern)
-    } else {
-        None
+    if !schemas.has(place) {
+        return None;
+    }
+    match schemas.pattern(place, text) {
+        Some(pattern) => Some(NamedPattern::new(pattern, text)),
+        None => None,
     }
 }

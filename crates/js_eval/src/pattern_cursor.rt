@@ -13,7 +13,7 @@ ghost use Rattle.js_eval.specs.Sited.{numbered_site};
 use crate::bundled::below;
 use crate::member_cursor::pattern_of;
 use crate::parts::{Applied, Instance};
-use js_assert::Pattern;
+use crate::searchers::{NamedPattern, Searchers};
 use js_bundle::{Place, Schemas, Step};
 use js_doc::{Doc, Members, Memory};
 use std::alloc::Global;
@@ -27,7 +27,7 @@ pub(crate) struct PatternCursor<'a> {
     pub patterns: Iter<'a, String, Doc>,
     pub members: &'a Members,
     /// The present pattern, where there is one, its text and the place of its schema.
-    pub present: Option<&'a Pattern>,
+    pub present: Option<NamedPattern<'a>>,
     pub name: &'a str,
     pub below: Place,
     pub left: Iter<'a, String, Doc>,
@@ -64,6 +64,7 @@ pub(crate) fn each_matching<'a>(
 pub(crate) fn next_matching<'a>(
     alloc: Global,
     schemas: &'a Schemas,
+    searchers: &Searchers<'a>,
     cursor: &mut PatternCursor<'a>,
 ) -> Result<Option<Applied<'a>>, Memory>
     requires place { is_place schemas.now cursor.old.place ≡ true }
@@ -74,7 +75,7 @@ pub(crate) fn next_matching<'a>(
     ensures place { IfOk result (λ _. cursor.new.place ≡ cursor.old.place) }
     ensures below { IfOk result (λ _. is_place schemas.now cursor.new.below ≡ true) }
 {
-    match next_match(alloc, schemas, cursor)? {
+    match next_match(alloc, schemas, searchers, cursor)? {
         Some((name, member)) => Ok(Some(Applied {
             place: cursor.below,
             step: Step::Name(cursor.name),
@@ -89,6 +90,7 @@ pub(crate) fn next_matching<'a>(
 fn next_match<'a>(
     alloc: Global,
     schemas: &'a Schemas,
+    searchers: &Searchers<'a>,
     cursor: &mut PatternCursor<'a>,
 ) -> Result<Option<(&'a str, &'a Doc)>, Memory>
     requires place { is_place schemas.now cursor.old.place ≡ true }
@@ -99,13 +101,13 @@ fn next_match<'a>(
     ensures below { IfOk result (λ _. is_place schemas.now cursor.new.below ≡ true) }
 {
     if let Some(pattern) = cursor.present {
-        if let Some(found) = next_member(alloc, pattern, &mut cursor.left)? {
+        if let Some(found) = next_member(alloc, searchers, pattern, &mut cursor.left)? {
             return Ok(Some(found));
         }
     }
     while let Some((name, _)) = cursor.patterns.next() {
         let pattern = begin(schemas, cursor, name.as_str())?;
-        if let Some(found) = next_member(alloc, pattern, &mut cursor.left)? {
+        if let Some(found) = next_member(alloc, searchers, pattern, &mut cursor.left)? {
             return Ok(Some(found));
         }
     }
@@ -117,7 +119,7 @@ fn begin<'a>(
     schemas: &'a Schemas,
     cursor: &mut PatternCursor<'a>,
     name: &'a str,
-) -> Result<&'a Pattern, Memory>
+) -> Result<NamedPattern<'a>, Memory>
     requires { is_place schemas.now cursor.old.place ≡ true }
     ensures { IfOk result (λ p. IsBegun schemas.now name.now p cursor.old cursor.new) }
 {
@@ -136,15 +138,16 @@ fn begin<'a>(
 // The next member whose name the pattern matches.
 fn next_member<'a>(
     alloc: Global,
-    pattern: &Pattern,
+    searchers: &Searchers<'a>,
+    pattern: NamedPattern<'a>,
     members: &mut Iter<'a, String, Doc>,
 ) -> Result<Option<(&'a str, &'a Doc)>, Memory>
-    ensures { IfOk result (λ o. MatchOption o (filter (λ m. matches pattern.now m.0) (map pair_of members.old) ≡ [])
-        (λ m. filter (λ m. matches pattern.now m.0) (map pair_of members.old) ≡ (m.0.now, value_of m.1.now) ∷ filter (λ m. matches pattern.now m.0) (map pair_of members.new))) }
+    ensures { IfOk result (λ o. MatchOption o (filter (λ m. matches pattern.entry.text.now m.0) (map pair_of members.old) ≡ [])
+        (λ m. filter (λ m. matches pattern.entry.text.now m.0) (map pair_of members.old) ≡ (m.0.now, value_of m.1.now) ∷ filter (λ m. matches pattern.entry.text.now m.0) (map pair_of members.new))) }
 {
     while let Some((name, member)) = members.next() {
         let name = name.as_str();
-        if pattern.holds(alloc, name)? {
+        if searchers.matches(alloc, pattern, name)? {
             return Ok(Some((name, member)));
         }
     }

@@ -9,14 +9,14 @@ use Rattle.js_doc.specs.Seen.{items_seen}
 use Rattle.js_doc.specs.WholeNumbers.{value_in, items_in, members_in}
 use Rattle.js_doc.specs.Reading.{Lifts}
 use Rattle.js_doc.proofs.Finding.{Entry, items_extend, items_stop, snoc_items_seen, members_extend, members_stop, lifted_stops}
-use Rattle.js_doc.proofs.conversion.+moved.Goals as goal
+use Rattle.js_doc.proofs.conversion.+convert_owned.Goals as goal
 
-pub moved_items-loop-value-init : goal.moved_items-loop-value-init
-moved_items-loop-value-init t c =
+pub convert_owned_items-loop-value-init : goal.convert_owned_items-loop-value-init
+convert_owned_items-loop-value-init t c =
     let none = c.in_ok-docs.ensures.items in ([], sym c.into_iter-value-iterator.ensures.into_iter_gives.0, ap (λ ds. Ok (items_seen ds)) (sym none), ap length none)
 
-pub moved_items-loop-value-preserved : goal.moved_items-loop-value-preserved
-moved_items-loop-value-preserved t c =
+pub convert_owned_items-loop-value-preserved : goal.convert_owned_items-loop-value-preserved
+convert_owned_items-loop-value-preserved t c =
     let l = c.loop-value in
     let done = l.invariant.0 in
     let v = c.in-Some.value in
@@ -29,8 +29,8 @@ moved_items-loop-value-preserved t c =
       ap length pushed ∙ length_push l.docs.items c.in-Ok.doc ∙ ap (λ n. n + 1) l.invariant.3 ∙ sym (length_push done v),
     )
 
-pub moved_items-returns-in-Err-clause-err : goal.moved_items-returns-in-Err-clause-err
-moved_items-returns-in-Err-clause-err t c =
+pub convert_owned_items-returns-in-Err-clause-err : goal.convert_owned_items-returns-in-Err-clause-err
+convert_owned_items-returns-in-Err-clause-err t c =
     let l = c.loop-value in
     let done = l.invariant.0 in
     let v = c.in-Some.value in
@@ -41,19 +41,19 @@ moved_items-returns-in-Err-clause-err t c =
     lifted_stops (items_in 0 (items_view c.args.values.items)) (value_in (view v)) (decimal (length l.docs.items)) c.in-Err.fault c.lifted.result c.in-Err.ensures.err (subst (λ k. Lifts k c.in-Err.fault c.lifted.result) named c.lifted.ensures)
     (λ p e. ap (λ ws. items_in 0 (items_view ws)) all ∙ items_stop 0 _ done v left _ p l.invariant.2 e so_far)
 
-pub moved_items-returns-clause-ok : goal.moved_items-returns-clause-ok
-moved_items-returns-clause-ok t c =
+pub convert_owned_items-returns-clause-ok : goal.convert_owned_items-returns-clause-ok
+convert_owned_items-returns-clause-ok t c =
     let l = c.loop-value in
     let done = l.invariant.0 in
     let none : l.value-iterator.rest.items ≡ [] = nil_from_length l.value-iterator.rest.items (sym l.value-iterator.rest.ok.0 ∙ c.in-None.ensures.steps.0) in
     ap (λ ws. items_in 0 (items_view ws)) (l.invariant.1 ∙ ap (λ ws. done ++ ws) none ∙ append-nil done) ∙ l.invariant.2
 
-pub moved_members-loop-name-init : goal.moved_members-loop-name-init
-moved_members-loop-name-init t c =
+pub convert_owned_members-loop-name-init : goal.convert_owned_members-loop-name-init
+convert_owned_members-loop-name-init t c =
     ([], sym c.into_iter-name-iterator.ensures.into_iter_gives.0, ap (λ ms. Ok (members ms)) (sym c.new-members.ensures))
 
-pub moved_members-loop-name-preserved : goal.moved_members-loop-name-preserved
-moved_members-loop-name-preserved t c =
+pub convert_owned_members-loop-name-preserved : goal.convert_owned_members-loop-name-preserved
+convert_owned_members-loop-name-preserved t c =
     let l = c.loop-name in
     let done = l.invariant.0 in
     let e : Entry = (c.in-Some.name, c.in-Some.value) in
@@ -64,8 +64,8 @@ moved_members-loop-name-preserved t c =
       members_extend done e left l.members _ l.invariant.2 c.in-Ok.ensures.ok (subst (λ es. IsStrictlySortedBy string_cmp (keys_of es)) all c.into_iter-name-iterator.ensures.into_iter_gives.5) ∙ ap (λ ms. Ok (members ms)) (sym c.in_ok-put-in-Ok.ensures.ok),
     )
 
-pub moved_members-returns-in-Err-clause-err : goal.moved_members-returns-in-Err-clause-err
-moved_members-returns-in-Err-clause-err t c =
+pub convert_owned_members-returns-in-Err-clause-err : goal.convert_owned_members-returns-in-Err-clause-err
+convert_owned_members-returns-in-Err-clause-err t c =
     let l = c.loop-name in
     let done = l.invariant.0 in
     let e : Entry = (c.in-Some.name, c.in-Some.value) in
@@ -74,8 +74,8 @@ moved_members-returns-in-Err-clause-err t c =
     lifted_stops _ (value_in (view e.1)) (string_bytes e.0) c.in-Err.fault c.lifted.result c.in-Err.ensures.err (subst (λ k. Lifts k c.in-Err.fault c.lifted.result) c.new.ensures c.lifted.ensures)
     (λ p is. ap (λ es. members_in (members_view es)) all ∙ members_stop done e left _ p l.invariant.2 is)
 
-pub moved_members-returns-clause-ok : goal.moved_members-returns-clause-ok
-moved_members-returns-clause-ok t c =
+pub convert_owned_members-returns-clause-ok : goal.convert_owned_members-returns-clause-ok
+convert_owned_members-returns-clause-ok t c =
     let l = c.loop-name in
     let done = l.invariant.0 in
     let none : l.name-iterator ≡ [] = c.in-None.ensures.steps.0 in

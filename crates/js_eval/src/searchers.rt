@@ -1,0 +1,142 @@
+//! Searching with patterns, for a whole walk.
+ghost use Rattle.std.specs.Prelude.{◌≡◌, IfOk, MatchOption};
+ghost use Rattle.js_assert.specs.Pattern.{matches};
+
+use js_assert::{Pattern, Searcher};
+use js_doc::Memory;
+use std::alloc::Global;
+use std::cell::RefCell;
+
+/// How many searchers are kept at most. What one works with may grow to some megabytes.
+const MOST_KEPT: usize = 32;
+
+/// A pattern of finished schemas, and its text.
+#[derive(Clone, Copy)]
+pub(crate) struct NamedPattern<'p> {
+    pattern: &'p Pattern,
+    pub text: &'p str,
+    ghost named: { pattern.now ≡ text.now },
+}
+
+/// Searches with patterns. What it searched with is kept for the next search with the same pattern: to make it takes longer than
+/// most searches.
+#[derive(Drop)]
+pub(crate) struct Searchers<'p> {
+    kept: RefCell<Kept<'p>>,
+}
+
+/// The searchers that are kept, and which of them goes when there is room for no more.
+#[derive(Drop)]
+struct Kept<'p> {
+    all: Vec<Marked<'p>>,
+    next: usize,
+}
+
+/// A searcher, and the text of its pattern.
+#[derive(Drop)]
+struct Marked<'p> {
+    text: &'p str,
+    searcher: Searcher<'p>,
+    ghost searches: { searcher ≡ text.now },
+}
+
+impl<'p> NamedPattern<'p> {
+    /// The pattern of this text.
+    pub fn new(pattern: &'p Pattern, text: &'p str) -> NamedPattern<'p>
+        requires { pattern.now ≡ text.now }
+        ensures { result.text.now ≡ text.now }
+    {
+        NamedPattern { pattern, text }
+    }
+}
+
+impl<'p> Searchers<'p> {
+    /// With none kept.
+    pub fn new(alloc: Global) -> Searchers<'p> {
+        Searchers {
+            kept: RefCell::new(Kept {
+                all: Vec::new(alloc),
+                next: 0,
+            }),
+        }
+    }
+
+    /// Whether the pattern matches somewhere in a name.
+    ///
+    /// # Errors
+    /// `Memory`.
+    #[inline(never)]
+    pub fn matches(
+        &self,
+        alloc: Global,
+        named: NamedPattern<'p>,
+        name: &str,
+    ) -> Result<bool, Memory>
+        ensures { IfOk result (λ b. b ≡ matches named.entry.text.now name.now) }
+    {
+        let NamedPattern { pattern, text } = named;
+        match self.kept.try_borrow_mut() {
+            Ok(mut kept) => search(alloc, &mut kept, pattern, text, name),
+            Err(_) => pattern.holds(alloc, name),
+        }
+    }
+}
+
+// Searches with the searcher that is kept, or with a new one.
+fn search<'p>(
+    alloc: Global,
+    kept: &mut Kept<'p>,
+    pattern: &'p Pattern,
+    text: &'p str,
+    name: &str,
+) -> Result<bool, Memory>
+    requires { pattern.now ≡ text.now }
+    ensures { IfOk result (λ b. b ≡ matches text.now name.now) }
+{
+    match search_again(kept.all.as_mut_slice(), text, name) {
+        Some(found) => Ok(found),
+        None => search_first(alloc, kept, pattern, text, name),
+    }
+}
+
+// Searches with the searcher that is kept of the pattern with this text, if there is one.
+fn search_again(kept: &mut [Marked<'_>], text: &str, name: &str) -> Option<bool>
+    ensures { MatchOption result (Unit {0}) (λ b. b ≡ matches text.now name.now) }
+{
+    for marked in kept.iter_mut() {
+        if marked.text == text {
+            return Some(marked.searcher.holds(name));
+        }
+    }
+    None
+}
+
+// Searches with a new searcher, and keeps it if there is memory for that. What it works with is large until it is boxed: that takes
+// a frame of its own, which a search with a kept one doesn't pay for.
+#[inline(never)]
+fn search_first<'p>(
+    alloc: Global,
+    kept: &mut Kept<'p>,
+    pattern: &'p Pattern,
+    text: &'p str,
+    name: &str,
+) -> Result<bool, Memory>
+    requires { pattern.now ≡ text.now }
+    ensures { IfOk result (λ b. b ≡ matches text.now name.now) }
+{
+    let mut searcher = pattern.searcher(alloc)?;
+    let found = searcher.holds(name);
+    keep(kept, Marked { text, searcher });
+    Ok(found)
+}
+
+// Keeps a searcher, if there is memory for it. Where there are as many as may be, the oldest goes.
+fn keep<'p>(kept: &mut Kept<'p>, marked: Marked<'p>) {
+    if kept.all.len() < MOST_KEPT {
+        let _ = kept.all.push(marked);
+        return;
+    }
+    let next = kept.next % MOST_KEPT;
+    kept.all[next] = marked;
+    kept.next = next + 1;
+}
