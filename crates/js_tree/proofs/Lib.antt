@@ -26,3 +26,5 @@ pub mod Siblings
 pub mod Steps
 pub mod Telling
 pub mod VerdictTold
+pub mod Listed
+pub mod Blocks

@@ -82,7 +82,7 @@ fn mixed(start: usize, bytes: &[u8]) -> usize
 
 /// The trees are equal once every keyword location is ignored. The first node that differs ends the search.
 #[cycle(alike)]
-fn are_alike(a: &Tree, b: &Tree) -> bool
+pub(crate) fn are_alike(a: &Tree, b: &Tree) -> bool
     ensures { result ≡ alike_trees same_but_keyword a.now.root a.now.below b.now.root b.now.below }
 {
     a.unit.is_same_but_keyword(&b.unit) && all_alike(a.children.as_slice(), b.children.as_slice())
