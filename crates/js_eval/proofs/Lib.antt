@@ -15,6 +15,7 @@ pub mod Paths
 pub mod ItemsLeft
 pub mod MembersLeft
 pub mod PatternsLeft
+pub mod Shared
 pub mod Started
 pub mod Recursion
 pub mod Counts
