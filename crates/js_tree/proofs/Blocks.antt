@@ -1,9 +1,10 @@
 -- Trees that are kept block by block: what is left of the first, and of the others what is alike to none of it.
-use Rattle.std.proofs.Common.{◌≡◌, ◌≢◌, ℕ, zero, suc, ◌+◌, ◌-◌, ◌≤◌, ◌<◌, ◌==◌, Bool, true, false, ◌||◌, if◌then◌else◌, List, [], ◌∷◌, ◌++◌, length, take, drop, get_or, set, refl, ap, sym, ◌∙◌, arith}
+use Rattle.std.proofs.Common.{◌≡◌, ◌≢◌, ℕ, zero, suc, ◌+◌, ◌-◌, ◌≤◌, ◌<◌, ◌==◌, Bool, true, false, ◌||◌, ◌&&◌, not, if◌then◌else◌, List, [], ◌∷◌, ◌++◌, length, take, drop, get_or, set, refl, ap, sym, ◌∙◌, arith}
 use Rattle.std.proofs.lemmas.List.{drop-take}
 use Rattle.std.specs.Cmp.{IsEquivalence, unsigned_Decides}
 use Rattle.js_tree.specs.Forest.{Forest, empty, tree, ◌⊹◌}
-use Rattle.js_tree.specs.Merged.{alike_trees, has_alike, unlike, firsts, others}
+use Rattle.js_tree.specs.Merged.{alike_trees, has_alike, none_alike, none_found, unlike, firsts, others}
+use Rattle.js_tree.proofs.Forests.{append-append, append-empty}
 use Rattle.js_tree.proofs.Giving.{has_alike_unlike}
 use Rattle.js_tree.proofs.MergedTree.{unlike-append, firsts-unlike}
 
@@ -111,3 +112,41 @@ module _ {A : Type 0} (same : A → A → Bool) (e : IsEquivalence same) where
       (ap (unlike same a x) (firsts-others after g)
       ∙ unlike-append same a x f (firsts same (others same f g))
       ∙ ap (λ r. unlike same a x f ⊹ r) (sym (firsts-unlike same e a x (others same f g)) ∙ ap (firsts same) (sym (others-tree a x f g))))
+
+-- ---- siblings that differ
+
+module _ {A : Type 0} (same : A → A → Bool) where
+  has_alike-append : (f g : Forest A) (a : A) (x : Forest A) → has_alike same (f ⊹ g) a x ≡ (has_alike same f a x || has_alike same g a x)
+  has_alike-append empty g a x = refl
+  has_alike-append (tree b under f) g a x = ap (λ v. alike_trees same b under a x || v) (has_alike-append f g a x) ∙ sym (or-or (alike_trees same b under a x))
+    where
+      or-or : (v : Bool) → ((v || has_alike same f a x) || has_alike same g a x) ≡ (v || (has_alike same f a x || has_alike same g a x))
+      or-or true = refl
+      or-or false = refl
+
+  -- none is alike to an earlier one, where trees of two lists stand before them
+  apart : (f g h : Forest A) → none_alike same (f ⊹ g) h ≡ (none_found same f h && none_alike same g h)
+  apart f g empty = refl
+  apart f g (tree a x h) =
+      rw (has_alike-append f g a x, append-append f g (tree a x empty), apart f (g ⊹ tree a x empty) h) (turn (has_alike same f a x) (has_alike same g a x) (none_found same f h))
+    where
+      turn : (v w u : Bool) → (not (v || w) && (u && none_alike same (g ⊹ tree a x empty) h)) ≡ ((not v && u) && (not w && none_alike same (g ⊹ tree a x empty) h))
+      turn true w u = refl
+      turn false true true = refl
+      turn false true false = refl
+      turn false false u = refl
+
+  after_others : (e f g : Forest A) → none_alike same e (f ⊹ g) ≡ (none_alike same e f && none_alike same (e ⊹ f) g)
+  after_others e empty g = ap (λ b. none_alike same b g) (sym (append-empty e))
+  after_others e (tree a x f) g =
+      ap (λ v. not (has_alike same e a x) && v) (after_others (e ⊹ tree a x empty) f g ∙ ap (λ b. none_alike same (e ⊹ tree a x empty) f && none_alike same b g) (append-append e (tree a x empty) f))
+      ∙ and-and (not (has_alike same e a x))
+    where
+      and-and : (v : Bool) → (v && (none_alike same (e ⊹ tree a x empty) f && none_alike same (e ⊹ tree a x f) g)) ≡ ((v && none_alike same (e ⊹ tree a x empty) f) && none_alike same (e ⊹ tree a x f) g)
+      and-and true = refl
+      and-and false = refl
+
+  -- the first differ, none of the others is alike to one of them, and the others differ
+  pub differ_in_parts : (f g : Forest A) → none_alike same empty (f ⊹ g) ≡ (none_alike same empty f && (none_found same f g && none_alike same empty g))
+  differ_in_parts f g =
+      after_others empty f g ∙ ap (λ v. none_alike same empty f && v) (ap (λ b. none_alike same b g) (sym (append-empty f)) ∙ apart f empty g)

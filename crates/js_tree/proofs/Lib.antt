@@ -21,7 +21,6 @@ pub mod NodeTexts
 pub mod NotedRows
 pub mod Pieces
 pub mod Searching
-pub mod SeenTrees
 pub mod Siblings
 pub mod Steps
 pub mod Telling

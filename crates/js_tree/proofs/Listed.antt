@@ -192,3 +192,9 @@ one_more_listed heads links xs x p n e m h l listed = record {
         let le : i ≤ length xs = omega arith in
         get_set links n i (get_or heads p 0) l
         ∙ rw (m, other_number (length xs) i z, take_front i xs (x ∷ []) le, get_front i xs (x ∷ []) d z) (listed.further i d z)
+
+-- an element that is there is found whatever is named for one that isn't
+pub any_default : {A : Type 0} (xs : List A) (i : ℕ) (d e : A) → i < length xs → get_or xs i d ≡ get_or xs i e
+any_default [] i d e h = absurd (omega arith)
+any_default (x ∷ xs) zero d e h = refl
+any_default (x ∷ xs) (suc i) d e h = let k : i < length xs = omega arith in any_default xs i d e k

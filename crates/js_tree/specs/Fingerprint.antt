@@ -3,7 +3,6 @@
 use Rattle.std.specs.Prelude.{◌≡◌, ℕ, zero, suc, ◌+◌, ◌*◌, ◌%◌, ◌^◌, ◌<◌, ◌==◌, Bool, true, false, List, [], ◌∷◌, length, take, get_or}
 use Rattle.js_tree.specs.OutputUnit.{OutputUnit}
 use Rattle.js_tree.specs.Result.{ResultTree}
-use Rattle.js_tree.specs.Forest.{Forest, empty, tree}
 
 -- the bytes, mixed into the number
 abbrev pub mixed : ℕ → List ℕ → ℕ
@@ -32,12 +31,3 @@ latest size (t ∷ ts) place = lifted (place_of size t.root == place) (latest si
 pub record AreListed (heads links : List ℕ) (ts : List ResultTree) : Type 0 where
   pub first : (place : ℕ) → place < length heads → get_or heads place 0 ≡ latest (length heads) ts place
   pub further : (i : ℕ) (d : ResultTree) → i < length ts → get_or links i 0 ≡ latest (length heads) (take i ts) (place_of (length heads) (get_or ts i d).root)
-
--- the unit's place in the table has been seen
-abbrev pub is_seen : List Bool → OutputUnit → Bool
-is_seen table u = get_or table (fingerprint u % length table) false
-
--- so has that of each tree's root
-abbrev pub all_seen : List Bool → Forest OutputUnit → Type 0
-all_seen table empty = Unit {0}
-all_seen table (tree u below after) = (is_seen table u ≡ true) × all_seen table after

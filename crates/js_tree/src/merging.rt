@@ -3,20 +3,18 @@ ghost use Rattle.std.specs.Prelude.{◌≡◌, ◌≤◌, ◌↔◌, ◌&&◌, I
 ghost use Rattle.js_tree.specs.Alike.{same_but_keyword};
 ghost use Rattle.js_tree.specs.Fingerprint.{AreListed};
 ghost use Rattle.js_tree.specs.Forest.{◌⊹◌, empty, tree as node, forest_of};
-ghost use Rattle.js_tree.specs.Merged.{all_merged, firsts, given_trees, merged_below, none_alike, others};
+ghost use Rattle.js_tree.specs.Merged.{all_merged, firsts, given_trees, merged_below, none_alike, none_found, others};
 ghost use Rattle.js_tree.specs.MergedResult.{merged, NormalOfThree, RunOfThree};
 ghost use Rattle.js_tree.specs.OutputUnit.{noted};
 ghost use Rattle.js_tree.specs.Result.{units};
 ghost use Rattle.js_tree.specs.Sublist.{Sublist, none_lost};
 
-use crate::likeness::{comes_again, comes_first};
+use crate::likeness::comes_again;
 use crate::listing::{is_listed, list};
 use crate::tree::{Tree, Trees};
 
-/// From so many siblings on their fingerprints are looked up in a table of so many places, which stands on the stack.
+/// From so many siblings on they are listed by their fingerprints, on the stack.
 const MANY: usize = 512;
-
-const PLACES: usize = 262_144;
 
 /// So many trees are listed at once.
 const BLOCK: usize = 4_096;
@@ -223,28 +221,71 @@ fn siblings_differ(trees: &[Tree]) -> bool
     ensures { result ≡ none_alike same_but_keyword empty (forest_of trees.now) }
 {
     if trees.len() < MANY {
-        let mut table = [false];
-        return differ_by(trees, &mut table);
+        return few_differ(trees);
     }
-    differ_of_many(trees)
+    let looked = trees.len().min(BLOCK);
+    block_differs(trees, looked) && siblings_differ(&trees[looked..])
 }
 
-// Never inlined: else the table stands on the stack once for each level.
-#[inline(never)]
-fn differ_of_many(trees: &[Tree]) -> bool
-    ensures { result ≡ none_alike same_but_keyword empty (forest_of trees.now) }
-{
-    let mut table = [false; PLACES];
-    differ_by(trees, &mut table)
-}
-
-/// The same by a table of the fingerprints that were seen.
-fn differ_by(trees: &[Tree], table: &mut [bool]) -> bool
-    requires { 0 < length table.old }
+fn few_differ(trees: &[Tree]) -> bool
     ensures { result ≡ none_alike same_but_keyword empty (forest_of trees.now) }
 {
     for i in 0..trees.len() {
-        if !comes_first(trees, i, i, table) {
+        if comes_again(trees, i, i) {
+            return false;
+        }
+    }
+    true
+}
+
+/// None of the first trees is alike to an earlier one, and none of the others to one of them.
+// Never inlined: else the lists stand on the stack once for each level.
+#[inline(never)]
+fn block_differs(trees: &[Tree], looked: usize) -> bool
+    requires { (looked ≤ length trees.now) × (looked ≤ 4096) }
+    ensures { none_alike same_but_keyword empty (forest_of trees.now) ≡ (result && none_alike same_but_keyword empty (forest_of (drop looked trees.now))) }
+{
+    let mut heads = [0; BLOCK];
+    let mut links = [0; BLOCK];
+    block_differs_by(trees, looked, &mut heads, &mut links)
+}
+
+fn block_differs_by(trees: &[Tree], looked: usize, heads: &mut [usize], links: &mut [usize]) -> bool
+    requires place { looked ≤ length trees.now }
+    requires room { (looked ≤ length links.old) × (0 < length heads.old) }
+    requires listed { AreListed heads.old links.old [] }
+    ensures { none_alike same_but_keyword empty (forest_of trees.now) ≡ (result && none_alike same_but_keyword empty (forest_of (drop looked trees.now))) }
+{
+    listed_differ(trees, looked, heads, links) && none_listed(trees, looked, heads, links)
+}
+
+/// None of the first trees, so many as `looked` says, is alike to an earlier one. Lists them.
+fn listed_differ(trees: &[Tree], looked: usize, heads: &mut [usize], links: &mut [usize]) -> bool
+    requires place { looked ≤ length trees.now }
+    requires room { (looked ≤ length links.old) × (0 < length heads.old) }
+    requires listed { AreListed heads.old links.old [] }
+    ensures differ { result ≡ none_alike same_but_keyword empty (forest_of (take looked trees.now)) }
+    ensures listed { IsTrue result → AreListed heads.new links.new (take looked trees.now) }
+    ensures room { (length links.new ≡ length links.old) × (length heads.new ≡ length heads.old) }
+{
+    for i in 0..looked {
+        if is_listed(trees, i, i, heads, links) {
+            return false;
+        }
+        list(trees, i, i, heads, links);
+    }
+    true
+}
+
+/// None of the trees from `looked` on is alike to one of those before, which are listed.
+fn none_listed(trees: &[Tree], looked: usize, heads: &[usize], links: &[usize]) -> bool
+    requires place { looked ≤ length trees.now }
+    requires room { (looked ≤ length links.now) × (0 < length heads.now) }
+    requires listed { AreListed heads.now links.now (take looked trees.now) }
+    ensures { result ≡ none_found same_but_keyword (forest_of (take looked trees.now)) (forest_of (drop looked trees.now)) }
+{
+    for i in looked..trees.len() {
+        if is_listed(trees, looked, i, heads, links) {
             return false;
         }
     }

@@ -3,8 +3,7 @@ use Rattle.js_tree.specs.Alike.{same_but_keyword}
 use Rattle.js_tree.specs.Fingerprint.{fingerprint, latest, place_of}
 use Rattle.js_tree.specs.Forest.{forest_of}
 use Rattle.js_tree.specs.Merged.{has_alike, alike_trees}
-use Rattle.js_tree.proofs.SeenTrees.{any_default}
-use Rattle.js_tree.proofs.Listed.{from_latest, step, found}
+use Rattle.js_tree.proofs.Listed.{any_default, from_latest, step, found}
 use Rattle.js_tree.proofs.listing.is_listed.Goals as goal
 
 pub loop-at-init : goal.loop-at-init
