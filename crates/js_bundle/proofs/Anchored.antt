@@ -4,7 +4,7 @@ use Rattle.std.specs.List.{list_any, position_from}
 use Rattle.std.specs.Option.{option_map_or}
 use Rattle.js_bundle.specs.declared.numbering.Numbering.{Numbering}
 use Rattle.js_bundle.specs.Document.{Documents}
-use Rattle.js_bundle.specs.Index.{number_of_key}
+use Rattle.js_bundle.specs.code.Index.{number_of_key}
 use Rattle.js_bundle.specs.Keyword.{Text, text_argument}
 use Rattle.js_bundle.specs.Names.{belongs_to, makes}
 use Rattle.js_bundle.specs.Resource.{Site, sites}

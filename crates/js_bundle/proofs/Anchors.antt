@@ -8,13 +8,13 @@ use Rattle.std.proofs.lemmas.Option.{slice_get-map, slice_get-get_or, slice_get_
 use Rattle.js_doc.specs.Pointer.{Tokens}
 use Rattle.js_bundle.specs.declared.numbering.Numbering.{Numbering}
 use Rattle.js_bundle.specs.declared.scan.Site as rust
-use Rattle.js_bundle.specs.Index.{ArePut, FindsFirst}
+use Rattle.js_bundle.specs.code.Index.{ArePut, FindsFirst}
 use Rattle.js_bundle.specs.Keyword.{text_argument}
 use Rattle.js_bundle.specs.Names.{belongs_to, same_tokens, stands_at}
 use Rattle.js_bundle.specs.Resource.{Site}
 use Rattle.js_bundle.specs.ResourceNumber.{begins_resource, roots, resource_number}
 use Rattle.js_bundle.specs.ResourceTable.{AreAnchors, AreEmpty, AreNamed, AreRooted, IsOpened, StandApart, dynamic_names, rank_of_root, ranks_from}
-use Rattle.js_bundle.specs.Scan.{site_of}
+use Rattle.js_bundle.specs.code.Scan.{site_of}
 use Rattle.js_bundle.proofs.Apart.{all_as}
 use Rattle.js_bundle.proofs.Distinct.{tokens-refl, tokens-sound, at_place, stands_itself}
 use Rattle.js_bundle.proofs.Indexed.{first_next, none_put}

@@ -16,7 +16,7 @@ use Rattle.js_bundle.specs.Names.{belongs_to, makes}
 use Rattle.js_bundle.specs.Refusals.{candidates}
 use Rattle.js_bundle.specs.Resource.{Site, sites}
 use Rattle.js_bundle.specs.Schemas.{is_place, has_keyword, place_at, StandsFor, Finds}
-use Rattle.js_bundle.specs.Spot.{Spot, spot}
+use Rattle.js_bundle.specs.code.Spot.{Spot, spot}
 use Rattle.js_bundle.specs.Target as spec
 use Rattle.js_bundle.specs.Url.{fragment}
 use Rattle.js_bundle.proofs.Finds.{finds_place}

@@ -10,7 +10,7 @@ use Rattle.js_bundle.specs.Names.{stands_at, names, named}
 use Rattle.js_bundle.specs.Place.{holding}
 use Rattle.js_bundle.specs.Resource.{Site, sites}
 use Rattle.js_bundle.specs.Schemas.{place_at, StandsFor, Finds, Step, step_tokens, fits, below}
-use Rattle.js_bundle.specs.Spot.{Spot, spot, spot_of, stands_below}
+use Rattle.js_bundle.specs.code.Spot.{Spot, spot, spot_of, stands_below}
 use Rattle.js_bundle.proofs.Named.{found_at, none_alike}
 
 pub position-map : {A B : Type 0} (f : B → Bool) (g : A → B) (n : ℕ) (xs : List A) → position_from f n (map g xs) ≡ position_from (λ x. f (g x)) n xs

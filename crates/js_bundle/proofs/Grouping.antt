@@ -6,9 +6,9 @@ use Rattle.std.proofs.lemmas.Option.{slice_get_within}
 use Rattle.std.proofs.Math.Seq.{take-append_seam, drop-append-add}
 use Rattle.js_bundle.specs.declared.scan.Site as rust
 use Rattle.js_bundle.specs.Document.{Documents}
-use Rattle.js_bundle.specs.Grouped.{IsGrouped, IsPart, ends_from}
+use Rattle.js_bundle.specs.code.Grouped.{IsGrouped, IsPart, ends_from}
 use Rattle.js_bundle.specs.Resource.{Site, sites}
-use Rattle.js_bundle.specs.Scan.{site_of}
+use Rattle.js_bundle.specs.code.Scan.{site_of}
 use Rattle.js_bundle.specs.Schemas.{is_place, place_at}
 use Rattle.js_bundle.proofs.Dynamic.{there}
 use Rattle.js_bundle.proofs.Passes.{map_drop_more, piece_next}

@@ -10,7 +10,7 @@ use Rattle.js_doc.specs.Pointer.{Tokens}
 use Rattle.js_bundle.specs.declared.index.Index.{Index}
 use Rattle.js_bundle.specs.declared.numbering.Numbering.{Numbering}
 use Rattle.js_bundle.specs.Keyword.{Text, text_argument}
-use Rattle.js_bundle.specs.Index.{number_of_key, ArePut, FindsFirst, IsIndex, IsAdded, place_key, place_keys, name_key, name_keys, name_keys_by}
+use Rattle.js_bundle.specs.code.Index.{number_of_key, ArePut, FindsFirst, IsIndex, IsAdded, place_key, place_keys, name_key, name_keys, name_keys_by}
 use Rattle.js_bundle.specs.Names.{known_as, is_known_as, same_tokens, stands_at, belongs_to, makes, by_anchor, by_dynamic_anchor}
 use Rattle.js_bundle.specs.Refusals.{is_made}
 use Rattle.js_bundle.specs.Resource.{Site}
@@ -18,7 +18,7 @@ use Rattle.js_bundle.proofs.Numbers.{number_finds_it}
 use Rattle.js_bundle.proofs.Distinct.{at_place, tokens-sound}
 use Rattle.js_bundle.proofs.Named.{found_at}
 use Rattle.js_bundle.proofs.Passes.{map_take_more}
-use Rattle.js_bundle.specs.Scan.{site_of}
+use Rattle.js_bundle.specs.code.Scan.{site_of}
 use Rattle.js_bundle.specs.declared.scan.Site as rust
 use Rattle.std.proofs.lemmas.List.{length-map, length-take, take_all}
 use Rattle.std.proofs.lemmas.Option.{slice_get-map, slice_get-get_or}

@@ -9,7 +9,7 @@ use Rattle.js_bundle.specs.declared.whole_check.Spot as rust
 use Rattle.js_bundle.specs.Document.{Documents}
 use Rattle.js_bundle.specs.Resource.{Site, sites}
 use Rattle.js_bundle.specs.Schemas.{is_place, place_at}
-use Rattle.js_bundle.specs.Spot.{spot, spot_of}
+use Rattle.js_bundle.specs.code.Spot.{spot, spot_of}
 
 -- ---- lists with an entry for each place
 

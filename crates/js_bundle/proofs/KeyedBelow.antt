@@ -8,12 +8,12 @@ use Rattle.js_doc.proofs.Named.{is_text-refl}
 use Rattle.js_bundle.specs.declared.whole_check.Spot as rust
 use Rattle.js_bundle.specs.declared.numbering.Numbering.{Numbering}
 use Rattle.js_bundle.specs.Document.{Documents}
-use Rattle.js_bundle.specs.Index.{number_of_key, place_key, place_keys, FindsFirst, StandsFirst}
+use Rattle.js_bundle.specs.code.Index.{number_of_key, place_key, place_keys, FindsFirst, StandsFirst}
 use Rattle.js_bundle.specs.Keyword.{Text}
 use Rattle.js_bundle.specs.Names.{same_tokens}
 use Rattle.js_bundle.specs.Resource.{sites}
 use Rattle.js_bundle.specs.Schemas.{Step, step_tokens}
-use Rattle.js_bundle.specs.Spot.{Spot, spot, spot_of, stands_below}
+use Rattle.js_bundle.specs.code.Spot.{Spot, spot, spot_of, stands_below}
 use Rattle.js_bundle.proofs.Distinct.{tokens-sound}
 use Rattle.js_bundle.proofs.Finds.{position-map}
 use Rattle.js_bundle.proofs.Indexed.{none_keyed, first_keyed}

@@ -5,7 +5,7 @@ use Rattle.js_bundle.specs.Keyword.{Text}
 use Rattle.js_bundle.specs.Names.{same_tokens}
 use Rattle.js_bundle.specs.Resource.{Site, sites}
 use Rattle.js_bundle.specs.Schemas.{place_at, numbered, told_once, resources_at}
-use Rattle.js_bundle.specs.Spot.{Spot, spot, document_uri, base_made, resource_of}
+use Rattle.js_bundle.specs.code.Spot.{Spot, spot, document_uri, base_made, resource_of}
 use Rattle.js_bundle.specs.Url.{printed}
 use Rattle.js_bundle.proofs.Dynamic.{drop_at}
 use Rattle.js_bundle.proofs.Passes.{piece_next}

@@ -10,13 +10,13 @@ use Rattle.js_doc.proofs.Named.{is_text-sound}
 use Rattle.js_bundle.specs.declared.edges.Edges.{Edges}
 use Rattle.js_bundle.specs.declared.whole_check.Spot as rust
 use Rattle.js_bundle.specs.Document.{Documents}
-use Rattle.js_bundle.specs.Edges.{begins_with, is_below, leads_down, edges_under, LeadDown, goes_by, AreAlone}
+use Rattle.js_bundle.specs.code.Edges.{begins_with, is_below, leads_down, edges_under, LeadDown, goes_by, AreAlone}
 use Rattle.js_bundle.specs.Keyword.{Text}
 use Rattle.js_bundle.specs.Names.{same_tokens, stands_at}
 use Rattle.js_bundle.specs.Resource.{Site, sites}
 use Rattle.js_bundle.specs.Schemas.{Step, step_tokens, place_at}
 use Rattle.js_bundle.specs.Seen.{AreRead}
-use Rattle.js_bundle.specs.Spot.{Spot, spot, spot_of, stands_below}
+use Rattle.js_bundle.specs.code.Spot.{Spot, spot, spot_of, stands_below}
 use Rattle.js_bundle.proofs.Distinct.{number_of, tokens-sound}
 use Rattle.js_bundle.proofs.Finds.{position-map}
 use Rattle.js_bundle.proofs.Standing.{made_at}

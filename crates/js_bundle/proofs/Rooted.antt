@@ -16,7 +16,7 @@ use Rattle.js_bundle.specs.PlaceLaws.{AreDistinct, Differ}
 use Rattle.js_bundle.specs.Resource.{Site, site, sites, identified_by, root_scope, scope_or}
 use Rattle.js_bundle.specs.ResourceNumber.{begins_resource, roots}
 use Rattle.js_bundle.specs.ResourceTable.{AreRooted, StandApart}
-use Rattle.js_bundle.specs.Scan.{handed_down, own_scope, site_scanned, sites_held, sites_at, sites_of_keywords, sites_in_list, sites_of_items, sites_in_object, sites_of_members, sites_from}
+use Rattle.js_bundle.specs.code.Scan.{handed_down, own_scope, site_scanned, sites_held, sites_at, sites_of_keywords, sites_in_list, sites_of_items, sites_in_object, sites_of_members, sites_from}
 use Rattle.js_bundle.specs.Seen.{AreRead}
 use Rattle.js_bundle.proofs.Apart.{all_as}
 use Rattle.js_bundle.proofs.Distinct.{tokens-refl, at_place, all_distinct}

@@ -11,7 +11,7 @@ use Rattle.js_bundle.specs.declared.scope.Scope.{Scope}
 use Rattle.js_bundle.specs.Document.{Documents}
 use Rattle.js_bundle.specs.Place.{Located, Place, holding, places_held, places_at, places_of_keywords, places_in_list, places_of_items, places_in_object, places_of_members, places_from}
 use Rattle.js_bundle.specs.Resource.{Site, site, scope_below, root_scope}
-use Rattle.js_bundle.specs.Scan.{site_scanned, sites_held, sites_at, sites_of_keywords, sites_in_list, sites_of_items, sites_in_object, sites_of_members, sites_from}
+use Rattle.js_bundle.specs.code.Scan.{site_scanned, sites_held, sites_at, sites_of_keywords, sites_in_list, sites_of_items, sites_in_object, sites_of_members, sites_from}
 
 fold_last : {A B : Type 0} (f : B → A → B) (b : B) (xs : List A) (x : A) → fold f b (xs ++ x ∷ []) ≡ f (fold f b xs) x
 fold_last f b [] x = refl

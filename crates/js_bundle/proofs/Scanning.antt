@@ -16,7 +16,7 @@ use Rattle.js_bundle.specs.Resource.{Site, root_scope}
 use Rattle.js_bundle.specs.Seen.{document_of}
 use Rattle.js_bundle.proofs.Scanned.{kept_from}
 use Rattle.js_bundle.specs.Place.{holding}
-use Rattle.js_bundle.specs.Scan.{SameFront, most_sites, sites_held, sites_at, sites_of_keyword, sites_of_keywords, sites_in_list, sites_in_object, sites_of_items, sites_of_members, sites_from, site_of, scanned}
+use Rattle.js_bundle.specs.code.Scan.{SameFront, most_sites, sites_held, sites_at, sites_of_keyword, sites_of_keywords, sites_in_list, sites_in_object, sites_of_items, sites_of_members, sites_from, site_of, scanned}
 
 take_append : {A : Type 0} (n : ℕ) (xs zs ys : List A) → take n xs ≡ take n zs → take n (xs ++ ys) ≡ take n (zs ++ ys)
 take_append zero xs zs ys e = refl

@@ -12,7 +12,7 @@ use Rattle.js_bundle.specs.Document.{Document, Documents}
 use Rattle.js_bundle.specs.Resource.{Site}
 use Rattle.js_bundle.specs.Schemas.{place_at}
 use Rattle.js_bundle.specs.Seen.{document_of, AreRead}
-use Rattle.js_bundle.specs.Spot.{Spot, spot}
+use Rattle.js_bundle.specs.code.Spot.{Spot, spot}
 use Rattle.js_bundle.proofs.Standing.{standing, made_at}
 
 record Stands (documents : Documents) (x : Spot) (o : Option Site) : Type 0 where

@@ -4,7 +4,7 @@ use Rattle.js_bundle.specs.declared.refusal.Refusal.{Refusal}
 use Rattle.js_bundle.specs.declared.fault.Fault.{Fault}
 use Rattle.js_bundle.specs.declared.fault.Fault.TheVariants.{Memory, Refused}
 use Rattle.js_bundle.specs.Candidate.{Candidate, decided_in, IsClear, IsFirst, IsStopped}
-use Rattle.js_bundle.specs.Leads.{Leads}
+use Rattle.js_bundle.specs.code.Leads.{Leads}
 
 pub clear_append : (xs ys : List Candidate) → IsClear xs → IsClear ys → IsClear (xs ++ ys)
 clear_append [] ys h g = g

@@ -12,7 +12,7 @@ use Rattle.js_bundle.specs.Keyword.{keywords}
 use Rattle.js_bundle.specs.Names.{is_root}
 use Rattle.js_bundle.specs.Refusals.{when, decided, is_taken, most_places, at_place, at_member, at_site, first_pass, second_pass, candidates}
 use Rattle.js_bundle.specs.Resource.{Site, sites}
-use Rattle.js_bundle.specs.Scan.{most_sites, scanned}
+use Rattle.js_bundle.specs.code.Scan.{most_sites, scanned}
 use Rattle.js_bundle.proofs.Stopping.{clear_here, clear_there, clear_append, stopped_here, stopped_later}
 
 -- the first pass over places, and over those after them

@@ -4,17 +4,17 @@ use Rattle.js_bundle.specs.declared.whole_check.Checked.{Checked}
 use Rattle.js_bundle.specs.Built.{assertions_at, patterns_at}
 use Rattle.js_bundle.specs.Candidate.{IsClear}
 use Rattle.js_bundle.specs.Document.{Documents}
-use Rattle.js_bundle.specs.Edges.{LeadDown}
+use Rattle.js_bundle.specs.code.Edges.{LeadDown}
 use Rattle.js_bundle.specs.Finding.{dynamic_at, number_of_target}
-use Rattle.js_bundle.specs.Grouped.{IsGrouped}
-use Rattle.js_bundle.specs.Index.{IsIndex}
+use Rattle.js_bundle.specs.code.Grouped.{IsGrouped}
+use Rattle.js_bundle.specs.code.Index.{IsIndex}
 use Rattle.js_bundle.specs.KeywordName.{keyword_names}
 use Rattle.js_bundle.specs.Location.{location}
 use Rattle.js_bundle.specs.Refusals.{candidates}
 use Rattle.js_bundle.specs.Resource.{sites}
 use Rattle.js_bundle.specs.ResourceTable.{IsResourceTable}
 use Rattle.js_bundle.specs.Seen.{AreRead}
-use Rattle.js_bundle.specs.Spot.{spot, spot_of}
+use Rattle.js_bundle.specs.code.Spot.{spot, spot_of}
 
 pub record IsFinished (documents : Documents) (kept : Checked) : Type 0 where
   pub read : AreRead documents

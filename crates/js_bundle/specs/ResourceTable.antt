@@ -3,7 +3,7 @@ use Rattle.std.specs.Prelude.{◌≡◌, ℕ, ◌+◌, List, [], ◌∷◌, leng
 use Rattle.std.specs.List.{list_any, position_from, AllByRecursion}
 use Rattle.js_bundle.specs.declared.numbering.Numbering.{Numbering}
 use Rattle.js_bundle.specs.declared.resource_table.Resources.{Resources}
-use Rattle.js_bundle.specs.Index.{ArePut, FindsFirst}
+use Rattle.js_bundle.specs.code.Index.{ArePut, FindsFirst}
 use Rattle.js_bundle.specs.Keyword.{Text, text_argument}
 use Rattle.js_bundle.specs.Names.{belongs_to, stands_at}
 use Rattle.js_bundle.specs.Resource.{Site}

@@ -1,12 +1,12 @@
 //! What the keywords of a place hold.
 ghost use Rattle.std.specs.Prelude.{◌≡◌, ◌++◌, [], ◌∷◌, true, find, map, option_map, option_and_then, bytes_eq, decimal, None, Some, IfOk, OnOk, string_bytes, if◌then◌else◌};
 ghost use Rattle.std.specs.List.{list_all, list_any, position_from};
-ghost use Rattle.js_bundle.specs.Edges.{leads_down, AreAlone};
-ghost use Rattle.js_bundle.specs.Index.{place_key, StandsFirst};
+ghost use Rattle.js_bundle.specs.code.Edges.{leads_down, AreAlone};
+ghost use Rattle.js_bundle.specs.code.Index.{place_key, StandsFirst};
 ghost use Rattle.js_bundle.specs.Names.{same_tokens};
 ghost use Rattle.js_bundle.specs.Place.{holding};
 ghost use Rattle.js_bundle.specs.Schemas.{is_place, place_at, below, fits, step_of, step_tokens, Finds, FindsSchema, Holds};
-ghost use Rattle.js_bundle.specs.Spot.{spot_of, stands_below};
+ghost use Rattle.js_bundle.specs.code.Spot.{spot_of, stands_below};
 
 use crate::edges::{edge_to, edges_under};
 use crate::holding::Holding;

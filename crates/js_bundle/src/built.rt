@@ -5,7 +5,7 @@ ghost use Rattle.js_bundle.specs.Built.{assertion_of, pattern_at, patterns_of};
 ghost use Rattle.js_bundle.specs.Candidate.{IsClear, IsStopped};
 ghost use Rattle.js_bundle.specs.Keyword.{keywords};
 ghost use Rattle.js_bundle.specs.Refusals.{at_pattern, name_rules};
-ghost use Rattle.js_bundle.specs.Scan.{site_of};
+ghost use Rattle.js_bundle.specs.code.Scan.{site_of};
 
 use crate::fault::{Fault, refuse_member};
 use crate::refusal::RefusalKind;

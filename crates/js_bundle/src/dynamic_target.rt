@@ -1,7 +1,7 @@
 //! What dynamic references lead to (JSON Schema Core, sections 7.1 and 8.2.3.2).
 ghost use Rattle.std.specs.Prelude.{◌≡◌, true, codes, slice_get, option_map, option_and_then};
 ghost use Rattle.js_bundle.specs.Finding.{by_scope, under_number};
-ghost use Rattle.js_bundle.specs.Index.{number_of_key};
+ghost use Rattle.js_bundle.specs.code.Index.{number_of_key};
 ghost use Rattle.js_bundle.specs.Resource.{sites};
 ghost use Rattle.js_bundle.specs.ResourceNumber.{dynamic_target_in, roots, roots_at};
 ghost use Rattle.js_bundle.specs.Schemas.{is_place, has_keyword, place_at, path_at, StandsFor, Finds};

@@ -1,10 +1,10 @@
 //! The ways from each place to those that stand directly below it.
 ghost use Rattle.std.specs.Prelude.{◌≡◌, ◌<◌, ◌≤◌, ◌∷◌, ◌&&◌, ◌==◌, true, drop, length, map, slice_get, Some, IfOk, MatchOption, bytes_eq};
 ghost use Rattle.std.specs.List.{list_all, position_from};
-ghost use Rattle.js_bundle.specs.Edges.{begins_with, is_below, leads_down, goes_by, edges_under, LeadDown, AreAlone};
+ghost use Rattle.js_bundle.specs.code.Edges.{begins_with, is_below, leads_down, goes_by, edges_under, LeadDown, AreAlone};
 ghost use Rattle.js_bundle.specs.Names.{same_tokens};
 ghost use Rattle.js_bundle.specs.Schemas.{step_of, step_tokens};
-ghost use Rattle.js_bundle.specs.Spot.{spot_of, stands_below};
+ghost use Rattle.js_bundle.specs.code.Spot.{spot_of, stands_below};
 
 use crate::below::is_step;
 use crate::place::Step;

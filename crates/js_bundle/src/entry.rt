@@ -3,7 +3,7 @@ ghost use Rattle.std.specs.Prelude.{◌≡◌, ◌≤◌, true, Some, None, OnOk
 ghost use Rattle.url.specs.Parser.{parse_url};
 ghost use Rattle.js_bundle.specs.Names.{is_read, named};
 ghost use Rattle.js_bundle.specs.Resource.{sites};
-ghost use Rattle.js_bundle.specs.Scan.{site_of};
+ghost use Rattle.js_bundle.specs.code.Scan.{site_of};
 ghost use Rattle.js_bundle.specs.Schemas.{entry, is_place, place_at, StandsFor, IsEntryFault, IsNameFault, IsReadEntry};
 ghost use Rattle.js_bundle.specs.Url.{fragment, longest_uri};
 

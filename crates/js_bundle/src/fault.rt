@@ -2,7 +2,7 @@
 ghost use Rattle.std.specs.Prelude.{◌≡◌, [], ◌∷◌, IfOk};
 ghost use Rattle.js_bundle.specs.Finding.{IsRefusal, tokens_of};
 ghost use Rattle.js_bundle.specs.Refusals.{refusal_at};
-ghost use Rattle.js_bundle.specs.Scan.{site_of};
+ghost use Rattle.js_bundle.specs.code.Scan.{site_of};
 
 use crate::pointers::{copy, further};
 use crate::refusal::{Refusal, RefusalKind};

@@ -6,11 +6,11 @@ ghost use Rattle.js_bundle.specs.declared.refusal.RefusalKind.TheVariants.{BadKe
 ghost use Rattle.js_bundle.specs.Built.{assertion_at, assertions_at, patterns_of, patterns_at};
 ghost use Rattle.js_bundle.specs.Candidate.{IsClear, IsStopped};
 ghost use Rattle.js_bundle.specs.Form.{is_formed};
-ghost use Rattle.js_bundle.specs.Grouped.{IsGrouped};
-ghost use Rattle.js_bundle.specs.Index.{IsIndex};
+ghost use Rattle.js_bundle.specs.code.Grouped.{IsGrouped};
+ghost use Rattle.js_bundle.specs.code.Index.{IsIndex};
 ghost use Rattle.js_bundle.specs.Keyword.{keywords};
 ghost use Rattle.js_bundle.specs.Refusals.{when, decided, on_text, text_rules, at_member, at_site, first_pass};
-ghost use Rattle.js_bundle.specs.Scan.{site_of};
+ghost use Rattle.js_bundle.specs.code.Scan.{site_of};
 
 use crate::built::{Built, BuiltTable, keep_assertion, read_names};
 use crate::fault::{Fault, refuse};

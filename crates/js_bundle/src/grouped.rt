@@ -1,6 +1,6 @@
 //! Lists of which each place has a part, one after another: the part of a place ends where it is said.
 ghost use Rattle.std.specs.Prelude.{◌≡◌, ◌∷◌, slice_get, unwrap_or};
-ghost use Rattle.js_bundle.specs.Grouped.{IsPart};
+ghost use Rattle.js_bundle.specs.code.Grouped.{IsPart};
 
 /// The part of the place with this number, where the parts end so.
 pub(crate) fn part<'p, T>(all: &'p [T], ends: &[usize], number: usize) -> &'p [T]

@@ -1,8 +1,8 @@
 //! Which keyword of the standard each keyword of each place is.
 ghost use Rattle.std.specs.Prelude.{◌≡◌, ◌++◌, ◌∷◌, [], true, length, map, option_map, IfOk, OnOk};
-ghost use Rattle.js_bundle.specs.Grouped.{IsGrouped};
+ghost use Rattle.js_bundle.specs.code.Grouped.{IsGrouped};
 ghost use Rattle.js_bundle.specs.KeywordName.{keyword_name, keyword_names};
-ghost use Rattle.js_bundle.specs.Scan.{site_of};
+ghost use Rattle.js_bundle.specs.code.Scan.{site_of};
 ghost use Rattle.js_bundle.specs.Schemas.{is_place, place_at};
 
 use crate::grouped::part;

@@ -4,9 +4,9 @@ ghost use Rattle.std.specs.List.{list_any, list_all, position_from};
 ghost use Rattle.js_doc.specs.PointerReading.{pointer_of};
 ghost use Rattle.std.specs.Str.{is_utf8};
 ghost use Rattle.js_bundle.specs.Finding.{number_named, number_named_in, number_below, number_anchored, is_pointer_read, IfNotRead};
-ghost use Rattle.js_bundle.specs.Index.{IsIndex, name_key, name_keys, place_key, place_keys};
+ghost use Rattle.js_bundle.specs.code.Index.{IsIndex, name_key, name_keys, place_key, place_keys};
 ghost use Rattle.js_bundle.specs.Names.{same_tokens, is_root, is_known_as, root_named, stands_at, belongs_to, makes, by_pointer, by_anchor, by_dynamic_anchor, is_pointer, is_read};
-ghost use Rattle.js_bundle.specs.Scan.{site_of};
+ghost use Rattle.js_bundle.specs.code.Scan.{site_of};
 ghost use Rattle.js_bundle.specs.Url as spec;
 
 use crate::index::{Index, name_key, place_key};

@@ -1,6 +1,6 @@
 //! Numbering of places, each under a text.
 ghost use Rattle.std.specs.Prelude.{◌≡◌, ◌++◌, [], ◌∷◌, None, OnOk, string_bytes, option_to_list, option_copied};
-ghost use Rattle.js_bundle.specs.Index.{number_of_key, ArePut};
+ghost use Rattle.js_bundle.specs.code.Index.{number_of_key, ArePut};
 
 use indexmap::IndexMap;
 use js_doc::Memory;

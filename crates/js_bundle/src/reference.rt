@@ -4,11 +4,11 @@ ghost use Rattle.std.specs.List.{flat_map};
 ghost use Rattle.js_bundle.specs.Candidate.{IsClear, IsStopped};
 ghost use Rattle.std.specs.Option.{option_map_or};
 ghost use Rattle.js_bundle.specs.Finding.{number_named, number_of_target, goes_by_name, dynamic_as, dynamic_at};
-ghost use Rattle.js_bundle.specs.Index.{IsIndex};
+ghost use Rattle.js_bundle.specs.code.Index.{IsIndex};
 ghost use Rattle.js_bundle.specs.Names.{makes};
 ghost use Rattle.js_bundle.specs.Refusals.{at_joined_reference, at_reference_text, at_reference, at_references, second_pass};
 ghost use Rattle.js_bundle.specs.Resource.{joined};
-ghost use Rattle.js_bundle.specs.Scan.{site_of};
+ghost use Rattle.js_bundle.specs.code.Scan.{site_of};
 ghost use Rattle.js_bundle.specs.Target.{reference, is_dynamic};
 
 use crate::fault::{Fault, refuse};

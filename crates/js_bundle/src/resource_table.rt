@@ -1,12 +1,12 @@
 //! What is kept of resources, by their numbers (JSON Schema Core, sections 4.3.5 and 8.2.1).
 ghost use Rattle.std.specs.Prelude.{◌≡◌, ◌<◌, Some, map, length, codes, slice_get, unwrap_or, option_and_then, option_to_list, OnOk, IfOk};
 ghost use Rattle.std.specs.List.{position_from};
-ghost use Rattle.js_bundle.specs.Index.{IsIndex};
+ghost use Rattle.js_bundle.specs.code.Index.{IsIndex};
 ghost use Rattle.js_bundle.specs.Keyword.{text_argument};
 ghost use Rattle.js_bundle.specs.Names.{stands_at};
 ghost use Rattle.js_bundle.specs.ResourceNumber.{begins_resource, roots, resource_number};
 ghost use Rattle.js_bundle.specs.ResourceTable.{AreAnchors, AreEmpty, AreNamed, AreRooted, IsOpened, IsResourceTable, rank_of_root, ranks_from};
-ghost use Rattle.js_bundle.specs.Scan.{site_of};
+ghost use Rattle.js_bundle.specs.code.Scan.{site_of};
 
 use crate::index::Index;
 use crate::keyword::text_argument;

@@ -4,7 +4,7 @@ ghost use Rattle.js_bundle.specs.Names.{same_tokens};
 ghost use Rattle.js_bundle.specs.Resource.{sites};
 ghost use Rattle.js_bundle.specs.ResourceNumber.{resource_count, resource_number};
 ghost use Rattle.js_bundle.specs.Schemas.{is_place, place_at, resources, lent};
-ghost use Rattle.js_bundle.specs.Spot.{spot_of, document_uri, base_made, resource_of};
+ghost use Rattle.js_bundle.specs.code.Spot.{spot_of, document_uri, base_made, resource_of};
 ghost use Rattle.js_bundle.specs.Url as spec;
 
 use crate::place::Place;

@@ -4,7 +4,7 @@ ghost use Rattle.js_doc.specs.Seen.{value_of};
 ghost use Rattle.js_bundle.specs.Finding.{tokens_of};
 ghost use Rattle.js_bundle.specs.Location.{absolute, canonical, location};
 ghost use Rattle.js_bundle.specs.Schemas.{is_place, place_at, place_numbers, resources};
-ghost use Rattle.js_bundle.specs.Spot.{spot, spot_of};
+ghost use Rattle.js_bundle.specs.code.Spot.{spot, spot_of};
 
 use crate::document::Document;
 use crate::location::absolute;

@@ -2,7 +2,7 @@
 ghost use Rattle.std.specs.Prelude.{◌≡◌, IfOk, unwrap_or, is_some, option_copied, option_map, option_and_then};
 ghost use Rattle.js_doc.specs.Seen.{value_of};
 ghost use Rattle.js_bundle.specs.Resource.{joined, identified, identified_by, root_scope, scope_or};
-ghost use Rattle.js_bundle.specs.Scan.{handed_down, own_scope};
+ghost use Rattle.js_bundle.specs.code.Scan.{handed_down, own_scope};
 ghost use Rattle.js_bundle.specs.Url as spec;
 
 use crate::keyword::{argument, as_text};

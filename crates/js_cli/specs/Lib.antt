@@ -3,5 +3,5 @@ pub mod Plain
 pub mod Words
 pub mod Found
 pub mod Answer
-pub mod Taken
 pub mod Status
+pub mod code

@@ -4,7 +4,7 @@ ghost use Rattle.js_output.specs.Documents.{documents_of};
 ghost use Rattle.js_output.specs.Input.{IsInputFault};
 ghost use Rattle.js_cli.specs.Answer.{AreHeld};
 ghost use Rattle.js_cli.specs.Words.{pairs_seen};
-ghost use Rattle.js_cli.specs.Taken.{documents_taken};
+ghost use Rattle.js_cli.specs.code.Taken.{documents_taken};
 
 use crate::command::Files;
 use crate::words::DocumentFile;

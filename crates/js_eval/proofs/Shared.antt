@@ -6,7 +6,7 @@ use Rattle.js_assert.specs.Argument.{has}
 use Rattle.js_doc.specs.Members.{get, name_cmp, IsBelowHead, IsAscending}
 use Rattle.js_doc.specs.Value.{Value, Named}
 use Rattle.js_doc.proofs.FiniteMaps.{get_below, name_equal}
-use Rattle.js_eval.specs.Applied.{namesake}
+use Rattle.js_eval.specs.code.Applied.{namesake}
 use Rattle.js_eval.specs.SchemaSet.{Name}
 use Rattle.js_eval.proofs.AskedNothing.{none_named}
 

@@ -11,7 +11,7 @@ use Rattle.js_bundle.specs.Schemas.{is_place}
 use Rattle.js_doc.specs.Members.{get}
 use Rattle.js_doc.specs.Value.{Value, Named, text}
 use Rattle.js_eval.specs.Applications.{Application, indexed_from, is_property, matches_pattern}
-use Rattle.js_eval.specs.Cursors.{is_matched, is_named, named_in}
+use Rattle.js_eval.specs.code.Cursors.{is_matched, is_named, named_in}
 use Rattle.js_eval.specs.SchemaSet.{Text, Alone, Index, Name}
 use Rattle.js_eval.proofs.MembersLeft.{filter_alike}
 

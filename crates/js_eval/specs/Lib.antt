@@ -14,10 +14,7 @@ pub mod Size
 pub mod Laws
 pub mod Examples
 pub mod Seen
-pub mod Applied
-pub mod Cursors
-pub mod Asked
 pub mod Walked
 pub mod Walk
-pub mod KeywordsLeft
 pub mod ResultExamples
+pub mod code

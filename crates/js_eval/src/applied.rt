@@ -2,7 +2,7 @@
 ghost use Rattle.std.specs.Prelude.{◌≡◌, true};
 ghost use Rattle.js_bundle.specs.Schemas.{is_place};
 ghost use Rattle.js_doc.specs.Seen.{value_of};
-ghost use Rattle.js_eval.specs.Applied.{IsHeld, applied, applied_of, at_in, kept_place, namesake, site_in, step_in, value_in};
+ghost use Rattle.js_eval.specs.code.Applied.{IsHeld, applied, applied_of, at_in, kept_place, namesake, site_in, step_in, value_in};
 ghost use Rattle.js_eval.specs.Seen.{instance_of, step_of};
 ghost use Rattle.js_eval.specs.Sited.{numbered_site};
 ghost use Rattle.js_eval.specs.declared.applied.To.TheVariants as to;

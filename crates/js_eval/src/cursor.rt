@@ -2,8 +2,8 @@
 ghost use Rattle.std.specs.Prelude.{◌≡◌, ◌&&◌, ◌∷◌, [], IfOk, MatchOption, true};
 ghost use Rattle.js_bundle.specs.Document.{Documents};
 ghost use Rattle.js_bundle.specs.Schemas.{is_place};
-ghost use Rattle.js_eval.specs.Applied.{applied_of};
-ghost use Rattle.js_eval.specs.Asked.{asked, items_of_asking, members_of_asking, one_of_asking, patterns_of_asking};
+ghost use Rattle.js_eval.specs.code.Applied.{applied_of};
+ghost use Rattle.js_eval.specs.code.Asked.{asked, items_of_asking, members_of_asking, one_of_asking, patterns_of_asking};
 ghost use Rattle.js_eval.specs.SchemaSet as spec;
 ghost use Rattle.js_eval.specs.Seen.{instance_of};
 ghost use Rattle.js_eval.specs.Sited.{numbered_site};

@@ -35,10 +35,10 @@ pub(crate) struct Here<'a> {
 
 impl<'a> World for Here<'a> {
     ghost use Rattle.js_bundle.specs.Schemas.{is_place};
-    ghost use Rattle.js_eval.specs.Applied.{applied_of};
-    ghost use Rattle.js_eval.specs.Asked as here;
+    ghost use Rattle.js_eval.specs.code.Applied.{applied_of};
+    ghost use Rattle.js_eval.specs.code.Asked as here;
     ghost use Rattle.js_eval.specs.Bundle.{schemas_of};
-    ghost use Rattle.js_eval.specs.KeywordsLeft as left;
+    ghost use Rattle.js_eval.specs.code.KeywordsLeft as left;
     ghost use Rattle.js_eval.specs.Seen.{instance_of, keyword_of};
     ghost use Rattle.js_eval.specs.Sited.{numbered_site};
 

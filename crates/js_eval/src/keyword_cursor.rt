@@ -4,7 +4,7 @@ ghost use Rattle.js_assert.specs.Argument.{entries};
 ghost use Rattle.js_doc.specs.Members.{IsAscending};
 ghost use Rattle.js_doc.specs.Seen.{pair_of, value_of};
 ghost use Rattle.js_eval.specs.Keywords as table;
-ghost use Rattle.js_eval.specs.KeywordsLeft.{keywords_in, keywords_left, of_turn};
+ghost use Rattle.js_eval.specs.code.KeywordsLeft.{keywords_in, keywords_left, of_turn};
 ghost use Rattle.js_eval.specs.Seen.{keyword_of};
 ghost use Rattle.js_eval.specs.declared.keyword.Turn.TheVariants as turn;
 

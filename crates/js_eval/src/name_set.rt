@@ -1,6 +1,6 @@
 //! A set of names, in which each name is looked up at once.
 ghost use Rattle.std.specs.Prelude.{◌≡◌, ◌++◌, ◌∷◌, [], IfOk, List, OnOk};
-ghost use Rattle.js_eval.specs.Cursors.{HasNames, is_key};
+ghost use Rattle.js_eval.specs.code.Cursors.{HasNames, is_key};
 ghost use Rattle.js_eval.specs.SchemaSet.{Text};
 ghost use Rattle.js_eval.specs.Seen.{texts_of};
 

@@ -6,8 +6,8 @@ ghost use Rattle.js_assert.specs.Pattern.{matches};
 ghost use Rattle.js_bundle.specs.Document.{Documents};
 ghost use Rattle.js_bundle.specs.Schemas.{is_place};
 ghost use Rattle.js_doc.specs.Seen.{pair_of, value_of};
-ghost use Rattle.js_eval.specs.Applied.{applied_of};
-ghost use Rattle.js_eval.specs.Cursors.{IsBegun, matching_asked, on_matched_member, patterns_asked};
+ghost use Rattle.js_eval.specs.code.Applied.{applied_of};
+ghost use Rattle.js_eval.specs.code.Cursors.{IsBegun, matching_asked, on_matched_member, patterns_asked};
 ghost use Rattle.js_eval.specs.Sited.{numbered_site};
 
 use crate::bundled::below;

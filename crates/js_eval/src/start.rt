@@ -5,7 +5,7 @@ ghost use Rattle.js_assert.specs.Argument.{entries};
 ghost use Rattle.js_bundle.specs.Schemas.{is_place};
 ghost use Rattle.js_doc.specs.Seen.{value_of};
 ghost use Rattle.js_eval.specs.Applications.{application, asks_of, if_fails, if_holds};
-ghost use Rattle.js_eval.specs.Asked.{asked};
+ghost use Rattle.js_eval.specs.code.Asked.{asked};
 ghost use Rattle.js_eval.specs.Bundle.{schemas_of};
 ghost use Rattle.js_eval.specs.SchemaSet as spec;
 ghost use Rattle.js_eval.specs.Seen.{instance_of, keyword_of, texts_of};

@@ -9,7 +9,7 @@ ghost use Rattle.js_bundle.specs.Schemas.{is_place};
 ghost use Rattle.js_doc.specs.Seen.{value_of};
 ghost use Rattle.js_doc.specs.Value.{Named, Value as JsonValue};
 ghost use Rattle.js_eval.specs.Applications.{among_names};
-ghost use Rattle.js_eval.specs.Cursors.{is_key};
+ghost use Rattle.js_eval.specs.code.Cursors.{is_key};
 ghost use Rattle.js_eval.specs.Bundle.{schemas_of};
 ghost use Rattle.js_eval.specs.Keywords as table;
 ghost use Rattle.js_eval.specs.Note as spec;

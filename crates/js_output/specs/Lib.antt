@@ -11,5 +11,5 @@ pub mod Places
 pub mod SuiteText
 pub mod SuiteLines
 pub mod Suite
-pub mod SuiteJudging
 pub mod Headline
+pub mod code

@@ -6,7 +6,7 @@ ghost use Rattle.js_output.specs.Cause.{MayGoOn, FailsBy};
 ghost use Rattle.js_output.specs.Documents.{documents_of, uri_causes};
 ghost use Rattle.js_output.specs.Entry.{IsEntry};
 ghost use Rattle.js_output.specs.Suite.{AreGroupLines, AreLines, AreTestLines, IsBasis, IsLine, IsStatusOn, adding_causes_with, causes_with, documents_with, group_causes, group_uri, whole_causes, with_root, with_schema};
-ghost use Rattle.js_output.specs.SuiteJudging.{IsJudge, IsStatusAt, IsThere, IsNotMemory, basis_of, compared};
+ghost use Rattle.js_output.specs.code.SuiteJudging.{IsJudge, IsStatusAt, IsThere, IsNotMemory, basis_of, compared};
 ghost use Rattle.js_output.specs.SuiteText.{groups_seen, group_seen, tests_seen, test_seen};
 ghost use Rattle.js_output.specs.declared.suite_lines.Line.{Line};
 

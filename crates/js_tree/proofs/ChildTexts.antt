@@ -7,7 +7,7 @@ use Rattle.js_tree.specs.Flat.{flat_of}
 use Rattle.js_tree.specs.FlatState.{row_of}
 use Rattle.js_tree.specs.Forest.{Forest, empty, tree, forest_of}
 use Rattle.js_tree.specs.Form.{array_of_some, node_values, verbose, value_if}
-use Rattle.js_tree.specs.NodeText.{given_text}
+use Rattle.js_tree.specs.code.NodeText.{given_text}
 use Rattle.js_tree.specs.OutputUnit.{OutputUnit}
 use Rattle.js_tree.specs.Result.{ResultTree}
 use Rattle.js_tree.specs.declared.flat.Row.{Row}

@@ -6,7 +6,7 @@ use Rattle.std.proofs.Math.Seq.{take-suc}
 use Rattle.std.proofs.lemmas.List.{length-append}
 use Rattle.js_tree.proofs.Blocks.{take_front, take_take, long_take, get_taken, get_front, get_last, take_whole, get_set}
 use Rattle.js_tree.specs.Alike.{same_but_keyword}
-use Rattle.js_tree.specs.Fingerprint.{fingerprint, place_of, lifted, latest, AreListed}
+use Rattle.js_tree.specs.code.Fingerprint.{fingerprint, place_of, lifted, latest, AreListed}
 use Rattle.js_tree.specs.Forest.{Forest, empty, tree, forest_of, ◌⊹◌}
 use Rattle.js_tree.specs.Merged.{alike_trees, has_alike}
 use Rattle.js_tree.specs.OutputUnit.{OutputUnit}

@@ -3,7 +3,7 @@ use Rattle.std.proofs.Common.{◌≡◌, ℕ, zero, suc, ◌+◌, ◌-◌, ◌�
 use Rattle.std.proofs.lemmas.List.{append_assoc, append-nil, length-append, length-map, map-append, map-set, set-get_or, drop_all, drop_more, drop-set, take-set-le, drop-set-lt, length-set, get_or-set_same}
 use Rattle.std.proofs.Math.Seq.{drop-length}
 use Rattle.std.specs.List.{swap}
-use Rattle.js_tree.specs.Compacting.{left, left_of, left_trees, stays, room, marked, gone_with, gathered, IsRemaining, AreMarkedTrees}
+use Rattle.js_tree.specs.code.Compacting.{left, left_of, left_trees, stays, room, marked, gone_with, gathered, IsRemaining, AreMarkedTrees}
 use Rattle.js_tree.specs.Flat.{flat, flat_of}
 use Rattle.js_tree.specs.FlatState.{FlatRow, row_of}
 use Rattle.js_tree.specs.Forest.{Forest, empty, tree, ◌⊹◌, node_count, tree_count}

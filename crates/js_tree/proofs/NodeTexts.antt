@@ -6,7 +6,7 @@ use Rattle.js_doc.specs.BytesOut.{Progress, Goes, Stops, Puts}
 use Rattle.js_doc.specs.Compact.{compact, compact_members, quoted}
 use Rattle.js_doc.specs.Value.{Value, items, list, members, object, text, truth}
 use Rattle.js_tree.specs.Form.{annotation_value, array_of_some, error_value, member_of_some, list_name, node_value, value_if}
-use Rattle.js_tree.specs.NodeText.{given_text, annotation_part, error_part, head_text, list_start, tail_text, valid_text, node_text}
+use Rattle.js_tree.specs.code.NodeText.{given_text, annotation_part, error_part, head_text, list_start, tail_text, valid_text, node_text}
 use Rattle.js_tree.specs.Note.{Note}
 use Rattle.js_tree.specs.OutputUnit.{OutputUnit}
 use Rattle.js_tree.proofs.Pieces.{stops_in, then_puts}

@@ -5,7 +5,7 @@ use Rattle.js_tree.specs.Forest.{empty, node_count, forest_of}
 use Rattle.js_tree.specs.Moves.{moved_at, moved_below_root}
 use Rattle.js_tree.specs.OutputUnit.{noted}
 use Rattle.js_tree.specs.Result.{ResultTree, moved}
-use Rattle.js_tree.specs.Search.{Searched}
+use Rattle.js_tree.specs.code.Search.{Searched}
 use Rattle.js_tree.specs.declared.moves.Move.{Move}
 use Rattle.js_tree.specs.declared.moves.Rule.{Rule}
 use Rattle.js_tree.specs.declared.moves.Search.{Search}

@@ -1,9 +1,7 @@
 pub mod Alike
 pub mod BoxedState
 pub mod Coding
-pub mod Compacting
 pub mod Events
-pub mod Fingerprint
 pub mod Flat
 pub mod FlatState
 pub mod Forest
@@ -13,16 +11,13 @@ pub mod Kept
 pub mod Merged
 pub mod MergedResult
 pub mod Moves
-pub mod Nesting
-pub mod NodeText
 pub mod Note
 pub mod OutputUnit
 pub mod Pruned
-pub mod Put
 pub mod Result
-pub mod Search
 pub mod Seen
 pub mod Step
 pub mod Sublist
 pub mod Units
 pub mod VerdictState
+pub mod code

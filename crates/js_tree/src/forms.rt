@@ -6,7 +6,7 @@ ghost use Rattle.js_doc.specs.Value.{text, list, members, object, truth, whole, 
 ghost use Rattle.js_tree.specs.Forest.{forest_of};
 ghost use Rattle.js_tree.specs.Form.{annotation_value, array_of_some, error_value, flag, form, list_name, node_value, node_values, unit_list, verbose, value_if};
 ghost use Rattle.js_tree.specs.OutputUnit.{noted};
-ghost use Rattle.js_tree.specs.Put.{put_some};
+ghost use Rattle.js_tree.specs.code.Put.{put_some};
 ghost use Rattle.js_tree.specs.Result.{ResultTree, Normal, Run, pruned};
 ghost use Rattle.js_tree.specs.Seen.{note_of};
 ghost use Rattle.js_tree.specs.Units.{units_below};

@@ -1,7 +1,7 @@
 //! Trees that are listed by fingerprints of their roots, so that an alike one is found among thousands.
 ghost use Rattle.std.specs.Prelude.{◌≡◌, ◌≤◌, ◌<◌, ◌++◌, ◌∷◌, [], length, take, get_or};
 ghost use Rattle.js_tree.specs.Alike.{same_but_keyword};
-ghost use Rattle.js_tree.specs.Fingerprint.{AreListed, fingerprint, mixed};
+ghost use Rattle.js_tree.specs.code.Fingerprint.{AreListed, fingerprint, mixed};
 ghost use Rattle.js_tree.specs.Forest.{forest_of};
 ghost use Rattle.js_tree.specs.Merged.{has_alike};
 ghost use Rattle.js_tree.specs.Result.{ResultTree};

@@ -1,7 +1,7 @@
 //! Condensing with a third rule: a node goes where an earlier sibling is alike.
 ghost use Rattle.std.specs.Prelude.{◌≡◌, ◌≤◌, ◌↔◌, ◌&&◌, IsTrue, ◌<◌, if◌then◌else◌, ◌+◌, [], length, take, drop};
 ghost use Rattle.js_tree.specs.Alike.{same_but_keyword};
-ghost use Rattle.js_tree.specs.Fingerprint.{AreListed};
+ghost use Rattle.js_tree.specs.code.Fingerprint.{AreListed};
 ghost use Rattle.js_tree.specs.Forest.{◌⊹◌, empty, tree as node, forest_of};
 ghost use Rattle.js_tree.specs.Merged.{all_merged, firsts, given_trees, merged_below, none_alike, none_found, others};
 ghost use Rattle.js_tree.specs.MergedResult.{merged, NormalOfThree, RunOfThree};

@@ -6,7 +6,7 @@ ghost use Rattle.js_tree.specs.MergedResult.{merged, NormalOfThree, StepOfThree}
 ghost use Rattle.js_tree.specs.Moves.{all_of_two, of_two, with_only_child, moved_at};
 ghost use Rattle.js_tree.specs.OutputUnit.{noted};
 ghost use Rattle.js_tree.specs.Result.{kept, Normal, Step, moved, replayed};
-ghost use Rattle.js_tree.specs.Search.{Searched};
+ghost use Rattle.js_tree.specs.code.Search.{Searched};
 ghost use Rattle.js_tree.specs.declared.moves.Rule.TheVariants.{Drop, Merge};
 
 use crate::likeness::comes_again;

@@ -3,7 +3,7 @@ ghost use Rattle.std.specs.Prelude.{◌≡◌, ◌<◌, ◌≤◌, ◌+◌, ◌�
 ghost use Rattle.js_tree.specs.Flat.{flat, flat_of};
 ghost use Rattle.js_tree.specs.FlatState.{row_of};
 ghost use Rattle.js_tree.specs.Forest.{Forest};
-ghost use Rattle.js_tree.specs.Nesting.{ends_after};
+ghost use Rattle.js_tree.specs.code.Nesting.{ends_after};
 ghost use Rattle.js_tree.specs.OutputUnit.{OutputUnit};
 ghost use Rattle.js_tree.specs.Result.{ResultTree};
 

@@ -5,7 +5,7 @@ ghost use Rattle.js_doc.specs.Compact.{comma_if, compact, quoted};
 ghost use Rattle.js_doc.specs.Seen.{value_of};
 ghost use Rattle.js_doc.specs.Value.{items, list, text, whole};
 ghost use Rattle.js_tree.specs.Form.{node_value};
-ghost use Rattle.js_tree.specs.NodeText.{annotation_part, error_part, head_text, tail_text, valid_text};
+ghost use Rattle.js_tree.specs.code.NodeText.{annotation_part, error_part, head_text, tail_text, valid_text};
 ghost use Rattle.js_tree.specs.Seen.{note_of};
 
 use crate::note::Note;

@@ -7,7 +7,7 @@ ghost use Rattle.js_tree.specs.Flat.{flat, flat_of};
 ghost use Rattle.js_tree.specs.FlatState.{noted_of, row_of};
 ghost use Rattle.js_tree.specs.Forest.{Forest};
 ghost use Rattle.js_tree.specs.Form.{array_of_some, node_value, node_values, unit_list, verbose, value_if};
-ghost use Rattle.js_tree.specs.NodeText.{given_text, list_start};
+ghost use Rattle.js_tree.specs.code.NodeText.{given_text, list_start};
 ghost use Rattle.js_tree.specs.OutputUnit.{OutputUnit};
 ghost use Rattle.js_tree.specs.Result.{ResultTree};
 

@@ -4,7 +4,7 @@ ghost use Rattle.js_doc.specs.Compact.{compact};
 ghost use Rattle.js_doc.specs.Value.{items, list};
 ghost use Rattle.js_tree.specs.Forest.{forest_of};
 ghost use Rattle.js_tree.specs.Form.{array_of_some, node_values, verbose, value_if};
-ghost use Rattle.js_tree.specs.NodeText.{given_text};
+ghost use Rattle.js_tree.specs.code.NodeText.{given_text};
 
 use crate::node_text::{put_comma, put_error, put_head, put_tail};
 use crate::tree::Tree;

@@ -1,6 +1,6 @@
 use Rattle.std.proofs.Common.{sym, ◌∙◌}
 use Rattle.js_bundle.specs.Schemas.{step_of}
-use Rattle.js_bundle.specs.Spot.{spot_of}
+use Rattle.js_bundle.specs.code.Spot.{spot_of}
 use Rattle.js_bundle.proofs.KeyedBelow.{number_below}
 use Rattle.js_bundle.proofs.below.first_below.Goals as goal
 

@@ -1,6 +1,6 @@
 use Rattle.std.proofs.Common.{map}
 use Rattle.js_bundle.specs.Schemas.{step_of}
-use Rattle.js_bundle.specs.Spot.{spot_of}
+use Rattle.js_bundle.specs.code.Spot.{spot_of}
 use Rattle.js_bundle.proofs.KeyedBelow.{keyed_first, none_below}
 use Rattle.js_bundle.proofs.below.keyed_below.Goals as goal
 

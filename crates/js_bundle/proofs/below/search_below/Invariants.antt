@@ -1,7 +1,7 @@
 use Rattle.std.proofs.Common.{◌≡◌, map, drop}
 use Rattle.std.specs.List.{position_from}
 use Rattle.js_bundle.specs.Schemas.{step_of}
-use Rattle.js_bundle.specs.Spot.{spot_of, stands_below}
+use Rattle.js_bundle.specs.code.Spot.{spot_of, stands_below}
 use Rattle.js_bundle.proofs.below.search_below.Given as goal
 
 abbrev pub invariant-loop-i : goal.invariant-loop-i

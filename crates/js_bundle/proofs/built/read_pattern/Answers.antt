@@ -1,6 +1,6 @@
 use Rattle.std.proofs.Common.{[], ◌∷◌, subst}
 use Rattle.js_assert.specs.Pattern.{IsPatternFault}
-use Rattle.js_bundle.specs.Scan.{site_of}
+use Rattle.js_bundle.specs.code.Scan.{site_of}
 use Rattle.js_bundle.proofs.Assertions.{clear_pattern, bad_pattern, large_pattern}
 use Rattle.js_bundle.proofs.built.read_pattern.Goals as goal
 

@@ -5,9 +5,9 @@ use Rattle.js_doc.specs.Value.{Value}
 use Rattle.js_bundle.specs.Built.{pattern_at}
 use Rattle.js_bundle.specs.Candidate.{IsClear}
 use Rattle.js_bundle.specs.Keyword.{Text}
-use Rattle.js_bundle.specs.Leads.{Leads}
+use Rattle.js_bundle.specs.code.Leads.{Leads}
 use Rattle.js_bundle.specs.Refusals.{at_pattern}
-use Rattle.js_bundle.specs.Scan.{site_of}
+use Rattle.js_bundle.specs.code.Scan.{site_of}
 use Rattle.js_bundle.proofs.BuiltNext.{pattern_next}
 use Rattle.js_bundle.proofs.Stopping.{leads_past}
 use Rattle.js_bundle.proofs.built.read_patterns.Goals as goal

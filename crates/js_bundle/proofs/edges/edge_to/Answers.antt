@@ -1,7 +1,7 @@
 use Rattle.std.proofs.Common.{map, length, Some, sym, ap, ◌∙◌}
 use Rattle.std.proofs.lemmas.Option.{slice_get-get_or}
 use Rattle.js_bundle.specs.Schemas.{step_of}
-use Rattle.js_bundle.specs.Spot.{spot_of}
+use Rattle.js_bundle.specs.code.Spot.{spot_of}
 use Rattle.js_bundle.proofs.LeadingDown.{edge_first}
 use Rattle.js_bundle.proofs.edges.edge_to.Goals as goal
 

@@ -1,6 +1,6 @@
 use Rattle.std.proofs.Common.{◌≡◌, length, map}
-use Rattle.js_bundle.specs.Edges.{LeadDown}
-use Rattle.js_bundle.specs.Spot.{spot_of}
+use Rattle.js_bundle.specs.code.Edges.{LeadDown}
+use Rattle.js_bundle.specs.code.Spot.{spot_of}
 use Rattle.js_bundle.proofs.edges.edges_of.Given as goal
 
 abbrev pub invariant-loop-i : goal.invariant-loop-i

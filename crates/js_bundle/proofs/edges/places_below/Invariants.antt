@@ -1,7 +1,7 @@
 use Rattle.std.proofs.Common.{◌≡◌, ◌-◌, length, map, true}
 use Rattle.std.specs.List.{list_all}
-use Rattle.js_bundle.specs.Edges.{leads_down}
-use Rattle.js_bundle.specs.Spot.{spot_of}
+use Rattle.js_bundle.specs.code.Edges.{leads_down}
+use Rattle.js_bundle.specs.code.Spot.{spot_of}
 use Rattle.js_bundle.proofs.edges.places_below.Given as goal
 
 abbrev pub invariant-loop-next : goal.invariant-loop-next

@@ -4,7 +4,7 @@ use Rattle.js_doc.specs.Seen.{value_of}
 use Rattle.js_bundle.specs.declared.refusal.RefusalKind.TheVariants.{BadKeyword}
 use Rattle.js_bundle.specs.Form.{is_formed}
 use Rattle.js_bundle.specs.Refusals.{when, decided, on_text, text_rules, assertion_rules, name_rules}
-use Rattle.js_bundle.specs.Scan.{site_of}
+use Rattle.js_bundle.specs.code.Scan.{site_of}
 use Rattle.js_bundle.proofs.Stopping.{clear_from_ok, stopped_here, stopped_later}
 use Rattle.js_bundle.proofs.first_pass.check_keyword.Goals as goal
 

@@ -4,9 +4,9 @@ use Rattle.std.proofs.lemmas.Result.{err_from_is_err_and}
 use Rattle.js_doc.specs.Seen.{pair_of, value_of}
 use Rattle.js_bundle.specs.Built.{assertion_at, patterns_of}
 use Rattle.js_bundle.specs.Candidate.{IsClear, IsStopped}
-use Rattle.js_bundle.specs.Leads.{Leads}
+use Rattle.js_bundle.specs.code.Leads.{Leads}
 use Rattle.js_bundle.specs.Refusals.{at_member}
-use Rattle.js_bundle.specs.Scan.{site_of}
+use Rattle.js_bundle.specs.code.Scan.{site_of}
 use Rattle.js_bundle.proofs.Passes.{piece_next}
 use Rattle.js_bundle.proofs.Stopping.{leads_past, leads_stop}
 use Rattle.js_bundle.proofs.first_pass.check_keywords.Goals as goal

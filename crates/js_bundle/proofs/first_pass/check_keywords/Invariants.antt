@@ -2,9 +2,9 @@ use Rattle.std.proofs.Common.{◌≡◌, ◌++◌, map}
 use Rattle.std.specs.List.{flat_map}
 use Rattle.js_doc.specs.Seen.{pair_of}
 use Rattle.js_bundle.specs.Built.{assertion_at, patterns_of}
-use Rattle.js_bundle.specs.Leads.{Leads}
+use Rattle.js_bundle.specs.code.Leads.{Leads}
 use Rattle.js_bundle.specs.Refusals.{at_member}
-use Rattle.js_bundle.specs.Scan.{site_of}
+use Rattle.js_bundle.specs.code.Scan.{site_of}
 use Rattle.js_bundle.proofs.first_pass.check_keywords.Given as goal
 
 abbrev pub invariant-loop-keyword : goal.invariant-loop-keyword

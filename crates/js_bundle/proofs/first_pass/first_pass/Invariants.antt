@@ -1,9 +1,9 @@
 use Rattle.std.proofs.Common.{[], map, take, drop}
 use Rattle.js_bundle.specs.Built.{assertions_at, patterns_at}
-use Rattle.js_bundle.specs.Index.{IsIndex}
-use Rattle.js_bundle.specs.Leads.{Leads}
+use Rattle.js_bundle.specs.code.Index.{IsIndex}
+use Rattle.js_bundle.specs.code.Leads.{Leads}
 use Rattle.js_bundle.specs.Refusals.{first_pass}
-use Rattle.js_bundle.specs.Scan.{site_of}
+use Rattle.js_bundle.specs.code.Scan.{site_of}
 use Rattle.js_bundle.proofs.Grouping.{AreGrouped}
 use Rattle.js_bundle.proofs.first_pass.first_pass.Given as goal
 

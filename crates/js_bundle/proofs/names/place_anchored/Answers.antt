@@ -1,5 +1,5 @@
 use Rattle.std.proofs.Common.{sym, map}
-use Rattle.js_bundle.specs.Scan.{site_of}
+use Rattle.js_bundle.specs.code.Scan.{site_of}
 use Rattle.js_bundle.proofs.Named.{none_found}
 use Rattle.js_bundle.proofs.names.place_anchored.Goals as goal
 

@@ -1,6 +1,6 @@
 use Rattle.std.proofs.Common.{map, ap, ◌∙◌}
-use Rattle.js_bundle.specs.Index.{name_key, number_of_key}
-use Rattle.js_bundle.specs.Scan.{site_of}
+use Rattle.js_bundle.specs.code.Index.{name_key, number_of_key}
+use Rattle.js_bundle.specs.code.Scan.{site_of}
 use Rattle.js_bundle.proofs.Indexed.{none_anchored}
 use Rattle.js_bundle.proofs.names.place_with_anchor.Goals as goal
 

@@ -1,5 +1,5 @@
 use Rattle.std.proofs.Common.{map}
-use Rattle.js_bundle.specs.Scan.{site_of}
+use Rattle.js_bundle.specs.code.Scan.{site_of}
 use Rattle.js_bundle.proofs.Indexed.{known_at, none_known}
 use Rattle.js_bundle.proofs.names.root_named.Goals as goal
 

@@ -2,7 +2,7 @@ use Rattle.std.proofs.Common.{◌≡◌, ◌||◌, map, drop}
 use Rattle.std.specs.List.{position_from}
 use Rattle.js_bundle.specs.Names.{by_anchor, by_dynamic_anchor}
 use Rattle.js_bundle.specs.Resource.{Site}
-use Rattle.js_bundle.specs.Scan.{site_of}
+use Rattle.js_bundle.specs.code.Scan.{site_of}
 use Rattle.js_bundle.proofs.names.search_anchored.Given as goal
 
 abbrev pub invariant-loop-i : goal.invariant-loop-i

@@ -1,7 +1,7 @@
 use Rattle.std.proofs.Common.{◌≡◌, map, drop}
 use Rattle.std.specs.List.{position_from}
 use Rattle.js_bundle.specs.Names.{stands_at}
-use Rattle.js_bundle.specs.Scan.{site_of}
+use Rattle.js_bundle.specs.code.Scan.{site_of}
 use Rattle.js_bundle.proofs.names.search_at.Given as goal
 
 abbrev pub invariant-loop-i : goal.invariant-loop-i

@@ -3,7 +3,7 @@ use Rattle.std.specs.List.{flat_map}
 use Rattle.std.proofs.lemmas.Result.{err_from_is_err_and}
 use Rattle.js_bundle.specs.Finding.{number_of_target, dynamic_at}
 use Rattle.js_bundle.specs.Refusals.{at_references, second_pass}
-use Rattle.js_bundle.specs.Scan.{site_of}
+use Rattle.js_bundle.specs.code.Scan.{site_of}
 use Rattle.js_bundle.proofs.Stopping.{leads_past, leads_stop}
 use Rattle.js_bundle.proofs.Passes.{leads_next, place_next, dynamic_same}
 use Rattle.js_bundle.proofs.reference.resolve_all.Goals as goal

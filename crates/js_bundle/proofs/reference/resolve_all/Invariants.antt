@@ -1,9 +1,9 @@
 use Rattle.std.proofs.Common.{◌≡◌, ◌++◌, codes, map, drop}
 use Rattle.std.specs.List.{flat_map}
 use Rattle.js_bundle.specs.Finding.{number_of_target, dynamic_at}
-use Rattle.js_bundle.specs.Leads.{Leads}
+use Rattle.js_bundle.specs.code.Leads.{Leads}
 use Rattle.js_bundle.specs.Refusals.{at_references, second_pass}
-use Rattle.js_bundle.specs.Scan.{site_of}
+use Rattle.js_bundle.specs.code.Scan.{site_of}
 use Rattle.js_bundle.proofs.reference.resolve_all.Given as goal
 
 abbrev pub invariant-loop-i : goal.invariant-loop-i

@@ -4,7 +4,7 @@ use Rattle.js_bundle.specs.Target.{reference, is_dynamic}
 use Rattle.js_bundle.proofs.Named.{target_at}
 use Rattle.std.proofs.lemmas.Result.{err_from_is_err_and}
 use Rattle.js_bundle.specs.Refusals.{at_reference}
-use Rattle.js_bundle.specs.Scan.{site_of}
+use Rattle.js_bundle.specs.code.Scan.{site_of}
 use Rattle.js_bundle.proofs.Stopping.{stopped_here}
 use Rattle.js_bundle.proofs.reference.resolve_both.Goals as goal
 

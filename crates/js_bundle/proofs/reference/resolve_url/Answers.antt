@@ -1,5 +1,5 @@
 use Rattle.std.proofs.Common.{[], ◌∷◌, map, sym, ◌∙◌}
-use Rattle.js_bundle.specs.Scan.{site_of}
+use Rattle.js_bundle.specs.code.Scan.{site_of}
 use Rattle.js_bundle.proofs.Passes.{found_clear, lost_stopped}
 use Rattle.js_bundle.proofs.reference.resolve_url.Goals as goal
 

@@ -1,7 +1,7 @@
 use Rattle.std.proofs.Common.{map, take}
 use Rattle.js_bundle.specs.ResourceNumber.{roots}
 use Rattle.js_bundle.specs.ResourceTable.{AreAnchors}
-use Rattle.js_bundle.specs.Scan.{site_of}
+use Rattle.js_bundle.specs.code.Scan.{site_of}
 use Rattle.js_bundle.proofs.resource_table.name_all.Given as goal
 
 abbrev pub invariant-loop-i : goal.invariant-loop-i

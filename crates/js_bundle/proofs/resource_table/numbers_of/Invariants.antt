@@ -1,6 +1,6 @@
 use Rattle.std.proofs.Common.{◌≡◌, ◌++◌, map, drop}
 use Rattle.js_bundle.specs.ResourceTable.{rank_of_root}
-use Rattle.js_bundle.specs.Scan.{site_of}
+use Rattle.js_bundle.specs.code.Scan.{site_of}
 use Rattle.js_bundle.proofs.resource_table.numbers_of.Given as goal
 
 abbrev pub invariant-loop-i : goal.invariant-loop-i

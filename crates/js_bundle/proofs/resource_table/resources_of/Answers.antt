@@ -1,5 +1,5 @@
 use Rattle.std.proofs.Common.{map, Some, ap, ◌∙◌}
-use Rattle.js_bundle.specs.Scan.{site_of}
+use Rattle.js_bundle.specs.code.Scan.{site_of}
 use Rattle.js_bundle.proofs.Anchors.{ranks_are_numbers}
 use Rattle.js_bundle.proofs.resource_table.resources_of.Goals as goal
 

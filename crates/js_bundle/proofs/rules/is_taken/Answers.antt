@@ -1,6 +1,6 @@
 use Rattle.std.proofs.Common.{is_some, map, ap, ◌∙◌}
-use Rattle.js_bundle.specs.Index.{number_of_key}
-use Rattle.js_bundle.specs.Scan.{site_of}
+use Rattle.js_bundle.specs.code.Index.{number_of_key}
+use Rattle.js_bundle.specs.code.Scan.{site_of}
 use Rattle.js_bundle.specs.Url.{printed}
 use Rattle.js_bundle.proofs.Indexed.{taken_is}
 use Rattle.js_bundle.proofs.rules.is_taken.Goals as goal

@@ -1,7 +1,7 @@
 use Rattle.std.proofs.Common.{subst}
 use Rattle.js_doc.specs.Seen.{value_of}
 use Rattle.js_assert.specs.Form.{IsKeywordFault}
-use Rattle.js_bundle.specs.Scan.{site_of}
+use Rattle.js_bundle.specs.code.Scan.{site_of}
 use Rattle.js_bundle.proofs.Assertions.{clear_assertion, stopped_form, stopped_pattern, stopped_large}
 use Rattle.js_bundle.proofs.rules.read_assertion.Goals as goal
 

@@ -1,6 +1,6 @@
 use Rattle.std.proofs.Common.{◌≡◌, map, drop}
 use Rattle.js_bundle.specs.Refusals.{is_made}
-use Rattle.js_bundle.specs.Scan.{site_of}
+use Rattle.js_bundle.specs.code.Scan.{site_of}
 use Rattle.js_bundle.proofs.rules.some_makes.Given as goal
 
 abbrev pub invariant-loop-site : goal.invariant-loop-site

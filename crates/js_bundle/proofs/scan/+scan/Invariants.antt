@@ -3,7 +3,7 @@ use Rattle.js_doc.specs.Nesting.{depth}
 use Rattle.js_doc.specs.Value.{list, object, items, members}
 use Rattle.js_doc.specs.Seen.{value_of, pair_of}
 use Rattle.js_doc.specs.declared.doc.Doc.{Doc}
-use Rattle.js_bundle.specs.Scan.{SameFront, site_of, sites_of_items, sites_of_keywords, sites_of_members}
+use Rattle.js_bundle.specs.code.Scan.{SameFront, site_of, sites_of_items, sites_of_keywords, sites_of_members}
 use Rattle.js_bundle.proofs.scan.+scan.Given as goal
 
 abbrev pub decreases-scan_schema : goal.decreases-scan_schema

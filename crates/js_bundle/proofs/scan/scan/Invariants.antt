@@ -1,6 +1,6 @@
 use Rattle.std.proofs.Common.{◌++◌, map, drop}
 use Rattle.js_bundle.specs.Seen.{document_of}
-use Rattle.js_bundle.specs.Scan.{SameFront, site_of, sites_from}
+use Rattle.js_bundle.specs.code.Scan.{SameFront, site_of, sites_from}
 use Rattle.js_bundle.proofs.scan.scan.Given as goal
 
 abbrev pub invariant-loop-number : goal.invariant-loop-number

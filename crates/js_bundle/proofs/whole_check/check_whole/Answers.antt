@@ -2,15 +2,15 @@ use Rattle.std.proofs.Common.{◌≡◌, codes, map, sym, ap, subst, ◌∙◌}
 use Rattle.std.proofs.lemmas.Result.{err_from_is_err_and}
 use Rattle.js_bundle.specs.Built.{assertions_at, patterns_at}
 use Rattle.js_bundle.specs.Finding.{dynamic_at, number_of_target}
-use Rattle.js_bundle.specs.Grouped.{IsGrouped}
-use Rattle.js_bundle.specs.Index.{IsIndex}
+use Rattle.js_bundle.specs.code.Grouped.{IsGrouped}
+use Rattle.js_bundle.specs.code.Index.{IsIndex}
 use Rattle.js_bundle.specs.KeywordName.{keyword_names}
 use Rattle.js_bundle.specs.Location.{location}
 use Rattle.js_bundle.specs.Resource.{sites}
 use Rattle.js_bundle.specs.ResourceTable.{AreRooted, IsResourceTable}
-use Rattle.js_bundle.specs.Scan.{site_of}
+use Rattle.js_bundle.specs.code.Scan.{site_of}
 use Rattle.js_bundle.specs.Seen.{document_of}
-use Rattle.js_bundle.specs.Spot.{spot}
+use Rattle.js_bundle.specs.code.Spot.{spot}
 use Rattle.js_bundle.proofs.Rooted.{all_are_rooted}
 use Rattle.js_bundle.proofs.Whole.{lists_all, first_stops, second_stops, whole_clear}
 use Rattle.js_bundle.proofs.whole_check.check_whole.Goals as goal

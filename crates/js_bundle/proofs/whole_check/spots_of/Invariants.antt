@@ -1,6 +1,6 @@
 use Rattle.std.proofs.Common.{◌≡◌, ◌++◌, map}
-use Rattle.js_bundle.specs.Scan.{site_of}
-use Rattle.js_bundle.specs.Spot.{spot, spot_of}
+use Rattle.js_bundle.specs.code.Scan.{site_of}
+use Rattle.js_bundle.specs.code.Spot.{spot, spot_of}
 use Rattle.js_bundle.proofs.whole_check.spots_of.Given as goal
 
 abbrev pub invariant-loop-site : goal.invariant-loop-site

@@ -4,7 +4,7 @@ use Rattle.js_output.specs.Documents.{documents_of}
 use Rattle.js_output.specs.Outcome.{Outcome, telling_output, beginning_causes}
 use Rattle.js_output.specs.Telling.{Answers}
 use Rattle.js_cli.specs.Answer.{AreHeld}
-use Rattle.js_cli.specs.Taken.{documents_taken}
+use Rattle.js_cli.specs.code.Taken.{documents_taken}
 use Rattle.js_cli.specs.Words.{pairs_seen}
 use Rattle.js_cli.proofs.Telling.{check_told}
 use Rattle.js_cli.proofs.command.perform_check.Goals as goal

@@ -2,7 +2,7 @@ use Rattle.std.proofs.Common.{◌∙◌, ap, sym, subst}
 use Rattle.std.proofs.lemmas.Result.{err_from_is_err_and}
 use Rattle.js_output.specs.Documents.{documents_of}
 use Rattle.js_cli.specs.Answer.{AreHeld}
-use Rattle.js_cli.specs.Taken.{documents_taken}
+use Rattle.js_cli.specs.code.Taken.{documents_taken}
 use Rattle.js_cli.specs.Words.{pairs_seen}
 use Rattle.js_cli.proofs.Telling.{places_told, places_fault}
 use Rattle.js_cli.proofs.command.perform_places.Goals as goal

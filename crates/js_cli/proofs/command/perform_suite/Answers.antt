@@ -5,7 +5,7 @@ use Rattle.js_output.specs.Documents.{documents_of, documents_causes}
 use Rattle.js_output.specs.Suite.{SuiteOutcome, telling_lines}
 use Rattle.js_output.specs.Telling.{Answers}
 use Rattle.js_cli.specs.Answer.{AreHeld, Performs, RequestOutcome}
-use Rattle.js_cli.specs.Taken.{documents_taken}
+use Rattle.js_cli.specs.code.Taken.{documents_taken}
 use Rattle.js_cli.specs.Words.{pairs_seen, suite}
 use Rattle.js_cli.proofs.Telling.{suite_told, suite_fault}
 use Rattle.js_cli.proofs.command.perform_suite.Goals as goal

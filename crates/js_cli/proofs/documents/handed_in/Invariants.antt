@@ -1,6 +1,6 @@
 use Rattle.std.proofs.Common.{◌≡◌, ◌++◌, drop}
 use Rattle.js_output.specs.Documents.{documents_of}
-use Rattle.js_cli.specs.Taken.{documents_taken}
+use Rattle.js_cli.specs.code.Taken.{documents_taken}
 use Rattle.js_cli.proofs.documents.handed_in.Given as goal
 
 -- those that are lent, and then the rest, are all

@@ -1,4 +1,4 @@
-use Rattle.js_cli.specs.Taken.{documents_taken}
+use Rattle.js_cli.specs.code.Taken.{documents_taken}
 use Rattle.js_cli.proofs.Holding.{holds_all}
 use Rattle.js_cli.proofs.documents.take_all.Goals as goal
 

@@ -1,5 +1,5 @@
 use Rattle.std.proofs.Common.{◌≡◌}
-use Rattle.js_cli.specs.Taken.{documents_taken}
+use Rattle.js_cli.specs.code.Taken.{documents_taken}
 use Rattle.js_cli.proofs.Holding.{HoldsSoFar}
 use Rattle.js_cli.proofs.documents.take_all.Given as goal
 

@@ -1,5 +1,5 @@
 use Rattle.std.proofs.Common.{◌≡◌, length, take}
-use Rattle.js_eval.specs.Cursors.{AreMarked}
+use Rattle.js_eval.specs.code.Cursors.{AreMarked}
 use Rattle.js_eval.proofs.item_cursor.marks_at.Given as goal
 
 abbrev pub invariant-loop-index : goal.invariant-loop-index

@@ -1,5 +1,5 @@
 use Rattle.std.proofs.Common.{◌≡◌}
-use Rattle.js_eval.specs.Cursors.{items_left}
+use Rattle.js_eval.specs.code.Cursors.{items_left}
 use Rattle.js_eval.proofs.item_cursor.next_item.Given as goal
 
 abbrev pub invariant-loop-index : goal.invariant-loop-index

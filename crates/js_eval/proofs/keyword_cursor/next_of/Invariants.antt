@@ -1,6 +1,6 @@
 use Rattle.std.proofs.Common.{◌≡◌, map}
 use Rattle.js_doc.specs.Seen.{pair_of}
-use Rattle.js_eval.specs.KeywordsLeft.{of_turn}
+use Rattle.js_eval.specs.code.KeywordsLeft.{of_turn}
 use Rattle.js_eval.proofs.keyword_cursor.next_of.Given as goal
 
 abbrev pub invariant-loop-name : goal.invariant-loop-name

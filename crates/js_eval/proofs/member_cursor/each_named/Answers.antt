@@ -2,7 +2,7 @@ use Rattle.std.proofs.Common.{map, filter, ap, ◌∙◌}
 use Rattle.js_assert.specs.Argument.{has}
 use Rattle.js_eval.specs.Applications.{Application, application}
 use Rattle.js_eval.specs.Bundle.{schemas_of}
-use Rattle.js_eval.specs.Applied.{namesake}
+use Rattle.js_eval.specs.code.Applied.{namesake}
 use Rattle.js_bundle.specs.Resource.{Site}
 use Rattle.js_doc.specs.Value.{Value}
 use Rattle.js_eval.specs.SchemaSet as spec

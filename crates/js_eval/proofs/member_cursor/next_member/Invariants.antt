@@ -1,5 +1,5 @@
 use Rattle.std.proofs.Common.{◌≡◌}
-use Rattle.js_eval.specs.Cursors.{members_left}
+use Rattle.js_eval.specs.code.Cursors.{members_left}
 use Rattle.js_eval.proofs.member_cursor.next_member.Given as goal
 
 abbrev pub invariant-loop-name : goal.invariant-loop-name

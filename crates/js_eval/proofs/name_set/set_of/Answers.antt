@@ -1,5 +1,5 @@
 use Rattle.std.proofs.Common.{[], sym, subst}
-use Rattle.js_eval.specs.Cursors.{HasNames}
+use Rattle.js_eval.specs.code.Cursors.{HasNames}
 use Rattle.js_eval.proofs.MembersLeft.{none_seen, texts_more}
 use Rattle.js_eval.proofs.name_set.set_of.Goals as goal
 

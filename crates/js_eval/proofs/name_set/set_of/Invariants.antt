@@ -1,5 +1,5 @@
 use Rattle.std.proofs.Common.{take}
-use Rattle.js_eval.specs.Cursors.{HasNames}
+use Rattle.js_eval.specs.code.Cursors.{HasNames}
 use Rattle.js_eval.specs.Seen.{texts_of}
 use Rattle.js_eval.proofs.name_set.set_of.Given as goal
 

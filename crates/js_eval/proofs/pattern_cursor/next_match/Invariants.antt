@@ -1,6 +1,6 @@
 use Rattle.std.proofs.Common.{◌≡◌, true, length}
 use Rattle.js_bundle.specs.Schemas.{is_place}
-use Rattle.js_eval.specs.Cursors.{coming_asked, patterns_asked}
+use Rattle.js_eval.specs.code.Cursors.{coming_asked, patterns_asked}
 use Rattle.js_eval.proofs.pattern_cursor.next_match.Given as goal
 
 abbrev pub invariant-loop-name : goal.invariant-loop-name

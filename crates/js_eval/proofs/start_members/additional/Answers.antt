@@ -2,7 +2,7 @@ use Rattle.std.proofs.Common.{◌||◌, not, map, ap, ◌∙◌}
 use Rattle.js_assert.specs.Argument.{entries}
 use Rattle.js_doc.specs.Seen.{value_of}
 use Rattle.js_eval.specs.Bundle.{schemas_of}
-use Rattle.js_eval.specs.Cursors.{is_matched, is_named}
+use Rattle.js_eval.specs.code.Cursors.{is_matched, is_named}
 use Rattle.js_eval.specs.SchemaSet as spec
 use Rattle.js_eval.specs.Seen.{instance_of}
 use Rattle.js_eval.specs.Sited.{numbered_site}

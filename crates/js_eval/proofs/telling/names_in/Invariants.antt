@@ -1,6 +1,6 @@
 use Rattle.std.proofs.Common.{◌≡◌, ◌++◌, filter, map}
 use Rattle.js_doc.specs.Seen.{pair_of}
-use Rattle.js_eval.specs.Cursors.{is_key}
+use Rattle.js_eval.specs.code.Cursors.{is_key}
 use Rattle.js_eval.specs.Seen.{texts_of}
 use Rattle.js_eval.proofs.telling.names_in.Given as goal
 

@@ -1,6 +1,6 @@
 use Rattle.std.proofs.Common.{[], ◌∷◌, ◌++◌, sym, ap, ◌∙◌, subst, append_assoc, append-nil}
 use Rattle.js_output.specs.Suite.{IsLine}
-use Rattle.js_output.specs.SuiteJudging.{basis_of}
+use Rattle.js_output.specs.code.SuiteJudging.{basis_of}
 use Rattle.js_output.specs.SuiteText.{test_seen}
 use Rattle.js_output.proofs.SuiteLists.{test_more, tests_all}
 use Rattle.js_output.proofs.suite_judging.judge_tests.Goals as goal

@@ -1,6 +1,6 @@
 use Rattle.std.proofs.Common.{◌≡◌, ◌++◌, List, drop}
 use Rattle.js_output.specs.Suite.{AreTestLines}
-use Rattle.js_output.specs.SuiteJudging.{basis_of}
+use Rattle.js_output.specs.code.SuiteJudging.{basis_of}
 use Rattle.js_output.specs.SuiteText.{tests_seen}
 use Rattle.js_output.specs.declared.suite_lines.Line.{Line}
 use Rattle.js_output.proofs.suite_judging.judge_tests.Given as goal

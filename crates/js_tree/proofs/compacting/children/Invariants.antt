@@ -1,5 +1,5 @@
 use Rattle.std.proofs.Common.{◌-◌}
-use Rattle.js_tree.specs.Compacting.{IsRemaining}
+use Rattle.js_tree.specs.code.Compacting.{IsRemaining}
 use Rattle.js_tree.proofs.compacting.children.Given as goal
 
 abbrev pub invariant-loop-next : goal.invariant-loop-next

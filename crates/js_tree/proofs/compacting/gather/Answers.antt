@@ -1,6 +1,6 @@
 use Rattle.std.proofs.Common.{◌≡◌, ◌<◌, ◌+◌, ◌++◌, length, take, drop, map, refl, ap, ◌∙◌, arith}
 use Rattle.std.proofs.lemmas.List.{set-get_or}
-use Rattle.js_tree.specs.Compacting.{gathered}
+use Rattle.js_tree.specs.code.Compacting.{gathered}
 use Rattle.js_tree.specs.FlatState.{row_of}
 use Rattle.js_tree.proofs.Marks.{goes_with, goes, stays_here, a_row}
 use Rattle.js_tree.proofs.compacting.gather.Goals as goal

@@ -1,5 +1,5 @@
 use Rattle.std.proofs.Common.{◌≡◌, ◌≤◌, ◌++◌, drop, take, map}
-use Rattle.js_tree.specs.Compacting.{gathered}
+use Rattle.js_tree.specs.code.Compacting.{gathered}
 use Rattle.js_tree.specs.FlatState.{row_of}
 use Rattle.js_tree.proofs.compacting.gather.Given as goal
 

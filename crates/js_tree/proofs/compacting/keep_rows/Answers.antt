@@ -1,5 +1,5 @@
 use Rattle.std.proofs.Common.{◌≡◌, ◌++◌, length, take, drop, map, ap, ◌∙◌, arith}
-use Rattle.js_tree.specs.Compacting.{gathered}
+use Rattle.js_tree.specs.code.Compacting.{gathered}
 use Rattle.js_tree.specs.FlatState.{row_of}
 use Rattle.js_tree.specs.Forest.{tree, empty}
 use Rattle.js_tree.proofs.Marks.{keeps, flat-flat_of, whole_slice}

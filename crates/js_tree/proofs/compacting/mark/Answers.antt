@@ -1,5 +1,5 @@
 use Rattle.std.proofs.Common.{◌≡◌, ◌<◌, ◌+◌, ◌-◌, length, drop, get_or, refl, ap, ◌∙◌, arith, suc}
-use Rattle.js_tree.specs.Compacting.{left, left_trees, marked, stays, room}
+use Rattle.js_tree.specs.code.Compacting.{left, left_trees, marked, stays, room}
 use Rattle.js_tree.specs.FlatState.{row_of}
 use Rattle.js_tree.specs.Forest.{node_count}
 use Rattle.js_tree.specs.declared.flat.Row.{Row}

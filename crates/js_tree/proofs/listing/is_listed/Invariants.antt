@@ -1,6 +1,6 @@
 use Rattle.std.proofs.Common.{◌≡◌, ◌≤◌, ℕ, length, take}
 use Rattle.js_tree.specs.Alike.{same_but_keyword}
-use Rattle.js_tree.specs.Fingerprint.{latest, place_of}
+use Rattle.js_tree.specs.code.Fingerprint.{latest, place_of}
 use Rattle.js_tree.specs.Forest.{forest_of}
 use Rattle.js_tree.specs.Merged.{has_alike}
 use Rattle.js_tree.proofs.listing.is_listed.Given as goal

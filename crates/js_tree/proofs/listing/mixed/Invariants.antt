@@ -1,5 +1,5 @@
 use Rattle.std.proofs.Common.{◌≡◌, drop}
-use Rattle.js_tree.specs.Fingerprint.{mixed}
+use Rattle.js_tree.specs.code.Fingerprint.{mixed}
 use Rattle.js_tree.proofs.listing.mixed.Given as goal
 
 abbrev pub invariant-loop-byte : goal.invariant-loop-byte

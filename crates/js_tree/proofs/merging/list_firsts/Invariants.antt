@@ -1,6 +1,6 @@
 use Rattle.std.proofs.Common.{◌≡◌, ◌≤◌, length, take, drop}
 use Rattle.js_tree.specs.Alike.{same_but_keyword}
-use Rattle.js_tree.specs.Fingerprint.{AreListed}
+use Rattle.js_tree.specs.code.Fingerprint.{AreListed}
 use Rattle.js_tree.specs.Forest.{forest_of}
 use Rattle.js_tree.specs.Merged.{firsts}
 use Rattle.js_tree.proofs.merging.list_firsts.Given as goal

@@ -2,7 +2,7 @@ use Rattle.std.proofs.Common.{◌≡◌, ◌≤◌, drop, length, map}
 use Rattle.js_tree.specs.Flat.{flat_of}
 use Rattle.js_tree.specs.FlatState.{row_of}
 use Rattle.js_tree.specs.Forest.{Forest}
-use Rattle.js_tree.specs.Nesting.{ends_after}
+use Rattle.js_tree.specs.code.Nesting.{ends_after}
 use Rattle.js_tree.specs.OutputUnit.{OutputUnit}
 use Rattle.js_tree.proofs.nesting.ends_after.Given as goal
 

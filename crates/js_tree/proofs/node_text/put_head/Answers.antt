@@ -1,7 +1,7 @@
 use Rattle.std.proofs.Common.{◌++◌, codes, subst}
 use Rattle.js_doc.specs.BytesOut.{Puts}
 use Rattle.js_doc.specs.Compact.{quoted}
-use Rattle.js_tree.specs.NodeText.{annotation_part, head_text}
+use Rattle.js_tree.specs.code.NodeText.{annotation_part, head_text}
 use Rattle.js_tree.specs.Seen.{note_of}
 use Rattle.js_tree.proofs.Pieces.{then_puts, stops_in}
 use Rattle.js_tree.proofs.node_text.put_head.Goals as goal

@@ -1,6 +1,6 @@
 use Rattle.std.proofs.Common.{◌++◌, ap, subst, refl}
 use Rattle.js_doc.specs.BytesOut.{Puts}
-use Rattle.js_tree.specs.NodeText.{error_part, head_text, tail_text}
+use Rattle.js_tree.specs.code.NodeText.{error_part, head_text, tail_text}
 use Rattle.js_tree.specs.Seen.{note_of}
 use Rattle.js_tree.proofs.Pieces.{then_puts, stops_in}
 use Rattle.js_tree.proofs.NodeTexts.{leaf_text_is}

@@ -4,7 +4,7 @@ use Rattle.js_doc.specs.Compact.{compact}
 use Rattle.js_doc.specs.Value.{items, list}
 use Rattle.js_tree.specs.FlatState.{noted_of, row_of}
 use Rattle.js_tree.specs.Form.{node_value}
-use Rattle.js_tree.specs.NodeText.{list_start, valid_text}
+use Rattle.js_tree.specs.code.NodeText.{list_start, valid_text}
 use Rattle.js_tree.specs.Result.{units}
 use Rattle.js_tree.proofs.Pieces.{then_puts, stops_in}
 use Rattle.js_tree.proofs.NodeTexts.{units_value, list_text_is}

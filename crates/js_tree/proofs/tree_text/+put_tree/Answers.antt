@@ -4,7 +4,7 @@ use Rattle.js_doc.specs.Compact.{compact, compact_items}
 use Rattle.js_doc.specs.Value.{items, list}
 use Rattle.js_tree.specs.Forest.{forest_of, node_count}
 use Rattle.js_tree.specs.Form.{array_of_some, node_values, verbose, value_if}
-use Rattle.js_tree.specs.NodeText.{given_text}
+use Rattle.js_tree.specs.code.NodeText.{given_text}
 use Rattle.js_tree.specs.Seen.{note_of}
 use Rattle.js_tree.proofs.Pieces.{then_puts, stops_in, stops_at_comma, stops_at_item, item_goes, array_ends}
 use Rattle.js_tree.proofs.NodeTexts.{stops_in_head, stops_in_annotations, stops_in_error, stops_in_errors, puts_node}

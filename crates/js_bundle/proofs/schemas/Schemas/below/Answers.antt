@@ -1,11 +1,11 @@
 use Rattle.std.proofs.Common.{◌≡◌, true, map, Some, None, if◌then◌else◌, ap, sym, subst, ◌∙◌}
 use Rattle.std.specs.List.{list_all, position_from}
-use Rattle.js_bundle.specs.Edges.{leads_down, edges_under, AreAlone}
-use Rattle.js_bundle.specs.Index.{StandsFirst}
+use Rattle.js_bundle.specs.code.Edges.{leads_down, edges_under, AreAlone}
+use Rattle.js_bundle.specs.code.Index.{StandsFirst}
 use Rattle.js_bundle.specs.Place.{holding}
 use Rattle.js_bundle.specs.Schemas.{fits, step_of}
 use Rattle.js_bundle.specs.Seen.{document_of}
-use Rattle.js_bundle.specs.Spot.{spot_of, stands_below}
+use Rattle.js_bundle.specs.code.Spot.{spot_of, stands_below}
 use Rattle.js_bundle.proofs.Finds.{finds_held}
 use Rattle.js_bundle.proofs.KeyedBelow.{kept_first}
 use Rattle.js_bundle.proofs.Held.{held_found}

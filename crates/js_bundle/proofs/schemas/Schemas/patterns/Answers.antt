@@ -1,6 +1,6 @@
 use Rattle.std.proofs.Common.{map, ◌∷◌, slice_get, unwrap_or, subst}
 use Rattle.js_bundle.specs.Built.{patterns_at}
-use Rattle.js_bundle.specs.Grouped.{IsPart}
+use Rattle.js_bundle.specs.code.Grouped.{IsPart}
 use Rattle.js_bundle.specs.Seen.{AreRead, document_of}
 use Rattle.js_bundle.proofs.Grouping.{part_of}
 use Rattle.js_bundle.proofs.schemas.Schemas.patterns.Goals as goal

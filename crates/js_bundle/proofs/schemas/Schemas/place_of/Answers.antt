@@ -1,7 +1,7 @@
 use Rattle.std.proofs.Common.{◌≡◌, map, ap, sym, subst, ◌∙◌}
-use Rattle.js_bundle.specs.Index.{IsIndex}
+use Rattle.js_bundle.specs.code.Index.{IsIndex}
 use Rattle.js_bundle.specs.Resource.{sites}
-use Rattle.js_bundle.specs.Scan.{site_of}
+use Rattle.js_bundle.specs.code.Scan.{site_of}
 use Rattle.js_bundle.specs.Seen.{document_of}
 use Rattle.js_bundle.proofs.Finds.{names_it, names_none}
 use Rattle.js_bundle.proofs.schemas.Schemas.place_of.Goals as goal

@@ -1,7 +1,7 @@
 use Rattle.std.proofs.Common.{map, ap, ◌++◌, ◌∙◌}
 use Rattle.js_bundle.specs.Resource.{sites}
 use Rattle.js_bundle.specs.Schemas.{numbered, resources_at, lent}
-use Rattle.js_bundle.specs.Spot.{spot_of, resource_of}
+use Rattle.js_bundle.specs.code.Spot.{spot_of, resource_of}
 use Rattle.js_bundle.proofs.Known.{next_resources}
 use Rattle.js_bundle.proofs.schemas.Schemas.resources.Goals as goal
 

@@ -2,7 +2,7 @@ use Rattle.std.proofs.Common.{◌<◌, sym, ap, ◌∙◌, subst}
 use Rattle.js_doc.specs.Lookup.{at}
 use Rattle.js_doc.specs.Seen.{value_of}
 use Rattle.js_bundle.specs.Schemas.{place_at}
-use Rattle.js_bundle.specs.Spot.{spot_of}
+use Rattle.js_bundle.specs.code.Spot.{spot_of}
 use Rattle.js_bundle.proofs.Schema.{schema_there, at_index, some_there}
 use Rattle.js_bundle.proofs.schemas.Schemas.schema.Goals as goal
 

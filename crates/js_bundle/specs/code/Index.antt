@@ -10,7 +10,7 @@ use Rattle.js_bundle.specs.declared.numbering.Numbering.{Numbering}
 use Rattle.js_bundle.specs.Keyword.{Text, text_argument}
 use Rattle.js_bundle.specs.Names.{is_root, known_as}
 use Rattle.js_bundle.specs.Resource.{Site}
-use Rattle.js_bundle.specs.Spot.{Spot}
+use Rattle.js_bundle.specs.code.Spot.{Spot}
 use Rattle.js_bundle.specs.Url.{printed}
 
 -- ---- numbers under texts

@@ -14,7 +14,7 @@ use Rattle.js_bundle.specs.Document.{Documents}
 use Rattle.js_bundle.specs.Resource.{Site}
 use Rattle.js_bundle.specs.Schemas.{is_place}
 use Rattle.js_eval.specs.Applications.{Application, application, among_indexes, among_names, indexed_from}
-use Rattle.js_eval.specs.Applied.{applied}
+use Rattle.js_eval.specs.code.Applied.{applied}
 use Rattle.js_eval.specs.Bundle.{schemas_of}
 use Rattle.js_eval.specs.SchemaSet.{Text, Index, Name}
 use Rattle.js_eval.specs.Sited.{numbered_site}

@@ -7,7 +7,7 @@ use Rattle.js_bundle.specs.declared.edges.Edges.{Edges}
 use Rattle.js_bundle.specs.Keyword.{Text}
 use Rattle.js_bundle.specs.Names.{same_tokens}
 use Rattle.js_bundle.specs.Schemas.{Step, step_tokens}
-use Rattle.js_bundle.specs.Spot.{Spot}
+use Rattle.js_bundle.specs.code.Spot.{Spot}
 
 abbrev pub begins_with : Tokens → Tokens → Bool
 begins_with tokens [] = true

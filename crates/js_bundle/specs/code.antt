@@ -1,0 +1,7 @@
+-- What only private functions speak of: no public clause cites it.
+pub mod Leads
+pub mod Scan
+pub mod Index
+pub mod Spot
+pub mod Edges
+pub mod Grouped
