@@ -4,7 +4,7 @@ use Rattle.std.specs.List.{list_any, position_from}
 use Rattle.std.specs.Option.{option_map_or}
 use Rattle.js_bundle.specs.declared.numbering.Numbering.{Numbering}
 use Rattle.js_bundle.specs.Document.{Documents}
-use Rattle.js_bundle.specs.Index.{under}
+use Rattle.js_bundle.specs.Index.{number_of_key}
 use Rattle.js_bundle.specs.Keyword.{Text, text_argument}
 use Rattle.js_bundle.specs.Names.{belongs_to, makes}
 use Rattle.js_bundle.specs.Resource.{Site, sites}
@@ -53,19 +53,19 @@ none_beside (x ∷ xs) (z ∷ ys) (suc n) y many e g = none_beside xs ys n y (le
 
 module _ (documents : Documents) (anchors : List Numbering) (name : Text) (h : AreAnchors (roots (sites documents)) anchors (sites documents)) where
   in_resource : (n : ℕ) (a : Option Numbering) (r : Option Site) → slice_get anchors n ≡ a → slice_get (roots (sites documents)) n ≡ r
-      → Finds documents (option_and_then (λ names. under names name) a) (option_and_then (dynamic_anchor (sites documents) name) r)
+      → Finds documents (option_and_then (λ names. number_of_key names name) a) (option_and_then (dynamic_anchor (sites documents) name) r)
   in_resource n None None e g = refl
   in_resource n None (Some root) e g = absurd (none_beside anchors (roots (sites documents)) n root h.many e g)
   in_resource n (Some names) None e g = absurd (none_beside (roots (sites documents)) anchors n names (sym h.many) g e)
   in_resource n (Some names) (Some root) e g =
       let all = sites documents in
-      finds_place documents (λ t. belongs_to root.document root.own.resource t && makes (codes "$dynamicAnchor") name t) (under names name)
+      finds_place documents (λ t. belongs_to root.document root.own.resource t && makes (codes "$dynamicAnchor") name t) (number_of_key names name)
       ((h.first n root names g e).first name
       ∙ position_same (λ t. list_any (bytes_eq name) (dynamic_names root t)) (λ t. belongs_to root.document root.own.resource t && makes (codes "$dynamicAnchor") name t)
       (λ t. named_by name (belongs_to root.document root.own.resource t) (text_argument (codes "$dynamicAnchor") t.schema)) 0 all)
 
 pub anchored_in : (docs documents : Documents) (anchors : List Numbering) (name : Text) (n : ℕ) (o : Option ℕ) → docs ≡ documents → AreAnchors (roots (sites docs)) anchors (sites docs)
-    → o ≡ option_and_then (λ names. under names name) (slice_get anchors n) → Finds documents o (option_and_then (dynamic_anchor (sites documents) name) (slice_get (roots (sites documents)) n))
+    → o ≡ option_and_then (λ names. number_of_key names name) (slice_get anchors n) → Finds documents o (option_and_then (dynamic_anchor (sites documents) name) (slice_get (roots (sites documents)) n))
 anchored_in docs documents anchors name n o same h e =
     subst (λ m. Finds documents m (option_and_then (dynamic_anchor (sites documents) name) (slice_get (roots (sites documents)) n))) (sym e)
     (in_resource documents anchors name (subst (λ ds. AreAnchors (roots (sites ds)) anchors (sites ds)) same h) n (slice_get anchors n) (slice_get (roots (sites documents)) n) refl refl)

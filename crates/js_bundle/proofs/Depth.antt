@@ -9,9 +9,9 @@ use Rattle.js_bundle.specs.declared.refusal.RefusalKind.TheVariants.{BadKeyword}
 use Rattle.js_bundle.specs.Candidate.{Candidate, IsClear}
 use Rattle.js_bundle.specs.Depth.{patterns_held, IsShallow, AreShallow, HasShallow, NoneTooDeep}
 use Rattle.js_bundle.specs.Document.{Documents}
-use Rattle.js_bundle.specs.Form.{has_form}
+use Rattle.js_bundle.specs.Form.{is_formed}
 use Rattle.js_bundle.specs.Keyword.{Text, keywords, as_text}
-use Rattle.js_bundle.specs.Refusals.{when, decided, on_text, at_pattern, assertion_rules, text_rules, name_rules, at_place, at_keyword, at_site, first_pass, second_pass, candidates}
+use Rattle.js_bundle.specs.Refusals.{when, decided, on_text, at_pattern, assertion_rules, text_rules, name_rules, at_place, at_member, at_site, first_pass, second_pass, candidates}
 use Rattle.js_bundle.specs.Resource.{Site, sites}
 use Rattle.js_bundle.proofs.Assertions.{at_bools, at_pattern-is}
 use Rattle.js_bundle.proofs.Stopping.{clear_here, clear_there}
@@ -55,10 +55,10 @@ shallow_names : (b : Bool) (place : Site) (k : Text) (v : Value) → IsClear (if
 shallow_names false place k v h = tt
 shallow_names true place k v h = shallow_each place k (keywords v) h
 
-of_keyword : (before : List Site) (place : Site) (m : Text × Value) → IsClear (at_keyword before place m) → AreShallow (patterns_held m)
+of_keyword : (before : List Site) (place : Site) (m : Text × Value) → IsClear (at_member before place m) → AreShallow (patterns_held m)
 of_keyword before place m h =
     let k = m.0 in
-    let form = when (not (has_form k m.1)) (decided place (k ∷ []) BadKeyword) in
+    let form = when (not (is_formed k m.1)) (decided place (k ∷ []) BadKeyword) in
     let texts = on_text (text_rules before place k) m.1 in
     let asserted = assertion_rules place k m.1 in
     let asserted_form = when (not (assertion.has_form k m.1)) (decided place (k ∷ []) BadKeyword) in
@@ -72,11 +72,11 @@ of_keyword before place m h =
 
 -- ---- those of all places
 
-of_keywords : (before : List Site) (place : Site) (ms : List (Text × Value)) → IsClear (flat_map (at_keyword before place) ms) → AreShallow (flat_map patterns_held ms)
+of_keywords : (before : List Site) (place : Site) (ms : List (Text × Value)) → IsClear (flat_map (at_member before place) ms) → AreShallow (flat_map patterns_held ms)
 of_keywords before place [] h = tt
 of_keywords before place (m ∷ ms) h =
-    let here = at_keyword before place m in
-    let rest = flat_map (at_keyword before place) ms in
+    let here = at_member before place m in
+    let rest = flat_map (at_member before place) ms in
     both_shallow (patterns_held m) (flat_map patterns_held ms) (of_keyword before place m (clear_here here rest h)) (of_keywords before place ms (clear_there here rest h))
 
 of_places : (before all : List Site) → IsClear (first_pass before all) → AllByRecursion HasShallow all
@@ -84,7 +84,7 @@ of_places before [] h = tt
 of_places before (place ∷ all) h =
     let here = at_site before place in
     let rest = first_pass (before ++ place ∷ []) all in (
-      of_keywords before place (keywords place.schema) (clear_there (at_place before place) (flat_map (at_keyword before place) (keywords place.schema)) (clear_here here rest h)),
+      of_keywords before place (keywords place.schema) (clear_there (at_place before place) (flat_map (at_member before place) (keywords place.schema)) (clear_here here rest h)),
       of_places (before ++ place ∷ []) all (clear_there here rest h),
     )
 

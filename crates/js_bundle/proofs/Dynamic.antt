@@ -58,7 +58,7 @@ anchored documents name place x n e h = anchored_by documents name x n (place_at
 
 -- ---- where a first target leads
 
-there : (documents : Documents) (n : ℕ) → is_place documents n ≡ true → (s : Site) × (place_at documents n ≡ Some s)
+pub there : (documents : Documents) (n : ℕ) → is_place documents n ≡ true → (s : Site) × (place_at documents n ≡ Some s)
 there documents n h = by_length (sites documents) (ltb-true n (length (sites documents)) h)
   where
     by_length : (all : List Site) → n < length all → (s : Site) × (slice_get all n ≡ Some s)

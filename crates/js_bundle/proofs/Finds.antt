@@ -1,7 +1,7 @@
 -- The number that is found stands for the place that is found.
 use Rattle.std.proofs.Common.{◌≡◌, ℕ, ◌+◌, List, [], ◌∷◌, ◌++◌, Bool, true, false, if◌then◌else◌, cond, is_none, map, Option, Some, None, option_map, option_and_then, slice_get, find, refl, sym, ap, ◌∙◌, subst}
 use Rattle.std.specs.List.{position_from}
-use Rattle.js_bundle.specs.declared.checked.Spot as rust
+use Rattle.js_bundle.specs.declared.whole_check.Spot as rust
 use Rattle.js_bundle.specs.Document.{Documents}
 use Rattle.js_bundle.specs.Keyword.{Text}
 use Rattle.url.specs.Parts.{Parts}

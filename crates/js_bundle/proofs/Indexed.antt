@@ -10,7 +10,7 @@ use Rattle.js_doc.specs.Pointer.{Tokens}
 use Rattle.js_bundle.specs.declared.index.Index.{Index}
 use Rattle.js_bundle.specs.declared.numbering.Numbering.{Numbering}
 use Rattle.js_bundle.specs.Keyword.{Text, text_argument}
-use Rattle.js_bundle.specs.Index.{under, ArePut, FindsFirst, IsIndex, IsAdded, place_key, place_keys, name_key, name_keys, name_keys_by}
+use Rattle.js_bundle.specs.Index.{number_of_key, ArePut, FindsFirst, IsIndex, IsAdded, place_key, place_keys, name_key, name_keys, name_keys_by}
 use Rattle.js_bundle.specs.Names.{known_as, is_known_as, same_tokens, stands_at, belongs_to, makes, by_anchor, by_dynamic_anchor}
 use Rattle.js_bundle.specs.Refusals.{is_made}
 use Rattle.js_bundle.specs.Resource.{Site}
@@ -34,17 +34,17 @@ or_or None p q = refl
 or_or (Some x) p q = refl
 
 pub none_put : (old : Numbering) (n : ℕ) → ArePut old [] n old
-none_put old n = record { told = λ key. or_none (under old key) }
+none_put old n = record { told = λ key. or_none (number_of_key old key) }
 
 -- the text has a number
-pub kept_put : (old : Numbering) (key : Text) (n m : ℕ) → under old key ≡ Some m → ArePut old (key ∷ []) n old
+pub kept_put : (old : Numbering) (key : Text) (n m : ℕ) → number_of_key old key ≡ Some m → ArePut old (key ∷ []) n old
 kept_put old key n m e = record { told = λ k. by_same k (bytes_eq k key) refl }
   where
-    by_same : (k : Text) (b : Bool) → bytes_eq k key ≡ b → under old k ≡ option_or (under old k) (if list_any (bytes_eq k) (key ∷ []) then Some n else None)
+    by_same : (k : Text) (b : Bool) → bytes_eq k key ≡ b → number_of_key old k ≡ option_or (number_of_key old k) (if list_any (bytes_eq k) (key ∷ []) then Some n else None)
     by_same k true same =
-        let is : under old k ≡ Some m = ap (under old) (is_text-sound k key same) ∙ e in
+        let is : number_of_key old k ≡ Some m = ap (number_of_key old) (is_text-sound k key same) ∙ e in
         rw is refl
-    by_same k false other = rw other (or_none (under old k))
+    by_same k false other = rw other (or_none (number_of_key old k))
 
 past_one : {X : Type 0} (b : Bool) (o p q : Option X) (v : X) → o ≡ option_or p q → cond b (Some v) o ≡ option_or (cond b (Some v) p) q
 past_one true o p q v h = refl
@@ -62,7 +62,7 @@ if_any false x y = refl
 pub new_put : (old new : Numbering) (text : String Global) (n : ℕ) → new.first.entries ≡ old.first.entries ++ (text, n) ∷ [] → ArePut old (string_bytes text ∷ []) n new
 new_put old new text n e = record {
   told = λ key. ap (lookup (λ k. bytes_eq key (string_bytes k))) e ∙ looked_further (λ k. bytes_eq key (string_bytes k)) old.first.entries text n
-      ∙ ap (option_or (under old key)) (if_any (bytes_eq key (string_bytes text)) (Some n) None);
+      ∙ ap (option_or (number_of_key old key)) (if_any (bytes_eq key (string_bytes text)) (Some n) None);
 }
 
 or_any : {A : Type 0} (b c : Bool) (x : A) → option_or (if b then Some x else None) (if c then Some x else None) ≡ (if b || c then Some x else None)
@@ -81,8 +81,8 @@ any_append f (x ∷ xs) ys = by_test (f x) (list_any f (xs ++ ys)) (list_any f x
 pub both_put : (old mid new : Numbering) (xs ys : List Text) (n : ℕ) → ArePut old xs n mid → ArePut mid ys n new → ArePut old (xs ++ ys) n new
 both_put old mid new xs ys n h g = record {
   told = λ key. let b = list_any (bytes_eq key) xs in let c = list_any (bytes_eq key) ys in
-      g.told key ∙ ap (λ o. option_or o (if c then Some n else None)) (h.told key) ∙ or_or (under old key) (if b then Some n else None) (if c then Some n else None)
-      ∙ ap (option_or (under old key)) (or_any b c n ∙ ap (λ d. if d then Some n else None) (sym (any_append (bytes_eq key) xs ys)));
+      g.told key ∙ ap (λ o. option_or o (if c then Some n else None)) (h.told key) ∙ or_or (number_of_key old key) (if b then Some n else None) (if c then Some n else None)
+      ∙ ap (option_or (number_of_key old key)) (or_any b c n ∙ ap (λ d. if d then Some n else None) (sym (any_append (bytes_eq key) xs ys)));
 }
 
 -- ---- the first that passes
@@ -208,11 +208,11 @@ covers_anchor root name s e =
 
 -- ---- what the code asks
 
-pub taken_is : (numbers : Numbering) (before : List Site) (uri : Text) → FindsFirst known_as numbers before → is_some (under numbers uri) ≡ list_any (is_known_as uri) before
+pub taken_is : (numbers : Numbering) (before : List Site) (uri : Text) → FindsFirst known_as numbers before → is_some (number_of_key numbers uri) ≡ list_any (is_known_as uri) before
 taken_is numbers before uri h = ap is_some (h.first uri) ∙ any_first (is_known_as uri) 0 before
 
 pub none_made : (numbers : Numbering) (before : List Site) (place : Site) (name : Text) → FindsFirst name_keys numbers before
-    → under numbers (name_key place.document place.own.resource name) ≡ None → is_made before place name ≡ false
+    → number_of_key numbers (name_key place.document place.own.resource name) ≡ None → is_made before place name ≡ false
 none_made numbers before place name h e =
     let test = λ (t : Site). belongs_to place.document place.own.resource t && (makes (codes "$anchor") name t || makes (codes "$dynamicAnchor") name t) in
     let key = λ (t : Site). list_any (bytes_eq (name_key place.document place.own.resource name)) (name_keys t) in
@@ -245,21 +245,21 @@ number_makes ss n root name x h low e t =
     sym (first_keyed (λ s. by_anchor root name s || by_dynamic_anchor root name s) (λ s. list_any (bytes_eq (name_key root.document root.pointer name)) (name_keys s)) (covers_anchor root name)
     (map site_of ss) n (site_of x) h (listed ss n x low e) t)
 
-pub none_stands : (numbers : Numbering) (all : List Site) (d : ℕ) (p : Tokens) → FindsFirst place_keys numbers all → None ≡ under numbers (place_key d p) → None ≡ position_from (stands_at d p) 0 all
+pub none_stands : (numbers : Numbering) (all : List Site) (d : ℕ) (p : Tokens) → FindsFirst place_keys numbers all → None ≡ number_of_key numbers (place_key d p) → None ≡ position_from (stands_at d p) 0 all
 none_stands numbers all d p h e =
     sym (none_keyed (stands_at d p) (λ s. list_any (bytes_eq (place_key d p)) (place_keys s)) (covers_place d p) 0 all (sym (h.first (place_key d p)) ∙ sym e))
 
-pub none_anchored : (numbers : Numbering) (all : List Site) (root : Site) (name : Text) → FindsFirst name_keys numbers all → None ≡ under numbers (name_key root.document root.pointer name)
+pub none_anchored : (numbers : Numbering) (all : List Site) (root : Site) (name : Text) → FindsFirst name_keys numbers all → None ≡ number_of_key numbers (name_key root.document root.pointer name)
     → None ≡ position_from (λ s. by_anchor root name s || by_dynamic_anchor root name s) 0 all
 none_anchored numbers all root name h e =
     sym (none_keyed (λ s. by_anchor root name s || by_dynamic_anchor root name s) (λ s. list_any (bytes_eq (name_key root.document root.pointer name)) (name_keys s)) (covers_anchor root name) 0 all
     (sym (h.first (name_key root.document root.pointer name)) ∙ sym e))
 
-pub known_at : (numbers : Numbering) (all : List Site) (uri : Text) (n : ℕ) (o : Option Site) → FindsFirst known_as numbers all → Some n ≡ under numbers uri
+pub known_at : (numbers : Numbering) (all : List Site) (uri : Text) (n : ℕ) (o : Option Site) → FindsFirst known_as numbers all → Some n ≡ number_of_key numbers uri
     → o ≡ slice_get all n → o ≡ find (is_known_as uri) all
 known_at numbers all uri n o h e g = g ∙ ap (option_and_then (slice_get all)) (e ∙ h.first uri) ∙ found_at (is_known_as uri) all
 
-pub none_known : (numbers : Numbering) (all : List Site) (uri : Text) → FindsFirst known_as numbers all → None ≡ under numbers uri → None ≡ find (is_known_as uri) all
+pub none_known : (numbers : Numbering) (all : List Site) (uri : Text) → FindsFirst known_as numbers all → None ≡ number_of_key numbers uri → None ≡ find (is_known_as uri) all
 none_known numbers all uri h e = ap (option_and_then (slice_get all)) (e ∙ h.first uri) ∙ found_at (is_known_as uri) all
 
 pub number_of_maker : (ss : List rust.Site) (n : ℕ) (place : Site) (name : Text) (x : rust.Site) → n < length ss → x ≡ get_or ss n x

@@ -5,10 +5,10 @@ use Rattle.std.proofs.lemmas.Option.{slice_get-map, slice_get-get_or}
 use Rattle.std.specs.List.{list_any, position_from}
 use Rattle.std.specs.Str.{bytes_eq}
 use Rattle.js_doc.proofs.Named.{is_text-refl}
-use Rattle.js_bundle.specs.declared.checked.Spot as rust
+use Rattle.js_bundle.specs.declared.whole_check.Spot as rust
 use Rattle.js_bundle.specs.declared.numbering.Numbering.{Numbering}
 use Rattle.js_bundle.specs.Document.{Documents}
-use Rattle.js_bundle.specs.Index.{under, place_key, place_keys, FindsFirst, StandsFirst}
+use Rattle.js_bundle.specs.Index.{number_of_key, place_key, place_keys, FindsFirst, StandsFirst}
 use Rattle.js_bundle.specs.Keyword.{Text}
 use Rattle.js_bundle.specs.Names.{same_tokens}
 use Rattle.js_bundle.specs.Resource.{sites}
@@ -29,18 +29,18 @@ covers_below a k step s e =
 
 -- none has the key
 pub none_below : (numbers : Numbering) (spots : List Spot) (a : Spot) (k : Text) (step : Step) (key : Text) → StandsFirst numbers spots
-    → key ≡ place_key a.document (a.pointer ++ k ∷ step_tokens step) → None ≡ under numbers key → None ≡ position_from (stands_below a k step) 0 spots
+    → key ≡ place_key a.document (a.pointer ++ k ∷ step_tokens step) → None ≡ number_of_key numbers key → None ≡ position_from (stands_below a k step) 0 spots
 none_below numbers spots a k step key h is e =
     let q = place_key a.document (a.pointer ++ k ∷ step_tokens step) in
     sym (none_keyed (stands_below a k step) (λ s. list_any (bytes_eq q) (place_key s.document s.pointer ∷ [])) (covers_below a k step) 0 spots
-    (sym (h.first q) ∙ ap (under numbers) (sym is) ∙ sym e))
+    (sym (h.first q) ∙ ap (number_of_key numbers) (sym is) ∙ sym e))
 
 -- the first that has it
 pub keyed_first : (numbers : Numbering) (spots : List Spot) (a : Spot) (k : Text) (step : Step) (key : Text) (n : ℕ) → StandsFirst numbers spots
-    → key ≡ place_key a.document (a.pointer ++ k ∷ step_tokens step) → Some n ≡ under numbers key
+    → key ≡ place_key a.document (a.pointer ++ k ∷ step_tokens step) → Some n ≡ number_of_key numbers key
     → position_from (λ s. list_any (bytes_eq (place_key a.document (a.pointer ++ k ∷ step_tokens step))) (place_key s.document s.pointer ∷ [])) 0 spots ≡ Some n
 keyed_first numbers spots a k step key n h is e =
-    sym (h.first (place_key a.document (a.pointer ++ k ∷ step_tokens step))) ∙ ap (under numbers) (sym is) ∙ sym e
+    sym (h.first (place_key a.document (a.pointer ++ k ∷ step_tokens step))) ∙ ap (number_of_key numbers) (sym is) ∙ sym e
 
 pub number_below : (ss : List rust.Spot) (n : ℕ) (a : Spot) (k : Text) (step : Step) (x : rust.Spot)
     → position_from (λ s. list_any (bytes_eq (place_key a.document (a.pointer ++ k ∷ step_tokens step))) (place_key s.document s.pointer ∷ [])) 0 (map spot_of ss) ≡ Some n

@@ -8,7 +8,7 @@ use Rattle.std.proofs.lemmas.Option.{slice_get-map}
 use Rattle.js_doc.specs.Pointer.{Tokens}
 use Rattle.js_doc.proofs.Named.{is_text-sound}
 use Rattle.js_bundle.specs.declared.edges.Edges.{Edges}
-use Rattle.js_bundle.specs.declared.checked.Spot as rust
+use Rattle.js_bundle.specs.declared.whole_check.Spot as rust
 use Rattle.js_bundle.specs.Document.{Documents}
 use Rattle.js_bundle.specs.Edges.{begins_with, is_below, leads_down, edges_under, LeadDown, goes_by, AreAlone}
 use Rattle.js_bundle.specs.Keyword.{Text}

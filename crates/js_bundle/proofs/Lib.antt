@@ -30,6 +30,7 @@ pub mod Schema
 pub mod BuiltThere
 pub mod Dynamic
 pub mod Known
+pub mod Grouping
 pub mod Rooted
 pub mod RootNumbers
 pub mod Anchors

@@ -15,7 +15,7 @@ use Rattle.js_assert.specs.Keyword.{keyword_named}
 use Rattle.js_bundle.specs.declared.built.BuiltAssertion.{BuiltAssertion}
 use Rattle.js_bundle.specs.declared.built.BuiltPattern.{BuiltPattern}
 use Rattle.js_bundle.specs.Built.{assertion_of, assertions_at, pattern_at, patterns_of, patterns_at}
-use Rattle.js_bundle.specs.Keyword.{Text, pairs, keywords, argument}
+use Rattle.js_bundle.specs.Keyword.{Text, member_pairs, keywords, argument}
 use Rattle.js_bundle.specs.Resource.{Site}
 use Rattle.js_bundle.specs.Schemas.{assertion, pattern}
 use Rattle.js_bundle.proofs.Listing.{Among}
@@ -159,11 +159,11 @@ assertion_found k s = built_by keyword_named (λ v n. record { keyword = n; argu
 abbrev the_patterns : Text
 the_patterns = codes "patternProperties"
 
-no_patterns : (ms : Members) → ((l : Text) (w : Value) → Among (l, w) (pairs ms) → ¬ (the_patterns ≡ l)) → flat_map patterns_of (pairs ms) ≡ []
+no_patterns : (ms : Members) → ((l : Text) (w : Value) → Among (l, w) (member_pairs ms) → ¬ (the_patterns ≡ l)) → flat_map patterns_of (member_pairs ms) ≡ []
 no_patterns no_members h = refl
 no_patterns (member l v ms) h =
     let other : bytes_eq l the_patterns ≡ false = unlike l the_patterns (λ e. h l v (inl refl) (sym e)) in
-    ap (λ b. (if b then map pattern_at (keywords v) else []) ++ flat_map patterns_of (pairs ms)) other ∙ no_patterns ms (λ k w a. h k w (inr a))
+    ap (λ b. (if b then map pattern_at (keywords v) else []) ++ flat_map patterns_of (member_pairs ms)) other ∙ no_patterns ms (λ k w a. h k w (inr a))
 
 module _ (name : Text) where
   abbrev so_named : BuiltPattern → Bool
@@ -184,21 +184,21 @@ module _ (name : Text) where
   abbrev of_argument : Value → Option Text
   of_argument v = option_map (λ u. name) (argument name v)
 
-  by_keyword : (l : Text) (v : Value) (ms : Members) (b : Bool) → bytes_eq l the_patterns ≡ b → (l ≡ the_patterns → flat_map patterns_of (pairs ms) ≡ [])
-      → option_map (λ b. b.pattern) (find so_named (flat_map patterns_of (pairs ms))) ≡ option_and_then of_argument (get the_patterns (pairs ms))
-      → option_map (λ b. b.pattern) (find so_named ((if b then map pattern_at (keywords v) else []) ++ flat_map patterns_of (pairs ms))) ≡ option_and_then of_argument (get the_patterns ((l, v) ∷ pairs ms))
+  by_keyword : (l : Text) (v : Value) (ms : Members) (b : Bool) → bytes_eq l the_patterns ≡ b → (l ≡ the_patterns → flat_map patterns_of (member_pairs ms) ≡ [])
+      → option_map (λ b. b.pattern) (find so_named (flat_map patterns_of (member_pairs ms))) ≡ option_and_then of_argument (get the_patterns (member_pairs ms))
+      → option_map (λ b. b.pattern) (find so_named ((if b then map pattern_at (keywords v) else []) ++ flat_map patterns_of (member_pairs ms))) ≡ option_and_then of_argument (get the_patterns ((l, v) ∷ member_pairs ms))
   by_keyword l v ms true e none more =
       let same : l ≡ the_patterns = is_text-sound l the_patterns e in
       let here : bytes_eq the_patterns l ≡ true = ap (bytes_eq the_patterns) same ∙ is_text-refl the_patterns in
       ap (λ r. option_map (λ b. b.pattern) (find so_named (map pattern_at (keywords v) ++ r))) (none same)
       ∙ ap (λ r. option_map (λ b. b.pattern) (find so_named r)) (append-nil (map pattern_at (keywords v)))
       ∙ patterns_found (keywords v)
-      ∙ ap (option_and_then of_argument) (sym (get_first the_patterns l v (pairs ms) ∙ ap (λ b. if b then Some v else get the_patterns (pairs ms)) here))
+      ∙ ap (option_and_then of_argument) (sym (get_first the_patterns l v (member_pairs ms) ∙ ap (λ b. if b then Some v else get the_patterns (member_pairs ms)) here))
   by_keyword l v ms false e none more =
       let other : bytes_eq the_patterns l ≡ false = unlike the_patterns l (λ same. absurd (let yes : bytes_eq l the_patterns ≡ true = ap (λ x. bytes_eq x the_patterns) (sym same) ∙ is_text-refl the_patterns in cc)) in
-      more ∙ ap (option_and_then of_argument) (sym (get_first the_patterns l v (pairs ms) ∙ ap (λ b. if b then Some v else get the_patterns (pairs ms)) other))
+      more ∙ ap (option_and_then of_argument) (sym (get_first the_patterns l v (member_pairs ms) ∙ ap (λ b. if b then Some v else get the_patterns (member_pairs ms)) other))
 
-  pattern_in : (ms : Members) → NamesAscendInMembers ms → option_map (λ b. b.pattern) (find so_named (flat_map patterns_of (pairs ms))) ≡ option_and_then of_argument (get the_patterns (pairs ms))
+  pattern_in : (ms : Members) → NamesAscendInMembers ms → option_map (λ b. b.pattern) (find so_named (flat_map patterns_of (member_pairs ms))) ≡ option_and_then of_argument (get the_patterns (member_pairs ms))
   pattern_in no_members a = refl
   pattern_in (member l v ms) a =
       by_keyword l v ms (bytes_eq l the_patterns) refl

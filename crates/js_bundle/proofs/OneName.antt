@@ -13,12 +13,12 @@ use Rattle.js_doc.proofs.Named.{is_text-refl, is_text-sound}
 use Rattle.js_bundle.specs.declared.refusal.RefusalKind.TheVariants.{BadAnchor, BadId, BadKeyword, DuplicateAnchor, DuplicateUri, NotASchema, TooManyPlaces, UriTooLong}
 use Rattle.js_bundle.specs.Candidate.{IsClear}
 use Rattle.js_bundle.specs.Document.{Documents}
-use Rattle.js_bundle.specs.Form.{has_form, is_schema}
+use Rattle.js_bundle.specs.Form.{is_formed, is_schema}
 use Rattle.js_bundle.specs.Keyword.{Text, keywords, argument, as_text, text_argument}
 use Rattle.js_bundle.specs.NameLaws.{AreOne}
-use Rattle.js_bundle.specs.Names.{same_tokens, is_root, known_as, is_known_as, root_of, stands_at, belongs_to, makes, by_pointer, by_anchor, by_dynamic_anchor, is_pointer, is_named_by, names, is_name}
+use Rattle.js_bundle.specs.Names.{same_tokens, is_root, known_as, is_known_as, root_named, stands_at, belongs_to, makes, by_pointer, by_anchor, by_dynamic_anchor, is_pointer, is_named_by, names, is_name}
 use Rattle.js_bundle.specs.Place.{Place, places_from}
-use Rattle.js_bundle.specs.Refusals.{when, decided, is_empty, is_taken, is_made, on_text, text_rules, name_rules, assertion_rules, at_joined_id, at_id, at_anchor, at_place, at_keyword, at_site, first_pass, second_pass, candidates, most_places}
+use Rattle.js_bundle.specs.Refusals.{when, decided, is_empty, is_taken, is_made, on_text, text_rules, name_rules, assertion_rules, at_joined_id, at_id, at_anchor, at_place, at_member, at_site, first_pass, second_pass, candidates, most_places}
 use Rattle.js_bundle.specs.Resource.{Site, site, sites, joined, identified_by, identified, scope_or, scope_above}
 use Rattle.js_bundle.specs.Seen.{AreRead}
 use Rattle.js_bundle.specs.Url.{longest_uri, without_fragment, printed, raw_fragment, fragment, parsed}
@@ -76,13 +76,13 @@ one_of documents h Is never_both n m s t e f i j =
 
 -- ---- the rules of one keyword
 
-keyword_clear : (before : List Site) (t : Site) (k : Text) (v : Value) → IsClear (at_site before t) → argument k t.schema ≡ Some v → IsClear (at_keyword before t (k, v))
+keyword_clear : (before : List Site) (t : Site) (k : Text) (v : Value) → IsClear (at_site before t) → argument k t.schema ≡ Some v → IsClear (at_member before t (k, v))
 keyword_clear before t k v h e =
-    clear_among (at_keyword before t) (keywords t.schema) (k, v) (clear_there (at_place before t) (flat_map (at_keyword before t) (keywords t.schema)) h) (get_among k v (keywords t.schema) e)
+    clear_among (at_member before t) (keywords t.schema) (k, v) (clear_there (at_place before t) (flat_map (at_member before t) (keywords t.schema)) h) (get_among k v (keywords t.schema) e)
 
 text_clear : (before : List Site) (t : Site) (k u : Text) → IsClear (at_site before t) → argument k t.schema ≡ Some (text u) → IsClear (text_rules before t k u)
 text_clear before t k u h e =
-    let form = when (not (has_form k (text u))) (decided t (k ∷ []) BadKeyword) in
+    let form = when (not (is_formed k (text u))) (decided t (k ∷ []) BadKeyword) in
     let rules = assertion_rules t k (text u) in
     let named = name_rules t k (text u) in
     clear_here (text_rules before t k u) named (clear_there rules (text_rules before t k u ++ named) (clear_there form (rules ++ (text_rules before t k u ++ named)) (keyword_clear before t k (text u) h e)))
@@ -152,7 +152,7 @@ new_root before t h e =
     let full = when (nat_le most_places (length before)) (decided t [] TooManyPlaces) in
     let shape = when (not (is_schema t.schema)) (decided t [] NotASchema) in
     let root = when (is_root t && is_taken before t.above.base) (decided t [] DuplicateUri) in
-    let clear = clear_there shape root (clear_there full (shape ++ root) (clear_here (at_place before t) (flat_map (at_keyword before t) (keywords t.schema)) h)) in
+    let clear = clear_there shape root (clear_there full (shape ++ root) (clear_here (at_place before t) (flat_map (at_member before t) (keywords t.schema)) h)) in
     let both = not_when (is_root t && is_taken before t.above.base) t [] DuplicateUri clear in
     sym (ap (λ b. b && is_taken before t.above.base) e) ∙ both
 
@@ -302,4 +302,4 @@ one_named documents read h name None n m s t e f i j = absurd (cc)
 one_named documents read h name (Some root) n m s t e f i j = one_named_by documents read h root name (is_pointer name) n m s t e f i j
 
 pub one_place : (documents : Documents) → AreRead documents → IsClear (candidates documents) → (uri : Parts) → AreOne documents (λ place. names (sites documents) uri place ≡ true)
-one_place documents read h uri = one_named documents read h (fragment uri) (root_of (sites documents) uri)
+one_place documents read h uri = one_named documents read h (fragment uri) (root_named (sites documents) uri)

@@ -16,7 +16,7 @@ use Rattle.js_bundle.specs.PlaceLaws.{AreDistinct, Differ}
 use Rattle.js_bundle.specs.Resource.{Site, site, sites, identified_by, root_scope, scope_or}
 use Rattle.js_bundle.specs.ResourceNumber.{begins_resource, roots}
 use Rattle.js_bundle.specs.ResourceTable.{AreRooted, StandApart}
-use Rattle.js_bundle.specs.Scan.{below, own_scope, site_at, sites_held, sites_at, sites_of_keywords, sites_in_list, sites_of_items, sites_in_object, sites_of_members, sites_from}
+use Rattle.js_bundle.specs.Scan.{handed_down, own_scope, site_scanned, sites_held, sites_at, sites_of_keywords, sites_in_list, sites_of_items, sites_in_object, sites_of_members, sites_from}
 use Rattle.js_bundle.specs.Seen.{AreRead}
 use Rattle.js_bundle.proofs.Apart.{all_as}
 use Rattle.js_bundle.proofs.Distinct.{tokens-refl, at_place, all_distinct}
@@ -75,38 +75,38 @@ held d r Named a b c f g k = k
 held d r Nothing a b c f g k = tt
 
 -- a place with an `$id` is a root
-identified_root : (d : ℕ) (above : Scope) (p : Tokens) (v : Value) (xs : List Site) → has (codes "$id") v ≡ true → HasRoot d p (site_at d above p v ∷ xs)
+identified_root : (d : ℕ) (above : Scope) (p : Tokens) (v : Value) (xs : List Site) → has (codes "$id") v ≡ true → HasRoot d p (site_scanned d above p v ∷ xs)
 identified_root d above p v xs e =
-    has_first d p (site_at d above p v) xs (rw e (tokens-refl p)) (rw (nat_eq-refl d, tokens-refl p) refl)
+    has_first d p (site_scanned d above p v) xs (rw e (tokens-refl p)) (rw (nat_eq-refl d, tokens-refl p) refl)
 
-itself : (d : ℕ) (above : Scope) (p : Tokens) (v : Value) (xs : List Site) (b : Bool) → has (codes "$id") v ≡ b → IsRooted d above.resource (site_at d above p v ∷ xs) (site_at d above p v)
+itself : (d : ℕ) (above : Scope) (p : Tokens) (v : Value) (xs : List Site) (b : Bool) → has (codes "$id") v ≡ b → IsRooted d above.resource (site_scanned d above p v ∷ xs) (site_scanned d above p v)
 itself d above p v xs false e = (refl, inl (rw e refl))
 itself d above p v xs true e =
     let own : (own_scope above p v).resource ≡ p = rw e refl in
-    (refl, inr (subst (λ q. HasRoot d q (site_at d above p v ∷ xs)) (sym own) (identified_root d above p v xs e)))
+    (refl, inr (subst (λ q. HasRoot d q (site_scanned d above p v ∷ xs)) (sym own) (identified_root d above p v xs e)))
 
 -- the scope of what stands below is the one above, or that of the place, which has an `$id`
-below_it : (d : ℕ) (above : Scope) (p : Tokens) (v : Value) (xs : List Site) → ((below above p v).resource ≡ above.resource) ⊎ HasRoot d (below above p v).resource (site_at d above p v ∷ xs)
+below_it : (d : ℕ) (above : Scope) (p : Tokens) (v : Value) (xs : List Site) → ((handed_down above p v).resource ≡ above.resource) ⊎ HasRoot d (handed_down above p v).resource (site_scanned d above p v ∷ xs)
 below_it d above p v xs = by_id (argument (codes "$id") v) refl
   where
-    by_base : (o : Option Parts) → has (codes "$id") v ≡ true → ((scope_or o p above).resource ≡ above.resource) ⊎ HasRoot d (scope_or o p above).resource (site_at d above p v ∷ xs)
+    by_base : (o : Option Parts) → has (codes "$id") v ≡ true → ((scope_or o p above).resource ≡ above.resource) ⊎ HasRoot d (scope_or o p above).resource (site_scanned d above p v ∷ xs)
     by_base None e = inl refl
     by_base (Some base) e = inr (identified_root d above p v xs e)
 
-    by_id : (o : Option Value) → argument (codes "$id") v ≡ o → ((scope_or (option_and_then (identified_by above.base) o) p above).resource ≡ above.resource) ⊎ HasRoot d (scope_or (option_and_then (identified_by above.base) o) p above).resource (site_at d above p v ∷ xs)
+    by_id : (o : Option Value) → argument (codes "$id") v ≡ o → ((scope_or (option_and_then (identified_by above.base) o) p above).resource ≡ above.resource) ⊎ HasRoot d (scope_or (option_and_then (identified_by above.base) o) p above).resource (site_scanned d above p v ∷ xs)
     by_id None e = inl refl
     by_id (Some id) e = by_base (identified_by above.base id) (ap is_some e)
 
 -- those below, under the place
-under : (d : ℕ) (above : Scope) (p : Tokens) (v : Value) (xs : List Site) → AreAll d (below above p v).resource xs → AreAll d above.resource (site_at d above p v ∷ xs)
+under : (d : ℕ) (above : Scope) (p : Tokens) (v : Value) (xs : List Site) → AreAll d (handed_down above p v).resource xs → AreAll d above.resource (site_scanned d above p v ∷ xs)
 under d above p v xs h =
-    (itself d above p v xs (has (codes "$id") v) refl, all_as (IsRooted d (below above p v).resource xs) (IsRooted d above.resource (site_at d above p v ∷ xs)) (λ x k. (k.0, by_scope x (below_it d above p v xs) k.1)) xs h)
+    (itself d above p v xs (has (codes "$id") v) refl, all_as (IsRooted d (handed_down above p v).resource xs) (IsRooted d above.resource (site_scanned d above p v ∷ xs)) (λ x k. (k.0, by_scope x (below_it d above p v xs) k.1)) xs h)
   where
-    by_scope : (x : Site) → ((below above p v).resource ≡ above.resource) ⊎ HasRoot d (below above p v).resource (site_at d above p v ∷ xs)
-        → (x.own.resource ≡ (below above p v).resource) ⊎ HasRoot d x.own.resource xs → (x.own.resource ≡ above.resource) ⊎ HasRoot d x.own.resource (site_at d above p v ∷ xs)
-    by_scope x s (inr root) = inr (has_later d x.own.resource (site_at d above p v) xs root)
+    by_scope : (x : Site) → ((handed_down above p v).resource ≡ above.resource) ⊎ HasRoot d (handed_down above p v).resource (site_scanned d above p v ∷ xs)
+        → (x.own.resource ≡ (handed_down above p v).resource) ⊎ HasRoot d x.own.resource xs → (x.own.resource ≡ above.resource) ⊎ HasRoot d x.own.resource (site_scanned d above p v ∷ xs)
+    by_scope x s (inr root) = inr (has_later d x.own.resource (site_scanned d above p v) xs root)
     by_scope x (inl same) (inl e) = inl (e ∙ same)
-    by_scope x (inr root) (inl e) = inr (subst (λ q. HasRoot d q (site_at d above p v ∷ xs)) (sym e) root)
+    by_scope x (inr root) (inl e) = inr (subst (λ q. HasRoot d q (site_scanned d above p v ∷ xs)) (sym e) root)
 
 module _ (d : ℕ) where
   mutual
@@ -116,7 +116,7 @@ module _ (d : ℕ) where
     all_rooted (whole z) above p = under d above p (whole z) [] tt
     all_rooted (text s) above p = under d above p (text s) [] tt
     all_rooted (list vs) above p = under d above p (list vs) [] tt
-    all_rooted (object ms) above p = under d above p (object ms) (sites_of_keywords d (below above p (object ms)) p ms) (keywords_rooted ms (below above p (object ms)) p)
+    all_rooted (object ms) above p = under d above p (object ms) (sites_of_keywords d (handed_down above p (object ms)) p ms) (keywords_rooted ms (handed_down above p (object ms)) p)
 
     keywords_rooted : (ms : Members) (above : Scope) (p : Tokens) → AreAll d above.resource (sites_of_keywords d above p ms)
     keywords_rooted no_members above p = tt
@@ -150,8 +150,8 @@ same_root : (b : Bool) → same_tokens [] (if b then [] else []) ≡ true
 same_root true = refl
 same_root false = refl
 
-document_root : (d : ℕ) (uri : Parts) (v : Value) (xs : List Site) → HasRoot d [] (site_at d (root_scope uri) [] v ∷ xs)
-document_root d uri v xs = has_first d [] (site_at d (root_scope uri) [] v) xs (same_root (has (codes "$id") v)) (rw (nat_eq-refl d) refl)
+document_root : (d : ℕ) (uri : Parts) (v : Value) (xs : List Site) → HasRoot d [] (site_scanned d (root_scope uri) [] v ∷ xs)
+document_root d uri v xs = has_first d [] (site_scanned d (root_scope uri) [] v) xs (same_root (has (codes "$id") v)) (rw (nat_eq-refl d) refl)
 
 has_root : (d : ℕ) (uri : Parts) (v : Value) → HasRoot d [] (sites_at d (root_scope uri) [] v)
 has_root d uri null = document_root d uri null []
@@ -159,7 +159,7 @@ has_root d uri (truth b) = document_root d uri (truth b) []
 has_root d uri (whole z) = document_root d uri (whole z) []
 has_root d uri (text s) = document_root d uri (text s) []
 has_root d uri (list vs) = document_root d uri (list vs) []
-has_root d uri (object ms) = document_root d uri (object ms) (sites_of_keywords d (below (root_scope uri) [] (object ms)) [] ms)
+has_root d uri (object ms) = document_root d uri (object ms) (sites_of_keywords d (handed_down (root_scope uri) [] (object ms)) [] ms)
 
 abbrev IsRootedIn : List Site → Site → Type 0
 IsRootedIn xs x = HasRoot x.document x.own.resource xs

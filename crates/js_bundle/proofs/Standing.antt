@@ -12,8 +12,8 @@ use Rattle.js_doc.proofs.Named.{is_text-refl, is_text-sound}
 use Rattle.js_bundle.specs.declared.holding.Holding.{Holding}
 use Rattle.js_bundle.specs.declared.holding.Holding.TheVariants.{One, Listed, Named, Nothing}
 use Rattle.js_bundle.specs.Document.{Document, Documents}
-use Rattle.js_bundle.specs.Keyword.{Text, pairs, keywords}
-use Rattle.js_bundle.specs.Place.{holding, values, items_in, IsPlace, at_root, in_keyword, in_list, in_object, Spot, Place, chosen, places_at, places_of_keywords, places_in_list, places_of_items, places_in_object, places_of_members, places_from}
+use Rattle.js_bundle.specs.Keyword.{Text, member_pairs, keywords}
+use Rattle.js_bundle.specs.Place.{holding, values, items_in, IsPlace, at_root, in_keyword, in_list, in_object, Located, Place, places_held, places_at, places_of_keywords, places_in_list, places_of_items, places_in_object, places_of_members, places_from}
 use Rattle.js_bundle.specs.Resource.{Site, site, sites}
 use Rattle.js_bundle.specs.Seen.{AreOrdered, AreShort}
 use Rattle.js_bundle.proofs.Listing.{Among, is-among, all_append, sound}
@@ -26,7 +26,7 @@ other_text k l true e n = absurd (n (is_text-sound k l e))
 other_text k l false e n = e
 
 -- a name that ascends past another isn't it
-pub member_found : (k : Text) (u : Value) (ms : Members) → NamesAscendInMembers ms → Among (k, u) (pairs ms) → member_named k ms ≡ Some u
+pub member_found : (k : Text) (u : Value) (ms : Members) → NamesAscendInMembers ms → Among (k, u) (member_pairs ms) → member_named k ms ≡ Some u
 member_found k u no_members a h = absurd h
 member_found k u (member l v ms) a (inl e) =
     let same : is_text k l ≡ true = ap (is_text k) (sym (ap (λ m. m.0) e)) ∙ is_text-refl k in
@@ -61,12 +61,12 @@ pub record Below (k : Text) (v u : Value) : Type 0 where
   pub ascends : NamesAscend u
   pub short : IsShort u
 
-among_ascends : (k : Text) (u : Value) (ms : Members) → NamesAscendInMembers ms → Among (k, u) (pairs ms) → NamesAscend u
+among_ascends : (k : Text) (u : Value) (ms : Members) → NamesAscendInMembers ms → Among (k, u) (member_pairs ms) → NamesAscend u
 among_ascends k u no_members a h = absurd h
 among_ascends k u (member l v ms) a (inl e) = subst (λ w. NamesAscend w) (sym (ap (λ m. m.1) e)) a.1
 among_ascends k u (member l v ms) a (inr h) = among_ascends k u ms a.2 h
 
-among_short : (k : Text) (u : Value) (ms : Members) → AreShortMembers ms → Among (k, u) (pairs ms) → IsShort u
+among_short : (k : Text) (u : Value) (ms : Members) → AreShortMembers ms → Among (k, u) (member_pairs ms) → IsShort u
 among_short k u no_members a h = absurd h
 among_short k u (member l v ms) a (inl e) = subst (λ w. IsShort w) (sym (ap (λ m. m.1) e)) a.0
 among_short k u (member l v ms) a (inr h) = among_short k u ms a.1 h
@@ -157,14 +157,14 @@ module _ (number : ℕ) (uri : Parts) where
   abbrev pub OfThis : Place → Type 0
   OfThis t = (t.document ≡ number) × (t.uri ≡ uri)
 
-  chosen_of : (h : Holding) (a b c : List Place) → AllByRecursion OfThis a → AllByRecursion OfThis b → AllByRecursion OfThis c → AllByRecursion OfThis (chosen h a b c)
+  chosen_of : (h : Holding) (a b c : List Place) → AllByRecursion OfThis a → AllByRecursion OfThis b → AllByRecursion OfThis c → AllByRecursion OfThis (places_held h a b c)
   chosen_of One a b c f g k = f
   chosen_of Listed a b c f g k = g
   chosen_of Named a b c f g k = k
   chosen_of Nothing a b c f g k = tt
 
   mutual
-    pub of_source : (v : Value) (above : List Spot) (p : Tokens) → AllByRecursion OfThis (places_at number uri above p v)
+    pub of_source : (v : Value) (above : List Located) (p : Tokens) → AllByRecursion OfThis (places_at number uri above p v)
     of_source null above p = ((refl, refl), tt)
     of_source (truth b) above p = ((refl, refl), tt)
     of_source (whole z) above p = ((refl, refl), tt)
@@ -172,33 +172,33 @@ module _ (number : ℕ) (uri : Parts) where
     of_source (list vs) above p = ((refl, refl), tt)
     of_source (object ms) above p = ((refl, refl), of_keywords ms (above ++ record { pointer = p; schema = object ms } ∷ []) p)
 
-    of_keywords : (ms : Members) (above : List Spot) (p : Tokens) → AllByRecursion OfThis (places_of_keywords number uri above p ms)
+    of_keywords : (ms : Members) (above : List Located) (p : Tokens) → AllByRecursion OfThis (places_of_keywords number uri above p ms)
     of_keywords no_members above p = tt
     of_keywords (member k v ms) above p =
         let q = p ++ k ∷ [] in
-        all_append OfThis (chosen (holding k) (places_at number uri above q v) (places_in_list number uri above q v) (places_in_object number uri above q v)) (places_of_keywords number uri above p ms)
+        all_append OfThis (places_held (holding k) (places_at number uri above q v) (places_in_list number uri above q v) (places_in_object number uri above q v)) (places_of_keywords number uri above p ms)
         (chosen_of (holding k) (places_at number uri above q v) (places_in_list number uri above q v) (places_in_object number uri above q v) (of_source v above q) (of_list v above q) (of_object v above q))
         (of_keywords ms above p)
 
-    of_list : (v : Value) (above : List Spot) (p : Tokens) → AllByRecursion OfThis (places_in_list number uri above p v)
+    of_list : (v : Value) (above : List Located) (p : Tokens) → AllByRecursion OfThis (places_in_list number uri above p v)
     of_list (list vs) above p = of_items vs above p 0
     of_list _ above p = tt
 
-    of_items : (vs : Items) (above : List Spot) (p : Tokens) (i : ℕ) → AllByRecursion OfThis (places_of_items number uri above p i vs)
+    of_items : (vs : Items) (above : List Located) (p : Tokens) (i : ℕ) → AllByRecursion OfThis (places_of_items number uri above p i vs)
     of_items no_items above p i = tt
     of_items (item v vs) above p i =
         all_append OfThis (places_at number uri above (p ++ decimal i ∷ []) v) (places_of_items number uri above p (suc i) vs) (of_source v above (p ++ decimal i ∷ [])) (of_items vs above p (suc i))
 
-    of_object : (v : Value) (above : List Spot) (p : Tokens) → AllByRecursion OfThis (places_in_object number uri above p v)
+    of_object : (v : Value) (above : List Located) (p : Tokens) → AllByRecursion OfThis (places_in_object number uri above p v)
     of_object (object ms) above p = of_members ms above p
     of_object _ above p = tt
 
-    of_members : (ms : Members) (above : List Spot) (p : Tokens) → AllByRecursion OfThis (places_of_members number uri above p ms)
+    of_members : (ms : Members) (above : List Located) (p : Tokens) → AllByRecursion OfThis (places_of_members number uri above p ms)
     of_members no_members above p = tt
     of_members (member n v ms) above p =
         all_append OfThis (places_at number uri above (p ++ n ∷ []) v) (places_of_members number uri above p ms) (of_source v above (p ++ n ∷ [])) (of_members ms above p)
 
-pub of_document : (number : ℕ) (uri : Parts) (v : Value) (above : List Spot) (p : Tokens) → AllByRecursion (λ t. t.document ≡ number) (places_at number uri above p v)
+pub of_document : (number : ℕ) (uri : Parts) (v : Value) (above : List Located) (p : Tokens) → AllByRecursion (λ t. t.document ≡ number) (places_at number uri above p v)
 of_document number uri v above p = all_as (OfThis number uri) (λ t. t.document ≡ number) (λ t e. e.0) (places_at number uri above p v) (of_source number uri v above p)
 
 -- the place is one of its document, which stands among these, where the first has the number n

@@ -11,10 +11,10 @@ use Rattle.js_bundle.specs.declared.refusal.RefusalKind.TheVariants.{BadKeyword,
 use Rattle.js_bundle.specs.Candidate.{Candidate, IsClear}
 use Rattle.js_bundle.specs.Document.{Documents}
 use Rattle.js_bundle.specs.Finding.{number_named, number_of_target}
-use Rattle.js_bundle.specs.Form.{is_text, text_keywords, has_form}
+use Rattle.js_bundle.specs.Form.{is_text_value, text_keywords, is_formed}
 use Rattle.js_bundle.specs.Keyword.{Text, keywords, argument, has, as_text, text_argument}
 use Rattle.js_bundle.specs.Names.{names, named, is_read}
-use Rattle.js_bundle.specs.Refusals.{when, decided, assertion_rules, on_text, text_rules, name_rules, at_place, at_keyword, at_site, first_pass, at_joined_reference, at_reference_text, at_reference, at_references, second_pass, candidates}
+use Rattle.js_bundle.specs.Refusals.{when, decided, assertion_rules, on_text, text_rules, name_rules, at_place, at_member, at_site, first_pass, at_joined_reference, at_reference_text, at_reference, at_references, second_pass, candidates}
 use Rattle.js_bundle.specs.Resource.{Site, sites, joined}
 use Rattle.js_bundle.specs.Target.{reference, first_target}
 use Rattle.js_bundle.specs.Url.{longest_uri, parsed, fragment}
@@ -51,13 +51,13 @@ site_clear before (x ∷ all) zero s h e =
 site_clear before (x ∷ all) (suc n) s h e = site_clear (before ++ x ∷ []) all n s (clear_there (at_site before x) (first_pass (before ++ x ∷ []) all) h) e
 
 -- the form of each keyword of each place
-pub form_clear : (before all : List Site) (n : ℕ) (s : Site) → IsClear (first_pass before all) → slice_get all n ≡ Some s → (k : Text) (v : Value) → argument k s.schema ≡ Some v → has_form k v ≡ true
+pub form_clear : (before all : List Site) (n : ℕ) (s : Site) → IsClear (first_pass before all) → slice_get all n ≡ Some s → (k : Text) (v : Value) → argument k s.schema ≡ Some v → is_formed k v ≡ true
 form_clear before all n s h e k v g =
     let there = site_clear before all n s h e in
     let b = there.0 in
-    let keyword = clear_among (at_keyword b s) (keywords s.schema) (k, v) (clear_there (at_place b s) (flat_map (at_keyword b s) (keywords s.schema)) there.1) (get_among k v (keywords s.schema) g) in
-    formed (has_form k v) (not_when (not (has_form k v)) s (k ∷ []) BadKeyword
-    (clear_here (when (not (has_form k v)) (decided s (k ∷ []) BadKeyword)) (assertion_rules s k v ++ (on_text (text_rules b s k) v ++ name_rules s k v)) keyword))
+    let keyword = clear_among (at_member b s) (keywords s.schema) (k, v) (clear_there (at_place b s) (flat_map (at_member b s) (keywords s.schema)) there.1) (get_among k v (keywords s.schema) g) in
+    formed (is_formed k v) (not_when (not (is_formed k v)) s (k ∷ []) BadKeyword
+    (clear_here (when (not (is_formed k v)) (decided s (k ∷ []) BadKeyword)) (assertion_rules s k v ++ (on_text (text_rules b s k) v ++ name_rules s k v)) keyword))
   where
     formed : (b : Bool) → not b ≡ false → b ≡ true
     formed true e = refl
@@ -65,14 +65,14 @@ form_clear before all n s h e k v g =
 
 -- ---- a reference is a text
 
-text_form : (k : Text) (v : Value) → list_any (bytes_eq k) text_keywords ≡ true → has_form k v ≡ true → is_text v ≡ true
+text_form : (k : Text) (v : Value) → list_any (bytes_eq k) text_keywords ≡ true → is_formed k v ≡ true → is_text_value v ≡ true
 text_form k v e h = rest (list_any (bytes_eq k) text_keywords) e _ h
   where
-    rest : (b : Bool) → b ≡ true → (other : Bool) → (if b then is_text v else other) ≡ true → is_text v ≡ true
+    rest : (b : Bool) → b ≡ true → (other : Bool) → (if b then is_text_value v else other) ≡ true → is_text_value v ≡ true
     rest true e other h = h
     rest false e other h = absurd (cc)
 
-is_as_text : (v : Value) → is_text v ≡ true → is_some (as_text v) ≡ true
+is_as_text : (v : Value) → is_text_value v ≡ true → is_some (as_text v) ≡ true
 is_as_text null e = absurd (cc)
 is_as_text (truth b) e = absurd (cc)
 is_as_text (whole z) e = absurd (cc)
@@ -80,7 +80,7 @@ is_as_text (text t) e = refl
 is_as_text (list vs) e = absurd (cc)
 is_as_text (object ms) e = absurd (cc)
 
-some_text : (o : Option Value) → is_some o ≡ true → ((v : Value) → o ≡ Some v → is_text v ≡ true) → is_some (option_and_then as_text o) ≡ true
+some_text : (o : Option Value) → is_some o ≡ true → ((v : Value) → o ≡ Some v → is_text_value v ≡ true) → is_some (option_and_then as_text o) ≡ true
 some_text None e h = absurd (cc)
 some_text (Some v) e h = is_as_text v (h v refl)
 

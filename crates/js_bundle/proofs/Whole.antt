@@ -10,7 +10,7 @@ use Rattle.js_bundle.specs.Document.{Documents}
 use Rattle.js_bundle.specs.Form.{is_schema}
 use Rattle.js_bundle.specs.Keyword.{keywords}
 use Rattle.js_bundle.specs.Names.{is_root}
-use Rattle.js_bundle.specs.Refusals.{when, decided, is_taken, most_places, at_place, at_keyword, at_site, first_pass, second_pass, candidates}
+use Rattle.js_bundle.specs.Refusals.{when, decided, is_taken, most_places, at_place, at_member, at_site, first_pass, second_pass, candidates}
 use Rattle.js_bundle.specs.Resource.{Site, sites}
 use Rattle.js_bundle.specs.Scan.{most_sites, scanned}
 use Rattle.js_bundle.proofs.Stopping.{clear_here, clear_there, clear_append, stopped_here, stopped_later}
@@ -33,7 +33,7 @@ room : (before : List Site) (place : Site) → IsClear (at_site before place) �
 room before place h =
     let full = when (nat_le most_places (length before)) (decided place [] TooManyPlaces) in
     let rest = when (not (is_schema place.schema)) (decided place [] NotASchema) ++ when (is_root place && is_taken before place.above.base) (decided place [] DuplicateUri) in
-    leb-false most_places (length before) (not_full place (nat_le most_places (length before)) (clear_here full rest (clear_here (at_place before place) (flat_map (at_keyword before place) (keywords place.schema)) h)))
+    leb-false most_places (length before) (not_full place (nat_le most_places (length before)) (clear_here full rest (clear_here (at_place before place) (flat_map (at_member before place) (keywords place.schema)) h)))
 
 few : (xs before : List Site) → IsClear (first_pass before xs) → length before ≤ most_places → length before + length xs ≤ most_places
 few [] before h low = omega (arith, low)

@@ -54,8 +54,8 @@ number_below all root pointer = position_from (option_map_or (λ r. stands_at r.
 abbrev pub number_anchored : List Site → Option Site → Text → Option ℕ
 number_anchored all root name = position_from (option_map_or (λ r s. by_anchor r name s || by_dynamic_anchor r name s) root (λ _. false)) 0 all
 
-abbrev pub number_in : List Site → Option Site → Text → Option ℕ
-number_in all root f = position_from (option_map_or (λ r. is_named_by r f) root (λ _. false)) 0 all
+abbrev pub number_named_in : List Site → Option Site → Text → Option ℕ
+number_named_in all root f = position_from (option_map_or (λ r. is_named_by r f) root (λ _. false)) 0 all
 
 abbrev pub is_pointer_read : Text → Bool
 is_pointer_read f = not (is_pointer f) || is_some (pointer_of f)

@@ -5,9 +5,9 @@ use Rattle.js_doc.specs.Value.{Value, truth, text, list, object, item}
 use Rattle.js_bundle.specs.Keyword.{Text}
 use Rattle.js_bundle.specs.Place.{list_of_schemas, object_of_schemas}
 
-abbrev pub is_text : Value → Bool
-is_text (text t) = true
-is_text _ = false
+abbrev pub is_text_value : Value → Bool
+is_text_value (text t) = true
+is_text_value _ = false
 
 abbrev pub is_filled_list : Value → Bool
 is_filled_list (list (item v vs)) = true
@@ -29,8 +29,8 @@ text_keywords = codes "$schema" ∷ codes "$id" ∷ codes "$ref" ∷ codes "$dyn
 
 -- The lists of schemas aren't empty. What holds one schema takes any value here: whether it is a schema is asked of the
 -- place. `$comment`, `$vocabulary` and unknown keywords take any value.
-abbrev pub has_form : Text → Value → Bool
-has_form keyword argument =
-    if list_any (bytes_eq keyword) text_keywords then is_text argument
+abbrev pub is_formed : Text → Value → Bool
+is_formed keyword argument =
+    if list_any (bytes_eq keyword) text_keywords then is_text_value argument
     else (if list_any (bytes_eq keyword) list_of_schemas then is_filled_list argument
     else (if list_any (bytes_eq keyword) object_of_schemas then is_object argument else true))

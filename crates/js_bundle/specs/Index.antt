@@ -15,12 +15,12 @@ use Rattle.js_bundle.specs.Url.{printed}
 
 -- ---- numbers under texts
 
-abbrev pub under : Numbering → Text → Option ℕ
-under numbers key = lookup (λ k. bytes_eq key (string_bytes k)) numbers.first.entries
+abbrev pub number_of_key : Numbering → Text → Option ℕ
+number_of_key numbers key = lookup (λ k. bytes_eq key (string_bytes k)) numbers.first.entries
 
 -- each of the keys has the number, unless it had one before
 pub record ArePut (old : Numbering) (keys : List Text) (n : ℕ) (new : Numbering) : Type 0 where
-  pub told : (key : Text) → under new key ≡ option_or (under old key) (if list_any (bytes_eq key) keys then Some n else None)
+  pub told : (key : Text) → number_of_key new key ≡ option_or (number_of_key old key) (if list_any (bytes_eq key) keys then Some n else None)
 
 -- ---- the keys of a place
 
@@ -52,7 +52,7 @@ name_keys place = name_keys_by (codes "$anchor") place ++ name_keys_by (codes "$
 
 -- under each key stands the number of the first place that has it
 pub record FindsFirst (keys : Site → List Text) (numbers : Numbering) (places : List Site) : Type 0 where
-  pub first : (key : Text) → under numbers key ≡ position_from (λ place. list_any (bytes_eq key) (keys place)) 0 places
+  pub first : (key : Text) → number_of_key numbers key ≡ position_from (λ place. list_any (bytes_eq key) (keys place)) 0 places
 
 pub record IsIndex (index : Index) (all : List Site) : Type 0 where
   pub known : FindsFirst known_as index.known all
@@ -67,4 +67,4 @@ pub record IsAdded (old : Index) (place : Site) (n : ℕ) (new : Index) : Type 0
 
 -- the same of places without their schemas, by where they stand
 pub record StandsFirst (numbers : Numbering) (spots : List Spot) : Type 0 where
-  pub first : (key : Text) → under numbers key ≡ position_from (λ s. list_any (bytes_eq key) (place_key s.document s.pointer ∷ [])) 0 spots
+  pub first : (key : Text) → number_of_key numbers key ≡ position_from (λ s. list_any (bytes_eq key) (place_key s.document s.pointer ∷ [])) 0 spots

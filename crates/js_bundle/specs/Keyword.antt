@@ -6,13 +6,13 @@ use Rattle.js_doc.specs.Members.{get}
 abbrev pub Text : Type 0
 Text = List ℕ
 
-abbrev pub pairs : Members → Named
-pairs no_members = []
-pairs (member name value more) = (name, value) ∷ pairs more
+abbrev pub member_pairs : Members → Named
+member_pairs no_members = []
+member_pairs (member name value more) = (name, value) ∷ member_pairs more
 
 -- a schema's keywords with their arguments, ascending; a schema that is no object has none
 abbrev pub keywords : Value → Named
-keywords (object ms) = pairs ms
+keywords (object ms) = member_pairs ms
 keywords _ = []
 
 abbrev pub argument : Text → Value → Option Value

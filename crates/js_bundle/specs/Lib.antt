@@ -4,6 +4,8 @@ pub mod Place
 pub mod PlaceLaws
 pub mod Url
 pub mod Resource
+pub mod KeywordName
+pub mod Grouped
 pub mod Location
 pub mod Names
 pub mod Target

@@ -31,8 +31,8 @@ abbrev pub is_known_as : Text → Site → Bool
 is_known_as uri place = list_any (bytes_eq uri) (known_as place)
 
 -- the root of the resource that a URI is of, its fragment aside
-abbrev pub root_of : List Site → Parts → Option Site
-root_of all uri = find (is_known_as (printed (without_fragment uri))) all
+abbrev pub root_named : List Site → Parts → Option Site
+root_named all uri = find (is_known_as (printed (without_fragment uri))) all
 
 -- ---- the three ways to name a place in a resource (section 8.2.2 for the two anchors)
 
@@ -74,7 +74,7 @@ is_named_by root f = if is_pointer f then by_pointer root f else (λ place. by_a
 
 -- the URI names the place
 abbrev pub names : List Site → Parts → Site → Bool
-names all uri = option_map_or (λ root. is_named_by root (fragment uri)) (root_of all uri) (λ _. false)
+names all uri = option_map_or (λ root. is_named_by root (fragment uri)) (root_named all uri) (λ _. false)
 
 -- the place that the URI names
 abbrev pub named : List Site → Parts → Option Site

@@ -55,7 +55,7 @@ pub data IsPlace (root : Value) : Tokens → Value → Type 0 where
 -- ---- the places in scan order
 
 -- a schema, and where it stands in its document
-pub record Spot : Type 0 where
+pub record Located : Type 0 where
   pub pointer : Tokens
   pub schema : Value
 
@@ -63,43 +63,43 @@ pub record Spot : Type 0 where
 pub record Place : Type 0 where
   pub document : ℕ
   pub uri : Parts
-  pub above : List Spot
-  pub spot : Spot
+  pub above : List Located
+  pub spot : Located
 
-abbrev pub chosen : Holding → List Place → List Place → List Place → List Place
-chosen One one listed named = one
-chosen Listed one listed named = listed
-chosen Named one listed named = named
-chosen Nothing one listed named = []
+abbrev pub places_held : Holding → List Place → List Place → List Place → List Place
+places_held One one listed named = one
+places_held Listed one listed named = listed
+places_held Named one listed named = named
+places_held Nothing one listed named = []
 
 module _ (number : ℕ) (uri : Parts) where
   abbrev mutual
     -- The place at p and those below it: itself first, then by keyword ascending, and by index or by name ascending.
-    pub places_at : List Spot → Tokens → Value → List Place
+    pub places_at : List Located → Tokens → Value → List Place
     places_at above p (object ms) =
         record { document = number; uri = uri; above = above; spot = record { pointer = p; schema = object ms } }
         ∷ places_of_keywords (above ++ record { pointer = p; schema = object ms } ∷ []) p ms
     places_at above p v = record { document = number; uri = uri; above = above; spot = record { pointer = p; schema = v } } ∷ []
 
-    pub places_of_keywords : List Spot → Tokens → Members → List Place
+    pub places_of_keywords : List Located → Tokens → Members → List Place
     places_of_keywords above p no_members = []
     places_of_keywords above p (member k v ms) =
-        chosen (holding k) (places_at above (p ++ k ∷ []) v) (places_in_list above (p ++ k ∷ []) v) (places_in_object above (p ++ k ∷ []) v)
+        places_held (holding k) (places_at above (p ++ k ∷ []) v) (places_in_list above (p ++ k ∷ []) v) (places_in_object above (p ++ k ∷ []) v)
         ++ places_of_keywords above p ms
 
-    pub places_in_list : List Spot → Tokens → Value → List Place
+    pub places_in_list : List Located → Tokens → Value → List Place
     places_in_list above p (list vs) = places_of_items above p 0 vs
     places_in_list above p _ = []
 
-    pub places_of_items : List Spot → Tokens → ℕ → Items → List Place
+    pub places_of_items : List Located → Tokens → ℕ → Items → List Place
     places_of_items above p i no_items = []
     places_of_items above p i (item v vs) = places_at above (p ++ decimal i ∷ []) v ++ places_of_items above p (suc i) vs
 
-    pub places_in_object : List Spot → Tokens → Value → List Place
+    pub places_in_object : List Located → Tokens → Value → List Place
     places_in_object above p (object ms) = places_of_members above p ms
     places_in_object above p _ = []
 
-    pub places_of_members : List Spot → Tokens → Members → List Place
+    pub places_of_members : List Located → Tokens → Members → List Place
     places_of_members above p no_members = []
     places_of_members above p (member n v ms) = places_at above (p ++ n ∷ []) v ++ places_of_members above p ms
 

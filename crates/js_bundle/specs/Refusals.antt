@@ -19,7 +19,7 @@ use Rattle.js_bundle.specs.Keyword.{Text, keywords, text_argument}
 use Rattle.js_bundle.specs.Url.{longest_uri, without_fragment, printed, raw_fragment, fragment}
 use Rattle.js_bundle.specs.Resource.{Site, sites}
 use Rattle.js_bundle.specs.Names.{is_root, is_known_as, belongs_to, makes, is_read, named, is_name}
-use Rattle.js_bundle.specs.Form.{is_schema, has_form}
+use Rattle.js_bundle.specs.Form.{is_schema, is_formed}
 
 -- ---- a line of the list
 
@@ -118,14 +118,14 @@ name_rules place k argument =
     if is k (codes "patternProperties") then flat_map (λ n. at_pattern place (k ∷ n.0 ∷ []) n.0) (keywords argument) else []
 
 -- of a keyword, its form first
-abbrev pub at_keyword : List Site → Site → Text × Value → List Candidate
-at_keyword before place m =
-    when (not (has_form m.0 m.1)) (decided place (m.0 ∷ []) BadKeyword)
+abbrev pub at_member : List Site → Site → Text × Value → List Candidate
+at_member before place m =
+    when (not (is_formed m.0 m.1)) (decided place (m.0 ∷ []) BadKeyword)
     ++ (assertion_rules place m.0 m.1 ++ (on_text (text_rules before place m.0) m.1 ++ name_rules place m.0 m.1))
 
 -- of a place and its keywords
 abbrev pub at_site : List Site → Site → List Candidate
-at_site before place = at_place before place ++ flat_map (at_keyword before place) (keywords place.schema)
+at_site before place = at_place before place ++ flat_map (at_member before place) (keywords place.schema)
 
 abbrev pub first_pass : List Site → List Site → List Candidate
 first_pass before [] = []

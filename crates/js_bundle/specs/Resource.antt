@@ -10,7 +10,7 @@ use Rattle.js_doc.specs.Value.{Value}
 use Rattle.js_bundle.specs.declared.scope.Scope.{Scope}
 use Rattle.js_bundle.specs.Keyword.{Text, argument, as_text, has}
 use Rattle.js_bundle.specs.Document.{Documents}
-use Rattle.js_bundle.specs.Place.{Place, Spot, places}
+use Rattle.js_bundle.specs.Place.{Place, Located, places}
 use Rattle.js_bundle.specs.Url.{longest_uri, without_fragment, parsed}
 
 -- a text joined with a base; none if it is too long, or `url` can't join it
@@ -32,7 +32,7 @@ abbrev pub scope_or : Option Parts → Tokens → Scope → Scope
 scope_or None p scope = scope
 scope_or (Some base) p scope = record { resource = p; base = base }
 
-abbrev pub scope_below : Scope → Spot → Scope
+abbrev pub scope_below : Scope → Located → Scope
 scope_below scope s = scope_or (identified scope.base s.schema) s.pointer scope
 
 -- the scope of a whole document: its root's resource, under its URI

@@ -18,14 +18,14 @@ site_of s = record { document = s.document; pointer = s.pointer.value; above = s
 
 -- ---- the scan, with the scope handed down
 
-abbrev pub below : Scope → Tokens → Value → Scope
-below above p v = scope_below above (record { pointer = p; schema = v })
+abbrev pub handed_down : Scope → Tokens → Value → Scope
+handed_down above p v = scope_below above (record { pointer = p; schema = v })
 
 abbrev pub own_scope : Scope → Tokens → Value → Scope
-own_scope above p v = record { resource = if has (codes "$id") v then p else above.resource; base = (below above p v).base }
+own_scope above p v = record { resource = if has (codes "$id") v then p else above.resource; base = (handed_down above p v).base }
 
-abbrev pub site_at : ℕ → Scope → Tokens → Value → Site
-site_at d above p v = record { document = d; pointer = p; above = above; own = own_scope above p v; identifies = is_some (identified above.base v); schema = v }
+abbrev pub site_scanned : ℕ → Scope → Tokens → Value → Site
+site_scanned d above p v = record { document = d; pointer = p; above = above; own = own_scope above p v; identifies = is_some (identified above.base v); schema = v }
 
 abbrev pub sites_held : Holding → List Site → List Site → List Site → List Site
 sites_held One one listed named = one
@@ -35,8 +35,8 @@ sites_held Nothing one listed named = []
 
 abbrev mutual
   pub sites_at : ℕ → Scope → Tokens → Value → List Site
-  sites_at d above p (object ms) = site_at d above p (object ms) ∷ sites_of_keywords d (below above p (object ms)) p ms
-  sites_at d above p v = site_at d above p v ∷ []
+  sites_at d above p (object ms) = site_scanned d above p (object ms) ∷ sites_of_keywords d (handed_down above p (object ms)) p ms
+  sites_at d above p v = site_scanned d above p v ∷ []
 
   pub sites_of_keywords : ℕ → Scope → Tokens → Members → List Site
   sites_of_keywords d above p no_members = []

@@ -8,7 +8,6 @@ ghost use Rattle.js_bundle.specs.Place.{holding};
 ghost use Rattle.js_bundle.specs.Schemas.{is_place, place_at, below, fits, step_of, step_tokens, Finds, FindsSchema, Holds};
 ghost use Rattle.js_bundle.specs.Spot.{spot_of, stands_below};
 
-use crate::checked::Spot;
 use crate::edges::{edge_to, edges_under};
 use crate::holding::Holding;
 use crate::index::place_key;
@@ -17,6 +16,7 @@ use crate::place::{Place, Step};
 use crate::pointers::further;
 use crate::scan::holding_of;
 use crate::schemas::Schemas;
+use crate::whole_check::Spot;
 use js_doc::{Memory, Pointer, Text};
 use std::alloc::Global;
 

@@ -1,7 +1,7 @@
 //! What dynamic references lead to (JSON Schema Core, sections 7.1 and 8.2.3.2).
 ghost use Rattle.std.specs.Prelude.{◌≡◌, true, codes, slice_get, option_map, option_and_then};
 ghost use Rattle.js_bundle.specs.Finding.{by_scope, under_number};
-ghost use Rattle.js_bundle.specs.Index.{under};
+ghost use Rattle.js_bundle.specs.Index.{number_of_key};
 ghost use Rattle.js_bundle.specs.Resource.{sites};
 ghost use Rattle.js_bundle.specs.ResourceNumber.{dynamic_target_in, roots, roots_at};
 ghost use Rattle.js_bundle.specs.Schemas.{is_place, has_keyword, place_at, path_at, StandsFor, Finds};
@@ -136,7 +136,7 @@ impl Schemas {
 
 // The number that is kept under a name, in the resource with the number.
 fn anchored(anchors: &[Numbering], resource: usize, name: &str) -> Option<usize>
-    ensures { result ≡ option_and_then (λ names. under names name.now) (slice_get anchors.now resource) }
+    ensures { result ≡ option_and_then (λ names. number_of_key names name.now) (slice_get anchors.now resource) }
 {
     match anchors.get(resource) {
         Some(names) => names.get(name),

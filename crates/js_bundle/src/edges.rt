@@ -7,8 +7,8 @@ ghost use Rattle.js_bundle.specs.Schemas.{step_of, step_tokens};
 ghost use Rattle.js_bundle.specs.Spot.{spot_of, stands_below};
 
 use crate::below::is_step;
-use crate::checked::Spot;
 use crate::place::Step;
+use crate::whole_check::Spot;
 use js_doc::{Memory, Text};
 use std::alloc::Global;
 

@@ -5,25 +5,25 @@ ghost use Rattle.js_doc.specs.Seen.{value_of};
 ghost use Rattle.js_bundle.specs.declared.refusal.RefusalKind.TheVariants.{BadKeyword};
 ghost use Rattle.js_bundle.specs.Built.{assertion_at, assertions_at, assertions_in, patterns_of, patterns_at, patterns_in};
 ghost use Rattle.js_bundle.specs.Candidate.{IsClear, IsStopped};
-ghost use Rattle.js_bundle.specs.Form.{has_form};
+ghost use Rattle.js_bundle.specs.Form.{is_formed};
 ghost use Rattle.js_bundle.specs.Index.{IsIndex};
 ghost use Rattle.js_bundle.specs.Keyword.{keywords};
-ghost use Rattle.js_bundle.specs.Refusals.{when, decided, on_text, text_rules, at_keyword, at_site, first_pass};
+ghost use Rattle.js_bundle.specs.Refusals.{when, decided, on_text, text_rules, at_member, at_site, first_pass};
 ghost use Rattle.js_bundle.specs.Scan.{site_of};
 
 use crate::built::{Built, keep_assertion, read_names};
-use crate::check::{check_anchor, check_dialect, check_id, check_place, is_formed, read_assertion};
 use crate::fault::{Fault, refuse};
 use crate::index::Index;
 use crate::refusal::RefusalKind;
+use crate::rules::{check_anchor, check_dialect, check_id, check_place, is_formed, read_assertion};
 use crate::scan::Site;
 use js_doc::{Doc, Members};
 use std::alloc::Global;
 
 fn check_form(alloc: Global, site: &Site<'_>, keyword: &str, argument: &Doc) -> Result<(), Fault>
-    ensures ok { OnOk result (IsClear (when (not (has_form keyword.now (value_of argument.now)))
+    ensures ok { OnOk result (IsClear (when (not (is_formed keyword.now (value_of argument.now)))
         (decided (site_of site.now) (keyword.now ∷ []) BadKeyword))) }
-    ensures err { IfErr result (IsStopped (when (not (has_form keyword.now (value_of argument.now)))
+    ensures err { IfErr result (IsStopped (when (not (is_formed keyword.now (value_of argument.now)))
         (decided (site_of site.now) (keyword.now ∷ []) BadKeyword))) }
 {
     if is_formed(keyword, argument) {
@@ -90,13 +90,13 @@ fn check_keyword(
 ) -> Result<(), Fault>
     requires { IsIndex index.now (map site_of before.now) }
     ensures clear { OnOk result (IsClear
-        (at_keyword (map site_of before.now) (site_of site.now) (keyword.now, value_of argument.now))) }
+        (at_member (map site_of before.now) (site_of site.now) (keyword.now, value_of argument.now))) }
     ensures assertions { OnOk result (built.new.assertions.items ≡ built.old.assertions.items
         ++ assertion_at siblings.now (keyword.now, value_of argument.now)) }
     ensures patterns { OnOk result (built.new.patterns.items ≡ built.old.patterns.items
         ++ patterns_of (keyword.now, value_of argument.now)) }
     ensures err { IfErr result (IsStopped
-        (at_keyword (map site_of before.now) (site_of site.now) (keyword.now, value_of argument.now))) }
+        (at_member (map site_of before.now) (site_of site.now) (keyword.now, value_of argument.now))) }
 {
     check_form(alloc, site, keyword, argument)?;
     let assertion = read_assertion(alloc, site, keyword, argument, siblings)?;
@@ -115,11 +115,11 @@ fn check_keywords(
 ) -> Result<Built, Fault>
     requires { IsIndex index.now (map site_of before.now) }
     ensures clear { OnOk result (IsClear
-        (flat_map (at_keyword (map site_of before.now) (site_of site.now)) members.now)) }
+        (flat_map (at_member (map site_of before.now) (site_of site.now)) members.now)) }
     ensures assertions { IfOk result (λ b. b.assertions.items ≡ flat_map (assertion_at members.now) members.now) }
     ensures patterns { IfOk result (λ b. b.patterns.items ≡ flat_map patterns_of members.now) }
     ensures err { IfErr result (IsStopped
-        (flat_map (at_keyword (map site_of before.now) (site_of site.now)) members.now)) }
+        (flat_map (at_member (map site_of before.now) (site_of site.now)) members.now)) }
 {
     let mut built = Built::new(alloc);
     for (keyword, argument) in members.pairs() {
@@ -145,11 +145,11 @@ fn check_schema(
 ) -> Result<Built, Fault>
     requires { IsIndex index.now (map site_of before.now) }
     ensures clear { OnOk result (IsClear (flat_map
-        (at_keyword (map site_of before.now) (site_of site.now)) (keywords (site_of site.now).schema))) }
+        (at_member (map site_of before.now) (site_of site.now)) (keywords (site_of site.now).schema))) }
     ensures assertions { IfOk result (λ b. b.assertions.items ≡ assertions_at (site_of site.now)) }
     ensures patterns { IfOk result (λ b. b.patterns.items ≡ patterns_at (site_of site.now)) }
     ensures err { IfErr result (IsStopped (flat_map
-        (at_keyword (map site_of before.now) (site_of site.now)) (keywords (site_of site.now).schema))) }
+        (at_member (map site_of before.now) (site_of site.now)) (keywords (site_of site.now).schema))) }
 {
     match site.schema {
         Doc::Members(members) => check_keywords(alloc, index, before, site, members),

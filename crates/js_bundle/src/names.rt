@@ -3,9 +3,9 @@ ghost use Rattle.std.specs.Prelude.{◌≡◌, ◌&&◌, ◌||◌, [], ◌∷◌
 ghost use Rattle.std.specs.List.{list_any, list_all, position_from};
 ghost use Rattle.js_doc.specs.PointerReading.{pointer_of};
 ghost use Rattle.std.specs.Str.{is_utf8};
-ghost use Rattle.js_bundle.specs.Finding.{number_named, number_in, number_below, number_anchored, is_pointer_read, IfNotRead};
+ghost use Rattle.js_bundle.specs.Finding.{number_named, number_named_in, number_below, number_anchored, is_pointer_read, IfNotRead};
 ghost use Rattle.js_bundle.specs.Index.{IsIndex, name_key, name_keys, place_key, place_keys};
-ghost use Rattle.js_bundle.specs.Names.{same_tokens, is_root, is_known_as, root_of, stands_at, belongs_to, makes, by_pointer, by_anchor, by_dynamic_anchor, is_pointer, is_read};
+ghost use Rattle.js_bundle.specs.Names.{same_tokens, is_root, is_known_as, root_named, stands_at, belongs_to, makes, by_pointer, by_anchor, by_dynamic_anchor, is_pointer, is_read};
 ghost use Rattle.js_bundle.specs.Scan.{site_of};
 ghost use Rattle.js_bundle.specs.Url as spec;
 
@@ -88,7 +88,7 @@ fn is_anchored(site: &Site<'_>, root: &Site<'_>, name: &str) -> bool
 }
 
 // The root of the resource that has the URI.
-fn root_of<'s, 'a>(index: &Index, sites: &'s [Site<'a>], uri: &str) -> Option<&'s Site<'a>>
+fn root_named<'s, 'a>(index: &Index, sites: &'s [Site<'a>], uri: &str) -> Option<&'s Site<'a>>
     requires { IsIndex index.now (map site_of sites.now) }
     ensures { option_map (λ s. site_of s.now) result ≡ find (is_known_as uri.now) (map site_of sites.now) }
 {
@@ -289,7 +289,7 @@ fn place_in(
 ) -> Result<Option<usize>, NameFault>
     requires { IsIndex index.now (map site_of sites.now) }
     ensures ok { IfOk result
-        (λ n. n ≡ number_in (map site_of sites.now) (option_map (λ s. site_of s.now) root.entry) fragment.now) }
+        (λ n. n ≡ number_named_in (map site_of sites.now) (option_map (λ s. site_of s.now) root.entry) fragment.now) }
     ensures read { OnOk result (is_pointer_read fragment.now ≡ true) }
     ensures err { IfErr result (λ e. IfNotRead e (is_pointer_read fragment.now ≡ false)) }
 {
@@ -319,6 +319,6 @@ pub(crate) fn number_named(
         return Err(NameFault::NotRead);
     };
     let bare = uri::without_fragment(uri)?;
-    let root = root_of(index, sites, uri::text_of(&bare));
+    let root = root_named(index, sites, uri::text_of(&bare));
     place_in(alloc, index, sites, root, fragment)
 }

@@ -1,6 +1,6 @@
 //! Numbering of places, each under a text.
 ghost use Rattle.std.specs.Prelude.{◌≡◌, ◌++◌, [], ◌∷◌, None, OnOk, string_bytes, option_to_list, option_copied};
-ghost use Rattle.js_bundle.specs.Index.{under, ArePut};
+ghost use Rattle.js_bundle.specs.Index.{number_of_key, ArePut};
 
 use indexmap::IndexMap;
 use js_doc::Memory;
@@ -23,7 +23,7 @@ impl Numbering {
 
     /// The number under the text.
     pub(crate) fn get(&self, text: &str) -> Option<usize>
-        ensures { result ≡ under self.now text.now }
+        ensures { result ≡ number_of_key self.now text.now }
     {
         self.first.get(text).copied()
     }
@@ -39,7 +39,7 @@ impl Numbering {
     }
 
     fn append(&mut self, text: String, number: usize) -> Result<(), Memory>
-        requires { under self.old (string_bytes text) ≡ None }
+        requires { number_of_key self.old (string_bytes text) ≡ None }
         ensures { OnOk result (self.new.first.entries ≡ self.old.first.entries ++ (text, number) ∷ []) }
     {
         self.first.insert(text, number)?;

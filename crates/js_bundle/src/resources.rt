@@ -7,10 +7,10 @@ ghost use Rattle.js_bundle.specs.Schemas.{is_place, place_at, resources, lent};
 ghost use Rattle.js_bundle.specs.Spot.{spot_of, document_uri, base_made, resource_of};
 ghost use Rattle.js_bundle.specs.Url as spec;
 
-use crate::checked::Spot;
 use crate::place::Place;
 use crate::schemas::Schemas;
 use crate::uri;
+use crate::whole_check::Spot;
 use js_doc::Memory;
 use std::alloc::Global;
 

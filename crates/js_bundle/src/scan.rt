@@ -3,7 +3,7 @@ ghost use Rattle.std.specs.Prelude.{◌≡◌, [], ◌∷◌, ◌++◌, OnOk, If
 ghost use Rattle.js_doc.specs.Seen.{value_of};
 ghost use Rattle.js_doc.specs.Value as spec;
 ghost use Rattle.js_bundle.specs.Place.{holding};
-ghost use Rattle.js_bundle.specs.Scan.{SameFront, site_of, site_at, below, sites_held, sites_at, sites_of_keyword, sites_of_keywords, sites_in_list, sites_of_items, sites_in_object, sites_of_members, scanned};
+ghost use Rattle.js_bundle.specs.Scan.{SameFront, site_of, site_scanned, handed_down, sites_held, sites_at, sites_of_keyword, sites_of_keywords, sites_in_list, sites_of_items, sites_in_object, sites_of_members, scanned};
 ghost use Rattle.js_bundle.specs.Resource.{root_scope};
 ghost use Rattle.js_bundle.specs.Seen.{document_of};
 
@@ -66,9 +66,9 @@ fn add_site<'a>(
     schema: &'a Doc,
 ) -> Result<Rc<Scope>, Memory>
     ensures added { OnOk result (map site_of out.new.items ≡ map site_of out.old.items
-        ++ site_at document above.now.value pointer.now.value (value_of schema.now) ∷ []) }
+        ++ site_scanned document above.now.value pointer.now.value (value_of schema.now) ∷ []) }
     ensures below { IfOk result
-        (λ s. s.value ≡ below above.now.value pointer.now.value (value_of schema.now)) }
+        (λ s. s.value ≡ handed_down above.now.value pointer.now.value (value_of schema.now)) }
 {
     let Scopes {
         own,

@@ -9,11 +9,11 @@ ghost use Rattle.js_bundle.specs.Seen.{AreRead};
 ghost use Rattle.js_bundle.specs.Spot.{spot, spot_of};
 
 use crate::built::Built;
-use crate::checked::{Checked, Spot};
 use crate::document::Document;
 use crate::location::absolute;
 use crate::place::Place;
 use crate::uri;
+use crate::whole_check::{Checked, Spot};
 use js_doc::{Doc, Memory, Pointer};
 use std::alloc::Global;
 use std::marker::Model;

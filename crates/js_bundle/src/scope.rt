@@ -2,7 +2,7 @@
 ghost use Rattle.std.specs.Prelude.{◌≡◌, IfOk, unwrap_or, is_some, option_copied, option_map, option_and_then};
 ghost use Rattle.js_doc.specs.Seen.{value_of};
 ghost use Rattle.js_bundle.specs.Resource.{joined, identified, identified_by, root_scope, scope_or};
-ghost use Rattle.js_bundle.specs.Scan.{below, own_scope};
+ghost use Rattle.js_bundle.specs.Scan.{handed_down, own_scope};
 ghost use Rattle.js_bundle.specs.Url as spec;
 
 use crate::keyword::{argument, as_text};
@@ -129,7 +129,7 @@ pub(crate) fn scopes_at(
     ensures own { IfOk result
         (λ s. s.own.value ≡ own_scope above.now.value pointer.now (value_of schema.now)) }
     ensures below { IfOk result
-        (λ s. s.below.value ≡ below above.now.value pointer.now (value_of schema.now)) }
+        (λ s. s.below.value ≡ handed_down above.now.value pointer.now (value_of schema.now)) }
     ensures identifies { IfOk result
         (λ s. s.identifies ≡ is_some (identified above.now.value.base (value_of schema.now))) }
 {

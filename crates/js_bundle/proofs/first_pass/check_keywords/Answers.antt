@@ -5,7 +5,7 @@ use Rattle.js_doc.specs.Seen.{pair_of, value_of}
 use Rattle.js_bundle.specs.Built.{assertion_at, patterns_of}
 use Rattle.js_bundle.specs.Candidate.{IsClear, IsStopped}
 use Rattle.js_bundle.specs.Leads.{Leads}
-use Rattle.js_bundle.specs.Refusals.{at_keyword}
+use Rattle.js_bundle.specs.Refusals.{at_member}
 use Rattle.js_bundle.specs.Scan.{site_of}
 use Rattle.js_bundle.proofs.Passes.{piece_next}
 use Rattle.js_bundle.proofs.Stopping.{leads_past, leads_stop}
@@ -14,7 +14,7 @@ use Rattle.js_bundle.proofs.first_pass.check_keywords.Goals as goal
 pub returns-in_err-check_keyword-clause-err : goal.returns-in_err-check_keyword-clause-err
 returns-in_err-check_keyword-clause-err c =
     let p = err_from_is_err_and c.from_residual.result c.from_residual.ensures.1 in
-    let f = at_keyword (map site_of c.args.before.now) (site_of c.args.site.now) in
+    let f = at_member (map site_of c.args.before.now) (site_of c.args.site.now) in
     let e = c.in_err-check_keyword.field-0.0 in
     let v = value_of c.in-Some.argument.now in
     let all = c.args.members.now in
@@ -26,7 +26,7 @@ pub loop-keyword-preserved : goal.loop-keyword-preserved
 loop-keyword-preserved c =
     let l = c.loop-keyword in
     let all = c.args.members.now in
-    let f = at_keyword (map site_of c.args.before.now) (site_of c.args.site.now) in
+    let f = at_member (map site_of c.args.before.now) (site_of c.args.site.now) in
     let g = assertion_at all in
     let h = patterns_of in
     let key = string_bytes c.in-Some.keyword.now in

@@ -3,13 +3,13 @@ use Rattle.std.specs.List.{flat_map}
 use Rattle.js_doc.specs.Seen.{pair_of}
 use Rattle.js_bundle.specs.Built.{assertion_at, patterns_of}
 use Rattle.js_bundle.specs.Leads.{Leads}
-use Rattle.js_bundle.specs.Refusals.{at_keyword}
+use Rattle.js_bundle.specs.Refusals.{at_member}
 use Rattle.js_bundle.specs.Scan.{site_of}
 use Rattle.js_bundle.proofs.first_pass.check_keywords.Given as goal
 
 abbrev pub invariant-loop-keyword : goal.invariant-loop-keyword
 invariant-loop-keyword l =
-    let rules = at_keyword (map site_of l.before) (site_of l.site) in
+    let rules = at_member (map site_of l.before) (site_of l.site) in
     let left = map pair_of l.keyword-iterator in
     record {
       leads : Leads (flat_map rules l.members) (flat_map rules left);

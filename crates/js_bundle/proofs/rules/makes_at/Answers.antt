@@ -1,7 +1,7 @@
 use Rattle.std.proofs.Common.{sym, ◌∙◌}
 use Rattle.js_bundle.specs.Scan.{site_of}
 use Rattle.js_bundle.proofs.Indexed.{number_of_maker}
-use Rattle.js_bundle.proofs.check.makes_at.Goals as goal
+use Rattle.js_bundle.proofs.rules.makes_at.Goals as goal
 
 pub returns-in-Some : goal.returns-in-Some
 returns-in-Some c = λ e.

@@ -2,7 +2,9 @@ use Rattle.std.proofs.Common.{◌≡◌, codes, map, sym, ap, subst, ◌∙◌}
 use Rattle.std.proofs.lemmas.Result.{err_from_is_err_and}
 use Rattle.js_bundle.specs.Built.{assertions_at, patterns_at}
 use Rattle.js_bundle.specs.Finding.{dynamic_at, number_of_target}
+use Rattle.js_bundle.specs.Grouped.{IsGrouped}
 use Rattle.js_bundle.specs.Index.{IsIndex}
+use Rattle.js_bundle.specs.KeywordName.{keyword_names}
 use Rattle.js_bundle.specs.Location.{location}
 use Rattle.js_bundle.specs.Resource.{sites}
 use Rattle.js_bundle.specs.ResourceTable.{AreRooted, IsResourceTable}
@@ -11,7 +13,7 @@ use Rattle.js_bundle.specs.Seen.{document_of}
 use Rattle.js_bundle.specs.Spot.{spot}
 use Rattle.js_bundle.proofs.Rooted.{all_are_rooted}
 use Rattle.js_bundle.proofs.Whole.{lists_all, first_stops, second_stops, whole_clear}
-use Rattle.js_bundle.proofs.checked.check_whole.Goals as goal
+use Rattle.js_bundle.proofs.whole_check.check_whole.Goals as goal
 
 pub returns-in_err-built-clause-err : goal.returns-in_err-built-clause-err
 returns-in_err-built-clause-err c =
@@ -126,3 +128,16 @@ pub returns-in_err-resources-clause-err : goal.returns-in_err-resources-clause-e
 returns-in_err-resources-clause-err c =
     let p = err_from_is_err_and c.from_residual-in_err-resources.result c.from_residual-in_err-resources.ensures.1 in
     rw (p.1, p.2) tt
+
+pub returns-in_err-keywords-clause-err : goal.returns-in_err-keywords-clause-err
+returns-in_err-keywords-clause-err c =
+    let p = err_from_is_err_and c.from_residual-in_err-keywords.result c.from_residual-in_err-keywords.ensures.1 in
+    rw (p.1, p.2) tt
+
+pub returns-clause-keywords : goal.returns-clause-keywords
+returns-clause-keywords c =
+    let ds = map document_of c.args.documents.now in
+    let first : map site_of c.as_slice.result.now ≡ sites ds =
+    lists_all ds (map site_of c.as_slice.result.now) (ap (map site_of) c.as_slice.ensures.value ∙ c.in_ok-sites.ensures) c.in_ok-built.ensures.clear in
+    let fifth : map site_of c.as_slice-5.result.now ≡ sites ds = ap (map site_of) (c.as_slice-5.ensures.value ∙ sym c.as_slice.ensures.value) ∙ first in
+    subst (λ ss. IsGrouped keyword_names ss c.in_ok-keywords.keywords.names.items c.in_ok-keywords.keywords.ends.items) fifth c.in_ok-keywords.ensures

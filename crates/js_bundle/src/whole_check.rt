@@ -4,7 +4,9 @@ ghost use Rattle.js_bundle.specs.Built.{assertions_at, assertions_in, patterns_a
 ghost use Rattle.js_bundle.specs.Candidate.{IsClear, IsStopped};
 ghost use Rattle.js_bundle.specs.Edges.{LeadDown};
 ghost use Rattle.js_bundle.specs.Finding.{dynamic_at, number_of_target};
+ghost use Rattle.js_bundle.specs.Grouped.{IsGrouped};
 ghost use Rattle.js_bundle.specs.Index.{IsIndex};
+ghost use Rattle.js_bundle.specs.KeywordName.{keyword_names};
 ghost use Rattle.js_bundle.specs.Location.{location};
 ghost use Rattle.js_bundle.specs.Refusals.{candidates};
 ghost use Rattle.js_bundle.specs.Resource.{sites};
@@ -19,6 +21,7 @@ use crate::edges::{Edges, edges_of};
 use crate::fault::Fault;
 use crate::first_pass::{Passed, first_pass};
 use crate::index::Index;
+use crate::keyword_table::{KeywordTable, keyword_table};
 use crate::location::locations_of;
 use crate::reference::{References, resolve_all};
 use crate::resource_table::{Resources, resources_of};
@@ -46,6 +49,7 @@ pub(crate) struct Spot {
 pub(crate) struct Checked {
     pub(crate) spots: Vec<Spot>,
     pub(crate) built: Vec<Built>,
+    pub(crate) keywords: KeywordTable,
     pub(crate) references: References,
     /// The absolute location of each.
     pub(crate) locations: Vec<Text>,
@@ -89,6 +93,8 @@ pub(crate) fn check_whole(alloc: Global, documents: &[Document]) -> Result<Check
         ≡ map assertions_at (sites (map document_of documents.now))) }
     ensures patterns { IfOk result (λ c. map patterns_in c.built.items
         ≡ map patterns_at (sites (map document_of documents.now))) }
+    ensures keywords { IfOk result (λ c. IsGrouped keyword_names (sites (map document_of documents.now))
+        c.keywords.names.items c.keywords.ends.items) }
     ensures dynamic { IfOk result (λ c. c.references.dynamic.items
         ≡ map (dynamic_at (sites (map document_of documents.now))) (sites (map document_of documents.now))) }
     ensures plain { IfOk result (λ c. c.references.plain.items
@@ -107,11 +113,13 @@ pub(crate) fn check_whole(alloc: Global, documents: &[Document]) -> Result<Check
     let references = resolve_all(alloc, &index, sites.as_slice())?;
     let locations = locations_of(alloc, sites.as_slice())?;
     let resources = resources_of(alloc, &index, sites.as_slice())?;
+    let keywords = keyword_table(alloc, sites.as_slice())?;
     let spots = spots_of(alloc, sites)?;
     let edges = edges_of(alloc, spots.as_slice())?;
     Ok(Checked {
         spots,
         built,
+        keywords,
         references,
         locations,
         index,

@@ -5,7 +5,7 @@ ghost use Rattle.js_doc.specs.Seen.{value_of};
 ghost use Rattle.js_doc.specs.Value.{list, items};
 ghost use Rattle.js_bundle.specs.declared.refusal.RefusalKind.TheVariants.{TooManyPlaces, NotASchema, DuplicateUri};
 ghost use Rattle.js_bundle.specs.Candidate.{IsClear, IsStopped};
-ghost use Rattle.js_bundle.specs.Form.{has_form, is_filled_list, is_schema};
+ghost use Rattle.js_bundle.specs.Form.{is_formed, is_filled_list, is_schema};
 ghost use Rattle.js_bundle.specs.Index.{IsIndex};
 ghost use Rattle.js_bundle.specs.Names.{is_root, is_known_as, belongs_to, makes, is_name, begins_name, continues_name};
 ghost use Rattle.js_bundle.specs.Refusals.{when, decided, is_taken, is_made, is_dialect, on_text, at_dialect, at_id, at_joined_id, at_anchor, at_place, assertion_rules};
@@ -127,7 +127,7 @@ fn is_filled(docs: &[Doc]) -> bool
 
 /// Whether the argument has the form that the keyword asks for, assertions aside.
 pub(crate) fn is_formed(keyword: &str, argument: &Doc) -> bool
-    ensures { result ≡ has_form keyword.now (value_of argument.now) }
+    ensures { result ≡ is_formed keyword.now (value_of argument.now) }
 {
     match keyword {
         "$schema" | "$id" | "$ref" | "$dynamicRef" | "$anchor" | "$dynamicAnchor" => {

@@ -1,11 +1,11 @@
 use Rattle.std.proofs.Common.{is_some, map, ap, ◌∙◌}
-use Rattle.js_bundle.specs.Index.{under}
+use Rattle.js_bundle.specs.Index.{number_of_key}
 use Rattle.js_bundle.specs.Scan.{site_of}
 use Rattle.js_bundle.specs.Url.{printed}
 use Rattle.js_bundle.proofs.Indexed.{taken_is}
-use Rattle.js_bundle.proofs.check.is_taken.Goals as goal
+use Rattle.js_bundle.proofs.rules.is_taken.Goals as goal
 
 pub returns : goal.returns
 returns c =
-    c.is_some.ensures ∙ ap is_some (c.get.ensures ∙ ap (under c.args.index.now.known) c.text_of.ensures)
+    c.is_some.ensures ∙ ap is_some (c.get.ensures ∙ ap (number_of_key c.args.index.now.known) c.text_of.ensures)
     ∙ taken_is c.args.index.now.known (map site_of c.args.before.now) (printed c.args.uri.now) c.requires.known

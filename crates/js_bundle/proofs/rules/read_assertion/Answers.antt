@@ -3,7 +3,7 @@ use Rattle.js_doc.specs.Seen.{value_of}
 use Rattle.js_assert.specs.Form.{IsKeywordFault}
 use Rattle.js_bundle.specs.Scan.{site_of}
 use Rattle.js_bundle.proofs.Assertions.{clear_assertion, stopped_form, stopped_pattern, stopped_large}
-use Rattle.js_bundle.proofs.check.read_assertion.Goals as goal
+use Rattle.js_bundle.proofs.rules.read_assertion.Goals as goal
 
 pub returns-in-Ok-clause-clear : goal.returns-in-Ok-clause-clear
 returns-in-Ok-clause-clear c = clear_assertion (site_of c.args.site.now) c.args.keyword.now (value_of c.args.argument.now) c.in-Ok.ensures.form c.in-Ok.ensures.pattern

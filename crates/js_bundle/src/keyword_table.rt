@@ -1,0 +1,78 @@
+//! Which keyword of the standard each keyword of each place is.
+ghost use Rattle.std.specs.Prelude.{◌≡◌, ◌++◌, ◌∷◌, [], true, length, map, option_map, IfOk, OnOk};
+ghost use Rattle.js_bundle.specs.Grouped.{IsGrouped};
+ghost use Rattle.js_bundle.specs.KeywordName.{keyword_name, keyword_names};
+ghost use Rattle.js_bundle.specs.Scan.{site_of};
+ghost use Rattle.js_bundle.specs.Schemas.{is_place, place_at};
+
+use crate::grouped::part;
+use crate::keyword_name::{self, KeywordName};
+use crate::place::Place;
+use crate::scan::Site;
+use crate::schemas::Schemas;
+use js_doc::{Doc, Members, Memory};
+use std::alloc::Global;
+
+/// Which keyword each is, place by place in scan order.
+#[derive(Drop)]
+pub(crate) struct KeywordTable {
+    pub(crate) names: Vec<KeywordName>,
+    /// Where those of each place end.
+    pub(crate) ends: Vec<usize>,
+}
+
+impl Schemas {
+    /// Which keyword of the standard each of the place's keywords is, in the order of the schema's members: by name
+    /// ascending. A schema that is `true` or `false` has none.
+    pub fn keywords(&self, place: Place) -> &[KeywordName]
+        requires { is_place self.now place ≡ true }
+        ensures { option_map keyword_names (place_at self.now place) ≡ Some result.now }
+    {
+        let table = &self.kept.keywords;
+        part(table.names.as_slice(), table.ends.as_slice(), place.number)
+    }
+}
+
+fn push_members(names: &mut Vec<KeywordName>, members: &Members) -> Result<(), Memory>
+    ensures { OnOk result (names.new.items ≡ names.old.items ++ map (λ m. keyword_name m.0) members.now) }
+{
+    for (name, _) in members.pairs() {
+        names.push(keyword_name::keyword_name(name.as_str()))?;
+    }
+    Ok(())
+}
+
+fn push_names(names: &mut Vec<KeywordName>, site: &Site<'_>) -> Result<(), Memory>
+    ensures { OnOk result (names.new.items ≡ names.old.items ++ keyword_names (site_of site.now)) }
+{
+    match site.schema {
+        Doc::Members(members) => push_members(names, members),
+        _ => Ok(()),
+    }
+}
+
+// The same of the next place.
+fn push_place(table: &mut KeywordTable, site: &Site<'_>) -> Result<(), Memory>
+    ensures names { OnOk result (table.new.names.items ≡ table.old.names.items ++ keyword_names (site_of site.now)) }
+    ensures ends { OnOk result (table.new.ends.items ≡ table.old.ends.items ++ length table.new.names.items ∷ []) }
+{
+    push_names(&mut table.names, site)?;
+    table.ends.push(table.names.len())?;
+    Ok(())
+}
+
+/// The table of all places.
+pub(crate) fn keyword_table(alloc: Global, sites: &[Site<'_>]) -> Result<KeywordTable, Memory>
+    ensures { IfOk result (λ t. IsGrouped keyword_names (map site_of sites.now) t.names.items t.ends.items) }
+{
+    let mut table = KeywordTable {
+        names: Vec::new(alloc),
+        ends: Vec::new(alloc),
+    };
+    for site in sites {
+        push_place(&mut table, site)?;
+    }
+    table.names.shrink_to_fit();
+    table.ends.shrink_to_fit();
+    Ok(table)
+}
