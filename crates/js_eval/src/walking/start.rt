@@ -5,6 +5,7 @@ ghost use Rattle.js_eval.specs.Result.{ResultTree, IsResult, IsWithinLimits};
 ghost use Rattle.js_eval.specs.Walked.{OnTooLarge};
 ghost use Rattle.js_eval.specs.Walk.Reported.{Reported};
 
+use crate::walking::dynamic_scope::DynamicScope;
 use crate::walking::fault::WalkFault;
 use crate::walking::recursion::node;
 use crate::walking::reporter::Reporter;
@@ -38,6 +39,7 @@ pub(crate) fn walk_from<W: World, R: Reporter<W>>(
 {
     let mut way = Way {
         path: Vec::new(alloc),
+        scope: DynamicScope::new(alloc),
         keyword: Trail::new(alloc),
         instance: Trail::new(alloc),
         left: MOST_NODES,
