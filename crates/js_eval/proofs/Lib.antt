@@ -16,6 +16,7 @@ pub mod Scopes
 pub mod ItemsLeft
 pub mod MembersLeft
 pub mod PatternsLeft
+pub mod Shared
 pub mod Started
 pub mod Recursion
 pub mod Counts

@@ -1,6 +1,7 @@
 -- What the walk's applications are seen as: places told by their numbers stand for what they are the places of.
-use Rattle.std.specs.Prelude.{◌≡◌, ℕ, true}
-use Rattle.js_doc.specs.Value.{Value, text}
+use Rattle.std.specs.Prelude.{◌≡◌, ℕ, true, unwrap_or}
+use Rattle.js_doc.specs.Members.{get}
+use Rattle.js_doc.specs.Value.{Value, Named, text}
 use Rattle.js_bundle.specs.Document.{Documents}
 use Rattle.js_bundle.specs.Resource.{Site}
 use Rattle.js_bundle.specs.Schemas.{is_place}
@@ -38,13 +39,21 @@ step_in (Each place keyword) step = step
 
 -- ---- what it is applied to
 
+-- of the members the one that has the name; the part itself, where none has
+abbrev pub namesake : Named → Step → Value → Value
+namesake members (Name name) part = unwrap_or (get name members) part
+namesake members Alone part = part
+namesake members (Index i) part = part
+
 abbrev pub at_in : To → Step → Step
 at_in to.Part step = step
+at_in (to.Namesake members) step = step
 at_in to.Name step = step
 at_in (to.Whole value) step = Alone
 
 abbrev pub value_in : To → Step → Value → Value
 value_in to.Part step part = part
+value_in (to.Namesake members) step part = namesake members.now step part
 value_in to.Name (Name name) part = text name
 value_in to.Name Alone part = part
 value_in to.Name (Index i) part = part

@@ -2,7 +2,7 @@
 ghost use Rattle.std.specs.Prelude.{◌≡◌, true};
 ghost use Rattle.js_bundle.specs.Schemas.{is_place};
 ghost use Rattle.js_doc.specs.Seen.{value_of};
-ghost use Rattle.js_eval.specs.Applied.{IsHeld, applied, applied_of, at_in, kept_place, site_in, step_in, value_in};
+ghost use Rattle.js_eval.specs.Applied.{IsHeld, applied, applied_of, at_in, kept_place, namesake, site_in, step_in, value_in};
 ghost use Rattle.js_eval.specs.Seen.{instance_of, step_of};
 ghost use Rattle.js_eval.specs.Sited.{numbered_site};
 ghost use Rattle.js_eval.specs.declared.applied.To.TheVariants as to;
@@ -10,7 +10,7 @@ ghost use Rattle.js_eval.specs.declared.applied.To.TheVariants as to;
 use crate::bundled::below;
 use crate::parts::{Applied, Instance};
 use js_bundle::{Place, Schemas, Step};
-use js_doc::Doc;
+use js_doc::{Doc, Members};
 
 /// Where the schemas that a keyword applies to the parts of a value stand.
 #[derive(Clone, Copy)]
@@ -26,6 +26,8 @@ pub(crate) enum Held<'a> {
 pub(crate) enum To<'a> {
     /// An item or a member.
     Part,
+    /// Of these members the one that has the part's name.
+    Namesake(&'a Members),
     /// The name of a member, as a string.
     Name,
     /// This value as a whole.
@@ -70,6 +72,7 @@ impl<'a> To<'a> {
     {
         match self {
             To::Part => step,
+            To::Namesake(_) => step,
             To::Name => step,
             To::Whole(_) => Step::Alone,
         }
@@ -80,9 +83,24 @@ impl<'a> To<'a> {
     {
         match self {
             To::Part => Instance::Doc(part),
+            To::Namesake(members) => Instance::Doc(namesake(members, step, part)),
             To::Name => named(step, part),
             To::Whole(value) => *value,
         }
+    }
+}
+
+// Of the members the one that has the name; the part itself, where none has.
+fn namesake<'a>(members: &'a Members, step: Step<'a>, part: &'a Doc) -> &'a Doc
+    ensures { value_of result.now ≡ namesake members.now (step_of step.entry) (value_of part.now) }
+{
+    match step {
+        Step::Name(name) => match members.get(name) {
+            Some(member) => member,
+            None => part,
+        },
+        Step::Alone => part,
+        Step::Index(_) => part,
     }
 }
 

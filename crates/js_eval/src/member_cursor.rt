@@ -58,7 +58,7 @@ pub(crate) struct MemberCursor<'a> {
     pub choice: Choice<'a>,
 }
 
-/// The schema of each name that is a member's, on the member.
+/// The schema of each name that is a member's, on the member: the names are gone through where they are fewer, and else the members.
 pub(crate) fn each_named<'a>(
     place: Place,
     keyword: &'a str,
@@ -70,11 +70,22 @@ pub(crate) fn each_named<'a>(
         (filter (λ m. has m.0 named.now) members.now) }
     ensures number { kept_place result.held ≡ place }
 {
-    MemberCursor {
-        held: Held::Each(place, keyword),
-        to: To::Part,
-        members: members.pairs(),
-        choice: Choice::Named(named),
+    let names = named.pairs();
+    let left = members.pairs();
+    if named.len() < members.len() {
+        MemberCursor {
+            held: Held::Each(place, keyword),
+            to: To::Namesake(members),
+            members: names,
+            choice: Choice::Named(members),
+        }
+    } else {
+        MemberCursor {
+            held: Held::Each(place, keyword),
+            to: To::Part,
+            members: left,
+            choice: Choice::Named(named),
+        }
     }
 }
 

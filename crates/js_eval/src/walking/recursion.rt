@@ -12,9 +12,9 @@ use crate::kind::Kind;
 use crate::walking::fault::WalkFault;
 use crate::walking::reporter::Reporter;
 use crate::walking::steps::{
-    asked, close_keyword, close_schema, come_back, go_down, open_keyword, open_schema,
+    asked, close_keyword, close_schema, come_back, go_down, next_keyword, open_keyword, open_schema,
 };
-use crate::walking::tally::{Judged, Known, Tally};
+use crate::walking::tally::{Judged, Judging, Known, Tally};
 use crate::walking::way::{Mark, Way};
 use crate::walking::world::World;
 use js_bundle::Place;
@@ -46,13 +46,14 @@ pub(crate) fn node<W: World, R: Reporter<W>>(
     }
     let start = way.mark();
     open_schema(alloc, world, way, into, place)?;
-    let mut known = Known {
+    let known = Known {
         valid: world.accepts(place),
         condition: None,
         matching: 0,
     };
-    let mut keywords = world.keywords(place);
-    'keywords: while let Some(keyword) = world.next_keyword(&mut keywords) {
+    let keywords = world.keywords(place);
+    let mut judging = Judging { keywords, known };
+    'keywords: while let Some(keyword) = next_keyword(world, &mut judging) {
         let judged = keyword_node(
             alloc,
             world,
@@ -63,12 +64,14 @@ pub(crate) fn node<W: World, R: Reporter<W>>(
             value,
             keyword,
             start,
-            known,
+            judging.known,
         )?;
-        known = known.with_keyword(world.kind(keyword), judged.passes, judged.held);
+        let known = judging.known;
+        judging.known = known.with_keyword(world.kind(keyword), judged.passes, judged.held);
     }
-    close_schema(alloc, world, way, into, place, start, known.valid)?;
-    Ok(known.valid)
+    let valid = judging.known.valid;
+    close_schema(alloc, world, way, into, place, start, valid)?;
+    Ok(valid)
 }
 
 /// The node of a keyword of the place that the path ends in.

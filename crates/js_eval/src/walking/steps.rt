@@ -1,5 +1,5 @@
 //! The steps of a walk, each of which may want memory.
-ghost use Rattle.std.specs.Prelude.{◌≡◌, ◌<◌, ◌≤◌, true, map, length, drop, IfOk, OnOk};
+ghost use Rattle.std.specs.Prelude.{◌≡◌, ◌∷◌, [], ◌<◌, ◌≤◌, true, map, length, drop, IfOk, OnOk, MatchOption};
 ghost use Rattle.std.specs.List.{list_all};
 ghost use Rattle.std.specs.String.Boundary.{IsSplitPoint};
 ghost use Rattle.js_eval.specs.Walk.Steps.{SchemaOpened, SchemaClosed, KeywordOpened, KeywordClosed, WentDown, CameBack};
@@ -8,7 +8,7 @@ ghost use Rattle.js_eval.specs.Walk.Told.{IsKeywordAt, asked_by};
 use crate::kind::Kind;
 use crate::walking::keeping::{cut_unless, indexes_origin, keep, names_origin};
 use crate::walking::reporter::Reporter;
-use crate::walking::tally::{Judged, Tally};
+use crate::walking::tally::{Judged, Judging, Tally};
 use crate::walking::way::{Mark, Way};
 use crate::walking::world::World;
 use js_bundle::Place;
@@ -52,6 +52,17 @@ pub(crate) fn close_schema<W: World, R: Reporter<W>>(
     cut_unless(&mut way.names, start.names, valid);
     cut_unless(&mut way.indexes, start.indexes, valid);
     Ok(())
+}
+
+/// The next keyword of a schema, whatever those before it say.
+pub(crate) fn next_keyword<W: World>(
+    world: &W,
+    judging: &mut Judging<W::Keywords>,
+) -> Option<W::Keyword>
+    ensures next { MatchOption result (W.listed judging.old.keywords ≡ []) (λ k. W.listed judging.old.keywords ≡ W.keyword_of k ∷ W.listed judging.new.keywords) }
+    ensures known { judging.new.known ≡ judging.old.known }
+{
+    world.next_keyword(&mut judging.keywords)
 }
 
 /// Opens the node of a keyword, which may have one.

@@ -27,6 +27,13 @@ pub(crate) struct Known {
     pub matching: u64,
 }
 
+/// The keywords of a schema that are still to be judged, and what is known from those before.
+#[derive(Drop)]
+pub(crate) struct Judging<K> {
+    pub keywords: K,
+    pub known: Known,
+}
+
 impl Tally {
     /// One application more.
     pub fn with_application(self, holds: bool) -> Tally

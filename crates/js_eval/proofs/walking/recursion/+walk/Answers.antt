@@ -1,4 +1,4 @@
-use Rattle.std.proofs.Common.{◌≡◌, ◌-◌, ◌≤◌, ◌∷◌, ◌++◌, [], ◌∙◌, ap, subst, refl, rules, arith, map, drop, length}
+use Rattle.std.proofs.Common.{◌≡◌, ◌-◌, ◌≤◌, ◌∷◌, ◌++◌, [], ◌∙◌, ap, sym, subst, refl, rules, arith, map, drop, length}
 use Rattle.std.proofs.lemmas.Result.{err_from_is_err_and}
 use Rattle.std.specs.Prelude.{MatchOption}
 use Rattle.std.proofs.lemmas.List.{length-append, length-map, map-append}
@@ -143,9 +143,9 @@ node-keyword_node-requires g t c κs within =
     let names : c.mark-start.result.names ≤ length c.keywords.way.names.items = omega (arith, l, e1, e2, m) in
     let indexes : c.mark-start.result.indexes ≤ length c.keywords.way.indexes.items = omega (arith, i, n) in
     let k = g.W.World.keyword_of c.in-Some.keyword in
-    let x : g.W.World.listed c.keywords.keywords ≡ k ∷ g.W.World.listed c.next_keyword.new.keywords = c.in-Some.ensures in
-    let loop = rw x at c.keywords.invariant.loop in
-    let there = is_keyword_at (g.W.World.schemas c.args.world.now) (site c.args.place) c.keywords-keywords.ensures.ascending loop.done (g.W.World.listed c.next_keyword.new.keywords) k loop.so.split in
+    let x : g.W.World.listed c.keywords.judging.keywords ≡ k ∷ g.W.World.listed c.next_keyword.new.judging.keywords = c.in-Some.ensures.next in
+    let loop = rw (x, sym c.next_keyword.ensures.known) at c.keywords.invariant.loop in
+    let there = is_keyword_at (g.W.World.schemas c.args.world.now) (site c.args.place) c.keywords-keywords.ensures.ascending loop.done (g.W.World.listed c.next_keyword.new.judging.keywords) k loop.so.split in
     search (rules, places, names, indexes, there)
 
 pub node-returns-in_err-judged : goal.node-returns-in_err-judged
@@ -156,15 +156,15 @@ node-returns-in_err-judged g t c =
     let place = site c.args.place in
     let v = g.W.World.value_of c.args.value in
     let k = g.W.World.keyword_of c.in-Some.keyword in
-    let rest = g.W.World.listed c.next_keyword.new.keywords in
-    let x : g.W.World.listed c.keywords.keywords ≡ k ∷ rest = c.in-Some.ensures in
-    let loop = rw x at c.keywords.invariant.loop in
+    let rest = g.W.World.listed c.next_keyword.new.judging.keywords in
+    let x : g.W.World.listed c.keywords.judging.keywords ≡ k ∷ rest = c.in-Some.ensures.next in
+    let loop = rw (x, sym c.next_keyword.ensures.known) at c.keywords.invariant.loop in
     let same : map site c.keywords.way.path.items ≡ path ++ place ∷ [] = ap (map site) c.keywords.invariant.path ∙ map-append site c.args.way.now.path.items (c.args.place ∷ []) in
-    let apps = asked_by S (c.args.depth - 1) (map site c.keywords.way.path.items) place v k c.keywords.known.condition (map g.W.World.text_of (drop c.mark-start.result.names c.keywords.way.names.items)) (drop c.mark-start.result.indexes c.keywords.way.indexes.items) in
+    let apps = asked_by S (c.args.depth - 1) (map site c.keywords.way.path.items) place v k c.next_keyword.new.judging.known.condition (map g.W.World.text_of (drop c.mark-start.result.names c.keywords.way.names.items)) (drop c.mark-start.result.indexes c.keywords.way.indexes.items) in
     let p = err_from_is_err_and c.from_residual-in_err-judged.result c.from_residual-in_err-judged.ensures.1 in
     rw (p.1, p.2) (on_too_large (KeywordHasNone S (c.args.depth - 1) (map site c.keywords.way.path.items) place v k apps c.keywords.way.left) (HasNone S c.args.depth path place v c.args.way.now.left) c.in_err-judged.field-0.0
     (λ none. subst (λ d. HasNone S d path place v c.args.way.now.left) (one_less c.args.depth c.if-depth-eq0.false)
-    (node_failed S g.W.World.text_of g.R.Reporter.takes (c.args.depth - 1) path place v counts_later c.keywords-keywords.ensures.ascending k rest c.keywords.known.valid c.keywords.known.condition c.keywords.known.matching
+    (node_failed S g.W.World.text_of g.R.Reporter.takes (c.args.depth - 1) path place v counts_later c.keywords-keywords.ensures.ascending k rest c.next_keyword.new.judging.known.valid c.next_keyword.new.judging.known.condition c.next_keyword.new.judging.known.matching
     c.args.way.now c.keywords.way c.mark-start.result (map site c.keywords.way.path.items) c.args.into.now c.keywords.into c.mark-start.ensures same loop none)) c.in_err-judged.ensures)
 
 pub node-keywords-preserved : goal.node-keywords-preserved
@@ -175,16 +175,16 @@ node-keywords-preserved g t c =
     let place = site c.args.place in
     let v = g.W.World.value_of c.args.value in
     let k = g.W.World.keyword_of c.in-Some.keyword in
-    let rest = g.W.World.listed c.next_keyword.new.keywords in
-    let x : g.W.World.listed c.keywords.keywords ≡ k ∷ rest = c.in-Some.ensures in
-    let loop = rw x at c.keywords.invariant.loop in
+    let rest = g.W.World.listed c.next_keyword.new.judging.keywords in
+    let x : g.W.World.listed c.keywords.judging.keywords ≡ k ∷ rest = c.in-Some.ensures.next in
+    let loop = rw (x, sym c.next_keyword.ensures.known) at c.keywords.invariant.loop in
     let same : map site c.keywords.way.path.items ≡ path ++ place ∷ [] = ap (map site) c.keywords.invariant.path ∙ map-append site c.args.way.now.path.items (c.args.place ∷ []) in
     let done = c.in_ok-judged.ensures in
     record {
-      loop = loop_as S g.W.World.text_of g.R.Reporter.takes (c.args.depth - 1) path place v k rest c.keywords.known.valid c.in_ok-judged.judged.passes c.with_keyword-known.result.valid c.keywords.known.condition c.with_keyword-known.result.condition c.keywords.known.matching c.with_keyword-known.result.matching
+      loop = loop_as S g.W.World.text_of g.R.Reporter.takes (c.args.depth - 1) path place v k rest c.next_keyword.new.judging.known.valid c.in_ok-judged.judged.passes c.with_keyword-judging.result.valid c.next_keyword.new.judging.known.condition c.with_keyword-judging.result.condition c.next_keyword.new.judging.known.matching c.with_keyword-judging.result.matching
           c.in_ok-judged.judged.held c.kind.result (map g.W.World.text_of c.args.way.now.names.items) (map g.W.World.text_of c.keyword_node.new.way.names.items) c.args.way.now.indexes.items c.keyword_node.new.way.indexes.items c.args.way.now.left c.keyword_node.new.way.left c.args.way.now.keyword c.args.way.now.instance c.args.into.now c.keyword_node.new.into
-          c.with_keyword-known.ensures.valid c.with_keyword-known.ensures.condition c.with_keyword-known.ensures.matching c.kind.ensures (node_more S g.W.World.text_of g.R.Reporter.takes (c.args.depth - 1) path place v counts_later c.keywords-keywords.ensures.ascending k rest
-          c.keywords.known.valid c.keywords.known.condition c.keywords.known.matching c.args.way.now c.keywords.way c.keyword_node.new.way c.mark-start.result c.in_ok-judged.judged (map site c.keywords.way.path.items) c.args.into.now c.keywords.into c.keyword_node.new.into
+          c.with_keyword-judging.ensures.valid c.with_keyword-judging.ensures.condition c.with_keyword-judging.ensures.matching c.kind.ensures (node_more S g.W.World.text_of g.R.Reporter.takes (c.args.depth - 1) path place v counts_later c.keywords-keywords.ensures.ascending k rest
+          c.next_keyword.new.judging.known.valid c.next_keyword.new.judging.known.condition c.next_keyword.new.judging.known.matching c.args.way.now c.keywords.way c.keyword_node.new.way c.mark-start.result c.in_ok-judged.judged (map site c.keywords.way.path.items) c.args.into.now c.keywords.into c.keyword_node.new.into
           c.mark-start.ensures same c.keywords.invariant.keyword c.keywords.invariant.instance loop done);
       path = done.back.path ∙ c.keywords.invariant.path;
       keyword = done.back.keyword ∙ c.keywords.invariant.keyword;
@@ -199,8 +199,8 @@ node-returns g t c =
     let path = map site c.args.way.now.path.items in
     let place = site c.args.place in
     let v = g.W.World.value_of c.args.value in
-    let x : g.W.World.listed c.keywords.keywords ≡ [] = c.in_default.ensures in
-    let loop = rw x at c.keywords.invariant.loop in
-    subst (λ d. NodeDone S g.W.World.text_of g.R.Reporter.takes d path place v c.keywords.known.valid c.args.way.now c.close_schema.new.way c.args.into.now c.close_schema.new.into) (one_less c.args.depth c.if-depth-eq0.false)
-    (node_end S g.W.World.text_of g.R.Reporter.takes (c.args.depth - 1) path place v c.keywords.known.valid c.keywords.known.condition c.keywords.known.matching c.args.way.now c.keywords.way c.close_schema.new.way c.mark-start.result c.args.way.now.path.items c.args.place
+    let x : g.W.World.listed c.keywords.judging.keywords ≡ [] = c.in_default.ensures.next in
+    let loop = rw (x, sym c.next_keyword.ensures.known) at c.keywords.invariant.loop in
+    subst (λ d. NodeDone S g.W.World.text_of g.R.Reporter.takes d path place v c.next_keyword.new.judging.known.valid c.args.way.now c.close_schema.new.way c.args.into.now c.close_schema.new.into) (one_less c.args.depth c.if-depth-eq0.false)
+    (node_end S g.W.World.text_of g.R.Reporter.takes (c.args.depth - 1) path place v c.next_keyword.new.judging.known.valid c.next_keyword.new.judging.known.condition c.next_keyword.new.judging.known.matching c.args.way.now c.keywords.way c.close_schema.new.way c.mark-start.result c.args.way.now.path.items c.args.place
     c.args.into.now c.keywords.into c.close_schema.new.into c.mark-start.ensures c.keywords.invariant.path c.keywords.invariant.keyword c.keywords.invariant.instance c.keywords.invariant.falls loop c.in_ok-close_schema.ensures)
