@@ -1,6 +1,7 @@
 -- The numbers of a path's resources, of equal neighbours one.
-use Rattle.std.proofs.Common.{◌≡◌, ℕ, suc, ◌+◌, ◌-◌, Bool, false, cond, List, [], ◌∷◌, ◌++◌, length, map, get_or, nat_eq, slice_get, Option, Some, option_to_list, option_and_then, unwrap_or, true, refl, sym, ap, ◌∙◌}
+use Rattle.std.proofs.Common.{◌≡◌, ℕ, suc, ◌+◌, ◌-◌, Bool, false, cond, List, [], ◌∷◌, ◌++◌, length, map, get_or, nat_eq, slice_get, Option, Some, option_to_list, option_and_then, unwrap_or, true, take, arith, refl, sym, ap, ◌∙◌}
 use Rattle.std.proofs.lemmas.Bool.{and_parts, eqb-true}
+use Rattle.std.proofs.lemmas.List.{append-nil, length-append, take-append_seam}
 use Rattle.std.proofs.lemmas.Option.{slice_get-get_or}
 use borrow.Author.Tests.{ltb-true}
 use Rattle.std.specs.List.{dedup, dedup_from, flat_map, list_all}
@@ -41,6 +42,39 @@ from_last k (x ∷ xs) n = step (nat_eq x k) k x xs n refl (from_last k xs n) (f
 pub dedup_last : (xs : List ℕ) (n : ℕ) → dedup nat_eq (xs ++ n ∷ []) ≡ dedup nat_eq xs ++ cond (ends_with xs n) [] (n ∷ [])
 dedup_last [] n = refl
 dedup_last (x ∷ xs) n = from_last x xs n
+
+-- one number more, or one less
+pub stays_apart : (apart each each' from : List ℕ) (n : ℕ) (b : Bool) → apart ≡ dedup nat_eq each → each' ≡ each ++ n ∷ [] → from ≡ each → b ≡ ends_with from n → b ≡ true
+    → apart ≡ dedup nat_eq each'
+stays_apart apart each each' from n b i e f g h =
+    let t : ends_with each n ≡ true = ap (λ (xs : List ℕ). ends_with xs n) (sym f) ∙ (sym g ∙ h) in
+    let d : dedup nat_eq (each ++ n ∷ []) ≡ dedup nat_eq each = dedup_last each n ∙ (ap (λ (x : Bool). dedup nat_eq each ++ cond x [] (n ∷ [])) t ∙ append-nil (dedup nat_eq each)) in
+    i ∙ (sym d ∙ ap (dedup nat_eq) (sym e))
+
+pub grows_apart : (apart apart' each each' from : List ℕ) (n : ℕ) (b : Bool) → apart ≡ dedup nat_eq each → each' ≡ each ++ n ∷ [] → from ≡ each → b ≡ ends_with from n → b ≡ false
+    → apart' ≡ apart ++ n ∷ [] → apart' ≡ dedup nat_eq each'
+grows_apart apart apart' each each' from n b i e f g h a =
+    let t : ends_with each n ≡ false = ap (λ (xs : List ℕ). ends_with xs n) (sym f) ∙ (sym g ∙ h) in
+    let d : dedup nat_eq (each ++ n ∷ []) ≡ dedup nat_eq each ++ n ∷ [] = dedup_last each n ∙ ap (λ (x : Bool). dedup nat_eq each ++ cond x [] (n ∷ [])) t in
+    a ∙ (ap (λ (xs : List ℕ). xs ++ n ∷ []) i ∙ (sym d ∙ ap (dedup nat_eq) (sym e)))
+
+all_but_last : (xs : List ℕ) (n : ℕ) → take (length (xs ++ n ∷ []) - 1) (xs ++ n ∷ []) ≡ xs
+all_but_last xs n =
+    let e : length (xs ++ n ∷ []) - 1 ≡ length xs = let l = length-append xs (n ∷ []) in omega (arith, l) in
+    ap (λ (i : ℕ). take i (xs ++ n ∷ [])) e ∙ take-append_seam xs (n ∷ [])
+
+pub stays_less : (apart each each' from : List ℕ) (n : ℕ) (b : Bool) → apart ≡ dedup nat_eq each → each ≡ each' ++ n ∷ [] → from ≡ each' → b ≡ ends_with from n → b ≡ true
+    → apart ≡ dedup nat_eq each'
+stays_less apart each each' from n b i e f g h =
+    let t : ends_with each' n ≡ true = ap (λ (xs : List ℕ). ends_with xs n) (sym f) ∙ (sym g ∙ h) in
+    i ∙ (ap (dedup nat_eq) e ∙ (dedup_last each' n ∙ (ap (λ (x : Bool). dedup nat_eq each' ++ cond x [] (n ∷ [])) t ∙ append-nil (dedup nat_eq each'))))
+
+pub falls_apart : (apart apart' each each' from : List ℕ) (n m : ℕ) (b : Bool) → apart ≡ dedup nat_eq each → each ≡ each' ++ n ∷ [] → from ≡ each' → b ≡ ends_with from n → b ≡ false
+    → m ≡ length apart → apart' ≡ take (m - 1) apart → apart' ≡ dedup nat_eq each'
+falls_apart apart apart' each each' from n m b i e f g h l a =
+    let t : ends_with each' n ≡ false = ap (λ (xs : List ℕ). ends_with xs n) (sym f) ∙ (sym g ∙ h) in
+    let d : apart ≡ dedup nat_eq each' ++ n ∷ [] = i ∙ (ap (dedup nat_eq) e ∙ (dedup_last each' n ∙ ap (λ (x : Bool). dedup nat_eq each' ++ cond x [] (n ∷ [])) t)) in
+    a ∙ (ap (λ (k : ℕ). take (k - 1) apart) l ∙ (ap (λ (xs : List ℕ). take (length xs - 1) xs) d ∙ all_but_last (dedup nat_eq each') n))
 
 -- ---- the numbers of the resources of a path
 

@@ -3,6 +3,7 @@
 ghost use Rattle.std.specs.Prelude.{◌≡◌, codes, map, nat_eq, option_and_then, true};
 ghost use Rattle.std.specs.List.{dedup, list_all};
 ghost use Rattle.js_bundle.specs.Resource.{sites};
+ghost use Rattle.js_bundle.specs.ResourceNumber.{dynamic_target_in};
 ghost use Rattle.js_bundle.specs.Schemas.{StandsFor, has_keyword, is_place, path_at, place_at};
 ghost use Rattle.js_bundle.specs.Target.{dynamic_target};
 ghost use Rattle.js_doc.specs.Seen.{value_of};
@@ -82,5 +83,13 @@ fn led_by_numbers(schemas: &Schemas, place: Place, _path: &[Place], resources: &
 {
     a_number_tells_a_resource();
     numbers_tell_the_dynamic_scope();
+    led_in(schemas, place, resources)
+}
+
+fn led_in(schemas: &Schemas, place: Place, resources: &[usize]) -> Place
+    requires { has_keyword (codes "$dynamicRef") schemas.now place ≡ true }
+    ensures { StandsFor schemas.now result (option_and_then
+        (dynamic_target_in (sites schemas.now) resources.now) (place_at schemas.now place)) }
+{
     schemas.dynamic_target_in(place, resources)
 }

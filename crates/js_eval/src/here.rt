@@ -115,7 +115,7 @@ impl<'a> World for Here<'a> {
         let schema = schema_at(self.schemas, place);
         let scene = Scene {
             path,
-            resources,
+            scope: resources,
             place,
             schema,
             value,

@@ -27,7 +27,7 @@ pub(crate) struct Scene<'s, 'a> {
     /// All places that were applied, the present one being the last.
     pub path: &'s [Place],
     /// Their resources, of equal neighbours one.
-    pub resources: &'s [usize],
+    pub scope: &'s [usize],
     /// The present place.
     pub place: Place,
     /// The schema there.
@@ -61,14 +61,14 @@ pub(crate) fn start<'a>(
 ) -> Result<Asking<'a>, Memory>
     requires place { is_place schemas.now scene.place ≡ true }
     requires path { list_all (is_place schemas.now) scene.path.now ≡ true }
-    requires resources { scene.resources.now ≡ dedup nat_eq (map (resource_of schemas.now) scene.path.now) }
+    requires resources { scene.scope.now ≡ dedup nat_eq (map (resource_of schemas.now) scene.path.now) }
     ensures { IfOk result (λ a. asked schemas.now a
         ≡ asks_of (schemas_of schemas.now) (map (numbered_site schemas.now) scene.entry.path.now) (numbered_site schemas.now scene.entry.place) (entries (value_of scene.entry.schema.now))
         (instance_of scene.entry.value) facts.entry.condition (texts_of facts.entry.names.now) facts.entry.indexes.now (keyword_of keyword.entry) kind) }
 {
     let Scene {
         path,
-        resources,
+        scope,
         place,
         schema,
         value,
@@ -76,7 +76,7 @@ pub(crate) fn start<'a>(
     let name = keyword.name;
     match kind {
         Kind::Reference => Ok(referred(schemas, place, value)),
-        Kind::DynamicReference => Ok(referred_dynamically(schemas, place, path, resources, value)),
+        Kind::DynamicReference => Ok(referred_dynamically(schemas, place, path, scope, value)),
         Kind::AllOf => Ok(start_items::listed(alloc, schemas, place, keyword, value)),
         Kind::AnyOf => Ok(start_items::listed(alloc, schemas, place, keyword, value)),
         Kind::OneOf => Ok(start_items::listed(alloc, schemas, place, keyword, value)),

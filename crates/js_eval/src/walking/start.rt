@@ -39,12 +39,12 @@ pub(crate) fn walk_from<W: World, R: Reporter<W>>(
 {
     let mut way = Way {
         path: Vec::new(alloc),
-        scope: DynamicScope::new(alloc),
         keyword: Trail::new(alloc),
         instance: Trail::new(alloc),
         left: MOST_NODES,
         names: Vec::new(alloc),
         indexes: Vec::new(alloc),
+        scope: DynamicScope::new(alloc),
     };
     match node(alloc, world, &mut way, into, MOST_LEVELS, place, value) {
         Ok(valid) => Ok(valid),

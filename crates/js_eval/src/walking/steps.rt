@@ -30,7 +30,8 @@ pub(crate) fn open_schema<W: World, R: Reporter<W>>(
     way.left -= 1;
     into.open_schema(alloc, world, place, &way.keyword, &way.instance)?;
     way.path.push(place)?;
-    way.scope.push(world.resource(place))
+    way.scope.push(world.resource(place))?;
+    Ok(())
 }
 
 /// Closes the node of a schema. What it has evaluated goes, if it fails.

@@ -5,6 +5,6 @@ use Rattle.js_eval.proofs.bundled.led_by_numbers.Goals as goal
 
 pub returns : goal.returns
 returns c =
-    subst (StandsFor c.args.schemas.now c.dynamic_target_in.result)
+    subst (StandsFor c.args.schemas.now c.led_in.result)
     (led_alike c.a_number_tells_a_resource.ensures c.numbers_tell_the_dynamic_scope.ensures c.args.schemas.now c.args._path.now c.args.resources.now c.args.place c.requires.path c.requires.resources)
-    c.dynamic_target_in.ensures
+    c.led_in.ensures
