@@ -12,6 +12,7 @@ ROWS = {
     "polygon": ("https://example.com/polygon", {cases.U: cases.POLYGON}, cases.POINTS),
     "strict_tree": ("https://example.com/strict-tree",
                     {"https://example.com/tree": TREE, "https://example.com/strict-tree": STRICT}, '{"children":[{"daat":1}]}'),
+    "doubled": (cases.U, {cases.U: '{"$defs":{"n":{"type":"integer"}},"allOf":[{"$ref":"#/$defs/n"},{"$ref":"#/$defs/n"}]}'}, '"x"'),
     "annotated_property": (cases.U, {cases.U: '{"properties":{"a":{"title":"t"}}}'}, '{"a":1}'),
 }
 SECOND = "https://a.example/t"
@@ -78,6 +79,18 @@ def is_normal(node):
     return all(("error" in it or "annotation" in it or len(below(it)) > 1) and is_normal(it) for it in below(node))
 
 
+def alike(node, other):
+    """Equal once every keyword location is ignored."""
+    return ({**node, "keywordLocation": "", "errors": [], "annotations": []}
+            == {**other, "keywordLocation": "", "errors": [], "annotations": []}
+            and len(below(node)) == len(below(other)) and all(map(alike, below(node), below(other))))
+
+
+def is_merged(node):
+    nodes = below(node)
+    return is_normal(node) and all(map(is_merged, nodes)) and not any(alike(it, nodes[i]) for n, it in enumerate(nodes) for i in range(n))
+
+
 def lines(texts):
     return "".join(f"{it}\n" for it in texts)
 
@@ -122,7 +135,7 @@ def of_bundles():
 
 
 def of_results(row):
-    text = {it: shown(it, row) for it in cases.STANDARD_FORMATS}
+    text = {it: shown(it, row) for it in cases.FORMATS}
     whole = json.loads(text["verbose"])
     verdict = "valid" if whole["valid"] else "invalid"
     for call in ("walk", "walk_into_boxed", "walk_into_flat", "tree_doc"):
@@ -132,13 +145,16 @@ def of_results(row):
     for it in cases.STANDARD_FORMATS:
         yield Call([f"form_{it}", row], text[it])
         yield Call([f"flat_{it}", row], text[it])
+    yield Call(["form_merged", row], text["merged"])
     for call in ("units", "flat_units"):
         yield Call([call, row], lines(noted(whole)))
     for call in ("prune", "flat_prune"):
         yield Call([call, row], compact(pruned(whole)), is_quiet=True)
     for call in ("condense", "flat_condense"):
         yield Call([call, row], text["detailed"], is_quiet=True)
-    yield Call(["is_normal", row], "yes" if is_normal(whole) else "no", is_quiet=True)
+    yield Call(["merge_condense", row], text["merged"], is_quiet=True)
+    for call, holds in (("is_normal", is_normal), ("is_merged", is_merged)):
+        yield Call([call, row], "yes" if holds(whole) else "no", is_quiet=True)
     for call in ("apply", "replay"):
         yield Call([call, row], text["verbose"], is_quiet=True)
     for call in ("put_tree", "flat_put"):

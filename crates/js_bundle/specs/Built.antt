@@ -3,7 +3,6 @@ use Rattle.std.specs.Prelude.{List, [], ◌∷◌, Option, Some, None, codes, by
 use Rattle.std.specs.List.{flat_map}
 use Rattle.js_doc.specs.Value.{Value, Named}
 use Rattle.js_assert.specs.Assertion.{Asserted, asserted}
-use Rattle.js_bundle.specs.declared.built.Built.{Built}
 use Rattle.js_bundle.specs.declared.built.BuiltAssertion.{BuiltAssertion}
 use Rattle.js_bundle.specs.declared.built.BuiltPattern.{BuiltPattern}
 use Rattle.js_bundle.specs.Keyword.{Text, keywords}
@@ -22,9 +21,6 @@ assertion_at siblings m = assertion_of m.0 (asserted m.0 m.1 siblings)
 abbrev pub assertions_at : Site → List BuiltAssertion
 assertions_at place = flat_map (assertion_at (keywords place.schema)) (keywords place.schema)
 
-abbrev pub assertions_in : Built → List BuiltAssertion
-assertions_in built = built.assertions.items
-
 -- ---- the patterns of `patternProperties`; a pattern is seen as its text
 
 abbrev pub pattern_at : Text × Value → BuiltPattern
@@ -35,6 +31,3 @@ patterns_of m = if bytes_eq m.0 (codes "patternProperties") then map pattern_at 
 
 abbrev pub patterns_at : Site → List BuiltPattern
 patterns_at place = flat_map patterns_of (keywords place.schema)
-
-abbrev pub patterns_in : Built → List BuiltPattern
-patterns_in built = built.patterns.items

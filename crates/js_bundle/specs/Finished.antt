@@ -1,7 +1,7 @@
 -- What finished schemas keep of their documents, beside them: for each place, in scan order, what the definitions tell of it.
 use Rattle.std.specs.Prelude.{◌≡◌, map, codes}
 use Rattle.js_bundle.specs.declared.whole_check.Checked.{Checked}
-use Rattle.js_bundle.specs.Built.{assertions_at, assertions_in, patterns_at, patterns_in}
+use Rattle.js_bundle.specs.Built.{assertions_at, patterns_at}
 use Rattle.js_bundle.specs.Candidate.{IsClear}
 use Rattle.js_bundle.specs.Document.{Documents}
 use Rattle.js_bundle.specs.Edges.{LeadDown}
@@ -20,8 +20,8 @@ pub record IsFinished (documents : Documents) (kept : Checked) : Type 0 where
   pub read : AreRead documents
   pub clear : IsClear (candidates documents)
   pub spots : map spot_of kept.spots.items ≡ map spot (sites documents)
-  pub assertions : map assertions_in kept.built.items ≡ map assertions_at (sites documents)
-  pub patterns : map patterns_in kept.built.items ≡ map patterns_at (sites documents)
+  pub assertions : IsGrouped assertions_at (sites documents) kept.built.all.assertions.items kept.built.assertion_ends.items
+  pub patterns : IsGrouped patterns_at (sites documents) kept.built.all.patterns.items kept.built.pattern_ends.items
   pub keywords : IsGrouped keyword_names (sites documents) kept.keywords.names.items kept.keywords.ends.items
   pub dynamic : kept.references.dynamic.items ≡ map (dynamic_at (sites documents)) (sites documents)
   pub plain : kept.references.plain.items ≡ map (number_of_target (sites documents) (codes "$ref")) (sites documents)

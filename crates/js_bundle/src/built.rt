@@ -14,11 +14,21 @@ use js_assert::{Assertion, Pattern, PatternFault};
 use js_doc::{Doc, Members, Memory, Text};
 use std::alloc::Global;
 
-/// What is built of a place's keywords.
+/// What is built of the keywords of places, one place after another.
 #[derive(Drop)]
 pub(crate) struct Built {
     pub(crate) assertions: Vec<BuiltAssertion>,
     pub(crate) patterns: Vec<BuiltPattern>,
+}
+
+/// The same of all places.
+#[derive(Drop)]
+pub(crate) struct BuiltTable {
+    pub(crate) all: Built,
+    /// Where the assertions of each place end.
+    pub(crate) assertion_ends: Vec<usize>,
+    /// Where its patterns do.
+    pub(crate) pattern_ends: Vec<usize>,
 }
 
 impl Built {

@@ -3,15 +3,16 @@ ghost use Rattle.std.specs.Prelude.{◌≡◌, ◌++◌, [], ◌∷◌, not, map
 ghost use Rattle.std.specs.List.{flat_map};
 ghost use Rattle.js_doc.specs.Seen.{value_of};
 ghost use Rattle.js_bundle.specs.declared.refusal.RefusalKind.TheVariants.{BadKeyword};
-ghost use Rattle.js_bundle.specs.Built.{assertion_at, assertions_at, assertions_in, patterns_of, patterns_at, patterns_in};
+ghost use Rattle.js_bundle.specs.Built.{assertion_at, assertions_at, patterns_of, patterns_at};
 ghost use Rattle.js_bundle.specs.Candidate.{IsClear, IsStopped};
 ghost use Rattle.js_bundle.specs.Form.{is_formed};
+ghost use Rattle.js_bundle.specs.Grouped.{IsGrouped};
 ghost use Rattle.js_bundle.specs.Index.{IsIndex};
 ghost use Rattle.js_bundle.specs.Keyword.{keywords};
 ghost use Rattle.js_bundle.specs.Refusals.{when, decided, on_text, text_rules, at_member, at_site, first_pass};
 ghost use Rattle.js_bundle.specs.Scan.{site_of};
 
-use crate::built::{Built, keep_assertion, read_names};
+use crate::built::{Built, BuiltTable, keep_assertion, read_names};
 use crate::fault::{Fault, refuse};
 use crate::index::Index;
 use crate::refusal::RefusalKind;
@@ -108,24 +109,26 @@ fn check_keyword(
 // The rules of all of a place's keywords, by name ascending.
 fn check_keywords(
     alloc: Global,
+    built: &mut Built,
     index: &Index,
     before: &[Site<'_>],
     site: &Site<'_>,
     members: &Members,
-) -> Result<Built, Fault>
+) -> Result<(), Fault>
     requires { IsIndex index.now (map site_of before.now) }
     ensures clear { OnOk result (IsClear
         (flat_map (at_member (map site_of before.now) (site_of site.now)) members.now)) }
-    ensures assertions { IfOk result (λ b. b.assertions.items ≡ flat_map (assertion_at members.now) members.now) }
-    ensures patterns { IfOk result (λ b. b.patterns.items ≡ flat_map patterns_of members.now) }
+    ensures assertions { OnOk result (built.new.assertions.items ≡ built.old.assertions.items
+        ++ flat_map (assertion_at members.now) members.now) }
+    ensures patterns { OnOk result (built.new.patterns.items ≡ built.old.patterns.items
+        ++ flat_map patterns_of members.now) }
     ensures err { IfErr result (IsStopped
         (flat_map (at_member (map site_of before.now) (site_of site.now)) members.now)) }
 {
-    let mut built = Built::new(alloc);
     for (keyword, argument) in members.pairs() {
         check_keyword(
             alloc,
-            &mut built,
+            built,
             index,
             before,
             site,
@@ -134,70 +137,83 @@ fn check_keywords(
             members,
         )?;
     }
-    Ok(built)
+    Ok(())
 }
 
 fn check_schema(
     alloc: Global,
+    built: &mut Built,
     index: &Index,
     before: &[Site<'_>],
     site: &Site<'_>,
-) -> Result<Built, Fault>
+) -> Result<(), Fault>
     requires { IsIndex index.now (map site_of before.now) }
     ensures clear { OnOk result (IsClear (flat_map
         (at_member (map site_of before.now) (site_of site.now)) (keywords (site_of site.now).schema))) }
-    ensures assertions { IfOk result (λ b. b.assertions.items ≡ assertions_at (site_of site.now)) }
-    ensures patterns { IfOk result (λ b. b.patterns.items ≡ patterns_at (site_of site.now)) }
+    ensures assertions { OnOk result (built.new.assertions.items ≡ built.old.assertions.items
+        ++ assertions_at (site_of site.now)) }
+    ensures patterns { OnOk result (built.new.patterns.items ≡ built.old.patterns.items
+        ++ patterns_at (site_of site.now)) }
     ensures err { IfErr result (IsStopped (flat_map
         (at_member (map site_of before.now) (site_of site.now)) (keywords (site_of site.now).schema))) }
 {
     match site.schema {
-        Doc::Members(members) => check_keywords(alloc, index, before, site, members),
-        _ => Ok(Built::new(alloc)),
+        Doc::Members(members) => check_keywords(alloc, built, index, before, site, members),
+        _ => Ok(()),
     }
 }
 
 // The rules of a place, and of its keywords.
 fn check_site(
     alloc: Global,
+    built: &mut Built,
     index: &Index,
     before: &[Site<'_>],
     site: &Site<'_>,
-) -> Result<Built, Fault>
+) -> Result<(), Fault>
     requires { IsIndex index.now (map site_of before.now) }
     ensures clear { OnOk result (IsClear (at_site (map site_of before.now) (site_of site.now))) }
-    ensures assertions { IfOk result (λ b. b.assertions.items ≡ assertions_at (site_of site.now)) }
-    ensures patterns { IfOk result (λ b. b.patterns.items ≡ patterns_at (site_of site.now)) }
+    ensures assertions { OnOk result (built.new.assertions.items ≡ built.old.assertions.items
+        ++ assertions_at (site_of site.now)) }
+    ensures patterns { OnOk result (built.new.patterns.items ≡ built.old.patterns.items
+        ++ patterns_at (site_of site.now)) }
     ensures err { IfErr result (IsStopped (at_site (map site_of before.now) (site_of site.now))) }
 {
     check_place(alloc, index, before, site)?;
-    check_schema(alloc, index, before, site)
+    check_schema(alloc, built, index, before, site)
 }
 
 /// What the first pass has of the places.
 #[derive(Drop)]
 pub(crate) struct Passed {
-    /// Of each, what is built of its keywords.
-    pub(crate) built: Vec<Built>,
+    pub(crate) built: BuiltTable,
     pub(crate) index: Index,
 }
 
 /// The first pass.
 pub(crate) fn first_pass(alloc: Global, sites: &[Site<'_>]) -> Result<Passed, Fault>
     ensures clear { OnOk result (IsClear (first_pass [] (map site_of sites.now))) }
-    ensures assertions { IfOk result
-        (λ p. map assertions_in p.built.items ≡ map assertions_at (map site_of sites.now)) }
-    ensures patterns { IfOk result
-        (λ p. map patterns_in p.built.items ≡ map patterns_at (map site_of sites.now)) }
+    ensures assertions { IfOk result (λ p. IsGrouped assertions_at (map site_of sites.now)
+        p.built.all.assertions.items p.built.assertion_ends.items) }
+    ensures patterns { IfOk result (λ p. IsGrouped patterns_at (map site_of sites.now)
+        p.built.all.patterns.items p.built.pattern_ends.items) }
     ensures index { IfOk result (λ p. IsIndex p.index (map site_of sites.now)) }
     ensures err { IfErr result (IsStopped (first_pass [] (map site_of sites.now))) }
 {
-    let mut all = Vec::new(alloc);
+    let mut all = Built::new(alloc);
+    let mut assertion_ends = Vec::new(alloc);
+    let mut pattern_ends = Vec::new(alloc);
     let mut index = Index::new(alloc);
     for i in 0..sites.len() {
-        let built = check_site(alloc, &index, &sites[..i], &sites[i])?;
-        all.push(built)?;
+        check_site(alloc, &mut all, &index, &sites[..i], &sites[i])?;
+        assertion_ends.push(all.assertions.len())?;
+        pattern_ends.push(all.patterns.len())?;
         index.add(alloc, &sites[i], i)?;
     }
-    Ok(Passed { built: all, index })
+    let built = BuiltTable {
+        all,
+        assertion_ends,
+        pattern_ends,
+    };
+    Ok(Passed { built, index })
 }

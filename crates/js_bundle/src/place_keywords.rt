@@ -1,8 +1,11 @@
 //! What a place has by its keywords.
-ghost use Rattle.std.specs.Prelude.{◌≡◌, true, codes, find, bytes_eq, option_map, option_and_then};
+ghost use Rattle.std.specs.Prelude.{◌≡◌, Some, true, codes, find, bytes_eq, option_map, option_and_then};
+ghost use Rattle.js_bundle.specs.Built.{assertions_at, patterns_at};
 ghost use Rattle.js_bundle.specs.Schemas.{is_place, has_keyword, place_at, assertion, pattern};
+ghost use Rattle.js_bundle.specs.Seen.{AreRead};
 
 use crate::built::{BuiltAssertion, BuiltPattern};
+use crate::grouped::part;
 use crate::keyword::has;
 use crate::place::Place;
 use crate::schemas::Schemas;
@@ -15,7 +18,7 @@ impl Schemas {
         requires { is_place self.now place ≡ true }
         ensures { option_map (λ a. a.now) result ≡ option_and_then (assertion keyword.now) (place_at self.now place) }
     {
-        match find_assertion(self.built(place).assertions.as_slice(), keyword) {
+        match find_assertion(self.assertions(place), keyword) {
             Some(built) => Some(&built.assertion),
             None => None,
         }
@@ -27,10 +30,35 @@ impl Schemas {
         requires { is_place self.now place ≡ true }
         ensures { option_map (λ p. p.now) result ≡ option_and_then (pattern name.now) (place_at self.now place) }
     {
-        match find_pattern(self.built(place).patterns.as_slice(), name) {
+        match find_pattern(self.patterns(place), name) {
             Some(built) => Some(&built.pattern),
             None => None,
         }
+    }
+
+    fn assertions(&self, place: Place) -> &[BuiltAssertion]
+        requires { is_place self.now place ≡ true }
+        ensures { option_map assertions_at (place_at self.now place) ≡ Some result.now }
+    {
+        let built = &self.kept.built;
+        part(
+            built.all.assertions.as_slice(),
+            built.assertion_ends.as_slice(),
+            place.number,
+        )
+    }
+
+    fn patterns(&self, place: Place) -> &[BuiltPattern]
+        requires { is_place self.now place ≡ true }
+        ensures patterns { option_map patterns_at (place_at self.now place) ≡ Some result.now }
+        ensures read { AreRead self.now }
+    {
+        let built = &self.kept.built;
+        part(
+            built.all.patterns.as_slice(),
+            built.pattern_ends.as_slice(),
+            place.number,
+        )
     }
 
     /// Whether the place has a `$ref` (JSON Schema Core, section 8.2.3.1).

@@ -1,14 +1,11 @@
 //! Finished schemas: places, and what stands there.
 ghost use Rattle.std.specs.Prelude.{◌≡◌, ◌++◌, Some, true, length, map, option_map, IfOk, string_bytes};
 ghost use Rattle.js_doc.specs.Seen.{value_of};
-ghost use Rattle.js_bundle.specs.Built.{assertions_at, assertions_in, patterns_at, patterns_in};
 ghost use Rattle.js_bundle.specs.Finding.{tokens_of};
 ghost use Rattle.js_bundle.specs.Location.{absolute, canonical, location};
 ghost use Rattle.js_bundle.specs.Schemas.{is_place, place_at, place_numbers, resources};
-ghost use Rattle.js_bundle.specs.Seen.{AreRead};
 ghost use Rattle.js_bundle.specs.Spot.{spot, spot_of};
 
-use crate::built::Built;
 use crate::document::Document;
 use crate::location::absolute;
 use crate::place::Place;
@@ -56,16 +53,6 @@ impl Schemas {
         ensures { option_map spot (place_at self.now place) ≡ Some (spot_of result.now) }
     {
         &self.kept.spots[place.number]
-    }
-
-    // What is built of a place's keywords.
-    pub(crate) fn built(&self, place: Place) -> &Built
-        requires { is_place self.now place ≡ true }
-        ensures assertions { option_map assertions_at (place_at self.now place) ≡ Some (assertions_in result.now) }
-        ensures patterns { option_map patterns_at (place_at self.now place) ≡ Some (patterns_in result.now) }
-        ensures read { AreRead self.now }
-    {
-        &self.kept.built[place.number]
     }
 
     /// The number of the place's document, the first one's 0.

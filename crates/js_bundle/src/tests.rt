@@ -1,18 +1,16 @@
-//! What no contract says: that documents are judged as worked examples want it, and that each call succeeds where there
-//! is memory.
-ghost use Rattle.std.specs.Prelude.{◌≡◌, true, IfOk};
+//! What no contract says: that each call succeeds where there is memory, and answers as worked examples want it. What the
+//! program can show of documents, places and refusals stands in `rows/`.
+ghost use Rattle.std.specs.Prelude.{◌≡◌, true};
 ghost use Rattle.js_bundle.specs.Schemas.{is_place};
 
 mod adding;
 mod dynamic;
 mod entries;
-mod hostile;
 mod places;
-mod refusals;
 mod targets;
 
 use super::*;
-use js_doc::{Doc, Pointer, read, text};
+use js_doc::{Doc, read, text};
 use std::alloc::Global;
 use std::test::Fail;
 
@@ -52,13 +50,59 @@ const SCOPES: [Source; 4] = [
     ("https://a.example/t", r#"{"$dynamicRef":"l#n"}"#),
 ];
 
-// A text of letters `a` after a beginning.
-fn letters(alloc: Global, beginning: &str, count: usize) -> Result<String, Fail> {
-    let mut text = String::from_str(alloc, beginning)?;
-    for _ in 0..count {
-        text.push('a')?;
+// What is asked of a place.
+#[derive(Clone, Copy)]
+enum Question<'q> {
+    Location,
+    // The absolute location of a keyword.
+    Keyword(&'q str),
+    // Its resource, document, pointer and schema.
+    Standing,
+    // Which keyword each of its keywords is.
+    Keywords,
+    ResourceNumber,
+    Below(&'q str, Step<'q>),
+    // What the assertion of a keyword says of a value one of whose items matches.
+    Assertion(&'q str, &'q str),
+    // Whether a pattern holds of a text.
+    Pattern(&'q str, &'q str),
+    // Where `$ref` leads.
+    Target,
+    // Where `$dynamicRef` leads at the end of a path, which the URIs name.
+    DynamicTarget(&'q [&'q str]),
+    // All places, and all resources.
+    Places,
+    Resources,
+}
+
+use Question::*;
+
+// The URI of an entry, what is asked of the place that it names, and what is answered.
+type Row<'r> = (&'r str, Question<'r>, &'r str);
+
+// That the finished documents answer so.
+fn answer_so(alloc: Global, sources: &[Source], rows: &[Row]) -> Result<(), Fail> {
+    let schemas = finished(alloc, sources)?;
+    for (uri, question, wanted) in rows {
+        let answer = answered(alloc, &schemas, uri, question)?;
+        same(alloc, uri, answer.as_str(), wanted)?;
     }
-    Ok(text)
+    Ok(())
+}
+
+fn same(alloc: Global, uri: &str, answer: &str, wanted: &str) -> Result<(), Fail> {
+    if answer == wanted {
+        return Ok(());
+    }
+    let wrong = format!(in alloc; "{uri}: {answer}, and not {wanted}")?;
+    Err(Fail::from(wrong))
+}
+
+fn finished(alloc: Global, sources: &[Source]) -> Result<Schemas, Fail> {
+    match bundle_of(alloc, sources)?.finish(alloc) {
+        Ok(schemas) => Ok(schemas),
+        Err((refusal, _)) => Err(Fail::from(refusal)),
+    }
 }
 
 fn bundle_of(alloc: Global, sources: &[Source]) -> Result<Bundle, Fail> {
@@ -69,59 +113,57 @@ fn bundle_of(alloc: Global, sources: &[Source]) -> Result<Bundle, Fail> {
     Ok(bundle)
 }
 
-fn line(alloc: Global, refusal: &Refusal) -> Result<String, Fail> {
-    let place = refusal.place.text(alloc)?;
-    let document = refusal.document;
-    let kind = refusal.kind;
-    Ok(format!(in alloc; "document {document} at {place}: {kind:?}")?)
-}
-
-// What finishing a bundle answers: which document is refused, where and why, or `finished`.
-fn outcome(alloc: Global, bundle: Bundle) -> Result<String, Fail> {
-    match bundle.finish(alloc) {
-        Ok(_) => Ok(String::from_str(alloc, "finished")?),
-        Err((refusal, _)) => line(alloc, &refusal),
+// The answer, or the fault of the entry.
+fn answered(
+    alloc: Global,
+    schemas: &Schemas,
+    uri: &str,
+    question: &Question,
+) -> Result<String, Fail> {
+    match schemas.entry(alloc, uri) {
+        Ok(place) if schemas.has(place) => told(alloc, schemas, place, question),
+        Ok(_) => Err(Fail::from("an entry is a place")),
+        Err(fault) => Ok(format!(in alloc; "{fault:?}")?),
     }
 }
 
-fn judged(alloc: Global, sources: &[Source]) -> Result<String, Fail> {
-    outcome(alloc, bundle_of(alloc, sources)?)
-}
-
-// The same of one document.
-fn told(alloc: Global, schema: &str) -> Result<String, Fail> {
-    judged(alloc, &[(URI, schema)])
-}
-
-fn finished(alloc: Global, sources: &[Source]) -> Result<Schemas, Fail> {
-    match bundle_of(alloc, sources)?.finish(alloc) {
-        Ok(schemas) => Ok(schemas),
-        Err((refusal, _)) => Err(Fail::from(refusal)),
-    }
-}
-
-// The place that the URI names.
-fn at(alloc: Global, schemas: &Schemas, uri: &str) -> Result<Place, Fail>
-    ensures { IfOk result (λ p. is_place schemas.now p ≡ true) }
+fn told(alloc: Global, schemas: &Schemas, place: Place, question: &Question) -> Result<String, Fail>
+    requires { is_place schemas.now place ≡ true }
 {
-    let place = schemas.entry(alloc, uri)?;
-    if !schemas.has(place) {
-        return Err(Fail::from("an entry is a place"));
+    match question {
+        Location => location(alloc, schemas, place),
+        Keyword(name) => Ok(schemas.absolute(alloc, place, Some(name))?),
+        Standing => places::standing(alloc, schemas, place),
+        Keywords => {
+            let names = schemas.keywords(place);
+            Ok(format!(in alloc; "{names:?}")?)
+        }
+        ResourceNumber => {
+            let number = schemas.resource_number(place);
+            let count = schemas.resource_count();
+            Ok(format!(in alloc; "{number} of {count}")?)
+        }
+        Below(keyword, step) => found(alloc, schemas, schemas.below(place, keyword, *step)),
+        Assertion(keyword, value) => places::said(alloc, schemas, place, keyword, value),
+        Pattern(name, text) => places::matched(alloc, schemas, place, name, text),
+        Target => targets::target(alloc, schemas, place),
+        DynamicTarget(path) => dynamic::target(alloc, schemas, place, path),
+        Places => places::all_places(alloc, schemas),
+        Resources => places::all_resources(alloc, schemas),
     }
-    Ok(place)
 }
 
 // The absolute location of a place, or `none`.
-fn location(alloc: Global, schemas: &Schemas, place: Option<Place>) -> Result<String, Fail> {
+fn found(alloc: Global, schemas: &Schemas, place: Option<Place>) -> Result<String, Fail> {
     match place {
-        Some(place) => location_of(alloc, schemas, place),
+        Some(place) => location(alloc, schemas, place),
         None => Ok(String::from_str(alloc, "none")?),
     }
 }
 
-fn location_of(alloc: Global, schemas: &Schemas, place: Place) -> Result<String, Fail> {
+fn location(alloc: Global, schemas: &Schemas, place: Place) -> Result<String, Fail> {
     if !schemas.has(place) {
         return Err(Fail::from("it is no place"));
     }
-    Ok(schemas.absolute(alloc, place, None)?)
+    Ok(String::from_str(alloc, schemas.absolute_of(place))?)
 }

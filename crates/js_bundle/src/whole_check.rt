@@ -1,6 +1,6 @@
 //! The check of documents as a whole.
 ghost use Rattle.std.specs.Prelude.{◌≡◌, ◌++◌, [], ◌∷◌, codes, map, OnOk, IfOk, IfErr};
-ghost use Rattle.js_bundle.specs.Built.{assertions_at, assertions_in, patterns_at, patterns_in};
+ghost use Rattle.js_bundle.specs.Built.{assertions_at, patterns_at};
 ghost use Rattle.js_bundle.specs.Candidate.{IsClear, IsStopped};
 ghost use Rattle.js_bundle.specs.Edges.{LeadDown};
 ghost use Rattle.js_bundle.specs.Finding.{dynamic_at, number_of_target};
@@ -15,7 +15,7 @@ ghost use Rattle.js_bundle.specs.Scan.{site_of};
 ghost use Rattle.js_bundle.specs.Seen.{document_of, AreRead};
 ghost use Rattle.js_bundle.specs.Spot.{spot, spot_of};
 
-use crate::built::Built;
+use crate::built::BuiltTable;
 use crate::document::Document;
 use crate::edges::{Edges, edges_of};
 use crate::fault::Fault;
@@ -48,7 +48,7 @@ pub(crate) struct Spot {
 #[derive(Drop)]
 pub(crate) struct Checked {
     pub(crate) spots: Vec<Spot>,
-    pub(crate) built: Vec<Built>,
+    pub(crate) built: BuiltTable,
     pub(crate) keywords: KeywordTable,
     pub(crate) references: References,
     /// The absolute location of each.
@@ -89,10 +89,10 @@ pub(crate) fn check_whole(alloc: Global, documents: &[Document]) -> Result<Check
     ensures clear { OnOk result (IsClear (candidates (map document_of documents.now))) }
     ensures spots { IfOk result
         (λ c. map spot_of c.spots.items ≡ map spot (sites (map document_of documents.now))) }
-    ensures assertions { IfOk result (λ c. map assertions_in c.built.items
-        ≡ map assertions_at (sites (map document_of documents.now))) }
-    ensures patterns { IfOk result (λ c. map patterns_in c.built.items
-        ≡ map patterns_at (sites (map document_of documents.now))) }
+    ensures assertions { IfOk result (λ c. IsGrouped assertions_at (sites (map document_of documents.now))
+        c.built.all.assertions.items c.built.assertion_ends.items) }
+    ensures patterns { IfOk result (λ c. IsGrouped patterns_at (sites (map document_of documents.now))
+        c.built.all.patterns.items c.built.pattern_ends.items) }
     ensures keywords { IfOk result (λ c. IsGrouped keyword_names (sites (map document_of documents.now))
         c.keywords.names.items c.keywords.ends.items) }
     ensures dynamic { IfOk result (λ c. c.references.dynamic.items

@@ -14,8 +14,8 @@ use crate::string::Text;
 use serde_json::{Map, Value};
 use std::alloc::Global;
 
-#[cycle(moved)]
-pub(crate) fn moved(alloc: Global, value: Value) -> Result<Doc, ReadFault>
+#[cycle(convert_owned)]
+pub(crate) fn convert_owned(alloc: Global, value: Value) -> Result<Doc, ReadFault>
     ensures ok { IfOk result (λ d. value_in (view value) ≡ Ok (value_of d)) }
     ensures err { IfErr result (λ e. IsConversionFault (value_in (view value)) e) }
 {
@@ -25,25 +25,25 @@ pub(crate) fn moved(alloc: Global, value: Value) -> Result<Doc, ReadFault>
         Value::Number(number) => convert_number(alloc, &number),
         Value::String(text) => Ok(Doc::Text(Text::new(text))),
         Value::Array(values) => {
-            let docs = moved_items(alloc, values)?;
+            let docs = convert_owned_items(alloc, values)?;
             Ok(Doc::List(Items::new(docs)))
         }
         Value::Object(map) => {
-            let members = moved_members(alloc, map)?;
+            let members = convert_owned_members(alloc, map)?;
             Ok(Doc::Members(members))
         }
     }
 }
 
-#[cycle(moved)]
-fn moved_items(alloc: Global, values: Vec<Value>) -> Result<Vec<Doc>, ReadFault>
+#[cycle(convert_owned)]
+fn convert_owned_items(alloc: Global, values: Vec<Value>) -> Result<Vec<Doc>, ReadFault>
     ensures ok { IfOk result
         (λ v. items_in 0 (items_view values.items) ≡ Ok (items_seen v.items)) }
     ensures err { IfErr result (λ e. IsConversionFault (items_in 0 (items_view values.items)) e) }
 {
     let mut docs = Vec::with_capacity(alloc, values.len())?;
     for value in values {
-        match moved(alloc, value) {
+        match convert_owned(alloc, value) {
             Ok(doc) => docs.push(doc)?,
             Err(fault) => {
                 let token = index_token(alloc, docs.len())?;
@@ -54,14 +54,14 @@ fn moved_items(alloc: Global, values: Vec<Value>) -> Result<Vec<Doc>, ReadFault>
     Ok(docs)
 }
 
-#[cycle(moved)]
-fn moved_members(alloc: Global, map: Map<String, Value>) -> Result<Members, ReadFault>
+#[cycle(convert_owned)]
+fn convert_owned_members(alloc: Global, map: Map<String, Value>) -> Result<Members, ReadFault>
     ensures ok { IfOk result (λ m. members_in (members_view map.entries) ≡ Ok (members m)) }
     ensures err { IfErr result (λ e. IsConversionFault (members_in (members_view map.entries)) e) }
 {
     let mut members = Members::new(alloc);
     for (name, value) in map {
-        match moved(alloc, value) {
+        match convert_owned(alloc, value) {
             Ok(doc) => members.put(name, doc)?,
             Err(fault) => return Err(fault.lifted(Text::new(name))),
         }

@@ -8,7 +8,7 @@ ghost use Rattle.js_doc.specs.Seen.{value_of, items_seen};
 ghost use Rattle.js_doc.specs.WholeNumbers.{whole_number, value_in, items_in, members_in};
 ghost use Rattle.js_doc.specs.Reading.{IsReadAs, IsReadFault, IsConversionFault, Lifts};
 
-use crate::conversion::moved;
+use crate::conversion::convert_owned;
 use crate::doc::Doc;
 use crate::items::Items;
 use crate::members::Members;
@@ -89,7 +89,7 @@ pub fn read(alloc: Global, bytes: &[u8]) -> Result<Doc, ReadFault>
 {
     match Value::from_slice(alloc, bytes) {
         Ok(value) => {
-            let doc = moved(alloc, value)?;
+            let doc = convert_owned(alloc, value)?;
             doc.lawful();
             Ok(doc)
         }

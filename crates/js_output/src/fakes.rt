@@ -16,9 +16,15 @@ pub struct FakeReader<'a> {
 }
 
 impl<'a> FakeReader<'a> {
-    /// One byte a call, and never an error.
-    pub fn slow(rest: &'a [u8]) -> FakeReader<'a> {
-        FakeReader::failing(rest, 0, ErrorKind::Other)
+    /// So many bytes a call, and never an error.
+    pub fn by(step: usize, rest: &'a [u8]) -> FakeReader<'a> {
+        FakeReader {
+            rest,
+            step,
+            calls: 0,
+            fails_at: 0,
+            kind: ErrorKind::Other,
+        }
     }
 
     /// One byte a call, and an error of this kind at one of them.

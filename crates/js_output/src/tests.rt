@@ -1,19 +1,10 @@
+//! What no contract says: that each call succeeds where there is memory, and what a source and a sink call of their devices.
+//! The lines of faults and the texts of formats stand in `rows/`; whole runs over devices that fail at each call in
+//! `hostile/`.
 mod devices;
-mod faults;
-mod places;
+mod lines;
 mod running;
-mod suite;
 
-use crate::{Fault, refusal_line};
-use std::alloc::Global;
 use std::test::Fail;
 
 const URI: &str = "https://a.example/s";
-
-/// The line of a fault, where nothing was written.
-fn line_of(alloc: Global, fault: &Fault, written: &[u8]) -> Result<String, Fail> {
-    if !written.is_empty() {
-        return Err(Fail::from("written in spite of a fault"));
-    }
-    Ok(refusal_line(alloc, fault)?)
-}

@@ -40,7 +40,7 @@ module _ {A : Type 0} (same : A → A → Bool) (e : IsEquivalence same) where
       let k : alike_trees same b under c last ≡ false = sym (alike_trees-congr same e a below b under c last v) ∙ n in rw (v, k) i
   has_alike_unlike_at false a below b under others c last v n i = rw v (ap (λ x. alike_trees same b under c last || x) i)
 
-  has_alike_unlike : (a : A) (below f : Forest A) (c : A) (last : Forest A) → alike_trees same a below c last ≡ false → has_alike same (unlike same a below f) c last ≡ has_alike same f c last
+  pub has_alike_unlike : (a : A) (below f : Forest A) (c : A) (last : Forest A) → alike_trees same a below c last ≡ false → has_alike same (unlike same a below f) c last ≡ has_alike same f c last
   has_alike_unlike a below empty c last n = refl
   has_alike_unlike a below (tree b under others) c last n =
       has_alike_unlike_at (alike_trees same a below b under) a below b under others c last refl n (has_alike_unlike a below others c last n)

@@ -21,8 +21,9 @@ pub mod NodeTexts
 pub mod NotedRows
 pub mod Pieces
 pub mod Searching
-pub mod SeenTrees
 pub mod Siblings
 pub mod Steps
 pub mod Telling
 pub mod VerdictTold
+pub mod Listed
+pub mod Blocks

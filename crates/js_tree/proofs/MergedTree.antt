@@ -82,7 +82,7 @@ module _ {A : Type 0} (same : A → A → Bool) (e : IsEquivalence same) where
       rw (v, i) (sym (unlike-twice same a x (firsts same others)) ∙ ap (unlike same a x) (unlike-alike a x b under (firsts same others) v))
   firsts-unlike_at false a x b under others v i = rw (v, i) (ap (tree b under) (unlike-swap same b under a x (firsts same others)))
 
-  firsts-unlike : (a : A) (x f : Forest A) → firsts same (unlike same a x f) ≡ unlike same a x (firsts same f)
+  pub firsts-unlike : (a : A) (x f : Forest A) → firsts same (unlike same a x f) ≡ unlike same a x (firsts same f)
   firsts-unlike a x empty = refl
   firsts-unlike a x (tree b under others) = firsts-unlike_at (alike_trees same a x b under) a x b under others refl (firsts-unlike a x others)
 

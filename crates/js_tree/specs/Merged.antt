@@ -29,6 +29,16 @@ module _ {A : Type 0} (same : A → A → Bool) where
   unlike a below empty = empty
   unlike a below (tree b under others) = if alike_trees a below b under then unlike a below others else tree b under (unlike a below others)
 
+  -- those of the second that aren't alike to one of the first
+  abbrev pub others : Forest A → Forest A → Forest A
+  others f empty = empty
+  others f (tree a below after) = if has_alike f a below then others f after else tree a below (others f after)
+
+  -- none of the second is alike to one of the first
+  abbrev pub none_found : Forest A → Forest A → Bool
+  none_found f empty = true
+  none_found f (tree a below after) = not (has_alike f a below) && none_found f after
+
   -- none of the trees is alike to an earlier one, nor to one of those before them all
   abbrev pub none_alike : Forest A → Forest A → Bool
   none_alike before empty = true

@@ -9,6 +9,7 @@ mod flat;
 mod forms;
 pub mod laws;
 mod likeness;
+mod listing;
 mod merging;
 mod moves;
 mod nesting;

@@ -1,10 +1,8 @@
 //! Which trees are alike: equal once every keyword location is ignored.
-ghost use Rattle.std.specs.Prelude.{true, not, ◌%◌, ◌≡◌, ◌≤◌, ◌<◌, length, take, get_or};
+ghost use Rattle.std.specs.Prelude.{◌≡◌, ◌≤◌, ◌<◌, length, take, get_or};
 ghost use Rattle.js_tree.specs.Alike.{same_but_keyword, same_note};
-ghost use Rattle.js_tree.specs.Fingerprint.{all_seen, fingerprint, is_seen, mixed};
-ghost use Rattle.js_tree.specs.Forest.{Forest, forest_of};
+ghost use Rattle.js_tree.specs.Forest.{forest_of};
 ghost use Rattle.js_tree.specs.Merged.{alike, alike_trees, has_alike};
-ghost use Rattle.js_tree.specs.OutputUnit.{OutputUnit};
 ghost use Rattle.js_tree.specs.Result.{ResultTree};
 ghost use Rattle.js_tree.specs.Seen.{note_of};
 
@@ -61,28 +59,9 @@ impl<'a> Unit<'a> {
     }
 }
 
-/// A number that units share which are the same but for their keyword locations.
-fn fingerprint(unit: &Unit) -> usize
-    ensures { result ≡ fingerprint unit.now }
-{
-    let start = mixed(0, unit.instance.as_str().as_bytes());
-    mixed(start, unit.absolute.as_str().as_bytes())
-}
-
-/// The bytes, mixed into the number.
-fn mixed(start: usize, bytes: &[u8]) -> usize
-    ensures { result ≡ mixed start bytes.now }
-{
-    let mut number = start;
-    for byte in bytes {
-        number = number.wrapping_mul(31).wrapping_add(usize::from(*byte));
-    }
-    number
-}
-
 /// The trees are equal once every keyword location is ignored. The first node that differs ends the search.
 #[cycle(alike)]
-fn are_alike(a: &Tree, b: &Tree) -> bool
+pub(crate) fn are_alike(a: &Tree, b: &Tree) -> bool
     ensures { result ≡ alike_trees same_but_keyword a.now.root a.now.below b.now.root b.now.below }
 {
     a.unit.is_same_but_keyword(&b.unit) && all_alike(a.children.as_slice(), b.children.as_slice())
@@ -121,23 +100,4 @@ pub(crate) fn comes_again(trees: &[Tree], count: usize, index: usize) -> bool
     ensures { (d : ResultTree) → result ≡ has_alike same_but_keyword (forest_of (take count trees.now)) (get_or trees.now index d).root (get_or trees.now index d).below }
 {
     has_alike(&trees[..count], &trees[index])
-}
-
-/// The tree at the index is alike to none of the first, so many of them as `count` says. It is compared with them only
-/// where a tree was seen before at its place in the table, in which it is seen from then on.
-pub(crate) fn comes_first(trees: &[Tree], count: usize, index: usize, table: &mut [bool]) -> bool
-    requires place { (count ≤ index) × (index < length trees.now) }
-    requires table { (0 < length table.old) × all_seen table.old (forest_of (take count trees.now)) }
-    ensures first { (d : ResultTree) → result ≡ not (has_alike same_but_keyword (forest_of (take count trees.now)) (get_or trees.now index d).root (get_or trees.now index d).below) }
-    ensures length { length table.new ≡ length table.old }
-    ensures still { (f : Forest OutputUnit) → all_seen table.old f → all_seen table.new f }
-    ensures seen { (d : ResultTree) → is_seen table.new (get_or trees.now index d).root ≡ true }
-{
-    let tree = &trees[index];
-    let place = fingerprint(&tree.unit) % table.len();
-    if table[place] {
-        return !comes_again(trees, count, index);
-    }
-    table[place] = true;
-    true
 }

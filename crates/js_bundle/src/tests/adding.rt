@@ -1,4 +1,4 @@
-//! Documents added one by one: what is taken in, and what is refused.
+//! Documents added one by one, as bytes and as values: what is taken in, and what is refused.
 use super::*;
 
 // What adding one document to a bundle is refused for.
@@ -12,51 +12,20 @@ fn refused(bundle: &mut Bundle, uri: &str, source: &str) -> Option<RefusalKind> 
 #[test]
 fn takes_documents_in(rt: HostRuntime) {
     let mut bundle = Bundle::new(rt.alloc());
-    for (uri, source) in [
-        ("https://a.example/s", "true"),
-        ("https://a.example/s#", "{}"),
-        ("urn:a:b", "{\"$id\":3}"),
-        (" HTTPS://A.example/t\n", "[1]"),
+    for (uri, source, kind) in [
+        ("https://a.example/s", "true", None),
+        ("https://a.example/s#", "{}", None),
+        ("urn:a:b", "{\"$id\":3}", None),
+        (" HTTPS://A.example/t\n", "[1]", None),
+        (
+            "https://a.example/t",
+            "[1,1.5]",
+            Some(RefusalKind::NotWhole),
+        ),
+        ("https://a.example/t", "[1,", Some(RefusalKind::NotJson)),
     ] {
-        assert_eq!(rt; refused(&mut bundle, uri, source), None, "at {uri}");
+        assert_eq!(rt; refused(&mut bundle, uri, source), kind, "at {uri}");
     }
-}
-
-#[test]
-fn a_refusal_has_its_place(rt: HostRuntime) -> Result<(), Fail> {
-    let alloc = rt.alloc();
-    let mut bundle = Bundle::new(alloc);
-    assert_eq!(rt; refused(&mut bundle, "https://a.example/s", "true"), None);
-    let mut place = Pointer::new(alloc);
-    place.push("b")?;
-    place.push("1")?;
-    assert_eq!(rt;
-        bundle.add("https://a.example/t", b"{\"b\":[1,1.5],\"a\":2}"),
-        Err(Refusal {
-            document: 1,
-            place,
-            kind: RefusalKind::NotWhole,
-        })
-    );
-    assert_eq!(rt;
-        bundle.add("https://a.example/t", b"[1,"),
-        Err(Refusal {
-            document: 1,
-            place: Pointer::new(alloc),
-            kind: RefusalKind::NotJson,
-        })
-    );
-    Ok(())
-}
-
-#[test]
-fn uris_have_a_longest(rt: HostRuntime) -> Result<(), Fail> {
-    let alloc = rt.alloc();
-    let mut bundle = Bundle::new(alloc);
-    let longest = letters(alloc, "https://a.example/s", 65_517)?;
-    assert_eq!(rt; longest.len(), 65_536);
-    assert_eq!(rt; refused(&mut bundle, longest.as_str(), "true"), None);
-    Ok(())
 }
 
 // What handing one value to a bundle is refused for. The value comes back.

@@ -1,38 +1,50 @@
 //! What dynamic references lead to in a dynamic scope.
+ghost use Rattle.std.specs.Prelude.{◌≡◌, true};
+ghost use Rattle.js_bundle.specs.Schemas.{is_place};
+
 use super::*;
 
-// What the `$dynamicRef` of a path's last place leads to, by the path and by the numbers of its resources.
-fn target(alloc: Global, schemas: &Schemas, uris: &[&str]) -> Result<String, Fail> {
-    let mut path = Vec::new(alloc);
-    for uri in uris {
-        path.push(at(alloc, schemas, uri)?)?;
-    }
-    match path.last() {
-        Some(place) => target_in(alloc, schemas, *place, path.as_slice()),
-        None => Err(Fail::from("a path has a place")),
-    }
-}
+const M: &str = "https://a.example/m";
 
-fn target_in(
-    alloc: Global,
-    schemas: &Schemas,
-    place: Place,
-    path: &[Place],
-) -> Result<String, Fail> {
-    if !schemas.has(place) {
-        return Err(Fail::from("it is a place"));
-    }
+const L: &str = "https://a.example/l";
+
+const T: &str = "https://a.example/t";
+
+const STRICT: &str = "https://example.com/strict-tree";
+
+const TREE_URI: &str = "https://example.com/tree";
+
+const CHILDREN: &str = "https://example.com/tree#/properties/children";
+
+const ITEMS: &str = "https://example.com/tree#/properties/children/items";
+
+// What the `$dynamicRef` of a path's last place leads to, by the path and by the numbers of its resources.
+pub fn target(alloc: Global, schemas: &Schemas, place: Place, uris: &[&str]) -> Result<String, Fail>
+    requires { is_place schemas.now place ≡ true }
+{
     if !schemas.has_dynamic_ref(place) {
         return Err(Fail::from("it has a dynamic reference"));
     }
-    let by_path = location(alloc, schemas, Some(schemas.dynamic_target(place, path)))?;
-    let numbers = numbers_on(alloc, schemas, path)?;
-    let found = schemas.dynamic_target_in(place, numbers.as_slice());
-    let by_numbers = location(alloc, schemas, Some(found))?;
-    if by_path.as_str() != by_numbers.as_str() {
-        return Err(Fail::from("the path and the numbers lead to two places"));
+    let path = path_of(alloc, schemas, uris)?;
+    let numbers = numbers_on(alloc, schemas, path.as_slice())?;
+    let by_path = schemas.dynamic_target(place, path.as_slice());
+    let by_numbers = schemas.dynamic_target_in(place, numbers.as_slice());
+    let found = location(alloc, schemas, by_path)?;
+    same(
+        alloc,
+        "by numbers",
+        location(alloc, schemas, by_numbers)?.as_str(),
+        found.as_str(),
+    )?;
+    Ok(found)
+}
+
+fn path_of(alloc: Global, schemas: &Schemas, uris: &[&str]) -> Result<Vec<Place>, Fail> {
+    let mut path = Vec::new(alloc);
+    for uri in uris {
+        path.push(schemas.entry(alloc, uri)?)?;
     }
-    Ok(by_path)
+    Ok(path)
 }
 
 // The numbers of a path's resources, of equal neighbours one.
@@ -55,50 +67,53 @@ fn push_apart(numbers: &mut Vec<usize>, number: usize) -> Result<(), Fail> {
 
 #[test]
 fn the_outermost_resource_with_the_name_decides(rt: HostRuntime) -> Result<(), Fail> {
-    let alloc = rt.alloc();
-    let schemas = finished(alloc, &SCOPES)?;
-    let s = "https://a.example/s";
-    let m = "https://a.example/m";
-    let l = "https://a.example/l";
-    let t = "https://a.example/t";
-    for (path, want) in [
-        ([s, m, l].as_slice(), "https://a.example/s#/$defs/x"),
-        ([m, l].as_slice(), "https://a.example/m#/$defs/x"),
-        ([l].as_slice(), "https://a.example/l#/$defs/x"),
-        ([t].as_slice(), "https://a.example/l#/$defs/x"),
-        ([t, m, l].as_slice(), "https://a.example/m#/$defs/x"),
-        ([m, s, m, l].as_slice(), "https://a.example/m#/$defs/x"),
-    ] {
-        assert_eq!(rt; target(alloc, &schemas, path)?.as_str(), want, "{path:?}");
-    }
-    Ok(())
+    answer_so(
+        rt.alloc(),
+        &SCOPES,
+        &[
+            (
+                L,
+                DynamicTarget(&[URI, M, L]),
+                "https://a.example/s#/$defs/x",
+            ),
+            (L, DynamicTarget(&[M, L]), "https://a.example/m#/$defs/x"),
+            (L, DynamicTarget(&[L]), "https://a.example/l#/$defs/x"),
+            (T, DynamicTarget(&[T]), "https://a.example/l#/$defs/x"),
+            (L, DynamicTarget(&[T, M, L]), "https://a.example/m#/$defs/x"),
+            (
+                L,
+                DynamicTarget(&[M, URI, M, L]),
+                "https://a.example/m#/$defs/x",
+            ),
+        ],
+    )
 }
 
 #[test]
 fn a_strict_tree_has_strict_children(rt: HostRuntime) -> Result<(), Fail> {
-    let alloc = rt.alloc();
-    let schemas = finished(alloc, &[TREE, STRICT_TREE])?;
-    let strict = "https://example.com/strict-tree";
-    let tree = "https://example.com/tree";
-    let children = "https://example.com/tree#/properties/children";
-    let items = "https://example.com/tree#/properties/children/items";
-    for (path, want) in [
-        (
-            [tree, children, items].as_slice(),
-            "https://example.com/tree#",
-        ),
-        (
-            [strict, tree, children, items].as_slice(),
-            "https://example.com/strict-tree#",
-        ),
-        (
-            [strict, tree, children, items, strict, tree, children, items].as_slice(),
-            "https://example.com/strict-tree#",
-        ),
-    ] {
-        assert_eq!(rt; target(alloc, &schemas, path)?.as_str(), want, "{path:?}");
-    }
-    Ok(())
+    answer_so(
+        rt.alloc(),
+        &[TREE, STRICT_TREE],
+        &[
+            (
+                ITEMS,
+                DynamicTarget(&[TREE_URI, CHILDREN, ITEMS]),
+                "https://example.com/tree#",
+            ),
+            (
+                ITEMS,
+                DynamicTarget(&[STRICT, TREE_URI, CHILDREN, ITEMS]),
+                "https://example.com/strict-tree#",
+            ),
+            (
+                ITEMS,
+                DynamicTarget(&[
+                    STRICT, TREE_URI, CHILDREN, ITEMS, STRICT, TREE_URI, CHILDREN, ITEMS,
+                ]),
+                "https://example.com/strict-tree#",
+            ),
+        ],
+    )
 }
 
 #[test]
@@ -145,50 +160,43 @@ fn a_dynamic_anchor_decides_by_its_name(rt: HostRuntime) -> Result<(), Fail> {
             "https://a.example/y#",
         ),
     ] {
-        let schemas = finished(rt.alloc(), &[(URI, schema)])?;
-        assert_eq!(rt;
-            target(rt.alloc(), &schemas, &[URI])?.as_str(),
-            want,
-            "{schema}"
-        );
+        answer_so(
+            rt.alloc(),
+            &[(URI, schema)],
+            &[(URI, DynamicTarget(&[URI]), want)],
+        )?;
     }
     Ok(())
 }
 
 #[test]
 fn a_plain_anchor_on_the_path_is_passed_over(rt: HostRuntime) -> Result<(), Fail> {
-    let alloc = rt.alloc();
     let schema =
         r##"{"$ref":"l","$defs":{"o":{"$anchor":"n"},"l":{"$id":"l","$dynamicRef":"#n","$defs":{"x":{"$dynamicAnchor":"n"}}}}}"##;
-    let schemas = finished(alloc, &[(URI, schema)])?;
-    assert_eq!(rt;
-        target(alloc, &schemas, &[URI, "https://a.example/l"])?.as_str(),
-        "https://a.example/l#/$defs/x"
-    );
-    Ok(())
-}
-
-// The number of the resource that a URI is in.
-fn number(alloc: Global, schemas: &Schemas, uri: &str) -> Result<usize, Fail> {
-    let place = at(alloc, schemas, uri)?;
-    Ok(schemas.resource_number(place))
+    answer_so(
+        rt.alloc(),
+        &[(URI, schema)],
+        &[(L, DynamicTarget(&[URI, L]), "https://a.example/l#/$defs/x")],
+    )
 }
 
 #[test]
 fn resources_are_numbered_by_their_roots(rt: HostRuntime) -> Result<(), Fail> {
-    let alloc = rt.alloc();
-    let schemas = finished(alloc, &[(URI, EMBEDDED), TREE])?;
-    assert_eq!(rt; schemas.resource_count(), 3);
-    for (uri, want) in [
-        ("https://a.example/x", 0),
-        ("https://a.example/x#/allOf/0", 0),
-        ("https://a.example/y", 1),
-        ("https://a.example/y#/not", 1),
-        ("https://a.example/x#q", 0),
-        ("https://example.com/tree", 2),
-        ("https://example.com/tree#/properties/data", 2),
-    ] {
-        assert_eq!(rt; number(alloc, &schemas, uri)?, want, "{uri}");
-    }
-    Ok(())
+    answer_so(
+        rt.alloc(),
+        &[(URI, EMBEDDED), TREE],
+        &[
+            ("https://a.example/x", ResourceNumber, "0 of 3"),
+            ("https://a.example/x#/allOf/0", ResourceNumber, "0 of 3"),
+            ("https://a.example/y", ResourceNumber, "1 of 3"),
+            ("https://a.example/y#/not", ResourceNumber, "1 of 3"),
+            ("https://a.example/x#q", ResourceNumber, "0 of 3"),
+            ("https://example.com/tree", ResourceNumber, "2 of 3"),
+            (
+                "https://example.com/tree#/properties/data",
+                ResourceNumber,
+                "2 of 3",
+            ),
+        ],
+    )
 }

@@ -1,14 +1,22 @@
 //! What references lead to.
+ghost use Rattle.std.specs.Prelude.{◌≡◌, true};
+ghost use Rattle.js_bundle.specs.Schemas.{is_place};
+
 use super::*;
 
-// What the `$ref` of a place leads to, or `none` where it has none.
-fn target(alloc: Global, schemas: &Schemas, uri: &str) -> Result<String, Fail> {
-    let place = at(alloc, schemas, uri)?;
+// What the `$ref` of a place leads to; without one, whether it has a `$dynamicRef`.
+pub fn target(alloc: Global, schemas: &Schemas, place: Place) -> Result<String, Fail>
+    requires { is_place schemas.now place ≡ true }
+{
     if schemas.has_ref(place) {
-        location(alloc, schemas, Some(schemas.target(place)))
-    } else {
-        location(alloc, schemas, None)
+        return location(alloc, schemas, schemas.target(place));
     }
+    let answer = if schemas.has_dynamic_ref(place) {
+        "dynamic"
+    } else {
+        "none"
+    };
+    Ok(String::from_str(alloc, answer)?)
 }
 
 #[test]
@@ -37,54 +45,30 @@ fn references_lead_to_places(rt: HostRuntime) -> Result<(), Fail> {
             r##"{"$ref":"y#/not","$defs":{"p":{"$id":"y","not":true}}}"##,
             "https://a.example/y#/not",
         ),
-        (r#"{"$dynamicRef":""}"#, "none"),
+        (r#"{"$dynamicRef":""}"#, "dynamic"),
         ("true", "none"),
     ] {
-        let schemas = finished(rt.alloc(), &[(URI, schema)])?;
-        assert_eq!(rt;
-            target(rt.alloc(), &schemas, URI)?.as_str(),
-            want,
-            "{schema}"
-        );
+        answer_so(rt.alloc(), &[(URI, schema)], &[(URI, Target, want)])?;
     }
     Ok(())
 }
 
 #[test]
 fn a_reference_is_joined_with_the_base_of_its_place(rt: HostRuntime) -> Result<(), Fail> {
-    let alloc = rt.alloc();
     let within =
         r##"{"$anchor":"q","allOf":[{"$id":"y/","$ref":"#q","$anchor":"q"},{"$id":"z/","$ref":"../y/"}]}"##;
-    let schemas = finished(alloc, &[(URI, within), TREE, STRICT_TREE])?;
-    for (uri, want) in [
-        ("https://a.example/y/", "https://a.example/y/#"),
-        ("https://a.example/z/", "https://a.example/y/#"),
-        (
-            "https://example.com/strict-tree",
-            "https://example.com/tree#",
-        ),
-        ("https://example.com/tree", "none"),
-    ] {
-        assert_eq!(rt; target(alloc, &schemas, uri)?.as_str(), want, "{uri}");
-    }
-    Ok(())
-}
-
-fn kinds(alloc: Global, schemas: &Schemas, uri: &str) -> Result<(bool, bool), Fail> {
-    let place = at(alloc, schemas, uri)?;
-    Ok((schemas.has_ref(place), schemas.has_dynamic_ref(place)))
-}
-
-#[test]
-fn places_tell_of_their_references(rt: HostRuntime) -> Result<(), Fail> {
-    let alloc = rt.alloc();
-    let schemas = finished(alloc, &SCOPES)?;
-    for (uri, want) in [
-        ("https://a.example/s", (true, false)),
-        ("https://a.example/l", (false, true)),
-        ("https://a.example/s#n", (false, false)),
-    ] {
-        assert_eq!(rt; kinds(alloc, &schemas, uri)?, want, "{uri}");
-    }
-    Ok(())
+    answer_so(
+        rt.alloc(),
+        &[(URI, within), TREE, STRICT_TREE],
+        &[
+            ("https://a.example/y/", Target, "https://a.example/y/#"),
+            ("https://a.example/z/", Target, "https://a.example/y/#"),
+            (
+                "https://example.com/strict-tree",
+                Target,
+                "https://example.com/tree#",
+            ),
+            ("https://example.com/tree", Target, "none"),
+        ],
+    )
 }

@@ -1,13 +1,8 @@
-// Runs over devices that are slow or fail.
+//! Each whole run with ample memory, over devices that move a byte a call.
+use super::*;
 use crate::fakes::{FakeReader, FakeWriter};
-use crate::tests::URI;
-use crate::{Fault, Format, Sink, Source, run, run_pair};
-use std::io::ErrorKind;
-use std::test::Fail;
-
-const DOCS: [(&str, &[u8]); 1] = [(URI, b"{\"type\":\"null\"}")];
-
-const EMPTY: [(&str, &[u8]); 1] = [(URI, b"{}")];
+use crate::{Counts, Fault, Format, Sink, Source, run, run_pair, run_places, run_suite};
+use std::alloc::Global;
 
 const TITLE: &[u8] = b"{\"properties\":{\"a\":{\"title\":\"t\"}}}";
 
@@ -43,8 +38,33 @@ const VERBOSE: &[u8] =
     ,\"instanceLocation\":\"\",\"keywordLocation\":\"/not\",\"valid\":true}],\"insta\
     nceLocation\":\"\",\"keywordLocation\":\"\",\"valid\":true}\n";
 
+// The text that was written, a byte a call and never flushed, or that it wasn't so.
+fn written(alloc: Global, writer: FakeWriter, calls: u64) -> Result<String, Fail> {
+    if writer.flushes != 0 || calls != writer.got.len() as u64 {
+        return Err(Fail::from("each byte is written once, and none flushed"));
+    }
+    match String::from_utf8(writer.got) {
+        Ok(text) => Ok(text),
+        Err(_) => Ok(String::from_str(alloc, "no text")?),
+    }
+}
+
+// The text of a run that answers that the instance is valid.
+fn told(alloc: Global, schema: &[u8], instance: &[u8], format: Format) -> Result<String, Fail> {
+    let mut source = Source::new(FakeReader::by(1, instance));
+    let mut writer = FakeWriter::new(alloc, 1, 0, 0);
+    let mut out = Sink::new(&mut writer);
+    let valid = run(alloc, &[(URI, schema)], URI, &mut source, format, &mut out)?;
+    let calls = out.calls();
+    drop(out);
+    if !valid {
+        return Err(Fail::from("it is valid"));
+    }
+    written(alloc, writer, calls)
+}
+
 #[test]
-fn one_byte_a_call_gives_the_same_in_each_format(rt: HostRuntime) -> Result<(), Fail> {
+fn a_byte_a_call_gives_the_same_in_each_format(rt: HostRuntime) -> Result<(), Fail> {
     for (schema, instance, format, text) in [
         (
             TITLE,
@@ -54,142 +74,135 @@ fn one_byte_a_call_gives_the_same_in_each_format(rt: HostRuntime) -> Result<(), 
         ),
         (TITLE, b"{\"a\":1}".as_slice(), Format::Basic, BASIC),
         (TITLE, b"{\"a\":1}".as_slice(), Format::Detailed, DETAILED),
+        (TITLE, b"{\"a\":1}".as_slice(), Format::Merged, DETAILED),
         (DOUBLE_NOT, b"1".as_slice(), Format::Verbose, VERBOSE),
     ] {
-        let docs = [(URI, schema)];
-        let mut source = Source::new(FakeReader::slow(instance));
-        let mut writer = FakeWriter::new(rt.alloc(), 1, 0, 0);
-        let mut out = Sink::new(&mut writer);
-        assert!(rt; run(rt.alloc(), &docs, URI, &mut source, format, &mut out)?);
-        assert_eq!(rt; out.calls(), text.len() as u64);
-        drop(out);
-        assert_eq!(rt; writer.got.as_slice(), text);
-        assert_eq!(rt; writer.flushes, 0);
+        let said = told(rt.alloc(), schema, instance, format)?;
+        assert_eq!(rt; said.as_bytes(), text);
     }
     Ok(())
 }
 
+// What a pair's run answers, and its text.
+fn told_pair(alloc: Global, pair: &str) -> Result<String, Fail> {
+    let mut source = Source::new(FakeReader::by(1, pair.as_bytes()));
+    let mut writer = FakeWriter::new(alloc, 1, 0, 0);
+    let mut out = Sink::new(&mut writer);
+    let valid = run_pair(alloc, &mut source, &mut out)?;
+    let calls = out.calls();
+    drop(out);
+    let text = written(alloc, writer, calls)?;
+    Ok(format!(in alloc; "{valid}: {text}")?)
+}
+
 #[test]
-fn a_read_that_fails_stops_the_run(rt: HostRuntime) -> Result<(), Fail> {
-    for kind in [ErrorKind::Other, ErrorKind::Interrupted] {
-        for k in 1..6 {
-            let mut source = Source::new(FakeReader::failing(b"null", k, kind));
-            let mut out = Sink::new(Vec::new(rt.alloc()));
-            for _ in 0..2 {
-                let answer = run(rt.alloc(), &DOCS, URI, &mut source, Format::Flag, &mut out);
-                assert!(rt; matches!(&answer, Err(Fault::Read)), "at {k}");
-                assert_eq!(rt; source.calls(), k, "at {k}");
-                assert_eq!(rt; out.calls(), 0, "at {k}");
-            }
-        }
+fn pairs_are_judged(rt: HostRuntime) -> Result<(), Fail> {
+    for (pair, want) in [
+        ("true\nnull", "true: {\"valid\":true}\n"),
+        ("false\nnull", "false: {\"valid\":false}\n"),
+    ] {
+        assert_eq!(rt; told_pair(rt.alloc(), pair)?.as_str(), want, "{pair}");
     }
     Ok(())
 }
 
+// How many places there are, and what is told of them.
+fn told_places(alloc: Global, docs: &[(&str, &[u8])]) -> Result<String, Fail> {
+    let mut writer = FakeWriter::new(alloc, 1, 0, 0);
+    let mut out = Sink::new(&mut writer);
+    let count = run_places(alloc, docs, &mut out)?;
+    let calls = out.calls();
+    drop(out);
+    let text = written(alloc, writer, calls)?;
+    Ok(format!(in alloc; "{count}: {text}")?)
+}
+
 #[test]
-fn a_failed_source_that_is_not_needed_does_not_matter(rt: HostRuntime) -> Result<(), Fail> {
-    let mut source = Source::new(FakeReader::failing(b"null", 1, ErrorKind::Other));
-    let mut out = Sink::new(Vec::new(rt.alloc()));
-    let answer = run(rt.alloc(), &DOCS, URI, &mut source, Format::Flag, &mut out);
-    assert!(rt; matches!(&answer, Err(Fault::Read)));
-    let refused = [(URI, b"3".as_slice())];
-    let answer = run(
-        rt.alloc(),
-        &refused,
+fn places_are_told_and_counted(rt: HostRuntime) -> Result<(), Fail> {
+    let embedded: &[u8] =
+        b"{\"$id\":\"x\",\"$defs\":{\"p\":{\"$id\":\"y\",\"not\":true}},\"allOf\":[{\"$anchor\":\"q\"}]}";
+    assert_eq!(rt;
+        told_places(
+            rt.alloc(),
+            &[(URI, embedded), ("https://a.example/t", b"true")]
+        )?
+        .as_str(),
+        "5: https://a.example/x#\nhttps://a.example/y#\nhttps://a.example/y#/not\n\
+            https://a.example/x#/allOf/0\nhttps://a.example/t#\n"
+    );
+    assert_eq!(rt; told_places(rt.alloc(), &[])?.as_str(), "0: ");
+    Ok(())
+}
+
+// The counts of a suite's run over a schema for whole numbers, and its text.
+fn told_suite(alloc: Global, suite: &[u8]) -> Result<String, Fail> {
+    let integer: &[u8] = b"{\"type\":\"integer\"}";
+    let docs = [("https://suite.example/i", integer)];
+    let mut source = Source::new(FakeReader::by(1, suite));
+    let mut writer = FakeWriter::new(alloc, 1, 0, 0);
+    let mut out = Sink::new(&mut writer);
+    let Counts {
+        passed,
+        failed,
+        skipped,
+    } = run_suite(alloc, &docs, &mut source, &mut out)?;
+    let calls = out.calls();
+    drop(out);
+    let text = written(alloc, writer, calls)?;
+    Ok(format!(in alloc; "{passed} {failed} {skipped}: {text}")?)
+}
+
+#[test]
+fn suites_are_told_and_counted(rt: HostRuntime) -> Result<(), Fail> {
+    for (suite, want) in [
+        (
+            b"[{\"description\":\"g\",\"schema\":{\"type\":\"integer\"},\"tests\":[\
+                {\"description\":\"i\",\"data\":1,\"valid\":true},\
+                {\"description\":\"s\",\"data\":\"x\",\"valid\":true},\
+                {\"description\":\"f\",\"data\":1.5,\"valid\":true}]}]"
+                .as_slice(),
+            "1 1 1: pass 0.0 \"i\"\nfail 0.1 \"s\"\nskip 0.2 \"f\"\n\
+                passed 1, failed 1, skipped 1\n",
+        ),
+        (
+            // The first stands beside the document; the second takes its URI, which is known.
+            b"[{\"description\":\"g\",\"schema\":{\"$ref\":\"i\"},\"tests\":[\
+                {\"description\":\"t\",\"data\":\"x\",\"valid\":false}]},\
+                {\"description\":\"h\",\"schema\":{\"$id\":\"i\"},\"tests\":[\
+                {\"description\":\"u\\n\",\"data\":1,\"valid\":true}]}]"
+                .as_slice(),
+            "1 0 1: pass 0.0 \"t\"\nskip 1.0 \"u\\n\"\npassed 1, failed 0, skipped 1\n",
+        ),
+    ] {
+        assert_eq!(rt; told_suite(rt.alloc(), suite)?.as_str(), want);
+    }
+    Ok(())
+}
+
+// Whether a source that has failed doesn't matter where a document is refused.
+fn refuses_first(alloc: Global) -> bool {
+    let mut source = Source::new(FakeReader::failing(b"null", 1, std::io::ErrorKind::Other));
+    let mut out = Sink::new(Vec::new(alloc));
+    let read = run(
+        alloc,
+        &[(URI, b"true")],
         URI,
         &mut source,
         Format::Flag,
         &mut out,
     );
-    assert!(rt; matches!(&answer, Err(Fault::Refused(_))));
-    Ok(())
+    let refused = run(
+        alloc,
+        &[(URI, b"3")],
+        URI,
+        &mut source,
+        Format::Flag,
+        &mut out,
+    );
+    matches!(&read, Err(Fault::Read)) && matches!(&refused, Err(Fault::Refused(_)))
 }
 
 #[test]
-fn after_a_failed_write_a_beginning_is_out(rt: HostRuntime) -> Result<(), Fail> {
-    for (format, text) in [
-        (Format::Flag, b"{\"valid\":true}\n".as_slice()),
-        (
-            Format::Basic,
-            b"{\"annotations\":[],\"valid\":true}\n".as_slice(),
-        ),
-    ] {
-        for k in 1..=text.len() {
-            let mut source = Source::new(b"0".as_slice());
-            let mut writer = FakeWriter::new(rt.alloc(), 1, k as u64, 0);
-            let mut out = Sink::new(&mut writer);
-            let answer = run(rt.alloc(), &EMPTY, URI, &mut source, format, &mut out);
-            assert!(rt; matches!(&answer, Err(Fault::Write)), "at {k}");
-            assert!(rt; out.failed(), "at {k}");
-            drop(out);
-            assert!(rt; text.starts_with(writer.got.as_slice()), "at {k}");
-            assert_eq!(rt; writer.got.len(), k - 1, "at {k}");
-        }
-    }
-    Ok(())
-}
-
-#[test]
-fn a_write_that_takes_nothing_has_failed(rt: HostRuntime) -> Result<(), Fail> {
-    let mut source = Source::new(b"null".as_slice());
-    let mut writer = FakeWriter::new(rt.alloc(), 0, 0, 0);
-    let mut out = Sink::new(&mut writer);
-    let answer = run(rt.alloc(), &DOCS, URI, &mut source, Format::Flag, &mut out);
-    assert!(rt; matches!(&answer, Err(Fault::Write)));
-    assert_eq!(rt; out.calls(), 1);
-    Ok(())
-}
-
-#[test]
-fn pairs_are_split_at_the_first_line_feed(rt: HostRuntime) -> Result<(), Fail> {
-    for (input, valid) in [
-        ("true\nnull", true),
-        ("false\nnull", false),
-        ("{\"type\":\"array\"}\n[\n1\n]\n", true),
-        ("{\"type\":\"array\"}\n\n\n{}", false),
-    ] {
-        let mut source = Source::new(input.as_bytes());
-        let mut written = Vec::new(rt.alloc());
-        let mut out = Sink::new(&mut written);
-        assert_eq!(rt;
-            run_pair(rt.alloc(), &mut source, &mut out)?,
-            valid,
-            "{input}"
-        );
-        drop(out);
-        let text = if valid {
-            b"{\"valid\":true}\n".as_slice()
-        } else {
-            b"{\"valid\":false}\n".as_slice()
-        };
-        assert_eq!(rt; written.as_slice(), text, "{input}");
-    }
-    Ok(())
-}
-
-#[test]
-fn a_pair_is_read_whole_before_it_is_judged(rt: HostRuntime) -> Result<(), Fail> {
-    for k in 1..8 {
-        let mut source = Source::new(FakeReader::failing(b"3\nnull", k, ErrorKind::Other));
-        let mut out = Sink::new(Vec::new(rt.alloc()));
-        let answer = run_pair(rt.alloc(), &mut source, &mut out);
-        assert!(rt; matches!(&answer, Err(Fault::Read)), "at {k}");
-        assert_eq!(rt; out.calls(), 0);
-    }
-    for (input, instance) in [("true", true), ("true\n", true), ("tru", false)] {
-        let mut source = Source::new(input.as_bytes());
-        let mut out = Sink::new(Vec::new(rt.alloc()));
-        let answer = run_pair(rt.alloc(), &mut source, &mut out);
-        assert_eq!(rt;
-            matches!(&answer, Err(Fault::Instance(_))),
-            instance,
-            "{input}"
-        );
-        assert_eq!(rt;
-            matches!(&answer, Err(Fault::Refused(_))),
-            !instance,
-            "{input}"
-        );
-    }
-    Ok(())
+fn a_failed_source_that_is_not_needed_does_not_matter(rt: HostRuntime) {
+    assert!(rt; refuses_first(rt.alloc()));
 }

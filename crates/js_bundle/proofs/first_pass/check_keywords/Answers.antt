@@ -37,10 +37,10 @@ loop-keyword-preserved c =
     record {
       leads = leads_past (flat_map f all) (f (key, v)) (flat_map f rest) (subst (λ es. Leads (flat_map f all) (flat_map f (map pair_of es))) c.in-Some.ensures.steps l.invariant.leads)
           (subst (λ k. IsClear (f (k, v))) c.as_str.ensures.value c.in_ok-check_keyword.ensures.clear);
-      assertions = piece_next old.assertions.items new.assertions.items (g (key, v)) (flat_map g rest) (flat_map g all)
+      assertions = piece_next old.assertions.items new.assertions.items (g (key, v)) (flat_map g rest) (c.args.built.now.assertions.items ++ flat_map g all)
           (subst (λ k. new.assertions.items ≡ old.assertions.items ++ g (k, v)) c.as_str.ensures.value c.in_ok-check_keyword.ensures.assertions)
-          (subst (λ es. old.assertions.items ++ flat_map g (map pair_of es) ≡ flat_map g all) c.in-Some.ensures.steps l.invariant.assertions);
-      patterns = piece_next old.patterns.items new.patterns.items (h (key, v)) (flat_map h rest) (flat_map h all)
+          (subst (λ es. old.assertions.items ++ flat_map g (map pair_of es) ≡ c.args.built.now.assertions.items ++ flat_map g all) c.in-Some.ensures.steps l.invariant.assertions);
+      patterns = piece_next old.patterns.items new.patterns.items (h (key, v)) (flat_map h rest) (c.args.built.now.patterns.items ++ flat_map h all)
           (subst (λ k. new.patterns.items ≡ old.patterns.items ++ h (k, v)) c.as_str.ensures.value c.in_ok-check_keyword.ensures.patterns)
-          (subst (λ es. old.patterns.items ++ flat_map h (map pair_of es) ≡ flat_map h all) c.in-Some.ensures.steps l.invariant.patterns);
+          (subst (λ es. old.patterns.items ++ flat_map h (map pair_of es) ≡ c.args.built.now.patterns.items ++ flat_map h all) c.in-Some.ensures.steps l.invariant.patterns);
     }

@@ -13,6 +13,6 @@ invariant-loop-keyword l =
     let left = map pair_of l.keyword-iterator in
     record {
       leads : Leads (flat_map rules l.members) (flat_map rules left);
-      assertions : l.built.assertions.items ++ flat_map (assertion_at l.members) left ≡ flat_map (assertion_at l.members) l.members;
-      patterns : l.built.patterns.items ++ flat_map patterns_of left ≡ flat_map patterns_of l.members;
+      assertions : l.built.assertions.items ++ flat_map (assertion_at l.members) left ≡ l.initial.built.assertions.items ++ flat_map (assertion_at l.members) l.members;
+      patterns : l.built.patterns.items ++ flat_map patterns_of left ≡ l.initial.built.patterns.items ++ flat_map patterns_of l.members;
     }

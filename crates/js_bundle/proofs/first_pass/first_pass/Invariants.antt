@@ -1,9 +1,10 @@
-use Rattle.std.proofs.Common.{◌≡◌, ◌++◌, [], map, take, drop}
-use Rattle.js_bundle.specs.Built.{assertions_at, assertions_in, patterns_at, patterns_in}
+use Rattle.std.proofs.Common.{[], map, take, drop}
+use Rattle.js_bundle.specs.Built.{assertions_at, patterns_at}
 use Rattle.js_bundle.specs.Index.{IsIndex}
 use Rattle.js_bundle.specs.Leads.{Leads}
 use Rattle.js_bundle.specs.Refusals.{first_pass}
 use Rattle.js_bundle.specs.Scan.{site_of}
+use Rattle.js_bundle.proofs.Grouping.{AreGrouped}
 use Rattle.js_bundle.proofs.first_pass.first_pass.Given as goal
 
 abbrev pub invariant-loop-i : goal.invariant-loop-i
@@ -12,7 +13,7 @@ invariant-loop-i l =
     let left = map site_of (drop l.i l.sites) in
     record {
       leads : Leads (first_pass [] all) (first_pass (map site_of (take l.i l.sites)) left);
-      assertions : map assertions_in l.all.items ++ map assertions_at left ≡ map assertions_at all;
-      patterns : map patterns_in l.all.items ++ map patterns_at left ≡ map patterns_at all;
+      assertions : AreGrouped assertions_at l.sites l.i l.all.assertions.items l.assertion_ends.items;
+      patterns : AreGrouped patterns_at l.sites l.i l.all.patterns.items l.pattern_ends.items;
       index : IsIndex l.index (map site_of (take l.i l.sites));
     }

@@ -50,14 +50,16 @@ returns-clause-assertions c =
     let ds = map document_of c.args.documents.now in
     let first : map site_of c.as_slice.result.now ≡ sites ds =
     lists_all ds (map site_of c.as_slice.result.now) (ap (map site_of) c.as_slice.ensures.value ∙ c.in_ok-sites.ensures) c.in_ok-built.ensures.clear in
-    c.in_ok-built.ensures.assertions ∙ ap (map assertions_at) first
+    let built = c.in_ok-built.field-0.built in
+    subst (λ ss. IsGrouped assertions_at ss built.all.assertions.items built.assertion_ends.items) first c.in_ok-built.ensures.assertions
 
 pub returns-clause-patterns : goal.returns-clause-patterns
 returns-clause-patterns c =
     let ds = map document_of c.args.documents.now in
     let first : map site_of c.as_slice.result.now ≡ sites ds =
     lists_all ds (map site_of c.as_slice.result.now) (ap (map site_of) c.as_slice.ensures.value ∙ c.in_ok-sites.ensures) c.in_ok-built.ensures.clear in
-    c.in_ok-built.ensures.patterns ∙ ap (map patterns_at) first
+    let built = c.in_ok-built.field-0.built in
+    subst (λ ss. IsGrouped patterns_at ss built.all.patterns.items built.pattern_ends.items) first c.in_ok-built.ensures.patterns
 
 pub returns-clause-dynamic : goal.returns-clause-dynamic
 returns-clause-dynamic c =
@@ -141,3 +143,8 @@ returns-clause-keywords c =
     lists_all ds (map site_of c.as_slice.result.now) (ap (map site_of) c.as_slice.ensures.value ∙ c.in_ok-sites.ensures) c.in_ok-built.ensures.clear in
     let fifth : map site_of c.as_slice-5.result.now ≡ sites ds = ap (map site_of) (c.as_slice-5.ensures.value ∙ sym c.as_slice.ensures.value) ∙ first in
     subst (λ ss. IsGrouped keyword_names ss c.in_ok-keywords.keywords.names.items c.in_ok-keywords.keywords.ends.items) fifth c.in_ok-keywords.ensures
+
+pub returns-in_err-locations-clause-err : goal.returns-in_err-locations-clause-err
+returns-in_err-locations-clause-err c =
+    let p = err_from_is_err_and c.from_residual-in_err-locations.result c.from_residual-in_err-locations.ensures.1 in
+    rw (p.1, p.2) tt

@@ -1,0 +1,14 @@
+use Rattle.std.proofs.Common.{◌≡◌, length, take, drop}
+use Rattle.js_tree.specs.Alike.{same_but_keyword}
+use Rattle.js_tree.specs.Fingerprint.{AreListed}
+use Rattle.js_tree.specs.Forest.{empty, forest_of}
+use Rattle.js_tree.specs.Merged.{none_alike}
+use Rattle.js_tree.proofs.merging.listed_differ.Given as goal
+
+abbrev pub invariant-loop-i : goal.invariant-loop-i
+invariant-loop-i l = record {
+  alike : none_alike same_but_keyword empty (forest_of (take l.looked l.trees)) ≡ none_alike same_but_keyword (forest_of (take l.i (take l.looked l.trees))) (forest_of (drop l.i (take l.looked l.trees)));
+  listed : AreListed l.heads l.links (take l.i l.trees);
+  heads : length l.heads ≡ length l.initial.heads;
+  links : length l.links ≡ length l.initial.links;
+}
