@@ -30,7 +30,7 @@ fn insert<'a>(set: &mut BTreeSet<&'a str>, name: &'a str) -> Result<(), Memory>
 }
 
 /// Whether the name is in the set.
-#[tactic(auto, unfolding(crate::specs::Cursors::is_key))]
+#[tactic(auto, unfolding(crate::specs::code::Cursors::is_key))]
 pub(crate) fn is_in(names: &BTreeSet<&str>, name: &str) -> bool
     ensures { result ≡ is_key names.now.keys name.now }
 {
