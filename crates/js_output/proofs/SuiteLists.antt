@@ -1,9 +1,10 @@
 -- The lines of a suite, one test and one group after another.
-use Rattle.std.proofs.Common.{◌≡◌, ℕ, ◌+◌, ◌<◌, ◌≤◌, List, [], ◌∷◌, ◌++◌, length, get_or, drop, Option, refl, sym, ap, ◌∙◌, subst, append_assoc}
+use Rattle.std.proofs.Common.{◌≡◌, ℕ, ◌+◌, ◌<◌, ◌≤◌, List, [], ◌∷◌, ◌++◌, length, get_or, drop, Option, option_map, refl, sym, ap, ◌∙◌, subst, append_assoc}
 use Rattle.std.proofs.lemmas.List.{append-nil, drop_more, drop_all}
 use Rattle.js_bundle.specs.Document as bundle
+use Rattle.js_doc.specs.Seen.{value_of}
 use Rattle.js_output.specs.Documents.{DocumentTexts}
-use Rattle.js_output.specs.Suite.{AreGroupLines, AreLines, AreTestLines, IsLine}
+use Rattle.js_output.specs.Suite.{AreGroupLines, AreLines, AreTestLines, IsBasis, IsLine}
 use Rattle.js_output.specs.SuiteText.{group_seen, groups_seen, test_seen, tests_seen}
 use Rattle.js_output.specs.declared.suite_lines.Line.{Line}
 use Rattle.js_output.specs.declared.suite_text.SuiteGroup.{SuiteGroup}
@@ -35,3 +36,10 @@ module _ (documents : DocumentTexts) (groups : List SuiteGroup) where
   pub groups_all : (n : ℕ) (done : List Line) → length groups ≤ n → LeadsGroups n done → AreLines documents 0 (groups_seen groups) done
   groups_all n done end leads =
       subst (AreLines documents 0 (groups_seen groups)) (append-nil done) (leads [] (subst (λ gs. AreLines documents n (groups_seen gs) []) (sym (drop_all n groups end)) refl))
+
+-- the lines of a group's tests are the group's, where what they were judged by is its basis
+module _ (documents : DocumentTexts) (g : ℕ) (group : SuiteGroup) (basis : Option bundle.Documents) (tests : List SuiteTest) (old new : List Line) where
+  pub group_told : IsBasis documents g (option_map value_of group.schema) basis → tests ≡ group.tests.items → ((these : List Line) × (new ≡ old ++ these) × AreTestLines basis g 0 (tests_seen tests) these) → ((these : List Line) × (new ≡ old ++ these) × AreGroupLines documents g (group_seen group) these)
+  group_told judged is told =
+      let (these, grown, lines) = told in
+      (these, grown, (basis, judged, subst (λ ts. AreTestLines basis g 0 (tests_seen ts) these) is lines))
