@@ -12,6 +12,7 @@ pub mod JudgedDocuments
 pub mod Largest
 pub mod EveryItem
 pub mod Paths
+pub mod Scopes
 pub mod ItemsLeft
 pub mod MembersLeft
 pub mod PatternsLeft

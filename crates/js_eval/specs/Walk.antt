@@ -1,4 +1,5 @@
 pub mod Keeping
+pub mod Scope
 pub mod Said
 pub mod Told
 pub mod Steps

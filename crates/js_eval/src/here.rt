@@ -40,7 +40,7 @@ impl<'a> World for Here<'a> {
     ghost use Rattle.js_eval.specs.Bundle.{schemas_of};
     ghost use Rattle.js_eval.specs.KeywordsLeft as left;
     ghost use Rattle.js_eval.specs.Seen.{instance_of, keyword_of};
-    ghost use Rattle.js_eval.specs.Sited.{numbered_site};
+    ghost use Rattle.js_eval.specs.Sited.{numbered_site, resource_of};
 
     type Value = Instance<'a>;
 
@@ -60,6 +60,8 @@ impl<'a> World for Here<'a> {
 
     ghost site = { λ h n. numbered_site h.schemas.now n };
 
+    ghost resource = { λ h n. resource_of h.schemas.now n };
+
     ghost value_of = { instance_of };
 
     ghost text_of = { λ name. name.now };
@@ -77,6 +79,10 @@ impl<'a> World for Here<'a> {
     #[tactic(auto, unfolding(crate::specs::Walk::Told::accepts_at))]
     fn accepts(&self, place: Place) -> bool {
         is_accepting(schema_at(self.schemas, place))
+    }
+
+    fn resource(&self, place: Place) -> usize {
+        self.schemas.resource_number(place)
     }
 
     #[tactic(auto, unfolding(crate::specs::Walk::Told::keywords_at))]
@@ -98,6 +104,7 @@ impl<'a> World for Here<'a> {
         &self,
         alloc: Global,
         path: &[Place],
+        resources: &[usize],
         place: Place,
         value: Instance<'a>,
         keyword: Keyword<'a>,
@@ -108,6 +115,7 @@ impl<'a> World for Here<'a> {
         let schema = schema_at(self.schemas, place);
         let scene = Scene {
             path,
+            scope: resources,
             place,
             schema,
             value,

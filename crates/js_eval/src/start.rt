@@ -1,6 +1,6 @@
 //! What a keyword begins to ask for, by its kind (Core, sections 8.2.3, 10 and 11).
-ghost use Rattle.std.specs.Prelude.{◌≡◌, ◌∷◌, [], IfOk, map, true};
-ghost use Rattle.std.specs.List.{list_all};
+ghost use Rattle.std.specs.Prelude.{◌≡◌, ◌∷◌, [], IfOk, map, nat_eq, true};
+ghost use Rattle.std.specs.List.{dedup, list_all};
 ghost use Rattle.js_assert.specs.Argument.{entries};
 ghost use Rattle.js_bundle.specs.Schemas.{is_place};
 ghost use Rattle.js_doc.specs.Seen.{value_of};
@@ -9,7 +9,7 @@ ghost use Rattle.js_eval.specs.Asked.{asked};
 ghost use Rattle.js_eval.specs.Bundle.{schemas_of};
 ghost use Rattle.js_eval.specs.SchemaSet as spec;
 ghost use Rattle.js_eval.specs.Seen.{instance_of, keyword_of, texts_of};
-ghost use Rattle.js_eval.specs.Sited.{numbered_site};
+ghost use Rattle.js_eval.specs.Sited.{numbered_site, resource_of};
 
 use crate::bundled::{below, dynamic_target_at, target_at};
 use crate::cursor::{Asking, alone};
@@ -26,6 +26,8 @@ use std::alloc::Global;
 pub(crate) struct Scene<'s, 'a> {
     /// All places that were applied, the present one being the last.
     pub path: &'s [Place],
+    /// Their resources, of equal neighbours one.
+    pub scope: &'s [usize],
     /// The present place.
     pub place: Place,
     /// The schema there.
@@ -59,12 +61,14 @@ pub(crate) fn start<'a>(
 ) -> Result<Asking<'a>, Memory>
     requires place { is_place schemas.now scene.place ≡ true }
     requires path { list_all (is_place schemas.now) scene.path.now ≡ true }
+    requires resources { scene.scope.now ≡ dedup nat_eq (map (resource_of schemas.now) scene.path.now) }
     ensures { IfOk result (λ a. asked schemas.now a
         ≡ asks_of (schemas_of schemas.now) (map (numbered_site schemas.now) scene.entry.path.now) (numbered_site schemas.now scene.entry.place) (entries (value_of scene.entry.schema.now))
         (instance_of scene.entry.value) facts.entry.condition (texts_of facts.entry.names.now) facts.entry.indexes.now (keyword_of keyword.entry) kind) }
 {
     let Scene {
         path,
+        scope,
         place,
         schema,
         value,
@@ -72,7 +76,7 @@ pub(crate) fn start<'a>(
     let name = keyword.name;
     match kind {
         Kind::Reference => Ok(referred(schemas, place, value)),
-        Kind::DynamicReference => Ok(referred_dynamically(schemas, place, path, value)),
+        Kind::DynamicReference => Ok(referred_dynamically(schemas, place, path, scope, value)),
         Kind::AllOf => Ok(start_items::listed(alloc, schemas, place, keyword, value)),
         Kind::AnyOf => Ok(start_items::listed(alloc, schemas, place, keyword, value)),
         Kind::OneOf => Ok(start_items::listed(alloc, schemas, place, keyword, value)),
@@ -129,10 +133,12 @@ fn referred_dynamically<'a>(
     schemas: &Schemas,
     place: Place,
     path: &[Place],
+    resources: &[usize],
     value: Instance<'a>,
 ) -> Asking<'a>
     requires place { is_place schemas.now place ≡ true }
     requires path { list_all (is_place schemas.now) path.now ≡ true }
+    requires resources { resources.now ≡ dedup nat_eq (map (resource_of schemas.now) path.now) }
     ensures { asked schemas.now result
         ≡ record {
           place = (schemas_of schemas.now).dynamic_target (map (numbered_site schemas.now) path.now) (numbered_site schemas.now place);
@@ -141,7 +147,7 @@ fn referred_dynamically<'a>(
           value = instance_of value.entry;
         } ∷ [] }
 {
-    alone(dynamic_target_at(schemas, place, path), value)
+    alone(dynamic_target_at(schemas, place, path, resources), value)
 }
 
 // The keyword's schema, on the value itself.

@@ -1,5 +1,6 @@
 //! The walk: a value is judged at a place, once, and each node of its result is reported as it opens and as it closes.
 
+mod dynamic_scope;
 mod fault;
 mod keeping;
 mod recursion;

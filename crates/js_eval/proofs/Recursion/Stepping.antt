@@ -110,6 +110,7 @@ module _ {M C P : Type 0} (S : SchemaSet P) (text_of : M → Text) (takes : C �
               seg seg' refl close.told;
           back = record {
             path = close.path ∙ (each.back.path ∙ opened.path);
+            scope = close.scope ∙ (each.back.scope ∙ opened.scope);
             keyword = close.keyword ∙ trail_back w.keyword w₂.keyword k here.keyword m.keyword (each.back.keyword ∙ opened.keyword);
             instance = close.instance ∙ (each.back.instance ∙ opened.instance);
           };
@@ -119,10 +120,10 @@ module _ {M C P : Type 0} (S : SchemaSet P) (text_of : M → Text) (takes : C �
   -- ---- a schema
 
   module _ (above : List P) (place : P) (v : Value) where
-    pub node_start : (w w₁ : Way M) (p : ℕ) (c d : C) (valid : Bool) (listed : List Keyword) → SchemaOpened S text_of takes place p w w₁ c d → valid ≡ accepts_at S place → listed ≡ keywords_at S place
+    pub node_start : (w w₁ : Way M) (p r : ℕ) (c d : C) (valid : Bool) (listed : List Keyword) → SchemaOpened S text_of takes place p r w w₁ c d → valid ≡ accepts_at S place → listed ≡ keywords_at S place
         → KeywordsLoop S n above place v takes listed valid None 0 (map text_of w.names.items) (map text_of w₁.names.items) w.indexes.items w₁.indexes.items w.left w₁.left w.keyword w.instance c d
     unfolding accepts_at keywords_at
-    node_start w w₁ p c d valid listed opened a l =
+    node_start w w₁ p r c d valid listed opened a l =
         rw (l, opened.names, opened.indexes) (record {
           done = [];
           so = keywords_start S n above place v valid (map text_of w.names.items) w.indexes.items w.left w₁.left a opened.left;
@@ -171,13 +172,13 @@ module _ {M C P : Type 0} (S : SchemaSet P) (text_of : M → Text) (takes : C �
         let y : drop start.indexes w₁.indexes.items ≡ drop (length w.indexes.items) w₁.indexes.items = ap (λ i. drop i w₁.indexes.items) m.indexes in
         keyword_is_none S n above place v k loop.done rest valid branch count (map text_of w.names.items) (map text_of w₁.names.items) w.indexes.items w₁.indexes.items w.left w₁.left loop.so before (rw (ep, x, y) at none)
 
-    pub node_end : (valid : Bool) (branch : Option Bool) (count : ℕ) (w w₁ w₂ : Way M) (start : Mark) (base : List ℕ) (p : ℕ) (c d e : C)
-        → MarkOf w start → w₁.path.items ≡ w.path.items ++ p ∷ [] → w₁.keyword ≡ w.keyword → w₁.instance ≡ w.instance → w₁.left < w.left
+    pub node_end : (valid : Bool) (branch : Option Bool) (count : ℕ) (w w₁ w₂ : Way M) (start : Mark) (base : List ℕ) (p r : ℕ) (c d e : C)
+        → MarkOf w start → w₁.path.items ≡ w.path.items ++ p ∷ [] → w₁.scope ≡ w.scope ++ r ∷ [] → w₁.keyword ≡ w.keyword → w₁.instance ≡ w.instance → w₁.left < w.left
         → KeywordsLoop S n above place v takes [] valid branch count (map text_of w.names.items) (map text_of w₁.names.items) w.indexes.items w₁.indexes.items w.left w₁.left w.keyword w.instance c d
         → SchemaClosed S text_of takes place start valid w₁ w₂ d e
         → NodeDone S text_of takes (suc n) above place v valid w w₂ c e
     unfolding schema_says
-    node_end valid branch count w w₁ w₂ start base p c d e m ep ek ei fl loop close =
+    node_end valid branch count w w₁ w₂ start base p r c d e m ep es ek ei fl loop close =
         let cut : map text_of w₂.names.items ≡ cond valid (map text_of w₁.names.items) (take (length (map text_of w.names.items)) (map text_of w₁.names.items)) =
         map_cut text_of valid start.names w₁.names.items w₂.names.items close.names ∙ ap (λ i. cond valid (map text_of w₁.names.items) (take i (map text_of w₁.names.items))) (m.names ∙ sym (length-map w.names.items text_of)) in
         let cut' = rw m.indexes at close.indexes in
@@ -186,6 +187,6 @@ module _ {M C P : Type 0} (S : SchemaSet P) (text_of : M → Text) (takes : C �
         record {
           walked = subst (λ l. NodeWalked S (suc n) above place v valid (map text_of w.names.items) (map text_of w₂.names.items) w.indexes.items w₂.indexes.items w.left l) (sym close.left) walked;
           told = λ at h. node_told S n above place v takes at valid _ c d e (rw all at loop.so.settled) (rw all at (loop.told at h)) walked.verdict refl close.told;
-          back = record { path = close.path w.path.items p ep; keyword = close.keyword ∙ ek; instance = close.instance ∙ ei };
+          back = record { path = close.path w.path.items p ep; scope = close.scope w.scope r es; keyword = close.keyword ∙ ek; instance = close.instance ∙ ei };
           falls = omega (arith, close.left, fl);
         }

@@ -25,6 +25,7 @@ pub record MarkOf {M : Type 0} (w : Way M) (mark : Mark) : Type 0 where
 
 pub record WentDown {M P : Type 0} (a : Application P) (w w' : Way M) : Type 0 where
   pub path : w'.path.items ≡ w.path.items
+  pub scope : w'.scope ≡ w.scope
   pub keyword : w'.keyword ≡ at_step w.keyword a.step
   pub instance : w'.instance ≡ at_step w.instance a.at
   pub names : w'.names.items ≡ w.names.items
@@ -33,6 +34,7 @@ pub record WentDown {M P : Type 0} (a : Application P) (w w' : Way M) : Type 0 w
 
 pub record CameBack {M P : Type 0} (text_of : M → Text) (κ : Kind) (a : Application P) (here : Mark) (holds : Bool) (w w' : Way M) : Type 0 where
   pub path : w'.path.items ≡ w.path.items
+  pub scope : w'.scope ≡ w.scope
   pub keyword : w'.keyword ≡ take here.keyword w.keyword
   pub instance : w'.instance ≡ take here.instance w.instance
   pub names : map text_of w'.names.items ≡ take here.names (map text_of w.names.items) ++ keeps (names_origin κ) holds (name_in a.at) (drop here.names (map text_of w.names.items))
@@ -40,8 +42,9 @@ pub record CameBack {M P : Type 0} (text_of : M → Text) (κ : Kind) (a : Appli
   pub left : w'.left ≡ w.left
 
 module _ {M C P : Type 0} (S : SchemaSet P) (text_of : M → Text) (takes : C → Event → C → Type 0) where
-  pub record SchemaOpened (site : P) (place : ℕ) (w w' : Way M) (c d : C) : Type 0 where
+  pub record SchemaOpened (site : P) (place resource : ℕ) (w w' : Way M) (c d : C) : Type 0 where
     pub path : w'.path.items ≡ w.path.items ++ place ∷ []
+    pub scope : w'.scope ≡ w.scope ++ resource ∷ []
     pub keyword : w'.keyword ≡ w.keyword
     pub instance : w'.instance ≡ w.instance
     pub names : w'.names.items ≡ w.names.items
@@ -51,6 +54,7 @@ module _ {M C P : Type 0} (S : SchemaSet P) (text_of : M → Text) (takes : C �
 
   pub record SchemaClosed (site : P) (start : Mark) (valid : Bool) (w w' : Way M) (c d : C) : Type 0 where
     pub path : (base : List ℕ) (place : ℕ) → w.path.items ≡ base ++ place ∷ [] → w'.path.items ≡ base
+    pub scope : (base : List ℕ) (resource : ℕ) → w.scope ≡ base ++ resource ∷ [] → w'.scope ≡ base
     pub keyword : w'.keyword ≡ w.keyword
     pub instance : w'.instance ≡ w.instance
     pub names : w'.names.items ≡ cond valid w.names.items (take start.names w.names.items)
@@ -60,6 +64,7 @@ module _ {M C P : Type 0} (S : SchemaSet P) (text_of : M → Text) (takes : C �
 
   pub record KeywordOpened (site : P) (k : Keyword) (w w' : Way M) (c d : C) : Type 0 where
     pub path : w'.path.items ≡ w.path.items
+    pub scope : w'.scope ≡ w.scope
     pub keyword : w'.keyword ≡ at_name w.keyword k
     pub instance : w'.instance ≡ w.instance
     pub names : w'.names.items ≡ w.names.items
@@ -70,6 +75,7 @@ module _ {M C P : Type 0} (S : SchemaSet P) (text_of : M → Text) (takes : C �
   pub record KeywordClosed (site : P) (v : Value) (k : Keyword) (matching : ℕ) (tally : Tally) (here : Mark) (passes : Bool) (w w' : Way M) (c d : C) : Type 0 where
     pub verdict : (verdicts : List Bool) → length verdicts ≡ tally.asked → how_many verdicts ≡ tally.held → passes ≡ passes_at S site v matching k verdicts
     pub path : w'.path.items ≡ w.path.items
+    pub scope : w'.scope ≡ w.scope
     pub keyword : w'.keyword ≡ take here.keyword w.keyword
     pub instance : w'.instance ≡ w.instance
     pub names : w'.names.items ≡ cond passes w.names.items (take here.names w.names.items)

@@ -58,9 +58,10 @@ at_name trail k = trail ++ pointer_text (k.0 ∷ [])
 unfoldable pub at_step : Text → Step → Text
 at_step trail s = trail ++ pointer_text (step_tokens s)
 
--- the path is that of before, and so are the trails
+-- the path is that of before, and so are its resources and the trails
 pub record IsBack {M : Type 0} (w w' : Way M) : Type 0 where
   pub path : w'.path.items ≡ w.path.items
+  pub scope : w'.scope ≡ w.scope
   pub keyword : w'.keyword ≡ w.keyword
   pub instance : w'.instance ≡ w.instance
 

@@ -32,6 +32,7 @@ pub(crate) fn node<W: World, R: Reporter<W>>(
     value: W::Value,
 ) -> Result<bool, WalkFault>
     requires path { list_all (W.is_place world.now) way.old.path.items ≡ true }
+    requires scope { way.old.scope ≡ map (W.resource world.now) way.old.path.items }
     requires place { W.is_place world.now place ≡ true }
     ensures { MatchResult result
         (λ valid. NodeDone (W.schemas world.now) W.text_of R.takes depth (map (W.site world.now) way.old.path.items) (W.site world.now place) (W.value_of value) valid way.old way.new into.old into.new)
@@ -88,6 +89,7 @@ pub(crate) fn keyword_node<W: World, R: Reporter<W>>(
     known: Known,
 ) -> Result<Judged, WalkFault>
     requires path { list_all (W.is_place world.now) way.old.path.items ≡ true }
+    requires scope { way.old.scope ≡ map (W.resource world.now) way.old.path.items }
     requires place { W.is_place world.now place ≡ true }
     requires names { start.names ≤ length way.old.names.items }
     requires indexes { start.indexes ≤ length way.old.indexes.items }
@@ -153,7 +155,8 @@ pub(crate) fn applications<W: World, R: Reporter<W>>(
     kind: Kind,
     asking: &mut W::Asking,
 ) -> Result<Tally, WalkFault>
-    requires { list_all (W.is_place world.now) way.old.path.items ≡ true }
+    requires path { list_all (W.is_place world.now) way.old.path.items ≡ true }
+    requires scope { way.old.scope ≡ map (W.resource world.now) way.old.path.items }
     ensures { MatchResult result
         (λ t. EachDone (W.schemas world.now) W.text_of R.takes depth (map (W.site world.now) way.old.path.items) kind (W.asked world.now asking.old) t way.old way.new into.old into.new)
         (λ e. OnTooLarge e (SomeHasNone (W.schemas world.now) depth (map (W.site world.now) way.old.path.items) (W.asked world.now asking.old) way.old.left)) }

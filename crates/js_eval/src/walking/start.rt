@@ -5,6 +5,7 @@ ghost use Rattle.js_eval.specs.Result.{ResultTree, IsResult, IsWithinLimits};
 ghost use Rattle.js_eval.specs.Walked.{OnTooLarge};
 ghost use Rattle.js_eval.specs.Walk.Reported.{Reported};
 
+use crate::walking::dynamic_scope::DynamicScope;
 use crate::walking::fault::WalkFault;
 use crate::walking::recursion::node;
 use crate::walking::reporter::Reporter;
@@ -43,6 +44,7 @@ pub(crate) fn walk_from<W: World, R: Reporter<W>>(
         left: MOST_NODES,
         names: Vec::new(alloc),
         indexes: Vec::new(alloc),
+        scope: DynamicScope::new(alloc),
     };
     match node(alloc, world, &mut way, into, MOST_LEVELS, place, value) {
         Ok(valid) => Ok(valid),

@@ -25,11 +25,12 @@ pub(crate) fn open_schema<W: World, R: Reporter<W>>(
 ) -> Result<(), Memory>
     requires place { W.is_place world.now place ≡ true }
     requires left { 0 < way.old.left }
-    ensures { OnOk result (SchemaOpened (W.schemas world.now) W.text_of R.takes (W.site world.now place) place way.old way.new into.old into.new) }
+    ensures { OnOk result (SchemaOpened (W.schemas world.now) W.text_of R.takes (W.site world.now place) place (W.resource world.now place) way.old way.new into.old into.new) }
 {
     way.left -= 1;
     into.open_schema(alloc, world, place, &way.keyword, &way.instance)?;
     way.path.push(place)?;
+    way.scope.push(world.resource(place))?;
     Ok(())
 }
 
@@ -48,6 +49,7 @@ pub(crate) fn close_schema<W: World, R: Reporter<W>>(
 {
     into.close_schema(alloc, world, place, valid)?;
     let _ = way.path.pop();
+    way.scope.pop();
     cut_unless(&mut way.names, start.names, valid);
     cut_unless(&mut way.indexes, start.indexes, valid);
     Ok(())
@@ -94,6 +96,7 @@ pub(crate) fn asked<W: World>(
     condition: Option<bool>,
 ) -> Result<W::Asking, Memory>
     requires path { list_all (W.is_place world.now) way.now.path.items ≡ true }
+    requires scope { way.now.scope ≡ map (W.resource world.now) way.now.path.items }
     requires place { W.is_place world.now place ≡ true }
     requires names { start.names ≤ length way.now.names.items }
     requires indexes { start.indexes ≤ length way.now.indexes.items }
@@ -105,6 +108,7 @@ pub(crate) fn asked<W: World>(
     world.asking(
         alloc,
         way.path.as_slice(),
+        way.scope.resources(),
         place,
         value,
         keyword,

@@ -1,14 +1,16 @@
 //! Where a walk stands, and what it carries along.
 ghost use Rattle.js_eval.specs.Walk.Steps.{MarkOf};
 
+use crate::walking::dynamic_scope::DynamicScope;
 use crate::walking::trail::Trail;
 use js_bundle::Place;
 
-/// Where a walk stands: the places applied, where it is in the schemas and in the instance, how many nodes may still come, and what
+/// Where a walk stands: the places applied and their resources, where it is in the schemas and in the instance, how many nodes may still come, and what
 /// has been evaluated so far.
 #[derive(Drop)]
 pub(crate) struct Way<M> {
     pub path: Vec<Place>,
+    pub scope: DynamicScope,
     pub keyword: Trail,
     pub instance: Trail,
     pub left: usize,

@@ -1,6 +1,6 @@
 //! What a walk asks of schemas and of an instance.
-ghost use Rattle.std.specs.Prelude.{◌≡◌, ◌∷◌, [], List, ℕ, Bool, true, map, length, option_to_list, IfOk, OnOk, MatchOption};
-ghost use Rattle.std.specs.List.{list_all};
+ghost use Rattle.std.specs.Prelude.{◌≡◌, ◌∷◌, [], List, ℕ, Bool, true, map, length, nat_eq, option_to_list, IfOk, OnOk, MatchOption};
+ghost use Rattle.std.specs.List.{dedup, list_all};
 ghost use Rattle.js_doc.specs.Members.{IsAscending};
 ghost use Rattle.js_doc.specs.Value.{Value as JsonValue};
 ghost use Rattle.js_assert.specs.Argument.{entries};
@@ -42,6 +42,9 @@ pub(crate) trait World {
 
     ghost site: { Self → ℕ → Site };
 
+    /// The number of the resource of the place of a number.
+    ghost resource: { Self → ℕ → ℕ };
+
     ghost value_of: { Self.Value → JsonValue };
 
     ghost text_of: { Self.Name → Bytes };
@@ -61,6 +64,11 @@ pub(crate) trait World {
         requires { is_place self.now place ≡ true }
         ensures { result ≡ accepts_at (schemas self.now) (site self.now place) };
 
+    /// The number of a place's resource.
+    fn resource(&self, place: Place) -> usize
+        requires { is_place self.now place ≡ true }
+        ensures { result ≡ resource self.now place };
+
     /// The keywords of a schema that have a node, in the order of their nodes.
     fn keywords(&self, place: Place) -> Self::Keywords
         requires { is_place self.now place ≡ true }
@@ -74,11 +82,12 @@ pub(crate) trait World {
         ensures { result ≡ kind_at (keyword_of keyword) };
 
     /// What a keyword asks for, where these facts are known of the keywords before it: the verdict of `if`, and what has been
-    /// evaluated.
+    /// evaluated. `resources`: those of the path, of equal neighbours one.
     fn asking(
         &self,
         alloc: Global,
         path: &[Place],
+        resources: &[usize],
         place: Place,
         value: Self::Value,
         keyword: Self::Keyword,
@@ -87,6 +96,7 @@ pub(crate) trait World {
         indexes: &[usize],
     ) -> Result<Self::Asking, Memory>
         requires path { list_all (is_place self.now) path.now ≡ true }
+        requires resources { resources.now ≡ dedup nat_eq (map (resource self.now) path.now) }
         requires place { is_place self.now place ≡ true }
         ensures { IfOk result (λ a. asked self.now a ≡ asked_by (schemas self.now) 0 (map (site self.now) path.now) (site self.now place) (value_of value) (keyword_of keyword)
             condition (map text_of names.now) indexes.now) };

@@ -1,4 +1,4 @@
-use Rattle.std.proofs.Common.{◌≡◌, ◌-◌, ◌≤◌, ◌∷◌, ◌++◌, [], ◌∙◌, ap, sym, subst, refl, rules, arith, map, drop, length}
+use Rattle.std.proofs.Common.{◌≡◌, ℕ, List, ◌-◌, ◌≤◌, ◌∷◌, ◌++◌, [], ◌∙◌, ap, sym, subst, refl, rules, arith, map, drop, length}
 use Rattle.std.proofs.lemmas.Result.{err_from_is_err_and}
 use Rattle.std.specs.Prelude.{MatchOption}
 use Rattle.std.proofs.lemmas.List.{length-append, length-map, map-append}
@@ -23,7 +23,7 @@ applications-each-init g t c =
     record {
       so = each_start (g.W.World.schemas c.args.world.now) c.args.depth (map (g.W.World.site c.args.world.now) c.args.way.now.path.items) c.args.kind g.R.Reporter.takes (g.W.World.asked c.args.world.now c.args.asking.now)
           (map g.W.World.text_of c.args.way.now.names.items) c.args.way.now.indexes.items c.args.way.now.left c.args.way.now.keyword c.args.way.now.instance c.args.into.now;
-      back = record { path = refl; keyword = refl; instance = refl };
+      back = record { path = refl; scope = refl; keyword = refl; instance = refl };
       few = omega arith;
       held = omega arith;
     }
@@ -59,6 +59,7 @@ applications-each-preserved g t c =
           so c.each.invariant.back.keyword c.each.invariant.back.instance c.mark-here.ensures down (ap (map (g.W.World.site c.args.world.now)) same) c.place.ensures.site c.value.ensures done back);
       back = record {
         path = back.path ∙ (done.back.path ∙ same);
+        scope = back.scope ∙ (done.back.scope ∙ (down.scope ∙ c.each.invariant.back.scope));
         keyword = back.keyword ∙ (step_back c.each.way.keyword c.node.new.way.keyword a.step c.mark-here.result.keyword c.mark-here.ensures.keyword (done.back.keyword ∙ down.keyword) ∙ c.each.invariant.back.keyword);
         instance = back.instance ∙ (step_back c.each.way.instance c.node.new.way.instance a.at c.mark-here.result.instance c.mark-here.ensures.instance (done.back.instance ∙ down.instance) ∙ c.each.invariant.back.instance);
       };
@@ -121,8 +122,9 @@ pub node-keywords-init : goal.node-keywords-init
 node-keywords-init g t c =
     record {
       loop = node_start (g.W.World.schemas c.args.world.now) g.W.World.text_of g.R.Reporter.takes (c.args.depth - 1) (map (g.W.World.site c.args.world.now) c.args.way.now.path.items) (g.W.World.site c.args.world.now c.args.place) (g.W.World.value_of c.args.value)
-          c.args.way.now c.open_schema.new.way c.args.place c.args.into.now c.open_schema.new.into c.accepts.result (g.W.World.listed c.keywords-keywords.result) c.in_ok-open_schema.ensures c.accepts.ensures c.keywords-keywords.ensures.listed;
+          c.args.way.now c.open_schema.new.way c.args.place (g.W.World.resource c.args.world.now c.args.place) c.args.into.now c.open_schema.new.into c.accepts.result (g.W.World.listed c.keywords-keywords.result) c.in_ok-open_schema.ensures c.accepts.ensures c.keywords-keywords.ensures.listed;
       path = c.in_ok-open_schema.ensures.path;
+      scope = c.in_ok-open_schema.ensures.scope;
       keyword = c.in_ok-open_schema.ensures.keyword;
       instance = c.in_ok-open_schema.ensures.instance;
       falls = let l = c.in_ok-open_schema.ensures.left in omega (arith, l);
@@ -133,6 +135,9 @@ node-keyword_node-requires g t c κs within =
     let site = g.W.World.site c.args.world.now in
     let places : list_all (g.W.World.is_place c.args.world.now) c.keywords.way.path.items ≡ true =
     ap (list_all (g.W.World.is_place c.args.world.now)) c.keywords.invariant.path ∙ (list_all-append (g.W.World.is_place c.args.world.now) c.args.way.now.path.items (c.args.place ∷ []) ∙ and_true c.requires.path (and_true c.requires.place refl)) in
+    let resource = g.W.World.resource c.args.world.now in
+    let scope : c.keywords.way.scope ≡ map resource c.keywords.way.path.items =
+    c.keywords.invariant.scope ∙ (ap (λ (s : List ℕ). s ++ resource c.args.place ∷ []) c.requires.scope ∙ (sym (map-append resource c.args.way.now.path.items (c.args.place ∷ [])) ∙ ap (map resource) (sym c.keywords.invariant.path))) in
     let so = c.keywords.invariant.loop.so in
     let l = ap length so.of_names ∙ length-append (map g.W.World.text_of c.args.way.now.names.items) _ in
     let e1 = length-map c.keywords.way.names.items g.W.World.text_of in
@@ -146,7 +151,7 @@ node-keyword_node-requires g t c κs within =
     let x : g.W.World.listed c.keywords.judging.keywords ≡ k ∷ g.W.World.listed c.next_keyword.new.judging.keywords = c.in-Some.ensures.next in
     let loop = rw (x, sym c.next_keyword.ensures.known) at c.keywords.invariant.loop in
     let there = is_keyword_at (g.W.World.schemas c.args.world.now) (site c.args.place) c.keywords-keywords.ensures.ascending loop.done (g.W.World.listed c.next_keyword.new.judging.keywords) k loop.so.split in
-    search (rules, places, names, indexes, there)
+    search (rules, places, scope, names, indexes, there)
 
 pub node-returns-in_err-judged : goal.node-returns-in_err-judged
 node-returns-in_err-judged g t c =
@@ -187,6 +192,7 @@ node-keywords-preserved g t c =
           c.next_keyword.new.judging.known.valid c.next_keyword.new.judging.known.condition c.next_keyword.new.judging.known.matching c.args.way.now c.keywords.way c.keyword_node.new.way c.mark-start.result c.in_ok-judged.judged (map site c.keywords.way.path.items) c.args.into.now c.keywords.into c.keyword_node.new.into
           c.mark-start.ensures same c.keywords.invariant.keyword c.keywords.invariant.instance loop done);
       path = done.back.path ∙ c.keywords.invariant.path;
+      scope = done.back.scope ∙ c.keywords.invariant.scope;
       keyword = done.back.keyword ∙ c.keywords.invariant.keyword;
       instance = done.back.instance ∙ c.keywords.invariant.instance;
       falls = let f = done.falls in let i = c.keywords.invariant.falls in omega (arith, f, i);
@@ -202,5 +208,5 @@ node-returns g t c =
     let x : g.W.World.listed c.keywords.judging.keywords ≡ [] = c.in_default.ensures.next in
     let loop = rw (x, sym c.next_keyword.ensures.known) at c.keywords.invariant.loop in
     subst (λ d. NodeDone S g.W.World.text_of g.R.Reporter.takes d path place v c.next_keyword.new.judging.known.valid c.args.way.now c.close_schema.new.way c.args.into.now c.close_schema.new.into) (one_less c.args.depth c.if-depth-eq0.false)
-    (node_end S g.W.World.text_of g.R.Reporter.takes (c.args.depth - 1) path place v c.next_keyword.new.judging.known.valid c.next_keyword.new.judging.known.condition c.next_keyword.new.judging.known.matching c.args.way.now c.keywords.way c.close_schema.new.way c.mark-start.result c.args.way.now.path.items c.args.place
-    c.args.into.now c.keywords.into c.close_schema.new.into c.mark-start.ensures c.keywords.invariant.path c.keywords.invariant.keyword c.keywords.invariant.instance c.keywords.invariant.falls loop c.in_ok-close_schema.ensures)
+    (node_end S g.W.World.text_of g.R.Reporter.takes (c.args.depth - 1) path place v c.next_keyword.new.judging.known.valid c.next_keyword.new.judging.known.condition c.next_keyword.new.judging.known.matching c.args.way.now c.keywords.way c.close_schema.new.way c.mark-start.result c.args.way.now.path.items c.args.place (g.W.World.resource c.args.world.now c.args.place)
+    c.args.into.now c.keywords.into c.close_schema.new.into c.mark-start.ensures c.keywords.invariant.path c.keywords.invariant.scope c.keywords.invariant.keyword c.keywords.invariant.instance c.keywords.invariant.falls loop c.in_ok-close_schema.ensures)

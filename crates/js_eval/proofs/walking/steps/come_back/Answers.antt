@@ -7,6 +7,7 @@ pub returns : goal.returns
 returns g c =
     on_ok_weaker c.keep-2.result (λ gives. record {
       path = refl;
+      scope = refl;
       keyword = c.cut.ensures;
       instance = c.cut-2.ensures;
       names = kept_mapped g.W.World.text_of c.names_origin.result c.names_origin.ensures c.args.holds (option_to_list c.member.result) c.member.ensures c.args.here.names c.args.way.now.names.items c.keep.new.list.items c.in_ok-keep.ensures;
