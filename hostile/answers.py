@@ -158,8 +158,18 @@ def of_results(row):
     for call in ("apply", "replay"):
         yield Call([call, row], text["verbose"], is_quiet=True)
     for call in ("put_tree", "flat_put"):
-        yield Call([call, row], text["verbose"] + "yes", is_quiet=True)
+        yield Call([call, row], text["verbose"], is_quiet=True)
     yield Call(["events", row], "yes", is_quiet=True)
+
+
+def refusals():
+    """What comes of walks into a collector that refuses its Nth call, until one refuses none: a node is two calls."""
+    for row in ROWS:
+        yield row, "memory\n" * (2 * count(json.loads(shown("verbose", row)))) + "all were taken\n"
+
+
+def count(node):
+    return 1 + sum(map(count, below(node)))
 
 
 def jobs():

@@ -134,6 +134,11 @@ def doubled_text(k, format_):
         yield b"\n"
 
 
+def refused_pair():
+    """A pair whose schema is refused as soon as it is looked at."""
+    return Case("a pair with a refused schema", [], given=b"3\nnull", faults=b'refused: document 0 at "": NotASchema\n', status=3)
+
+
 def limits():
     """What stands just within each limit, and just past it."""
     yield valid("999,998 items", ITEMS, compact([0] * 999_998))
@@ -201,6 +206,7 @@ def large():
     yield valid("a pattern that is slow to compile", compact({"pattern": "(\\pL{40}){8}"}), "0")
     yield refused("a pattern that is too large", 'document 0 at "/pattern": PatternTooLarge',
                   compact({"pattern": "((a{100}){100}){100}"}))
+    yield refused("a pattern that looks ahead", 'document 0 at "/pattern": BadPattern', compact({"pattern": "(?=a)"}))
     yield refused("a pattern that nests deep", 'document 0 at "/pattern": BadPattern',
                   compact({"pattern": "(" * 300 + ")" * 300}))
     yield valid("an array of 300,000 distinct items", '{"uniqueItems":true}', compact(list(range(300_000))))
@@ -227,6 +233,7 @@ def at_the_limit():
     yield valid("unique items nested 126 times", '{"uniqueItems":true}', "[" + nested(126) + "]")
     yield valid("schemas nested 120 times", '{"not":' * 120 + "true" + "}" * 120, "0")
     yield refused("a schema nested 128 times", 'document 0 at "": NotJson', '{"const":' + nested(127) + "}")
+    yield refused("a pattern that looks ahead", 'document 0 at "/pattern": BadPattern', compact({"pattern": "(?=a)"}))
     yield refused("a pattern that nests deep", 'document 0 at "/pattern": BadPattern',
                   compact({"pattern": "(" * 300 + ")" * 300}))
     yield valid("a pattern that nests 200 times", compact({"pattern": "(" * 200 + "a" + ")" * 200}), '"a"')

@@ -17,8 +17,6 @@ mod pattern;
 mod reading;
 mod searcher;
 mod strings;
-#[cfg(test)]
-mod tests;
 mod unique;
 
 pub use assertion::Assertion;

@@ -20,7 +20,7 @@ use Rattle.js_bundle.specs.code.Spot.{Spot, spot}
 use Rattle.js_bundle.specs.Target as spec
 use Rattle.js_bundle.specs.Url.{fragment}
 use Rattle.js_bundle.proofs.Finds.{finds_place}
-use Rattle.js_bundle.proofs.BuiltThere.{kept_under}
+use Rattle.js_bundle.proofs.UnderNumber.{kept_under}
 use Rattle.js_bundle.proofs.Targets.{first_target_there, number_is_target}
 
 -- ---- a search by numbers, one number on

@@ -61,7 +61,7 @@ passes_at f (y ∷ ys) zero x h e =
     subst (λ z. f z ≡ true) same (and_parts (f y) (list_all f ys) h).0
 passes_at f (y ∷ ys) (suc i) x h e = passes_at f ys i x (and_parts (f y) (list_all f ys) h).1 e
 
-front_drop : (q p : Tokens) → begins_with q p ≡ true → q ≡ p ++ drop (length p) q
+pub front_drop : (q p : Tokens) → begins_with q p ≡ true → q ≡ p ++ drop (length p) q
 front_drop q [] h = refl
 front_drop [] (k ∷ p) h = absurd (cc)
 front_drop (l ∷ q) (k ∷ p) h =

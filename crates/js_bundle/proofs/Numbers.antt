@@ -12,9 +12,9 @@ use Rattle.js_doc.proofs.Named.{is_text-refl, is_text-sound, member_is}
 use Rattle.js_assert.specs.Argument.{has}
 use Rattle.js_assert.specs.Assertion.{Asserted}
 use Rattle.js_assert.specs.Keyword.{keyword_named}
-use Rattle.js_bundle.specs.declared.built.BuiltAssertion.{BuiltAssertion}
-use Rattle.js_bundle.specs.declared.built.BuiltPattern.{BuiltPattern}
-use Rattle.js_bundle.specs.Built.{assertion_of, assertions_at, pattern_at, patterns_of, patterns_at}
+use Rattle.js_bundle.specs.declared.assertions_and_patterns.BuiltAssertion.{BuiltAssertion}
+use Rattle.js_bundle.specs.declared.assertions_and_patterns.BuiltPattern.{BuiltPattern}
+use Rattle.js_bundle.specs.AssertionsAndPatterns.{assertion_of, assertions_at, pattern_at, patterns_of, patterns_at}
 use Rattle.js_bundle.specs.Keyword.{Text, member_pairs, keywords, argument}
 use Rattle.js_bundle.specs.Resource.{Site}
 use Rattle.js_bundle.specs.Schemas.{assertion, pattern}

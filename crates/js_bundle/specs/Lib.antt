@@ -15,7 +15,7 @@ pub mod Depth
 pub mod Adding
 pub mod Seen
 pub mod Finding
-pub mod Built
+pub mod AssertionsAndPatterns
 pub mod Schemas
 pub mod ResourceNumber
 pub mod ResourceTable

@@ -4,4 +4,5 @@ pub mod Scan
 pub mod Index
 pub mod Spot
 pub mod Edges
+pub mod GoesOn
 pub mod Grouped

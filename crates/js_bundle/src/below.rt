@@ -1,8 +1,7 @@
 //! What the keywords of a place hold.
-ghost use Rattle.std.specs.Prelude.{◌≡◌, ◌++◌, [], ◌∷◌, true, find, map, option_map, option_and_then, bytes_eq, decimal, None, Some, IfOk, OnOk, string_bytes, if◌then◌else◌};
-ghost use Rattle.std.specs.List.{list_all, list_any, position_from};
+ghost use Rattle.std.specs.Prelude.{◌≡◌, ◌++◌, [], ◌∷◌, true, find, map, option_map, option_and_then, decimal, None, Some, if◌then◌else◌};
+ghost use Rattle.std.specs.List.{list_all, position_from};
 ghost use Rattle.js_bundle.specs.code.Edges.{leads_down, AreAlone};
-ghost use Rattle.js_bundle.specs.code.Index.{place_key, StandsFirst};
 ghost use Rattle.js_bundle.specs.Names.{same_tokens};
 ghost use Rattle.js_bundle.specs.Place.{holding};
 ghost use Rattle.js_bundle.specs.Schemas.{is_place, place_at, below, fits, step_of, step_tokens, Finds, FindsSchema, Holds};
@@ -10,15 +9,11 @@ ghost use Rattle.js_bundle.specs.code.Spot.{spot_of, stands_below};
 
 use crate::edges::{edge_to, edges_under};
 use crate::holding::Holding;
-use crate::index::place_key;
-use crate::numbering::Numbering;
 use crate::place::{Place, Step};
-use crate::pointers::further;
 use crate::scan::holding_of;
 use crate::schemas::Schemas;
 use crate::whole_check::Spot;
-use js_doc::{Memory, Pointer, Text};
-use std::alloc::Global;
+use js_doc::Text;
 
 impl Schemas {
     ghost use Rattle.js_doc.specs.Value.{Value};
@@ -35,11 +30,9 @@ impl Schemas {
         ensures held { (s : Site) (u : Value) → place_at self.now place ≡ Some s
             → Holds s.schema keyword.now (step_of step.entry) u → FindsSchema self.now result u }
     {
-        let alloc = *self.documents.allocator();
-        let places = &self.kept.index.places;
         let spots = self.kept.spots.as_slice();
         let edges = edges_under(self.kept.edges.as_slice(), place.number);
-        match number_held(alloc, places, spots, edges, self.spot(place), keyword, step) {
+        match number_held(spots, edges, self.spot(place), keyword, step) {
             Some(number) => Some(Place { number }),
             None => None,
         }
@@ -47,22 +40,19 @@ impl Schemas {
 }
 
 fn number_held(
-    alloc: Global,
-    places: &Numbering,
     spots: &[Spot],
     edges: &[usize],
     above: &Spot,
     keyword: &str,
     step: Step<'_>,
 ) -> Option<usize>
-    requires first { StandsFirst places.now (map spot_of spots.now) }
     requires down { list_all (leads_down (spot_of above.now) (map spot_of spots.now)) edges.now ≡ true }
     requires alone { AreAlone (map spot_of spots.now) }
     ensures { result ≡ (if fits (holding keyword.now) (step_of step.entry) then position_from
         (stands_below (spot_of above.now) keyword.now (step_of step.entry)) 0 (map spot_of spots.now) else None) }
 {
     if fits(holding_of(keyword), step) {
-        number_below(alloc, places, spots, edges, above, keyword, step)
+        number_below(spots, edges, above, keyword, step)
     } else {
         None
     }
@@ -79,17 +69,15 @@ fn fits(holding: Holding, step: Step<'_>) -> bool
     }
 }
 
-// The number of the first place that stands at the step through the keyword.
+// The number of the first place that stands at the step through the keyword. An edge leads to what is there. That none is missing
+// isn't proved, so what isn't there is looked for among all places.
 fn number_below(
-    alloc: Global,
-    places: &Numbering,
     spots: &[Spot],
     edges: &[usize],
     above: &Spot,
     keyword: &str,
     step: Step<'_>,
 ) -> Option<usize>
-    requires first { StandsFirst places.now (map spot_of spots.now) }
     requires down { list_all (leads_down (spot_of above.now) (map spot_of spots.now)) edges.now ≡ true }
     requires alone { AreAlone (map spot_of spots.now) }
     ensures { result ≡ position_from (stands_below (spot_of above.now) keyword.now (step_of step.entry)) 0
@@ -97,67 +85,7 @@ fn number_below(
 {
     match edge_to(spots, edges, above, keyword, step) {
         Some(number) => Some(number),
-        None => number_apart(alloc, places, spots, above, keyword, step),
-    }
-}
-
-// The same, by the key of what stands there. Where there is no memory for it all places are searched.
-fn number_apart(
-    alloc: Global,
-    places: &Numbering,
-    spots: &[Spot],
-    above: &Spot,
-    keyword: &str,
-    step: Step<'_>,
-) -> Option<usize>
-    requires { StandsFirst places.now (map spot_of spots.now) }
-    ensures { result ≡ position_from (stands_below (spot_of above.now) keyword.now (step_of step.entry)) 0
-        (map spot_of spots.now) }
-{
-    match key_below(alloc, above, keyword, step) {
-        Ok(key) => keyed_below(places, spots, key.as_str(), above, keyword, step),
-        Err(_) => search_below(spots, above, keyword, step),
-    }
-}
-
-// The same, by its key.
-fn keyed_below(
-    places: &Numbering,
-    spots: &[Spot],
-    key: &str,
-    above: &Spot,
-    keyword: &str,
-    step: Step<'_>,
-) -> Option<usize>
-    requires first { StandsFirst places.now (map spot_of spots.now) }
-    requires key { key.now ≡ place_key above.now.document
-        (above.now.pointer.value ++ keyword.now ∷ step_tokens (step_of step)) }
-    ensures { result ≡ position_from (stands_below (spot_of above.now) keyword.now (step_of step.entry)) 0
-        (map spot_of spots.now) }
-{
-    match places.get(key) {
-        Some(number) => first_below(spots, number, above, keyword, step),
-        None => None,
-    }
-}
-
-// The same, where the first place with the key has this number.
-fn first_below(
-    spots: &[Spot],
-    number: usize,
-    above: &Spot,
-    keyword: &str,
-    step: Step<'_>,
-) -> Option<usize>
-    requires { position_from (λ s. list_any (bytes_eq (place_key above.now.document
-        (above.now.pointer.value ++ keyword.now ∷ step_tokens (step_of step)))) (place_key s.document s.pointer ∷ []))
-        0 (map spot_of spots.now) ≡ Some number }
-    ensures { result ≡ position_from (stands_below (spot_of above.now) keyword.now (step_of step.entry)) 0
-        (map spot_of spots.now) }
-{
-    match spots.get(number) {
-        Some(spot) if stands_below(spot, above, keyword, step) => Some(number),
-        _ => search_below(spots, above, keyword, step), // never: the key tells it from others
+        None => search_below(spots, above, keyword, step),
     }
 }
 
@@ -171,33 +99,6 @@ fn search_below(spots: &[Spot], above: &Spot, keyword: &str, step: Step<'_>) -> 
         }
     }
     None
-}
-
-// The key of what stands at the step.
-fn key_below(alloc: Global, above: &Spot, keyword: &str, step: Step<'_>) -> Result<String, Memory>
-    ensures { IfOk result (λ t. string_bytes t ≡ place_key above.now.document
-        (above.now.pointer.value ++ keyword.now ∷ step_tokens (step_of step.entry))) }
-{
-    let mut pointer = further(alloc, &above.pointer, keyword)?;
-    push_step(alloc, &mut pointer, step)?;
-    place_key(alloc, above.document, &pointer)
-}
-
-fn push_step(alloc: Global, pointer: &mut Pointer, step: Step<'_>) -> Result<(), Memory>
-    ensures { OnOk result (pointer.new ≡ pointer.old ++ step_tokens (step_of step.entry)) }
-{
-    match step {
-        Step::Alone => Ok(()),
-        Step::Index(index) => push_index(alloc, pointer, index),
-        Step::Name(name) => pointer.push(name),
-    }
-}
-
-fn push_index(alloc: Global, pointer: &mut Pointer, index: usize) -> Result<(), Memory>
-    ensures { OnOk result (pointer.new ≡ pointer.old ++ decimal index ∷ []) }
-{
-    let token = index.to_string(alloc)?;
-    pointer.push(token.as_str())
 }
 
 fn stands_below(spot: &Spot, above: &Spot, keyword: &str, step: Step<'_>) -> bool

@@ -74,12 +74,26 @@ fn end_below(spots: &[Spot], ends: &[usize], above: &Spot, number: usize) -> usi
 {
     let mut next = number + 1;
     while next < spots.len() {
-        if !leads_down(spots, above, next) {
+        if !looks_below(&spots[next], above) {
             return next;
         }
         next = end_of(ends, next, next + 1);
     }
     next
+}
+
+// Whether a place stands below one before it, by the last two tokens alone. In scan order that tells of the first that
+// doesn't: it stands at most two tokens below a place above the other one.
+fn looks_below(spot: &Spot, above: &Spot) -> bool {
+    spot.document == above.document && is_alike_near(spot.pointer.tokens(), above.pointer.tokens())
+}
+
+fn is_alike_near(tokens: &[Text], front: &[Text]) -> bool {
+    if tokens.len() < front.len() {
+        return false;
+    }
+    let from = front.len().saturating_sub(2);
+    begins_with(&tokens[from..], &front[from..])
 }
 
 fn end_of(ends: &[usize], number: usize, least: usize) -> usize
@@ -107,7 +121,8 @@ fn is_below(spot: &Spot, above: &Spot) -> bool
     spot.document == above.document && begins_with(spot.pointer.tokens(), above.pointer.tokens())
 }
 
-fn begins_with(tokens: &[Text], front: &[Text]) -> bool
+/// Whether the first tokens are these.
+pub(crate) fn begins_with(tokens: &[Text], front: &[Text]) -> bool
     ensures { result ≡ begins_with tokens.now front.now }
 {
     let Some((wanted, more)) = front.split_first() else {

@@ -2,15 +2,14 @@
 //! and what is refused.
 #![tactic(auto)]
 
+mod assertions_and_patterns;
 mod below;
-mod built;
 mod bundle;
 mod document;
 mod dynamic_target;
 mod edges;
 mod entry;
 mod fault;
-mod first_pass;
 mod grouped;
 mod holding;
 mod index;
@@ -22,6 +21,7 @@ mod location;
 mod names;
 mod numbering;
 mod place;
+mod place_check;
 mod place_keywords;
 mod pointers;
 mod reference;
@@ -33,8 +33,6 @@ mod scan;
 mod schemas;
 mod scope;
 mod target;
-#[cfg(test)]
-mod tests;
 mod uri;
 mod whole_check;
 

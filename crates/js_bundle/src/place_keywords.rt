@@ -1,10 +1,10 @@
 //! What a place has by its keywords.
 ghost use Rattle.std.specs.Prelude.{◌≡◌, Some, true, codes, find, bytes_eq, option_map, option_and_then};
-ghost use Rattle.js_bundle.specs.Built.{assertions_at, patterns_at};
+ghost use Rattle.js_bundle.specs.AssertionsAndPatterns.{assertions_at, patterns_at};
 ghost use Rattle.js_bundle.specs.Schemas.{is_place, has_keyword, place_at, assertion, pattern};
 ghost use Rattle.js_bundle.specs.Seen.{AreRead};
 
-use crate::built::{BuiltAssertion, BuiltPattern};
+use crate::assertions_and_patterns::{BuiltAssertion, BuiltPattern};
 use crate::grouped::part;
 use crate::keyword::has;
 use crate::place::Place;

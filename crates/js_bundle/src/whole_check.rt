@@ -1,6 +1,6 @@
 //! The check of documents as a whole.
 ghost use Rattle.std.specs.Prelude.{◌≡◌, ◌++◌, [], ◌∷◌, codes, map, OnOk, IfOk, IfErr};
-ghost use Rattle.js_bundle.specs.Built.{assertions_at, patterns_at};
+ghost use Rattle.js_bundle.specs.AssertionsAndPatterns.{assertions_at, patterns_at};
 ghost use Rattle.js_bundle.specs.Candidate.{IsClear, IsStopped};
 ghost use Rattle.js_bundle.specs.code.Edges.{LeadDown};
 ghost use Rattle.js_bundle.specs.Finding.{dynamic_at, number_of_target};
@@ -15,14 +15,14 @@ ghost use Rattle.js_bundle.specs.code.Scan.{site_of};
 ghost use Rattle.js_bundle.specs.Seen.{document_of, AreRead};
 ghost use Rattle.js_bundle.specs.code.Spot.{spot, spot_of};
 
-use crate::built::BuiltTable;
+use crate::assertions_and_patterns::BuiltTable;
 use crate::document::Document;
 use crate::edges::{Edges, edges_of};
 use crate::fault::Fault;
-use crate::first_pass::{Passed, first_pass};
 use crate::index::Index;
 use crate::keyword_table::{KeywordTable, keyword_table};
 use crate::location::locations_of;
+use crate::place_check::{Passed, first_pass};
 use crate::reference::{References, resolve_all};
 use crate::resource_table::{Resources, resources_of};
 use crate::scan::{Site, scan};

@@ -18,8 +18,6 @@ mod printing;
 mod quoting;
 mod reading;
 mod string;
-#[cfg(test)]
-mod tests;
 mod token;
 mod whole;
 

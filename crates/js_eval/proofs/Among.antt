@@ -35,7 +35,7 @@ module _ {X : Type 0} (P : X → Type 0) where
 
 -- ---- ascending members
 
-Below : List ℕ → Named → Type 0
+unfoldable pub Below : List ℕ → Named → Type 0
 Below k ms = AllByRecursion (λ m. name_cmp k m.0 ≡ Less) ms
 
 below_more : (k l : List ℕ) (ms : Named) → name_cmp k l ≡ Less → Below l ms → Below k ms
@@ -43,12 +43,12 @@ unfolding Below
 below_more k l [] h r = tt
 below_more k l (m ∷ ms) h r = (nat_list_cmp_total.trans k l m.0 h r.0, below_more k l ms h r.1)
 
-below_all : (ms : Named) (k : List ℕ) → IsBelowHead k ms → IsAscending ms → Below k ms
+pub below_all : (ms : Named) (k : List ℕ) → IsBelowHead k ms → IsAscending ms → Below k ms
 unfolding Below
 below_all [] k h a = tt
 below_all (m ∷ ms) k h a = (h, below_more k m.0 ms h (below_all ms m.0 a.0 a.1))
 
-its_own_reverse : (o : Ordering) → o ≡ ordering_reverse o → o ≡ Equal
+pub its_own_reverse : (o : Ordering) → o ≡ ordering_reverse o → o ≡ Equal
 its_own_reverse Less e = cc
 its_own_reverse Equal e = refl
 its_own_reverse Greater e = cc

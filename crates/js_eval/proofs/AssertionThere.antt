@@ -1,6 +1,6 @@
 -- The assertion that a keyword of a place is, by its name.
-use Rattle.std.specs.Prelude.{◌≡◌, ℕ, true, List, [], ◌∷◌, Option, Some, None, unwrap_or, option_and_then, length, refl}
-use Rattle.std.proofs.Common.{sym, ◌∙◌, ap}
+use Rattle.std.specs.Prelude.{◌≡◌, ℕ, true, ◌∷◌, Option, Some, None, unwrap_or, option_and_then, length, refl}
+use Rattle.std.proofs.Common.{◌∙◌, ap}
 use Rattle.std.proofs.lemmas.Option.{slice_get-get_or}
 use borrow.Author.Tests.{ltb-true}
 use Rattle.js_doc.specs.Members.{get}
@@ -20,7 +20,7 @@ of_object : (ms : Members) → keywords (object ms) ≡ entries (object ms)
 of_object no_members = refl
 of_object (member name v ms) = ap (λ more. (name, v) ∷ more) (of_object ms)
 
-same_members : (v : Value) → keywords v ≡ entries v
+pub same_members : (v : Value) → keywords v ≡ entries v
 same_members null = refl
 same_members (truth b) = refl
 same_members (whole z) = refl

@@ -1,6 +1,5 @@
 -- What an option holds.
 use Rattle.std.specs.Prelude.{◌≡◌, Option, Some, None, IsSome, refl}
-use Rattle.std.proofs.Common.{sym, ◌∙◌}
 
 pub some_there : {X : Type 0} (o : Option X) (x : X) → o ≡ Some x → IsSome o
 some_there None x e = absurd cc

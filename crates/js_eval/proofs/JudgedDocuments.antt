@@ -1,5 +1,5 @@
 -- Documents under their URIs, judged: each line is a worked example, and holds by computation.
-use Rattle.std.specs.Prelude.{◌≡◌, pos, List, [], ◌∷◌, ◌++◌, Bool, true, false, Option, Some, None, option_and_then, codes, refl}
+use Rattle.std.specs.Prelude.{◌≡◌, [], ◌∷◌, ◌++◌, Bool, true, false, option_and_then, codes, refl}
 use Rattle.std.specs.Option.{option_map_or}
 use Rattle.js_doc.specs.Value.{Value}
 use Rattle.js_bundle.specs.Document.{Documents}

@@ -7,6 +7,7 @@ pub mod Examples
 pub mod NoRow
 pub mod AskedNothing
 pub mod Among
+pub mod Turns
 pub mod HowMany
 pub mod JudgedDocuments
 pub mod Largest
@@ -21,6 +22,7 @@ pub mod Started
 pub mod Recursion
 pub mod Counts
 pub mod AssertionThere
+pub mod Standard
 pub mod Held
 pub mod SaysThere
 pub mod ResultExamples

@@ -1,5 +1,5 @@
 -- What patterns have left, one member or one pattern further.
-use Rattle.std.proofs.Common.{◌≡◌, ℕ, List, [], ◌∷◌, ◌++◌, Option, Some, String, Global, string_bytes, map, filter, refl, sym, ap, ap₂, ◌∙◌}
+use Rattle.std.proofs.Common.{◌≡◌, ℕ, List, [], ◌∷◌, ◌++◌, Option, Some, String, Global, string_bytes, map, filter, sym, ap, ap₂, ◌∙◌}
 use Rattle.js_assert.specs.Pattern.{matches}
 use Rattle.js_bundle.specs.Document.{Documents}
 use Rattle.js_doc.specs.Seen.{pair_of}

@@ -1,5 +1,5 @@
 -- Whole results over documents, by computing what the definitions say.
-use Rattle.std.specs.Prelude.{◌≡◌, ℕ, zero, suc, List, [], ◌∷◌, ◌++◌, Bool, true, false, ◌&&◌, refl}
+use Rattle.std.specs.Prelude.{◌≡◌, ℕ, zero, suc, List, [], ◌∷◌, ◌++◌, Bool, true, false, refl}
 use Rattle.js_doc.specs.Value.{Value, null}
 use Rattle.js_assert.specs.Keyword.{keyword_named}
 use Rattle.js_bundle.specs.Place.{holding}

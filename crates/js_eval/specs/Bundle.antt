@@ -1,6 +1,6 @@
 -- The set of schemas that documents make: its places are those of the documents, and what it answers of them are
 -- js_bundle's definitions. In documents that aren't refused nothing has to stand in for a place that isn't found.
-use Rattle.std.specs.Prelude.{List, [], ◌∷◌, Option, Some, None, unwrap_or, option_to_list}
+use Rattle.std.specs.Prelude.{unwrap_or, option_to_list}
 use Rattle.js_bundle.specs.Document.{Documents}
 use Rattle.js_bundle.specs.Location.{absolute}
 use Rattle.js_bundle.specs.Resource.{Site, sites}

@@ -1,5 +1,5 @@
 -- Where a node of the result stands (JSON Schema Core, sections 12.3.1 and 12.3.3).
-use Rattle.std.specs.Prelude.{[], ◌∷◌, ◌++◌, decimal}
+use Rattle.std.specs.Prelude.{[], ◌∷◌, ◌++◌}
 use Rattle.js_doc.specs.Pointer.{Tokens}
 -- what a step adds to a pointer
 pub use Rattle.js_bundle.specs.Schemas.{step_tokens}

@@ -1,7 +1,7 @@
 -- The result of judging an instance, as a law on a finished tree (JSON Schema Core, sections 12.3 and 12.4.4).
 -- Below the node of a schema stands one node for each of its keywords, in their order, and below the node of a keyword
 -- one for each application that it asks for, in their order.
-use Rattle.std.specs.Prelude.{◌≡◌, ℕ, suc, ◌≤◌, max, List, [], ◌∷◌, ◌++◌, Bool, Some, None, filter}
+use Rattle.std.specs.Prelude.{◌≡◌, ℕ, suc, ◌≤◌, max, List, [], ◌∷◌, ◌++◌, Some, None, filter}
 use Rattle.js_doc.specs.Pointer.{pointer_text}
 use Rattle.js_doc.specs.Value.{Value}
 use Rattle.js_tree.specs.Forest.{Forest, empty, tree, node_count}
@@ -13,7 +13,7 @@ use Rattle.js_eval.specs.Keywords.{Keyword, keywords}
 use Rattle.js_eval.specs.Kind.{kind}
 use Rattle.js_eval.specs.Location.{Location, at_keyword_named, at_application}
 use Rattle.js_eval.specs.Note.{keyword_note, schema_note}
-use Rattle.js_eval.specs.SchemaSet.{Text, SchemaSet}
+use Rattle.js_eval.specs.SchemaSet.{SchemaSet}
 use Rattle.js_eval.specs.Verdict.{within, siblings, matching, asks, passes, application_holds, Settled}
 
 -- ---- the units, by what is known within n

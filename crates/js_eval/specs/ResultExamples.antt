@@ -1,6 +1,6 @@
 -- Whole results over documents (JSON Schema Core, sections 12.3 and 12.4.4): schema documents, an instance, and the tree that is
 -- the result of judging it at the root of the first.
-use Rattle.std.specs.Prelude.{ℕ, zero, suc, List, [], ◌∷◌, ◌++◌, Bool, true, false, Option, Some, None, codes}
+use Rattle.std.specs.Prelude.{ℕ, zero, suc, List, [], ◌∷◌, ◌++◌, Bool, true, false, codes}
 use Rattle.std.specs.Option.{option_map_or}
 use Rattle.js_doc.specs.Value.{Value, null, truth}
 use Rattle.js_tree.specs.Forest.{empty, tree}
@@ -8,7 +8,7 @@ use Rattle.js_bundle.specs.Document.{Documents}
 use Rattle.js_bundle.specs.Resource.{Site, sites}
 use Rattle.js_bundle.specs.Url.{uri_of}
 use Rattle.js_eval.specs.Bundle.{schemas_of}
-use Rattle.js_eval.specs.Examples.{obj, arr, str, num, only, of_type, not_of, requires, one_document}
+use Rattle.js_eval.specs.Examples.{obj, arr, str, num, only, not_of, one_document}
 use Rattle.js_eval.specs.Location.{at_root}
 use Rattle.js_eval.specs.Note.{Note, silent, error, value, names, index, indexes, truly}
 use Rattle.js_eval.specs.Result.{OutputUnit, ResultTree, IsResult}

@@ -1,23 +1,16 @@
 -- What the parts of the code are seen as.
-use Rattle.std.specs.Prelude.{ℕ, List, Bool, map}
+use Rattle.std.specs.Prelude.{ℕ, List, map}
 use denote.Ref.{Bor}
 use Rattle.js_doc.specs.Seen.{value_of}
 use Rattle.js_doc.specs.Value.{Value, text}
 use Rattle.js_eval.specs.Keywords as table
 pub use Rattle.js_bundle.specs.Schemas.{step_of}
 use Rattle.js_eval.specs.declared.keyword.Keyword.{Keyword}
-use Rattle.js_eval.specs.declared.keyword.Turn.{Turn}
-use Rattle.js_eval.specs.declared.keyword.Turn.TheVariants.{First, Else, Last}
-use Rattle.js_eval.specs.declared.parts.Instance.{Instance}
-use Rattle.js_eval.specs.declared.parts.Instance.TheVariants.{Doc, Name}
+use Rattle.js_eval.specs.declared.instance.Instance.{Instance}
+use Rattle.js_eval.specs.declared.instance.Instance.TheVariants.{Doc, Name}
 
 abbrev pub keyword_of : Keyword → table.Keyword
 keyword_of k = (k.name.now, value_of k.argument.now)
-
-abbrev pub has_turn : Turn → List ℕ → Bool
-has_turn First = table.comes_before_else
-has_turn Else = table.is_else
-has_turn Last = table.comes_after_else
 
 abbrev pub instance_of : Instance → Value
 instance_of (Doc d) = value_of d.now

@@ -1,5 +1,7 @@
 -- What only private functions speak of: no public clause cites it.
 pub mod Asked
 pub mod Cursors
+pub mod Standard
+pub mod Turns
 pub mod KeywordsLeft
 pub mod Applied

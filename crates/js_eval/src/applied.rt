@@ -8,7 +8,7 @@ ghost use Rattle.js_eval.specs.Sited.{numbered_site};
 ghost use Rattle.js_eval.specs.declared.applied.To.TheVariants as to;
 
 use crate::bundled::below;
-use crate::parts::{Applied, Instance};
+use crate::instance::{Applied, Instance};
 use js_bundle::{Place, Schemas, Step};
 use js_doc::{Doc, Members};
 

@@ -7,12 +7,14 @@ ghost use Rattle.js_bundle.specs.ResourceNumber.{dynamic_target_in};
 ghost use Rattle.js_bundle.specs.Schemas.{StandsFor, has_keyword, is_place, path_at, place_at};
 ghost use Rattle.js_bundle.specs.Target.{dynamic_target};
 ghost use Rattle.js_doc.specs.Seen.{value_of};
+ghost use Rattle.js_assert.specs.Argument.{entries};
 ghost use Rattle.js_eval.specs.Bundle.{schemas_of};
+ghost use Rattle.js_eval.specs.code.Standard.{names_of};
 ghost use Rattle.js_eval.specs.Seen.{step_of};
 ghost use Rattle.js_eval.specs.Sited.{numbered_site, resource_of};
 
 use js_bundle::laws::{a_number_tells_a_resource, numbers_tell_the_dynamic_scope};
-use js_bundle::{Place, Schemas, Step};
+use js_bundle::{KeywordName, Place, Schemas, Step};
 use js_doc::Doc;
 
 /// The schema that stands at a place.
@@ -22,6 +24,15 @@ pub(crate) fn schema_at(schemas: &Schemas, place: Place) -> &Doc
     ensures { value_of result.now ≡ (numbered_site schemas.now place).schema }
 {
     schemas.schema(place)
+}
+
+/// Which keyword of the standard each keyword of a place is, in the order of the schema's members.
+#[tactic(auto, using(crate::proofs::Standard::names_are))]
+pub(crate) fn names_at(schemas: &Schemas, place: Place) -> &[KeywordName]
+    requires { is_place schemas.now place ≡ true }
+    ensures { result.now ≡ names_of (entries (numbered_site schemas.now place).schema) }
+{
+    schemas.keywords(place)
 }
 
 /// The place to which a step leads through a keyword.

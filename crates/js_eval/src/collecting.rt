@@ -2,8 +2,8 @@
 ghost use Rattle.std.specs.Prelude.{◌≡◌, IfOk};
 
 use crate::here::Here;
+use crate::instance::Instance;
 use crate::keyword::Keyword;
-use crate::parts::Instance;
 use crate::telling::keyword_note;
 use crate::walking::{Judged, Reporter, Trail};
 use js_bundle::Place;

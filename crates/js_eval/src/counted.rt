@@ -15,9 +15,10 @@ ghost use Rattle.js_eval.specs.Walk.Told.{IsKeywordAt, passes_at};
 ghost use Rattle.js_eval.specs.declared.kind.Kind.TheVariants.{Assertion as AssertionKind};
 
 use crate::bundled::schema_at;
+use crate::instance::Instance;
 use crate::keyword::Keyword;
-use crate::kind::{Kind, kind_of};
-use crate::parts::{Instance, argument_in};
+use crate::kind::Kind;
+use crate::schema::argument_in;
 use crate::walking::Tally;
 use js_assert::Assertion;
 use js_bundle::{Place, Schemas};
@@ -44,7 +45,7 @@ pub(crate) fn passes(
     ensures { IfOk result (λ b. (verdicts : List Bool) → length verdicts ≡ tally.asked → how_many verdicts ≡ tally.held
         → b ≡ passes_at (schemas_of schemas.now) (numbered_site schemas.now place) (instance_of value.entry) matching (keyword_of keyword.entry) verdicts) }
 {
-    let kind = kind_of(keyword.name);
+    let kind = keyword.kind;
     let said = match kind {
         Kind::Assertion => says_at(alloc, schemas, place, value, keyword, matching)?,
         _ => true,

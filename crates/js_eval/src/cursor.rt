@@ -8,9 +8,9 @@ ghost use Rattle.js_eval.specs.SchemaSet as spec;
 ghost use Rattle.js_eval.specs.Seen.{instance_of};
 ghost use Rattle.js_eval.specs.Sited.{numbered_site};
 
+use crate::instance::{Applied, Instance};
 use crate::item_cursor::{ItemCursor, next_on_item};
 use crate::member_cursor::{MemberCursor, next_on_member};
-use crate::parts::{Applied, Instance};
 use crate::pattern_cursor::{PatternCursor, next_matching};
 use crate::searchers::Searchers;
 use js_bundle::{Place, Schemas, Step};

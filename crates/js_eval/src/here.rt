@@ -9,13 +9,14 @@ ghost use Rattle.js_eval.specs.Sited.{numbered_site};
 ghost use Rattle.js_eval.specs.Walk.Told.{at_step, schema_says};
 ghost use Rattle.js_tree.specs.Seen.{note_of};
 
-use crate::bundled::schema_at;
+use crate::bundled::{names_at, schema_at};
 use crate::counted;
 use crate::cursor::{Asking, next_asked};
+use crate::instance::{Applied, Instance};
 use crate::keyword::Keyword;
 use crate::keyword_cursor::Keywords;
-use crate::kind::{Kind, kind_of};
-use crate::parts::{Applied, Instance, is_accepting};
+use crate::kind::Kind;
+use crate::schema::is_accepting;
 use crate::searchers::Searchers;
 use crate::start::{Facts, Scene, start};
 use crate::telling::schema_note;
@@ -87,7 +88,10 @@ impl<'a> World for Here<'a> {
 
     #[tactic(auto, unfolding(crate::specs::Walk::Told::keywords_at))]
     fn keywords(&self, place: Place) -> Keywords<'a> {
-        Keywords::new(schema_at(self.schemas, place))
+        Keywords::new(
+            names_at(self.schemas, place),
+            schema_at(self.schemas, place),
+        )
     }
 
     fn next_keyword(&self, keywords: &mut Keywords<'a>) -> Option<Keyword<'a>> {
@@ -96,7 +100,7 @@ impl<'a> World for Here<'a> {
 
     #[tactic(auto, unfolding(crate::specs::Walk::Told::kind_at))]
     fn kind(&self, keyword: Keyword<'a>) -> Kind {
-        kind_of(keyword.name)
+        keyword.kind
     }
 
     #[tactic(auto, unfolding(crate::specs::Walk::Told::asked_by))]
@@ -125,14 +129,7 @@ impl<'a> World for Here<'a> {
             names,
             indexes,
         };
-        start(
-            alloc,
-            self.schemas,
-            scene,
-            facts,
-            keyword,
-            kind_of(keyword.name),
-        )
+        start(alloc, self.schemas, scene, facts, keyword, keyword.kind)
     }
 
     fn next(&self, alloc: Global, asking: &mut Asking<'a>) -> Result<Option<Applied<'a>>, Memory> {

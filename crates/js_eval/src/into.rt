@@ -6,7 +6,7 @@ ghost use Rattle.js_eval.specs.Walked.{IsResultWithin, IsVerdict, LeadsTo, NoneS
 
 use crate::collecting::Collecting;
 use crate::here::Here;
-use crate::parts::Instance;
+use crate::instance::Instance;
 use crate::searchers::Searchers;
 use crate::walking::{Silent, WalkFault, walk_from};
 use js_bundle::{Place, Schemas};

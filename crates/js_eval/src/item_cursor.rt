@@ -13,7 +13,7 @@ ghost use Rattle.js_eval.specs.Seen.{instance_of};
 ghost use Rattle.js_eval.specs.Sited.{numbered_site};
 
 use crate::applied::{Held, To, apply_to_part};
-use crate::parts::{Applied, Instance};
+use crate::instance::{Applied, Instance};
 use js_bundle::{Place, Schemas, Step};
 use js_doc::{Doc, Memory};
 use std::alloc::Global;

@@ -1,17 +1,20 @@
 //! The keywords of a schema that have a node in its result, one after another, in the order of their nodes.
-ghost use Rattle.std.specs.Prelude.{◌≡◌, ◌++◌, ◌∷◌, [], MatchOption, map};
+ghost use Rattle.std.specs.Prelude.{◌≡◌, ◌++◌, ◌∷◌, [], List, MatchOption, false, map, true};
 ghost use Rattle.js_assert.specs.Argument.{entries};
 ghost use Rattle.js_doc.specs.Members.{IsAscending};
 ghost use Rattle.js_doc.specs.Seen.{pair_of, value_of};
 ghost use Rattle.js_eval.specs.Keywords as table;
-ghost use Rattle.js_eval.specs.code.KeywordsLeft.{keywords_in, keywords_left, of_turn};
+ghost use Rattle.js_eval.specs.code.KeywordsLeft.{kept_or, keywords_in, keywords_left};
+ghost use Rattle.js_eval.specs.code.Standard.{names_of};
+ghost use Rattle.js_eval.specs.code.Turns.{ever, in_order};
 ghost use Rattle.js_eval.specs.Seen.{keyword_of};
-ghost use Rattle.js_eval.specs.declared.keyword.Turn.TheVariants as turn;
 
-use crate::keyword::{Keyword, Turn, is_turn_of};
-use crate::parts::object_in;
+use crate::in_turn::InTurn;
+use crate::instance::object_in;
+use crate::keyword::Keyword;
+use crate::turn::{Turn, is_ever};
+use js_bundle::KeywordName;
 use js_doc::{Doc, Members};
-use std::collections::btree_map::Iter;
 
 /// The keywords of a schema that are still to come.
 #[derive(Drop)]
@@ -22,27 +25,30 @@ pub(crate) enum Keywords<'a> {
     Of(KeywordCursor<'a>),
 }
 
-/// The keywords of an object that are still to come: those that have this turn, and all that have a later one.
+/// The keywords of an object that are still to come. Names ascend, so one pass gives them in order: `else` is kept until the first
+/// comes that stands behind `if`, and then that one is kept until `else` is gone.
 #[derive(Drop)]
 pub(crate) struct KeywordCursor<'a> {
-    pub members: &'a Members,
-    pub turn: Turn,
-    pub left: Iter<'a, String, Doc>,
+    pub is_past_if: bool,
+    pub kept: Option<Keyword<'a>>,
+    pub left: InTurn<'a>,
 }
 
 impl<'a> Keywords<'a> {
-    /// Those of a schema.
-    pub fn new(schema: &'a Doc) -> Keywords<'a>
+    /// Those of a schema. `names`: which keyword of the standard each of its members is.
+    pub fn new(names: &'a [KeywordName], schema: &'a Doc) -> Keywords<'a>
+        requires { names.now ≡ names_of (entries (value_of schema.now)) }
         ensures all { keywords_in result ≡ table.keywords (value_of schema.now) }
         ensures ascending { IsAscending (entries (value_of schema.now)) }
     {
         match object_in(schema) {
-            Some(members) => Keywords::Of(KeywordCursor::new(members)),
+            Some(members) => Keywords::Of(KeywordCursor::new(names, members)),
             None => Keywords::Nothing,
         }
     }
 
-    /// The next one.
+    /// The next one. What it works with stands in no frame of the recursion.
+    #[inline(never)]
     pub fn next(&mut self) -> Option<Keyword<'a>>
         ensures { MatchOption result (keywords_in self.old ≡ []) (λ k. keywords_in self.old ≡ keyword_of k ∷ keywords_in self.new) }
     {
@@ -54,72 +60,93 @@ impl<'a> Keywords<'a> {
 }
 
 impl<'a> KeywordCursor<'a> {
-    fn new(members: &'a Members) -> KeywordCursor<'a>
-        ensures all { keywords_left result ≡ of_turn turn.First members.now ++ (of_turn turn.Else members.now ++ of_turn turn.Last members.now) }
+    fn new(names: &'a [KeywordName], members: &'a Members) -> KeywordCursor<'a>
+        requires { names.now ≡ names_of members.now }
+        ensures all { keywords_left result ≡ in_order members.now }
         ensures ascending { IsAscending members.now }
     {
         KeywordCursor {
-            members,
-            turn: Turn::First,
-            left: members.pairs(),
+            is_past_if: false,
+            kept: None,
+            left: InTurn::new(names, members),
         }
     }
 
     fn next(&mut self) -> Option<Keyword<'a>>
         ensures { MatchOption result (keywords_left self.old ≡ []) (λ k. keywords_left self.old ≡ keyword_of k ∷ keywords_left self.new) }
     {
-        match self.turn {
-            Turn::First => self.next_first(),
-            Turn::Else => self.next_else(),
-            Turn::Last => self.next_last(),
+        if self.is_past_if {
+            self.next_after_if()
+        } else {
+            self.next_up_to_if()
         }
     }
 
-    fn next_first(&mut self) -> Option<Keyword<'a>>
-        requires { self.old.turn ≡ turn.First }
+    fn next_up_to_if(&mut self) -> Option<Keyword<'a>>
+        requires { self.old.is_past_if ≡ false }
         ensures { MatchOption result (keywords_left self.old ≡ []) (λ k. keywords_left self.old ≡ keyword_of k ∷ keywords_left self.new) }
     {
-        match next_of(Turn::First, &mut self.left) {
-            Some(keyword) => Some(keyword),
-            None => {
-                self.turn = Turn::Else;
-                self.left = self.members.pairs();
-                self.next_else()
+        while let Some((turn, keyword)) = self.left.next() {
+            match turn {
+                Turn::Never => {}
+                Turn::First => return Some(keyword),
+                Turn::Second => self.kept = kept_or(self.kept, keyword),
+                Turn::Last => {
+                    self.is_past_if = true;
+                    return Some(kept_before(&mut self.kept, keyword));
+                }
             }
         }
+        self.is_past_if = true;
+        self.next_after_if()
     }
 
-    fn next_else(&mut self) -> Option<Keyword<'a>>
-        requires { self.old.turn ≡ turn.Else }
+    fn next_after_if(&mut self) -> Option<Keyword<'a>>
+        requires { self.old.is_past_if ≡ true }
         ensures { MatchOption result (keywords_left self.old ≡ []) (λ k. keywords_left self.old ≡ keyword_of k ∷ keywords_left self.new) }
     {
-        match next_of(Turn::Else, &mut self.left) {
-            Some(keyword) => Some(keyword),
-            None => {
-                self.turn = Turn::Last;
-                self.left = self.members.pairs();
-                self.next_last()
+        match self.kept {
+            Some(keyword) => {
+                self.kept = None;
+                Some(keyword)
             }
+            None => next_ever(&mut self.left),
         }
-    }
-
-    fn next_last(&mut self) -> Option<Keyword<'a>>
-        requires { self.old.turn ≡ turn.Last }
-        ensures { MatchOption result (keywords_left self.old ≡ []) (λ k. keywords_left self.old ≡ keyword_of k ∷ keywords_left self.new) }
-    {
-        next_of(Turn::Last, &mut self.left)
     }
 }
 
-// The next of the members that has this turn.
-fn next_of<'a>(turn: Turn, left: &mut Iter<'a, String, Doc>) -> Option<Keyword<'a>>
-    ensures { MatchOption result (of_turn turn (map pair_of left.old) ≡ [])
-        (λ k. of_turn turn (map pair_of left.old) ≡ keyword_of k ∷ of_turn turn (map pair_of left.new)) }
+// What is kept, or else the keyword.
+fn kept_or<'a>(kept: Option<Keyword<'a>>, keyword: Keyword<'a>) -> Option<Keyword<'a>>
+    ensures { (others : List table.Keyword) → kept_or result others ≡ kept_or kept.entry (keyword_of keyword.entry ∷ []) }
 {
-    while let Some((name, argument)) = left.next() {
-        let name = name.as_str();
-        if is_turn_of(turn, name) {
-            return Some(Keyword { name, argument });
+    match kept {
+        Some(kept) => Some(kept),
+        None => Some(keyword),
+    }
+}
+
+// What is kept, and then the keyword is kept; or else the keyword.
+fn kept_before<'a>(kept: &mut Option<Keyword<'a>>, keyword: Keyword<'a>) -> Keyword<'a>
+    ensures { (left : List table.Keyword)
+        → kept_or kept.old [] ++ keyword_of keyword.entry ∷ left ≡ keyword_of result ∷ (kept_or kept.new [] ++ left) }
+{
+    match *kept {
+        Some(before) => {
+            *kept = Some(keyword);
+            before
+        }
+        None => keyword,
+    }
+}
+
+// The next of the members that has a turn.
+fn next_ever<'a>(left: &mut InTurn<'a>) -> Option<Keyword<'a>>
+    ensures { MatchOption result (ever (map pair_of left.old.left) ≡ [])
+        (λ k. ever (map pair_of left.old.left) ≡ keyword_of k ∷ ever (map pair_of left.new.left)) }
+{
+    while let Some((turn, keyword)) = left.next() {
+        if is_ever(turn) {
+            return Some(keyword);
         }
     }
     None

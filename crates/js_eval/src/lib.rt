@@ -3,10 +3,13 @@
 
 mod applied;
 mod bundled;
+mod by_name;
 mod collecting;
 mod counted;
 mod cursor;
 mod here;
+mod in_turn;
+mod instance;
 mod into;
 mod item_cursor;
 mod keyword;
@@ -15,15 +18,14 @@ mod kind;
 pub mod laws;
 mod member_cursor;
 mod name_set;
-mod parts;
 mod pattern_cursor;
+mod schema;
 mod searchers;
 mod start;
 mod start_items;
 mod start_members;
 mod telling;
-#[cfg(test)]
-mod tests;
+mod turn;
 mod walking;
 
 pub use into::{verdict, walk, walk_into};

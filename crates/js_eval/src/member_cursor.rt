@@ -20,8 +20,9 @@ ghost use Rattle.js_eval.specs.Seen.{instance_of, texts_of};
 ghost use Rattle.js_eval.specs.Sited.{numbered_site};
 
 use crate::applied::{Held, To, apply_to_part};
+use crate::instance::{Applied, Instance, object_in};
 use crate::name_set::{is_in, set_of};
-use crate::parts::{Applied, Instance, argument_in, object_in};
+use crate::schema::argument_in;
 use crate::searchers::{NamedPattern, Searchers};
 use js_bundle::{Place, Schemas, Step};
 use js_doc::{Doc, Members, Memory};

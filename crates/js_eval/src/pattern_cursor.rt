@@ -11,8 +11,8 @@ ghost use Rattle.js_eval.specs.code.Cursors.{IsBegun, matching_asked, on_matched
 ghost use Rattle.js_eval.specs.Sited.{numbered_site};
 
 use crate::bundled::below;
+use crate::instance::{Applied, Instance};
 use crate::member_cursor::pattern_of;
-use crate::parts::{Applied, Instance};
 use crate::searchers::{NamedPattern, Searchers};
 use js_bundle::{Place, Schemas, Step};
 use js_doc::{Doc, Members, Memory};

@@ -13,9 +13,9 @@ ghost use Rattle.js_eval.specs.Sited.{numbered_site, resource_of};
 
 use crate::bundled::{below, dynamic_target_at, target_at};
 use crate::cursor::{Asking, alone};
+use crate::instance::Instance;
 use crate::keyword::Keyword;
 use crate::kind::Kind;
-use crate::parts::Instance;
 use crate::{start_items, start_members};
 use js_bundle::{Place, Schemas, Step};
 use js_doc::{Doc, Memory};

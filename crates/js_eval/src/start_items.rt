@@ -13,9 +13,10 @@ ghost use Rattle.js_eval.specs.Sited.{numbered_site};
 
 use crate::bundled::below;
 use crate::cursor::Asking;
+use crate::instance::{Instance, array_in};
 use crate::item_cursor::{each_except, each_from, each_in_step, each_listed};
 use crate::keyword::Keyword;
-use crate::parts::{Instance, argument_in, array_in};
+use crate::schema::argument_in;
 use js_bundle::{Place, Schemas, Step};
 use js_doc::{Doc, Memory};
 use std::alloc::Global;

@@ -16,11 +16,11 @@ ghost use Rattle.js_eval.specs.Sited.{numbered_site};
 
 use crate::bundled::below;
 use crate::cursor::Asking;
+use crate::instance::{Instance, object_in};
 use crate::keyword::Keyword;
 use crate::member_cursor::{
     each_additional, each_in_place, each_name, each_named, each_other, object_at,
 };
-use crate::parts::{Instance, object_in};
 use crate::pattern_cursor::each_matching;
 use js_bundle::{Place, Schemas, Step};
 use js_doc::{Doc, Memory};

@@ -20,10 +20,10 @@ ghost use Rattle.js_eval.specs.Walk.Said.{keyword_says};
 ghost use Rattle.js_eval.specs.Walk.Told.{IsKeywordAt, says_at};
 ghost use Rattle.js_tree.specs.Seen.{note_of};
 
+use crate::instance::Instance;
 use crate::keyword::Keyword;
-use crate::kind::{Kind, kind_of};
+use crate::kind::Kind;
 use crate::name_set::{is_in, set_of};
-use crate::parts::Instance;
 use crate::walking::Judged;
 use itoa::Buffer;
 use js_assert::Assertion;
@@ -55,7 +55,7 @@ pub(crate) fn keyword_note<'a>(
     ensures { IfOk result (λ n. note_of n ≡ says_at (schemas_of schemas.now) (numbered_site schemas.now place) (instance_of value.entry) matching (keyword_of keyword.entry)
         judged.held (texts_of names.now) indexes.now judged.passes) }
 {
-    let kind = kind_of(keyword.name);
+    let kind = keyword.kind;
     if judged.passes {
         annotation_of(alloc, kind, keyword, value, names, indexes)
     } else {

@@ -44,6 +44,3 @@ pub use tree::{Tree, Trees};
 pub use tree_text::put_tree;
 pub use unit::Unit;
 pub use verdict::Verdict;
-
-#[cfg(test)]
-mod tests;

@@ -10,7 +10,6 @@ use Rattle.js_bundle.specs.declared.numbering.Numbering.{Numbering}
 use Rattle.js_bundle.specs.Keyword.{Text, text_argument}
 use Rattle.js_bundle.specs.Names.{is_root, known_as}
 use Rattle.js_bundle.specs.Resource.{Site}
-use Rattle.js_bundle.specs.code.Spot.{Spot}
 use Rattle.js_bundle.specs.Url.{printed}
 
 -- ---- numbers under texts
@@ -64,7 +63,3 @@ pub record IsAdded (old : Index) (place : Site) (n : ℕ) (new : Index) : Type 0
   pub known : ArePut old.known (known_as place) n new.known
   pub standing : ArePut old.places (place_keys place) n new.places
   pub named : ArePut old.names (name_keys place) n new.names
-
--- the same of places without their schemas, by where they stand
-pub record StandsFirst (numbers : Numbering) (spots : List Spot) : Type 0 where
-  pub first : (key : Text) → number_of_key numbers key ≡ position_from (λ s. list_any (bytes_eq key) (place_key s.document s.pointer ∷ [])) 0 spots

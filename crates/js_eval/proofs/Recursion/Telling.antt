@@ -1,6 +1,6 @@
 -- Events, one tree after another.
 use Rattle.std.specs.Prelude.{◌≡◌, ℕ, List, [], ◌∷◌, ◌++◌, refl}
-use Rattle.std.proofs.Common.{sym, ◌∙◌, ap, subst}
+use Rattle.std.proofs.Common.{sym, ◌∙◌, ap}
 use Rattle.std.proofs.lemmas.List.{append_assoc}
 use Rattle.js_doc.specs.Pointer.{Tokens, pointer_text, escape}
 use Rattle.js_doc.specs.Value.{Value}
@@ -12,7 +12,7 @@ use Rattle.js_eval.specs.Result.{OutputUnit, ResultTree, IsNode, AreSchemaNodes,
 use Rattle.js_eval.specs.Location.{at_keyword_named}
 use Rattle.js_eval.specs.SchemaSet.{SchemaSet}
 use Rattle.js_eval.specs.Verdict.{within, asks}
-use Rattle.js_tree.specs.Events.{Event, Passes, opening_of, closing_of, events_of}
+use Rattle.js_tree.specs.Events.{opening_of, closing_of, events_of}
 
 pub events_beside : (f g : Forest OutputUnit) → events_of (f ⊹ g) ≡ events_of f ++ events_of g
 events_beside empty g = refl

@@ -10,7 +10,7 @@ use Rattle.js_eval.specs.Bundle.{schemas_of}
 use Rattle.js_eval.specs.SchemaSet.{Step, Alone, Index, Name}
 use Rattle.js_eval.specs.Seen.{step_of, instance_of}
 use Rattle.js_eval.specs.Sited.{numbered_site}
-use Rattle.js_eval.specs.declared.parts.Applied.{Applied}
+use Rattle.js_eval.specs.declared.instance.Applied.{Applied}
 use Rattle.js_eval.specs.declared.applied.Held.{Held}
 use Rattle.js_eval.specs.declared.applied.Held.TheVariants.{One, Each}
 use Rattle.js_eval.specs.declared.applied.To.{To}

@@ -6,7 +6,7 @@ use Rattle.js_bundle.specs.Schemas.{is_place}
 use Rattle.js_eval.specs.Applications.{Application}
 use Rattle.js_eval.specs.code.Applied.{applied_of, kept_place}
 use Rattle.js_eval.specs.code.Cursors.{items_asked, members_asked, patterns_asked}
-use Rattle.js_eval.specs.declared.parts.Applied.{Applied}
+use Rattle.js_eval.specs.declared.instance.Applied.{Applied}
 use Rattle.js_eval.specs.declared.cursor.Asking.{Asking}
 use Rattle.js_eval.specs.declared.cursor.Asking.TheVariants.{One, Items, Members, Patterns}
 use Rattle.js_eval.specs.declared.item_cursor.ItemCursor.{ItemCursor}

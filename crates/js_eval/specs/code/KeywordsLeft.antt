@@ -1,28 +1,31 @@
 -- The keywords of a schema that are still to come, in the order of their nodes (of private functions).
-use Rattle.std.specs.Prelude.{List, [], ◌++◌, map, filter}
+use Rattle.std.specs.Prelude.{List, [], ◌∷◌, ◌++◌, Option, Some, None, cond, map}
 use Rattle.js_doc.specs.Seen.{pair_of}
 use Rattle.js_doc.specs.Value.{Named}
-use Rattle.js_eval.specs.Keywords.{Keyword}
-use Rattle.js_eval.specs.Seen.{has_turn}
-use Rattle.js_eval.specs.declared.keyword.Turn.{Turn}
-use Rattle.js_eval.specs.declared.keyword.Turn.TheVariants.{First, Else, Last}
+use Rattle.js_eval.specs.Keywords as table
+use Rattle.js_eval.specs.Seen.{keyword_of}
+use Rattle.js_eval.specs.code.Turns.{ever, firsts, seconds, lasts}
+use Rattle.js_eval.specs.declared.keyword.Keyword.{Keyword}
 use Rattle.js_eval.specs.declared.keyword_cursor.KeywordCursor.{KeywordCursor}
 use Rattle.js_eval.specs.declared.keyword_cursor.Keywords.{Keywords}
 use Rattle.js_eval.specs.declared.keyword_cursor.Keywords.TheVariants.{Nothing, Of}
 
--- those of the members that have this turn
-abbrev pub of_turn : Turn → Named → List Keyword
-of_turn turn ms = filter (λ k. has_turn turn k.0) ms
+-- the keyword that is kept, or else these
+abbrev pub kept_or : Option Keyword → List table.Keyword → List table.Keyword
+kept_or None others = others
+kept_or (Some k) others = keyword_of k ∷ []
 
--- of all members these are left for the turn, and all for those behind it
-abbrev pub from_turn : Turn → Named → Named → List Keyword
-from_turn First all left = of_turn First left ++ (of_turn Else all ++ of_turn Last all)
-from_turn Else all left = of_turn Else left ++ of_turn Last all
-from_turn Last all left = of_turn Last left
+-- up to `if`: of all that is left, where `else` may be kept already
+abbrev pub up_to_if : Option Keyword → Named → List table.Keyword
+up_to_if kept left = firsts left ++ (kept_or kept (seconds left) ++ lasts left)
 
-abbrev pub keywords_left : KeywordCursor → List Keyword
-keywords_left c = from_turn c.turn c.members.now (map pair_of c.left)
+-- after `if`: what may be kept comes first
+abbrev pub after_if : Option Keyword → Named → List table.Keyword
+after_if kept left = kept_or kept [] ++ ever left
 
-abbrev pub keywords_in : Keywords → List Keyword
+abbrev pub keywords_left : KeywordCursor → List table.Keyword
+keywords_left c = cond c.is_past_if (after_if c.kept (map pair_of c.left.left)) (up_to_if c.kept (map pair_of c.left.left))
+
+abbrev pub keywords_in : Keywords → List table.Keyword
 keywords_in Nothing = []
 keywords_in (Of cursor) = keywords_left cursor

@@ -1,5 +1,5 @@
 use Rattle.std.proofs.Common.{◌≡◌, find, bytes_eq, drop}
-use Rattle.js_bundle.specs.declared.built.BuiltAssertion.{BuiltAssertion}
+use Rattle.js_bundle.specs.declared.assertions_and_patterns.BuiltAssertion.{BuiltAssertion}
 use Rattle.js_bundle.proofs.place_keywords.find_assertion.Given as goal
 
 abbrev pub invariant-loop-one : goal.invariant-loop-one

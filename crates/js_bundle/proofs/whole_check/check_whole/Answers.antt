@@ -1,6 +1,6 @@
 use Rattle.std.proofs.Common.{◌≡◌, codes, map, sym, ap, subst, ◌∙◌}
 use Rattle.std.proofs.lemmas.Result.{err_from_is_err_and}
-use Rattle.js_bundle.specs.Built.{assertions_at, patterns_at}
+use Rattle.js_bundle.specs.AssertionsAndPatterns.{assertions_at, patterns_at}
 use Rattle.js_bundle.specs.Finding.{dynamic_at, number_of_target}
 use Rattle.js_bundle.specs.code.Grouped.{IsGrouped}
 use Rattle.js_bundle.specs.code.Index.{IsIndex}

@@ -1,4 +1,4 @@
-use Rattle.std.proofs.Common.{◌≡◌, ◌∙◌, sym, subst}
+use Rattle.std.proofs.Common.{◌∙◌, sym, subst}
 use Rattle.js_doc.specs.Seen.{value_of}
 use Rattle.js_tree.proofs.BoxedTold.{boxed_held}
 use Rattle.js_eval.specs.Walked.{IsResultWithin}

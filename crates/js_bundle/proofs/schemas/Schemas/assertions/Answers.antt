@@ -1,5 +1,5 @@
 use Rattle.std.proofs.Common.{map, ◌∷◌, slice_get, unwrap_or, subst}
-use Rattle.js_bundle.specs.Built.{assertions_at}
+use Rattle.js_bundle.specs.AssertionsAndPatterns.{assertions_at}
 use Rattle.js_bundle.specs.code.Grouped.{IsPart}
 use Rattle.js_bundle.specs.Seen.{document_of}
 use Rattle.js_bundle.proofs.Grouping.{part_of}

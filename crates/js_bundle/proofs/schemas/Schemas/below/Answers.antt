@@ -1,13 +1,11 @@
 use Rattle.std.proofs.Common.{◌≡◌, true, map, Some, None, if◌then◌else◌, ap, sym, subst, ◌∙◌}
 use Rattle.std.specs.List.{list_all, position_from}
 use Rattle.js_bundle.specs.code.Edges.{leads_down, edges_under, AreAlone}
-use Rattle.js_bundle.specs.code.Index.{StandsFirst}
 use Rattle.js_bundle.specs.Place.{holding}
 use Rattle.js_bundle.specs.Schemas.{fits, step_of}
 use Rattle.js_bundle.specs.Seen.{document_of}
 use Rattle.js_bundle.specs.code.Spot.{spot_of, stands_below}
 use Rattle.js_bundle.proofs.Finds.{finds_held}
-use Rattle.js_bundle.proofs.KeyedBelow.{kept_first}
 use Rattle.js_bundle.proofs.Held.{held_found}
 use Rattle.js_bundle.proofs.LeadingDown.{kept_alone, kept_down}
 use Rattle.js_bundle.proofs.schemas.Schemas.below.Goals as goal
@@ -44,11 +42,9 @@ number_held-requires c =
     let docs = map document_of c.self.inside.documents.items in
     let above = spot_of c.spot.result.now in
     let same = sym c.as_slice-spots.ensures.value in
-    let first = kept_first c.self.inside.kept.index.places docs spots c.self.invariant.index.standing c.self.invariant.spots in
     let alone = kept_alone docs spots c.self.invariant.read c.self.invariant.spots in
     let down = kept_down c.self.inside.kept.edges.items spots docs c.args.self.now c.place.inside.number c.args.place above c.self.invariant.edges c.self.invariant.spots c.self.view_is c.place.view_is c.spot.ensures in
     record {
-      first = subst (λ ss. StandsFirst c.self.inside.kept.index.places (map spot_of ss)) same first;
       down = subst (λ ss. list_all (leads_down above (map spot_of ss)) c.edges_under-edges.result.now ≡ true) same
           (ap (list_all (leads_down above (map spot_of spots))) (c.edges_under-edges.ensures ∙ ap (λ es. edges_under es c.place.inside.number) c.as_slice.ensures.value) ∙ down);
       alone = subst (λ ss. AreAlone (map spot_of ss)) same alone;

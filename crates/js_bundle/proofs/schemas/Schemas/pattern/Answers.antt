@@ -1,5 +1,5 @@
 use Rattle.std.proofs.Common.{Some, None}
-use Rattle.js_bundle.proofs.BuiltThere.{pattern_is}
+use Rattle.js_bundle.proofs.UnderNumber.{pattern_is}
 use Rattle.js_bundle.proofs.schemas.Schemas.pattern.Goals as goal
 
 pub returns-in-Some : goal.returns-in-Some

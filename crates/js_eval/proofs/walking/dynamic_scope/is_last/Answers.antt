@@ -1,4 +1,4 @@
-use Rattle.std.proofs.Common.{length, slice_get, ◌-◌, ◌∙◌, sym}
+use Rattle.std.proofs.Common.{length, slice_get, ◌-◌, sym}
 use Rattle.js_eval.specs.Walk.Scope.{ends_with}
 use Rattle.js_eval.proofs.Scopes.{last_is, last_some}
 use Rattle.js_eval.proofs.walking.dynamic_scope.is_last.Goals as goal

@@ -1,0 +1,15 @@
+use Rattle.std.proofs.Common.{◌≡◌, ◌++◌, drop, length, string_bytes, ap, ◌∙◌}
+use Rattle.js_doc.specs.Fragment.{fragment_text}
+use Rattle.js_bundle.specs.Location.{location}
+use Rattle.js_bundle.specs.code.Scan.{site_of}
+use Rattle.js_bundle.proofs.Further.{location_on}
+use Rattle.js_bundle.proofs.location.further.Goals as goal
+
+pub returns : goal.returns
+returns c =
+    let before = site_of c.args.before.now in
+    let place = site_of c.args.site.now in
+    c.in_ok-push_way.ensures ∙ ap (λ b. b ++ fragment_text (drop (length c.tokens-2.result.now) c.tokens.result.now)) c.requires.text
+    ∙ ap (λ ts. location before ++ fragment_text (drop (length c.tokens-2.result.now) ts)) (c.tokens.ensures ∙ c.deref.ensures)
+    ∙ ap (λ ts. location before ++ fragment_text (drop (length ts) place.pointer)) (c.tokens-2.ensures ∙ c.deref-2.ensures)
+    ∙ location_on before place c.requires.below

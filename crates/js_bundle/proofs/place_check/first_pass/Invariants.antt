@@ -1,0 +1,19 @@
+use Rattle.std.proofs.Common.{[], map, take, drop}
+use Rattle.js_bundle.specs.AssertionsAndPatterns.{assertions_at, patterns_at}
+use Rattle.js_bundle.specs.code.Index.{IsIndex}
+use Rattle.js_bundle.specs.code.Leads.{Leads}
+use Rattle.js_bundle.specs.Refusals.{first_pass}
+use Rattle.js_bundle.specs.code.Scan.{site_of}
+use Rattle.js_bundle.proofs.Grouping.{AreGrouped}
+use Rattle.js_bundle.proofs.place_check.first_pass.Given as goal
+
+abbrev pub invariant-loop-i : goal.invariant-loop-i
+invariant-loop-i l =
+    let all = map site_of l.sites in
+    let left = map site_of (drop l.i l.sites) in
+    record {
+      leads : Leads (first_pass [] all) (first_pass (map site_of (take l.i l.sites)) left);
+      assertions : AreGrouped assertions_at l.sites l.i l.all.assertions.items l.assertion_ends.items;
+      patterns : AreGrouped patterns_at l.sites l.i l.all.patterns.items l.pattern_ends.items;
+      index : IsIndex l.index (map site_of (take l.i l.sites));
+    }

@@ -1,0 +1,33 @@
+-- What is built of a place's keywords.
+use Rattle.std.specs.Prelude.{List, [], ◌∷◌, Option, Some, None, codes, bytes_eq, map, if◌then◌else◌}
+use Rattle.std.specs.List.{flat_map}
+use Rattle.js_doc.specs.Value.{Value, Named}
+use Rattle.js_assert.specs.Assertion.{Asserted, asserted}
+use Rattle.js_bundle.specs.declared.assertions_and_patterns.BuiltAssertion.{BuiltAssertion}
+use Rattle.js_bundle.specs.declared.assertions_and_patterns.BuiltPattern.{BuiltPattern}
+use Rattle.js_bundle.specs.Keyword.{Text, keywords}
+use Rattle.js_bundle.specs.Resource.{Site}
+
+-- ---- assertions
+
+abbrev pub assertion_of : Text → Option Asserted → List BuiltAssertion
+assertion_of name None = []
+assertion_of name (Some a) = record { keyword = name; assertion = a } ∷ []
+
+-- a keyword's assertion, if it is one
+abbrev pub assertion_at : Named → Text × Value → List BuiltAssertion
+assertion_at siblings m = assertion_of m.0 (asserted m.0 m.1 siblings)
+
+abbrev pub assertions_at : Site → List BuiltAssertion
+assertions_at place = flat_map (assertion_at (keywords place.schema)) (keywords place.schema)
+
+-- ---- the patterns of `patternProperties`; a pattern is seen as its text
+
+abbrev pub pattern_at : Text × Value → BuiltPattern
+pattern_at m = record { name = m.0; pattern = m.0 }
+
+abbrev pub patterns_of : Text × Value → List BuiltPattern
+patterns_of m = if bytes_eq m.0 (codes "patternProperties") then map pattern_at (keywords m.1) else []
+
+abbrev pub patterns_at : Site → List BuiltPattern
+patterns_at place = flat_map patterns_of (keywords place.schema)

@@ -1,0 +1,219 @@
+//! The first pass: each place and its keywords, in scan order.
+ghost use Rattle.std.specs.Prelude.{◌≡◌, ◌++◌, [], ◌∷◌, not, map, OnOk, IfOk, IfErr};
+ghost use Rattle.std.specs.List.{flat_map};
+ghost use Rattle.js_doc.specs.Seen.{value_of};
+ghost use Rattle.js_bundle.specs.declared.refusal.RefusalKind.TheVariants.{BadKeyword};
+ghost use Rattle.js_bundle.specs.AssertionsAndPatterns.{assertion_at, assertions_at, patterns_of, patterns_at};
+ghost use Rattle.js_bundle.specs.Candidate.{IsClear, IsStopped};
+ghost use Rattle.js_bundle.specs.Form.{is_formed};
+ghost use Rattle.js_bundle.specs.code.Grouped.{IsGrouped};
+ghost use Rattle.js_bundle.specs.code.Index.{IsIndex};
+ghost use Rattle.js_bundle.specs.Keyword.{keywords};
+ghost use Rattle.js_bundle.specs.Refusals.{when, decided, on_text, text_rules, at_member, at_site, first_pass};
+ghost use Rattle.js_bundle.specs.code.Scan.{site_of};
+
+use crate::assertions_and_patterns::{Built, BuiltTable, keep_assertion, read_names};
+use crate::fault::{Fault, refuse};
+use crate::index::Index;
+use crate::refusal::RefusalKind;
+use crate::rules::{check_anchor, check_dialect, check_id, check_place, is_formed, read_assertion};
+use crate::scan::Site;
+use js_doc::{Doc, Members};
+use std::alloc::Global;
+
+fn check_form(alloc: Global, site: &Site<'_>, keyword: &str, argument: &Doc) -> Result<(), Fault>
+    ensures ok { OnOk result (IsClear (when (not (is_formed keyword.now (value_of argument.now)))
+        (decided (site_of site.now) (keyword.now ∷ []) BadKeyword))) }
+    ensures err { IfErr result (IsStopped (when (not (is_formed keyword.now (value_of argument.now)))
+        (decided (site_of site.now) (keyword.now ∷ []) BadKeyword))) }
+{
+    if is_formed(keyword, argument) {
+        Ok(())
+    } else {
+        Err(refuse(alloc, site, Some(keyword), RefusalKind::BadKeyword))
+    }
+}
+
+// The rules of a keyword whose argument is a text.
+fn check_text(
+    alloc: Global,
+    index: &Index,
+    before: &[Site<'_>],
+    site: &Site<'_>,
+    keyword: &str,
+    text: &str,
+) -> Result<(), Fault>
+    requires { IsIndex index.now (map site_of before.now) }
+    ensures ok { OnOk result (IsClear
+        (text_rules (map site_of before.now) (site_of site.now) keyword.now text.now)) }
+    ensures err { IfErr result (IsStopped
+        (text_rules (map site_of before.now) (site_of site.now) keyword.now text.now)) }
+{
+    match keyword {
+        "$schema" => check_dialect(alloc, site, keyword, text),
+        "$id" => check_id(alloc, index, before, site, keyword, text),
+        "$anchor" => check_anchor(alloc, index, before, site, keyword, text),
+        "$dynamicAnchor" => check_anchor(alloc, index, before, site, keyword, text),
+        _ => Ok(()),
+    }
+}
+
+fn check_argument(
+    alloc: Global,
+    index: &Index,
+    before: &[Site<'_>],
+    site: &Site<'_>,
+    keyword: &str,
+    argument: &Doc,
+) -> Result<(), Fault>
+    requires { IsIndex index.now (map site_of before.now) }
+    ensures ok { OnOk result (IsClear (on_text
+        (text_rules (map site_of before.now) (site_of site.now) keyword.now) (value_of argument.now))) }
+    ensures err { IfErr result (IsStopped (on_text
+        (text_rules (map site_of before.now) (site_of site.now) keyword.now) (value_of argument.now))) }
+{
+    match argument {
+        Doc::Text(text) => check_text(alloc, index, before, site, keyword, text.as_str()),
+        _ => Ok(()),
+    }
+}
+
+// The rules of a keyword, its form first.
+fn check_keyword(
+    alloc: Global,
+    built: &mut Built,
+    index: &Index,
+    before: &[Site<'_>],
+    site: &Site<'_>,
+    keyword: &str,
+    argument: &Doc,
+    siblings: &Members,
+) -> Result<(), Fault>
+    requires { IsIndex index.now (map site_of before.now) }
+    ensures clear { OnOk result (IsClear
+        (at_member (map site_of before.now) (site_of site.now) (keyword.now, value_of argument.now))) }
+    ensures assertions { OnOk result (built.new.assertions.items ≡ built.old.assertions.items
+        ++ assertion_at siblings.now (keyword.now, value_of argument.now)) }
+    ensures patterns { OnOk result (built.new.patterns.items ≡ built.old.patterns.items
+        ++ patterns_of (keyword.now, value_of argument.now)) }
+    ensures err { IfErr result (IsStopped
+        (at_member (map site_of before.now) (site_of site.now) (keyword.now, value_of argument.now))) }
+{
+    check_form(alloc, site, keyword, argument)?;
+    let assertion = read_assertion(alloc, site, keyword, argument, siblings)?;
+    keep_assertion(&mut built.assertions, keyword, assertion)?;
+    check_argument(alloc, index, before, site, keyword, argument)?;
+    read_names(alloc, &mut built.patterns, site, keyword, argument)
+}
+
+// The rules of all of a place's keywords, by name ascending.
+fn check_keywords(
+    alloc: Global,
+    built: &mut Built,
+    index: &Index,
+    before: &[Site<'_>],
+    site: &Site<'_>,
+    members: &Members,
+) -> Result<(), Fault>
+    requires { IsIndex index.now (map site_of before.now) }
+    ensures clear { OnOk result (IsClear
+        (flat_map (at_member (map site_of before.now) (site_of site.now)) members.now)) }
+    ensures assertions { OnOk result (built.new.assertions.items ≡ built.old.assertions.items
+        ++ flat_map (assertion_at members.now) members.now) }
+    ensures patterns { OnOk result (built.new.patterns.items ≡ built.old.patterns.items
+        ++ flat_map patterns_of members.now) }
+    ensures err { IfErr result (IsStopped
+        (flat_map (at_member (map site_of before.now) (site_of site.now)) members.now)) }
+{
+    for (keyword, argument) in members.pairs() {
+        check_keyword(
+            alloc,
+            built,
+            index,
+            before,
+            site,
+            keyword.as_str(),
+            argument,
+            members,
+        )?;
+    }
+    Ok(())
+}
+
+fn check_schema(
+    alloc: Global,
+    built: &mut Built,
+    index: &Index,
+    before: &[Site<'_>],
+    site: &Site<'_>,
+) -> Result<(), Fault>
+    requires { IsIndex index.now (map site_of before.now) }
+    ensures clear { OnOk result (IsClear (flat_map
+        (at_member (map site_of before.now) (site_of site.now)) (keywords (site_of site.now).schema))) }
+    ensures assertions { OnOk result (built.new.assertions.items ≡ built.old.assertions.items
+        ++ assertions_at (site_of site.now)) }
+    ensures patterns { OnOk result (built.new.patterns.items ≡ built.old.patterns.items
+        ++ patterns_at (site_of site.now)) }
+    ensures err { IfErr result (IsStopped (flat_map
+        (at_member (map site_of before.now) (site_of site.now)) (keywords (site_of site.now).schema))) }
+{
+    match site.schema {
+        Doc::Members(members) => check_keywords(alloc, built, index, before, site, members),
+        _ => Ok(()),
+    }
+}
+
+// The rules of a place, and of its keywords.
+fn check_site(
+    alloc: Global,
+    built: &mut Built,
+    index: &Index,
+    before: &[Site<'_>],
+    site: &Site<'_>,
+) -> Result<(), Fault>
+    requires { IsIndex index.now (map site_of before.now) }
+    ensures clear { OnOk result (IsClear (at_site (map site_of before.now) (site_of site.now))) }
+    ensures assertions { OnOk result (built.new.assertions.items ≡ built.old.assertions.items
+        ++ assertions_at (site_of site.now)) }
+    ensures patterns { OnOk result (built.new.patterns.items ≡ built.old.patterns.items
+        ++ patterns_at (site_of site.now)) }
+    ensures err { IfErr result (IsStopped (at_site (map site_of before.now) (site_of site.now))) }
+{
+    check_place(alloc, index, before, site)?;
+    check_schema(alloc, built, index, before, site)
+}
+
+/// What the first pass has of the places.
+#[derive(Drop)]
+pub(crate) struct Passed {
+    pub(crate) built: BuiltTable,
+    pub(crate) index: Index,
+}
+
+/// The first pass.
+pub(crate) fn first_pass(alloc: Global, sites: &[Site<'_>]) -> Result<Passed, Fault>
+    ensures clear { OnOk result (IsClear (first_pass [] (map site_of sites.now))) }
+    ensures assertions { IfOk result (λ p. IsGrouped assertions_at (map site_of sites.now)
+        p.built.all.assertions.items p.built.assertion_ends.items) }
+    ensures patterns { IfOk result (λ p. IsGrouped patterns_at (map site_of sites.now)
+        p.built.all.patterns.items p.built.pattern_ends.items) }
+    ensures index { IfOk result (λ p. IsIndex p.index (map site_of sites.now)) }
+    ensures err { IfErr result (IsStopped (first_pass [] (map site_of sites.now))) }
+{
+    let mut all = Built::new(alloc);
+    let mut assertion_ends = Vec::new(alloc);
+    let mut pattern_ends = Vec::new(alloc);
+    let mut index = Index::new(alloc);
+    for i in 0..sites.len() {
+        check_site(alloc, &mut all, &index, &sites[..i], &sites[i])?;
+        assertion_ends.push(all.assertions.len())?;
+        pattern_ends.push(all.patterns.len())?;
+        index.add(alloc, &sites[i], i)?;
+    }
+    let built = BuiltTable {
+        all,
+        assertion_ends,
+        pattern_ends,
+    };
+    Ok(Passed { built, index })
+}

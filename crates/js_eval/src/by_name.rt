@@ -1,0 +1,79 @@
+//! What a keyword does and whether it has a node, by which keyword of the standard it is.
+ghost use Rattle.std.specs.Prelude.{◌≡◌};
+ghost use Rattle.js_bundle.specs.KeywordName.{keyword_name};
+ghost use Rattle.js_eval.specs.Keywords as table;
+ghost use Rattle.js_eval.specs.Kind.{kind};
+ghost use Rattle.js_eval.specs.code.Standard.{has_node_by, kind_by};
+
+use crate::kind::Kind;
+use js_bundle::KeywordName;
+
+/// What the keyword of this name does.
+#[tactic(auto, using(crate::proofs::Standard::kind_if_named))]
+pub(crate) fn kind_of_named(which: KeywordName, _name: &str) -> Kind
+    requires { which ≡ keyword_name _name.now }
+    ensures { result ≡ kind _name.now }
+{
+    kind_by(which)
+}
+
+/// Whether the keyword of this name has a node.
+#[tactic(auto, using(crate::proofs::Standard::node_if_named))]
+pub(crate) fn has_node(which: KeywordName, _name: &str) -> bool
+    requires { which ≡ keyword_name _name.now }
+    ensures { result ≡ table.has_node _name.now }
+{
+    has_node_by(which)
+}
+
+fn kind_by(which: KeywordName) -> Kind
+    ensures { result ≡ kind_by which }
+{
+    match which {
+        KeywordName::Ref => Kind::Reference,
+        KeywordName::DynamicRef => Kind::DynamicReference,
+        KeywordName::AllOf => Kind::AllOf,
+        KeywordName::AnyOf => Kind::AnyOf,
+        KeywordName::OneOf => Kind::OneOf,
+        KeywordName::Not => Kind::Not,
+        KeywordName::If => Kind::If,
+        KeywordName::Then => Kind::Then,
+        KeywordName::Else => Kind::Else,
+        KeywordName::DependentSchemas => Kind::DependentSchemas,
+        KeywordName::PrefixItems => Kind::PrefixItems,
+        KeywordName::Items => Kind::Items,
+        KeywordName::Contains => Kind::Contains,
+        KeywordName::Properties => Kind::Properties,
+        KeywordName::PatternProperties => Kind::PatternProperties,
+        KeywordName::AdditionalProperties => Kind::AdditionalProperties,
+        KeywordName::PropertyNames => Kind::PropertyNames,
+        KeywordName::UnevaluatedItems => Kind::UnevaluatedItems,
+        KeywordName::UnevaluatedProperties => Kind::UnevaluatedProperties,
+        KeywordName::Assertion => Kind::Assertion,
+        KeywordName::Schema => Kind::Annotation,
+        KeywordName::Id => Kind::Annotation,
+        KeywordName::Anchor => Kind::Annotation,
+        KeywordName::DynamicAnchor => Kind::Annotation,
+        KeywordName::Vocabulary => Kind::Annotation,
+        KeywordName::Comment => Kind::Annotation,
+        KeywordName::Defs => Kind::Annotation,
+        KeywordName::Definitions => Kind::Annotation,
+        KeywordName::Other => Kind::Annotation,
+    }
+}
+
+fn has_node_by(which: KeywordName) -> bool
+    ensures { result ≡ has_node_by which }
+{
+    match which {
+        KeywordName::Schema => false,
+        KeywordName::Id => false,
+        KeywordName::Anchor => false,
+        KeywordName::DynamicAnchor => false,
+        KeywordName::Vocabulary => false,
+        KeywordName::Comment => false,
+        KeywordName::Defs => false,
+        KeywordName::Definitions => false,
+        _ => true,
+    }
+}

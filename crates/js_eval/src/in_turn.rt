@@ -1,0 +1,69 @@
+//! The members of a schema, one after another, each as a keyword with its turn.
+ghost use Rattle.std.specs.Prelude.{◌≡◌, ◌∷◌, [], List, MatchOption, map};
+ghost use Rattle.js_bundle.specs.declared.keyword_name.KeywordName.{KeywordName as Which};
+ghost use Rattle.js_doc.specs.Seen.{pair_of};
+ghost use Rattle.js_eval.specs.code.Standard.{names_of};
+
+use crate::by_name::kind_of_named;
+use crate::keyword::Keyword;
+use crate::turn::{Turn, turn_of};
+use js_bundle::KeywordName;
+use js_doc::{Doc, Members};
+use std::collections::btree_map::Iter;
+
+/// The members that are left, and of each which keyword of the standard it is.
+#[derive(Drop)]
+pub(crate) struct InTurn<'a> {
+    names: &'a [KeywordName],
+    pub left: Iter<'a, String, Doc>,
+    ghost in_step: { names.now ≡ names_of (map pair_of left) },
+}
+
+impl<'a> InTurn<'a> {
+    ghost use Rattle.js_doc.specs.Members.{IsAscending};
+    ghost use Rattle.js_eval.specs.Seen.{keyword_of};
+    ghost use Rattle.js_eval.specs.code.Turns.{turn_of};
+
+    /// All members.
+    pub fn new(names: &'a [KeywordName], members: &'a Members) -> InTurn<'a>
+        requires { names.now ≡ names_of members.now }
+        ensures all { map pair_of result.left ≡ members.now }
+        ensures ascending { IsAscending members.now }
+    {
+        InTurn {
+            names,
+            left: members.pairs(),
+        }
+    }
+
+    /// The next one.
+    pub fn next(&mut self) -> Option<(Turn, Keyword<'a>)>
+        ensures { MatchOption result ((map pair_of self.old.left ≡ []) × (map pair_of self.new.left ≡ []))
+            (λ m. (map pair_of self.old.left ≡ keyword_of m.1 ∷ map pair_of self.new.left) × (m.0 ≡ turn_of m.1.name.now)) }
+    {
+        match self.left.next() {
+            Some((name, argument)) => {
+                let name = name.as_str();
+                let (which, names) = first_name(self.names);
+                self.names = names;
+                let keyword = Keyword {
+                    name,
+                    kind: kind_of_named(which, name),
+                    argument,
+                };
+                Some((turn_of(which, name), keyword))
+            }
+            None => None,
+        }
+    }
+}
+
+// The first of the names, and the others.
+fn first_name(names: &[KeywordName]) -> (KeywordName, &[KeywordName])
+    ensures { (which : Which) (others : List Which) → names.now ≡ which ∷ others → (result.0 ≡ which) × (result.1.now ≡ others) }
+{
+    match names.split_first() {
+        Some((first, others)) => (*first, others),
+        None => (KeywordName::Other, names), // never: each member has one
+    }
+}

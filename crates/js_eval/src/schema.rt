@@ -1,0 +1,29 @@
+//! What is looked at of a schema as a whole.
+ghost use Rattle.std.specs.Prelude.{◌≡◌, option_map};
+ghost use Rattle.js_assert.specs.Argument.{entries};
+ghost use Rattle.js_doc.specs.Members.{get};
+ghost use Rattle.js_doc.specs.Seen.{value_of};
+ghost use Rattle.js_eval.specs.Verdict.{accepts};
+
+use crate::instance::object_in;
+use js_doc::Doc;
+
+/// The argument of the keyword of this name, where the schema has one.
+pub(crate) fn argument_in<'a>(schema: &'a Doc, name: &str) -> Option<&'a Doc>
+    ensures { option_map (λ d. value_of d.now) result ≡ get name.now (entries (value_of schema.now)) }
+{
+    match object_in(schema) {
+        Some(members) => members.get(name),
+        None => None,
+    }
+}
+
+/// The schema isn't `false`.
+pub(crate) fn is_accepting(schema: &Doc) -> bool
+    ensures { result ≡ accepts (value_of schema.now) }
+{
+    match schema {
+        Doc::Truth(accepts) => *accepts,
+        _ => true,
+    }
+}
