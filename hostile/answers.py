@@ -1,4 +1,4 @@
-"""The calls that the program in `calls/` makes by themselves, on rows whose answers are known."""
+"""The calls that a test of js_output makes by themselves, on rows whose answers are known."""
 import json
 from dataclasses import dataclass
 
@@ -13,6 +13,7 @@ ROWS = {
     "strict_tree": ("https://example.com/strict-tree",
                     {"https://example.com/tree": TREE, "https://example.com/strict-tree": STRICT}, '{"children":[{"daat":1}]}'),
     "doubled": (cases.U, {cases.U: '{"$defs":{"n":{"type":"integer"}},"allOf":[{"$ref":"#/$defs/n"},{"$ref":"#/$defs/n"}]}'}, '"x"'),
+    "titled": (cases.U, {cases.U: r'{"title":"\"\n\u0001\u00e9\ud834\udd1e","properties":{"\"\n":{"description":["\\"]}}}'}, r'{"\"\n":1}'),
     "annotated_property": (cases.U, {cases.U: '{"properties":{"a":{"title":"t"}}}'}, '{"a":1}'),
 }
 SECOND = "https://a.example/t"
@@ -160,6 +161,17 @@ def of_results(row):
     for call in ("put_tree", "flat_put"):
         yield Call([call, row], text["verbose"], is_quiet=True)
     yield Call(["events", row], "yes", is_quiet=True)
+
+
+def stopped(row):
+    """What is told of outputs that stop after each byte of a text in turn."""
+    for it in cases.STANDARD_FORMATS:
+        yield f"flat_stopped_{it}", stopped_text(shown(it, row))
+    yield "stopped_tree", stopped_text(shown("verbose", row))
+
+
+def stopped_text(text):
+    return f"{text}\nstopped {len(text.encode())} times\n"
 
 
 def refusals():

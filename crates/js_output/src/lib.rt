@@ -36,6 +36,4 @@ pub use suite::run_suite;
 pub use suite_lines::Counts;
 
 #[cfg(test)]
-mod fakes;
-#[cfg(test)]
 mod tests;

@@ -9,11 +9,12 @@ mod entries;
 mod places;
 mod targets;
 
-use super::URI;
 use js_bundle::{Bundle, Place, RefusalKind, Schemas, Step, laws};
 use js_doc::{Doc, read, text};
 use std::alloc::Global;
 use std::test::Fail;
+
+const URI: &str = "https://a.example/s";
 
 // A document's URI and its text.
 type Source<'s> = (&'s str, &'s str);

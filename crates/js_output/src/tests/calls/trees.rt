@@ -3,8 +3,9 @@ ghost use Rattle.std.specs.Prelude.{◌≡◌, true};
 ghost use Rattle.js_bundle.specs.Schemas.{is_place};
 ghost use Rattle.js_tree.specs.FlatState.{IsWholeTree, flat_state};
 
-use crate::quiet;
-use crate::told::{Told, begin, done, end, memory, other};
+use super::quiet;
+use super::stopping::{stopped_rows, stopped_tree};
+use super::told::{Told, begin, done, end, memory, other};
 use js_bundle::{Place, Schemas};
 use js_doc::{Doc, Memory, text};
 use js_eval::{walk, walk_into};
@@ -52,6 +53,7 @@ fn tree_called(rt: &HostRuntime, call: &str, tree: Tree) -> Result<Told, Memory>
         "form_detailed" => formed(rt, tree, Format::Detailed),
         "form_merged" => formed(rt, tree, Format::Merged),
         "form_verbose" => formed(rt, tree, Format::Verbose),
+        "stopped_tree" => stopped_tree(rt.alloc(), &tree),
         _ => quiet::tree_called(rt, call, tree),
     }
 }
@@ -103,9 +105,13 @@ fn flat_called(rt: &HostRuntime, call: &str, flat: Flat) -> Result<Told, Memory>
     match call {
         "flat_units" => flat_noted(rt, flat),
         "flat_flag" => flat_shown(rt, &flat, Format::Flag),
-        "flat_basic" => shown_if_whole(rt, &flat_prune(flat), Format::Basic),
-        "flat_detailed" => detailed_shown(rt, flat_prune(flat)),
+        "flat_basic" => flat_shown(rt, &flat_prune(flat), Format::Basic),
+        "flat_detailed" => flat_shown(rt, &condensed(flat), Format::Detailed),
         "flat_verbose" => flat_shown(rt, &flat, Format::Verbose),
+        "flat_stopped_flag" => flat_stopped(rt.alloc(), &flat, Format::Flag),
+        "flat_stopped_basic" => flat_stopped(rt.alloc(), &flat_prune(flat), Format::Basic),
+        "flat_stopped_detailed" => flat_stopped(rt.alloc(), &condensed(flat), Format::Detailed),
+        "flat_stopped_verbose" => flat_stopped(rt.alloc(), &flat, Format::Verbose),
         _ => quiet::flat_called(rt, call, flat),
     }
 }
@@ -122,27 +128,32 @@ fn flat_noted(rt: &HostRuntime, flat: Flat) -> Result<Told, Memory>
     }
 }
 
-fn detailed_shown(rt: &HostRuntime, pruned: Flat) -> Result<Told, Memory> {
-    if !pruned.whole() {
-        return other(rt.alloc());
+fn condensed(flat: Flat) -> Flat
+    requires { IsWholeTree (flat_state flat) }
+{
+    let pruned = flat_prune(flat);
+    if pruned.whole() {
+        flat_condense(pruned)
+    } else {
+        pruned
     }
-    shown_if_whole(rt, &flat_condense(pruned), Format::Detailed)
 }
 
-fn shown_if_whole(rt: &HostRuntime, flat: &Flat, format: Format) -> Result<Told, Memory> {
+fn flat_shown(rt: &HostRuntime, flat: &Flat, format: Format) -> Result<Told, Memory> {
     if !flat.whole() {
         return other(rt.alloc());
     }
-    flat_shown(rt, flat, format)
-}
-
-fn flat_shown(rt: &HostRuntime, flat: &Flat, format: Format) -> Result<Told, Memory>
-    requires { IsWholeTree (flat_state flat.now) }
-{
     begin(rt);
     let made = flat_doc(rt.alloc(), flat, format);
     end(rt);
     told_doc(rt.alloc(), made)
+}
+
+fn flat_stopped(alloc: Global, flat: &Flat, format: Format) -> Result<Told, Memory> {
+    if !flat.whole() {
+        return other(alloc);
+    }
+    stopped_rows(alloc, flat, format)
 }
 
 /// The text of the rows' tree.

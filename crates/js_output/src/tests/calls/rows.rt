@@ -35,6 +35,9 @@ const STRICT: &str =
 const DOUBLED: &str =
     "{\"$defs\":{\"n\":{\"type\":\"integer\"}},\"allOf\":[{\"$ref\":\"#/$defs/n\"},{\"$ref\":\"#/$defs/n\"}]}";
 
+const TITLED: &str =
+    "{\"title\":\"\\\"\\n\\u0001\\u00e9\\ud834\\udd1e\",\"properties\":{\"\\\"\\n\":{\"description\":[\"\\\\\"]}}}";
+
 pub const POINTS: &str = "[{\"x\":2,\"y\":1},{\"x\":1,\"z\":6}]";
 
 /// The row of this name. Where none has it, the annotated property's.
@@ -62,6 +65,11 @@ pub fn row_named(name: &str) -> Row {
             documents: &[(URI, DOUBLED)],
             entry: URI,
             instance: "\"x\"",
+        },
+        "titled" => Row {
+            documents: &[(URI, TITLED)],
+            entry: URI,
+            instance: "{\"\\\"\\n\":1}",
         },
         _ => Row {
             documents: &[(URI, "{\"properties\":{\"a\":{\"title\":\"t\"}}}")],

@@ -1,9 +1,9 @@
 //! Whole runs over devices that are slow, and fail at one call: for each call, until it no longer matters.
-use crate::fakes::{SlowReader, SlowWriter};
-use crate::rows::{EMBEDDED, Row, URI, row_named};
-use crate::told::{Told, done, other};
+use super::fakes::{SlowReader, SlowWriter};
+use super::rows::{EMBEDDED, Row, URI, row_named};
+use super::told::{Told, done, other};
+use crate::{Fault, Format, Sink, Source, read_all, run, run_pair, run_places, run_suite};
 use js_doc::Memory;
-use js_output::{Fault, Format, Sink, Source, read_all, run, run_pair, run_places, run_suite};
 use std::alloc::Global;
 use std::io::{ErrorKind, Read, Write};
 

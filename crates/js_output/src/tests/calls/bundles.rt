@@ -2,8 +2,8 @@
 ghost use Rattle.std.specs.Prelude.{◌≡◌, true};
 ghost use Rattle.js_bundle.specs.Schemas.{is_place};
 
-use crate::rows::{POINTS, bundle, place, row_named, value};
-use crate::told::{Told, begin, done, end, memory, other, refused};
+use super::rows::{POINTS, bundle, place, row_named, value};
+use super::told::{Told, begin, done, end, memory, other, refused};
 use js_bundle::{Bundle, EntryFault, Place, RefusalKind, Schemas};
 use js_doc::{Doc, Memory, text};
 use js_eval::walk;

@@ -1,6 +1,6 @@
 //! Calls on values, pointers, patterns and assertions.
-use crate::rows::{POLYGON, value};
-use crate::told::{Told, begin, done, end, memory, other, refused};
+use super::rows::{POLYGON, value};
+use super::told::{Told, begin, done, end, memory, other, refused};
 use js_assert::{Assertion, KeywordFault, Pattern, PatternFault};
 use js_doc::{Doc, Members, Memory, Pointer, PointerFault, ReadFault, from_value, read, text};
 use serde_json::Value;

@@ -2,7 +2,7 @@
 ghost use Rattle.std.specs.Prelude.{◌≡◌, true};
 ghost use Rattle.js_bundle.specs.Schemas.{is_place};
 
-use crate::told::{Told, done};
+use super::told::{Told, done};
 use js_bundle::{Place, Schemas};
 use js_doc::{Doc, Memory};
 use js_eval::{WalkFault, walk_into};

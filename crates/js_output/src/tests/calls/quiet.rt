@@ -3,10 +3,10 @@ ghost use Rattle.std.specs.Prelude.{◌≡◌, true};
 ghost use Rattle.js_bundle.specs.Schemas.{is_place};
 ghost use Rattle.js_tree.specs.FlatState.{IsWholeTree, flat_state};
 
-use crate::judged::told_tree;
-use crate::rows::{POLYGON, value};
-use crate::told::{Told, begin, done, end, other};
-use crate::trees::told_rows;
+use super::judged::told_tree;
+use super::rows::{POLYGON, value};
+use super::told::{Told, begin, done, end, other};
+use super::trees::told_rows;
 use js_bundle::{Place, Schemas, Step};
 use js_doc::{Memory, Pointer, text};
 use js_tree::{

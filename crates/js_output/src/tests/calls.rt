@@ -1,11 +1,9 @@
 //! One public call by itself, on a row whose answer is known, for `hostile/run`: it refuses the call's growths, one after the
 //! other, and compares.
 //!
-//! The words: the call, and of those that judge something the row. On standard error goes `<` right before the call and `>`
-//! right after it. On standard output goes `Memory` as a line where the call found none, and then the answer, or what stands
-//! after the refusal. `devices` runs a whole job over devices that are slow, and that fail at each call in turn.
-#![tactic(auto)]
-
+//! The words after the test's name: the call, and of those that judge something the row. On standard error goes `<` right before
+//! the call and `>` right after it. On standard output goes `Memory` as a line where the call found none, and then the answer, or
+//! what stands after the refusal. `devices` runs a whole job over devices that are slow, and that fail at each call in turn.
 mod bundles;
 mod devices;
 mod fakes;
@@ -13,6 +11,7 @@ mod judged;
 mod quiet;
 mod refusing;
 mod rows;
+mod stopping;
 mod told;
 mod trees;
 mod values;
@@ -20,38 +19,41 @@ mod values;
 use js_doc::Memory;
 use std::env;
 use std::io::Write;
-use std::process::ExitCode;
+use std::test::Fail;
 use told::Told;
 
-fn main(rt: HostRuntime) -> ExitCode {
-    match tried(&rt) {
-        Ok(told) => tell(&rt, &told),
-        Err(Memory) => ExitCode::FAILURE,
-    }
-}
-
-fn tell(rt: &HostRuntime, told: &Told) -> ExitCode {
-    let mut out = rt.stdout();
-    if told.refused && out.write_all(b"Memory\n").is_err()
-        || out.write_all(told.text.as_bytes()).is_err()
-    {
-        return ExitCode::FAILURE;
-    }
-    ExitCode::SUCCESS
-}
-
-fn tried(rt: &HostRuntime) -> Result<Told, Memory> {
-    let Ok(words) = env::args(rt) else {
-        return Err(Memory);
-    };
-    let mut words = words.skip(1);
-    let Some(call) = words.next() else {
-        return told::other(rt.alloc());
-    };
+/// Without words, as the gate runs each test: a pointer gets a token.
+#[test]
+fn by_itself(rt: HostRuntime) -> Result<(), Fail> {
+    let words = env::args(&rt)?;
+    // (the program's name, and the test's)
+    let mut words = words.skip(2);
     match words.next() {
-        Some(job) if call.as_str() == "devices" => devices::run_over_devices(rt, job.as_str()),
-        Some(row) => judged::judged(rt, call.as_str(), row.as_str()),
-        None => alone(rt, call.as_str()),
+        Some(call) => {
+            let row = words.next();
+            tell(&rt, &called(&rt, call.as_str(), row)?)
+        }
+        None => {
+            assert_eq!(rt; values::pushed(&rt)?.text.as_str(), "/a~1b/0/1/2/c d");
+            Ok(())
+        }
+    }
+}
+
+fn tell(rt: &HostRuntime, told: &Told) -> Result<(), Fail> {
+    let mut out = rt.stdout();
+    if told.refused {
+        out.write_all(b"Memory\n")?;
+    }
+    out.write_all(told.text.as_bytes())?;
+    Ok(())
+}
+
+fn called(rt: &HostRuntime, call: &str, row: Option<String>) -> Result<Told, Memory> {
+    match row {
+        Some(job) if call == "devices" => devices::run_over_devices(rt, job.as_str()),
+        Some(row) => judged::judged(rt, call, row.as_str()),
+        None => alone(rt, call),
     }
 }
 

@@ -3,9 +3,9 @@
 ghost use Rattle.std.specs.Prelude.{◌≡◌, true};
 ghost use Rattle.js_bundle.specs.Schemas.{is_place};
 
-use crate::rows::{place, row_named, schemas, value};
-use crate::told::{Told, begin, done, end, memory, other};
-use crate::{bundles, quiet, refusing, trees};
+use super::rows::{place, row_named, schemas, value};
+use super::told::{Told, begin, done, end, memory, other};
+use super::{bundles, quiet, refusing, trees};
 use js_bundle::{Place, Schemas};
 use js_doc::{Doc, Memory, text};
 use js_eval::{WalkFault, verdict, walk, walk_into};
