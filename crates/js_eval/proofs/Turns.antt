@@ -10,7 +10,7 @@ use Rattle.std.proofs.lemmas.Slice.Eq.{bytes_eq-Decides}
 use Rattle.js_doc.specs.Value.{Named}
 use Rattle.js_doc.specs.Members.{name_cmp, IsAscending}
 use Rattle.js_eval.specs.Keywords.{Keyword, has_node, is_else, is_after_if, comes_before_else, comes_after_else}
-use Rattle.js_eval.specs.code.Turns.{turn_by, turn_of, is_ever, ever, firsts, seconds, lasts, if_first, if_second, if_last, in_order}
+use Rattle.js_eval.specs.code.Turns.{turn_by, turn_of, is_ever, ever, first_turn, second_turn, last_turn, if_first, if_second, if_last, in_order}
 use Rattle.js_eval.proofs.Among.{Below, below_all, its_own_reverse}
 
 -- ---- `else`
@@ -124,28 +124,28 @@ last_step true false false k ks ls after h r = r
 
 -- ---- all of ascending members
 
-firsts_are : (ms : Named) → IsAscending ms → filter (λ k. comes_before_else k.0) ms ≡ firsts ms
+firsts_are : (ms : Named) → IsAscending ms → filter (λ k. comes_before_else k.0) ms ≡ first_turn ms
 unfolding turn_of
 firsts_are [] a = refl
 firsts_are (m ∷ ms) a =
-    first_step (has_node m.0) (is_after_if m.0) (is_else m.0) m (filter (λ k. comes_before_else k.0) ms) (firsts ms)
+    first_step (has_node m.0) (is_after_if m.0) (is_else m.0) m (filter (λ k. comes_before_else k.0) ms) (first_turn ms)
     (λ h. no_first ms (are_behind m.0 ms h (below_all ms m.0 a.0 a.1))) (firsts_are ms a.1)
 
-seconds_are : (ms : Named) → IsAscending ms → filter (λ k. is_else k.0) ms ≡ seconds ms
+seconds_are : (ms : Named) → IsAscending ms → filter (λ k. is_else k.0) ms ≡ second_turn ms
 unfolding turn_of
 seconds_are [] a = refl
 seconds_are (m ∷ ms) a =
-    second_step (has_node m.0) (is_after_if m.0) (is_else m.0) m (filter (λ k. is_else k.0) ms) (seconds ms)
+    second_step (has_node m.0) (is_after_if m.0) (is_else m.0) m (filter (λ k. is_else k.0) ms) (second_turn ms)
     (else_has_node m.0) (else_before m.0) (λ h. no_more_else m.0 ms h (below_all ms m.0 a.0 a.1))
     (λ h. no_else ms (are_behind m.0 ms h (below_all ms m.0 a.0 a.1))) (seconds_are ms a.1)
 
-lasts_are : (ms : Named) → IsAscending ms → filter (λ k. comes_after_else k.0) ms ≡ lasts ms
+lasts_are : (ms : Named) → IsAscending ms → filter (λ k. comes_after_else k.0) ms ≡ last_turn ms
 unfolding turn_of
 lasts_are [] a = refl
 lasts_are (m ∷ ms) a =
-    last_step (has_node m.0) (is_after_if m.0) (is_else m.0) m (filter (λ k. comes_after_else k.0) ms) (lasts ms) (ever ms)
+    last_step (has_node m.0) (is_after_if m.0) (is_else m.0) m (filter (λ k. comes_after_else k.0) ms) (last_turn ms) (ever ms)
     (λ h. all_last ms (are_behind m.0 ms h (below_all ms m.0 a.0 a.1))) (lasts_are ms a.1)
 
-pub turns_in_order : (ms : Named) → IsAscending ms → firsts ms ++ (seconds ms ++ lasts ms) ≡ in_order ms
+pub turns_in_order : (ms : Named) → IsAscending ms → first_turn ms ++ (second_turn ms ++ last_turn ms) ≡ in_order ms
 turns_in_order ms a =
     sym (ap₂ (λ xs ys. xs ++ ys) (firsts_are ms a) (ap₂ (λ xs ys. xs ++ ys) (seconds_are ms a) (lasts_are ms a)))

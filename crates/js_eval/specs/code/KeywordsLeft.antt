@@ -4,7 +4,7 @@ use Rattle.js_doc.specs.Seen.{pair_of}
 use Rattle.js_doc.specs.Value.{Named}
 use Rattle.js_eval.specs.Keywords as table
 use Rattle.js_eval.specs.Seen.{keyword_of}
-use Rattle.js_eval.specs.code.Turns.{ever, firsts, seconds, lasts}
+use Rattle.js_eval.specs.code.Turns.{ever, first_turn, second_turn, last_turn}
 use Rattle.js_eval.specs.declared.keyword.Keyword.{Keyword}
 use Rattle.js_eval.specs.declared.keyword_cursor.KeywordCursor.{KeywordCursor}
 use Rattle.js_eval.specs.declared.keyword_cursor.Keywords.{Keywords}
@@ -17,7 +17,7 @@ kept_or (Some k) others = keyword_of k ∷ []
 
 -- up to `if`: of all that is left, where `else` may be kept already
 abbrev pub up_to_if : Option Keyword → Named → List table.Keyword
-up_to_if kept left = firsts left ++ (kept_or kept (seconds left) ++ lasts left)
+up_to_if kept left = first_turn left ++ (kept_or kept (second_turn left) ++ last_turn left)
 
 -- after `if`: what may be kept comes first
 abbrev pub after_if : Option Keyword → Named → List table.Keyword

@@ -48,19 +48,19 @@ abbrev pub ever : Named → List Keyword
 ever ms = filter (λ k. is_ever (turn_of k.0)) ms
 
 -- those that have the first turn: no one behind the first that has the last
-abbrev pub firsts : Named → List Keyword
-firsts [] = []
-firsts (m ∷ ms) = if_first (turn_of m.0) m (firsts ms)
+abbrev pub first_turn : Named → List Keyword
+first_turn [] = []
+first_turn (m ∷ ms) = if_first (turn_of m.0) m (first_turn ms)
 
 -- the one that has the second
-abbrev pub seconds : Named → List Keyword
-seconds [] = []
-seconds (m ∷ ms) = if_second (turn_of m.0) m (seconds ms)
+abbrev pub second_turn : Named → List Keyword
+second_turn [] = []
+second_turn (m ∷ ms) = if_second (turn_of m.0) m (second_turn ms)
 
 -- those that have the last: all from the first of them on
-abbrev pub lasts : Named → List Keyword
-lasts [] = []
-lasts (m ∷ ms) = if_last (turn_of m.0) m (ever ms) (lasts ms)
+abbrev pub last_turn : Named → List Keyword
+last_turn [] = []
+last_turn (m ∷ ms) = if_last (turn_of m.0) m (ever ms) (last_turn ms)
 
 -- the keywords that have a node, in the order of their nodes
 abbrev pub in_order : Named → List Keyword
