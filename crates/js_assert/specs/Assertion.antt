@@ -1,6 +1,6 @@
 -- What an assertion says of a value (JSON Schema Validation, section 6): one line a keyword, in the standard's order,
 -- each with its subsection. This is the standard's, but that numbers are whole here, so each is an integer.
-use Rattle.std.specs.Prelude.{ℕ, ◌==◌, ◌%◌, ℤ, pos, List, [], ◌∷◌, Bool, true, not, ◌&&◌, ◌||◌, Option, option_map, length, codes, chars, int_le, int_lt, unsigned_abs, refl}
+use Rattle.std.specs.Prelude.{ℕ, ◌==◌, ◌%◌, ℤ, pos, List, [], ◌∷◌, Bool, true, not, ◌&&◌, ◌||◌, Option, Some, None, option_map, length, codes, chars, int_le, int_lt, unsigned_abs, refl}
 use Rattle.std.specs.List.{list_any, list_all}
 use Rattle.std.specs.Str.{bytes_eq}
 use Rattle.std.specs.Coded.{Coded, code_by, coded×, coded_bool}
@@ -95,3 +95,11 @@ module _ (argument : Value) (beside_contains : Bool) (v : Value) (matching : ℕ
 -- what the assertion says of v, of which so many items match the adjacent `contains`
 abbrev pub says : Asserted → Value → ℕ → Bool
 says a v matching = says_by a.argument a.beside_contains v matching a.keyword
+
+-- the pattern that a string has to match, if the keyword asks for one (6.3.3)
+abbrev pub pattern_asked_by : Value → Keyword → Option (List ℕ)
+pattern_asked_by argument Pattern = Some (string argument)
+pattern_asked_by argument _ = None
+
+abbrev pub pattern_asked : Asserted → Option (List ℕ)
+pattern_asked a = pattern_asked_by a.argument a.keyword

@@ -1,4 +1,4 @@
-ghost use Rattle.std.specs.Prelude.{◌≡◌, IfOk, IfErr, true, codes, option_map, string_bytes};
+ghost use Rattle.std.specs.Prelude.{◌≡◌, ℕ, IfOk, IfErr, MatchOption, true, codes, option_map, string_bytes};
 
 use crate::error_text::error_text;
 use crate::fault::KeywordFault;
@@ -66,11 +66,12 @@ impl Model for Assertion {
 
 impl Assertion {
     ghost use Rattle.js_doc.specs.Seen.{value_of};
-    ghost use Rattle.js_assert.specs.Argument.{string};
-    ghost use Rattle.js_assert.specs.Assertion.{asserted, says};
+    ghost use Rattle.js_doc.specs.Value.{Value};
+    ghost use Rattle.js_assert.specs.Argument.{on_string, string};
+    ghost use Rattle.js_assert.specs.Assertion.{asserted, pattern_asked, says};
     ghost use Rattle.js_assert.specs.ErrorText.{error, error_text};
     ghost use Rattle.js_assert.specs.Form.{has_form, IsKeywordFault};
-    ghost use Rattle.js_assert.specs.Pattern.{is_pattern};
+    ghost use Rattle.js_assert.specs.Pattern.{is_pattern, matches};
 
     /// The assertion that the keyword of this name makes with this argument, among these members of its schema;
     /// None where the name is none of the twenty keywords'.
@@ -100,6 +101,19 @@ impl Assertion {
             test,
             beside_contains,
         }))
+    }
+
+    /// The pattern that a string has to match (JSON Schema Validation, section 6.3.3), where the keyword is `pattern`: who judges
+    /// many values can keep what searches with it.
+    pub fn pattern(&self) -> Option<&Pattern>
+        ensures asked { option_map (λ p. p.now) result ≡ pattern_asked self.now }
+        ensures says { MatchOption result (Unit {0}) (λ p. (v : Value) (matching : ℕ)
+            → says self.now v matching ≡ on_string v (λ s. matches p.now s)) }
+    {
+        match &self.test {
+            Test::Pattern(pattern) => Some(pattern),
+            _ => None,
+        }
     }
 
     /// Whether the value meets the assertion. `matching` counts the items of an array that match the adjacent

@@ -63,6 +63,13 @@ impl Pattern {
         }
     }
 
+    /// The pattern's text.
+    pub fn as_str(&self) -> &str
+        ensures { result.now ≡ self.now }
+    {
+        self.regex.as_str()
+    }
+
     /// What searches with the pattern: for many texts, make it once.
     ///
     /// # Errors
