@@ -1,9 +1,10 @@
 //! Whether a keyword passes, by how many applications it asked for and how many of them hold.
 ghost use Rattle.std.specs.Prelude.{◌≡◌, ◌||◌, ℕ, Bool, List, IfOk, length, option_map, true};
 ghost use Rattle.std.specs.Option.{option_map_or};
-ghost use Rattle.js_assert.specs.Argument.{entries, on_array};
+ghost use Rattle.js_assert.specs.Argument.{entries, on_array, on_string};
 ghost use Rattle.js_assert.specs.Assertion as spec;
 ghost use Rattle.js_assert.specs.Assertion.{asserted};
+ghost use Rattle.js_assert.specs.Pattern.{matches};
 ghost use Rattle.js_bundle.specs.Schemas.{is_place};
 ghost use Rattle.js_doc.specs.Seen.{value_of};
 ghost use Rattle.js_eval.specs.Bundle.{schemas_of};
@@ -19,8 +20,9 @@ use crate::instance::Instance;
 use crate::keyword::Keyword;
 use crate::kind::Kind;
 use crate::schema::argument_in;
+use crate::searchers::{NamedPattern, Searchers};
 use crate::walking::Tally;
-use js_assert::Assertion;
+use js_assert::{Assertion, Pattern};
 use js_bundle::{Place, Schemas};
 use js_doc::{Doc, Memory, Text, Whole};
 use std::alloc::Global;
@@ -31,9 +33,10 @@ use std::alloc::Global;
 /// # Errors
 /// `Memory`.
 #[tactic(auto, unfolding(crate::specs::Walk::Told::passes_at))]
-pub(crate) fn passes(
+pub(crate) fn passes<'a>(
     alloc: Global,
-    schemas: &Schemas,
+    schemas: &'a Schemas,
+    searchers: &Searchers<'a>,
     place: Place,
     value: Instance<'_>,
     keyword: Keyword<'_>,
@@ -47,7 +50,7 @@ pub(crate) fn passes(
 {
     let kind = keyword.kind;
     let said = match kind {
-        Kind::Assertion => says_at(alloc, schemas, place, value, keyword, matching)?,
+        Kind::Assertion => says_at(alloc, schemas, searchers, place, value, keyword, matching)?,
         _ => true,
     };
     Ok(passes_by_count(kind, schema_at(schemas, place), value, said, tally))
@@ -114,9 +117,10 @@ fn may_hold_none(schema: &Doc) -> bool
 }
 
 // Whether the value holds under the assertion that the keyword is, if it is one.
-fn says_at(
+fn says_at<'a>(
     alloc: Global,
-    schemas: &Schemas,
+    schemas: &'a Schemas,
+    searchers: &Searchers<'a>,
     place: Place,
     value: Instance<'_>,
     keyword: Keyword<'_>,
@@ -129,6 +133,7 @@ fn says_at(
 {
     says(
         alloc,
+        searchers,
         schemas.assertion(place, keyword.name),
         value,
         matching,
@@ -136,9 +141,10 @@ fn says_at(
 }
 
 // Whether the value holds under an assertion, if there is one.
-fn says(
+fn says<'a>(
     alloc: Global,
-    assertion: Option<&Assertion>,
+    searchers: &Searchers<'a>,
+    assertion: Option<&'a Assertion>,
     value: Instance<'_>,
     matching: u64,
 ) -> Result<bool, Memory>
@@ -146,12 +152,45 @@ fn says(
         (option_map (λ a. a.now) assertion.entry) true) }
 {
     match assertion {
-        Some(assertion) => holds(alloc, assertion, value, matching),
+        Some(assertion) => holds(alloc, searchers, assertion, value, matching),
         None => Ok(true),
     }
 }
 
-fn holds(
+// A pattern is searched for with what was kept of it.
+fn holds<'a>(
+    alloc: Global,
+    searchers: &Searchers<'a>,
+    assertion: &'a Assertion,
+    value: Instance<'_>,
+    matching: u64,
+) -> Result<bool, Memory>
+    ensures { IfOk result (λ b. b ≡ spec.says assertion.now (instance_of value.entry) matching) }
+{
+    match assertion.pattern() {
+        Some(pattern) => has_match(alloc, searchers, pattern, value),
+        None => holds_alone(alloc, assertion, value, matching),
+    }
+}
+
+// Whether the value, if it is a string, has a match of the pattern.
+fn has_match<'a>(
+    alloc: Global,
+    searchers: &Searchers<'a>,
+    pattern: &'a Pattern,
+    value: Instance<'_>,
+) -> Result<bool, Memory>
+    ensures { IfOk result (λ b. b ≡ on_string (instance_of value.entry) (λ s. matches pattern.now s)) }
+{
+    let named = NamedPattern::new(pattern, pattern.as_str());
+    match value {
+        Instance::Doc(Doc::Text(text)) => searchers.matches(alloc, named, text.as_str()),
+        Instance::Doc(_) => Ok(true),
+        Instance::Name(name) => searchers.matches(alloc, named, name),
+    }
+}
+
+fn holds_alone(
     alloc: Global,
     assertion: &Assertion,
     value: Instance<'_>,

@@ -161,7 +161,16 @@ impl<'a> World for Here<'a> {
         tally: Tally,
         matching: u64,
     ) -> Result<bool, Memory> {
-        counted::passes(alloc, self.schemas, place, value, keyword, tally, matching)
+        counted::passes(
+            alloc,
+            self.schemas,
+            &self.searchers,
+            place,
+            value,
+            keyword,
+            tally,
+            matching,
+        )
     }
 
     #[tactic(auto, unfolding(crate::specs::Walk::Told::at_name))]
