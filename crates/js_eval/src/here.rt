@@ -9,6 +9,7 @@ ghost use Rattle.js_eval.specs.Sited.{numbered_site};
 ghost use Rattle.js_eval.specs.Walk.Told.{at_step, schema_says};
 ghost use Rattle.js_tree.specs.Seen.{note_of};
 
+use crate::answers::keep_all;
 use crate::bundled::{names_at, schema_at};
 use crate::counted;
 use crate::cursor::{Asking, next_asked};
@@ -117,6 +118,9 @@ impl<'a> World for Here<'a> {
         indexes: &[usize],
     ) -> Result<Asking<'a>, Memory> {
         let schema = schema_at(self.schemas, place);
+        if matches!(keyword.kind, Kind::AdditionalProperties) {
+            keep_all(alloc, self.schemas, &self.searchers, place, schema, value)?;
+        }
         let scene = Scene {
             path,
             scope: resources,

@@ -1,6 +1,7 @@
 //! The result of JSON Schema: what each keyword asks for, verdicts, evaluated parts, notes, and the result tree.
 #![tactic(auto)]
 
+mod answers;
 mod applied;
 mod bundled;
 mod by_name;

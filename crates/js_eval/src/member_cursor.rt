@@ -273,7 +273,10 @@ fn is_spoken_of<'a>(
     }
     let place = adjacent.place;
     match adjacent.patterns {
-        Some(patterns) => matches_any(alloc, schemas, searchers, place, patterns, name),
+        Some(patterns) => match searchers.any_kept(patterns, name) {
+            Some(answer) => Ok(answer),
+            None => matches_any(alloc, schemas, searchers, place, patterns, name),
+        },
         None => Ok(false),
     }
 }

@@ -31,6 +31,8 @@ pub(crate) struct PatternCursor<'a> {
     pub name: &'a str,
     pub below: Place,
     pub left: Iter<'a, String, Doc>,
+    /// Whether what the patterns say of the names is kept, since another keyword of the schema has asked them.
+    pub is_kept: bool,
 }
 
 /// What `patternProperties` asks for on these members.
@@ -39,6 +41,7 @@ pub(crate) fn each_matching<'a>(
     keyword: &'a str,
     patterns: &'a Members,
     members: &'a Members,
+    is_kept: bool,
 ) -> PatternCursor<'a>
     ensures asked { (documents : Documents) → patterns_asked documents result
         ≡ flat_map (λ p. matching_asked documents (numbered_site documents place) keyword.now p.0 members.now) patterns.now }
@@ -54,6 +57,7 @@ pub(crate) fn each_matching<'a>(
         name: keyword,
         below: place,
         left: members.pairs(),
+        is_kept,
     }
 }
 
@@ -82,7 +86,12 @@ pub(crate) fn next_matching<'a>(
             at: Step::Name(name),
             value: Instance::Doc(member),
         })),
-        None => Ok(None),
+        None => {
+            if cursor.is_kept {
+                searchers.drop_answers();
+            }
+            Ok(None)
+        }
     }
 }
 
@@ -101,13 +110,15 @@ fn next_match<'a>(
     ensures below { IfOk result (λ _. is_place schemas.now cursor.new.below ≡ true) }
 {
     if let Some(pattern) = cursor.present {
-        if let Some(found) = next_member(alloc, searchers, pattern, &mut cursor.left)? {
+        let is_kept = cursor.is_kept;
+        if let Some(found) = next_member(alloc, searchers, pattern, is_kept, &mut cursor.left)? {
             return Ok(Some(found));
         }
     }
     while let Some((name, _)) = cursor.patterns.next() {
-        let pattern = begin(schemas, cursor, name.as_str())?;
-        if let Some(found) = next_member(alloc, searchers, pattern, &mut cursor.left)? {
+        let pattern = begin(schemas, searchers, cursor, name.as_str())?;
+        let is_kept = cursor.is_kept;
+        if let Some(found) = next_member(alloc, searchers, pattern, is_kept, &mut cursor.left)? {
             return Ok(Some(found));
         }
     }
@@ -117,6 +128,7 @@ fn next_match<'a>(
 // Makes a pattern the present one.
 fn begin<'a>(
     schemas: &'a Schemas,
+    searchers: &Searchers<'a>,
     cursor: &mut PatternCursor<'a>,
     name: &'a str,
 ) -> Result<NamedPattern<'a>, Memory>
@@ -129,6 +141,9 @@ fn begin<'a>(
             cursor.name = name;
             cursor.below = below(schemas, cursor.place, cursor.keyword, Step::Name(name));
             cursor.left = cursor.members.pairs();
+            if cursor.is_kept {
+                searchers.begin_kept(name);
+            }
             Ok(pattern)
         }
         None => Err(Memory), // never: each pattern of finished schemas is built
@@ -140,6 +155,7 @@ fn next_member<'a>(
     alloc: Global,
     searchers: &Searchers<'a>,
     pattern: NamedPattern<'a>,
+    is_kept: bool,
     members: &mut Iter<'a, String, Doc>,
 ) -> Result<Option<(&'a str, &'a Doc)>, Memory>
     ensures { IfOk result (λ o. MatchOption o (filter (λ m. matches pattern.entry.text.now m.0) (map pair_of members.old) ≡ [])
@@ -147,9 +163,25 @@ fn next_member<'a>(
 {
     while let Some((name, member)) = members.next() {
         let name = name.as_str();
-        if searchers.matches(alloc, pattern, name)? {
+        if is_match(alloc, searchers, pattern, is_kept, name)? {
             return Ok(Some((name, member)));
         }
     }
     Ok(None)
+}
+
+fn is_match<'a>(
+    alloc: Global,
+    searchers: &Searchers<'a>,
+    pattern: NamedPattern<'a>,
+    is_kept: bool,
+    name: &str,
+) -> Result<bool, Memory>
+    ensures { IfOk result (λ b. b ≡ matches pattern.entry.text.now name.now) }
+{
+    if is_kept {
+        searchers.matches_as_kept(alloc, pattern, name)
+    } else {
+        searchers.matches(alloc, pattern, name)
+    }
 }

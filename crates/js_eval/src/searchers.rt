@@ -1,9 +1,11 @@
 //! Searching with patterns, for a whole walk.
 ghost use Rattle.std.specs.Prelude.{◌≡◌, IfOk, MatchOption};
+ghost use Rattle.std.specs.List.{list_any};
 ghost use Rattle.js_assert.specs.Pattern.{matches};
 
+use crate::answers::AllAnswers;
 use js_assert::{Pattern, Searcher};
-use js_doc::Memory;
+use js_doc::{Members, Memory};
 use std::alloc::Global;
 use std::cell::RefCell;
 
@@ -19,10 +21,12 @@ pub(crate) struct NamedPattern<'p> {
 }
 
 /// Searches with patterns. What it searched with is kept for the next search with the same pattern: to make it takes longer than
-/// most searches.
+/// most searches. What patterns said of the names of an object is kept while two keywords of one schema ask them.
 #[derive(Drop)]
 pub(crate) struct Searchers<'p> {
     kept: RefCell<Kept<'p>>,
+    /// Of each schema on the way that has both keywords, those of its patterns.
+    answers: RefCell<Vec<AllAnswers<'p>>>,
 }
 
 /// The searchers that are kept, and which of them goes when there is room for no more.
@@ -58,6 +62,7 @@ impl<'p> Searchers<'p> {
                 all: Vec::new(alloc),
                 next: 0,
             }),
+            answers: RefCell::new(Vec::new(alloc)),
         }
     }
 
@@ -78,6 +83,72 @@ impl<'p> Searchers<'p> {
         match self.kept.try_borrow_mut() {
             Ok(mut kept) => search(alloc, &mut kept, pattern, text, name),
             Err(_) => pattern.holds(alloc, name),
+        }
+    }
+}
+
+impl<'p> Searchers<'p> {
+    /// Keeps what the patterns of a schema say.
+    ///
+    /// # Errors
+    /// `Memory`.
+    pub fn keep_answers(&self, answers: AllAnswers<'p>) -> Result<(), Memory> {
+        match self.answers.try_borrow_mut() {
+            Ok(mut kept) => Ok(kept.push(answers)?),
+            Err(_) => Ok(()),
+        }
+    }
+
+    /// Lets go what was kept last.
+    pub fn drop_answers(&self) {
+        if let Ok(mut kept) = self.answers.try_borrow_mut() {
+            let _ = kept.pop();
+        }
+    }
+
+    /// Whether one of the patterns matches the name, as what was kept last says.
+    pub fn any_kept(&self, patterns: &Members, name: &str) -> Option<bool>
+        ensures { MatchOption result (Unit {0}) (λ b. b ≡ list_any (λ p. matches p.0 name.now) patterns.now) }
+    {
+        match self.answers.try_borrow_mut() {
+            Ok(mut kept) => kept.last_mut()?.any(patterns, name),
+            Err(_) => None,
+        }
+    }
+
+    /// Goes on to this pattern in what was kept last.
+    pub fn begin_kept(&self, pattern: &str) {
+        if let Ok(mut kept) = self.answers.try_borrow_mut() {
+            if let Some(answers) = kept.last_mut() {
+                answers.begin(pattern);
+            }
+        }
+    }
+
+    /// Whether the pattern matches the name, as what was kept last says if it does.
+    ///
+    /// # Errors
+    /// `Memory`.
+    pub fn matches_as_kept(
+        &self,
+        alloc: Global,
+        named: NamedPattern<'p>,
+        name: &str,
+    ) -> Result<bool, Memory>
+        ensures { IfOk result (λ b. b ≡ matches named.entry.text.now name.now) }
+    {
+        match self.kept_answer(named.text, name) {
+            Some(answer) => Ok(answer),
+            None => self.matches(alloc, named, name),
+        }
+    }
+
+    fn kept_answer(&self, pattern: &str, name: &str) -> Option<bool>
+        ensures { MatchOption result (Unit {0}) (λ b. b ≡ matches pattern.now name.now) }
+    {
+        match self.answers.try_borrow_mut() {
+            Ok(mut kept) => kept.last_mut()?.find(pattern, name),
+            Err(_) => None,
         }
     }
 }

@@ -89,7 +89,9 @@ pub(crate) fn start<'a>(
         Kind::Items => Ok(start_items::following(alloc, schemas, place, name, schema, value)),
         Kind::Contains => Ok(start_items::every(alloc, schemas, place, name, value)),
         Kind::Properties => Ok(start_members::properties(schemas, place, keyword, value)),
-        Kind::PatternProperties => Ok(start_members::patterns(schemas, place, keyword, value)),
+        Kind::PatternProperties => Ok(start_members::patterns(
+            schemas, place, keyword, schema, value,
+        )),
         Kind::AdditionalProperties => Ok(start_members::additional(
             schemas, place, name, schema, value,
         )),

@@ -22,6 +22,7 @@ use crate::member_cursor::{
     each_additional, each_in_place, each_name, each_named, each_other, object_at,
 };
 use crate::pattern_cursor::each_matching;
+use crate::schema::argument_in;
 use js_bundle::{Place, Schemas, Step};
 use js_doc::{Doc, Memory};
 use std::alloc::Global;
@@ -73,6 +74,7 @@ pub(crate) fn patterns<'a>(
     schemas: &Schemas,
     place: Place,
     keyword: Keyword<'a>,
+    schema: &Doc,
     value: Instance<'a>,
 ) -> Asking<'a>
     requires { is_place schemas.now place ≡ true }
@@ -84,7 +86,13 @@ pub(crate) fn patterns<'a>(
         return Asking::One(None);
     };
     match value.object() {
-        Some(members) => Asking::Patterns(each_matching(place, keyword.name, patterns, members)),
+        Some(members) => Asking::Patterns(each_matching(
+            place,
+            keyword.name,
+            patterns,
+            members,
+            argument_in(schema, "additionalProperties").is_some(),
+        )),
         None => Asking::One(None),
     }
 }

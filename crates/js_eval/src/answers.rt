@@ -1,0 +1,191 @@
+//! What a pattern says of the names of an object, kept from one keyword to another.
+ghost use Rattle.std.specs.Prelude.{◌≡◌, ℕ, Bool, List, IfOk, MatchOption, drop, get_or, map, false};
+ghost use Rattle.std.specs.List.{list_any};
+ghost use Rattle.js_assert.specs.Pattern.{matches};
+ghost use Rattle.js_doc.specs.Seen.{pair_of};
+
+use crate::instance::Instance;
+use crate::member_cursor::{object_at, pattern_of};
+use crate::searchers::{NamedPattern, Searchers};
+use js_bundle::{Place, Schemas};
+use js_doc::{Doc, Members, Memory};
+use std::alloc::Global;
+use std::collections::btree_map::Iter;
+
+/// Whether a pattern matches each name of an object. It is asked for names in their order, and may pass over some.
+#[derive(Drop)]
+pub(crate) struct Answers<'p> {
+    pub pattern: &'p str,
+    members: &'p Members,
+    all: Vec<bool>,
+    left: Iter<'p, String, Doc>,
+    next: usize,
+    ghost right: { all.items ≡ map (λ m. matches pattern.now m.0) members.now },
+    ghost in_step: { drop next all.items ≡ map (λ m. matches pattern.now m.0) (map pair_of left) },
+}
+
+impl<'p> Answers<'p> {
+    /// Asks the pattern once for each name.
+    ///
+    /// # Errors
+    /// `Memory`.
+    pub fn new(
+        alloc: Global,
+        searchers: &Searchers<'p>,
+        pattern: NamedPattern<'p>,
+        members: &'p Members,
+    ) -> Result<Answers<'p>, Memory>
+        ensures { IfOk result (λ a. a.pattern.now ≡ pattern.entry.text.now) }
+    {
+        Ok(Answers {
+            pattern: pattern.text,
+            members,
+            all: asked_of_each(alloc, searchers, pattern, members)?,
+            left: members.pairs(),
+            next: 0,
+        })
+    }
+
+    /// Begins with the first name again.
+    pub fn rewind(&mut self)
+        ensures { self.new.pattern ≡ self.old.pattern }
+    {
+        self.left = self.members.pairs();
+        self.next = 0;
+    }
+
+    /// Whether the pattern matches the name, where it is among those that are left.
+    pub fn find(&mut self, name: &str) -> Option<bool>
+        ensures answer { MatchOption result (Unit {0}) (λ b. b ≡ matches self.old.pattern.now name.now) }
+        ensures same { self.new.pattern ≡ self.old.pattern }
+    {
+        while let Some((own, _)) = self.left.next() {
+            let is_match = answer_at(self.all.as_slice(), self.next);
+            self.next += 1;
+            if own.as_str() == name {
+                return Some(is_match);
+            }
+        }
+        None
+    }
+
+    /// The same, if this is the pattern.
+    pub fn find_of(&mut self, pattern: &str, name: &str) -> Option<bool>
+        ensures { MatchOption result (Unit {0}) (λ b. b ≡ matches pattern.now name.now) }
+    {
+        if self.pattern == pattern {
+            self.find(name)
+        } else {
+            None
+        }
+    }
+}
+
+/// What the patterns of one schema say of the names of one object.
+#[derive(Drop)]
+pub(crate) struct AllAnswers<'p> {
+    each: Vec<Answers<'p>>,
+    /// Which pattern is asked.
+    present: usize,
+}
+
+impl<'p> AllAnswers<'p> {
+    /// Whether one of the patterns, all of them, matches the name.
+    pub fn any(&mut self, patterns: &Members, name: &str) -> Option<bool>
+        ensures { MatchOption result (Unit {0}) (λ b. b ≡ list_any (λ p. matches p.0 name.now) patterns.now) }
+    {
+        for (index, (pattern, _)) in patterns.pairs().enumerate() {
+            if self.find_at(index, pattern.as_str(), name)? {
+                return Some(true);
+            }
+        }
+        Some(false)
+    }
+
+    /// Begins with the first name again, for this pattern.
+    pub fn begin(&mut self, pattern: &str) {
+        self.present = place_of(self.each.as_slice(), pattern);
+        if let Some(answers) = self.each.get_mut(self.present) {
+            answers.rewind();
+        }
+    }
+
+    /// Whether the pattern matches the name, if it is the one that was begun.
+    pub fn find(&mut self, pattern: &str, name: &str) -> Option<bool>
+        ensures { MatchOption result (Unit {0}) (λ b. b ≡ matches pattern.now name.now) }
+    {
+        self.find_at(self.present, pattern, name)
+    }
+
+    fn find_at(&mut self, index: usize, pattern: &str, name: &str) -> Option<bool>
+        ensures { MatchOption result (Unit {0}) (λ b. b ≡ matches pattern.now name.now) }
+    {
+        match self.each.get_mut(index) {
+            Some(answers) => answers.find_of(pattern, name),
+            None => None,
+        }
+    }
+}
+
+// The place of the pattern's answers; behind the last, where it has none.
+fn place_of(each: &[Answers<'_>], pattern: &str) -> usize {
+    for (index, answers) in each.iter().enumerate() {
+        if answers.pattern == pattern {
+            return index;
+        }
+    }
+    each.len()
+}
+
+/// Asks each pattern of a place's `patternProperties` once for each name, where the value is an object, and keeps the answers.
+///
+/// # Errors
+/// `Memory`.
+#[inline(never)]
+pub(crate) fn keep_all<'p>(
+    alloc: Global,
+    schemas: &'p Schemas,
+    searchers: &Searchers<'p>,
+    place: Place,
+    schema: &'p Doc,
+    value: Instance<'p>,
+) -> Result<(), Memory> {
+    let Some(patterns) = object_at(schema, "patternProperties") else {
+        return Ok(());
+    };
+    let Some(members) = value.object() else {
+        return Ok(());
+    };
+    let mut each = Vec::with_capacity(alloc, patterns.len())?;
+    for (text, _) in patterns.pairs() {
+        if let Some(pattern) = pattern_of(schemas, place, text.as_str()) {
+            each.push(Answers::new(alloc, searchers, pattern, members)?)?;
+        }
+    }
+    searchers.keep_answers(AllAnswers { each, present: 0 })
+}
+
+// Whether the pattern matches each of the names.
+fn asked_of_each<'p>(
+    alloc: Global,
+    searchers: &Searchers<'p>,
+    pattern: NamedPattern<'p>,
+    members: &'p Members,
+) -> Result<Vec<bool>, Memory>
+    ensures { IfOk result (λ v. v.items ≡ map (λ m. matches pattern.entry.text.now m.0) members.now) }
+{
+    let mut all = Vec::with_capacity(alloc, members.len())?;
+    for (name, _) in members.pairs() {
+        all.push(searchers.matches(alloc, pattern, name.as_str())?)?;
+    }
+    Ok(all)
+}
+
+fn answer_at(all: &[bool], next: usize) -> bool
+    ensures { result ≡ get_or all.now next false }
+{
+    match all.get(next) {
+        Some(answer) => *answer,
+        None => false,
+    }
+}
