@@ -5,21 +5,23 @@
    FAIL_READ=N       read N answers an error, where INTERRUPTED is set that it was interrupted
    FAIL_WRITE=N      write N on descriptor WRITE_ON answers an error, where TAKE_NONE is set that it took nothing
    ONE_BYTE          each read and write moves at most one byte
+   TELL_OPENED       the path of each file that is opened goes on descriptor 3, with a line feed, and nothing else does
 
-   On descriptor 3 goes a byte 'x' for each growth, read or write that is refused, and a byte 'y' for each read or write
+   Else on descriptor 3 goes a byte 'x' for each growth, read or write that is refused, and a byte 'y' for each read or write
    of the same descriptor after it. */
 typedef unsigned long size_t;
 extern void *__libc_malloc(size_t);
 extern void *__libc_realloc(void *, size_t);
 extern long __read(int, void *, size_t);
 extern long __write(int, const void *, size_t);
+extern int openat64(int, const char *, int, ...);
 extern char *getenv(const char *);
 extern int *__errno_location(void);
 
 enum { INTERRUPTED = 4, FAILED = 5 };
 
 static unsigned long asked, nth, reads, fail_read, writes, fail_write, write_on;
-static int all, counts, marked, interrupted, take_none, one_byte;
+static int all, counts, marked, interrupted, take_none, one_byte, tell_opened;
 static int failed = -1;
 
 static unsigned long number(const char *name) {
@@ -39,6 +41,7 @@ __attribute__((constructor)) static void begin(void) {
     interrupted = getenv("INTERRUPTED") != 0;
     take_none = getenv("TAKE_NONE") != 0;
     one_byte = getenv("ONE_BYTE") != 0;
+    tell_opened = getenv("TELL_OPENED") != 0;
     counts = !marked;
     asked = 0;
 }
@@ -79,4 +82,15 @@ long write(int descriptor, const void *from, size_t size) {
         return 0;
     }
     return __write(descriptor, from, one_byte && size ? 1 : size);
+}
+
+/* Files are only read: none is made, so there is no mode to hand on. */
+int openat(int folder, const char *path, int flags, ...) {
+    if (tell_opened) {
+        size_t length = 0;
+        while (path[length]) length++;
+        __write(3, path, length);
+        __write(3, "\n", 1);
+    }
+    return openat64(folder, path, flags);
 }

@@ -7,7 +7,7 @@ use Rattle.js_bundle.specs.Document.{Document, Documents}
 use Rattle.js_bundle.specs.Place.{IsPlace, at_root, Place, places_at, places_from, places}
 use Rattle.js_bundle.specs.PlaceLaws.{Lists, IsPlaceOf, ListsIn, AreDistinct, ListsAll}
 use Rattle.js_bundle.specs.Seen.{AreRead}
-use Rattle.js_bundle.proofs.Apart.{all_as}
+use Rattle.js_bundle.proofs.PlacesApart.{all_as}
 use Rattle.js_bundle.proofs.Distinct.{all_distinct}
 use Rattle.js_bundle.proofs.Listing.{all_append, sound, complete}
 use Rattle.js_bundle.proofs.Standing.{both_all, of_document, of_source}

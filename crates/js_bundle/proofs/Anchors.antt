@@ -15,7 +15,7 @@ use Rattle.js_bundle.specs.Resource.{Site}
 use Rattle.js_bundle.specs.ResourceNumber.{begins_resource, roots, resource_number}
 use Rattle.js_bundle.specs.ResourceTable.{AreAnchors, AreEmpty, AreNamed, AreRooted, IsOpened, StandApart, dynamic_names, rank_of_root, ranks_from}
 use Rattle.js_bundle.specs.code.Scan.{site_of}
-use Rattle.js_bundle.proofs.Apart.{all_as}
+use Rattle.js_bundle.proofs.PlacesApart.{all_as}
 use Rattle.js_bundle.proofs.Distinct.{tokens-refl, tokens-sound, at_place, stands_itself}
 use Rattle.js_bundle.proofs.Indexed.{first_next, none_put}
 use Rattle.js_bundle.proofs.Numbers.{nat_eq-refl}

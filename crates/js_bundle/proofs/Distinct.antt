@@ -11,7 +11,7 @@ use Rattle.js_bundle.specs.PlaceLaws.{AreApart, AreDistinct, Differ}
 use Rattle.js_bundle.specs.Resource.{Site, site, sites}
 use Rattle.js_bundle.specs.Seen.{AreOrdered, AreShort}
 use Rattle.js_bundle.proofs.Listing.{all_append}
-use Rattle.js_bundle.proofs.Apart.{all_as, apart_at}
+use Rattle.js_bundle.proofs.PlacesApart.{all_as, apart_at}
 use Rattle.js_bundle.proofs.Standing.{of_document, all_at, made_at}
 use Rattle.js_bundle.proofs.Numbers.{nat_eq-refl, number_finds_it, number_passes}
 

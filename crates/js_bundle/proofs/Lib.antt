@@ -5,7 +5,7 @@ pub mod Keywords
 pub mod Scanning
 pub mod Scanned
 pub mod Listing
-pub mod Apart
+pub mod PlacesApart
 pub mod Standing
 pub mod Numbers
 pub mod Distinct
@@ -25,7 +25,7 @@ pub mod Kept
 pub mod Finds
 pub mod LeadingDown
 pub mod Ways
-pub mod Further
+pub mod ExtendedLocation
 pub mod Schema
 pub mod UnderNumber
 pub mod Dynamic

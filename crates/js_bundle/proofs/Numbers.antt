@@ -19,7 +19,7 @@ use Rattle.js_bundle.specs.Keyword.{Text, member_pairs, keywords, argument}
 use Rattle.js_bundle.specs.Resource.{Site}
 use Rattle.js_bundle.specs.Schemas.{assertion, pattern}
 use Rattle.js_bundle.proofs.Listing.{Among}
-use Rattle.js_bundle.proofs.Apart.{below_all, less_apart}
+use Rattle.js_bundle.proofs.PlacesApart.{below_all, less_apart}
 
 -- ---- the first that passes, and its number
 

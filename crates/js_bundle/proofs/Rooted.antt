@@ -18,7 +18,7 @@ use Rattle.js_bundle.specs.ResourceNumber.{begins_resource, roots}
 use Rattle.js_bundle.specs.ResourceTable.{AreRooted, StandApart}
 use Rattle.js_bundle.specs.code.Scan.{handed_down, own_scope, site_scanned, sites_held, sites_at, sites_of_keywords, sites_in_list, sites_of_items, sites_in_object, sites_of_members, sites_from}
 use Rattle.js_bundle.specs.Seen.{AreRead}
-use Rattle.js_bundle.proofs.Apart.{all_as}
+use Rattle.js_bundle.proofs.PlacesApart.{all_as}
 use Rattle.js_bundle.proofs.Distinct.{tokens-refl, at_place, all_distinct}
 use Rattle.js_bundle.proofs.Indexed.{any_append, or_left, or_right}
 use Rattle.js_bundle.proofs.Listing.{all_append}

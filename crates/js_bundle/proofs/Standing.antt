@@ -17,7 +17,7 @@ use Rattle.js_bundle.specs.Place.{holding, values, items_in, IsPlace, at_root, i
 use Rattle.js_bundle.specs.Resource.{Site, site, sites}
 use Rattle.js_bundle.specs.Seen.{AreOrdered, AreShort}
 use Rattle.js_bundle.proofs.Listing.{Among, is-among, all_append, sound}
-use Rattle.js_bundle.proofs.Apart.{below_all, less_apart, all_as}
+use Rattle.js_bundle.proofs.PlacesApart.{below_all, less_apart, all_as}
 
 -- ---- one token further
 

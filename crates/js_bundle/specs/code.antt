@@ -4,5 +4,5 @@ pub mod Scan
 pub mod Index
 pub mod Spot
 pub mod Edges
-pub mod GoesOn
+pub mod LocationGoesOn
 pub mod Grouped

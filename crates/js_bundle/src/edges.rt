@@ -213,12 +213,12 @@ fn goes_by(spots: &[Spot], number: usize, depth: usize, keyword: &str, step: Ste
     ensures { result ≡ goes_by depth keyword.now (step_of step.entry) (map spot_of spots.now) number }
 {
     match spots.get(number) {
-        Some(spot) => goes_on(spot.pointer.tokens(), depth, keyword, step),
+        Some(spot) => leads_by(spot.pointer.tokens(), depth, keyword, step),
         None => false,
     }
 }
 
-fn goes_on(tokens: &[Text], depth: usize, keyword: &str, step: Step<'_>) -> bool
+fn leads_by(tokens: &[Text], depth: usize, keyword: &str, step: Step<'_>) -> bool
     ensures { result ≡ same_tokens (drop depth tokens.now) (keyword.now ∷ step_tokens (step_of step.entry)) }
 {
     if tokens.len() <= depth {

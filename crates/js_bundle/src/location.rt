@@ -3,7 +3,7 @@ ghost use Rattle.std.specs.Prelude.{◌≡◌, ◌++◌, [], true, bytes_eq, cod
 ghost use Rattle.js_doc.specs.Fragment.{fragment_text};
 ghost use Rattle.js_bundle.specs.Finding.{tokens_of};
 ghost use Rattle.js_bundle.specs.Location.{canonical, location};
-ghost use Rattle.js_bundle.specs.code.GoesOn.{goes_on, has_depth_of, is_beside};
+ghost use Rattle.js_bundle.specs.code.LocationGoesOn.{location_goes_on, has_depth_of, is_beside};
 ghost use Rattle.js_bundle.specs.code.Scan.{site_of};
 ghost use Rattle.js_bundle.specs.Url.{printed};
 
@@ -51,8 +51,8 @@ fn push_keyword(text: &mut String, keyword: Option<&str>) -> Result<(), Memory>
 }
 
 // Whether the place stands below the one before it, in a resource of the same URI, whose root is as deep.
-fn goes_on(before: &Site<'_>, site: &Site<'_>) -> bool
-    ensures { result ≡ goes_on (site_of before.now) (site_of site.now) }
+fn location_goes_on(before: &Site<'_>, site: &Site<'_>) -> bool
+    ensures { result ≡ location_goes_on (site_of before.now) (site_of site.now) }
 {
     is_beside(before, site) && begins_with(site.pointer.tokens(), before.pointer.tokens())
 }
@@ -87,14 +87,14 @@ fn location_after(
     ensures { IfOk result (λ t. string_bytes t ≡ location (site_of site.now)) }
 {
     match before {
-        Some(before) if goes_on(before, site) => further(text, before, site),
+        Some(before) if location_goes_on(before, site) => extended_location(text, before, site),
         _ => absolute(alloc, &site.own, &site.pointer, None),
     }
 }
 
 // The same, where it goes on from that: only the rest of the way is written.
-fn further(text: String, before: &Site<'_>, site: &Site<'_>) -> Result<String, Memory>
-    requires below { goes_on (site_of before.now) (site_of site.now) ≡ true }
+fn extended_location(text: String, before: &Site<'_>, site: &Site<'_>) -> Result<String, Memory>
+    requires below { location_goes_on (site_of before.now) (site_of site.now) ≡ true }
     requires text { string_bytes text ≡ location (site_of before.now) }
     ensures { IfOk result (λ t. string_bytes t ≡ location (site_of site.now)) }
 {

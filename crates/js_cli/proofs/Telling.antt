@@ -41,6 +41,12 @@ pub begun_or_kept : (words : List (List ℕ)) (held : HeldByPath) (input : Optio
 begun_or_kept words held input request old new fault.Write asks kept begun = let (output, h, out) = begun refl in inr (output, (request, asks, h), out)
 begun_or_kept words held input request old new _ asks kept begun = inl (kept (λ e. cc))
 
+-- where a write failed, there is an output
+pub begun_write : (words : List (List ℕ)) (held : HeldByPath) (input : Option (List ℕ)) (request : Request) (old new : Option (List ℕ)) (e : Fault) → request_of words ≡ Ok request
+    → (◌≡◌ {A = Result Bool Fault} (Err e) (Err fault.Write) → IsPartlyTold (RequestOutcome held input request) old new)
+    → e ≡ fault.Write → IsPartlyTold (WordsOutcome words held input) old new
+begun_write words held input request old new e asks begun same = let (output, h, out) = begun (ap Err same) in (output, (request, asks, h), out)
+
 -- ---- a check, and places
 
 module _ {D : Type 0} (held : HeldByPath) (pairs : Pairs) (documents : DocumentTexts) (taken : D → Option (List ℕ)) (old new : Tracked D) where

@@ -82,7 +82,8 @@ pub fn command<'a, F: Files, R: Read, W: Write, V: Write>(
         (R.remaining input.old.device))
         (W.contents out.old.device) (W.contents out.new.device) }
 
-    // What is told of anything else, or a beginning of it.
+    // What is told of anything else, or a beginning of it. A write that failed, the last flush
+    // included, is told only where there is a text to write, and so never in a refusal's place.
     ensures quiet { result < 2 → faults.new ≡ faults.old }
     ensures misused { OnErr (request_of (words_of words.entry.now)) ((result ≡ 2) ⊎ ((result ≡ 4)
         × AppendsBeginning (V.contents faults.old.device) (V.contents faults.new.device)
@@ -92,7 +93,11 @@ pub fn command<'a, F: Files, R: Read, W: Write, V: Write>(
         (usage_line m) }
     ensures told { 2 < result → (fault : Fault) × (fault_status fault ≡ result)
         × AppendsBeginning (V.contents faults.old.device) (V.contents faults.new.device)
-        (fault_line fault ++ 10 ∷ []) }
+        (fault_line fault ++ 10 ∷ [])
+        × (fault ≡ Fault.Write → IsPartlyTold
+        (WordsOutcome (words_of words.entry.now) (F.held files.old)
+        (R.remaining input.old.device))
+        (W.contents out.old.device) (W.contents out.new.device)) }
 {
     let task = match task_of(alloc, words) {
         Ok(task) => task,

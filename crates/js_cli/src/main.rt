@@ -76,6 +76,3 @@ fn words_given(rt: &HostRuntime) -> Result<Vec<String>, NoWords> {
     }
     Ok(words)
 }
-
-#[cfg(test)]
-mod tests;

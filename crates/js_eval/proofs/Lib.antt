@@ -6,7 +6,7 @@ pub mod NoCircle
 pub mod Examples
 pub mod NoRow
 pub mod AskedNothing
-pub mod Among
+pub mod FoundByName
 pub mod Turns
 pub mod HowMany
 pub mod JudgedDocuments

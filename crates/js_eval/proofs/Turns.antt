@@ -11,7 +11,7 @@ use Rattle.js_doc.specs.Value.{Named}
 use Rattle.js_doc.specs.Members.{name_cmp, IsAscending}
 use Rattle.js_eval.specs.Keywords.{Keyword, has_node, is_else, is_after_if, comes_before_else, comes_after_else}
 use Rattle.js_eval.specs.code.Turns.{turn_by, turn_of, is_ever, ever, first_turn, second_turn, last_turn, if_first, if_second, if_last, in_order}
-use Rattle.js_eval.proofs.Among.{Below, below_all, its_own_reverse}
+use Rattle.js_eval.proofs.FoundByName.{Below, below_all, its_own_reverse}
 
 -- ---- `else`
 

@@ -1,5 +1,5 @@
 pub mod CauseLists
-pub mod Handed
+pub mod BundleCauses
 pub mod Sites
 pub mod Sending
 pub mod Answering

@@ -1,6 +1,6 @@
 -- Alike trees: the test of them is an equivalence where that of labels is.
-use Rattle.std.proofs.Common.{◌≡◌, ◌≢◌, suc, Bool, true, false, ◌&&◌, List, [], ◌∷◌, length, refl, ap, sym, ◌∙◌}
-use Rattle.std.specs.Cmp.{IsEquivalence, IsPartialEquivalence, partial_equiv_from_equiv, equiv}
+use Rattle.std.proofs.Common.{◌≡◌, ◌≢◌, suc, Bool, true, false, ◌&&◌, List, [], ◌∷◌, length, refl, ap, ◌∙◌}
+use Rattle.std.specs.Cmp.{IsEquivalence, equiv}
 use Rattle.js_tree.specs.Forest.{Forest, empty, tree, Rose, forest_of}
 use Rattle.js_tree.specs.Merged.{alike, alike_trees}
 use Rattle.js_tree.proofs.Steps.{and_left, and_right}

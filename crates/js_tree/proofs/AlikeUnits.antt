@@ -1,5 +1,5 @@
 -- The test of units that are equal but for their keyword locations is exact.
-use Rattle.std.proofs.Common.{◌≡◌, Bool, true, false, ◌&&◌, nat_eq, [], refl, ap, sym, ◌∙◌}
+use Rattle.std.proofs.Common.{◌≡◌, true, nat_eq, [], refl, ap, sym, ◌∙◌}
 use Rattle.std.specs.Bool.{Decides, one_answer, beq}
 use Rattle.std.specs.Cmp.{IsEquivalence, booleans_Decides, unsigned_Decides}
 use Rattle.std.specs.Cmp.Lexicographic.{pointwise, pointwise_decides, bytes_decides}

@@ -1,5 +1,5 @@
 -- Of alike trees the earliest stays, and the alike ones are those that are equal without what doesn't count.
-use Rattle.std.proofs.Common.{◌≡◌, Bool, true, false, ◌||◌, ◌&&◌, refl, ap, sym, ◌∙◌}
+use Rattle.std.proofs.Common.{◌≡◌, Bool, true, false, refl, ap, ◌∙◌}
 use Rattle.js_tree.specs.Alike.{same_but_keyword, without_keyword}
 use Rattle.js_tree.specs.Forest.{Forest, empty, tree, ◌⊹◌}
 use Rattle.js_tree.specs.Merged.{alike, alike_trees, has_alike, unlike, firsts}

@@ -1,9 +1,9 @@
 -- What trees give, and the first of those that are alike, with one tree more at the end.
-use Rattle.std.proofs.Common.{◌≡◌, ℕ, suc, ◌+◌, ◌<◌, Bool, true, false, ◌||◌, ◌&&◌, if◌then◌else◌, List, [], ◌∷◌, ◌++◌, length, take, get_or, refl, ap, sym, ◌∙◌, add-one}
+use Rattle.std.proofs.Common.{◌≡◌, ℕ, ◌+◌, ◌<◌, Bool, true, false, ◌||◌, if◌then◌else◌, List, [], ◌∷◌, ◌++◌, length, take, get_or, refl, ap, sym, ◌∙◌, add-one}
 use Rattle.std.proofs.Math.Seq.{take-suc}
 use Rattle.std.specs.Cmp.{IsEquivalence}
 use Rattle.js_tree.specs.Forest.{Forest, empty, tree, Rose, forest_of, ◌⊹◌}
-use Rattle.js_tree.specs.Step.{at_least_two, stands}
+use Rattle.js_tree.specs.Step.{stands}
 use Rattle.js_tree.specs.Merged.{alike_trees, has_alike, unlike, firsts, over, given_trees, merged_below}
 use Rattle.js_tree.proofs.Forests.{append-empty, append-append, forest_of-append}
 use Rattle.js_tree.proofs.AlikeTrees.{alike_trees-congr}

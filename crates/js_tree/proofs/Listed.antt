@@ -1,5 +1,5 @@
 -- What lists of trees by the places of their fingerprints tell: the latest of each place, and before each tree the one before it.
-use Rattle.std.proofs.Common.{◌≡◌, ℕ, zero, suc, ◌+◌, ◌≤◌, ◌<◌, ◌%◌, ◌==◌, Bool, true, false, ◌||◌, not, ◌⊎◌, inl, inr, subst, if◌then◌else◌, List, [], ◌∷◌, ◌++◌, length, take, drop, get_or, set, refl, ap, sym, ◌∙◌, length-set, arith, nat_eq}
+use Rattle.std.proofs.Common.{◌≡◌, ℕ, zero, suc, ◌+◌, ◌≤◌, ◌<◌, ◌%◌, ◌==◌, Bool, true, false, ◌||◌, ◌⊎◌, inl, inr, subst, if◌then◌else◌, List, [], ◌∷◌, ◌++◌, length, take, get_or, set, refl, ap, sym, ◌∙◌, length-set, arith, nat_eq}
 use Rattle.std.specs.Cmp.{unsigned_Decides}
 use Rattle.std.proofs.Math.Nat.{eq-or-lt_of_le}
 use Rattle.std.proofs.Math.Seq.{take-suc}
@@ -7,7 +7,7 @@ use Rattle.std.proofs.lemmas.List.{length-append}
 use Rattle.js_tree.proofs.Blocks.{take_front, take_take, long_take, get_taken, get_front, get_last, take_whole, get_set}
 use Rattle.js_tree.specs.Alike.{same_but_keyword}
 use Rattle.js_tree.specs.code.Fingerprint.{fingerprint, place_of, lifted, latest, AreListed}
-use Rattle.js_tree.specs.Forest.{Forest, empty, tree, forest_of, ◌⊹◌}
+use Rattle.js_tree.specs.Forest.{Forest, forest_of}
 use Rattle.js_tree.specs.Merged.{alike_trees, has_alike}
 use Rattle.js_tree.specs.OutputUnit.{OutputUnit}
 use Rattle.js_tree.specs.Result.{ResultTree}

@@ -1,15 +1,13 @@
 -- The laws of the third rule, said of result trees.
-use Rattle.std.proofs.Common.{◌≡◌, ◌<◌, ◌&&◌, Bool, true, refl, ap, sym, ◌∙◌, nat_eq}
-use Rattle.std.specs.Bool.{beq}
-use Rattle.std.specs.Cmp.Lexicographic.{pointwise}
-use Rattle.js_tree.specs.Alike.{same_note, same_but_keyword, without_keyword}
+use Rattle.std.proofs.Common.{◌≡◌, ◌<◌, true, refl, ap, sym, ◌∙◌}
+use Rattle.js_tree.specs.Alike.{same_but_keyword}
 use Rattle.js_tree.specs.Forest.{node_count}
 use Rattle.js_tree.specs.MergedResult.{merged, NormalOfThree, RunOfThree, StepOfThree}
 use Rattle.js_tree.specs.OutputUnit.{OutputUnit, noted}
 use Rattle.js_tree.specs.Result.{ResultTree}
 use Rattle.js_tree.proofs.AlikeUnits.{same_but_keyword_equiv, same_but_keyword_decides}
 use Rattle.js_tree.proofs.Forests.{same_tree}
-use Rattle.js_tree.proofs.MergedTree.{merge_step-merged_below, merge_run-merged_below, normal-merged_below, merged_below_is_reached, merged_below-merged_below, merge_step_leaves_fewer, merged_below_is_normal}
+use Rattle.js_tree.proofs.MergedTree.{merge_step-merged_below, merge_run-merged_below, normal-merged_below, merged_below_is_reached, merge_step_leaves_fewer, merged_below_is_normal}
 
 -- units that are the same but for their keyword locations have a note or have none
 pub same_notes : (u v : OutputUnit) → same_but_keyword u v ≡ true → noted u ≡ noted v

@@ -1,12 +1,12 @@
 -- The merged tree: a step of the three rules leaves it as it was, a tree that no step leaves is its own, and each tree is
 -- led to it.
-use Rattle.std.proofs.Common.{◌≡◌, ℕ, suc, ◌+◌, ◌≤◌, ◌<◌, Bool, true, false, ◌||◌, ◌&&◌, if◌then◌else◌, refl, ap, sym, ◌∙◌, arith}
+use Rattle.std.proofs.Common.{◌≡◌, suc, ◌≤◌, ◌<◌, Bool, true, false, ◌||◌, if◌then◌else◌, refl, ap, sym, ◌∙◌, arith}
 use Rattle.std.specs.Cmp.{IsEquivalence}
-use Rattle.js_tree.specs.Forest.{Forest, empty, tree, Rose, ◌⊹◌, node_count, tree_count}
+use Rattle.js_tree.specs.Forest.{Forest, empty, tree, ◌⊹◌, node_count, tree_count}
 use Rattle.js_tree.specs.Step.{at_least_two, ForestStep, dropped, lifted, inside, beside, stands}
-use Rattle.js_tree.specs.Merged.{alike, alike_trees, has_alike, unlike, firsts, over, given_trees, merged_below, merged_by, MergeStep, condensed, doubled, deeper, further, MergeRun, ended, then_on, MergeNormal}
-use Rattle.js_tree.proofs.AlikeTrees.{alike_equiv, alike_trees-refl, alike_trees-symm, alike_trees-congr}
-use Rattle.js_tree.proofs.Forests.{append-empty, append-append, same_tree}
+use Rattle.js_tree.specs.Merged.{alike, alike_trees, has_alike, unlike, firsts, over, given_trees, merged_below, MergeStep, condensed, doubled, deeper, further, MergeRun, ended, then_on, MergeNormal}
+use Rattle.js_tree.proofs.AlikeTrees.{alike_trees-refl, alike_trees-symm, alike_trees-congr}
+use Rattle.js_tree.proofs.Forests.{append-empty, append-append}
 use Rattle.js_tree.proofs.Giving.{given_trees-append}
 use Rattle.js_tree.proofs.Steps.{and_left, and_right, or_left, or_right, step_takes_one, normal-all_stand}
 

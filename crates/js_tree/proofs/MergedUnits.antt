@@ -2,8 +2,8 @@
 -- that is the same.
 use Rattle.std.proofs.Common.{◌≡◌, Bool, true, false, ◌||◌, ◌&&◌, if◌then◌else◌, List, [], ◌∷◌, ◌++◌, refl, ap, sym, ◌∙◌, append-nil}
 use Rattle.std.specs.Cmp.{IsEquivalence}
-use Rattle.std.specs.List.{list_all, list_any}
-use Rattle.js_tree.specs.Forest.{Forest, empty, tree, Rose, ◌⊹◌, tree_count}
+use Rattle.std.specs.List.{list_any}
+use Rattle.js_tree.specs.Forest.{Forest, empty, tree, Rose, tree_count}
 use Rattle.js_tree.specs.Step.{at_least_two, stands}
 use Rattle.js_tree.specs.Sublist.{Sublist, no_more, left_out, taken, none_lost}
 use Rattle.js_tree.specs.Units.{units_below, units_by}

@@ -5,7 +5,7 @@ use Rattle.std.proofs.Math.Seq.{take-suc}
 use Rattle.js_tree.specs.Forest.{Forest, empty, tree, Rose, ◌⊹◌, node_count}
 use Rattle.js_tree.specs.Step.{ForestStep, dropped, lifted, inside, beside, done, next, NormalForest, StepBelow, RunBelow}
 use Rattle.js_tree.specs.Kept.{kept_by}
-use Rattle.js_tree.specs.Merged.{has_alike, MergeStep, condensed, doubled, deeper, further, MergeRun, ended, then_on, MergeNormal, merged_by}
+use Rattle.js_tree.specs.Merged.{has_alike, MergeStep, condensed, doubled, deeper, further, MergeRun, ended, then_on}
 use Rattle.js_tree.specs.Moves.{mapped, chained, without_leaf, with_only_child, moved_at, moved_below_root, moved_by, replayed_by, without_alike, of_two, all_of_two}
 use Rattle.js_tree.specs.declared.moves.Rule.{Rule}
 use Rattle.js_tree.specs.declared.moves.Rule.TheVariants.{Drop, Lift, Merge}

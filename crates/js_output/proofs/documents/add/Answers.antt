@@ -1,6 +1,6 @@
 use Rattle.std.proofs.Common.{length}
 use Rattle.std.proofs.lemmas.Result.{err_from_is_err_and}
-use Rattle.js_output.proofs.Handed.{add_fails}
+use Rattle.js_output.proofs.BundleCauses.{add_fails}
 use Rattle.js_output.proofs.documents.add.Goals as goal
 
 pub returns-in_err-add-clause-err : goal.returns-in_err-add-clause-err

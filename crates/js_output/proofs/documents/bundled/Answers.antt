@@ -1,5 +1,5 @@
 use Rattle.std.proofs.lemmas.Result.{err_from_is_err_and}
-use Rattle.js_output.proofs.Handed.{one_taken, one_refused, taken_clear_all}
+use Rattle.js_output.proofs.BundleCauses.{one_taken, one_refused, taken_clear_all}
 use Rattle.js_output.proofs.documents.bundled.Goals as goal
 
 pub returns-in_err-add-clause-err : goal.returns-in_err-add-clause-err

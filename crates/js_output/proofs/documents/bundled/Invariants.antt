@@ -1,4 +1,4 @@
-use Rattle.js_output.proofs.Handed.{AreTaken}
+use Rattle.js_output.proofs.BundleCauses.{AreTaken}
 use Rattle.js_output.proofs.documents.bundled.Given as goal
 
 -- what is held and what is left are all, and what is left decides

@@ -1,7 +1,7 @@
 use Rattle.std.proofs.Common.{sym, subst}
 use Rattle.js_output.specs.Cause.{FailsBy}
 use Rattle.js_output.specs.Documents.{bundle_causes}
-use Rattle.js_output.proofs.Handed.{finish_clear, finish_fails}
+use Rattle.js_output.proofs.BundleCauses.{finish_clear, finish_fails}
 use Rattle.js_output.proofs.documents.finish_bundle.Goals as goal
 
 pub returns-in-Ok-clause-clear : goal.returns-in-Ok-clause-clear

@@ -1,6 +1,6 @@
-use Rattle.std.proofs.Common.{rules, ◌≡◌, ◌≤◌, ◌<◌, length, take, get_or, ℕ, suc, ◌-◌, ◌%◌, true, false, arith, sym, ap, ◌∙◌}
+use Rattle.std.proofs.Common.{rules, ◌≡◌, ◌≤◌, ◌<◌, length, take, get_or, suc, ◌-◌, ◌%◌, true, false, arith, sym, ap, ◌∙◌}
 use Rattle.js_tree.specs.Alike.{same_but_keyword}
-use Rattle.js_tree.specs.code.Fingerprint.{fingerprint, latest, place_of}
+use Rattle.js_tree.specs.code.Fingerprint.{fingerprint, latest}
 use Rattle.js_tree.specs.Forest.{forest_of}
 use Rattle.js_tree.specs.Merged.{has_alike, alike_trees}
 use Rattle.js_tree.proofs.Listed.{any_default, from_latest, step, found}

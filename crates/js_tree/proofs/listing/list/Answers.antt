@@ -1,5 +1,5 @@
-use Rattle.std.proofs.Common.{rules, ◌≡◌, ◌≤◌, ◌<◌, ◌+◌, length, take, get_or, suc, ◌%◌, arith, sym, ap, ◌∙◌, add-one}
-use Rattle.js_tree.specs.code.Fingerprint.{fingerprint, place_of}
+use Rattle.std.proofs.Common.{rules, ◌≡◌, ◌≤◌, ◌<◌, length, take, get_or, ◌%◌, arith, sym, ap, ◌∙◌, add-one}
+use Rattle.js_tree.specs.code.Fingerprint.{fingerprint}
 use Rattle.js_tree.proofs.Blocks.{long_take}
 use Rattle.js_tree.proofs.Listed.{any_default, one_more_listed}
 use Rattle.js_tree.proofs.listing.list.Goals as goal

@@ -1,5 +1,4 @@
-use Rattle.std.proofs.Common.{◌≡◌, ◌∙◌, sym, ap, length, arith, ◌++◌, take, drop, ◌+◌, ◌-◌, ◌≤◌, ◌<◌}
-use Rattle.std.proofs.lemmas.List.{drop-take, length-drop}
+use Rattle.std.proofs.Common.{◌≡◌, ◌∙◌, sym, ap, length, arith, take, drop, ◌+◌, ◌-◌, ◌≤◌, ◌<◌}
 use Rattle.js_tree.specs.Alike.{same_but_keyword}
 use Rattle.js_tree.specs.Forest.{forest_of, ◌⊹◌}
 use Rattle.js_tree.specs.Merged.{firsts}

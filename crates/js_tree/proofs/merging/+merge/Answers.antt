@@ -1,7 +1,7 @@
 use Rattle.std.proofs.Common.{◌≡◌, ◌∙◌, sym, ap, length, arith, take, drop, get_or, set, ◌+◌, ◌<◌, length-set}
 use Rattle.std.proofs.lemmas.List.{take-set-le, drop-set-lt, get_or-set_same}
 use Rattle.js_tree.specs.Alike.{same_but_keyword}
-use Rattle.js_tree.specs.Forest.{Rose, empty, tree as node, node_count, forest_of}
+use Rattle.js_tree.specs.Forest.{empty, tree as node, node_count, forest_of}
 use Rattle.js_tree.specs.Merged.{given_trees}
 use Rattle.js_tree.specs.OutputUnit.{noted}
 use Rattle.js_tree.proofs.Forests.{fewer_nodes, same_at, same_after}

@@ -1,4 +1,4 @@
-use Rattle.std.proofs.Common.{◌≡◌, ◌∙◌, ◌<◌, sym, length, arith, refl}
+use Rattle.std.proofs.Common.{◌∙◌, ◌<◌, sym, length, arith, refl}
 use Rattle.js_tree.specs.Alike.{same_but_keyword}
 use Rattle.js_tree.proofs.AlikeUnits.{some_tree}
 use Rattle.js_tree.proofs.MergedTest.{none_alike_step}

@@ -1,6 +1,5 @@
-use Rattle.std.proofs.Common.{◌≡◌, length, take, drop}
+use Rattle.std.proofs.Common.{◌≡◌, take, drop}
 use Rattle.js_tree.specs.Alike.{same_but_keyword}
-use Rattle.js_tree.specs.code.Fingerprint.{AreListed}
 use Rattle.js_tree.specs.Forest.{empty, forest_of}
 use Rattle.js_tree.specs.Merged.{none_alike}
 use Rattle.js_tree.proofs.merging.few_differ.Given as goal

@@ -1,4 +1,4 @@
-use Rattle.std.proofs.Common.{◌≡◌, ◌≤◌, length, take, drop}
+use Rattle.std.proofs.Common.{◌≡◌, ◌≤◌, take, drop}
 use Rattle.js_tree.specs.Alike.{same_but_keyword}
 use Rattle.js_tree.specs.Forest.{forest_of}
 use Rattle.js_tree.specs.Merged.{firsts}

@@ -1,4 +1,4 @@
-use Rattle.std.proofs.Common.{◌≡◌, ◌∙◌, true, false, sym, length, arith, [], ◌∷◌, ◌++◌, take, drop, get_or, ◌+◌, ◌<◌}
+use Rattle.std.proofs.Common.{◌≡◌, ◌∙◌, true, false, sym, length, arith, take, drop, get_or, ◌+◌, ◌<◌}
 use Rattle.js_tree.specs.Alike.{same_but_keyword}
 use Rattle.js_tree.specs.Forest.{forest_of}
 use Rattle.js_tree.specs.Merged.{has_alike}

@@ -1,7 +1,6 @@
-use Rattle.std.proofs.Common.{◌≡◌, ◌∙◌, ◌<◌, ◌≤◌, ◌+◌, ◌++◌, ◌∷◌, [], true, false, sym, ap, subst, length, take, get_or, arith, refl, add-one}
+use Rattle.std.proofs.Common.{◌≡◌, ◌∙◌, ◌<◌, ◌≤◌, true, false, sym, ap, length, take, get_or, arith, refl, add-one}
 use Rattle.std.proofs.Math.Seq.{take-suc}
 use Rattle.js_tree.specs.Alike.{same_but_keyword}
-use Rattle.js_tree.specs.code.Fingerprint.{AreListed}
 use Rattle.js_tree.specs.Forest.{forest_of}
 use Rattle.js_tree.specs.Merged.{has_alike}
 use Rattle.js_tree.proofs.AlikeUnits.{some_tree}

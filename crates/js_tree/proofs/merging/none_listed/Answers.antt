@@ -1,8 +1,5 @@
-use Rattle.std.proofs.Common.{◌≡◌, ◌∙◌, ◌+◌, sym, ap, drop, get_or, arith, refl}
+use Rattle.std.proofs.Common.{◌∙◌, sym, arith, refl}
 use Rattle.std.proofs.lemmas.List.{drop_more}
-use Rattle.js_tree.specs.Alike.{same_but_keyword}
-use Rattle.js_tree.specs.Forest.{forest_of}
-use Rattle.js_tree.specs.Merged.{has_alike, none_found}
 use Rattle.js_tree.proofs.AlikeUnits.{some_tree}
 use Rattle.js_tree.proofs.merging.none_listed.Goals as goal
 

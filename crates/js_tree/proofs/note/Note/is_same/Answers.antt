@@ -1,8 +1,7 @@
-use Rattle.std.proofs.Common.{◌≡◌, ◌∙◌, sym, ap, ap₂, map, nat_eq}
+use Rattle.std.proofs.Common.{◌∙◌, sym, ap₂, nat_eq}
 use Rattle.std.specs.Cmp.Lexicographic.{pointwise}
 use Rattle.std.specs.Cmp.Derive.Mapped.{pointwise-map}
 use Rattle.js_tree.specs.Alike.{same_note}
-use Rattle.js_tree.specs.Note.{names}
 use Rattle.js_tree.specs.Seen.{note_of}
 use Rattle.js_tree.proofs.note.Note.is_same.Goals as goal
 

@@ -2,8 +2,8 @@ use Rattle.std.proofs.Common.{◌≡◌, ◌++◌, drop, length, string_bytes, a
 use Rattle.js_doc.specs.Fragment.{fragment_text}
 use Rattle.js_bundle.specs.Location.{location}
 use Rattle.js_bundle.specs.code.Scan.{site_of}
-use Rattle.js_bundle.proofs.Further.{location_on}
-use Rattle.js_bundle.proofs.location.further.Goals as goal
+use Rattle.js_bundle.proofs.ExtendedLocation.{location_on}
+use Rattle.js_bundle.proofs.location.extended_location.Goals as goal
 
 pub returns : goal.returns
 returns c =

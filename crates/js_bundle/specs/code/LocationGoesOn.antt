@@ -11,5 +11,5 @@ has_depth_of before place = length before.own.resource == length place.own.resou
 abbrev pub is_beside : Site → Site → Bool
 is_beside before place = bytes_eq (canonical before) (canonical place) && has_depth_of before place
 
-abbrev pub goes_on : Site → Site → Bool
-goes_on before place = is_beside before place && begins_with place.pointer before.pointer
+abbrev pub location_goes_on : Site → Site → Bool
+location_goes_on before place = is_beside before place && begins_with place.pointer before.pointer
