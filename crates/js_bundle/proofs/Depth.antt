@@ -1,12 +1,12 @@
 -- Where documents aren't refused, none of their patterns nests too deep.
-use Rattle.std.proofs.Common.{◌≡◌, ℕ, List, [], ◌∷◌, ◌++◌, Bool, true, false, not, if◌then◌else◌, codes, bytes_eq, map, flat_map, option_to_list, refl, subst}
+use Rattle.std.proofs.Common.{◌≡◌, List, [], ◌∷◌, ◌++◌, Bool, true, false, not, if◌then◌else◌, codes, bytes_eq, map, flat_map, option_to_list, refl, subst}
 use Rattle.std.specs.List.{AllByRecursion}
 use Rattle.js_doc.specs.Pointer.{Tokens}
 use Rattle.js_doc.specs.Value.{Value, null, truth, whole, text, list, object}
 use Rattle.js_assert.specs.Form as assertion
 use Rattle.js_assert.specs.Pattern.{is_in_grammar, nests_too_deep}
 use Rattle.js_bundle.specs.declared.refusal.RefusalKind.TheVariants.{BadKeyword}
-use Rattle.js_bundle.specs.Candidate.{Candidate, IsClear}
+use Rattle.js_bundle.specs.Candidate.{IsClear}
 use Rattle.js_bundle.specs.Depth.{patterns_held, IsShallow, AreShallow, HasShallow, NoneTooDeep}
 use Rattle.js_bundle.specs.Document.{Documents}
 use Rattle.js_bundle.specs.Form.{is_formed}

@@ -1,5 +1,5 @@
 -- The location of a place below another one in the same resource goes on from that of the other.
-use Rattle.std.proofs.Common.{◌≡◌, ℕ, ◌≤◌, List, [], ◌∷◌, ◌++◌, Bool, true, ◌&&◌, ◌==◌, bytes_eq, nat_le, codes, drop, length, refl, sym, ap, ◌∙◌, subst, append_assoc}
+use Rattle.std.proofs.Common.{◌≡◌, ℕ, ◌≤◌, List, [], ◌++◌, true, ◌==◌, bytes_eq, nat_le, codes, drop, length, sym, ap, ◌∙◌, append_assoc}
 use Rattle.std.proofs.lemmas.Bool.{and_parts, eqb-true, leb-true}
 use Rattle.std.proofs.lemmas.List.{append-nil, drop-append-le}
 use Rattle.js_doc.specs.Fragment.{fragment_text}

@@ -1,5 +1,5 @@
 -- What an edge leads to stands there, and nothing else does.
-use Rattle.std.proofs.Common.{◌≡◌, ℕ, zero, suc, ◌<◌, List, [], ◌∷◌, ◌++◌, map, length, drop, get_or, inl, inr, ◌⊎◌, Bool, true, false, ◌&&◌, ◌==◌, Option, Some, None, option_map, slice_get, refl, sym, ap, ◌∙◌, subst}
+use Rattle.std.proofs.Common.{◌≡◌, ℕ, zero, suc, List, [], ◌∷◌, ◌++◌, map, length, drop, inl, inr, ◌⊎◌, Bool, true, false, ◌&&◌, ◌==◌, Option, Some, None, option_map, slice_get, refl, sym, ap, ◌∙◌, subst}
 use Rattle.std.specs.List.{list_all, position_from}
 use Rattle.std.specs.Option.{option_map_or}
 use Rattle.std.specs.Str.{bytes_eq}
@@ -12,8 +12,8 @@ use Rattle.js_bundle.specs.declared.whole_check.Spot as rust
 use Rattle.js_bundle.specs.Document.{Documents}
 use Rattle.js_bundle.specs.code.Edges.{begins_with, is_below, leads_down, edges_under, LeadDown, goes_by, AreAlone}
 use Rattle.js_bundle.specs.Keyword.{Text}
-use Rattle.js_bundle.specs.Names.{same_tokens, stands_at}
-use Rattle.js_bundle.specs.Resource.{Site, sites}
+use Rattle.js_bundle.specs.Names.{same_tokens}
+use Rattle.js_bundle.specs.Resource.{sites}
 use Rattle.js_bundle.specs.Schemas.{Step, step_tokens, place_at}
 use Rattle.js_bundle.specs.Seen.{AreRead}
 use Rattle.js_bundle.specs.code.Spot.{Spot, spot, spot_of, stands_below}

@@ -1,5 +1,5 @@
 -- Where documents aren't refused, a URI names at most one place.
-use Rattle.std.proofs.Common.{◌≡◌, ℕ, zero, suc, ◌+◌, ◌<◌, List, [], ◌∷◌, ◌++◌, length, Bool, true, false, not, ◌&&◌, ◌||◌, ◌==◌, nat_lt, nat_le, ◌⊎◌, inl, inr, codes, bytes_eq, if◌then◌else◌, cond, Ok, Err, Option, Some, None, option_map, option_and_then, is_some, slice_get, take, refl, sym, ap, ◌∙◌, subst, append_assoc, arith}
+use Rattle.std.proofs.Common.{◌≡◌, ℕ, zero, suc, ◌<◌, List, [], ◌∷◌, ◌++◌, length, Bool, true, false, not, ◌&&◌, ◌||◌, ◌==◌, nat_lt, nat_le, ◌⊎◌, inl, inr, codes, bytes_eq, if◌then◌else◌, Ok, Err, Option, Some, None, option_map, option_and_then, is_some, slice_get, take, refl, sym, ap, ◌∙◌, subst, append_assoc, arith}
 use Rattle.std.specs.List.{flat_map, list_any, position_from}
 use Rattle.std.specs.Option.{option_map_or}
 use Rattle.std.proofs.lemmas.Bool.{and_parts, eqb-true}
@@ -9,17 +9,17 @@ use Rattle.url.specs.Parser.{Parsed, parse_url}
 use Rattle.js_doc.specs.Pointer.{Tokens}
 use Rattle.js_doc.specs.PointerReading.{pointer_of}
 use Rattle.js_doc.specs.Value.{Value, null, truth, whole, text, list, object}
-use Rattle.js_doc.proofs.Named.{is_text-refl, is_text-sound}
+use Rattle.js_doc.proofs.Named.{is_text-sound}
 use Rattle.js_bundle.specs.declared.refusal.RefusalKind.TheVariants.{BadAnchor, BadId, BadKeyword, DuplicateAnchor, DuplicateUri, NotASchema, TooManyPlaces, UriTooLong}
 use Rattle.js_bundle.specs.Candidate.{IsClear}
 use Rattle.js_bundle.specs.Document.{Documents}
 use Rattle.js_bundle.specs.Form.{is_formed, is_schema}
-use Rattle.js_bundle.specs.Keyword.{Text, keywords, argument, as_text, text_argument}
+use Rattle.js_bundle.specs.Keyword.{Text, keywords, argument, as_text}
 use Rattle.js_bundle.specs.NameLaws.{AreOne}
-use Rattle.js_bundle.specs.Names.{same_tokens, is_root, known_as, is_known_as, root_named, stands_at, belongs_to, makes, by_pointer, by_anchor, by_dynamic_anchor, is_pointer, is_named_by, names, is_name}
+use Rattle.js_bundle.specs.Names.{same_tokens, is_root, is_known_as, root_named, stands_at, belongs_to, makes, by_pointer, by_anchor, by_dynamic_anchor, is_pointer, is_named_by, names, is_name}
 use Rattle.js_bundle.specs.Place.{Place, places_from}
-use Rattle.js_bundle.specs.Refusals.{when, decided, is_empty, is_taken, is_made, on_text, text_rules, name_rules, assertion_rules, at_joined_id, at_id, at_anchor, at_place, at_member, at_site, first_pass, second_pass, candidates, most_places}
-use Rattle.js_bundle.specs.Resource.{Site, site, sites, joined, identified_by, identified, scope_or, scope_above}
+use Rattle.js_bundle.specs.Refusals.{when, decided, is_empty, is_taken, is_made, text_rules, name_rules, assertion_rules, at_joined_id, at_id, at_place, at_member, at_site, first_pass, second_pass, candidates, most_places}
+use Rattle.js_bundle.specs.Resource.{Site, site, sites, joined, identified_by, identified, scope_or}
 use Rattle.js_bundle.specs.Seen.{AreRead}
 use Rattle.js_bundle.specs.Url.{longest_uri, without_fragment, printed, raw_fragment, fragment, parsed}
 use Rattle.js_bundle.proofs.Distinct.{at_place as standing_at, number_of, tokens-sound}

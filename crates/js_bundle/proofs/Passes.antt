@@ -1,5 +1,5 @@
 -- A pass over the places, one place more.
-use Rattle.std.proofs.Common.{◌≡◌, ℕ, ◌+◌, ◌<◌, List, [], ◌∷◌, ◌++◌, map, take, drop, get_or, length, sym, ap, ap₂, ◌∙◌, subst, append_assoc, codes, Bool, true, false, is_none, inl, Ok, Option, Some, None, option_map, arith}
+use Rattle.std.proofs.Common.{◌≡◌, ℕ, ◌+◌, ◌<◌, List, [], ◌∷◌, ◌++◌, map, take, drop, get_or, length, sym, ap, ap₂, ◌∙◌, subst, append_assoc, codes, Bool, true, false, is_none, inl, Ok, Option, Some, None, option_map}
 use Rattle.std.specs.List.{flat_map}
 use Rattle.std.proofs.lemmas.List.{take_more, drop_more, map-append}
 use Rattle.js_bundle.specs.declared.scan.Site as rust

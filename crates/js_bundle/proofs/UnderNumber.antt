@@ -1,8 +1,7 @@
 -- What is kept under a place's number.
-use Rattle.std.proofs.Common.{◌≡◌, ℕ, List, map, Bool, true, Option, Some, None, option_map, option_and_then, is_some, slice_get, find, bytes_eq, codes, false, refl, sym, ap, ◌∙◌, subst}
+use Rattle.std.proofs.Common.{◌≡◌, ℕ, List, map, true, Option, Some, None, option_map, option_and_then, is_some, slice_get, find, bytes_eq, codes, false, refl, sym, ap, ◌∙◌, subst}
 use Rattle.std.specs.Option.{option_map_or}
 use Rattle.std.proofs.lemmas.Option.{slice_get-map}
-use Rattle.js_bundle.specs.declared.assertions_and_patterns.Built.{Built}
 use Rattle.js_bundle.specs.declared.assertions_and_patterns.BuiltAssertion.{BuiltAssertion}
 use Rattle.js_bundle.specs.declared.assertions_and_patterns.BuiltPattern.{BuiltPattern}
 use Rattle.js_bundle.specs.AssertionsAndPatterns.{assertions_at, patterns_at}
@@ -12,10 +11,9 @@ use Rattle.js_bundle.specs.Finding.{number_of_target, under_number}
 use Rattle.js_bundle.specs.Keyword.{Text, has}
 use Rattle.js_bundle.specs.Refusals.{candidates}
 use Rattle.js_bundle.specs.Resource.{Site, sites}
-use Rattle.js_bundle.specs.Schemas.{is_place, place_at, has_keyword, assertion, pattern, StandsFor}
+use Rattle.js_bundle.specs.Schemas.{place_at, has_keyword, assertion, pattern, StandsFor}
 use Rattle.js_bundle.specs.Seen.{AreRead}
 use Rattle.js_bundle.specs.Target.{target}
-use Rattle.js_bundle.proofs.Kept.{kept_of}
 use Rattle.js_bundle.proofs.Numbers.{assertion_found, pattern_found}
 use Rattle.js_bundle.proofs.Standing.{standing}
 use Rattle.js_bundle.proofs.Targets.{target_there, number_is_target}

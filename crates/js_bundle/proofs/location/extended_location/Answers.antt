@@ -1,4 +1,4 @@
-use Rattle.std.proofs.Common.{◌≡◌, ◌++◌, drop, length, string_bytes, ap, ◌∙◌}
+use Rattle.std.proofs.Common.{◌++◌, drop, length, ap, ◌∙◌}
 use Rattle.js_doc.specs.Fragment.{fragment_text}
 use Rattle.js_bundle.specs.Location.{location}
 use Rattle.js_bundle.specs.code.Scan.{site_of}

@@ -1,4 +1,4 @@
-use Rattle.std.proofs.Common.{[], ◌∷◌, ◌++◌, map, refl, ap, ◌∙◌}
+use Rattle.std.proofs.Common.{[], ◌∷◌, map, refl, ap, ◌∙◌}
 use Rattle.std.proofs.lemmas.List.{map-append}
 use Rattle.std.proofs.lemmas.Slice.{pushed}
 use Rattle.js_bundle.specs.Resource.{sites}
