@@ -8,7 +8,7 @@ ghost use Rattle.js_output.specs.declared.fault.Fault.{Fault};
 ghost use Rattle.js_cli.specs.Words.{places, pairs_seen, request_of, request_seen, usage_line, words_of};
 ghost use Rattle.js_cli.specs.declared.words.Misuse.{Misuse};
 ghost use Rattle.js_cli.specs.declared.words.Task.{Task};
-ghost use Rattle.js_cli.specs.Answer.{RequestOutcome, WordsOutcome, Performs, IsTold, IsPartlyTold, all_passed};
+ghost use Rattle.js_cli.specs.Answer.{RequestOutcome, WordsOutcome, Performs, IsTold, IsPartlyTold, IsReason, all_passed};
 ghost use Rattle.js_cli.specs.Status.{fault_status, misuse_status};
 
 use crate::documents::{handed_in, take_all};
@@ -82,8 +82,9 @@ pub fn command<'a, F: Files, R: Read, W: Write, V: Write>(
         (R.remaining input.old.device))
         (W.contents out.old.device) (W.contents out.new.device) }
 
-    // What is told of anything else, or a beginning of it. A write that failed, the last flush
-    // included, is told only where there is a text to write, and so never in a refusal's place.
+    // What is told of anything else, or a beginning of it, and why: with 3 a refusal that comes of
+    // what the words ask for, by what the files and the input hold; with 4 memory or a read that
+    // failed, or a write, the last flush included, after a beginning of an output.
     ensures quiet { result < 2 → faults.new ≡ faults.old }
     ensures misused { OnErr (request_of (words_of words.entry.now)) ((result ≡ 2) ⊎ ((result ≡ 4)
         × AppendsBeginning (V.contents faults.old.device) (V.contents faults.new.device)
@@ -92,12 +93,11 @@ pub fn command<'a, F: Files, R: Read, W: Write, V: Write>(
         × AppendsBeginning (V.contents faults.old.device) (V.contents faults.new.device)
         (usage_line m) }
     ensures told { 2 < result → (fault : Fault) × (fault_status fault ≡ result)
-        × AppendsBeginning (V.contents faults.old.device) (V.contents faults.new.device)
-        (fault_line fault ++ 10 ∷ [])
-        × (fault ≡ Fault.Write → IsPartlyTold
-        (WordsOutcome (words_of words.entry.now) (F.held files.old)
+        × IsReason (WordsOutcome (words_of words.entry.now) (F.held files.old)
         (R.remaining input.old.device))
-        (W.contents out.old.device) (W.contents out.new.device)) }
+        (W.contents out.old.device) (W.contents out.new.device) fault
+        × AppendsBeginning (V.contents faults.old.device) (V.contents faults.new.device)
+        (fault_line fault ++ 10 ∷ []) }
 {
     let task = match task_of(alloc, words) {
         Ok(task) => task,
@@ -132,10 +132,10 @@ fn perform_whole<F: Files, R: Read, W: Write>(
     ensures whole { OnOk result (out.new.failed ≡ false) }
     ensures nothing { IfErr result (λ e. e ≢ Fault.Write
         → Keeps (W.contents out.old.device) (W.contents out.new.device)) }
-    ensures beginning { IsErrOf result Fault.Write → IsPartlyTold
+    ensures reason { IfErr result (IsReason
         (RequestOutcome (F.held files.old) (R.remaining input.old.device)
         (request_seen task.entry))
-        (W.contents out.old.device) (W.contents out.new.device) }
+        (W.contents out.old.device) (W.contents out.new.device)) }
 {
     let answer = perform(alloc, task, files, input, out);
     let flushed = out.flush();

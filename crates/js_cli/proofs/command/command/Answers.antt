@@ -1,7 +1,7 @@
 use Rattle.std.proofs.Common.{sym}
 use Rattle.js_output.specs.declared.fault.Fault.TheVariants as fault
 use Rattle.js_cli.specs.Words.{request_of, request_seen, words_of}
-use Rattle.js_cli.proofs.Telling.{begun_or_kept, begun_write, misuse_ends, misuse_told}
+use Rattle.js_cli.proofs.Telling.{begun_or_kept, words_reason, misuse_ends, misuse_told}
 use Rattle.js_cli.proofs.command.command.Goals as goal
 
 pub returns-in-Err-clause-misused : goal.returns-in-Err-clause-misused
@@ -11,17 +11,18 @@ returns-in-Err-clause-misused g c =
 pub returns-in-Err-clause-told : goal.returns-in-Err-clause-told
 returns-in-Err-clause-told g c above =
     let failed = misuse_told c.in-Err.misuse c.tell_misuse-status.result c.tell_misuse-status.ensures.status above in
-    (fault.Memory, sym failed, c.tell_misuse-status.ensures.told failed, λ e. absurd (cc))
+    (fault.Memory, sym failed, tt, c.tell_misuse-status.ensures.told failed)
 
 pub returns-in-Err-perform_whole-clause-beginning : goal.returns-in-Err-perform_whole-clause-beginning
 returns-in-Err-perform_whole-clause-beginning g c failed =
     begun_or_kept (words_of c.args.words.now) (g.F.Files.held c.args.files.now) (g.R.Read.remaining c.args.input.now.device) (request_seen c.in-Ok.task)
     (g.W.Write.contents c.args.out.now.device) (g.W.Write.contents c.perform_whole.new.out.device)
-    c.in-Err-perform_whole.fault c.in-Ok.ensures.ok c.in-Err-perform_whole.ensures.nothing c.in-Err-perform_whole.ensures.beginning
+    c.in-Err-perform_whole.fault c.in-Ok.ensures.ok c.in-Err-perform_whole.ensures.nothing c.in-Err-perform_whole.ensures.reason
 
 pub returns-in-Err-perform_whole-clause-told : goal.returns-in-Err-perform_whole-clause-told
 returns-in-Err-perform_whole-clause-told g c above =
-    (c.in-Err-perform_whole.fault, sym c.status_of.ensures, c.tell.ensures,
-    begun_write (words_of c.args.words.now) (g.F.Files.held c.args.files.now) (g.R.Read.remaining c.args.input.now.device) (request_seen c.in-Ok.task)
+    let fault = c.in-Err-perform_whole.fault in
+    let reason = words_reason (words_of c.args.words.now) (g.F.Files.held c.args.files.now) (g.R.Read.remaining c.args.input.now.device) (request_seen c.in-Ok.task)
     (g.W.Write.contents c.args.out.now.device) (g.W.Write.contents c.perform_whole.new.out.device)
-    c.in-Err-perform_whole.fault c.in-Ok.ensures.ok c.in-Err-perform_whole.ensures.beginning)
+    fault c.in-Ok.ensures.ok c.in-Err-perform_whole.ensures.reason in
+    (fault, sym c.status_of.ensures, reason, c.tell.ensures)

@@ -1,8 +1,8 @@
-use Rattle.js_cli.proofs.Telling.{whole_begins}
+use Rattle.js_cli.specs.Answer.{RequestOutcome}
+use Rattle.js_cli.specs.Words.{request_seen}
+use Rattle.js_cli.proofs.Telling.{reason_of_flush}
 use Rattle.js_cli.proofs.command.perform_whole.Goals as goal
 
 -- all went out, and then the flush failed
-pub returns-in_err-flushed-clause-beginning : goal.returns-in_err-flushed-clause-beginning
-returns-in_err-flushed-clause-beginning g c failed =
-    let (output, h, is, sent) = c.in_ok-valid.ensures.answer in
-    (output, h, whole_begins _ _ _ output.text sent.0 c.flush-flushed.ensures.bytes)
+pub returns-in_err-flushed-clause-reason : goal.returns-in_err-flushed-clause-reason
+returns-in_err-flushed-clause-reason g c = _
