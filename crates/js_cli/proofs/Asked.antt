@@ -1,8 +1,8 @@
 -- What `clap` reads of all words.
-use Rattle.std.proofs.Common.{◌≡◌, ◌∙◌, ℕ, List, [], ◌∷◌, ◌++◌, Bool, true, false, is_some, Option, Some, None, Result, Ok, Err, codes, bytes_eq, refl, sym, ap, ap₂, subst, subst₂, append_assoc, append-nil, fold, if◌then◌else◌, length, ◌<◌, ◌⊎◌, inl, inr, arith, Bor}
+use Rattle.std.proofs.Common.{◌≡◌, ◌∙◌, ℕ, List, [], ◌∷◌, ◌++◌, Bool, true, false, is_some, Option, Some, None, Result, Err, codes, bytes_eq, refl, sym, ap, ap₂, subst, subst₂, append_assoc, append-nil, fold, if◌then◌else◌, length, ◌<◌, ◌⊎◌, inl, inr, arith, Bor}
 use Rattle.std.proofs.lemmas.List.{length-map}
-use Rattle.clap.specs.Walk.{Text, Names, Row, Held, Walk, idle, arg_by_long, arg_by_short, walk, walk_from, walked, walked_from, nothing_held, subcommand_met, word_met, Step, value}
-use Rattle.clap.specs.Simple.{App, Shape, built, names_of, entered, subcommand_of}
+use Rattle.clap.specs.Walk.{Text, Names, Row, Held, Walk, idle, arg_by_long, arg_by_short, walk_from, walked, nothing_held, subcommand_met, word_met, Step, value}
+use Rattle.clap.specs.Simple.{App, built, names_of, entered, subcommand_of}
 use Rattle.clap.specs.Kinds.{Kinds, or_else}
 use Rattle.clap.specs.Faults.{walk_fault, entered_fault, level_fault, fault_of, settle_fault, defaults_fault, check_fault, turn_fault, word_fault, step_fault}
 use Rattle.clap.specs.Walk.{settled, finished}
@@ -17,9 +17,9 @@ use Rattle.clap.specs.declared.error.kind.ErrorKind.{ErrorKind}
 use Rattle.clap.specs.declared.error.kind.ErrorKind.TheVariants as kind
 use Rattle.js_cli.specs.declared.words.Misuse.{Misuse}
 use Rattle.js_cli.specs.declared.words.Misuse.TheVariants as misuse
-use Rattle.js_cli.proofs.PlainWords.{IsFault, plain_met, plain_faults, flag_faults}
+use Rattle.js_cli.proofs.PlainWords.{IsFault, plain_met, flag_faults}
 use Rattle.js_cli.proofs.Walking.{fault_before, fault_after}
-use Rattle.js_cli.proofs.Levels.{IsShort, level, level_read, read_fault, check_read, suite_read, places_read}
+use Rattle.js_cli.proofs.Levels.{IsShort, level, read_fault, check_read, suite_read, places_read}
 
 abbrev all : App
 all = built grammar

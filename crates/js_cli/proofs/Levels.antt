@@ -1,9 +1,9 @@
 -- What `clap` reads of the words of each subcommand.
-use Rattle.std.proofs.Common.{◌≡◌, ◌∙◌, ◌≤◌, ℕ, List, [], ◌∷◌, ◌++◌, length, Bool, true, false, nat_lt, Option, Some, None, Result, Ok, Err, find, unwrap_or, option_map, if◌then◌else◌, bytes_eq, codes, refl, sym, ap, ap₂, subst, append_assoc, append-nil, fold, arith}
+use Rattle.std.proofs.Common.{◌≡◌, ◌∙◌, ◌≤◌, ℕ, List, [], ◌∷◌, ◌++◌, length, Bool, true, false, nat_lt, Option, Some, None, Result, Err, find, unwrap_or, option_map, if◌then◌else◌, bytes_eq, codes, refl, sym, ap, ap₂, append_assoc, append-nil, fold, arith}
 use Rattle.clap.specs.Lexer.{usize_max}
-use Rattle.clap.specs.Walk.{Text, Row, Rule, Held, Walk, positional, value, arg_by_long, arg_by_short, arg_by_index, walk, walk_from, nothing_held, settled, finished, rows_after, answers_to}
-use Rattle.clap.specs.Simple.{App, Shape, built, label_of, filled, with_index}
-use Rattle.clap.specs.Kinds.{Kinds, or_else, range_kinds, values_kinds}
+use Rattle.clap.specs.Walk.{Text, Row, Rule, Held, Walk, positional, value, arg_by_long, arg_by_short, arg_by_index, walk_from, nothing_held, settled, finished, rows_after, answers_to}
+use Rattle.clap.specs.Simple.{Shape, built, label_of, filled, with_index}
+use Rattle.clap.specs.Kinds.{Kinds, or_else, values_kinds}
 use Rattle.clap.specs.Faults.{step_fault, settle_fault, defaults_fault, check_fault, level_fault, walk_fault}
 use Rattle.clap.specs.declared.builder.value_parser.ValueParser.TheVariants as parser
 use Rattle.clap.specs.declared.builder.value_parser.Reading.TheVariants.{AsWritten}
@@ -16,7 +16,7 @@ use Rattle.js_cli.specs.Found.{read_by}
 use Rattle.js_cli.specs.declared.words.Misuse.{Misuse}
 use Rattle.js_cli.specs.declared.words.Misuse.TheVariants as misuse
 use Rattle.js_cli.proofs.PlainWords.{IsFault}
-use Rattle.js_cli.proofs.Walking.{IsOpen, IsFixed, AreFixed, Reads, taken, taken_fault, reads, fixed_at, fault_before}
+use Rattle.js_cli.proofs.Walking.{IsOpen, IsFixed, Reads, taken, taken_fault, reads, fixed_at, fault_before}
 
 -- not more words than a slice may have
 abbrev pub IsShort : List Text → Type 0

@@ -1,5 +1,5 @@
 -- Words two by two.
-use Rattle.std.proofs.Common.{◌≡◌, ℕ, ◌+◌, ◌%◌, ◌<◌, ◌≤◌, List, [], ◌∷◌, ◌++◌, length, get_or, drop, Bool, true, false, Option, Some, None, unwrap_or, refl, sym, ap, ap₂, ◌∙◌, arith, codes, append_assoc, Bor}
+use Rattle.std.proofs.Common.{◌≡◌, ℕ, ◌+◌, ◌<◌, ◌≤◌, List, [], ◌∷◌, ◌++◌, length, get_or, drop, Option, Some, None, unwrap_or, refl, sym, ap, ap₂, ◌∙◌, arith, codes, append_assoc, Bor}
 use Rattle.std.proofs.lemmas.List.{append-nil, drop_all, drop_more}
 use Rattle.clap.specs.Words.{Row, Text, all_of}
 use Rattle.js_cli.specs.Words.{Pairs, pairs_after, pairs_in, words_of}

@@ -1,7 +1,7 @@
 -- What `clap` makes of one word, where no subcommand is named and no option is known.
-use Rattle.std.proofs.Common.{◌≡◌, ◌∙◌, ◌+◌, ℕ, zero, suc, List, [], ◌∷◌, length, Bool, true, false, not, ◌&&◌, ◌||◌, Option, Some, None, is_some, nat_lt, ◌==◌, if◌then◌else◌, slice_get, drop, refl, sym, ap, ap₂, subst, chars, bytes_eq, option_and_then, eqb-true, arith, encode_utf8, ◌⊎◌, inl, inr, true≢false}
-use Rattle.clap.specs.Lexer.{strip_byte, long_of, short_of, long_of_rest, short_of_rest, name_and_value}
-use Rattle.clap.specs.Walk.{Text, Rule, Held, Names, Waiting, idle, option, positional, value, arg_by_long, arg_by_short, arg_by_index, subcommand_met, word_met, plain_word}
+use Rattle.std.proofs.Common.{◌≡◌, ◌∙◌, ℕ, List, [], ◌∷◌, Bool, true, false, ◌&&◌, Option, Some, None, ◌==◌, refl, sym, ap, ap₂, subst, chars, bytes_eq, eqb-true, ◌⊎◌, inl, inr, true≢false}
+use Rattle.clap.specs.Lexer.{long_of, short_of, name_and_value}
+use Rattle.clap.specs.Walk.{Text, Rule, Held, Names, Waiting, idle, option, positional, value, arg_by_long, arg_by_short, subcommand_met, word_met, plain_word}
 use Rattle.clap.specs.Simple.{Shape}
 use Rattle.clap.specs.Kinds.{Kinds}
 use Rattle.clap.specs.Faults.{word_fault}

@@ -1,5 +1,5 @@
 -- What the program answers, by where it stops.
-use Rattle.std.proofs.Common.{◌≡◌, ◌≤◌, ◌+◌, ℕ, List, [], ◌++◌, length, Option, Some, None, Result, Ok, Err, OnErr, Bool, true, ◌⊎◌, inl, inr, refl, sym, ap, subst, arith, ◌<◌}
+use Rattle.std.proofs.Common.{◌≡◌, ℕ, List, [], Option, Some, None, Result, Ok, Err, OnErr, Bool, true, ◌⊎◌, inl, inr, refl, sym, ap, subst, arith, ◌<◌}
 use Rattle.std.proofs.KnownBytes.{Appends-kept}
 use Rattle.std.proofs.lemmas.List.{append-nil}
 use Rattle.std.specs.Io.KnownBytes.{Appends, Keeps}
@@ -7,8 +7,8 @@ use Rattle.js_output.specs.Cause.{MayGoOn}
 use Rattle.js_output.specs.Device.{Tracked, IsLeft, AppendsBeginning, Sends, SendsBeginning}
 use Rattle.js_output.specs.Documents.{DocumentTexts, documents_causes}
 use Rattle.js_output.specs.Input.{IsInputFault}
-use Rattle.js_output.specs.Outcome.{Output, Outcome, PairOutcome, telling_output, beginning_causes}
-use Rattle.js_output.specs.Places.{TellsPlaces, places_of, places_text}
+use Rattle.js_output.specs.Outcome.{Output, Outcome, telling_output, beginning_causes}
+use Rattle.js_output.specs.Places.{TellsPlaces, places_text}
 use Rattle.js_output.specs.Suite.{SuiteOutcome, telling_lines}
 use Rattle.js_output.specs.SuiteLines.{counts_of, lines_text}
 use Rattle.js_output.specs.Telling.{Answers}
@@ -16,11 +16,11 @@ use Rattle.js_output.specs.declared.suite_lines.Counts.{Counts}
 use Rattle.js_output.specs.declared.fault.Fault.{Fault}
 use Rattle.js_output.specs.declared.fault.Fault.TheVariants as fault
 use Rattle.js_tree.specs.declared.forms.Format.{Format}
-use Rattle.js_cli.specs.Answer.{HeldByPath, AreHeld, PlacesOutcome, RequestOutcome, all_passed, suite_output, WordsOutcome, Performs, IsPartlyTold, IsReason}
+use Rattle.js_cli.specs.Answer.{HeldByPath, AreHeld, RequestOutcome, all_passed, suite_output, WordsOutcome, Performs, IsPartlyTold, IsReason}
 use Rattle.js_cli.specs.Status.{misuse_status}
 use Rattle.js_cli.specs.declared.words.Misuse.{Misuse}
 use Rattle.js_cli.specs.declared.words.Misuse.TheVariants as misuse
-use Rattle.js_cli.specs.Words.{Pairs, Request, pair, check, suite, places, request_of}
+use Rattle.js_cli.specs.Words.{Pairs, Request, check, suite, places, request_of}
 
 -- a file isn't read
 pub performs-fault : {D : Type 0} (P : Result Output Fault → Type 0) (taken : D → Option (List ℕ)) (old new : Tracked D) (e : Fault)
@@ -64,16 +64,6 @@ module _ (words : List (List ℕ)) (held : HeldByPath) (input : Option (List ℕ
   words_reason fault.Read asks reason = tt
   words_reason fault.Write asks (output, h, out) = (output, (request, asks, h), out)
   words_reason _ asks reason = (request, asks, reason)
-
--- ---- a pair
-
-pub pair_told : {D : Type 0} (held : HeldByPath) (input : Option (List ℕ)) (taken : D → Option (List ℕ)) (old new : Tracked D) (answer : Result Bool Fault)
-    → Answers telling_output PairOutcome [] input taken old new answer → Performs (RequestOutcome held input pair) taken old new answer
-pair_told held input taken old new (Ok valid) (read, is, (output, h, same, sent)) = (output, (read, is, h), same, sent)
-pair_told held input taken old new (Err fault.Memory) h = tt
-pair_told held input taken old new (Err fault.Read) h = tt
-pair_told held input taken old new (Err fault.Write) (read, is, (output, h, begun)) = (output, (read, is, h), begun)
-pair_told held input taken old new (Err _) (read, is, h) = (read, is, h)
 
 -- ---- a check, and places
 
