@@ -1,7 +1,8 @@
 //! The words that the program takes, as `clap` is told of them.
 ghost use Rattle.std.specs.Prelude.{◌≡◌, false, IfOk};
 ghost use Rattle.clap.specs.Words.{app_of, rule_of};
-ghost use Rattle.js_cli.specs.Grammar.{word_argument, pairs_argument, grammar};
+ghost use Rattle.clap.specs.declared.builder.command.Command.TheViews.{out-Command as fields_of};
+ghost use Rattle.js_cli.specs.Grammar.{word_argument, pairs_argument, check_command, suite_command, places_command, grammar};
 
 use clap::{Arg, ArgAction, Command};
 use std::alloc::{AllocError, Global};
@@ -10,24 +11,42 @@ use std::alloc::{AllocError, Global};
 pub(crate) fn grammar<'a>(alloc: Global) -> Result<Command<'a>, AllocError>
     ensures { IfOk result (λ c. app_of c ≡ grammar) }
 {
-    let check = Command::new(alloc, "check")
-        .arg(word_argument(alloc, "FORMAT"))?
-        .arg(word_argument(alloc, "INSTANCE"))?
-        .arg(word_argument(alloc, "ENTRY"))?
-        .arg(pairs_argument(alloc))?;
-    let suite = Command::new(alloc, "suite")
-        .arg(word_argument(alloc, "SUITE"))?
-        .arg(pairs_argument(alloc))?;
-    let places = Command::new(alloc, "places").arg(pairs_argument(alloc))?;
     Command::new(alloc, "jschema")
         .no_binary_name(true)
         .disable_help_flag(true)
         .disable_version_flag(true)
         .disable_help_subcommand(true)
         .subcommand_required(true)
-        .subcommand(check)?
-        .subcommand(suite)?
-        .subcommand(places)
+        .subcommand(check_command(alloc)?)?
+        .subcommand(suite_command(alloc)?)?
+        .subcommand(places_command(alloc)?)
+}
+
+fn check_command<'a>(alloc: Global) -> Result<Command<'a>, AllocError>
+    ensures shape { IfOk result (λ c. app_of c ≡ check_command) }
+    ensures local { IfOk result (λ c. (fields_of c).has_globals ≡ false) }
+{
+    Command::new(alloc, "check")
+        .arg(word_argument(alloc, "FORMAT"))?
+        .arg(word_argument(alloc, "INSTANCE"))?
+        .arg(word_argument(alloc, "ENTRY"))?
+        .arg(pairs_argument(alloc))
+}
+
+fn suite_command<'a>(alloc: Global) -> Result<Command<'a>, AllocError>
+    ensures shape { IfOk result (λ c. app_of c ≡ suite_command) }
+    ensures local { IfOk result (λ c. (fields_of c).has_globals ≡ false) }
+{
+    Command::new(alloc, "suite")
+        .arg(word_argument(alloc, "SUITE"))?
+        .arg(pairs_argument(alloc))
+}
+
+fn places_command<'a>(alloc: Global) -> Result<Command<'a>, AllocError>
+    ensures shape { IfOk result (λ c. app_of c ≡ places_command) }
+    ensures local { IfOk result (λ c. (fields_of c).has_globals ≡ false) }
+{
+    Command::new(alloc, "places").arg(pairs_argument(alloc))
 }
 
 // A word that has to stand there.
