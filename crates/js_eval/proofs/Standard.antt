@@ -15,7 +15,7 @@ use Rattle.js_bundle.specs.declared.keyword_name.KeywordName.{KeywordName}
 use Rattle.js_bundle.specs.declared.keyword_name.KeywordName.TheVariants.{Other, Assertion as AssertionName}
 use Rattle.js_eval.specs.Keywords.{has_node, without_node}
 use Rattle.js_eval.specs.Kind.{Applicator, kind, kind_in}
-use Rattle.js_eval.specs.code.Standard.{kind_by, has_node_by, names_of}
+use Rattle.js_eval.specs.code.Standard.{kind_by, has_node_by, keyword_names_of}
 use Rattle.js_eval.specs.declared.kind.Kind.{Kind}
 use Rattle.js_eval.specs.declared.kind.Kind.TheVariants.{Assertion, Annotation}
 
@@ -113,8 +113,8 @@ node_if_named which name b e h = h ∙ (ap has_node_by e ∙ node_is name)
 -- ---- of a place's keywords
 
 pub names_are : (documents : Documents) (n : ℕ) (names : List KeywordName) → is_place documents n ≡ true → option_map keyword_names (place_at documents n) ≡ Some names
-    → names ≡ names_of (entries (numbered_site documents n).schema)
+    → names ≡ keyword_names_of (entries (numbered_site documents n).schema)
 names_are documents n names h e =
     let q : Some names ≡ Some (keyword_names (numbered_site documents n)) = sym e ∙ ap (option_map keyword_names) (place_is documents n h) in
     let s : names ≡ keyword_names (numbered_site documents n) = cc in
-    s ∙ ap names_of (same_members (numbered_site documents n).schema)
+    s ∙ ap keyword_names_of (same_members (numbered_site documents n).schema)

@@ -14,7 +14,7 @@ use std::collections::btree_map::Iter;
 
 /// Whether a pattern matches each name of an object. It is asked for names in their order, and may pass over some.
 #[derive(Drop)]
-pub(crate) struct Answers<'p> {
+pub(crate) struct PatternAnswers<'p> {
     pub pattern: &'p str,
     members: &'p Members,
     all: Vec<bool>,
@@ -24,7 +24,7 @@ pub(crate) struct Answers<'p> {
     ghost in_step: { drop next all.items ≡ map (λ m. matches pattern.now m.0) (map pair_of left) },
 }
 
-impl<'p> Answers<'p> {
+impl<'p> PatternAnswers<'p> {
     /// Asks the pattern once for each name.
     ///
     /// # Errors
@@ -34,10 +34,10 @@ impl<'p> Answers<'p> {
         searchers: &Searchers<'p>,
         pattern: NamedPattern<'p>,
         members: &'p Members,
-    ) -> Result<Answers<'p>, Memory>
+    ) -> Result<PatternAnswers<'p>, Memory>
         ensures { IfOk result (λ a. a.pattern.now ≡ pattern.entry.text.now) }
     {
-        Ok(Answers {
+        Ok(PatternAnswers {
             pattern: pattern.text,
             members,
             all: asked_of_each(alloc, searchers, pattern, members)?,
@@ -55,7 +55,7 @@ impl<'p> Answers<'p> {
     }
 
     /// Whether the pattern matches the name, where it is among those that are left.
-    pub fn find(&mut self, name: &str) -> Option<bool>
+    pub fn find_name(&mut self, name: &str) -> Option<bool>
         ensures answer { MatchOption result (Unit {0}) (λ b. b ≡ matches self.old.pattern.now name.now) }
         ensures same { self.new.pattern ≡ self.old.pattern }
     {
@@ -74,7 +74,7 @@ impl<'p> Answers<'p> {
         ensures { MatchOption result (Unit {0}) (λ b. b ≡ matches pattern.now name.now) }
     {
         if self.pattern == pattern {
-            self.find(name)
+            self.find_name(name)
         } else {
             None
         }
@@ -84,7 +84,7 @@ impl<'p> Answers<'p> {
 /// What the patterns of one schema say of the names of one object.
 #[derive(Drop)]
 pub(crate) struct AllAnswers<'p> {
-    each: Vec<Answers<'p>>,
+    each: Vec<PatternAnswers<'p>>,
     /// Which pattern is asked.
     present: usize,
 }
@@ -128,7 +128,7 @@ impl<'p> AllAnswers<'p> {
 }
 
 // The place of the pattern's answers; behind the last, where it has none.
-fn place_of(each: &[Answers<'_>], pattern: &str) -> usize {
+fn place_of(each: &[PatternAnswers<'_>], pattern: &str) -> usize {
     for (index, answers) in each.iter().enumerate() {
         if answers.pattern == pattern {
             return index;
@@ -159,7 +159,7 @@ pub(crate) fn keep_all<'p>(
     let mut each = Vec::with_capacity(alloc, patterns.len())?;
     for (text, _) in patterns.pairs() {
         if let Some(pattern) = pattern_of(schemas, place, text.as_str()) {
-            each.push(Answers::new(alloc, searchers, pattern, members)?)?;
+            each.push(PatternAnswers::new(alloc, searchers, pattern, members)?)?;
         }
     }
     searchers.keep_answers(AllAnswers { each, present: 0 })

@@ -9,7 +9,7 @@ ghost use Rattle.js_bundle.specs.Target.{dynamic_target};
 ghost use Rattle.js_doc.specs.Seen.{value_of};
 ghost use Rattle.js_assert.specs.Argument.{entries};
 ghost use Rattle.js_eval.specs.Bundle.{schemas_of};
-ghost use Rattle.js_eval.specs.code.Standard.{names_of};
+ghost use Rattle.js_eval.specs.code.Standard.{keyword_names_of};
 ghost use Rattle.js_eval.specs.Seen.{step_of};
 ghost use Rattle.js_eval.specs.Sited.{numbered_site, resource_of};
 
@@ -30,7 +30,7 @@ pub(crate) fn schema_at(schemas: &Schemas, place: Place) -> &Doc
 #[tactic(auto, using(crate::proofs::Standard::names_are))]
 pub(crate) fn names_at(schemas: &Schemas, place: Place) -> &[KeywordName]
     requires { is_place schemas.now place ≡ true }
-    ensures { result.now ≡ names_of (entries (numbered_site schemas.now place).schema) }
+    ensures { result.now ≡ keyword_names_of (entries (numbered_site schemas.now place).schema) }
 {
     schemas.keywords(place)
 }

@@ -2,7 +2,7 @@
 ghost use Rattle.std.specs.Prelude.{◌≡◌, ◌∷◌, [], List, MatchOption, map};
 ghost use Rattle.js_bundle.specs.declared.keyword_name.KeywordName.{KeywordName as Which};
 ghost use Rattle.js_doc.specs.Seen.{pair_of};
-ghost use Rattle.js_eval.specs.code.Standard.{names_of};
+ghost use Rattle.js_eval.specs.code.Standard.{keyword_names_of};
 
 use crate::by_name::kind_of_named;
 use crate::keyword::Keyword;
@@ -16,7 +16,7 @@ use std::collections::btree_map::Iter;
 pub(crate) struct InTurn<'a> {
     names: &'a [KeywordName],
     pub left: Iter<'a, String, Doc>,
-    ghost in_step: { names.now ≡ names_of (map pair_of left) },
+    ghost in_step: { names.now ≡ keyword_names_of (map pair_of left) },
 }
 
 impl<'a> InTurn<'a> {
@@ -26,7 +26,7 @@ impl<'a> InTurn<'a> {
 
     /// All members.
     pub fn new(names: &'a [KeywordName], members: &'a Members) -> InTurn<'a>
-        requires { names.now ≡ names_of members.now }
+        requires { names.now ≡ keyword_names_of members.now }
         ensures all { map pair_of result.left ≡ members.now }
         ensures ascending { IsAscending members.now }
     {

@@ -5,7 +5,7 @@ ghost use Rattle.js_doc.specs.Members.{IsAscending};
 ghost use Rattle.js_doc.specs.Seen.{pair_of, value_of};
 ghost use Rattle.js_eval.specs.Keywords as table;
 ghost use Rattle.js_eval.specs.code.KeywordsLeft.{kept_or, keywords_in, keywords_left};
-ghost use Rattle.js_eval.specs.code.Standard.{names_of};
+ghost use Rattle.js_eval.specs.code.Standard.{keyword_names_of};
 ghost use Rattle.js_eval.specs.code.Turns.{ever, in_order};
 ghost use Rattle.js_eval.specs.Seen.{keyword_of};
 
@@ -37,7 +37,7 @@ pub(crate) struct KeywordCursor<'a> {
 impl<'a> Keywords<'a> {
     /// Those of a schema. `names`: which keyword of the standard each of its members is.
     pub fn new(names: &'a [KeywordName], schema: &'a Doc) -> Keywords<'a>
-        requires { names.now ≡ names_of (entries (value_of schema.now)) }
+        requires { names.now ≡ keyword_names_of (entries (value_of schema.now)) }
         ensures all { keywords_in result ≡ table.keywords (value_of schema.now) }
         ensures ascending { IsAscending (entries (value_of schema.now)) }
     {
@@ -61,7 +61,7 @@ impl<'a> Keywords<'a> {
 
 impl<'a> KeywordCursor<'a> {
     fn new(names: &'a [KeywordName], members: &'a Members) -> KeywordCursor<'a>
-        requires { names.now ≡ names_of members.now }
+        requires { names.now ≡ keyword_names_of members.now }
         ensures all { keywords_left result ≡ in_order members.now }
         ensures ascending { IsAscending members.now }
     {

@@ -70,5 +70,5 @@ has_node_by name.Assertion = true
 has_node_by name.Other = true
 
 -- of each of a schema's keywords, which keyword of the standard it is
-abbrev pub names_of : Named → List KeywordName
-names_of ms = map (λ m. keyword_name m.0) ms
+abbrev pub keyword_names_of : Named → List KeywordName
+keyword_names_of ms = map (λ m. keyword_name m.0) ms

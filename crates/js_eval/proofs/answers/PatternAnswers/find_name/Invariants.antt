@@ -1,5 +1,5 @@
 use Rattle.std.proofs.Common.{◌≡◌, length}
-use Rattle.js_eval.proofs.answers.Answers.find.Given as goal
+use Rattle.js_eval.proofs.answers.PatternAnswers.find_name.Given as goal
 
 abbrev pub invariant-loop-own : goal.invariant-loop-own
 invariant-loop-own l = l.self.pattern ≡ l.fn.self.pattern
