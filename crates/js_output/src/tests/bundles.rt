@@ -83,8 +83,12 @@ type Row<'r> = (&'r str, Question<'r>, &'r str);
 // That the finished documents answer so.
 fn answer_so(alloc: Global, sources: &[Source], rows: &[Row]) -> Result<(), Fail> {
     let schemas = finished(alloc, sources)?;
+    each_answers(alloc, &schemas, rows)
+}
+
+fn each_answers(alloc: Global, schemas: &Schemas, rows: &[Row]) -> Result<(), Fail> {
     for (uri, question, wanted) in rows {
-        let answer = answered(alloc, &schemas, uri, question)?;
+        let answer = answered(alloc, schemas, uri, question)?;
         same(alloc, uri, answer.as_str(), wanted)?;
     }
     Ok(())

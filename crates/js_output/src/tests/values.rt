@@ -16,29 +16,32 @@ fn compact(alloc: Global, source: &str) -> Result<String, ReadFault> {
     Ok(text(alloc, &value)?)
 }
 
+// A text, and the compact text of what it is read as.
+const READ: &[(&str, &str)] = &[
+    ("null", "null"),
+    (" true ", "true"),
+    ("false", "false"),
+    ("0", "0"),
+    ("18446744073709551615", "18446744073709551615"),
+    ("-9223372036854775808", "-9223372036854775808"),
+    (
+        "\"a\\\"\\n\\u0001\\u00e9\\/\"",
+        "\"a\\\"\\n\\u0001\u{e9}/\"",
+    ),
+    ("[ ]", "[]"),
+    ("[1, [2], {}]", "[1,[2],{}]"),
+    (
+        "{\"b\": 1, \"a\": {\"d\": [], \"c\": \"\"}}",
+        "{\"a\":{\"c\":\"\",\"d\":[]},\"b\":1}",
+    ),
+    ("{\"a\":1,\"a\":2}", "{\"a\":2}"),
+    ("{\"a\":1.5,\"a\":2}", "{\"a\":2}"),
+];
+
 #[test]
 fn reads_and_prints(rt: HostRuntime) -> Result<(), Fail> {
-    for (source, want) in [
-        ("null", "null"),
-        (" true ", "true"),
-        ("false", "false"),
-        ("0", "0"),
-        ("18446744073709551615", "18446744073709551615"),
-        ("-9223372036854775808", "-9223372036854775808"),
-        (
-            "\"a\\\"\\n\\u0001\\u00e9\\/\"",
-            "\"a\\\"\\n\\u0001\u{e9}/\"",
-        ),
-        ("[ ]", "[]"),
-        ("[1, [2], {}]", "[1,[2],{}]"),
-        (
-            "{\"b\": 1, \"a\": {\"d\": [], \"c\": \"\"}}",
-            "{\"a\":{\"c\":\"\",\"d\":[]},\"b\":1}",
-        ),
-        ("{\"a\":1,\"a\":2}", "{\"a\":2}"),
-        ("{\"a\":1.5,\"a\":2}", "{\"a\":2}"),
-    ] {
-        assert_eq!(rt; compact(rt.alloc(), source)?.as_str(), want, "in {source}");
+    for (source, want) in READ {
+        assert_eq!(rt; compact(rt.alloc(), source)?.as_str(), *want, "in {source}");
     }
     Ok(())
 }
@@ -86,27 +89,29 @@ fn is_told_by(
     Ok(tells && reads && Pointer::from_fragment(alloc, fragment)? == pointer)
 }
 
+// Tokens, their pointer's text, and its fragment.
+const POINTERS: &[(&[&str], &str, &str)] = &[
+    (&[], "", ""),
+    (
+        &["a/b %", "", "m~n\u{e9}"],
+        "/a~1b %//m~0n\u{e9}",
+        "/a~1b%20%25//m~0n%C3%A9",
+    ),
+    (
+        &["-._~!$&'()*+,;=:@/?"],
+        "/-._~0!$&'()*+,;=:@~1?",
+        "/-._~0!$&'()*+,;=:@~1?",
+    ),
+    (
+        &["\"#<>[\\]^`{|}\u{7f}\n"],
+        "/\"#<>[\\]^`{|}\u{7f}\n",
+        "/%22%23%3C%3E%5B%5C%5D%5E%60%7B%7C%7D%7F%0A",
+    ),
+];
+
 #[test]
 fn pointers_are_read_back(rt: HostRuntime) -> Result<(), Fail> {
-    let cases: [(&[&str], &str, &str); 4] = [
-        (&[], "", ""),
-        (
-            &["a/b %", "", "m~n\u{e9}"],
-            "/a~1b %//m~0n\u{e9}",
-            "/a~1b%20%25//m~0n%C3%A9",
-        ),
-        (
-            &["-._~!$&'()*+,;=:@/?"],
-            "/-._~0!$&'()*+,;=:@~1?",
-            "/-._~0!$&'()*+,;=:@~1?",
-        ),
-        (
-            &["\"#<>[\\]^`{|}\u{7f}\n"],
-            "/\"#<>[\\]^`{|}\u{7f}\n",
-            "/%22%23%3C%3E%5B%5C%5D%5E%60%7B%7C%7D%7F%0A",
-        ),
-    ];
-    for (tokens, text, fragment) in cases {
+    for (tokens, text, fragment) in POINTERS {
         assert!(rt; is_told_by(rt.alloc(), tokens, text, fragment)?, "{text}");
     }
     Ok(())

@@ -3,7 +3,7 @@
 ghost use Rattle.std.specs.Prelude.{◌≡◌, true};
 ghost use Rattle.js_bundle.specs.Schemas.{is_place};
 
-use super::rows::{place, row_named, schemas, value};
+use super::rows::{Row, place, row_named, schemas, value};
 use super::told::{Told, begin, done, end, memory, other};
 use super::{bundles, quiet, refusing, trees};
 use js_bundle::{Place, Schemas};
@@ -16,9 +16,13 @@ use std::alloc::Global;
 pub fn judged(rt: &HostRuntime, call: &str, name: &str) -> Result<Told, Memory> {
     let row = row_named(name);
     let schemas = schemas(rt.alloc(), row)?;
-    let place = place(rt.alloc(), &schemas, row.entry)?;
+    judged_by(rt, call, row, &schemas)
+}
+
+fn judged_by(rt: &HostRuntime, call: &str, row: Row, schemas: &Schemas) -> Result<Told, Memory> {
+    let place = place(rt.alloc(), schemas, row.entry)?;
     let value = value(rt.alloc(), row.instance)?;
-    called(rt, call, &schemas, place, &value)
+    called(rt, call, schemas, place, &value)
 }
 
 fn called<'a>(
