@@ -40,7 +40,7 @@ abbrev pub SuiteTold : DocumentTexts → List ℕ → Result Output Fault → Ty
 SuiteTold documents bytes (Ok output) = (lines : _) × SuiteOutcome documents bytes (Ok lines) × (output ≡ suite_output (counts_of lines) (lines_text lines))
 SuiteTold documents bytes (Err f) = SuiteOutcome documents bytes (Err f)
 
--- what comes of a file beside documents: any of them may be too large
+-- what comes of a request that names files: any of them may also be too large
 abbrev pub OverFiles : (Result Output Fault → Type 0) → Result Output Fault → Type 0
 OverFiles Expected (Err fault.InputTooLarge) = ⊤
 OverFiles Expected answer = Expected answer
