@@ -109,6 +109,8 @@ def of_values():
         yield Call([call], polygon)
     yield Call(["put"], '{"b":true}', "{}")
     yield Call(["push"], "/a~1b/0/1/2/c d", "/a~1b/0/1/2")
+    yield Call(["copy_pointer"], "/a~1b")
+    yield Call(["further"], "/a~1b/c d")
     yield Call(["parse"], "/a~1b/c d/~0/0")
     yield Call(["pointer"], "/a~1b/c d")
     yield Call(["fragment"], "/a~1b/c%20d")

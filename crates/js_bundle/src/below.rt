@@ -13,7 +13,7 @@ use crate::place::{Place, Step};
 use crate::scan::holding_of;
 use crate::schemas::Schemas;
 use crate::whole_check::Spot;
-use js_doc::Text;
+use js_doc::Token;
 
 impl Schemas {
     ghost use Rattle.js_doc.specs.Value.{Value};
@@ -109,7 +109,7 @@ fn stands_below(spot: &Spot, above: &Spot, keyword: &str, step: Step<'_>) -> boo
 }
 
 // Whether the tokens are those above, the keyword, and the step.
-fn goes_on(tokens: &[Text], above: &[Text], keyword: &str, step: Step<'_>) -> bool
+fn goes_on(tokens: &[Token], above: &[Token], keyword: &str, step: Step<'_>) -> bool
     ensures { result ≡ same_tokens tokens.now (above.now ++ keyword.now ∷ step_tokens (step_of step.entry)) }
 {
     let Some((token, more)) = tokens.split_first() else {
@@ -122,7 +122,7 @@ fn goes_on(tokens: &[Text], above: &[Text], keyword: &str, step: Step<'_>) -> bo
     }
 }
 
-pub(crate) fn is_step(tokens: &[Text], step: Step<'_>) -> bool
+pub(crate) fn is_step(tokens: &[Token], step: Step<'_>) -> bool
     ensures { result ≡ same_tokens tokens.now (step_tokens (step_of step.entry)) }
 {
     match step {
@@ -132,7 +132,7 @@ pub(crate) fn is_step(tokens: &[Text], step: Step<'_>) -> bool
     }
 }
 
-fn is_token(tokens: &[Text], name: &str) -> bool
+fn is_token(tokens: &[Token], name: &str) -> bool
     ensures { result ≡ same_tokens tokens.now (name.now ∷ []) }
 {
     match tokens.split_first() {
@@ -141,7 +141,7 @@ fn is_token(tokens: &[Text], name: &str) -> bool
     }
 }
 
-fn is_index(tokens: &[Text], index: usize) -> bool
+fn is_index(tokens: &[Token], index: usize) -> bool
     ensures { result ≡ same_tokens tokens.now (decimal index ∷ []) }
 {
     let mut digits = itoa::Buffer::new();

@@ -9,7 +9,7 @@ ghost use Rattle.js_bundle.specs.code.Spot.{spot_of, stands_below};
 use crate::below::is_step;
 use crate::place::Step;
 use crate::whole_check::Spot;
-use js_doc::{Memory, Text};
+use js_doc::{Memory, Token};
 use std::alloc::Global;
 
 /// The places that stand directly below a place, by their numbers: by keyword ascending, then by index or by name
@@ -88,7 +88,7 @@ fn looks_below(spot: &Spot, above: &Spot) -> bool {
     spot.document == above.document && is_alike_near(spot.pointer.tokens(), above.pointer.tokens())
 }
 
-fn is_alike_near(tokens: &[Text], front: &[Text]) -> bool {
+fn is_alike_near(tokens: &[Token], front: &[Token]) -> bool {
     if tokens.len() < front.len() {
         return false;
     }
@@ -122,7 +122,7 @@ fn is_below(spot: &Spot, above: &Spot) -> bool
 }
 
 /// Whether the first tokens are these.
-pub(crate) fn begins_with(tokens: &[Text], front: &[Text]) -> bool
+pub(crate) fn begins_with(tokens: &[Token], front: &[Token]) -> bool
     ensures { result ≡ begins_with tokens.now front.now }
 {
     let Some((wanted, more)) = front.split_first() else {
@@ -181,7 +181,7 @@ fn comes_before(spots: &[Spot], number: usize, depth: usize, keyword: &str, name
 }
 
 // Whether the tokens after so many come before the keyword with the name.
-fn precedes(tokens: &[Text], depth: usize, keyword: &str, name: &str) -> bool {
+fn precedes(tokens: &[Token], depth: usize, keyword: &str, name: &str) -> bool {
     let Some(token) = tokens.get(depth) else {
         return true;
     };
@@ -218,7 +218,7 @@ fn goes_by(spots: &[Spot], number: usize, depth: usize, keyword: &str, step: Ste
     }
 }
 
-fn leads_by(tokens: &[Text], depth: usize, keyword: &str, step: Step<'_>) -> bool
+fn leads_by(tokens: &[Token], depth: usize, keyword: &str, step: Step<'_>) -> bool
     ensures { result ≡ same_tokens (drop depth tokens.now) (keyword.now ∷ step_tokens (step_of step.entry)) }
 {
     if tokens.len() <= depth {

@@ -4,7 +4,6 @@ ghost use Rattle.js_bundle.specs.Finding.{IsRefusal, tokens_of};
 ghost use Rattle.js_bundle.specs.Refusals.{refusal_at};
 ghost use Rattle.js_bundle.specs.code.Scan.{site_of};
 
-use crate::pointers::{copy, further};
 use crate::refusal::{Refusal, RefusalKind};
 use crate::scan::Site;
 use js_doc::Memory as NoMemory;
@@ -73,7 +72,7 @@ fn refusal(
 ) -> Result<Refusal, NoMemory>
     ensures { IfOk result (λ r. r ≡ refusal_at (site_of site.now) (tokens_of keyword.entry) kind) }
 {
-    let mut place = copy(alloc, &site.pointer)?;
+    let mut place = site.pointer.copy(alloc)?;
     if let Some(name) = keyword {
         place.push(name)?;
     }
@@ -110,7 +109,7 @@ fn member_refusal(
     ensures { IfOk result
         (λ r. r ≡ refusal_at (site_of site.now) (keyword.now ∷ name.now ∷ []) kind) }
 {
-    let mut place = further(alloc, &site.pointer, keyword)?;
+    let mut place = site.pointer.further(alloc, keyword)?;
     place.push(name)?;
     Ok(Refusal {
         document: site.document,

@@ -11,7 +11,7 @@ use crate::edges::begins_with;
 use crate::scan::Site;
 use crate::scope::Scope;
 use crate::uri;
-use js_doc::{Memory, Pointer, Text, push_fragment_token};
+use js_doc::{Memory, Pointer, Text, Token, push_fragment_token};
 use std::alloc::Global;
 
 /// The absolute location of what stands at the pointer in a resource, or of a keyword there.
@@ -32,7 +32,7 @@ pub(crate) fn absolute(
 }
 
 // The tokens after the first ones, as a fragment.
-fn push_way(text: &mut String, tokens: &[Text], from: usize) -> Result<(), Memory>
+fn push_way(text: &mut String, tokens: &[Token], from: usize) -> Result<(), Memory>
     ensures { OnOk result (string_bytes text.new ≡ string_bytes text.old ++ fragment_text (drop from tokens.now)) }
 {
     for i in from..tokens.len() {

@@ -9,7 +9,7 @@ ghost use Rattle.js_bundle.specs.Seen.{document_of};
 
 use crate::document::Document;
 use crate::holding::Holding;
-use crate::pointers::{shared, shared_further};
+use crate::pointers::shared_further;
 use crate::scope::{Scope, Scopes, scopes_at};
 use js_doc::{Doc, Members, Memory, Pointer};
 use std::alloc::Global;
@@ -235,7 +235,7 @@ fn scan_document<'a>(
         ++ sites_at number (root_scope document.now.uri) [] (value_of document.now.root))) }
 {
     let above = Scope::root(alloc, &document.uri)?;
-    let at = shared(alloc, Pointer::new(alloc))?;
+    let at = Rc::new(alloc, Pointer::new(alloc))?;
     scan_schema(alloc, out, number, &above, &at, &document.root)
 }
 

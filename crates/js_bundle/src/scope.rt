@@ -6,7 +6,6 @@ ghost use Rattle.js_bundle.specs.code.Scan.{handed_down, own_scope};
 ghost use Rattle.js_bundle.specs.Url as spec;
 
 use crate::keyword::{argument, as_text};
-use crate::pointers::copy;
 use crate::uri::{LONGEST, without_fragment};
 use js_doc::{Doc, Memory, Pointer};
 use std::alloc::Global;
@@ -98,7 +97,7 @@ fn scopes_by(
     ensures below { IfOk result (λ s. s.below.value ≡ scope_or base pointer.now above.now.value) }
     ensures identifies { IfOk result (λ s. s.identifies ≡ is_some base) }
 {
-    let resource = copy(alloc, pointer)?;
+    let resource = pointer.copy(alloc)?;
     match base {
         Some(base) => {
             let scope = Scope::new(resource, base, alloc)?;

@@ -32,5 +32,5 @@ pub use printing::{put_number, put_text, text};
 pub use quoting::{push_string, put_string};
 pub use reading::{ReadFault, from_value, read};
 pub use string::Text;
-pub use token::{push_fragment_token, push_token};
+pub use token::{Token, push_fragment_token, push_token};
 pub use whole::Whole;

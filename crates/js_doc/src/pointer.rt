@@ -4,7 +4,7 @@ ghost use Rattle.js_doc.specs.Pointer.{pointer_text};
 
 use crate::memory::Memory;
 use crate::string::Text;
-use crate::token::push_token;
+use crate::token::{Token, push_token};
 use std::alloc::Global;
 use std::marker::Model;
 
@@ -12,7 +12,7 @@ use std::marker::Model;
 /// item's index in plain decimals. Contracts see it as the list of its tokens.
 #[derive(Debug, Drop)]
 pub struct Pointer {
-    tokens: Vec<Text>,
+    tokens: Vec<Token>,
 }
 
 impl Model for Pointer {
@@ -41,11 +41,18 @@ impl Pointer {
         ensures ok { OnOk result (self.new ≡ self.old ++ token.now ∷ []) }
         ensures err { OnErr result (self.new ≡ self.old) }
     {
-        let token = String::from_str(*self.tokens.allocator(), token)?;
-        self.push_text(Text::new(token))
+        let token = Token::new(*self.tokens.allocator(), token)?;
+        self.push_made(token)
     }
 
     pub(crate) fn push_text(&mut self, token: Text) -> Result<(), Memory>
+        ensures ok { OnOk result (self.new ≡ self.old ++ token ∷ []) }
+        ensures err { OnErr result (self.new ≡ self.old) }
+    {
+        self.push_made(Token::from_string(token.into_string())?)
+    }
+
+    fn push_made(&mut self, token: Token) -> Result<(), Memory>
         ensures ok { OnOk result (self.new ≡ self.old ++ token ∷ []) }
         ensures err { OnErr result (self.new ≡ self.old) }
     {
@@ -58,15 +65,49 @@ impl Pointer {
         ensures ok { OnOk result (self.new ≡ token ∷ self.old) }
         ensures err { OnErr result (self.new ≡ self.old) }
     {
+        let token = Token::from_string(token.into_string())?;
         self.tokens.insert(0, token)?;
         Ok(())
     }
 
     /// The tokens, in order from the root on.
-    pub fn tokens(&self) -> &[Text]
+    pub fn tokens(&self) -> &[Token]
         ensures { result.now ≡ self.now }
     {
         self.tokens.as_slice()
+    }
+
+    /// A copy. The tokens are shared.
+    ///
+    /// # Errors
+    /// `Memory`.
+    pub fn copy(&self, alloc: Global) -> Result<Pointer, Memory>
+        ensures { IfOk result (λ p. p ≡ self.now) }
+    {
+        self.with_room(alloc, 0)
+    }
+
+    /// The pointer that goes one token further. The others are shared.
+    ///
+    /// # Errors
+    /// `Memory`.
+    pub fn further(&self, alloc: Global, token: &str) -> Result<Pointer, Memory>
+        ensures { IfOk result (λ p. p ≡ self.now ++ token.now ∷ []) }
+    {
+        let mut further = self.with_room(alloc, 1)?;
+        further.push(token)?;
+        Ok(further)
+    }
+
+    // A copy with room for so many tokens more.
+    fn with_room(&self, alloc: Global, more: usize) -> Result<Pointer, Memory>
+        ensures { IfOk result (λ p. p ≡ self.now) }
+    {
+        let mut tokens = Vec::with_capacity(alloc, self.tokens.len().saturating_add(more))?;
+        for token in self.tokens() {
+            tokens.push(token.shared()?)?;
+        }
+        Ok(Pointer { tokens })
     }
 
     /// The pointer's text: each token after a `/`, with `~` written `~0` and `/` written `~1`

@@ -1,11 +1,87 @@
-//! A pointer's tokens as they stand in its text and in a fragment, one at a time.
-ghost use Rattle.std.specs.Prelude.{◌≡◌, ◌++◌, OnOk, string_bytes};
+//! A pointer's tokens, and how they stand in its text and in a fragment, one at a time.
+ghost use Rattle.std.specs.Prelude.{◌≡◌, ◌++◌, IfOk, IsTrue, OnOk, string_bytes};
 ghost use Rattle.js_doc.specs.Pointer.{escape, token_text};
 ghost use Rattle.js_doc.specs.Fragment.{fragment_token};
 
 use crate::fragment::ESCAPED;
 use crate::memory::Memory;
 use percent_encoding::utf8_percent_encode;
+use std::alloc::Global;
+use std::marker::Model;
+use std::rc::RcStr;
+
+/// A token of a pointer, which the pointers that are copied from it share. Contracts see it as the bytes of its UTF-8.
+#[derive(Debug, Drop)]
+pub struct Token {
+    text: RcStr,
+}
+
+impl Model for Token {
+    ghost use Rattle.std.specs.Prelude.{ℕ, List};
+    ghost use Rattle.std.specs.Rc.{rc_str_bytes};
+
+    ghost Value = { List ℕ };
+
+    ghost view = { λ t. rc_str_bytes t.text };
+}
+
+impl Token {
+    /// The token of this text.
+    ///
+    /// # Errors
+    /// `Memory`.
+    pub fn new(alloc: Global, text: &str) -> Result<Token, Memory>
+        ensures { IfOk result (λ t. t ≡ text.now) }
+    {
+        Ok(Token {
+            text: RcStr::from_str(alloc, text)?,
+        })
+    }
+
+    pub(crate) fn from_string(text: String) -> Result<Token, Memory>
+        ensures { IfOk result (λ t. t ≡ string_bytes text) }
+    {
+        Ok(Token {
+            text: RcStr::from_string(text)?,
+        })
+    }
+
+    /// The token's text, lent.
+    pub fn as_str(&self) -> &str
+        ensures { result.now ≡ self.now }
+    {
+        self.text.as_str()
+    }
+
+    // The same token once more.
+    pub(crate) fn shared(&self) -> Result<Token, Memory>
+        ensures { IfOk result (λ t. t ≡ self.now) }
+    {
+        Ok(Token {
+            text: self.text.clone()?,
+        })
+    }
+}
+
+impl PartialEq for Token {
+    ghost use Rattle.std.specs.Prelude.{nat_eq};
+    ghost use Rattle.std.specs.Cmp.{partial_equiv_from_equiv};
+    ghost use Rattle.std.specs.Cmp.Lexicographic.{pointwise, nat_list_eq_equiv};
+
+    ghost eq = { pointwise nat_eq };
+
+    ghost laws = { partial_equiv_from_equiv nat_list_eq_equiv };
+
+    fn eq(&self, other: &Token) -> bool {
+        self.as_str() == other.as_str()
+    }
+}
+
+impl Eq for Token {
+    ghost use Rattle.std.specs.Cmp.Lexicographic.{nat_list_eq_equiv};
+
+    ghost laws = { nat_list_eq_equiv };
+}
 
 /// Puts a `/` and the token at the text's end, with `~` written `~0` and `/` written `~1` (RFC 6901, section 3): so a
 /// pointer's text goes one token further.
@@ -35,6 +111,23 @@ pub fn push_fragment_token(out: &mut String, token: &str) -> Result<(), Memory>
 }
 
 fn push_escaped(out: &mut String, token: &str) -> Result<(), Memory>
+    ensures { OnOk result (string_bytes out.new ≡ string_bytes out.old ++ escape token.now) }
+{
+    if has_no_escape(token.as_bytes()) {
+        out.push_str(token)?;
+        return Ok(());
+    }
+    push_characters(out, token)
+}
+
+// Whether it stands as it is: most tokens do, and go out in whole.
+fn has_no_escape(token: &[u8]) -> bool
+    ensures { IsTrue result → escape token.now ≡ token.now }
+{
+    !token.contains(&b'~') && !token.contains(&b'/')
+}
+
+fn push_characters(out: &mut String, token: &str) -> Result<(), Memory>
     ensures { OnOk result (string_bytes out.new ≡ string_bytes out.old ++ escape token.now) }
 {
     for c in token.chars() {

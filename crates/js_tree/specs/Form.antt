@@ -85,6 +85,14 @@ shown Detailed t = verbose t
 shown Merged t = verbose t
 shown Verbose t = verbose t
 
+-- and that tree
+abbrev pub tree_of_format : Format → ResultTree → ResultTree
+tree_of_format Flag t = t
+tree_of_format Basic t = pruned t
+tree_of_format Detailed t = kept (pruned t)
+tree_of_format Merged t = merged (pruned t)
+tree_of_format Verbose t = t
+
 abbrev pub form : Format → ResultTree → Value
 form Flag t = flag t.root.valid
 form Basic t = unit_list (pruned t)

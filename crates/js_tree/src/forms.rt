@@ -4,7 +4,7 @@ ghost use Rattle.js_doc.specs.Members.{put};
 ghost use Rattle.js_doc.specs.Seen.{value_of};
 ghost use Rattle.js_doc.specs.Value.{text, list, members, object, truth, whole, items};
 ghost use Rattle.js_tree.specs.Forest.{forest_of};
-ghost use Rattle.js_tree.specs.Form.{annotation_value, array_of_some, error_value, flag, form, list_name, node_value, node_values, unit_list, verbose, value_if};
+ghost use Rattle.js_tree.specs.Form.{annotation_value, array_of_some, error_value, flag, form, list_name, node_value, node_values, shown, tree_of_format, unit_list, verbose, value_if};
 ghost use Rattle.js_tree.specs.OutputUnit.{noted};
 ghost use Rattle.js_tree.specs.code.Put.{put_some};
 ghost use Rattle.js_tree.specs.Result.{ResultTree, Normal, Run, pruned};
@@ -44,12 +44,33 @@ pub fn form(alloc: Global, tree: Tree, format: Format) -> Result<Doc, Memory>
     ensures form { IfOk result (λ doc. value_of doc ≡ form format tree.entry) }
     ensures one_normal_form { format ≡ Detailed → IfOk result (λ doc. (end : ResultTree) → Run (pruned tree.entry) end → Normal end → value_of doc ≡ verbose end) }
 {
+    let tree = tree_of_format(tree, format);
+    shown(alloc, &tree, format)
+}
+
+// The tree that the format tells of.
+fn tree_of_format(tree: Tree, format: Format) -> Tree
+    ensures { result ≡ tree_of_format format tree.entry }
+{
+    match format {
+        Format::Flag => tree,
+        Format::Basic => prune(tree),
+        Format::Detailed => condense(prune(tree)),
+        Format::Merged => merge_condense(prune(tree)),
+        Format::Verbose => tree,
+    }
+}
+
+// What the format shows of that tree.
+fn shown(alloc: Global, tree: &Tree, format: Format) -> Result<Doc, Memory>
+    ensures { IfOk result (λ doc. value_of doc ≡ shown format tree.now) }
+{
     match format {
         Format::Flag => flag(alloc, tree.unit.valid),
-        Format::Basic => unit_list(alloc, &prune(tree)),
-        Format::Detailed => tree_doc(alloc, &condense(prune(tree))),
-        Format::Merged => tree_doc(alloc, &merge_condense(prune(tree))),
-        Format::Verbose => tree_doc(alloc, &tree),
+        Format::Basic => unit_list(alloc, tree),
+        Format::Detailed => tree_doc(alloc, tree),
+        Format::Merged => tree_doc(alloc, tree),
+        Format::Verbose => tree_doc(alloc, tree),
     }
 }
 

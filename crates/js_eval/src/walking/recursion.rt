@@ -14,7 +14,7 @@ use crate::walking::reporter::Reporter;
 use crate::walking::steps::{
     asked, close_keyword, close_schema, come_back, go_down, next_keyword, open_keyword, open_schema,
 };
-use crate::walking::tally::{Judged, Judging, Known, Tally};
+use crate::walking::tally::{Case, Judged, Judging, Known, Tally};
 use crate::walking::way::{Mark, Way};
 use crate::walking::world::World;
 use js_bundle::Place;
@@ -54,15 +54,18 @@ pub(crate) fn node<W: World, R: Reporter<W>>(
     let keywords = world.keywords(place);
     let mut judging = Judging { keywords, known };
     'keywords: while let Some(keyword) = next_keyword(world, &mut judging) {
+        let case = Case {
+            place,
+            value,
+            keyword,
+        };
         let judged = keyword_node(
             alloc,
             world,
             way,
             into,
             depth - 1,
-            place,
-            value,
-            keyword,
+            case,
             start,
             judging.known,
         )?;
@@ -82,62 +85,40 @@ pub(crate) fn keyword_node<W: World, R: Reporter<W>>(
     way: &mut Way<W::Name>,
     into: &mut R,
     depth: usize,
-    place: Place,
-    value: W::Value,
-    keyword: W::Keyword,
+    case: Case<W::Value, W::Keyword>,
     start: Mark,
     known: Known,
 ) -> Result<Judged, WalkFault>
     requires path { list_all (W.is_place world.now) way.old.path.items ≡ true }
     requires scope { way.old.scope ≡ map (W.resource world.now) way.old.path.items }
-    requires place { W.is_place world.now place ≡ true }
+    requires place { W.is_place world.now case.place ≡ true }
     requires names { start.names ≤ length way.old.names.items }
     requires indexes { start.indexes ≤ length way.old.indexes.items }
-    requires keyword { IsKeywordAt (W.schemas world.now) (W.site world.now place) (W.keyword_of keyword) }
+    requires keyword { IsKeywordAt (W.schemas world.now) (W.site world.now case.place) (W.keyword_of case.keyword) }
     ensures { MatchResult result
-        (λ j. KeywordDone (W.schemas world.now) W.text_of R.takes depth (map (W.site world.now) way.old.path.items) (W.site world.now place) (W.value_of value) (W.keyword_of keyword) known.matching
-        (asked_by (W.schemas world.now) depth (map (W.site world.now) way.old.path.items) (W.site world.now place) (W.value_of value) (W.keyword_of keyword)
+        (λ j. KeywordDone (W.schemas world.now) W.text_of R.takes depth (map (W.site world.now) way.old.path.items) (W.site world.now case.place) (W.value_of case.value) (W.keyword_of case.keyword) known.matching
+        (asked_by (W.schemas world.now) depth (map (W.site world.now) way.old.path.items) (W.site world.now case.place) (W.value_of case.value) (W.keyword_of case.keyword)
         known.condition (map W.text_of (drop start.names way.old.names.items)) (drop start.indexes way.old.indexes.items)) j way.old way.new into.old into.new)
-        (λ e. OnTooLarge e (KeywordHasNone (W.schemas world.now) depth (map (W.site world.now) way.old.path.items) (W.site world.now place) (W.value_of value) (W.keyword_of keyword)
-        (asked_by (W.schemas world.now) depth (map (W.site world.now) way.old.path.items) (W.site world.now place) (W.value_of value) (W.keyword_of keyword)
+        (λ e. OnTooLarge e (KeywordHasNone (W.schemas world.now) depth (map (W.site world.now) way.old.path.items) (W.site world.now case.place) (W.value_of case.value) (W.keyword_of case.keyword)
+        (asked_by (W.schemas world.now) depth (map (W.site world.now) way.old.path.items) (W.site world.now case.place) (W.value_of case.value) (W.keyword_of case.keyword)
         known.condition (map W.text_of (drop start.names way.old.names.items)) (drop start.indexes way.old.indexes.items)) way.old.left)) }
 {
     if way.left == 0 {
         return Err(WalkFault::TooLarge);
     }
     let here = way.mark();
-    let mut asking = asked(
-        alloc,
-        world,
-        way,
-        place,
-        value,
-        keyword,
-        start,
-        known.condition,
-    )?;
-    open_keyword(alloc, world, way, into, place, keyword)?;
+    let mut asking = asked(alloc, world, way, case, start, known.condition)?;
+    open_keyword(alloc, world, way, into, case.place, case.keyword)?;
     let tally = applications(
         alloc,
         world,
         way,
         into,
         depth,
-        world.kind(keyword),
+        world.kind(case.keyword),
         &mut asking,
     )?;
-    let passes = close_keyword(
-        alloc,
-        world,
-        way,
-        into,
-        place,
-        value,
-        keyword,
-        here,
-        tally,
-        known.matching,
-    )?;
+    let passes = close_keyword(alloc, world, way, into, case, here, tally, known.matching)?;
     Ok(Judged {
         passes,
         held: tally.held,

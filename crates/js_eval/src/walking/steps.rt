@@ -8,7 +8,7 @@ ghost use Rattle.js_eval.specs.Walk.Told.{IsKeywordAt, asked_by};
 use crate::kind::Kind;
 use crate::walking::keeping::{cut_unless, indexes_origin, keep, names_origin};
 use crate::walking::reporter::Reporter;
-use crate::walking::tally::{Judged, Judging, Tally};
+use crate::walking::tally::{Case, Judged, Judging, Tally};
 use crate::walking::way::{Mark, Way};
 use crate::walking::world::World;
 use js_bundle::Place;
@@ -89,18 +89,16 @@ pub(crate) fn asked<W: World>(
     alloc: Global,
     world: &W,
     way: &Way<W::Name>,
-    place: Place,
-    value: W::Value,
-    keyword: W::Keyword,
+    case: Case<W::Value, W::Keyword>,
     start: Mark,
     condition: Option<bool>,
 ) -> Result<W::Asking, Memory>
     requires path { list_all (W.is_place world.now) way.now.path.items ≡ true }
     requires scope { way.now.scope ≡ map (W.resource world.now) way.now.path.items }
-    requires place { W.is_place world.now place ≡ true }
+    requires place { W.is_place world.now case.place ≡ true }
     requires names { start.names ≤ length way.now.names.items }
     requires indexes { start.indexes ≤ length way.now.indexes.items }
-    ensures { IfOk result (λ a. W.asked world.now a ≡ asked_by (W.schemas world.now) 0 (map (W.site world.now) way.now.path.items) (W.site world.now place) (W.value_of value) (W.keyword_of keyword)
+    ensures { IfOk result (λ a. W.asked world.now a ≡ asked_by (W.schemas world.now) 0 (map (W.site world.now) way.now.path.items) (W.site world.now case.place) (W.value_of case.value) (W.keyword_of case.keyword)
         condition (map W.text_of (drop start.names way.now.names.items)) (drop start.indexes way.now.indexes.items)) }
 {
     let names = &way.names[start.names..];
@@ -109,9 +107,9 @@ pub(crate) fn asked<W: World>(
         alloc,
         way.path.as_slice(),
         way.scope.resources(),
-        place,
-        value,
-        keyword,
+        case.place,
+        case.value,
+        case.keyword,
         condition,
         names,
         indexes,
@@ -124,20 +122,23 @@ pub(crate) fn close_keyword<W: World, R: Reporter<W>>(
     world: &W,
     way: &mut Way<W::Name>,
     into: &mut R,
-    place: Place,
-    value: W::Value,
-    keyword: W::Keyword,
+    case: Case<W::Value, W::Keyword>,
     here: Mark,
     tally: Tally,
     matching: u64,
 ) -> Result<bool, Memory>
-    requires place { W.is_place world.now place ≡ true }
+    requires place { W.is_place world.now case.place ≡ true }
     requires names { here.names ≤ length way.old.names.items }
     requires indexes { here.indexes ≤ length way.old.indexes.items }
     requires trail { IsSplitPoint way.old.keyword here.keyword }
-    requires keyword { IsKeywordAt (W.schemas world.now) (W.site world.now place) (W.keyword_of keyword) }
-    ensures { IfOk result (λ passes. KeywordClosed (W.schemas world.now) W.text_of R.takes (W.site world.now place) (W.value_of value) (W.keyword_of keyword) matching tally here passes way.old way.new into.old into.new) }
+    requires keyword { IsKeywordAt (W.schemas world.now) (W.site world.now case.place) (W.keyword_of case.keyword) }
+    ensures { IfOk result (λ passes. KeywordClosed (W.schemas world.now) W.text_of R.takes (W.site world.now case.place) (W.value_of case.value) (W.keyword_of case.keyword) matching tally here passes way.old way.new into.old into.new) }
 {
+    let Case {
+        place,
+        value,
+        keyword,
+    } = case;
     let passes = world.passes(alloc, place, value, keyword, tally, matching)?;
     let judged = Judged {
         passes,

@@ -1,8 +1,17 @@
-//! What is known of a keyword from its applications, and of a schema from its keywords.
+//! What is judged, what is known of a keyword from its applications, and of a schema from its keywords.
 ghost use Rattle.std.specs.Prelude.{◌≡◌, ◌&&◌, ◌≤◌, ◌<◌, ◌+◌, cond};
 ghost use Rattle.js_eval.specs.Walk.Keeping.{condition_step, matching_step};
 
 use crate::kind::Kind;
+use js_bundle::Place;
+
+/// What is judged: a keyword of a place, on a value.
+#[derive(Clone, Copy)]
+pub(crate) struct Case<V, K> {
+    pub place: Place,
+    pub value: V,
+    pub keyword: K,
+}
 
 /// How many applications a keyword asked for, and how many of them hold.
 #[derive(Clone, Copy)]

@@ -66,6 +66,8 @@ fn alone(rt: &HostRuntime, call: &str) -> Result<Told, Memory> {
         "text" => values::text_of(rt),
         "put" => values::put(rt),
         "push" => values::pushed(rt),
+        "copy_pointer" => values::pointer_copied(rt),
+        "further" => values::further(rt),
         "parse" => values::parsed(rt),
         "pointer" => values::pointer_text(rt),
         "fragment" => values::fragment(rt),

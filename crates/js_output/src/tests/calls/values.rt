@@ -95,6 +95,29 @@ pub fn pushed(rt: &HostRuntime) -> Result<Told, Memory> {
     }
 }
 
+pub fn pointer_copied(rt: &HostRuntime) -> Result<Told, Memory> {
+    let pointer = pointer(rt.alloc())?;
+    begin(rt);
+    let made = pointer.copy(rt.alloc());
+    end(rt);
+    told_copy(rt.alloc(), made)
+}
+
+pub fn further(rt: &HostRuntime) -> Result<Told, Memory> {
+    let pointer = pointer(rt.alloc())?;
+    begin(rt);
+    let made = pointer.further(rt.alloc(), "c d");
+    end(rt);
+    told_copy(rt.alloc(), made)
+}
+
+fn told_copy(alloc: Global, made: Result<Pointer, Memory>) -> Result<Told, Memory> {
+    match made {
+        Ok(pointer) => done(pointer.text(alloc)?),
+        Err(Memory) => memory(alloc),
+    }
+}
+
 pub fn parsed(rt: &HostRuntime) -> Result<Told, Memory> {
     begin(rt);
     let made = Pointer::parse(rt.alloc(), "/a~1b/c d/~0/0");

@@ -71,9 +71,9 @@ pub keyword_node-returns-in_err-tally : goal.keyword_node-returns-in_err-tally
 keyword_node-returns-in_err-tally g t c =
     let S = g.W.World.schemas c.args.world.now in
     let path = map (g.W.World.site c.args.world.now) c.args.way.now.path.items in
-    let place = g.W.World.site c.args.world.now c.args.place in
-    let v = g.W.World.value_of c.args.value in
-    let k = g.W.World.keyword_of c.args.keyword in
+    let place = g.W.World.site c.args.world.now c.args.case.place in
+    let v = g.W.World.value_of c.args.case.value in
+    let k = g.W.World.keyword_of c.args.case.keyword in
     let apps = asked_by S c.args.depth path place v k c.args.known.condition (map g.W.World.text_of (drop c.args.start.names c.args.way.now.names.items)) (drop c.args.start.indexes c.args.way.now.indexes.items) in
     let p = err_from_is_err_and c.from_residual-in_err-tally.result c.from_residual-in_err-tally.ensures.1 in
     let q : g.W.World.asked c.args.world.now c.in_ok-asking.asking ≡ apps = c.in_ok-asking.ensures ∙ asked_same S c.args.depth path place v k c.args.known.condition (map g.W.World.text_of (drop c.args.start.names c.args.way.now.names.items)) (drop c.args.start.indexes c.args.way.now.indexes.items) in
@@ -93,15 +93,15 @@ keyword_node-close_keyword-requires-clause-names g t c =
 
 pub keyword_node-close_keyword-requires-clause-trail : goal.keyword_node-close_keyword-requires-clause-trail
 keyword_node-close_keyword-requires-clause-trail g t c =
-    split_at_name c.args.way.now.keyword c.applications.new.way.keyword (g.W.World.keyword_of c.args.keyword) c.mark-here.result.keyword c.mark-here.ensures.keyword (c.in_ok-tally.ensures.back.keyword ∙ c.in_ok-open_keyword.ensures.keyword)
+    split_at_name c.args.way.now.keyword c.applications.new.way.keyword (g.W.World.keyword_of c.args.case.keyword) c.mark-here.result.keyword c.mark-here.ensures.keyword (c.in_ok-tally.ensures.back.keyword ∙ c.in_ok-open_keyword.ensures.keyword)
 
 pub keyword_node-returns : goal.keyword_node-returns
 keyword_node-returns g t c =
     let S = g.W.World.schemas c.args.world.now in
     let path = map (g.W.World.site c.args.world.now) c.args.way.now.path.items in
-    let place = g.W.World.site c.args.world.now c.args.place in
-    let v = g.W.World.value_of c.args.value in
-    let k = g.W.World.keyword_of c.args.keyword in
+    let place = g.W.World.site c.args.world.now c.args.case.place in
+    let v = g.W.World.value_of c.args.case.value in
+    let k = g.W.World.keyword_of c.args.case.keyword in
     let apps = asked_by S c.args.depth path place v k c.args.known.condition (map g.W.World.text_of (drop c.args.start.names c.args.way.now.names.items)) (drop c.args.start.indexes c.args.way.now.indexes.items) in
     let q : g.W.World.asked c.args.world.now c.in_ok-asking.asking ≡ apps = c.in_ok-asking.ensures ∙ asked_same S c.args.depth path place v k c.args.known.condition (map g.W.World.text_of (drop c.args.start.names c.args.way.now.names.items)) (drop c.args.start.indexes c.args.way.now.indexes.items) in
     keyword_step S g.W.World.text_of g.R.Reporter.takes c.args.depth path place v k c.args.known.matching apps
