@@ -1,4 +1,4 @@
-use Rattle.std.proofs.Common.{◌≡◌, sym, ◌∙◌}
+use Rattle.std.proofs.Common.{sym, ◌∙◌}
 use Rattle.js_doc.proofs.Escapes.{escape_none, none_by}
 use Rattle.js_doc.proofs.token.has_no_escape.Goals as goal
 
