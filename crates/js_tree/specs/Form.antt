@@ -85,7 +85,7 @@ shown Detailed t = verbose t
 shown Merged t = verbose t
 shown Verbose t = verbose t
 
--- and that tree
+-- that tree, made of the whole one: a format shows of it what `form` says (only private functions cite it)
 abbrev pub tree_of_format : Format → ResultTree → ResultTree
 tree_of_format Flag t = t
 tree_of_format Basic t = pruned t
