@@ -1,27 +1,34 @@
 -- What an index tells of the places that it was made of.
-use Rattle.std.proofs.Common.{◌≡◌, ℕ, zero, suc, ◌+◌, ◌<◌, ◌≤◌, take, get_or, option_and_then, List, [], ◌∷◌, ◌++◌, map, length, Bool, true, false, ◌||◌, cond, if◌then◌else◌, ◌&&◌, ◌==◌, find, codes, option_to_list, Option, Some, None, is_some, option_map, slice_get, string_bytes, String, Global, refl, sym, ap, ◌∙◌, subst, arith}
-use Rattle.std.specs.List.{list_any, position_from}
+use Rattle.std.proofs.Common.{◌≡◌, ℕ, ◌+◌, ◌<◌, ◌≤◌, ◌^◌, take, get_or, option_and_then, List, [], ◌∷◌, ◌++◌, map, length, Bool, true, false, ◌||◌, cond, if◌then◌else◌, ◌&&◌, ◌==◌, find, codes, decimal, option_to_list, Option, Some, None, is_some, option_map, slice_get, string_bytes, String, Global, refl, sym, ap, ap₂, ◌∙◌, subst, arith}
+use Rattle.std.specs.List.{AllByRecursion, list_any, position_from}
 use Rattle.std.specs.Map.{lookup}
 use Rattle.std.specs.Option.{option_or, option_map_or}
-use Rattle.std.proofs.lemmas.Bool.{and_parts, eqb-true}
 use Rattle.std.specs.Str.{bytes_eq}
+use Rattle.std.proofs.lemmas.Bool.{and_parts, eqb-true}
+use Rattle.std.proofs.lemmas.Fmt.{decimal_injective}
+use Rattle.std.proofs.lemmas.List.{length-map, length-take, take_all}
+use Rattle.url.specs.Parts.{Parts}
+use Rattle.js_doc.specs.Pointer.{Tokens, pointer_text}
+use Rattle.js_doc.specs.PointerReading.{pointer_of}
 use Rattle.js_doc.proofs.Named.{is_text-refl, is_text-sound}
-use Rattle.js_doc.specs.Pointer.{Tokens}
+use Rattle.js_doc.proofs.PointerTexts.{pointer_of-text}
 use Rattle.js_bundle.specs.declared.index.Index.{Index}
+use Rattle.js_bundle.specs.declared.names.Root.{Root}
 use Rattle.js_bundle.specs.declared.numbering.Numbering.{Numbering}
+use Rattle.js_bundle.specs.declared.scan.Site as rust
+use Rattle.js_bundle.specs.Finding.{number_named}
 use Rattle.js_bundle.specs.Keyword.{Text, text_argument}
-use Rattle.js_bundle.specs.code.Index.{number_of_key, ArePut, FindsFirst, IsIndex, IsAdded, place_key, place_keys, name_key, name_keys, name_keys_by}
-use Rattle.js_bundle.specs.Names.{known_as, is_known_as, same_tokens, stands_at, belongs_to, makes, by_anchor, by_dynamic_anchor}
+use Rattle.js_bundle.specs.code.Index.{number_of_key, ArePut, FindsFirst, IsIndex, IsAdded, place_key, place_keys, name_key, name_keys, name_keys_by, number_standing, number_making, number_in, number_under, standing, standing_of}
+use Rattle.js_bundle.specs.code.Scan.{site_of}
+use Rattle.js_bundle.specs.Names.{known_as, is_known_as, root_named, same_tokens, stands_at, belongs_to, makes, by_pointer, by_anchor, by_dynamic_anchor, is_named_by, is_pointer}
 use Rattle.js_bundle.specs.Refusals.{is_made}
 use Rattle.js_bundle.specs.Resource.{Site}
-use Rattle.js_bundle.proofs.Numbers.{number_finds_it}
-use Rattle.js_bundle.proofs.Distinct.{at_place, tokens-sound}
-use Rattle.js_bundle.proofs.Named.{found_at}
+use Rattle.js_bundle.specs.Url.{fragment, printed, without_fragment}
+use Rattle.js_bundle.proofs.Distinct.{at_place, stands_itself, tokens-refl, tokens-sound}
+use Rattle.js_bundle.proofs.Listing.{all_append}
+use Rattle.js_bundle.proofs.Named.{found_at, none_found}
+use Rattle.js_bundle.proofs.Numbers.{nat_eq-refl}
 use Rattle.js_bundle.proofs.Passes.{map_take_more}
-use Rattle.js_bundle.specs.code.Scan.{site_of}
-use Rattle.js_bundle.specs.declared.scan.Site as rust
-use Rattle.std.proofs.lemmas.List.{length-map, length-take, take_all}
-use Rattle.std.proofs.lemmas.Option.{slice_get-map, slice_get-get_or}
 
 -- ---- numbers under texts
 
@@ -103,13 +110,6 @@ first_next keys old new before place n e h p = record {
       p.told key ∙ ap (λ o. option_or o (if f place then Some n else None)) (h.first key) ∙ first_more f 0 before place n (omega (arith, e));
 }
 
-pub index_next : (old new : Index) (before : List Site) (place : Site) (n : ℕ) → n ≡ length before → IsIndex old before → IsAdded old place n new → IsIndex new (before ++ place ∷ [])
-index_next old new before place n e h a = record {
-  known = first_next known_as old.known new.known before place n e h.known a.known;
-  standing = first_next place_keys old.places new.places before place n e h.standing a.standing;
-  named = first_next name_keys old.names new.names before place n e h.named a.named;
-}
-
 pub any_first : {A : Type 0} (f : A → Bool) (k : ℕ) (xs : List A) → is_some (position_from f k xs) ≡ list_any f xs
 any_first f k [] = refl
 any_first f k (x ∷ xs) = by_test (f x) (position_from f (k + 1) xs) (list_any f xs) (any_first f (k + 1) xs)
@@ -118,62 +118,6 @@ any_first f k (x ∷ xs) = by_test (f x) (position_from f (k + 1) xs) (list_any 
     by_test true o c h = refl
     by_test false o c h = h
 
--- ---- the first that has a key, and the first that passes a test which asks for the key
-
-module _ {A : Type 0} (test key : A → Bool) (covers : (x : A) → test x ≡ true → key x ≡ true) where
-  covered : (x : A) (b : Bool) → test x ≡ b → key x ≡ false → b ≡ false
-  covered x true e h = absurd (let no : true ≡ false = sym (covers x e) ∙ h in cc)
-  covered x false e h = refl
-
-  later : (k : ℕ) (x : A) (xs : List A) → key x ≡ false → position_from test k (x ∷ xs) ≡ position_from test (k + 1) xs
-  later k x xs e = ap (λ b. cond b (Some k) (position_from test (k + 1) xs)) (covered x (test x) refl e)
-
-  none_by : (k : ℕ) (x : A) (xs : List A) (b : Bool) → key x ≡ b → (position_from key (k + 1) xs ≡ None → position_from test (k + 1) xs ≡ None)
-      → cond b (Some k) (position_from key (k + 1) xs) ≡ None → position_from test k (x ∷ xs) ≡ None
-  none_by k x xs true e more g = absurd (cc)
-  none_by k x xs false e more g = later k x xs e ∙ more g
-
-  -- none has the key, so none passes
-  pub none_keyed : (k : ℕ) (xs : List A) → position_from key k xs ≡ None → position_from test k xs ≡ None
-  none_keyed k [] h = refl
-  none_keyed k (x ∷ xs) h = none_by k x xs (key x) refl (none_keyed (k + 1) xs) h
-
-  first_in : (k m : ℕ) (x y : A) (xs : List A) (b : Bool) → key y ≡ b → (position_from key (k + 1) xs ≡ Some m → find key xs ≡ Some x → position_from test (k + 1) xs ≡ Some m)
-      → cond b (Some k) (position_from key (k + 1) xs) ≡ Some m → cond b (Some y) (find key xs) ≡ Some x → test x ≡ true → position_from test k (y ∷ xs) ≡ Some m
-  first_in k m x y xs true e more g f p =
-      let same : y ≡ x = cc in
-      ap (λ b. cond b (Some k) (position_from test (k + 1) xs)) (ap test same ∙ p) ∙ g
-  first_in k m x y xs false e more g f p = later k y xs e ∙ more g f
-
-  first_by : (k m : ℕ) (x : A) (xs : List A) → position_from key k xs ≡ Some m → find key xs ≡ Some x → test x ≡ true → position_from test k xs ≡ Some m
-  first_by k m x [] h f p = absurd (cc)
-  first_by k m x (y ∷ xs) h f p = first_in k m x y xs (key y) refl (λ g e. first_by (k + 1) m x xs g e p) h f p
-
-  -- the first that has the key passes, so it is the first that does
-  pub first_keyed : (xs : List A) (n : ℕ) (x : A) → position_from key 0 xs ≡ Some n → slice_get xs n ≡ Some x → test x ≡ true → position_from test 0 xs ≡ Some n
-  first_keyed xs n x h e p = first_by 0 n x xs h (number_finds_it key xs n x h e) p
-
--- ---- the tests that ask for the keys
-
-pub covers_place : (d : ℕ) (p : Tokens) (s : Site) → stands_at d p s ≡ true → list_any (bytes_eq (place_key d p)) (place_keys s) ≡ true
-covers_place d p s e =
-    let a = at_place d p s e in
-    let same : place_key d p ≡ place_key s.document s.pointer = ap (λ x. place_key x p) (sym a.document) ∙ ap (place_key s.document) (sym a.pointer) in
-    rw same (rw (is_text-refl (place_key s.document s.pointer)) refl)
-
-covers_text : (d : ℕ) (r : Tokens) (name : Text) (e : ℕ) (q : Tokens) (o : Option Text) → e ≡ d → q ≡ r → option_map_or (bytes_eq name) o false ≡ true
-    → list_any (bytes_eq (name_key d r name)) (option_to_list (option_map (name_key e q) o)) ≡ true
-covers_text d r name e q None same alike m = absurd (cc)
-covers_text d r name e q (Some t) same alike m =
-    let is : name_key d r name ≡ name_key e q t =
-    ap (λ x. name_key x r name) (sym same) ∙ ap (λ p. name_key e p name) (sym alike) ∙ ap (name_key e q) (is_text-sound name t m) in
-    rw is (rw (is_text-refl (name_key e q t)) refl)
-
-covers_by : (d : ℕ) (r : Tokens) (k name : Text) (s : Site) → belongs_to d r s ≡ true → makes k name s ≡ true → list_any (bytes_eq (name_key d r name)) (name_keys_by k s) ≡ true
-covers_by d r k name s b m =
-    let parts = and_parts (s.document == d) (same_tokens s.own.resource r) b in
-    covers_text d r name s.document s.own.resource (text_argument k s.schema) (eqb-true s.document d parts.0) (tokens-sound s.own.resource r parts.1) m
-
 pub or_left : (b c : Bool) → b ≡ true → (b || c) ≡ true
 or_left b c e = ap (λ x. x || c) e
 
@@ -181,94 +125,168 @@ pub or_right : (b c : Bool) → c ≡ true → (b || c) ≡ true
 or_right true c e = refl
 or_right false c e = e
 
-pub covers_name : (d : ℕ) (r : Tokens) (name : Text) (s : Site)
-    → (belongs_to d r s && (makes (codes "$anchor") name s || makes (codes "$dynamicAnchor") name s)) ≡ true → list_any (bytes_eq (name_key d r name)) (name_keys s) ≡ true
-covers_name d r name s e =
-    let key = bytes_eq (name_key d r name) in
-    let plain = name_keys_by (codes "$anchor") s in
-    let dynamic = name_keys_by (codes "$dynamicAnchor") s in
-    let parts = and_parts (belongs_to d r s) (makes (codes "$anchor") name s || makes (codes "$dynamicAnchor") name s) e in
-    any_append key plain dynamic ∙ by_keyword (makes (codes "$anchor") name s) refl parts.0 parts.1
-  where
-    by_keyword : (a : Bool) → makes (codes "$anchor") name s ≡ a → belongs_to d r s ≡ true → (a || makes (codes "$dynamicAnchor") name s) ≡ true
-        → (list_any (bytes_eq (name_key d r name)) (name_keys_by (codes "$anchor") s) || list_any (bytes_eq (name_key d r name)) (name_keys_by (codes "$dynamicAnchor") s)) ≡ true
-    by_keyword true m b h =
-        or_left (list_any (bytes_eq (name_key d r name)) (name_keys_by (codes "$anchor") s)) (list_any (bytes_eq (name_key d r name)) (name_keys_by (codes "$dynamicAnchor") s)) (covers_by d r (codes "$anchor") name s b m)
-    by_keyword false m b h =
-        or_right (list_any (bytes_eq (name_key d r name)) (name_keys_by (codes "$anchor") s)) (list_any (bytes_eq (name_key d r name)) (name_keys_by (codes "$dynamicAnchor") s)) (covers_by d r (codes "$dynamicAnchor") name s b h)
+-- ---- keys tell places apart
 
-spread : (b c d : Bool) → (b && (c || d)) ≡ ((b && c) || (b && d))
+bool_by : (b c : Bool) → (b ≡ true → c ≡ true) → (c ≡ true → b ≡ true) → b ≡ c
+bool_by true c f g = sym (f refl)
+bool_by false true f g = g refl
+bool_by false false f g = refl
+
+some_is : {A : Type 0} (x y : A) → Some x ≡ Some y → x ≡ y
+some_is x y e = cc
+
+-- a pointer's text tells its tokens
+text_tells : (p q : Tokens) → pointer_text p ≡ pointer_text q → p ≡ q
+text_tells p q e = some_is p q (sym (pointer_of-text p) ∙ ap pointer_of e ∙ pointer_of-text q)
+
+pub key_tells : (d e : ℕ) (p q : Tokens) → d < 2 ^ 64 → e < 2 ^ 64 → place_key d p ≡ place_key e q → (d ≡ e) × (p ≡ q)
+key_tells d e p q low small h =
+    let same : decimal d ∷ p ≡ decimal e ∷ q = text_tells (decimal d ∷ p) (decimal e ∷ q) h in
+    let document : decimal d ≡ decimal e = cc in
+    (decimal_injective d e low small document, cc)
+
+same_place : (d : ℕ) (p : Tokens) (s : Site) → d ≡ s.document → p ≡ s.pointer → stands_at d p s ≡ true
+same_place d p s e f = ap (λ x. stands_at x p s) e ∙ ap (λ q. stands_at s.document q s) f ∙ stands_itself s
+
+or_none_is : (b : Bool) → (b || false) ≡ b
+or_none_is true = refl
+or_none_is false = refl
+
+and_both : (b c : Bool) → b ≡ true → c ≡ true → (b && c) ≡ true
+and_both b c e f = ap (λ x. x && c) e ∙ f
+
+and_none : (b : Bool) → (b && false) ≡ false
+and_none true = refl
+and_none false = refl
+
+key_is : (d : ℕ) (p : Tokens) (s : Site) → d < 2 ^ 64 → s.document < 2 ^ 64 → bytes_eq (place_key d p) (place_key s.document s.pointer) ≡ stands_at d p s
+key_is d p s low small = bool_by (bytes_eq (place_key d p) (place_key s.document s.pointer)) (stands_at d p s)
+    (λ e. let t = key_tells d s.document p s.pointer low small (is_text-sound (place_key d p) (place_key s.document s.pointer) e) in same_place d p s t.0 t.1)
+    (λ e. let a = at_place d p s e in
+    let same : place_key d p ≡ place_key s.document s.pointer = ap (λ x. place_key x p) (sym a.document) ∙ ap (place_key s.document) (sym a.pointer) in
+    ap (λ k. bytes_eq k (place_key s.document s.pointer)) same ∙ is_text-refl (place_key s.document s.pointer))
+
+standing_is : (d : ℕ) (p : Tokens) → d < 2 ^ 64 → (s : Site) → s.document < 2 ^ 64 → list_any (bytes_eq (place_key d p)) (place_keys s) ≡ stands_at d p s
+standing_is d p low s small = or_none_is (bytes_eq (place_key d p) (place_key s.document s.pointer)) ∙ key_is d p s low small
+
+-- the key of a text that a place may make
+text_is : (d : ℕ) (r : Tokens) (name : Text) (e : ℕ) (q : Tokens) (o : Option Text) → d < 2 ^ 64 → e < 2 ^ 64
+    → list_any (bytes_eq (name_key d r name)) (option_to_list (option_map (name_key e q) o)) ≡ ((e == d && same_tokens q r) && option_map_or (bytes_eq name) o false)
+text_is d r name e q None low small = sym (and_none (e == d && same_tokens q r))
+text_is d r name e q (Some t) low small = or_none_is (bytes_eq (name_key d r name) (name_key e q t)) ∙ bool_by (bytes_eq (name_key d r name) (name_key e q t)) ((e == d && same_tokens q r) && bytes_eq name t)
+    (λ h. let k = key_tells d e (name ∷ r) (t ∷ q) low small (is_text-sound (name_key d r name) (name_key e q t) h) in
+    let tokens : name ∷ r ≡ t ∷ q = k.1 in
+    let named : name ≡ t = cc in
+    let root : r ≡ q = cc in
+    and_both (e == d && same_tokens q r) (bytes_eq name t)
+    (and_both (e == d) (same_tokens q r) (ap (λ x. e == x) k.0 ∙ nat_eq-refl e) (ap (same_tokens q) root ∙ tokens-refl q))
+    (ap (λ x. bytes_eq x t) named ∙ is_text-refl t))
+    (λ h. let parts = and_parts (e == d && same_tokens q r) (bytes_eq name t) h in
+    let place = and_parts (e == d) (same_tokens q r) parts.0 in
+    let same : name_key d r name ≡ name_key e q t =
+    ap (λ x. name_key x r name) (sym (eqb-true e d place.0)) ∙ ap (λ p. name_key e p name) (sym (tokens-sound q r place.1)) ∙ ap (name_key e q) (is_text-sound name t parts.1) in
+    ap (λ k. bytes_eq k (name_key e q t)) same ∙ is_text-refl (name_key e q t))
+
+abbrev makes_either : ℕ → Tokens → Text → Site → Bool
+makes_either d r name s = belongs_to d r s && (makes (codes "$anchor") name s || makes (codes "$dynamicAnchor") name s)
+
+spread : (b c d : Bool) → ((b && c) || (b && d)) ≡ (b && (c || d))
 spread true c d = refl
 spread false c d = refl
 
-pub covers_anchor : (root : Site) (name : Text) (s : Site) → (by_anchor root name s || by_dynamic_anchor root name s) ≡ true
-    → list_any (bytes_eq (name_key root.document root.pointer name)) (name_keys s) ≡ true
-covers_anchor root name s e =
-    covers_name root.document root.pointer name s (spread (belongs_to root.document root.pointer s) (makes (codes "$anchor") name s) (makes (codes "$dynamicAnchor") name s) ∙ e)
+making_is : (d : ℕ) (r : Tokens) (name : Text) → d < 2 ^ 64 → (s : Site) → s.document < 2 ^ 64 → list_any (bytes_eq (name_key d r name)) (name_keys s) ≡ makes_either d r name s
+making_is d r name low s small =
+    let key = bytes_eq (name_key d r name) in
+    let by = λ (k : Text). text_is d r name s.document s.own.resource (text_argument k s.schema) low small in
+    any_append key (name_keys_by (codes "$anchor") s) (name_keys_by (codes "$dynamicAnchor") s)
+    ∙ ap₂ (λ b c. b || c) (by (codes "$anchor")) (by (codes "$dynamicAnchor"))
+    ∙ spread (belongs_to d r s) (makes (codes "$anchor") name s) (makes (codes "$dynamicAnchor") name s)
+
+-- ---- tests that agree on a list
+
+abbrev IsCounted : Site → Type 0
+IsCounted s = s.document < 2 ^ 64
+
+same_first : (f g : Site → Bool) → ((s : Site) → IsCounted s → f s ≡ g s) → (k : ℕ) (xs : List Site) → AllByRecursion IsCounted xs → position_from f k xs ≡ position_from g k xs
+same_first f g e k [] h = refl
+same_first f g e k (x ∷ xs) h = ap₂ (λ b o. cond b (Some k) o) (e x h.0) (same_first f g e (k + 1) xs h.1)
+
+same_any : (f g : Site → Bool) → ((s : Site) → IsCounted s → f s ≡ g s) → (xs : List Site) → AllByRecursion IsCounted xs → list_any f xs ≡ list_any g xs
+same_any f g e [] h = refl
+same_any f g e (x ∷ xs) h = ap₂ (λ b c. b || c) (e x h.0) (same_any f g e xs h.1)
+
+found_by : (f : Site → Bool) (y : Site) (xs : List Site) (x : Site) (b : Bool) → IsCounted y → (find f xs ≡ Some x → IsCounted x) → cond b (Some y) (find f xs) ≡ Some x → IsCounted x
+found_by f y xs x true low later e = subst IsCounted (some_is y x e) low
+found_by f y xs x false low later e = later e
+
+found_counted : (f : Site → Bool) (xs : List Site) (x : Site) → AllByRecursion IsCounted xs → find f xs ≡ Some x → IsCounted x
+found_counted f [] x h e = absurd (cc)
+found_counted f (y ∷ xs) x h e = found_by f y xs x (f y) h.0 (found_counted f xs x h.1) e
 
 -- ---- what the code asks
 
 pub taken_is : (numbers : Numbering) (before : List Site) (uri : Text) → FindsFirst known_as numbers before → is_some (number_of_key numbers uri) ≡ list_any (is_known_as uri) before
 taken_is numbers before uri h = ap is_some (h.first uri) ∙ any_first (is_known_as uri) 0 before
 
-pub none_made : (numbers : Numbering) (before : List Site) (place : Site) (name : Text) → FindsFirst name_keys numbers before
-    → number_of_key numbers (name_key place.document place.own.resource name) ≡ None → is_made before place name ≡ false
-none_made numbers before place name h e =
-    let test = λ (t : Site). belongs_to place.document place.own.resource t && (makes (codes "$anchor") name t || makes (codes "$dynamicAnchor") name t) in
-    let key = λ (t : Site). list_any (bytes_eq (name_key place.document place.own.resource name)) (name_keys t) in
-    sym (any_first test 0 before)
-    ∙ ap is_some (none_keyed test key (covers_name place.document place.own.resource name) 0 before (sym (h.first (name_key place.document place.own.resource name)) ∙ e))
+pub made_is : (index : Index) (before : List Site) (place : Site) (name : Text) → IsIndex index before → IsCounted place
+    → is_some (number_of_key index.names (name_key place.document place.own.resource name)) ≡ is_made before place name
+made_is index before place name h low =
+    let key = λ (s : Site). list_any (bytes_eq (name_key place.document place.own.resource name)) (name_keys s) in
+    ap is_some (h.named.first (name_key place.document place.own.resource name)) ∙ any_first key 0 before
+    ∙ same_any key (makes_either place.document place.own.resource name) (making_is place.document place.own.resource name low) before h.counted
 
-pub one_makes : {A : Type 0} (test : A → Bool) (xs : List A) (n : ℕ) (x : A) → slice_get xs n ≡ Some x → test x ≡ true → list_any test xs ≡ true
-one_makes test [] n x e p = absurd (cc)
-one_makes test (y ∷ xs) zero x e p = let same : y ≡ x = cc in or_left (test y) (list_any test xs) (ap test same ∙ p)
-one_makes test (y ∷ xs) (suc n) x e p = or_right (test y) (list_any test xs) (one_makes test xs n x e p)
+pub standing_found : (index : Index) (all : List Site) (d : ℕ) (p : Tokens) → IsIndex index all → d < 2 ^ 64 → number_standing index d p ≡ position_from (stands_at d p) 0 all
+standing_found index all d p h low =
+    h.standing.first (place_key d p) ∙ same_first (λ s. list_any (bytes_eq (place_key d p)) (place_keys s)) (stands_at d p) (standing_is d p low) 0 all h.counted
 
-pub either_is : (a b c : Bool) → (a ≡ true → c ≡ true) → b ≡ c → (a || b) ≡ c
-either_is true b c h e = sym (h refl)
-either_is false b c h e = e
+making_found : (index : Index) (all : List Site) (root : Site) (name : Text) → IsIndex index all → IsCounted root
+    → number_making index root.document root.pointer name ≡ position_from (λ s. by_anchor root name s || by_dynamic_anchor root name s) 0 all
+making_found index all root name h low =
+    h.named.first (name_key root.document root.pointer name)
+    ∙ same_first (λ s. list_any (bytes_eq (name_key root.document root.pointer name)) (name_keys s)) (λ s. by_anchor root name s || by_dynamic_anchor root name s)
+    (λ s c. making_is root.document root.pointer name low s c ∙ sym (spread (belongs_to root.document root.pointer s) (makes (codes "$anchor") name s) (makes (codes "$dynamicAnchor") name s))) 0 all h.counted
 
--- ---- the same of the code's list
+pointed_found : (index : Index) (all : List Site) (root : Site) (o : Option Tokens) → IsIndex index all → IsCounted root
+    → option_and_then (λ tokens. number_standing index root.document (root.pointer ++ tokens)) o ≡ position_from (option_map_or (λ tokens. stands_at root.document (root.pointer ++ tokens)) o (λ _. false)) 0 all
+pointed_found index all root None h low = sym (none_found 0 all)
+pointed_found index all root (Some tokens) h low = standing_found index all root.document (root.pointer ++ tokens) h low
 
-listed : (ss : List rust.Site) (n : ℕ) (x : rust.Site) → n < length ss → x ≡ get_or ss n x → slice_get (map site_of ss) n ≡ Some (site_of x)
-listed ss n x low e = slice_get-map site_of ss n ∙ ap (option_map site_of) (slice_get-get_or ss n x low ∙ ap Some (sym e))
+in_root : (index : Index) (all : List Site) (root : Site) (f : Text) → IsIndex index all → IsCounted root → number_in index root.document root.pointer f ≡ position_from (is_named_by root f) 0 all
+in_root index all root f h low = by_kind (is_pointer f)
+  where
+    by_kind : (b : Bool) → (if b then option_and_then (λ tokens. number_standing index root.document (root.pointer ++ tokens)) (pointer_of f) else number_making index root.document root.pointer f)
+        ≡ position_from (if b then by_pointer root f else (λ place. by_anchor root f place || by_dynamic_anchor root f place)) 0 all
+    by_kind true = pointed_found index all root (pointer_of f) h low
+    by_kind false = making_found index all root f h low
 
-pub number_stands : (ss : List rust.Site) (n d : ℕ) (p : Tokens) (x : rust.Site) → position_from (λ s. list_any (bytes_eq (place_key d p)) (place_keys s)) 0 (map site_of ss) ≡ Some n
-    → n < length ss → x ≡ get_or ss n x → stands_at d p (site_of x) ≡ true → Some n ≡ position_from (stands_at d p) 0 (map site_of ss)
-number_stands ss n d p x h low e t =
-    sym (first_keyed (stands_at d p) (λ s. list_any (bytes_eq (place_key d p)) (place_keys s)) (covers_place d p) (map site_of ss) n (site_of x) h (listed ss n x low e) t)
+under_root : (index : Index) (all : List Site) (f : Text) (root : Option Root) (named : Option Site) → IsIndex index all → ((s : Site) → named ≡ Some s → IsCounted s)
+    → option_map standing_of root ≡ option_map standing named → number_under index root f ≡ position_from (option_map_or (λ r. is_named_by r f) named (λ _. false)) 0 all
+under_root index all f None None h low e = sym (none_found 0 all)
+under_root index all f None (Some s) h low e = absurd (cc)
+under_root index all f (Some r) None h low e = absurd (cc)
+under_root index all f (Some r) (Some s) h low e =
+    let same : standing_of r ≡ standing s = some_is (standing_of r) (standing s) e in
+    ap (λ x. number_in index x.document x.pointer f) same ∙ in_root index all s f h (low s refl)
 
-pub number_makes : (ss : List rust.Site) (n : ℕ) (root : Site) (name : Text) (x : rust.Site)
-    → position_from (λ s. list_any (bytes_eq (name_key root.document root.pointer name)) (name_keys s)) 0 (map site_of ss) ≡ Some n → n < length ss → x ≡ get_or ss n x
-    → (by_anchor root name (site_of x) || by_dynamic_anchor root name (site_of x)) ≡ true → Some n ≡ position_from (λ s. by_anchor root name s || by_dynamic_anchor root name s) 0 (map site_of ss)
-number_makes ss n root name x h low e t =
-    sym (first_keyed (λ s. by_anchor root name s || by_dynamic_anchor root name s) (λ s. list_any (bytes_eq (name_key root.document root.pointer name)) (name_keys s)) (covers_anchor root name)
-    (map site_of ss) n (site_of x) h (listed ss n x low e) t)
+-- the place that a URI names, by the root of its resource
+pub named_found : (index : Index) (all : List Site) (uri : Parts) (root : Option Root) → IsIndex index all → option_map standing_of root ≡ option_map standing (root_named all uri)
+    → number_under index root (fragment uri) ≡ number_named all uri
+named_found index all uri root h e = under_root index all (fragment uri) root (root_named all uri) h (λ s f. found_counted (is_known_as (printed (without_fragment uri))) all s h.counted f) e
 
-pub none_stands : (numbers : Numbering) (all : List Site) (d : ℕ) (p : Tokens) → FindsFirst place_keys numbers all → None ≡ number_of_key numbers (place_key d p) → None ≡ position_from (stands_at d p) 0 all
-none_stands numbers all d p h e =
-    sym (none_keyed (stands_at d p) (λ s. list_any (bytes_eq (place_key d p)) (place_keys s)) (covers_place d p) 0 all (sym (h.first (place_key d p)) ∙ sym e))
-
-pub none_anchored : (numbers : Numbering) (all : List Site) (root : Site) (name : Text) → FindsFirst name_keys numbers all → None ≡ number_of_key numbers (name_key root.document root.pointer name)
-    → None ≡ position_from (λ s. by_anchor root name s || by_dynamic_anchor root name s) 0 all
-none_anchored numbers all root name h e =
-    sym (none_keyed (λ s. by_anchor root name s || by_dynamic_anchor root name s) (λ s. list_any (bytes_eq (name_key root.document root.pointer name)) (name_keys s)) (covers_anchor root name) 0 all
-    (sym (h.first (name_key root.document root.pointer name)) ∙ sym e))
-
-pub known_at : (numbers : Numbering) (all : List Site) (uri : Text) (n : ℕ) (o : Option Site) → FindsFirst known_as numbers all → Some n ≡ number_of_key numbers uri
-    → o ≡ slice_get all n → o ≡ find (is_known_as uri) all
-known_at numbers all uri n o h e g = g ∙ ap (option_and_then (slice_get all)) (e ∙ h.first uri) ∙ found_at (is_known_as uri) all
-
-pub none_known : (numbers : Numbering) (all : List Site) (uri : Text) → FindsFirst known_as numbers all → None ≡ number_of_key numbers uri → None ≡ find (is_known_as uri) all
-none_known numbers all uri h e = ap (option_and_then (slice_get all)) (e ∙ h.first uri) ∙ found_at (is_known_as uri) all
-
-pub number_of_maker : (ss : List rust.Site) (n : ℕ) (place : Site) (name : Text) (x : rust.Site) → n < length ss → x ≡ get_or ss n x
-    → (belongs_to place.document place.own.resource (site_of x) && (makes (codes "$anchor") name (site_of x) || makes (codes "$dynamicAnchor") name (site_of x))) ≡ true
-    → is_made (map site_of ss) place name ≡ true
-number_of_maker ss n place name x low e t =
-    one_makes (λ t. belongs_to place.document place.own.resource t && (makes (codes "$anchor") name t || makes (codes "$dynamicAnchor") name t)) (map site_of ss) n (site_of x) (listed ss n x low e) t
+-- what stands at the number of a resource's URI
+pub known_at : {A : Type 0} (f : Site → A) (index : Index) (all : List Site) (uri : Text) (n : Option ℕ) → IsIndex index all → n ≡ number_of_key index.known uri
+    → option_map f (option_and_then (slice_get all) n) ≡ option_map f (find (is_known_as uri) all)
+known_at f index all uri n h e = ap (option_map f) (ap (option_and_then (slice_get all)) (e ∙ h.known.first uri) ∙ found_at (is_known_as uri) all)
 
 -- ---- one place more, and all
+
+pub index_next : (old new : Index) (before : List Site) (place : Site) (n : ℕ) → n ≡ length before → IsIndex old before → IsAdded old place n new → IsIndex new (before ++ place ∷ [])
+index_next old new before place n e h a = record {
+  counted = all_append IsCounted before (place ∷ []) h.counted (a.counted, tt);
+  known = first_next known_as old.known new.known before place n e h.known a.known;
+  standing = first_next place_keys old.places new.places before place n e h.standing a.standing;
+  named = first_next name_keys old.names new.names before place n e h.named a.named;
+}
 
 pub index_more : (ss : List rust.Site) (i : ℕ) (x : rust.Site) (old new : Index) → i < length ss → x ≡ get_or ss i x → IsIndex old (map site_of (take i ss)) → IsAdded old (site_of x) i new
     → IsIndex new (map site_of (take (i + 1) ss))

@@ -15,6 +15,7 @@ pub mod Named
 pub mod Stopping
 pub mod Passes
 pub mod Indexed
+pub mod KnownRoots
 pub mod Targets
 pub mod OneName
 pub mod Assertions

@@ -9,7 +9,7 @@ use Rattle.js_bundle.specs.declared.fault.Fault.{Fault}
 use Rattle.js_bundle.specs.declared.fault.Fault.TheVariants.{Memory, Refused}
 use Rattle.js_bundle.specs.declared.reference.DynamicReference.{DynamicReference}
 use Rattle.js_bundle.specs.Keyword.{Text, text_argument}
-use Rattle.js_bundle.specs.Names.{names, stands_at, by_anchor, by_dynamic_anchor, is_named_by, is_pointer}
+use Rattle.js_bundle.specs.Names.{names, is_pointer}
 use Rattle.js_bundle.specs.declared.names.NameFault.{NameFault}
 use Rattle.js_bundle.specs.declared.names.NameFault.TheVariants as fault
 use Rattle.js_doc.specs.PointerReading.{pointer_of}
@@ -46,16 +46,7 @@ abbrev pub by_scope : List Site → List Site → Bool → Site → Site
 by_scope all path by_name first =
     if by_name then unwrap_or (option_and_then (λ name. outermost all name path) (text_argument (codes "$dynamicAnchor") first.schema)) first else first
 
--- ---- the parts of it: by the root of the resource, if there is one
-
-abbrev pub number_below : List Site → Option Site → Tokens → Option ℕ
-number_below all root pointer = position_from (option_map_or (λ r. stands_at r.document (r.pointer ++ pointer)) root (λ _. false)) 0 all
-
-abbrev pub number_anchored : List Site → Option Site → Text → Option ℕ
-number_anchored all root name = position_from (option_map_or (λ r s. by_anchor r name s || by_dynamic_anchor r name s) root (λ _. false)) 0 all
-
-abbrev pub number_named_in : List Site → Option Site → Text → Option ℕ
-number_named_in all root f = position_from (option_map_or (λ r. is_named_by r f) root (λ _. false)) 0 all
+-- ---- what is read of a fragment
 
 abbrev pub is_pointer_read : Text → Bool
 is_pointer_read f = not (is_pointer f) || is_some (pointer_of f)

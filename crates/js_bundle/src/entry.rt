@@ -1,19 +1,19 @@
 //! Entries: the URI of the schema with which a judgement begins.
-ghost use Rattle.std.specs.Prelude.{◌≡◌, ◌≤◌, true, Some, None, OnOk, IfOk, IfErr, length, map};
+ghost use Rattle.std.specs.Prelude.{◌≡◌, ◌≤◌, true, None, OnOk, IfOk, IfErr, find, length, map, option_map, slice_get};
 ghost use Rattle.url.specs.Parser.{parse_url};
-ghost use Rattle.js_bundle.specs.Names.{is_read, named};
+ghost use Rattle.js_bundle.specs.code.Index.{standing, standing_of, spot_standing};
+ghost use Rattle.js_bundle.specs.code.Spot.{spot_of};
+ghost use Rattle.js_bundle.specs.Names.{is_known_as, is_read, named};
 ghost use Rattle.js_bundle.specs.Resource.{sites};
-ghost use Rattle.js_bundle.specs.code.Scan.{site_of};
-ghost use Rattle.js_bundle.specs.Schemas.{entry, is_place, place_at, StandsFor, IsEntryFault, IsNameFault, IsReadEntry};
+ghost use Rattle.js_bundle.specs.Schemas.{entry, StandsFor, IsEntryFault, IsNameFault, IsReadEntry};
 ghost use Rattle.js_bundle.specs.Url.{fragment, longest_uri};
 
-use crate::names::{NameFault, number_named};
+use crate::names::{NameFault, Root, place_by_fragment};
 use crate::place::Place;
 use crate::refusal::EntryFault;
-use crate::scan::Site;
 use crate::schemas::Schemas;
-use crate::uri::LONGEST;
-use js_doc::Memory;
+use crate::uri::{self, LONGEST};
+use crate::whole_check::Spot;
 use std::alloc::Global;
 use url::{ParseError, Url};
 
@@ -46,8 +46,10 @@ impl Schemas {
         ensures read { OnOk result (is_read (fragment url) ≡ true) }
         ensures err { IfErr result (IsNameFault self.now url) }
     {
-        let sites = self.sites(alloc)?;
-        match number_named(alloc, &self.kept.index, sites.as_slice(), url) {
+        let fragment = uri::fragment(alloc, &url)?;
+        let bare = uri::without_fragment(url)?;
+        let root = self.root_named(uri::text_of(&bare));
+        match place_by_fragment(alloc, &self.kept.index, root, fragment.as_slice()) {
             Ok(Some(number)) => Ok(Place { number }),
             Ok(None) => Err(EntryFault::Unresolved),
             Err(NameFault::NotRead) => Err(EntryFault::BadUri),
@@ -55,31 +57,25 @@ impl Schemas {
         }
     }
 
-    // All places with their schemas. Their pointers and scopes are shared.
-    fn sites(&self, alloc: Global) -> Result<Vec<Site<'_>>, Memory>
-        ensures { IfOk result (λ v. map site_of v.items ≡ sites self.now) }
+    // The root of the resource that has the URI.
+    fn root_named(&self, uri: &str) -> Option<Root<'_>>
+        ensures { option_map standing_of result ≡ option_map standing (find (is_known_as uri.now) (sites self.now)) }
     {
-        let mut all = Vec::new(alloc);
-        for number in 0..self.kept.spots.len() {
-            let site = self.site(Place { number })?;
-            all.push(site)?;
+        match self.kept.index.known.get(uri) {
+            Some(number) => root_at(self.kept.spots.as_slice(), number),
+            None => None,
         }
-        Ok(all)
     }
+}
 
-    fn site(&self, place: Place) -> Result<Site<'_>, Memory>
-        requires { is_place self.now place ≡ true }
-        ensures { IfOk result (λ s. place_at self.now place ≡ Some (site_of s)) }
-    {
-        let spot = self.spot(place);
-        let schema = self.schema(place);
-        Ok(Site {
+fn root_at(spots: &[Spot], number: usize) -> Option<Root<'_>>
+    ensures { option_map standing_of result ≡ option_map spot_standing (slice_get (map spot_of spots.now) number) }
+{
+    match spots.get(number) {
+        Some(spot) => Some(Root {
             document: spot.document,
-            pointer: spot.pointer.clone()?,
-            above: spot.above.clone()?,
-            own: spot.own.clone()?,
-            identifies: spot.identifies,
-            schema,
-        })
+            pointer: &spot.pointer,
+        }),
+        None => None,
     }
 }

@@ -1,16 +1,14 @@
 //! Which place a URI names.
-ghost use Rattle.std.specs.Prelude.{◌≡◌, ◌&&◌, ◌||◌, [], ◌∷◌, ◌++◌, Some, None, true, false, bytes_eq, codes, map, find, slice_get, option_map, IfOk, IfErr, OnOk, MatchOption};
-ghost use Rattle.std.specs.List.{list_any, list_all, position_from};
-ghost use Rattle.js_doc.specs.PointerReading.{pointer_of};
+ghost use Rattle.std.specs.Prelude.{◌≡◌, ◌++◌, true, false, map, find, slice_get, option_map, IfOk, IfErr, OnOk, MatchOption};
 ghost use Rattle.std.specs.Str.{is_utf8};
-ghost use Rattle.js_bundle.specs.Finding.{number_named, number_named_in, number_below, number_anchored, is_pointer_read, IfNotRead};
-ghost use Rattle.js_bundle.specs.code.Index.{IsIndex, name_key, name_keys, place_key, place_keys};
-ghost use Rattle.js_bundle.specs.Names.{same_tokens, is_root, is_known_as, root_named, stands_at, belongs_to, makes, by_pointer, by_anchor, by_dynamic_anchor, is_pointer, is_read};
+ghost use Rattle.js_doc.specs.PointerReading.{pointer_of};
+ghost use Rattle.js_bundle.specs.Finding.{number_named, is_pointer_read, IfNotRead};
+ghost use Rattle.js_bundle.specs.code.Index.{IsIndex, number_standing, number_making, number_under, standing, standing_of};
 ghost use Rattle.js_bundle.specs.code.Scan.{site_of};
+ghost use Rattle.js_bundle.specs.Names.{is_root, is_known_as, is_pointer, is_read};
 ghost use Rattle.js_bundle.specs.Url as spec;
 
 use crate::index::{Index, name_key, place_key};
-use crate::keyword::text_argument;
 use crate::pointers::extended;
 use crate::scan::Site;
 use crate::uri;
@@ -28,165 +26,75 @@ pub(crate) fn is_root(site: &Site<'_>) -> bool
     }
 }
 
-/// Whether the place is the root of a resource that has this URI.
-pub(crate) fn is_known_as(site: &Site<'_>, uri: &str) -> bool
-    ensures { result ≡ is_known_as uri.now (site_of site.now) }
-{
-    is_root_at(site, uri) || identifies(site, uri)
+/// Where the root of a resource stands.
+#[derive(Clone, Copy)]
+pub(crate) struct Root<'a> {
+    pub(crate) document: usize,
+    pub(crate) pointer: &'a Pointer,
 }
 
-// A document's root, and the document's URI.
-fn is_root_at(site: &Site<'_>, uri: &str) -> bool
-    ensures { result ≡ (is_root (site_of site.now) && bytes_eq uri.now (spec.printed site.now.above.value.base)) }
-{
-    is_root(site) && uri == uri::text_of(&site.above.base)
-}
-
-// A place, and what its `$id` makes.
-fn identifies(site: &Site<'_>, uri: &str) -> bool
-    ensures { result ≡ (site.now.identifies && bytes_eq uri.now (spec.printed site.now.own.value.base)) }
-{
-    site.identifies && uri == uri::text_of(&site.own.base)
-}
-
-fn stands_at(site: &Site<'_>, document: usize, pointer: &Pointer) -> bool
-    ensures { result ≡ stands_at document pointer.now (site_of site.now) }
-{
-    site.document == document && is_same(&site.pointer, pointer)
-}
-
-/// Whether two pointers are the same.
-pub(crate) fn is_same(first: &Pointer, second: &Pointer) -> bool
-    ensures { result ≡ same_tokens first.now second.now }
-{
-    *first == *second
-}
-
-/// Whether the place's resource has its root at the pointer.
-pub(crate) fn belongs_to(site: &Site<'_>, document: usize, root: &Pointer) -> bool
-    ensures { result ≡ belongs_to document root.now (site_of site.now) }
-{
-    site.document == document && site.own.resource == *root
-}
-
-/// Whether the place makes the name by the keyword.
-pub(crate) fn makes(site: &Site<'_>, keyword: &str, name: &str) -> bool
-    ensures { result ≡ makes keyword.now name.now (site_of site.now) }
-{
-    match text_argument(site.schema, keyword) {
-        Some(text) => name == text,
-        None => false,
-    }
-}
-
-fn is_anchored(site: &Site<'_>, root: &Site<'_>, name: &str) -> bool
-    ensures { result ≡ (by_anchor (site_of root.now) name.now (site_of site.now)
-        || by_dynamic_anchor (site_of root.now) name.now (site_of site.now)) }
-{
-    let belongs = belongs_to(site, root.document, &root.pointer);
-    (belongs && makes(site, "$anchor", name)) || (belongs && makes(site, "$dynamicAnchor", name))
-}
-
-// The root of the resource that has the URI.
-fn root_named<'s, 'a>(index: &Index, sites: &'s [Site<'a>], uri: &str) -> Option<&'s Site<'a>>
+/// The root of the resource that has the URI.
+fn root_named<'s>(index: &Index, sites: &'s [Site<'_>], uri: &str) -> Option<Root<'s>>
     requires { IsIndex index.now (map site_of sites.now) }
-    ensures { option_map (λ s. site_of s.now) result ≡ find (is_known_as uri.now) (map site_of sites.now) }
+    ensures { option_map standing_of result ≡ option_map standing (find (is_known_as uri.now) (map site_of sites.now)) }
 {
     match index.known.get(uri) {
-        Some(number) => numbered(sites, number),
+        Some(number) => root_at(sites, number),
         None => None,
     }
 }
 
-fn numbered<'s, 'a>(sites: &'s [Site<'a>], number: usize) -> Option<&'s Site<'a>>
-    ensures { option_map (λ s. site_of s.now) result ≡ slice_get (map site_of sites.now) number }
+fn root_at<'s>(sites: &'s [Site<'_>], number: usize) -> Option<Root<'s>>
+    ensures { option_map standing_of result ≡ option_map standing (slice_get (map site_of sites.now) number) }
 {
-    sites.get(number)
+    match sites.get(number) {
+        Some(site) => Some(Root {
+            document: site.document,
+            pointer: &site.pointer,
+        }),
+        None => None,
+    }
 }
 
 /// The number of the place at a pointer.
 pub(crate) fn place_at(
     alloc: Global,
     index: &Index,
-    sites: &[Site<'_>],
     document: usize,
     pointer: &Pointer,
 ) -> Result<Option<usize>, Memory>
-    requires { IsIndex index.now (map site_of sites.now) }
-    ensures { IfOk result (λ n. n ≡ position_from (stands_at document pointer.now) 0 (map site_of sites.now)) }
+    ensures { IfOk result (λ n. n ≡ number_standing index.now document pointer.now) }
 {
     let key = place_key(alloc, document, pointer)?;
-    match index.places.get(key.as_str()) {
-        Some(number) => Ok(first_at(sites, number, document, pointer)),
-        None => Ok(None),
-    }
+    Ok(index.places.get(key.as_str()))
 }
 
-// The same, where the first place with the key has this number.
-fn first_at(sites: &[Site<'_>], number: usize, document: usize, pointer: &Pointer) -> Option<usize>
-    requires { position_from (λ s. list_any (bytes_eq (place_key document pointer.now)) (place_keys s)) 0
-        (map site_of sites.now) ≡ Some number }
-    ensures { result ≡ position_from (stands_at document pointer.now) 0 (map site_of sites.now) }
-{
-    match sites.get(number) {
-        Some(site) if stands_at(site, document, pointer) => Some(number),
-        _ => search_at(sites, document, pointer), // never: the key tells it from others
-    }
-}
-
-fn search_at(sites: &[Site<'_>], document: usize, pointer: &Pointer) -> Option<usize>
-    ensures { result ≡ position_from (stands_at document pointer.now) 0 (map site_of sites.now) }
-{
-    for i in 0..sites.len() {
-        if stands_at(&sites[i], document, pointer) {
-            return Some(i);
-        }
-    }
-    None
-}
-
-// The number of the place with the anchor, in the resource with this root.
-fn place_with_anchor(
+// The number of the place at a pointer from a resource's root.
+fn place_below(
     alloc: Global,
     index: &Index,
-    sites: &[Site<'_>],
-    root: &Site<'_>,
+    root: Root<'_>,
+    pointer: &Pointer,
+) -> Result<Option<usize>, Memory>
+    ensures { IfOk result (λ n. n
+        ≡ number_standing index.now root.entry.document (root.entry.pointer.now ++ pointer.now)) }
+{
+    let whole = extended(alloc, root.pointer, pointer)?;
+    place_at(alloc, index, root.document, &whole)
+}
+
+// The number of the place with the anchor in a resource.
+fn place_anchored(
+    alloc: Global,
+    index: &Index,
+    root: Root<'_>,
     name: &str,
 ) -> Result<Option<usize>, Memory>
-    requires { IsIndex index.now (map site_of sites.now) }
-    ensures { IfOk result (λ n. n ≡ position_from (λ s. by_anchor (site_of root.now) name.now s
-        || by_dynamic_anchor (site_of root.now) name.now s) 0 (map site_of sites.now)) }
+    ensures { IfOk result
+        (λ n. n ≡ number_making index.now root.entry.document root.entry.pointer.now name.now) }
 {
-    let key = name_key(alloc, root.document, &root.pointer, name)?;
-    match index.names.get(key.as_str()) {
-        Some(number) => Ok(first_anchored(sites, number, root, name)),
-        None => Ok(None),
-    }
-}
-
-// The same, where the first place with the key has this number.
-fn first_anchored(sites: &[Site<'_>], number: usize, root: &Site<'_>, name: &str) -> Option<usize>
-    requires { position_from (λ s. list_any (bytes_eq (name_key root.now.document root.now.pointer.value name.now))
-        (name_keys s)) 0 (map site_of sites.now) ≡ Some number }
-    ensures { result ≡ position_from (λ s. by_anchor (site_of root.now) name.now s
-        || by_dynamic_anchor (site_of root.now) name.now s) 0 (map site_of sites.now) }
-{
-    match sites.get(number) {
-        Some(site) if is_anchored(site, root, name) => Some(number),
-        _ => search_anchored(sites, root, name), // never: the key tells it from others
-    }
-}
-
-fn search_anchored(sites: &[Site<'_>], root: &Site<'_>, name: &str) -> Option<usize>
-    ensures { result ≡ position_from (λ s. by_anchor (site_of root.now) name.now s
-        || by_dynamic_anchor (site_of root.now) name.now s) 0 (map site_of sites.now) }
-{
-    for i in 0..sites.len() {
-        if is_anchored(&sites[i], root, name) {
-            return Some(i);
-        }
-    }
-    None
+    let key = name_key(alloc, root.document, root.pointer, name)?;
+    Ok(index.names.get(key.as_str()))
 }
 
 /// Whether a fragment is a pointer: it is empty, or begins with `/`.
@@ -207,45 +115,6 @@ fn parsed(alloc: Global, text: &str) -> Result<Option<Pointer>, Memory>
         Ok(pointer) => Ok(Some(pointer)),
         Err(PointerFault::BadPointer) => Ok(None),
         Err(PointerFault::Memory) => Err(Memory),
-    }
-}
-
-// The number of the place at a pointer from a resource's root.
-fn place_below(
-    alloc: Global,
-    index: &Index,
-    sites: &[Site<'_>],
-    root: Option<&Site<'_>>,
-    pointer: &Pointer,
-) -> Result<Option<usize>, Memory>
-    requires { IsIndex index.now (map site_of sites.now) }
-    ensures { IfOk result
-        (λ n. n ≡ number_below (map site_of sites.now) (option_map (λ s. site_of s.now) root.entry) pointer.now) }
-{
-    match root {
-        Some(root) => {
-            let whole = extended(alloc, &root.pointer, pointer)?;
-            place_at(alloc, index, sites, root.document, &whole)
-        }
-        None => Ok(None),
-    }
-}
-
-// The number of the place with the anchor in a resource.
-fn place_anchored(
-    alloc: Global,
-    index: &Index,
-    sites: &[Site<'_>],
-    root: Option<&Site<'_>>,
-    name: &str,
-) -> Result<Option<usize>, Memory>
-    requires { IsIndex index.now (map site_of sites.now) }
-    ensures { IfOk result (λ n. n
-        ≡ number_anchored (map site_of sites.now) (option_map (λ s. site_of s.now) root.entry) name.now) }
-{
-    match root {
-        Some(root) => place_with_anchor(alloc, index, sites, root, name),
-        None => Ok(None),
     }
 }
 
@@ -279,25 +148,45 @@ fn text_in(bytes: &[u8]) -> Option<&str>
     }
 }
 
-// The number of the place that a fragment names in a resource.
+// The number of the place that a fragment names in a resource, if there is one.
 fn place_in(
     alloc: Global,
     index: &Index,
-    sites: &[Site<'_>],
-    root: Option<&Site<'_>>,
+    root: Option<Root<'_>>,
     fragment: &str,
 ) -> Result<Option<usize>, NameFault>
-    requires { IsIndex index.now (map site_of sites.now) }
-    ensures ok { IfOk result
-        (λ n. n ≡ number_named_in (map site_of sites.now) (option_map (λ s. site_of s.now) root.entry) fragment.now) }
+    ensures ok { IfOk result (λ n. n ≡ number_under index.now root.entry fragment.now) }
     ensures read { OnOk result (is_pointer_read fragment.now ≡ true) }
     ensures err { IfErr result (λ e. IfNotRead e (is_pointer_read fragment.now ≡ false)) }
 {
     if !is_pointer(fragment.as_bytes()) {
-        return Ok(place_anchored(alloc, index, sites, root, fragment)?);
+        return match root {
+            Some(root) => Ok(place_anchored(alloc, index, root, fragment)?),
+            None => Ok(None),
+        };
     }
-    match parsed(alloc, fragment)? {
-        Some(pointer) => Ok(place_below(alloc, index, sites, root, &pointer)?),
+    let Some(pointer) = parsed(alloc, fragment)? else {
+        return Err(NameFault::NotRead);
+    };
+    match root {
+        Some(root) => Ok(place_below(alloc, index, root, &pointer)?),
+        None => Ok(None),
+    }
+}
+
+/// The number of the place that a fragment, decoded, names in a resource, if there is one.
+pub(crate) fn place_by_fragment(
+    alloc: Global,
+    index: &Index,
+    root: Option<Root<'_>>,
+    fragment: &[u8],
+) -> Result<Option<usize>, NameFault>
+    ensures ok { IfOk result (λ n. n ≡ number_under index.now root.entry fragment.now) }
+    ensures read { OnOk result (is_read fragment.now ≡ true) }
+    ensures err { IfErr result (λ e. IfNotRead e (is_read fragment.now ≡ false)) }
+{
+    match text_in(fragment) {
+        Some(fragment) => place_in(alloc, index, root, fragment),
         None => Err(NameFault::NotRead),
     }
 }
@@ -314,11 +203,8 @@ pub(crate) fn number_named(
     ensures read { OnOk result (is_read (spec.fragment uri) ≡ true) }
     ensures err { IfErr result (λ e. IfNotRead e (is_read (spec.fragment uri) ≡ false)) }
 {
-    let bytes = uri::fragment(alloc, &uri)?;
-    let Some(fragment) = text_in(bytes.as_slice()) else {
-        return Err(NameFault::NotRead);
-    };
+    let fragment = uri::fragment(alloc, &uri)?;
     let bare = uri::without_fragment(uri)?;
     let root = root_named(index, sites, uri::text_of(&bare));
-    place_in(alloc, index, sites, root, fragment)
+    place_by_fragment(alloc, index, root, fragment.as_slice())
 }

@@ -3,17 +3,17 @@ ghost use Rattle.std.specs.Prelude.{◌≡◌, ◌<◌, Some, map, length, codes
 ghost use Rattle.std.specs.List.{position_from};
 ghost use Rattle.js_bundle.specs.code.Index.{IsIndex};
 ghost use Rattle.js_bundle.specs.Keyword.{text_argument};
-ghost use Rattle.js_bundle.specs.Names.{stands_at};
+ghost use Rattle.js_bundle.specs.Names.{same_tokens, stands_at};
 ghost use Rattle.js_bundle.specs.ResourceNumber.{begins_resource, roots, resource_number};
 ghost use Rattle.js_bundle.specs.ResourceTable.{AreAnchors, AreEmpty, AreNamed, AreRooted, IsOpened, IsResourceTable, rank_of_root, ranks_from};
 ghost use Rattle.js_bundle.specs.code.Scan.{site_of};
 
 use crate::index::Index;
 use crate::keyword::text_argument;
-use crate::names::{is_same, place_at};
+use crate::names::place_at;
 use crate::numbering::Numbering;
 use crate::scan::Site;
-use js_doc::Memory;
+use js_doc::{Memory, Pointer};
 use std::alloc::Global;
 
 /// What is kept of resources.
@@ -38,6 +38,26 @@ fn begins_resource(site: &Site<'_>) -> bool
     ensures { result ≡ begins_resource (site_of site.now) }
 {
     is_same(&site.pointer, &site.own.resource)
+}
+
+fn is_same(first: &Pointer, second: &Pointer) -> bool
+    ensures { result ≡ same_tokens first.now second.now }
+{
+    *first == *second
+}
+
+// The number of the root of a place's resource.
+fn root_of(
+    alloc: Global,
+    index: &Index,
+    sites: &[Site<'_>],
+    site: &Site<'_>,
+) -> Result<Option<usize>, Memory>
+    requires { IsIndex index.now (map site_of sites.now) }
+    ensures { IfOk result (λ n. n
+        ≡ position_from (stands_at site.now.document site.now.own.value.resource) 0 (map site_of sites.now)) }
+{
+    place_at(alloc, index, site.document, &site.own.resource)
 }
 
 // Opens the resource of a root.
@@ -90,7 +110,7 @@ fn numbers_of(
     let mut numbers = Vec::new(alloc);
     for i in 0..sites.len() {
         let site = &sites[i];
-        let root = place_at(alloc, index, sites, site.document, &site.own.resource)?;
+        let root = root_of(alloc, index, sites, site)?;
         numbers.push(rank_under(ranks, root))?;
     }
     Ok(numbers)

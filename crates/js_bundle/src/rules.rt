@@ -7,7 +7,7 @@ ghost use Rattle.js_bundle.specs.declared.refusal.RefusalKind.TheVariants.{TooMa
 ghost use Rattle.js_bundle.specs.Candidate.{IsClear, IsStopped};
 ghost use Rattle.js_bundle.specs.Form.{is_formed, is_filled_list, is_schema};
 ghost use Rattle.js_bundle.specs.code.Index.{IsIndex};
-ghost use Rattle.js_bundle.specs.Names.{is_root, is_known_as, belongs_to, makes, is_name, begins_name, continues_name};
+ghost use Rattle.js_bundle.specs.Names.{is_root, is_name, begins_name, continues_name};
 ghost use Rattle.js_bundle.specs.Refusals.{when, decided, is_taken, is_made, is_dialect, on_text, at_dialect, at_id, at_joined_id, at_anchor, at_place, assertion_rules};
 ghost use Rattle.js_assert.specs.Assertion.{asserted};
 ghost use Rattle.js_bundle.specs.code.Scan.{site_of};
@@ -16,7 +16,7 @@ ghost use Rattle.js_bundle.specs.Url as spec;
 use crate::fault::{Fault, refuse};
 use crate::index::{Index, name_key};
 use crate::keyword::as_text;
-use crate::names::{belongs_to, is_known_as, is_root, makes};
+use crate::names::is_root;
 use crate::refusal::RefusalKind;
 use crate::scan::Site;
 use crate::uri::{self, LONGEST};
@@ -36,16 +36,6 @@ fn is_taken(index: &Index, before: &[Site<'_>], uri: &Url) -> bool
     index.known.get(uri::text_of(uri)).is_some()
 }
 
-// Whether a place makes the name, by whichever keyword, in the same resource.
-fn makes_beside(site: &Site<'_>, beside: &Site<'_>, name: &str) -> bool
-    ensures { result ≡ (belongs_to beside.now.document beside.now.own.value.resource (site_of site.now)
-        && (makes (codes "$anchor") name.now (site_of site.now)
-        || makes (codes "$dynamicAnchor") name.now (site_of site.now))) }
-{
-    belongs_to(site, beside.document, &beside.own.resource)
-        && (makes(site, "$anchor", name) || makes(site, "$dynamicAnchor", name))
-}
-
 // Whether a place before makes the name in the same resource.
 fn is_made(
     alloc: Global,
@@ -58,34 +48,7 @@ fn is_made(
     ensures { IfOk result (λ b. b ≡ is_made (map site_of before.now) (site_of place.now) name.now) }
 {
     let key = name_key(alloc, place.document, &place.own.resource, name)?;
-    match index.names.get(key.as_str()) {
-        Some(number) => Ok(
-            makes_at(before, number, place, name) || some_makes(before, place, name),
-        ),
-        None => Ok(false),
-    }
-}
-
-// Whether the place of this number makes it.
-fn makes_at(before: &[Site<'_>], number: usize, place: &Site<'_>, name: &str) -> bool
-    ensures { result ≡ true → is_made (map site_of before.now) (site_of place.now) name.now ≡ true }
-{
-    match before.get(number) {
-        Some(site) => makes_beside(site, place, name),
-        None => false,
-    }
-}
-
-// Whether some place makes it. Where keys are alike only for one name of one resource, the first of the key has told.
-fn some_makes(before: &[Site<'_>], place: &Site<'_>, name: &str) -> bool
-    ensures { result ≡ is_made (map site_of before.now) (site_of place.now) name.now }
-{
-    for site in before {
-        if makes_beside(site, place, name) {
-            return true;
-        }
-    }
-    false
+    Ok(index.names.get(key.as_str()).is_some())
 }
 
 fn begins_name(b: u8) -> bool
