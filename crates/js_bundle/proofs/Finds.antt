@@ -40,7 +40,7 @@ below_of documents k s n above (Some t) fit e h =
     let test = stands_at t.document (t.pointer ++ k ∷ step_tokens s) in
     rw fit (finds_place documents test n (subst (λ a. n ≡ position_from (λ u. stands_below a k s (spot u)) 0 (sites documents)) (sym same) h))
 
-finds_below : (docs documents : Documents) (kept : List rust.Spot) (place : ℕ) (above : rust.Spot) (k : Text) (s : Step) (n : Option ℕ) → docs ≡ documents
+pub finds_below : (docs documents : Documents) (kept : List rust.Spot) (place : ℕ) (above : rust.Spot) (k : Text) (s : Step) (n : Option ℕ) → docs ≡ documents
     → map spot_of kept ≡ map spot (sites docs) → option_map spot (place_at documents place) ≡ Some (spot_of above) → fits (holding k) s ≡ true
     → n ≡ position_from (stands_below (spot_of above) k s) 0 (map spot_of kept) → Finds documents n (option_and_then (λ t. below documents t k s) (place_at documents place))
 finds_below docs documents kept place above k s n same e here fit found =

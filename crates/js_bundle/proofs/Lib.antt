@@ -24,6 +24,7 @@ pub mod PatternNext
 pub mod Whole
 pub mod Kept
 pub mod Finds
+pub mod Absent
 pub mod LeadingDown
 pub mod Ways
 pub mod ExtendedLocation

@@ -6,3 +6,4 @@ pub mod Spot
 pub mod Edges
 pub mod LocationGoesOn
 pub mod Grouped
+pub mod Held

@@ -1,19 +1,24 @@
 //! What the keywords of a place hold.
-ghost use Rattle.std.specs.Prelude.{◌≡◌, ◌++◌, [], ◌∷◌, true, find, map, option_map, option_and_then, decimal, None, Some, if◌then◌else◌};
+ghost use Rattle.std.specs.Prelude.{◌≡◌, ◌++◌, [], ◌∷◌, true, false, find, length, map, nat_lt, option_map, option_and_then, decimal, None, Some, MatchOption, if◌then◌else◌};
 ghost use Rattle.std.specs.List.{list_all, position_from};
+ghost use Rattle.std.specs.Option.{option_map_or};
+ghost use Rattle.js_doc.specs.Seen.{value_of};
 ghost use Rattle.js_bundle.specs.code.Edges.{leads_down, AreAlone};
+ghost use Rattle.js_bundle.specs.code.Held.{has_step, holds, IsSmall};
+ghost use Rattle.js_bundle.specs.Keyword.{argument};
 ghost use Rattle.js_bundle.specs.Names.{same_tokens};
-ghost use Rattle.js_bundle.specs.Place.{holding};
+ghost use Rattle.js_bundle.specs.Place.{holding, items_in};
 ghost use Rattle.js_bundle.specs.Schemas.{is_place, place_at, below, fits, step_of, step_tokens, Finds, FindsSchema, Holds};
 ghost use Rattle.js_bundle.specs.code.Spot.{spot_of, stands_below};
 
 use crate::edges::{edge_to, edges_under};
 use crate::holding::Holding;
+use crate::keyword::{argument, has};
 use crate::place::{Place, Step};
 use crate::scan::holding_of;
 use crate::schemas::Schemas;
 use crate::whole_check::Spot;
-use js_doc::Token;
+use js_doc::{Doc, Token};
 
 impl Schemas {
     ghost use Rattle.js_doc.specs.Value.{Value};
@@ -32,14 +37,32 @@ impl Schemas {
     {
         let spots = self.kept.spots.as_slice();
         let edges = edges_under(self.kept.edges.as_slice(), place.number);
-        match number_held(spots, edges, self.spot(place), keyword, step) {
+        match number_led_to(spots, edges, self.spot(place), keyword, step) {
+            Some(number) => Some(Place { number }),
+            None => self.below_without_edge(place, keyword, step),
+        }
+    }
+
+    // What stands at a step to which no edge leads: nothing, where the place's own schema holds nothing there.
+    fn below_without_edge(&self, place: Place, keyword: &str, step: Step<'_>) -> Option<Place>
+        requires { is_place self.now place ≡ true }
+        ensures { Finds self.now result
+            (option_and_then (λ s. below self.now s keyword.now (step_of step.entry)) (place_at self.now place)) }
+    {
+        let spots = self.kept.spots.as_slice();
+        if !holds(self.schema(place), keyword, step) {
+            return None;
+        }
+        // never: an edge leads to each schema that is held, though that isn't proved
+        match search_below(spots, self.spot(place), keyword, step) {
             Some(number) => Some(Place { number }),
             None => None,
         }
     }
 }
 
-fn number_held(
+// The number of the place at the step, if one of the edges leads there.
+fn number_led_to(
     spots: &[Spot],
     edges: &[usize],
     above: &Spot,
@@ -48,19 +71,56 @@ fn number_held(
 ) -> Option<usize>
     requires down { list_all (leads_down (spot_of above.now) (map spot_of spots.now)) edges.now ≡ true }
     requires alone { AreAlone (map spot_of spots.now) }
-    ensures { result ≡ (if fits (holding keyword.now) (step_of step.entry) then position_from
-        (stands_below (spot_of above.now) keyword.now (step_of step.entry)) 0 (map spot_of spots.now) else None) }
+    ensures { MatchOption result (Unit {0}) (λ n. (if fits (holding keyword.now) (step_of step.entry) then position_from
+        (stands_below (spot_of above.now) keyword.now (step_of step.entry)) 0 (map spot_of spots.now) else None) ≡ Some n) }
 {
     if fits(holding_of(keyword), step) {
-        number_below(spots, edges, above, keyword, step)
+        edge_to(spots, edges, above, keyword, step)
     } else {
         None
     }
 }
 
+// Whether the keyword of the schema holds a schema at the step.
+fn holds(schema: &Doc, keyword: &str, step: Step<'_>) -> bool
+    ensures holds { result ≡ holds keyword.now (step_of step.entry) (value_of schema.now) }
+    ensures small { IsSmall (step_of step.entry) }
+{
+    fits(holding_of(keyword), step) && argument_has(schema, keyword, step)
+}
+
+fn argument_has(schema: &Doc, keyword: &str, step: Step<'_>) -> bool
+    ensures { result ≡ option_map_or (has_step (step_of step.entry)) (argument keyword.now (value_of schema.now)) false }
+{
+    match argument(schema, keyword) {
+        Some(argument) => has_step(argument, step),
+        None => false,
+    }
+}
+
+fn has_step(argument: &Doc, step: Step<'_>) -> bool
+    ensures { result ≡ has_step (step_of step.entry) (value_of argument.now) }
+{
+    match step {
+        Step::Alone => true,
+        Step::Index(index) => has_item(argument, index),
+        Step::Name(name) => has(argument, name),
+    }
+}
+
+fn has_item(argument: &Doc, index: usize) -> bool
+    ensures { result ≡ nat_lt index (length (items_in (value_of argument.now))) }
+{
+    match argument {
+        Doc::List(items) => index < items.len(),
+        _ => false,
+    }
+}
+
 // Whether a keyword holds schemas so.
 fn fits(holding: Holding, step: Step<'_>) -> bool
-    ensures { result ≡ fits holding (step_of step.entry) }
+    ensures fits { result ≡ fits holding (step_of step.entry) }
+    ensures small { IsSmall (step_of step.entry) }
 {
     match step {
         Step::Alone => matches!(holding, Holding::One),
@@ -69,26 +129,7 @@ fn fits(holding: Holding, step: Step<'_>) -> bool
     }
 }
 
-// The number of the first place that stands at the step through the keyword. An edge leads to what is there. That none is missing
-// isn't proved, so what isn't there is looked for among all places.
-fn number_below(
-    spots: &[Spot],
-    edges: &[usize],
-    above: &Spot,
-    keyword: &str,
-    step: Step<'_>,
-) -> Option<usize>
-    requires down { list_all (leads_down (spot_of above.now) (map spot_of spots.now)) edges.now ≡ true }
-    requires alone { AreAlone (map spot_of spots.now) }
-    ensures { result ≡ position_from (stands_below (spot_of above.now) keyword.now (step_of step.entry)) 0
-        (map spot_of spots.now) }
-{
-    match edge_to(spots, edges, above, keyword, step) {
-        Some(number) => Some(number),
-        None => search_below(spots, above, keyword, step),
-    }
-}
-
+// The number of the first place that stands at the step through the keyword, of all.
 fn search_below(spots: &[Spot], above: &Spot, keyword: &str, step: Step<'_>) -> Option<usize>
     ensures { result ≡ position_from (stands_below (spot_of above.now) keyword.now (step_of step.entry)) 0
         (map spot_of spots.now) }

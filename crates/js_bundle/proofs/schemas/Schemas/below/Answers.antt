@@ -16,15 +16,7 @@ returns-in-Some-clause-found c =
     let s = step_of c.args.step in
     finds_held (map document_of c.self.inside.documents.items) c.args.self.now c.self.inside.kept.spots.items c.args.place c.spot.result.now k s (Some c.in-Some.number) c.self.view_is
     c.self.invariant.spots c.spot.ensures
-    (c.in-Some.ensures ∙ ap (λ l. if fits (holding k) s then position_from (stands_below (spot_of c.spot.result.now) k s) 0 (map spot_of l) else None) c.as_slice-spots.ensures.value)
-
-pub returns-in-None-clause-found : goal.returns-in-None-clause-found
-returns-in-None-clause-found c =
-    let k = c.args.keyword.now in
-    let s = step_of c.args.step in
-    finds_held (map document_of c.self.inside.documents.items) c.args.self.now c.self.inside.kept.spots.items c.args.place c.spot.result.now k s None c.self.view_is
-    c.self.invariant.spots c.spot.ensures
-    (c.in-None.ensures ∙ ap (λ l. if fits (holding k) s then position_from (stands_below (spot_of c.spot.result.now) k s) 0 (map spot_of l) else None) c.as_slice-spots.ensures.value)
+    (sym c.in-Some.ensures ∙ ap (λ l. if fits (holding k) s then position_from (stands_below (spot_of c.spot.result.now) k s) 0 (map spot_of l) else None) c.as_slice-spots.ensures.value)
 
 pub returns-in-Some-clause-held : goal.returns-in-Some-clause-held
 returns-in-Some-clause-held c =
@@ -33,11 +25,11 @@ returns-in-Some-clause-held c =
 
 pub returns-in-None-clause-held : goal.returns-in-None-clause-held
 returns-in-None-clause-held c =
-    held_found (map document_of c.self.inside.documents.items) c.args.self.now c.self.view_is c.self.invariant.read c.args.place c.args.keyword.now (step_of c.args.step) None
-    (returns-in-None-clause-found c)
+    held_found (map document_of c.self.inside.documents.items) c.args.self.now c.self.view_is c.self.invariant.read c.args.place c.args.keyword.now (step_of c.args.step) c.below_without_edge.result
+    c.below_without_edge.ensures
 
-pub number_held-requires : goal.number_held-requires
-number_held-requires c =
+pub number_led_to-requires : goal.number_led_to-requires
+number_led_to-requires c =
     let spots = c.self.inside.kept.spots.items in
     let docs = map document_of c.self.inside.documents.items in
     let above = spot_of c.spot.result.now in
