@@ -1,5 +1,5 @@
 -- Where the schema of a place holds nothing at a step, no place stands there.
-use Rattle.std.proofs.Common.{◌≡◌, ℕ, zero, suc, ◌+◌, ◌<◌, ◌^◌, List, [], ◌∷◌, ◌++◌, length, map, Bool, true, false, ◌&&◌, if◌then◌else◌, nat_lt, decimal, Option, Some, None, option_map, option_and_then, is_some, slice_get, find, refl, sym, ap, ◌∙◌, subst, arith, length-append, append_assoc}
+use Rattle.std.proofs.Common.{◌≡◌, ℕ, zero, suc, ◌<◌, ◌^◌, List, [], ◌∷◌, ◌++◌, length, Bool, true, false, ◌&&◌, if◌then◌else◌, nat_lt, decimal, Option, Some, None, option_map, option_and_then, is_some, slice_get, find, refl, sym, ap, ◌∙◌, subst, arith, length-append, append_assoc}
 use Rattle.std.specs.List.{position_from}
 use Rattle.std.specs.Option.{option_map_or}
 use Rattle.std.specs.Str.{bytes_eq}
@@ -13,7 +13,7 @@ use Rattle.js_doc.specs.Short.{IsShort}
 use Rattle.js_doc.specs.Value.{Value, null, truth, whole, text, list, object, Values, items, Members, no_members, member}
 use Rattle.js_bundle.specs.declared.holding.Holding.{Holding}
 use Rattle.js_bundle.specs.declared.holding.Holding.TheVariants.{One, Listed, Named}
-use Rattle.js_bundle.specs.Document.{Document, Documents}
+use Rattle.js_bundle.specs.Document.{Documents}
 use Rattle.js_bundle.specs.Keyword.{Text, member_pairs, keywords, argument}
 use Rattle.js_bundle.specs.Names.{stands_at}
 use Rattle.js_bundle.specs.Place.{holding, values, items_in, IsPlace, at_root, in_keyword, in_list, in_object}

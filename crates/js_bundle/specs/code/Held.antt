@@ -1,5 +1,5 @@
 -- Whether a schema's keyword holds a schema at a step, as a test.
-use Rattle.std.specs.Prelude.{ℕ, ◌<◌, ◌^◌, Bool, true, false, ◌&&◌, length, nat_lt}
+use Rattle.std.specs.Prelude.{◌<◌, ◌^◌, Bool, true, false, ◌&&◌, length, nat_lt}
 use Rattle.std.specs.Option.{option_map_or}
 use Rattle.js_doc.specs.Value.{Value}
 use Rattle.js_bundle.specs.Keyword.{Text, argument, has}
