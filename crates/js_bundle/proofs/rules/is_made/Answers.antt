@@ -1,4 +1,4 @@
-use Rattle.std.proofs.Common.{◌<◌, ◌^◌, is_some, map, ap, ◌∙◌, arith}
+use Rattle.std.proofs.Common.{is_some, map, ap, ◌∙◌, arith}
 use Rattle.js_bundle.specs.code.Index.{number_of_key, name_key}
 use Rattle.js_bundle.specs.code.Scan.{site_of}
 use Rattle.js_bundle.proofs.Indexed.{made_is}

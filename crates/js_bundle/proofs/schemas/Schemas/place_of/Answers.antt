@@ -1,8 +1,8 @@
-use Rattle.std.proofs.Common.{◌≡◌, true, false, map, find, option_map, ap, sym, subst, ◌∙◌}
+use Rattle.std.proofs.Common.{◌≡◌, true, find, option_map, ap, sym, subst, ◌∙◌}
 use Rattle.js_bundle.specs.code.Index.{IsIndex, number_under, standing}
 use Rattle.js_bundle.specs.Names.{is_known_as, is_read}
 use Rattle.js_bundle.specs.Resource.{sites}
-use Rattle.js_bundle.specs.Url.{fragment, printed}
+use Rattle.js_bundle.specs.Url.{printed}
 use Rattle.js_bundle.proofs.Finds.{names_it, names_none}
 use Rattle.js_bundle.proofs.Indexed.{named_found}
 use Rattle.js_bundle.proofs.schemas.Schemas.place_of.Goals as goal
