@@ -4,7 +4,7 @@ use Rattle.std.specs.List.{AllByRecursion}
 use Rattle.std.specs.Str.{bytes_eq}
 use Rattle.std.proofs.lemmas.Slice.Eq.{bytes_eq-Decides}
 use Rattle.js_doc.specs.Value.{Value}
-use Rattle.js_assert.specs.Keyword.{NamedKeyword, keywords, row_named, keyword_named}
+use Rattle.js_assert.specs.Keyword.{NamedKeyword, name_of, keywords, row_named, keyword_named}
 use Rattle.js_assert.specs.Form.{IsFaultOf, IsKeywordFault}
 use Rattle.js_assert.specs.declared.fault.KeywordFault.{KeywordFault}
 use Rattle.js_assert.specs.declared.fault.KeywordFault.TheVariants.{Memory, BadKeyword, NotAPattern, PatternTooLarge}
@@ -24,6 +24,21 @@ none_named (row ∷ rows) name h =
 pub other_name : (name : List ℕ) → AllByRecursion (λ row. name ≡ row.0 → ⊥) keywords → None ≡ keyword_named name
 unfolding keyword_named
 other_name name h = none_named keywords name h
+
+-- ---- the name of a keyword is the one that it was named by
+
+named_in : (rows : List NamedKeyword) (name : List ℕ) (k : Keyword) → AllByRecursion (λ row. row.0 ≡ name_of row.1) rows → row_named rows name ≡ Some k → name ≡ name_of k
+named_in [] name k h e = absurd (cc)
+named_in (row ∷ rows) name k h e = at _ refl (named_in rows name k h.1) where
+  at : (b : Bool) → bytes_eq name row.0 ≡ b → (row_named rows name ≡ Some k → name ≡ name_of k) → name ≡ name_of k
+  at true is later = (bytes_eq-Decides name row.0).0 is ∙ h.0 ∙ ap name_of (let f : Some row.1 ≡ Some k = rw is at e in cc)
+  at false is later = later (rw is at e)
+
+pub named-name_of : (name : List ℕ) (k : Keyword) → keyword_named name ≡ Some k → name ≡ name_of k
+unfolding keyword_named
+named-name_of name k e = named_in keywords name k
+    (refl, (refl, (refl, (refl, (refl, (refl, (refl, (refl, (refl, (refl, (refl, (refl, (refl, (refl, (refl, (refl, (refl, (refl, (refl, (refl, tt))))))))))))))))))))
+    e
 
 -- ---- the keyword `pattern`
 

@@ -4,18 +4,41 @@ use Rattle.std.specs.Str.{bytes_eq}
 use Rattle.js_assert.specs.declared.keyword.Keyword.{Keyword}
 use Rattle.js_assert.specs.declared.keyword.Keyword.TheVariants.{«Type», Enum, Const, MultipleOf, Maximum, ExclusiveMaximum, Minimum, ExclusiveMinimum, MaxLength, MinLength, Pattern, MaxItems, MinItems, UniqueItems, MaxContains, MinContains, MaxProperties, MinProperties, Required, DependentRequired}
 
+abbrev pub name_of : Keyword → List ℕ
+name_of «Type» = codes "type"
+name_of Enum = codes "enum"
+name_of Const = codes "const"
+name_of MultipleOf = codes "multipleOf"
+name_of Maximum = codes "maximum"
+name_of ExclusiveMaximum = codes "exclusiveMaximum"
+name_of Minimum = codes "minimum"
+name_of ExclusiveMinimum = codes "exclusiveMinimum"
+name_of MaxLength = codes "maxLength"
+name_of MinLength = codes "minLength"
+name_of Pattern = codes "pattern"
+name_of MaxItems = codes "maxItems"
+name_of MinItems = codes "minItems"
+name_of UniqueItems = codes "uniqueItems"
+name_of MaxContains = codes "maxContains"
+name_of MinContains = codes "minContains"
+name_of MaxProperties = codes "maxProperties"
+name_of MinProperties = codes "minProperties"
+name_of Required = codes "required"
+name_of DependentRequired = codes "dependentRequired"
+
 abbrev pub NamedKeyword : Type 0
 NamedKeyword = List ℕ × Keyword
+
+abbrev pub named : Keyword → NamedKeyword
+named keyword = (name_of keyword, keyword)
 
 -- in the order of the standard
 abbrev pub keywords : List NamedKeyword
 keywords =
-    (codes "type", «Type») ∷ (codes "enum", Enum) ∷ (codes "const", Const) ∷ (codes "multipleOf", MultipleOf) ∷ (codes "maximum", Maximum)
-    ∷ (codes "exclusiveMaximum", ExclusiveMaximum) ∷ (codes "minimum", Minimum) ∷ (codes "exclusiveMinimum", ExclusiveMinimum)
-    ∷ (codes "maxLength", MaxLength) ∷ (codes "minLength", MinLength) ∷ (codes "pattern", Pattern) ∷ (codes "maxItems", MaxItems)
-    ∷ (codes "minItems", MinItems) ∷ (codes "uniqueItems", UniqueItems) ∷ (codes "maxContains", MaxContains) ∷ (codes "minContains", MinContains)
-    ∷ (codes "maxProperties", MaxProperties) ∷ (codes "minProperties", MinProperties) ∷ (codes "required", Required)
-    ∷ (codes "dependentRequired", DependentRequired) ∷ []
+    named «Type» ∷ named Enum ∷ named Const ∷ named MultipleOf ∷ named Maximum ∷ named ExclusiveMaximum
+    ∷ named Minimum ∷ named ExclusiveMinimum ∷ named MaxLength ∷ named MinLength ∷ named Pattern ∷ named MaxItems
+    ∷ named MinItems ∷ named UniqueItems ∷ named MaxContains ∷ named MinContains ∷ named MaxProperties
+    ∷ named MinProperties ∷ named Required ∷ named DependentRequired ∷ []
 
 abbrev pub row_named : List NamedKeyword → List ℕ → Option Keyword
 row_named [] name = None

@@ -37,7 +37,7 @@ keyword_tested (test.DependentRequired dependences) = keyword.DependentRequired
 abbrev pub argument_tested : Test → Value
 argument_tested (test.Type types) = types_value types
 argument_tested (test.Enum docs) = list (items (map value_of docs.items))
-argument_tested (test.Const doc) = value_of doc
+argument_tested (test.Const doc) = value_of doc.value
 argument_tested (test.MultipleOf divisor) = whole (pos (non_zero_u64_get divisor))
 argument_tested (test.Maximum limit) = whole limit
 argument_tested (test.ExclusiveMaximum limit) = whole limit

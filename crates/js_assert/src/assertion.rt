@@ -18,7 +18,8 @@ use std::num::NonZeroU64;
 pub(crate) enum Test {
     Type(Types),
     Enum(Vec<Doc>),
-    Const(Doc),
+    // A document is larger than what the others hold.
+    Const(Box<Doc>),
     MultipleOf(NonZeroU64),
     Maximum(Whole),
     ExclusiveMaximum(Whole),
@@ -71,6 +72,7 @@ impl Assertion {
     ghost use Rattle.js_assert.specs.Assertion.{asserted, pattern_asked, says};
     ghost use Rattle.js_assert.specs.ErrorText.{error, error_text};
     ghost use Rattle.js_assert.specs.Form.{has_form, IsKeywordFault};
+    ghost use Rattle.js_assert.specs.Keyword.{name_of};
     ghost use Rattle.js_assert.specs.Pattern.{is_pattern, matches};
 
     /// The assertion that the keyword of this name makes with this argument, among these members of its schema;
@@ -103,6 +105,34 @@ impl Assertion {
         }))
     }
 
+    /// The keyword's name.
+    pub fn keyword(&self) -> &'static str
+        ensures { result.now ≡ name_of self.now.keyword }
+    {
+        match &self.test {
+            Test::Type(_) => "type",
+            Test::Enum(_) => "enum",
+            Test::Const(_) => "const",
+            Test::MultipleOf(_) => "multipleOf",
+            Test::Maximum(_) => "maximum",
+            Test::ExclusiveMaximum(_) => "exclusiveMaximum",
+            Test::Minimum(_) => "minimum",
+            Test::ExclusiveMinimum(_) => "exclusiveMinimum",
+            Test::MaxLength(_) => "maxLength",
+            Test::MinLength(_) => "minLength",
+            Test::Pattern(_) => "pattern",
+            Test::MaxItems(_) => "maxItems",
+            Test::MinItems(_) => "minItems",
+            Test::UniqueItems(_) => "uniqueItems",
+            Test::MaxContains(_) => "maxContains",
+            Test::MinContains(_) => "minContains",
+            Test::MaxProperties(_) => "maxProperties",
+            Test::MinProperties(_) => "minProperties",
+            Test::Required(_) => "required",
+            Test::DependentRequired(_) => "dependentRequired",
+        }
+    }
+
     /// The pattern that a string has to match (JSON Schema Validation, section 6.3.3), where the keyword is `pattern`: who judges
     /// many values can keep what searches with it.
     pub fn pattern(&self) -> Option<&Pattern>
@@ -128,7 +158,7 @@ impl Assertion {
         match &self.test {
             Test::Type(types) => Ok(types.take(value)),
             Test::Enum(docs) => Ok(any_type::enumeration(docs.as_slice(), value)),
-            Test::Const(doc) => Ok(doc == value),
+            Test::Const(doc) => Ok(**doc == *value),
             Test::MultipleOf(divisor) => Ok(numbers::multiple_of(*divisor, value)),
             Test::Maximum(limit) => Ok(numbers::maximum(*limit, value)),
             Test::ExclusiveMaximum(limit) => Ok(numbers::exclusive_maximum(*limit, value)),

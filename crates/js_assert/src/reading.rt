@@ -18,7 +18,7 @@ pub(crate) fn test_of(alloc: Global, keyword: Keyword, argument: &Doc) -> Result
     match keyword {
         Keyword::Type => Ok(Test::Type(form::types(alloc, argument)?)),
         Keyword::Enum => Ok(Test::Enum(form::documents(alloc, argument)?)),
-        Keyword::Const => Ok(Test::Const(form::constant(alloc, argument)?)),
+        Keyword::Const => Ok(Test::Const(Box::new(alloc, form::constant(alloc, argument)?)?)),
         Keyword::MultipleOf => Ok(Test::MultipleOf(form::divisor(argument)?)),
         Keyword::Maximum => Ok(Test::Maximum(form::number_argument(argument)?)),
         Keyword::ExclusiveMaximum => Ok(Test::ExclusiveMaximum(form::number_argument(argument)?)),

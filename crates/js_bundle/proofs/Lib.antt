@@ -27,6 +27,8 @@ pub mod Finds
 pub mod Absent
 pub mod LeadingDown
 pub mod Ways
+pub mod BelowBefore
+pub mod ExtendedKey
 pub mod ExtendedLocation
 pub mod Schema
 pub mod UnderNumber

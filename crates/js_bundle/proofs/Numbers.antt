@@ -1,5 +1,5 @@
 -- What a number finds in a list; and what was built of a place, by its name.
-use Rattle.std.proofs.Common.{◌≡◌, ℕ, suc, ◌+◌, List, [], ◌∷◌, ◌++◌, Bool, true, false, cond, if◌then◌else◌, map, nat_eq, inl, inr, codes, Option, Some, None, option_map, option_and_then, slice_get, find, flat_map, refl, sym, ap, ◌∙◌, subst, arith}
+use Rattle.std.proofs.Common.{◌≡◌, ℕ, suc, ◌+◌, List, [], ◌∷◌, ◌++◌, Bool, true, false, cond, if◌then◌else◌, map, nat_eq, inl, inr, codes, option_to_list, Option, Some, None, option_map, option_and_then, slice_get, find, flat_map, refl, sym, ap, ◌∙◌, subst, arith}
 use Rattle.std.specs.List.{position_from}
 use Rattle.std.specs.Option.{option_or}
 use Rattle.std.specs.Str.{bytes_eq}
@@ -11,10 +11,10 @@ use Rattle.js_doc.specs.Value.{Value, null, truth, whole, text, list, object, Me
 use Rattle.js_doc.proofs.Named.{is_text-refl, is_text-sound, member_is}
 use Rattle.js_assert.specs.Argument.{has}
 use Rattle.js_assert.specs.Assertion.{Asserted}
-use Rattle.js_assert.specs.Keyword.{keyword_named}
-use Rattle.js_bundle.specs.declared.assertions_and_patterns.BuiltAssertion.{BuiltAssertion}
+use Rattle.js_assert.specs.Keyword.{keyword_named, name_of}
+use Rattle.js_assert.proofs.Named.{named-name_of}
 use Rattle.js_bundle.specs.declared.assertions_and_patterns.BuiltPattern.{BuiltPattern}
-use Rattle.js_bundle.specs.AssertionsAndPatterns.{assertion_of, assertions_at, pattern_at, patterns_of, patterns_at}
+use Rattle.js_bundle.specs.AssertionsAndPatterns.{assertions_at, pattern_at, patterns_of, patterns_at}
 use Rattle.js_bundle.specs.Keyword.{Text, member_pairs, keywords, argument}
 use Rattle.js_bundle.specs.Resource.{Site}
 use Rattle.js_bundle.specs.Schemas.{assertion, pattern}
@@ -96,28 +96,30 @@ unlike k l n = unlike_by k l (bytes_eq k l) refl n
 pub get_first : (k l : Text) (v : Value) (ms : Named) → get k ((l, v) ∷ ms) ≡ (if bytes_eq k l then Some v else get k ms)
 get_first k l v ms = sym (member_is k ((l, v) ∷ ms)) ∙ ap (λ x. if bytes_eq k l then Some v else x) (member_is k ms)
 
--- `named` says which names make an assertion, and `make` what it is: no name of the type between is known here
-module _ {K : Type 0} (named : Text → Option K) (make : Value → K → Asserted) where
-  abbrev one_built : Text × Value → List BuiltAssertion
-  one_built m = assertion_of m.0 (option_map (make m.1) (named m.0))
+-- `named` says which names make an assertion, `make` what it is, and `name` what made it: no name of the type between is known here
+module _ {K : Type 0} (named : Text → Option K) (make : Value → K → Asserted) (name : Asserted → Text) (told : (l : Text) (v : Value) (n : K) → named l ≡ Some n → l ≡ name (make v n)) where
+  abbrev one_built : Text × Value → List Asserted
+  one_built m = option_to_list (option_map (make m.1) (named m.0))
 
   module _ (k : Text) where
-    abbrev under : BuiltAssertion → Bool
-    under b = bytes_eq k b.keyword
+    abbrev under : Asserted → Bool
+    under a = bytes_eq k (name a)
 
     abbrev asserts : Value → Option Asserted
     asserts v = option_map (make v) (named k)
 
-    other_passed : (l : Text) (o : Option Asserted) → bytes_eq k l ≡ false → find under (assertion_of l o) ≡ None
-    other_passed l None e = refl
-    other_passed l (Some a) e = rw e refl
+    other_passed : (l : Text) (v : Value) (o : Option K) → named l ≡ o → bytes_eq k l ≡ false → find under (option_to_list (option_map (make v) o)) ≡ None
+    other_passed l v None is e = refl
+    other_passed l v (Some n) is e =
+        let other : bytes_eq k (name (make v n)) ≡ false = ap (bytes_eq k) (sym (told l v n is)) ∙ e in
+        ap (λ b. cond b (Some (make v n)) None) other
 
     -- a name that makes no assertion makes none with any argument
     gone : (l : Text) (v : Value) (b : Bool) → bytes_eq k l ≡ b → named k ≡ None → find under (one_built (l, v)) ≡ None
     gone l v true e none =
         let same : k ≡ l = is_text-sound k l e in
-        ap (λ o. find under (assertion_of l (option_map (make v) o))) (ap named (sym same) ∙ none)
-    gone l v false e none = other_passed l (option_map (make v) (named l)) e
+        ap (λ o. find under (option_to_list (option_map (make v) o))) (ap named (sym same) ∙ none)
+    gone l v false e none = ap (λ o. find under (option_to_list (option_map (make v) o))) refl ∙ other_passed l v (named l) refl e
 
     no_more : named k ≡ None → (ms : Named) → find under (flat_map one_built ms) ≡ None
     no_more none [] = refl
@@ -129,30 +131,30 @@ module _ {K : Type 0} (named : Text → Option K) (make : Value → K → Assert
     none_asserted none (Some v) = ap (option_map (make v)) none
 
     first_built : (n : K) → named k ≡ Some n → (l : Text) (v : Value) (ms : Named) (b : Bool) → bytes_eq k l ≡ b
-        → option_map (λ b. b.assertion) (find under (flat_map one_built ms)) ≡ option_and_then asserts (get k ms)
-        → option_map (λ b. b.assertion) (find under (flat_map one_built ((l, v) ∷ ms))) ≡ option_and_then asserts (if b then Some v else get k ms)
+        → find under (flat_map one_built ms) ≡ option_and_then asserts (get k ms)
+        → find under (flat_map one_built ((l, v) ∷ ms)) ≡ option_and_then asserts (if b then Some v else get k ms)
     first_built n is l v ms true e more =
         let same : k ≡ l = is_text-sound k l e in
         let here : option_map (make v) (named l) ≡ Some (make v n) = ap (option_map (make v)) (ap named (sym same) ∙ is) in
-        ap (λ o. option_map (λ b. b.assertion) (find under (assertion_of l o ++ flat_map one_built ms))) here
-        ∙ ap (λ b. option_map (λ b. b.assertion) (cond b (Some (record { keyword = l; assertion = make v n })) (find under (flat_map one_built ms)))) e
+        let under_it : bytes_eq k (name (make v n)) ≡ true = ap (bytes_eq k) (sym (told k v n is) ∙ same) ∙ e in
+        ap (λ o. find under (option_to_list o ++ flat_map one_built ms)) here
+        ∙ ap (λ b. cond b (Some (make v n)) (find under (flat_map one_built ms))) under_it
         ∙ sym (ap (option_map (make v)) is)
     first_built n is l v ms false e more =
-        ap (option_map (λ b. b.assertion))
-        (find-append under (one_built (l, v)) (flat_map one_built ms) ∙ left_none (find under (one_built (l, v))) (find under (flat_map one_built ms)) (other_passed l (option_map (make v) (named l)) e))
+        find-append under (one_built (l, v)) (flat_map one_built ms) ∙ left_none (find under (one_built (l, v))) (find under (flat_map one_built ms)) (other_passed l v (named l) refl e)
         ∙ more
 
-    some_built : (n : K) → named k ≡ Some n → (ms : Named) → option_map (λ b. b.assertion) (find under (flat_map one_built ms)) ≡ option_and_then asserts (get k ms)
+    some_built : (n : K) → named k ≡ Some n → (ms : Named) → find under (flat_map one_built ms) ≡ option_and_then asserts (get k ms)
     some_built n is [] = refl
     some_built n is (m ∷ ms) = first_built n is m.0 m.1 ms (bytes_eq k m.0) refl (some_built n is ms) ∙ ap (option_and_then asserts) (sym (get_first k m.0 m.1 ms))
 
-    built_by : (o : Option K) → named k ≡ o → (ms : Named) → option_map (λ b. b.assertion) (find under (flat_map one_built ms)) ≡ option_and_then asserts (get k ms)
-    built_by None is ms = ap (option_map (λ b. b.assertion)) (no_more is ms) ∙ sym (none_asserted is (get k ms))
+    built_by : (o : Option K) → named k ≡ o → (ms : Named) → find under (flat_map one_built ms) ≡ option_and_then asserts (get k ms)
+    built_by None is ms = no_more is ms ∙ sym (none_asserted is (get k ms))
     built_by (Some n) is ms = some_built n is ms
 
 -- the assertion of a place's keyword is what is found under that name
-pub assertion_found : (k : Text) (s : Site) → option_map (λ b. b.assertion) (find (λ b. bytes_eq k b.keyword) (assertions_at s)) ≡ assertion k s
-assertion_found k s = built_by keyword_named (λ v n. record { keyword = n; argument = v; beside_contains = has (codes "contains") (keywords s.schema) }) k (keyword_named k) refl (keywords s.schema)
+pub assertion_found : (k : Text) (s : Site) → find (λ a. bytes_eq k (name_of a.keyword)) (assertions_at s) ≡ assertion k s
+assertion_found k s = built_by keyword_named (λ v n. record { keyword = n; argument = v; beside_contains = has (codes "contains") (keywords s.schema) }) (λ a. name_of a.keyword) (λ l v n is. named-name_of l n is) k (keyword_named k) refl (keywords s.schema)
 
 -- ---- patterns
 

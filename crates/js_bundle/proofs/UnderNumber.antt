@@ -2,7 +2,8 @@
 use Rattle.std.proofs.Common.{◌≡◌, ℕ, List, map, true, Option, Some, None, option_map, option_and_then, is_some, slice_get, find, bytes_eq, codes, false, refl, sym, ap, ◌∙◌, subst}
 use Rattle.std.specs.Option.{option_map_or}
 use Rattle.std.proofs.lemmas.Option.{slice_get-map}
-use Rattle.js_bundle.specs.declared.assertions_and_patterns.BuiltAssertion.{BuiltAssertion}
+use Rattle.js_assert.specs.Assertion.{Asserted}
+use Rattle.js_assert.specs.Keyword.{name_of}
 use Rattle.js_bundle.specs.declared.assertions_and_patterns.BuiltPattern.{BuiltPattern}
 use Rattle.js_bundle.specs.AssertionsAndPatterns.{assertions_at, patterns_at}
 use Rattle.js_bundle.specs.Candidate.{IsClear}
@@ -20,16 +21,16 @@ use Rattle.js_bundle.proofs.Targets.{target_there, number_is_target}
 
 -- ---- what was built of the place
 
-assertion_by : (k : Text) (items : List BuiltAssertion) (o : Option Site) → option_map assertions_at o ≡ Some items
-    → option_map (λ b. b.assertion) (find (λ b. bytes_eq k b.keyword) items) ≡ option_and_then (assertion k) o
+assertion_by : (k : Text) (items : List Asserted) (o : Option Site) → option_map assertions_at o ≡ Some items
+    → find (λ a. bytes_eq k (name_of a.keyword)) items ≡ option_and_then (assertion k) o
 assertion_by k items None e = absurd (cc)
 assertion_by k items (Some s) e =
     let same : assertions_at s ≡ items = cc in
-    ap (λ bs. option_map (λ b. b.assertion) (find (λ b. bytes_eq k b.keyword) bs)) (sym same) ∙ assertion_found k s
+    ap (find (λ a. bytes_eq k (name_of a.keyword))) (sym same) ∙ assertion_found k s
 
-pub assertion_is : (documents : Documents) (place : ℕ) (k : Text) (items : List BuiltAssertion) (o : Option BuiltAssertion) → option_map assertions_at (place_at documents place) ≡ Some items
-    → o ≡ find (λ b. bytes_eq k b.keyword) items → option_map (λ b. b.assertion) o ≡ option_and_then (assertion k) (place_at documents place)
-assertion_is documents place k items o e h = ap (option_map (λ b. b.assertion)) h ∙ assertion_by k items (place_at documents place) e
+pub assertion_is : (documents : Documents) (place : ℕ) (k : Text) (items : List Asserted) (o : Option Asserted) → option_map assertions_at (place_at documents place) ≡ Some items
+    → o ≡ find (λ a. bytes_eq k (name_of a.keyword)) items → o ≡ option_and_then (assertion k) (place_at documents place)
+assertion_is documents place k items o e h = h ∙ assertion_by k items (place_at documents place) e
 
 pattern_by : (documents : Documents) → AreRead documents → (place : ℕ) (name : Text) (items : List BuiltPattern) (o : Option Site) → place_at documents place ≡ o → option_map patterns_at o ≡ Some items
     → option_map (λ b. b.pattern) (find (λ b. bytes_eq name b.name) items) ≡ option_and_then (pattern name) o

@@ -1,24 +1,19 @@
 -- What is built of a place's keywords.
-use Rattle.std.specs.Prelude.{List, [], ◌∷◌, Option, Some, None, codes, bytes_eq, map, if◌then◌else◌}
+use Rattle.std.specs.Prelude.{List, [], codes, bytes_eq, map, option_to_list, if◌then◌else◌}
 use Rattle.std.specs.List.{flat_map}
 use Rattle.js_doc.specs.Value.{Value, Named}
 use Rattle.js_assert.specs.Assertion.{Asserted, asserted}
-use Rattle.js_bundle.specs.declared.assertions_and_patterns.BuiltAssertion.{BuiltAssertion}
 use Rattle.js_bundle.specs.declared.assertions_and_patterns.BuiltPattern.{BuiltPattern}
 use Rattle.js_bundle.specs.Keyword.{Text, keywords}
 use Rattle.js_bundle.specs.Resource.{Site}
 
 -- ---- assertions
 
-abbrev pub assertion_of : Text → Option Asserted → List BuiltAssertion
-assertion_of name None = []
-assertion_of name (Some a) = record { keyword = name; assertion = a } ∷ []
-
 -- a keyword's assertion, if it is one
-abbrev pub assertion_at : Named → Text × Value → List BuiltAssertion
-assertion_at siblings m = assertion_of m.0 (asserted m.0 m.1 siblings)
+abbrev pub assertion_at : Named → Text × Value → List Asserted
+assertion_at siblings m = option_to_list (asserted m.0 m.1 siblings)
 
-abbrev pub assertions_at : Site → List BuiltAssertion
+abbrev pub assertions_at : Site → List Asserted
 assertions_at place = flat_map (assertion_at (keywords place.schema)) (keywords place.schema)
 
 -- ---- the patterns of `patternProperties`; a pattern is seen as its text

@@ -5,5 +5,6 @@ pub mod Index
 pub mod Spot
 pub mod Edges
 pub mod LocationGoesOn
+pub mod Descent
 pub mod Grouped
 pub mod Held

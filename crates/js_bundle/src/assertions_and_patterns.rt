@@ -1,7 +1,7 @@
 //! What is built of keywords: assertions, and the patterns of `patternProperties`.
-ghost use Rattle.std.specs.Prelude.{◌≡◌, [], ◌∷◌, ◌++◌, map, flat_map, OnOk, IfOk, IfErr};
+ghost use Rattle.std.specs.Prelude.{◌≡◌, [], ◌∷◌, ◌++◌, map, flat_map, option_to_list, OnOk, IfOk, IfErr};
 ghost use Rattle.js_doc.specs.Seen.{value_of};
-ghost use Rattle.js_bundle.specs.AssertionsAndPatterns.{assertion_of, pattern_at, patterns_of};
+ghost use Rattle.js_bundle.specs.AssertionsAndPatterns.{pattern_at, patterns_of};
 ghost use Rattle.js_bundle.specs.Candidate.{IsClear, IsStopped};
 ghost use Rattle.js_bundle.specs.Keyword.{keywords};
 ghost use Rattle.js_bundle.specs.Refusals.{at_pattern, name_rules};
@@ -17,7 +17,7 @@ use std::alloc::Global;
 /// What is built of the keywords of places, one place after another.
 #[derive(Drop)]
 pub(crate) struct Built {
-    pub(crate) assertions: Vec<BuiltAssertion>,
+    pub(crate) assertions: Vec<Assertion>,
     pub(crate) patterns: Vec<BuiltPattern>,
 }
 
@@ -43,13 +43,6 @@ impl Built {
     }
 }
 
-/// An assertion, under its keyword.
-#[derive(Drop)]
-pub(crate) struct BuiltAssertion {
-    pub(crate) keyword: Text,
-    pub(crate) assertion: Assertion,
-}
-
 /// A pattern among the `patternProperties`, under its name.
 #[derive(Drop)]
 pub(crate) struct BuiltPattern {
@@ -59,15 +52,13 @@ pub(crate) struct BuiltPattern {
 
 /// Keeps a keyword's assertion, if it is one.
 pub(crate) fn keep_assertion(
-    out: &mut Vec<BuiltAssertion>,
-    keyword: &str,
+    out: &mut Vec<Assertion>,
     assertion: Option<Assertion>,
 ) -> Result<(), Memory>
-    ensures { OnOk result (out.new.items ≡ out.old.items ++ assertion_of keyword.now assertion) }
+    ensures { OnOk result (out.new.items ≡ out.old.items ++ option_to_list assertion) }
 {
     if let Some(assertion) = assertion {
-        let keyword = Text::new(String::from_str(*out.allocator(), keyword)?);
-        out.push(BuiltAssertion { keyword, assertion })?;
+        out.push(assertion)?;
     }
     Ok(())
 }

@@ -1,12 +1,14 @@
 //! The ways from each place to those that stand directly below it.
-ghost use Rattle.std.specs.Prelude.{◌≡◌, ◌<◌, ◌≤◌, ◌∷◌, ◌&&◌, ◌==◌, true, drop, length, map, slice_get, Some, IfOk, MatchOption, bytes_eq};
+ghost use Rattle.std.specs.Prelude.{◌≡◌, ◌<◌, ◌≤◌, ◌∷◌, ◌&&◌, ◌==◌, true, drop, length, map, slice_get, Some, IfOk, IsTrue, MatchOption, bytes_eq};
 ghost use Rattle.std.specs.List.{list_all, position_from};
+ghost use Rattle.js_bundle.specs.code.Descent as spec;
 ghost use Rattle.js_bundle.specs.code.Edges.{begins_with, is_below, leads_down, goes_by, edges_under, LeadDown, AreAlone};
 ghost use Rattle.js_bundle.specs.Names.{same_tokens};
 ghost use Rattle.js_bundle.specs.Schemas.{step_of, step_tokens};
 ghost use Rattle.js_bundle.specs.code.Spot.{spot_of, stands_below};
 
 use crate::below::is_step;
+use crate::descent::descends_at;
 use crate::place::Step;
 use crate::whole_check::Spot;
 use js_doc::{Memory, Token};
@@ -19,14 +21,19 @@ pub(crate) struct Edges {
     pub(crate) places: Vec<usize>,
 }
 
-/// The edges of each place.
-pub(crate) fn edges_of(alloc: Global, spots: &[Spot]) -> Result<Vec<Edges>, Memory>
+/// The edges of each place. It is told of each whether it stands below the one before it.
+pub(crate) fn edges_of(
+    alloc: Global,
+    spots: &[Spot],
+    descents: &[bool],
+) -> Result<Vec<Edges>, Memory>
+    requires { descents.now ≡ spec.descents (map spot_of spots.now) }
     ensures { IfOk result (λ v. LeadDown v.items (map spot_of spots.now)) }
 {
     let ends = ends_of(alloc, spots)?;
     let mut edges = Vec::new(alloc);
     for i in 0..spots.len() {
-        let places = places_below(alloc, spots, ends.as_slice(), &spots[i], i)?;
+        let places = places_below(alloc, spots, ends.as_slice(), descents, &spots[i], i)?;
         edges.push(Edges { places })?;
     }
     Ok(edges)
@@ -37,22 +44,39 @@ fn places_below(
     alloc: Global,
     spots: &[Spot],
     ends: &[usize],
+    descents: &[bool],
     above: &Spot,
     number: usize,
 ) -> Result<Vec<usize>, Memory>
-    requires { number < length spots.now }
+    requires number { number < length spots.now }
+    requires above { slice_get (map spot_of spots.now) number ≡ Some (spot_of above.now) }
+    requires descents { descents.now ≡ spec.descents (map spot_of spots.now) }
     ensures { IfOk result (λ v. list_all (leads_down (spot_of above.now) (map spot_of spots.now)) v.items ≡ true) }
 {
     let mut places = Vec::new(alloc);
     let mut next = number + 1;
     while next < spots.len() {
-        if !leads_down(spots, above, next) {
+        if !is_edge(spots, descents, above, number, next) {
             return Ok(places);
         }
         places.push(next)?;
         next = end_of(ends, next, next + 1);
     }
     Ok(places)
+}
+
+// Whether a later place stands below one: of the next it is told.
+fn is_edge(spots: &[Spot], descents: &[bool], above: &Spot, number: usize, later: usize) -> bool
+    requires number { number < length spots.now }
+    requires above { slice_get (map spot_of spots.now) number ≡ Some (spot_of above.now) }
+    requires descents { descents.now ≡ spec.descents (map spot_of spots.now) }
+    ensures { IsTrue result → leads_down (spot_of above.now) (map spot_of spots.now) later ≡ true }
+{
+    if later == number + 1 {
+        descends_at(descents, later)
+    } else {
+        leads_down(spots, above, later)
+    }
 }
 
 // Where what stands below each place ends, from the last place to the first.

@@ -1,16 +1,16 @@
 //! What finds places without a search: by the URI of a resource, by where they stand, by the names that they make.
-ghost use Rattle.std.specs.Prelude.{◌≡◌, ◌++◌, [], ◌∷◌, codes, decimal, OnOk, IfOk, string_bytes, option_map, option_copied, option_to_list, if◌then◌else◌};
-ghost use Rattle.js_doc.specs.Pointer.{pointer_text, token_text};
-ghost use Rattle.js_bundle.specs.code.Index.{ArePut, IsAdded, IsIndex, place_key, name_key, name_keys_by, name_keys, root_uris, made_uris};
+ghost use Rattle.std.specs.Prelude.{◌≡◌, ◌++◌, [], ◌∷◌, codes, OnOk, string_bytes, option_map, option_copied, option_to_list, if◌then◌else◌};
+ghost use Rattle.js_bundle.specs.code.Index.{ArePut, IsAdded, IsIndex, place_key, name_keys_by, name_keys, root_uris, made_uris};
 ghost use Rattle.js_bundle.specs.Names.{known_as};
 ghost use Rattle.js_bundle.specs.code.Scan.{site_of};
 
+use crate::keys::name_key;
 use crate::keyword::text_argument;
 use crate::names::is_root;
 use crate::numbering::Numbering;
 use crate::scan::Site;
 use crate::uri;
-use js_doc::{Memory, Pointer, Token, push_token};
+use js_doc::Memory;
 use std::alloc::Global;
 
 /// The numbers of places in scan order, under their keys. Of the places with one key the first is found.
@@ -36,71 +36,23 @@ impl Index {
         }
     }
 
-    /// Adds the next place.
+    /// Adds the next place, which stands under this key.
     pub(crate) fn add(
         &mut self,
         alloc: Global,
         site: &Site<'_>,
         number: usize,
+        key: String,
     ) -> Result<(), Memory>
+        requires { string_bytes key ≡ place_key site.now.document site.now.pointer.value }
         ensures { OnOk result (IsAdded self.old (site_of site.now) number self.new) }
     {
+        // read, so that it is known to be small: keys tell such documents apart
+        let _document = site.document;
         put_known(alloc, &mut self.known, site, number)?;
-        let key = place_key(alloc, site.document, &site.pointer)?;
         self.places.put(key, number)?;
         put_names(alloc, &mut self.names, site, number)
     }
-}
-
-/// The key of where a place stands: the document's number and the pointer's tokens, as a pointer's text.
-pub(crate) fn place_key(alloc: Global, document: usize, pointer: &Pointer) -> Result<String, Memory>
-    ensures { IfOk result (λ t. string_bytes t ≡ place_key document pointer.now) }
-{
-    let mut key = String::with_capacity(alloc, room_for(pointer.tokens()))?;
-    push_document(&mut key, document)?;
-    push_tokens(&mut key, pointer.tokens())?;
-    Ok(key)
-}
-
-/// The key of a name in the resource that has its root at the pointer.
-pub(crate) fn name_key(
-    alloc: Global,
-    document: usize,
-    root: &Pointer,
-    name: &str,
-) -> Result<String, Memory>
-    ensures { IfOk result (λ t. string_bytes t ≡ name_key document root.now name.now) }
-{
-    let mut key = String::new(alloc);
-    push_document(&mut key, document)?;
-    push_token(&mut key, name)?;
-    push_tokens(&mut key, root.tokens())?;
-    Ok(key)
-}
-
-// How many bytes a key has, at least.
-fn room_for(tokens: &[Token]) -> usize {
-    let mut room = 2usize;
-    for token in tokens {
-        room = room.saturating_add(token.as_str().len()).saturating_add(1);
-    }
-    room
-}
-
-fn push_document(key: &mut String, document: usize) -> Result<(), Memory>
-    ensures { OnOk result (string_bytes key.new ≡ string_bytes key.old ++ token_text (decimal document)) }
-{
-    let mut digits = itoa::Buffer::new();
-    push_token(key, digits.format(document))
-}
-
-fn push_tokens(key: &mut String, tokens: &[Token]) -> Result<(), Memory>
-    ensures { OnOk result (string_bytes key.new ≡ string_bytes key.old ++ pointer_text tokens.now) }
-{
-    for token in tokens {
-        push_token(key, token.as_str())?;
-    }
-    Ok(())
 }
 
 // The document's URI, at its root.

@@ -5,6 +5,7 @@
 mod assertions_and_patterns;
 mod below;
 mod bundle;
+mod descent;
 mod document;
 mod dynamic_target;
 mod edges;
@@ -13,6 +14,7 @@ mod fault;
 mod grouped;
 mod holding;
 mod index;
+mod keys;
 mod keyword;
 mod keyword_name;
 mod keyword_table;

@@ -2,15 +2,16 @@
 ghost use Rattle.std.specs.Prelude.{◌≡◌, ◌++◌, [], true, bytes_eq, codes, drop, length, map, string_bytes, IfOk, OnOk, MatchOption};
 ghost use Rattle.js_doc.specs.Fragment.{fragment_text};
 ghost use Rattle.js_bundle.specs.Finding.{tokens_of};
-ghost use Rattle.js_bundle.specs.Location.{canonical, location};
-ghost use Rattle.js_bundle.specs.code.LocationGoesOn.{location_goes_on, has_depth_of, is_beside};
-ghost use Rattle.js_bundle.specs.code.Scan.{site_of};
+ghost use Rattle.js_bundle.specs.code.Descent as spec;
+ghost use Rattle.js_bundle.specs.code.Edges.{is_below};
+ghost use Rattle.js_bundle.specs.code.LocationGoesOn.{has_depth_of, is_beside};
+ghost use Rattle.js_bundle.specs.code.Spot.{location_of, spot_of};
 ghost use Rattle.js_bundle.specs.Url.{printed};
 
-use crate::edges::begins_with;
-use crate::scan::Site;
+use crate::descent::descends_at;
 use crate::scope::Scope;
 use crate::uri;
+use crate::whole_check::Spot;
 use js_doc::{Memory, Pointer, Text, Token, push_fragment_token};
 use std::alloc::Global;
 
@@ -50,74 +51,77 @@ fn push_keyword(text: &mut String, keyword: Option<&str>) -> Result<(), Memory>
     }
 }
 
-// Whether the place stands below the one before it, in a resource of the same URI, whose root is as deep.
-fn location_goes_on(before: &Site<'_>, site: &Site<'_>) -> bool
-    ensures { result ≡ location_goes_on (site_of before.now) (site_of site.now) }
+// Whether the place stands in a resource of the same URI, whose root is as deep.
+fn is_beside(above: &Spot, spot: &Spot) -> bool
+    ensures { result ≡ is_beside (spot_of above.now) (spot_of spot.now) }
 {
-    is_beside(before, site) && begins_with(site.pointer.tokens(), before.pointer.tokens())
+    has_base_of(above, spot) && has_depth_of(above, spot)
 }
 
-fn is_beside(before: &Site<'_>, site: &Site<'_>) -> bool
-    ensures { result ≡ is_beside (site_of before.now) (site_of site.now) }
+fn has_base_of(above: &Spot, spot: &Spot) -> bool
+    ensures { result ≡ bytes_eq (printed above.now.own.value.base) (printed spot.now.own.value.base) }
 {
-    has_base_of(before, site) && has_depth_of(before, site)
+    uri::text_of(&above.own.base) == uri::text_of(&spot.own.base)
 }
 
-fn has_base_of(before: &Site<'_>, site: &Site<'_>) -> bool
-    ensures { result ≡ bytes_eq (canonical (site_of before.now)) (canonical (site_of site.now)) }
+fn has_depth_of(above: &Spot, spot: &Spot) -> bool
+    ensures { result ≡ has_depth_of (spot_of above.now) (spot_of spot.now) }
 {
-    uri::text_of(&before.own.base) == uri::text_of(&site.own.base)
-}
-
-fn has_depth_of(before: &Site<'_>, site: &Site<'_>) -> bool
-    ensures { result ≡ has_depth_of (site_of before.now) (site_of site.now) }
-{
-    let depth = before.own.resource.tokens().len();
-    depth == site.own.resource.tokens().len() && depth <= before.pointer.tokens().len()
+    let depth = above.own.resource.tokens().len();
+    depth == spot.own.resource.tokens().len() && depth <= above.pointer.tokens().len()
 }
 
 // The location of a place, from that of the one before it.
 fn location_after(
     alloc: Global,
     text: String,
-    before: Option<&Site<'_>>,
-    site: &Site<'_>,
+    before: Option<&Spot>,
+    spot: &Spot,
+    descends: bool,
 ) -> Result<String, Memory>
-    requires { MatchOption before (Unit {0}) (λ b. string_bytes text ≡ location (site_of b.now)) }
-    ensures { IfOk result (λ t. string_bytes t ≡ location (site_of site.now)) }
+    requires text { MatchOption before (Unit {0}) (λ b. string_bytes text ≡ location_of (spot_of b.now)) }
+    requires descends { descends ≡ true → MatchOption before (Unit {0}) (λ b. is_below (spot_of b.now) (spot_of spot.now) ≡ true) }
+    ensures { IfOk result (λ t. string_bytes t ≡ location_of (spot_of spot.now)) }
 {
     match before {
-        Some(before) if location_goes_on(before, site) => extended_location(text, before, site),
-        _ => absolute(alloc, &site.own, &site.pointer, None),
+        Some(above) if descends && is_beside(above, spot) => extended_location(text, above, spot),
+        _ => absolute(alloc, &spot.own, &spot.pointer, None),
     }
 }
 
-// The same, where it goes on from that: only the rest of the way is written.
-fn extended_location(text: String, before: &Site<'_>, site: &Site<'_>) -> Result<String, Memory>
-    requires below { location_goes_on (site_of before.now) (site_of site.now) ≡ true }
-    requires text { string_bytes text ≡ location (site_of before.now) }
-    ensures { IfOk result (λ t. string_bytes t ≡ location (site_of site.now)) }
+// The same of a place below it in the same resource: only the rest of the way is written.
+fn extended_location(text: String, above: &Spot, spot: &Spot) -> Result<String, Memory>
+    requires below { is_below (spot_of above.now) (spot_of spot.now) ≡ true }
+    requires beside { is_beside (spot_of above.now) (spot_of spot.now) ≡ true }
+    requires text { string_bytes text ≡ location_of (spot_of above.now) }
+    ensures { IfOk result (λ t. string_bytes t ≡ location_of (spot_of spot.now)) }
 {
     let mut text = text;
     push_way(
         &mut text,
-        site.pointer.tokens(),
-        before.pointer.tokens().len(),
+        spot.pointer.tokens(),
+        above.pointer.tokens().len(),
     )?;
     Ok(text)
 }
 
-/// The absolute location of each place.
-pub(crate) fn locations_of(alloc: Global, sites: &[Site<'_>]) -> Result<Vec<Text>, Memory>
-    ensures { IfOk result (λ v. v.items ≡ map location (map site_of sites.now)) }
+/// The absolute location of each place. It is told of each whether it stands below the one before it.
+pub(crate) fn locations_of(
+    alloc: Global,
+    spots: &[Spot],
+    descents: &[bool],
+) -> Result<Vec<Text>, Memory>
+    requires { descents.now ≡ spec.descents (map spot_of spots.now) }
+    ensures { IfOk result (λ v. v.items ≡ map location_of (map spot_of spots.now)) }
 {
     let mut locations = Vec::new(alloc);
     let mut text = String::new(alloc);
     let mut before = None;
-    for site in sites {
-        text = location_after(alloc, text, before, site)?;
+    for i in 0..spots.len() {
+        let spot = &spots[i];
+        text = location_after(alloc, text, before, spot, descends_at(descents, i))?;
         locations.push(Text::new(text.clone()?))?;
-        before = Some(site);
+        before = Some(spot);
     }
     Ok(locations)
 }

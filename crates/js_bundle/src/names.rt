@@ -8,7 +8,8 @@ ghost use Rattle.js_bundle.specs.code.Scan.{site_of};
 ghost use Rattle.js_bundle.specs.Names.{is_root, is_known_as, is_pointer, is_read};
 ghost use Rattle.js_bundle.specs.Url as spec;
 
-use crate::index::{Index, name_key, place_key};
+use crate::index::Index;
+use crate::keys::{name_key, place_key};
 use crate::pointers::extended;
 use crate::scan::Site;
 use crate::uri;

@@ -1,5 +1,5 @@
 //! The first pass: each place and its keywords, in scan order.
-ghost use Rattle.std.specs.Prelude.{◌≡◌, ◌++◌, [], ◌∷◌, not, map, OnOk, IfOk, IfErr};
+ghost use Rattle.std.specs.Prelude.{◌≡◌, ◌++◌, [], ◌∷◌, not, map, option_map, string_bytes, MatchOption, OnOk, IfOk, IfErr};
 ghost use Rattle.std.specs.List.{flat_map};
 ghost use Rattle.js_doc.specs.Seen.{value_of};
 ghost use Rattle.js_bundle.specs.declared.refusal.RefusalKind.TheVariants.{BadKeyword};
@@ -7,18 +7,22 @@ ghost use Rattle.js_bundle.specs.AssertionsAndPatterns.{assertion_at, assertions
 ghost use Rattle.js_bundle.specs.Candidate.{IsClear, IsStopped};
 ghost use Rattle.js_bundle.specs.Form.{is_formed};
 ghost use Rattle.js_bundle.specs.code.Grouped.{IsGrouped};
-ghost use Rattle.js_bundle.specs.code.Index.{IsIndex};
+ghost use Rattle.js_bundle.specs.code.Descent.{descends, descents};
+ghost use Rattle.js_bundle.specs.code.Index.{IsAdded, IsIndex, place_key};
 ghost use Rattle.js_bundle.specs.Keyword.{keywords};
 ghost use Rattle.js_bundle.specs.Refusals.{when, decided, on_text, text_rules, at_member, at_site, first_pass};
 ghost use Rattle.js_bundle.specs.code.Scan.{site_of};
+ghost use Rattle.js_bundle.specs.code.Spot.{spot};
 
 use crate::assertions_and_patterns::{Built, BuiltTable, keep_assertion, read_names};
+use crate::descent::descends;
 use crate::fault::{Fault, refuse};
 use crate::index::Index;
+use crate::keys::key_after;
 use crate::refusal::RefusalKind;
 use crate::rules::{check_anchor, check_dialect, check_id, check_place, is_formed, read_assertion};
 use crate::scan::Site;
-use js_doc::{Doc, Members};
+use js_doc::{Doc, Members, Memory};
 use std::alloc::Global;
 
 fn check_form(alloc: Global, site: &Site<'_>, keyword: &str, argument: &Doc) -> Result<(), Fault>
@@ -101,7 +105,7 @@ fn check_keyword(
 {
     check_form(alloc, site, keyword, argument)?;
     let assertion = read_assertion(alloc, site, keyword, argument, siblings)?;
-    keep_assertion(&mut built.assertions, keyword, assertion)?;
+    keep_assertion(&mut built.assertions, assertion)?;
     check_argument(alloc, index, before, site, keyword, argument)?;
     read_names(alloc, &mut built.patterns, site, keyword, argument)
 }
@@ -188,6 +192,31 @@ fn check_site(
 pub(crate) struct Passed {
     pub(crate) built: BuiltTable,
     pub(crate) index: Index,
+    /// Of each place, whether it stands below the one before it.
+    pub(crate) descents: Vec<bool>,
+}
+
+// Adds a place to the index, and answers its key. The other key is that of the place before it.
+fn add_place(
+    alloc: Global,
+    index: &mut Index,
+    descents: &mut Vec<bool>,
+    key: String,
+    before: Option<&Site<'_>>,
+    site: &Site<'_>,
+    number: usize,
+) -> Result<String, Memory>
+    requires { MatchOption before (Unit {0}) (λ b. string_bytes key ≡ place_key b.now.document b.now.pointer.value) }
+    ensures key { IfOk result (λ t. string_bytes t ≡ place_key site.now.document site.now.pointer.value) }
+    ensures added { OnOk result (IsAdded index.old (site_of site.now) number index.new) }
+    ensures descents { OnOk result (descents.new.items ≡ descents.old.items
+        ++ descends (option_map (λ b. spot (site_of b.now)) before.entry) (spot (site_of site.now)) ∷ []) }
+{
+    let descends = descends(before, site);
+    descents.push(descends)?;
+    let key = key_after(alloc, key, before, site, descends)?;
+    index.add(alloc, site, number, key.clone()?)?;
+    Ok(key)
 }
 
 /// The first pass.
@@ -198,22 +227,32 @@ pub(crate) fn first_pass(alloc: Global, sites: &[Site<'_>]) -> Result<Passed, Fa
     ensures patterns { IfOk result (λ p. IsGrouped patterns_at (map site_of sites.now)
         p.built.all.patterns.items p.built.pattern_ends.items) }
     ensures index { IfOk result (λ p. IsIndex p.index (map site_of sites.now)) }
+    ensures descents { IfOk result (λ p. p.descents.items ≡ descents (map spot (map site_of sites.now))) }
     ensures err { IfErr result (IsStopped (first_pass [] (map site_of sites.now))) }
 {
     let mut all = Built::new(alloc);
     let mut assertion_ends = Vec::new(alloc);
     let mut pattern_ends = Vec::new(alloc);
     let mut index = Index::new(alloc);
+    let mut descents = Vec::new(alloc);
+    let mut key = String::new(alloc);
+    let mut before = None;
     for i in 0..sites.len() {
-        check_site(alloc, &mut all, &index, &sites[..i], &sites[i])?;
+        let site = &sites[i];
+        check_site(alloc, &mut all, &index, &sites[..i], site)?;
         assertion_ends.push(all.assertions.len())?;
         pattern_ends.push(all.patterns.len())?;
-        index.add(alloc, &sites[i], i)?;
+        key = add_place(alloc, &mut index, &mut descents, key, before, site, i)?;
+        before = Some(site);
     }
     let built = BuiltTable {
         all,
         assertion_ends,
         pattern_ends,
     };
-    Ok(Passed { built, index })
+    Ok(Passed {
+        built,
+        index,
+        descents,
+    })
 }

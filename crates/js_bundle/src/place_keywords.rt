@@ -1,10 +1,11 @@
 //! What a place has by its keywords.
 ghost use Rattle.std.specs.Prelude.{◌≡◌, Some, true, codes, find, bytes_eq, option_map, option_and_then};
+ghost use Rattle.js_assert.specs.Keyword.{name_of};
 ghost use Rattle.js_bundle.specs.AssertionsAndPatterns.{assertions_at, patterns_at};
 ghost use Rattle.js_bundle.specs.Schemas.{is_place, has_keyword, place_at, assertion, pattern};
 ghost use Rattle.js_bundle.specs.Seen.{AreRead};
 
-use crate::assertions_and_patterns::{BuiltAssertion, BuiltPattern};
+use crate::assertions_and_patterns::BuiltPattern;
 use crate::grouped::part;
 use crate::keyword::has;
 use crate::place::Place;
@@ -18,10 +19,7 @@ impl Schemas {
         requires { is_place self.now place ≡ true }
         ensures { option_map (λ a. a.now) result ≡ option_and_then (assertion keyword.now) (place_at self.now place) }
     {
-        match find_assertion(self.assertions(place), keyword) {
-            Some(built) => Some(&built.assertion),
-            None => None,
-        }
+        find_assertion(self.assertions(place), keyword)
     }
 
     /// The pattern of this name among the `patternProperties` of the place. None where there is none (JSON Schema Core,
@@ -36,7 +34,7 @@ impl Schemas {
         }
     }
 
-    fn assertions(&self, place: Place) -> &[BuiltAssertion]
+    fn assertions(&self, place: Place) -> &[Assertion]
         requires { is_place self.now place ≡ true }
         ensures { option_map assertions_at (place_at self.now place) ≡ Some result.now }
     {
@@ -85,11 +83,11 @@ impl Schemas {
     }
 }
 
-fn find_assertion<'b>(built: &'b [BuiltAssertion], keyword: &str) -> Option<&'b BuiltAssertion>
-    ensures { option_map (λ b. b.now) result ≡ find (λ b. bytes_eq keyword.now b.keyword) built.now }
+fn find_assertion<'b>(built: &'b [Assertion], keyword: &str) -> Option<&'b Assertion>
+    ensures { option_map (λ a. a.now) result ≡ find (λ a. bytes_eq keyword.now (name_of a.keyword)) built.now }
 {
     for one in built {
-        if keyword == one.keyword.as_str() {
+        if keyword == one.keyword() {
             return Some(one);
         }
     }

@@ -14,7 +14,8 @@ ghost use Rattle.js_bundle.specs.code.Scan.{site_of};
 ghost use Rattle.js_bundle.specs.Url as spec;
 
 use crate::fault::{Fault, refuse};
-use crate::index::{Index, name_key};
+use crate::index::Index;
+use crate::keys::name_key;
 use crate::keyword::as_text;
 use crate::names::is_root;
 use crate::refusal::RefusalKind;

@@ -109,13 +109,17 @@ pub(crate) fn check_whole(alloc: Global, documents: &[Document]) -> Result<Check
     ensures err { IfErr result (IsStopped (candidates (map document_of documents.now))) }
 {
     let sites = scan(alloc, documents)?;
-    let Passed { built, index } = first_pass(alloc, sites.as_slice())?;
+    let Passed {
+        built,
+        index,
+        descents,
+    } = first_pass(alloc, sites.as_slice())?;
     let references = resolve_all(alloc, &index, sites.as_slice())?;
-    let locations = locations_of(alloc, sites.as_slice())?;
     let resources = resources_of(alloc, &index, sites.as_slice())?;
     let keywords = keyword_table(alloc, sites.as_slice())?;
     let spots = spots_of(alloc, sites)?;
-    let edges = edges_of(alloc, spots.as_slice())?;
+    let locations = locations_of(alloc, spots.as_slice(), descents.as_slice())?;
+    let edges = edges_of(alloc, spots.as_slice(), descents.as_slice())?;
     Ok(Checked {
         spots,
         built,

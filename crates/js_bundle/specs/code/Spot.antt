@@ -1,9 +1,11 @@
 -- A place without its schema, as finished schemas keep it.
 use Rattle.std.specs.Prelude.{ℕ, List, [], Bool, ◌&&◌, ◌==◌, ◌∷◌, ◌++◌, not, bytes_eq, Option, Some, None, if◌then◌else◌}
 use Rattle.js_doc.specs.Pointer.{Tokens}
+use Rattle.js_doc.specs.Value.{Value, null}
 use Rattle.js_bundle.specs.declared.whole_check.Spot as rust
 use Rattle.js_bundle.specs.declared.scope.Scope.{Scope}
 use Rattle.js_bundle.specs.Keyword.{Text}
+use Rattle.js_bundle.specs.Location.{location}
 use Rattle.js_bundle.specs.Names.{same_tokens}
 use Rattle.js_bundle.specs.Resource.{Site}
 use Rattle.js_bundle.specs.Schemas.{Step, step_tokens}
@@ -21,6 +23,14 @@ spot s = record { document = s.document; pointer = s.pointer; above = s.above; o
 
 abbrev pub spot_of : rust.Spot → Spot
 spot_of s = record { document = s.document; pointer = s.pointer.value; above = s.above.value; own = s.own.value; identifies = s.identifies }
+
+-- the place, where that schema stands
+abbrev pub with_schema : Value → Spot → Site
+with_schema schema place = record { document = place.document; pointer = place.pointer; above = place.above; own = place.own; identifies = place.identifies; schema = schema }
+
+-- its absolute location, whatever stands there
+abbrev pub location_of : Spot → Text
+location_of place = location (with_schema null place)
 
 -- the place stands at the step through a keyword of another one
 abbrev pub stands_below : Spot → Text → Step → Spot → Bool

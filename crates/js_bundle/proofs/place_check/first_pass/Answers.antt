@@ -1,8 +1,11 @@
-use Rattle.std.proofs.Common.{◌+◌, [], ◌∷◌, ◌++◌, map, take, drop, ap, ◌∙◌, rules, arith}
+use Rattle.std.proofs.Common.{◌+◌, [], ◌∷◌, ◌++◌, map, take, drop, option_map, ap, ◌∙◌, rules, arith}
 use Rattle.std.proofs.lemmas.Result.{err_from_is_err_and}
 use Rattle.js_bundle.specs.AssertionsAndPatterns.{assertions_at, patterns_at}
 use Rattle.js_bundle.specs.Refusals.{at_site, first_pass}
+use Rattle.js_bundle.specs.code.Descent.{descents}
 use Rattle.js_bundle.specs.code.Scan.{site_of}
+use Rattle.js_bundle.specs.code.Spot.{spot}
+use Rattle.js_bundle.proofs.BelowBefore.{descents_next}
 use Rattle.js_bundle.proofs.Grouping.{grouped_next}
 use Rattle.js_bundle.proofs.Indexed.{index_more, index_whole}
 use Rattle.js_bundle.proofs.Passes.{site_next}
@@ -32,7 +35,10 @@ loop-i-preserved c =
           c.in_ok-check_site.ensures.assertions (c.in_ok-push.ensures.items ∙ ap (λ n. l.assertion_ends.items ++ n ∷ []) (search rules)) l.invariant.assertions;
       patterns = grouped_next patterns_at ss l.i x l.all.patterns.items c.check_site.new.built.patterns.items l.pattern_ends.items c.push-in-loop-i.new.self.items (omega arith) c.index-sites-i.is
           c.in_ok-check_site.ensures.patterns (c.in_ok-push-2.ensures.items ∙ ap (λ n. l.pattern_ends.items ++ n ∷ []) (search rules)) l.invariant.patterns;
-      index = index_more ss l.i c.index-sites-i-in-loop-i.result l.index c.add.new.self (omega arith) c.index-sites-i-in-loop-i.is l.invariant.index c.in_ok-add.ensures;
+      index = index_more ss l.i x l.index c.add_place.new.index (omega arith) c.index-sites-i.is l.invariant.index c.in_ok-key.ensures.added;
+      key = c.in_ok-key.ensures.key;
+      descents = descents_next ss l.i x (option_map (λ b. spot (site_of b.now)) l.before) l.descents.items c.add_place.new.descents.items (descents (map spot (map site_of ss))) (omega arith) c.index-sites-i.is
+          c.in_ok-key.ensures.descents l.invariant.descents;
     }
 
 pub returns-clause-index : goal.returns-clause-index

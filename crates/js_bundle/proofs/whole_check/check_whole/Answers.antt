@@ -5,12 +5,13 @@ use Rattle.js_bundle.specs.Finding.{dynamic_at, number_of_target}
 use Rattle.js_bundle.specs.code.Grouped.{IsGrouped}
 use Rattle.js_bundle.specs.code.Index.{IsIndex}
 use Rattle.js_bundle.specs.KeywordName.{keyword_names}
-use Rattle.js_bundle.specs.Location.{location}
 use Rattle.js_bundle.specs.Resource.{sites}
 use Rattle.js_bundle.specs.ResourceTable.{AreRooted, IsResourceTable}
 use Rattle.js_bundle.specs.code.Scan.{site_of}
 use Rattle.js_bundle.specs.Seen.{document_of}
-use Rattle.js_bundle.specs.code.Spot.{spot}
+use Rattle.js_bundle.specs.code.Descent.{descents}
+use Rattle.js_bundle.specs.code.Spot.{spot, spot_of}
+use Rattle.js_bundle.proofs.ExtendedLocation.{kept_locations}
 use Rattle.js_bundle.proofs.Rooted.{all_are_rooted}
 use Rattle.js_bundle.proofs.Whole.{lists_all, first_stops, second_stops, whole_clear}
 use Rattle.js_bundle.proofs.whole_check.check_whole.Goals as goal
@@ -82,8 +83,8 @@ returns-clause-locations c =
     let ds = map document_of c.args.documents.now in
     let first : map site_of c.as_slice.result.now ≡ sites ds =
     lists_all ds (map site_of c.as_slice.result.now) (ap (map site_of) c.as_slice.ensures.value ∙ c.in_ok-sites.ensures) c.in_ok-built.ensures.clear in
-    let third : map site_of c.as_slice-3.result.now ≡ sites ds = ap (map site_of) (c.as_slice-3.ensures.value ∙ sym c.as_slice.ensures.value) ∙ first in
-    c.in_ok-locations.ensures ∙ ap (map location) third
+    kept_locations ds c.in_ok-locations.locations.items c.as_slice-5.result.now c.in_ok-locations.ensures
+    (ap (map spot_of) c.as_slice-5.ensures.value ∙ c.in_ok-spots.ensures ∙ ap (map spot) (ap (map site_of) (sym c.as_slice.ensures.value) ∙ first))
 
 pub returns-clause-index : goal.returns-clause-index
 returns-clause-index c =
@@ -97,24 +98,24 @@ resources_of-requires-clause-index c =
     let ds = map document_of c.args.documents.now in
     let first : map site_of c.as_slice.result.now ≡ sites ds =
     lists_all ds (map site_of c.as_slice.result.now) (ap (map site_of) c.as_slice.ensures.value ∙ c.in_ok-sites.ensures) c.in_ok-built.ensures.clear in
-    let fourth : map site_of c.as_slice-4.result.now ≡ sites ds = ap (map site_of) (c.as_slice-4.ensures.value ∙ sym c.as_slice.ensures.value) ∙ first in
-    subst (IsIndex c.in_ok-built.field-0.index) (first ∙ sym fourth) c.in_ok-built.ensures.index
+    let third : map site_of c.as_slice-3.result.now ≡ sites ds = ap (map site_of) (c.as_slice-3.ensures.value ∙ sym c.as_slice.ensures.value) ∙ first in
+    subst (IsIndex c.in_ok-built.field-0.index) (first ∙ sym third) c.in_ok-built.ensures.index
 
 pub resources_of-requires-clause-rooted : goal.resources_of-requires-clause-rooted
 resources_of-requires-clause-rooted c =
     let ds = map document_of c.args.documents.now in
     let first : map site_of c.as_slice.result.now ≡ sites ds =
     lists_all ds (map site_of c.as_slice.result.now) (ap (map site_of) c.as_slice.ensures.value ∙ c.in_ok-sites.ensures) c.in_ok-built.ensures.clear in
-    let fourth : map site_of c.as_slice-4.result.now ≡ sites ds = ap (map site_of) (c.as_slice-4.ensures.value ∙ sym c.as_slice.ensures.value) ∙ first in
-    subst AreRooted (sym fourth) (all_are_rooted ds c.requires)
+    let third : map site_of c.as_slice-3.result.now ≡ sites ds = ap (map site_of) (c.as_slice-3.ensures.value ∙ sym c.as_slice.ensures.value) ∙ first in
+    subst AreRooted (sym third) (all_are_rooted ds c.requires)
 
 pub returns-clause-resources : goal.returns-clause-resources
 returns-clause-resources c =
     let ds = map document_of c.args.documents.now in
     let first : map site_of c.as_slice.result.now ≡ sites ds =
     lists_all ds (map site_of c.as_slice.result.now) (ap (map site_of) c.as_slice.ensures.value ∙ c.in_ok-sites.ensures) c.in_ok-built.ensures.clear in
-    let fourth : map site_of c.as_slice-4.result.now ≡ sites ds = ap (map site_of) (c.as_slice-4.ensures.value ∙ sym c.as_slice.ensures.value) ∙ first in
-    subst (IsResourceTable c.in_ok-resources.resources) fourth c.in_ok-resources.ensures
+    let third : map site_of c.as_slice-3.result.now ≡ sites ds = ap (map site_of) (c.as_slice-3.ensures.value ∙ sym c.as_slice.ensures.value) ∙ first in
+    subst (IsResourceTable c.in_ok-resources.resources) third c.in_ok-resources.ensures
 
 pub returns-in_err-spots-clause-err : goal.returns-in_err-spots-clause-err
 returns-in_err-spots-clause-err c =
@@ -141,10 +142,18 @@ returns-clause-keywords c =
     let ds = map document_of c.args.documents.now in
     let first : map site_of c.as_slice.result.now ≡ sites ds =
     lists_all ds (map site_of c.as_slice.result.now) (ap (map site_of) c.as_slice.ensures.value ∙ c.in_ok-sites.ensures) c.in_ok-built.ensures.clear in
-    let fifth : map site_of c.as_slice-5.result.now ≡ sites ds = ap (map site_of) (c.as_slice-5.ensures.value ∙ sym c.as_slice.ensures.value) ∙ first in
-    subst (λ ss. IsGrouped keyword_names ss c.in_ok-keywords.keywords.names.items c.in_ok-keywords.keywords.ends.items) fifth c.in_ok-keywords.ensures
+    let fourth : map site_of c.as_slice-4.result.now ≡ sites ds = ap (map site_of) (c.as_slice-4.ensures.value ∙ sym c.as_slice.ensures.value) ∙ first in
+    subst (λ ss. IsGrouped keyword_names ss c.in_ok-keywords.keywords.names.items c.in_ok-keywords.keywords.ends.items) fourth c.in_ok-keywords.ensures
 
 pub returns-in_err-locations-clause-err : goal.returns-in_err-locations-clause-err
 returns-in_err-locations-clause-err c =
     let p = err_from_is_err_and c.from_residual-in_err-locations.result c.from_residual-in_err-locations.ensures.1 in
     rw (p.1, p.2) tt
+
+pub locations_of-requires : goal.locations_of-requires
+locations_of-requires c =
+    c.as_slice-6.ensures.value ∙ c.in_ok-built.ensures.descents ∙ ap descents (ap (λ ss. map spot (map site_of ss)) c.as_slice.ensures.value ∙ sym c.in_ok-spots.ensures ∙ ap (map spot_of) (sym c.as_slice-5.ensures.value))
+
+pub edges_of-requires : goal.edges_of-requires
+edges_of-requires c =
+    c.as_slice-8.ensures.value ∙ c.in_ok-built.ensures.descents ∙ ap descents (ap (λ ss. map spot (map site_of ss)) c.as_slice.ensures.value ∙ sym c.in_ok-spots.ensures ∙ ap (map spot_of) (sym c.as_slice-7.ensures.value))

@@ -1,9 +1,6 @@
-use Rattle.std.proofs.Common.{Some, None}
+use Rattle.std.proofs.Common.{option_map}
 use Rattle.js_bundle.proofs.UnderNumber.{assertion_is}
 use Rattle.js_bundle.proofs.schemas.Schemas.assertion.Goals as goal
 
-pub returns-in-Some : goal.returns-in-Some
-returns-in-Some c = assertion_is c.args.self.now c.args.place c.args.keyword.now c.assertions.result.now (Some c.in-Some.built.now) c.assertions.ensures c.in-Some.ensures
-
-pub returns-in-None : goal.returns-in-None
-returns-in-None c = assertion_is c.args.self.now c.args.place c.args.keyword.now c.assertions.result.now None c.assertions.ensures c.in-None.ensures
+pub returns : goal.returns
+returns c = assertion_is c.args.self.now c.args.place c.args.keyword.now c.assertions.result.now (option_map (λ a. a.now) c.find_assertion.result) c.assertions.ensures c.find_assertion.ensures
