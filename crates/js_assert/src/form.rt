@@ -30,7 +30,7 @@ pub(crate) fn boolean(argument: &Doc) -> Result<bool, KeywordFault>
     }
 }
 
-pub(crate) fn number_argument(argument: &Doc) -> Result<Whole, KeywordFault>
+fn number_argument(argument: &Doc) -> Result<Whole, KeywordFault>
     ensures ok { IfOk result (λ z. value_of argument.now ≡ whole z) }
     ensures refused { IfErr result (IsBadUnless (is_number (value_of argument.now))) }
 {
@@ -38,6 +38,13 @@ pub(crate) fn number_argument(argument: &Doc) -> Result<Whole, KeywordFault>
         Doc::Whole(number) => Ok(*number),
         _ => Err(KeywordFault::BadKeyword),
     }
+}
+
+pub(crate) fn limit(alloc: Global, argument: &Doc) -> Result<Box<Whole>, KeywordFault>
+    ensures ok { IfOk result (λ z. value_of argument.now ≡ whole z.value) }
+    ensures refused { IfErr result (IsBadUnless (is_number (value_of argument.now))) }
+{
+    Ok(Box::new(alloc, number_argument(argument)?)?)
 }
 
 pub(crate) fn count(argument: &Doc) -> Result<u64, KeywordFault>
