@@ -64,7 +64,7 @@ cut_at part (x ∷ xs) k (suc n) place e =
       fits = omega (arith, many, fits);
     }
 
-part_there : {A : Type 0} (part : Site → List A) (places : List Site) (listed : List A) (ending : List ℕ) (n : ℕ) (place : Site) (found : List A) → IsGrouped part places listed ending → slice_get places n ≡ Some place
+pub part_there : {A : Type 0} (part : Site → List A) (places : List Site) (listed : List A) (ending : List ℕ) (n : ℕ) (place : Site) (found : List A) → IsGrouped part places listed ending → slice_get places n ≡ Some place
     → IsPart listed (unwrap_or (slice_get (0 ∷ ending) n) 0) (unwrap_or (slice_get ending n) 0) found → part place ≡ found
 part_there part places listed ending n place found g e h =
     let cut = cut_at part places 0 n place e in

@@ -28,6 +28,8 @@ pub mod Absent
 pub mod LeadingDown
 pub mod Ways
 pub mod BelowBefore
+pub mod NoKeyword
+pub mod NamesOf
 pub mod ExtendedKey
 pub mod ExtendedLocation
 pub mod Schema

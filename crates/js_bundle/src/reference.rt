@@ -4,7 +4,9 @@ ghost use Rattle.std.specs.List.{flat_map};
 ghost use Rattle.js_bundle.specs.Candidate.{IsClear, IsStopped};
 ghost use Rattle.std.specs.Option.{option_map_or};
 ghost use Rattle.js_bundle.specs.Finding.{number_named, number_of_target, goes_by_name, dynamic_as, dynamic_at};
+ghost use Rattle.js_bundle.specs.code.Grouped.{IsGrouped};
 ghost use Rattle.js_bundle.specs.code.Index.{IsIndex};
+ghost use Rattle.js_bundle.specs.KeywordName.{keyword_names};
 ghost use Rattle.js_bundle.specs.Names.{makes};
 ghost use Rattle.js_bundle.specs.Refusals.{at_joined_reference, at_reference_text, at_reference, at_references, second_pass};
 ghost use Rattle.js_bundle.specs.Resource.{joined};
@@ -12,8 +14,11 @@ ghost use Rattle.js_bundle.specs.code.Scan.{site_of};
 ghost use Rattle.js_bundle.specs.Target.{reference, is_dynamic};
 
 use crate::fault::{Fault, refuse};
+use crate::grouped::part;
 use crate::index::Index;
 use crate::keyword::text_argument;
+use crate::keyword_name::KeywordName;
+use crate::keyword_table::KeywordTable;
 use crate::names::{NameFault, number_named};
 use crate::refusal::RefusalKind;
 use crate::scan::Site;
@@ -176,6 +181,37 @@ fn resolve_both(
     })
 }
 
+// The same of a place whose keywords are these. Most have no reference: nothing is looked up for them.
+fn targets_of(
+    alloc: Global,
+    index: &Index,
+    sites: &[Site<'_>],
+    site: &Site<'_>,
+    names: &[KeywordName],
+) -> Result<Targets, Fault>
+    requires index { IsIndex index.now (map site_of sites.now) }
+    requires names { names.now ≡ keyword_names (site_of site.now) }
+    ensures clear { OnOk result (IsClear (at_references (map site_of sites.now) (site_of site.now))) }
+    ensures dynamic { IfOk result
+        (λ t. t.dynamic ≡ number_of_target (map site_of sites.now) (codes "$dynamicRef") (site_of site.now)) }
+    ensures by_name { IfOk result (λ t. t.by_name ≡ goes_by_name (map site_of sites.now) (site_of site.now)) }
+    ensures plain { IfOk result
+        (λ t. t.plain ≡ number_of_target (map site_of sites.now) (codes "$ref") (site_of site.now)) }
+    ensures err { IfErr result (IsStopped (at_references (map site_of sites.now) (site_of site.now))) }
+{
+    if names.contains(&KeywordName::Ref) {
+        return resolve_both(alloc, index, sites, site);
+    }
+    if names.contains(&KeywordName::DynamicRef) {
+        return resolve_both(alloc, index, sites, site);
+    }
+    Ok(Targets {
+        dynamic: None,
+        by_name: false,
+        plain: None,
+    })
+}
+
 /// The first target of a `$dynamicRef`, by its number in scan order.
 #[derive(Clone, Copy, Drop)]
 pub(crate) struct DynamicReference {
@@ -206,8 +242,10 @@ pub(crate) fn resolve_all(
     alloc: Global,
     index: &Index,
     sites: &[Site<'_>],
+    keywords: &KeywordTable,
 ) -> Result<References, Fault>
-    requires { IsIndex index.now (map site_of sites.now) }
+    requires index { IsIndex index.now (map site_of sites.now) }
+    requires keywords { IsGrouped keyword_names (map site_of sites.now) keywords.now.names.items keywords.now.ends.items }
     ensures clear { OnOk result (IsClear (second_pass (map site_of sites.now))) }
     ensures dynamic { IfOk result (λ r. r.dynamic.items
         ≡ map (dynamic_at (map site_of sites.now)) (map site_of sites.now)) }
@@ -218,7 +256,8 @@ pub(crate) fn resolve_all(
     let mut dynamic = Vec::new(alloc);
     let mut plain = Vec::new(alloc);
     for i in 0..sites.len() {
-        let targets = resolve_both(alloc, index, sites, &sites[i])?;
+        let names = part(keywords.names.as_slice(), keywords.ends.as_slice(), i);
+        let targets = targets_of(alloc, index, sites, &sites[i], names)?;
         dynamic.push(dynamic_of(targets.dynamic, targets.by_name))?;
         plain.push(targets.plain)?;
     }

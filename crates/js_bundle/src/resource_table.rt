@@ -1,15 +1,20 @@
 //! What is kept of resources, by their numbers (JSON Schema Core, sections 4.3.5 and 8.2.1).
-ghost use Rattle.std.specs.Prelude.{◌≡◌, ◌<◌, Some, map, length, codes, slice_get, unwrap_or, option_and_then, option_to_list, OnOk, IfOk};
+ghost use Rattle.std.specs.Prelude.{◌≡◌, ◌<◌, Some, map, length, codes, slice_get, unwrap_or, option_and_then, option_copied, option_to_list, OnOk, IfOk};
 ghost use Rattle.std.specs.List.{position_from};
+ghost use Rattle.js_bundle.specs.code.Grouped.{IsGrouped};
 ghost use Rattle.js_bundle.specs.code.Index.{IsIndex};
 ghost use Rattle.js_bundle.specs.Keyword.{text_argument};
+ghost use Rattle.js_bundle.specs.KeywordName.{keyword_names};
 ghost use Rattle.js_bundle.specs.Names.{same_tokens, stands_at};
 ghost use Rattle.js_bundle.specs.ResourceNumber.{begins_resource, roots, resource_number};
 ghost use Rattle.js_bundle.specs.ResourceTable.{AreAnchors, AreEmpty, AreNamed, AreRooted, IsOpened, IsResourceTable, rank_of_root, ranks_from};
 ghost use Rattle.js_bundle.specs.code.Scan.{site_of};
 
+use crate::grouped::part;
 use crate::index::Index;
 use crate::keyword::text_argument;
+use crate::keyword_name::KeywordName;
+use crate::keyword_table::KeywordTable;
 use crate::names::place_at;
 use crate::numbering::Numbering;
 use crate::scan::Site;
@@ -116,19 +121,32 @@ fn numbers_of(
     Ok(numbers)
 }
 
+// The name that a place whose keywords are these makes by `$dynamicAnchor`. Few do: nothing is looked up for the others.
+fn dynamic_name<'s>(site: &'s Site<'_>, names: &[KeywordName]) -> Option<&'s str>
+    requires { names.now ≡ keyword_names (site_of site.now) }
+    ensures { option_copied result ≡ text_argument (codes "$dynamicAnchor") (site_of site.now).schema }
+{
+    if names.contains(&KeywordName::DynamicAnchor) {
+        return text_argument(site.schema, "$dynamicAnchor");
+    }
+    None
+}
+
 // Keeps the name that the place makes in its resource, if it makes one.
 fn name(
     alloc: Global,
     anchors: &mut Vec<Numbering>,
     resource: usize,
     site: &Site<'_>,
+    names: &[KeywordName],
     number: usize,
 ) -> Result<(), Memory>
-    requires { resource < length anchors.now.items }
+    requires resource { resource < length anchors.now.items }
+    requires names { names.now ≡ keyword_names (site_of site.now) }
     ensures { OnOk result (AreNamed anchors.old.items resource
         (option_to_list (text_argument (codes "$dynamicAnchor") (site_of site.now).schema)) number anchors.new.items) }
 {
-    let name = text_argument(site.schema, "$dynamicAnchor");
+    let name = dynamic_name(site, names);
     anchors[resource].put_given(alloc, name, number)
 }
 
@@ -136,8 +154,10 @@ fn name_all(
     alloc: Global,
     anchors: &mut Vec<Numbering>,
     sites: &[Site<'_>],
+    keywords: &KeywordTable,
     numbers: &[usize],
 ) -> Result<(), Memory>
+    requires keywords { IsGrouped keyword_names (map site_of sites.now) keywords.now.names.items keywords.now.ends.items }
     requires rooted { AreRooted (map site_of sites.now) }
     requires numbers { map Some numbers.now ≡ map (resource_number (map site_of sites.now)) (map site_of sites.now) }
     requires many { length anchors.now.items ≡ length (roots (map site_of sites.now)) }
@@ -145,7 +165,8 @@ fn name_all(
     ensures { OnOk result (AreAnchors (roots (map site_of sites.now)) anchors.new.items (map site_of sites.now)) }
 {
     for i in 0..sites.len() {
-        name(alloc, anchors, numbers[i], &sites[i], i)?;
+        let names = part(keywords.names.as_slice(), keywords.ends.as_slice(), i);
+        name(alloc, anchors, numbers[i], &sites[i], names, i)?;
     }
     Ok(())
 }
@@ -155,13 +176,15 @@ pub(crate) fn resources_of(
     alloc: Global,
     index: &Index,
     sites: &[Site<'_>],
+    keywords: &KeywordTable,
 ) -> Result<Resources, Memory>
     requires index { IsIndex index.now (map site_of sites.now) }
+    requires keywords { IsGrouped keyword_names (map site_of sites.now) keywords.now.names.items keywords.now.ends.items }
     requires rooted { AreRooted (map site_of sites.now) }
     ensures { IfOk result (λ r. IsResourceTable r (map site_of sites.now)) }
 {
     let Roots { ranks, mut anchors } = roots_of(alloc, sites)?;
     let numbers = numbers_of(alloc, index, sites, ranks.as_slice())?;
-    name_all(alloc, &mut anchors, sites, numbers.as_slice())?;
+    name_all(alloc, &mut anchors, sites, keywords, numbers.as_slice())?;
     Ok(Resources { numbers, anchors })
 }

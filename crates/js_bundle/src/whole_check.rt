@@ -114,9 +114,9 @@ pub(crate) fn check_whole(alloc: Global, documents: &[Document]) -> Result<Check
         index,
         descents,
     } = first_pass(alloc, sites.as_slice())?;
-    let references = resolve_all(alloc, &index, sites.as_slice())?;
-    let resources = resources_of(alloc, &index, sites.as_slice())?;
     let keywords = keyword_table(alloc, sites.as_slice())?;
+    let references = resolve_all(alloc, &index, sites.as_slice(), &keywords)?;
+    let resources = resources_of(alloc, &index, sites.as_slice(), &keywords)?;
     let spots = spots_of(alloc, sites)?;
     let locations = locations_of(alloc, spots.as_slice(), descents.as_slice())?;
     let edges = edges_of(alloc, spots.as_slice(), descents.as_slice())?;

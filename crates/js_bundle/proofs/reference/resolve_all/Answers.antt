@@ -4,6 +4,7 @@ use Rattle.std.proofs.lemmas.Result.{err_from_is_err_and}
 use Rattle.js_bundle.specs.Finding.{number_of_target, dynamic_at}
 use Rattle.js_bundle.specs.Refusals.{at_references, second_pass}
 use Rattle.js_bundle.specs.code.Scan.{site_of}
+use Rattle.js_bundle.proofs.NamesOf.{names_are}
 use Rattle.js_bundle.proofs.Stopping.{leads_past, leads_stop}
 use Rattle.js_bundle.proofs.Passes.{leads_next, place_next, dynamic_same}
 use Rattle.js_bundle.proofs.reference.resolve_all.Goals as goal
@@ -17,6 +18,15 @@ returns-in_err-targets-clause-err c =
     let p = err_from_is_err_and c.from_residual.result c.from_residual.ensures.1 in
     rw (p.1, p.2) (leads_stop (second_pass all) (at_references all (site_of x)) (flat_map (at_references all) (map site_of (drop (l.i + 1) ss))) c.in_err-targets.field-0.0
     (leads_next (at_references all) ss l.i x (second_pass all) (omega arith) c.index-sites-i.is l.invariant.leads) c.in_err-targets.ensures.err)
+
+pub targets_of-requires-clause-names : goal.targets_of-requires-clause-names
+targets_of-requires-clause-names c =
+    let l = c.loop-i in
+    let ss = c.args.sites.now in
+    let x = c.index-sites-i.result in
+    let table = c.args.keywords.now in
+    names_are ss l.i x table.names.items table.ends.items c.part-names.result.now c.as_slice.result.now c.as_slice-in-loop-i.result.now c.requires.keywords (omega arith) c.index-sites-i.is
+    c.as_slice.ensures.value c.as_slice-in-loop-i.ensures.value c.part-names.ensures
 
 pub loop-i-preserved : goal.loop-i-preserved
 loop-i-preserved c =

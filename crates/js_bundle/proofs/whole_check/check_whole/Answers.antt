@@ -28,16 +28,16 @@ returns-in_err-references-clause-err c =
     let ds = map document_of c.args.documents.now in
     let first : map site_of c.as_slice.result.now ≡ sites ds =
     lists_all ds (map site_of c.as_slice.result.now) (ap (map site_of) c.as_slice.ensures.value ∙ c.in_ok-sites.ensures) c.in_ok-built.ensures.clear in
-    let second : map site_of c.as_slice-2.result.now ≡ sites ds = ap (map site_of) (c.as_slice-2.ensures.value ∙ sym c.as_slice.ensures.value) ∙ first in
-    rw (p.1, p.2) (second_stops ds (map site_of c.as_slice.result.now) (map site_of c.as_slice-2.result.now) c.in_err-references.field-0.0 first second c.in_ok-built.ensures.clear c.in_err-references.ensures.err)
+    let second : map site_of c.as_slice-3.result.now ≡ sites ds = ap (map site_of) (c.as_slice-3.ensures.value ∙ sym c.as_slice.ensures.value) ∙ first in
+    rw (p.1, p.2) (second_stops ds (map site_of c.as_slice.result.now) (map site_of c.as_slice-3.result.now) c.in_err-references.field-0.0 first second c.in_ok-built.ensures.clear c.in_err-references.ensures.err)
 
 pub returns-clause-clear : goal.returns-clause-clear
 returns-clause-clear c =
     let ds = map document_of c.args.documents.now in
     let first : map site_of c.as_slice.result.now ≡ sites ds =
     lists_all ds (map site_of c.as_slice.result.now) (ap (map site_of) c.as_slice.ensures.value ∙ c.in_ok-sites.ensures) c.in_ok-built.ensures.clear in
-    let second : map site_of c.as_slice-2.result.now ≡ sites ds = ap (map site_of) (c.as_slice-2.ensures.value ∙ sym c.as_slice.ensures.value) ∙ first in
-    whole_clear ds (map site_of c.as_slice.result.now) (map site_of c.as_slice-2.result.now) first second c.in_ok-built.ensures.clear c.in_ok-references.ensures.clear
+    let second : map site_of c.as_slice-3.result.now ≡ sites ds = ap (map site_of) (c.as_slice-3.ensures.value ∙ sym c.as_slice.ensures.value) ∙ first in
+    whole_clear ds (map site_of c.as_slice.result.now) (map site_of c.as_slice-3.result.now) first second c.in_ok-built.ensures.clear c.in_ok-references.ensures.clear
 
 pub returns-clause-spots : goal.returns-clause-spots
 returns-clause-spots c =
@@ -67,7 +67,7 @@ returns-clause-dynamic c =
     let ds = map document_of c.args.documents.now in
     let first : map site_of c.as_slice.result.now ≡ sites ds =
     lists_all ds (map site_of c.as_slice.result.now) (ap (map site_of) c.as_slice.ensures.value ∙ c.in_ok-sites.ensures) c.in_ok-built.ensures.clear in
-    let second : map site_of c.as_slice-2.result.now ≡ sites ds = ap (map site_of) (c.as_slice-2.ensures.value ∙ sym c.as_slice.ensures.value) ∙ first in
+    let second : map site_of c.as_slice-3.result.now ≡ sites ds = ap (map site_of) (c.as_slice-3.ensures.value ∙ sym c.as_slice.ensures.value) ∙ first in
     c.in_ok-references.ensures.dynamic ∙ ap (λ ss. map (dynamic_at ss) ss) second
 
 pub returns-clause-plain : goal.returns-clause-plain
@@ -75,7 +75,7 @@ returns-clause-plain c =
     let ds = map document_of c.args.documents.now in
     let first : map site_of c.as_slice.result.now ≡ sites ds =
     lists_all ds (map site_of c.as_slice.result.now) (ap (map site_of) c.as_slice.ensures.value ∙ c.in_ok-sites.ensures) c.in_ok-built.ensures.clear in
-    let second : map site_of c.as_slice-2.result.now ≡ sites ds = ap (map site_of) (c.as_slice-2.ensures.value ∙ sym c.as_slice.ensures.value) ∙ first in
+    let second : map site_of c.as_slice-3.result.now ≡ sites ds = ap (map site_of) (c.as_slice-3.ensures.value ∙ sym c.as_slice.ensures.value) ∙ first in
     c.in_ok-references.ensures.plain ∙ ap (λ ss. map (number_of_target ss (codes "$ref")) ss) second
 
 pub returns-clause-locations : goal.returns-clause-locations
@@ -98,7 +98,7 @@ resources_of-requires-clause-index c =
     let ds = map document_of c.args.documents.now in
     let first : map site_of c.as_slice.result.now ≡ sites ds =
     lists_all ds (map site_of c.as_slice.result.now) (ap (map site_of) c.as_slice.ensures.value ∙ c.in_ok-sites.ensures) c.in_ok-built.ensures.clear in
-    let third : map site_of c.as_slice-3.result.now ≡ sites ds = ap (map site_of) (c.as_slice-3.ensures.value ∙ sym c.as_slice.ensures.value) ∙ first in
+    let third : map site_of c.as_slice-4.result.now ≡ sites ds = ap (map site_of) (c.as_slice-4.ensures.value ∙ sym c.as_slice.ensures.value) ∙ first in
     subst (IsIndex c.in_ok-built.field-0.index) (first ∙ sym third) c.in_ok-built.ensures.index
 
 pub resources_of-requires-clause-rooted : goal.resources_of-requires-clause-rooted
@@ -106,7 +106,7 @@ resources_of-requires-clause-rooted c =
     let ds = map document_of c.args.documents.now in
     let first : map site_of c.as_slice.result.now ≡ sites ds =
     lists_all ds (map site_of c.as_slice.result.now) (ap (map site_of) c.as_slice.ensures.value ∙ c.in_ok-sites.ensures) c.in_ok-built.ensures.clear in
-    let third : map site_of c.as_slice-3.result.now ≡ sites ds = ap (map site_of) (c.as_slice-3.ensures.value ∙ sym c.as_slice.ensures.value) ∙ first in
+    let third : map site_of c.as_slice-4.result.now ≡ sites ds = ap (map site_of) (c.as_slice-4.ensures.value ∙ sym c.as_slice.ensures.value) ∙ first in
     subst AreRooted (sym third) (all_are_rooted ds c.requires)
 
 pub returns-clause-resources : goal.returns-clause-resources
@@ -114,7 +114,7 @@ returns-clause-resources c =
     let ds = map document_of c.args.documents.now in
     let first : map site_of c.as_slice.result.now ≡ sites ds =
     lists_all ds (map site_of c.as_slice.result.now) (ap (map site_of) c.as_slice.ensures.value ∙ c.in_ok-sites.ensures) c.in_ok-built.ensures.clear in
-    let third : map site_of c.as_slice-3.result.now ≡ sites ds = ap (map site_of) (c.as_slice-3.ensures.value ∙ sym c.as_slice.ensures.value) ∙ first in
+    let third : map site_of c.as_slice-4.result.now ≡ sites ds = ap (map site_of) (c.as_slice-4.ensures.value ∙ sym c.as_slice.ensures.value) ∙ first in
     subst (IsResourceTable c.in_ok-resources.resources) third c.in_ok-resources.ensures
 
 pub returns-in_err-spots-clause-err : goal.returns-in_err-spots-clause-err
@@ -142,7 +142,7 @@ returns-clause-keywords c =
     let ds = map document_of c.args.documents.now in
     let first : map site_of c.as_slice.result.now ≡ sites ds =
     lists_all ds (map site_of c.as_slice.result.now) (ap (map site_of) c.as_slice.ensures.value ∙ c.in_ok-sites.ensures) c.in_ok-built.ensures.clear in
-    let fourth : map site_of c.as_slice-4.result.now ≡ sites ds = ap (map site_of) (c.as_slice-4.ensures.value ∙ sym c.as_slice.ensures.value) ∙ first in
+    let fourth : map site_of c.as_slice-2.result.now ≡ sites ds = ap (map site_of) (c.as_slice-2.ensures.value ∙ sym c.as_slice.ensures.value) ∙ first in
     subst (λ ss. IsGrouped keyword_names ss c.in_ok-keywords.keywords.names.items c.in_ok-keywords.keywords.ends.items) fourth c.in_ok-keywords.ensures
 
 pub returns-in_err-locations-clause-err : goal.returns-in_err-locations-clause-err
@@ -157,3 +157,11 @@ locations_of-requires c =
 pub edges_of-requires : goal.edges_of-requires
 edges_of-requires c =
     c.as_slice-8.ensures.value ∙ c.in_ok-built.ensures.descents ∙ ap descents (ap (λ ss. map spot (map site_of ss)) c.as_slice.ensures.value ∙ sym c.in_ok-spots.ensures ∙ ap (map spot_of) (sym c.as_slice-7.ensures.value))
+
+pub resolve_all-requires-clause-keywords : goal.resolve_all-requires-clause-keywords
+resolve_all-requires-clause-keywords c =
+    subst (λ ss. IsGrouped keyword_names (map site_of ss) c.in_ok-keywords.keywords.names.items c.in_ok-keywords.keywords.ends.items) (c.as_slice-2.ensures.value ∙ sym c.as_slice-3.ensures.value) c.in_ok-keywords.ensures
+
+pub resources_of-requires-clause-keywords : goal.resources_of-requires-clause-keywords
+resources_of-requires-clause-keywords c =
+    subst (λ ss. IsGrouped keyword_names (map site_of ss) c.in_ok-keywords.keywords.names.items c.in_ok-keywords.keywords.ends.items) (c.as_slice-2.ensures.value ∙ sym c.as_slice-4.ensures.value) c.in_ok-keywords.ensures
