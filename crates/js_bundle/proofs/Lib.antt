@@ -28,6 +28,7 @@ pub mod Absent
 pub mod LeadingDown
 pub mod Ways
 pub mod BelowBefore
+pub mod Columns
 pub mod NoKeyword
 pub mod NamesOf
 pub mod ExtendedKey

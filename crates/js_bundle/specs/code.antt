@@ -7,4 +7,5 @@ pub mod Edges
 pub mod LocationGoesOn
 pub mod Descent
 pub mod Grouped
+pub mod Column
 pub mod Held

@@ -5,6 +5,7 @@
 mod assertions_and_patterns;
 mod below;
 mod bundle;
+mod column;
 mod descent;
 mod document;
 mod dynamic_target;
