@@ -1,5 +1,5 @@
 -- What lists with an entry for each place tell.
-use Rattle.std.proofs.Common.{◌≡◌, ℕ, zero, suc, ◌≤◌, List, [], ◌∷◌, ◌++◌, Bool, true, false, map, drop, length, Option, Some, None, is_some, option_and_then, slice_get, refl, sym, ap, ◌∙◌}
+use Rattle.std.proofs.Common.{◌≡◌, ℕ, zero, suc, ◌≤◌, List, [], ◌∷◌, ◌++◌, Bool, false, map, drop, length, Option, Some, None, is_some, refl, sym, ap, ◌∙◌}
 use Rattle.std.specs.List.{list_any}
 use Rattle.std.proofs.lemmas.List.{append-nil, drop_all}
 use Rattle.js_bundle.specs.declared.scan.Site as rust

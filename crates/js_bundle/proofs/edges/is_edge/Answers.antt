@@ -1,4 +1,4 @@
-use Rattle.std.proofs.Common.{map, rules, arith}
+use Rattle.std.proofs.Common.{map, arith}
 use Rattle.js_bundle.specs.code.Spot.{spot_of}
 use Rattle.js_bundle.proofs.BelowBefore.{edge_next}
 use Rattle.js_bundle.proofs.edges.is_edge.Goals as goal

@@ -1,4 +1,4 @@
-use Rattle.std.proofs.Common.{◌+◌, ◌∷◌, ◌++◌, [], map, drop, string_bytes, sym, ap, ◌∙◌, subst, ◌≡◌, rules, arith}
+use Rattle.std.proofs.Common.{◌+◌, ◌∷◌, ◌++◌, [], map, drop, string_bytes, ap, ◌∙◌, subst, ◌≡◌, rules, arith}
 use Rattle.js_bundle.specs.code.Spot.{location_of, spot_of}
 use Rattle.js_bundle.proofs.BelowBefore.{below_before, told_at, there_at}
 use Rattle.js_bundle.proofs.Passes.{map_drop_more, piece_next}
