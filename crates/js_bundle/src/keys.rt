@@ -15,7 +15,16 @@ use std::alloc::Global;
 pub(crate) fn place_key(alloc: Global, document: usize, pointer: &Pointer) -> Result<String, Memory>
     ensures { IfOk result (λ t. string_bytes t ≡ place_key document pointer.now) }
 {
-    let mut key = String::with_capacity(alloc, room_for(pointer.tokens()))?;
+    let key = String::with_capacity(alloc, room_for(pointer.tokens()))?;
+    written_key(key, document, pointer)
+}
+
+// The same, written in the place of what the text has.
+fn written_key(key: String, document: usize, pointer: &Pointer) -> Result<String, Memory>
+    ensures { IfOk result (λ t. string_bytes t ≡ place_key document pointer.now) }
+{
+    let mut key = key;
+    key.clear();
     push_document(&mut key, document)?;
     push_tokens(&mut key, pointer.tokens(), 0)?;
     Ok(key)
@@ -65,7 +74,6 @@ fn push_tokens(key: &mut String, tokens: &[Token], from: usize) -> Result<(), Me
 
 /// The key of a place, from that of the one before it: where it stands below that one, it goes on from there.
 pub(crate) fn key_after(
-    alloc: Global,
     key: String,
     before: Option<&Site<'_>>,
     site: &Site<'_>,
@@ -77,7 +85,7 @@ pub(crate) fn key_after(
 {
     match before {
         Some(before) if descends => extended_key(key, before, site),
-        _ => place_key(alloc, site.document, &site.pointer),
+        _ => written_key(key, site.document, &site.pointer),
     }
 }
 

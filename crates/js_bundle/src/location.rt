@@ -25,7 +25,22 @@ pub(crate) fn absolute(
     ensures { IfOk result (λ t. string_bytes t ≡ printed scope.now.base
         ++ (codes "#" ++ fragment_text (drop (length scope.now.resource) pointer.now ++ tokens_of keyword.entry))) }
 {
-    let mut text = String::from_str(alloc, uri::text_of(&scope.base))?;
+    written(String::new(alloc), scope, pointer, keyword)
+}
+
+// The same, written in the place of what the text has.
+fn written(
+    text: String,
+    scope: &Scope,
+    pointer: &Pointer,
+    keyword: Option<&str>,
+) -> Result<String, Memory>
+    ensures { IfOk result (λ t. string_bytes t ≡ printed scope.now.base
+        ++ (codes "#" ++ fragment_text (drop (length scope.now.resource) pointer.now ++ tokens_of keyword.entry))) }
+{
+    let mut text = text;
+    text.clear();
+    text.push_str(uri::text_of(&scope.base))?;
     text.push('#')?;
     push_way(&mut text, pointer.tokens(), scope.resource.tokens().len())?;
     push_keyword(&mut text, keyword)?;
@@ -73,7 +88,6 @@ fn has_depth_of(above: &Spot, spot: &Spot) -> bool
 
 // The location of a place, from that of the one before it.
 fn location_after(
-    alloc: Global,
     text: String,
     before: Option<&Spot>,
     spot: &Spot,
@@ -85,7 +99,7 @@ fn location_after(
 {
     match before {
         Some(above) if descends && is_beside(above, spot) => extended_location(text, above, spot),
-        _ => absolute(alloc, &spot.own, &spot.pointer, None),
+        _ => written(text, &spot.own, &spot.pointer, None),
     }
 }
 
@@ -119,7 +133,7 @@ pub(crate) fn locations_of(
     let mut before = None;
     for i in 0..spots.len() {
         let spot = &spots[i];
-        text = location_after(alloc, text, before, spot, descends_at(descents, i))?;
+        text = location_after(text, before, spot, descends_at(descents, i))?;
         locations.push(Text::new(text.clone()?))?;
         before = Some(spot);
     }

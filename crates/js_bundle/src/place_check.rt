@@ -214,7 +214,7 @@ fn add_place(
 {
     let descends = descends(before, site);
     descents.push(descends)?;
-    let key = key_after(alloc, key, before, site, descends)?;
+    let key = key_after(key, before, site, descends)?;
     index.add(alloc, site, number, key.clone()?)?;
     Ok(key)
 }
