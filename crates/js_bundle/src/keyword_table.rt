@@ -1,6 +1,5 @@
 //! Which keyword of the standard each keyword of each place is.
-ghost use Rattle.std.specs.Prelude.{◌≡◌, ◌++◌, ◌∷◌, [], true, length, map, option_map, IfOk, OnOk};
-ghost use Rattle.js_bundle.specs.code.Grouped.{IsGrouped};
+ghost use Rattle.std.specs.Prelude.{◌≡◌, ◌++◌, ◌∷◌, [], true, length, map, option_map, OnOk};
 ghost use Rattle.js_bundle.specs.KeywordName.{keyword_name, keyword_names};
 ghost use Rattle.js_bundle.specs.code.Scan.{site_of};
 ghost use Rattle.js_bundle.specs.Schemas.{is_place, place_at};
@@ -51,28 +50,25 @@ fn push_names(names: &mut Vec<KeywordName>, site: &Site<'_>) -> Result<(), Memor
     }
 }
 
-// The same of the next place.
-fn push_place(table: &mut KeywordTable, site: &Site<'_>) -> Result<(), Memory>
-    ensures names { OnOk result (table.new.names.items ≡ table.old.names.items ++ keyword_names (site_of site.now)) }
-    ensures ends { OnOk result (table.new.ends.items ≡ table.old.ends.items ++ length table.new.names.items ∷ []) }
-{
-    push_names(&mut table.names, site)?;
-    table.ends.push(table.names.len())?;
-    Ok(())
-}
-
-/// The table of all places.
-pub(crate) fn keyword_table(alloc: Global, sites: &[Site<'_>]) -> Result<KeywordTable, Memory>
-    ensures { IfOk result (λ t. IsGrouped keyword_names (map site_of sites.now) t.names.items t.ends.items) }
-{
-    let mut table = KeywordTable {
-        names: Vec::new(alloc),
-        ends: Vec::new(alloc),
-    };
-    for site in sites {
-        push_place(&mut table, site)?;
+impl KeywordTable {
+    /// That of no places.
+    pub(crate) fn new(alloc: Global) -> KeywordTable
+        ensures names { result.names.items ≡ [] }
+        ensures ends { result.ends.items ≡ [] }
+    {
+        KeywordTable {
+            names: Vec::new(alloc),
+            ends: Vec::new(alloc),
+        }
     }
-    table.names.shrink_to_fit();
-    table.ends.shrink_to_fit();
-    Ok(table)
+
+    /// Adds the next place.
+    pub(crate) fn add(&mut self, site: &Site<'_>) -> Result<(), Memory>
+        ensures names { OnOk result (self.new.names.items ≡ self.old.names.items ++ keyword_names (site_of site.now)) }
+        ensures ends { OnOk result (self.new.ends.items ≡ self.old.ends.items ++ length self.new.names.items ∷ []) }
+    {
+        push_names(&mut self.names, site)?;
+        self.ends.push(self.names.len())?;
+        Ok(())
+    }
 }

@@ -10,6 +10,7 @@ ghost use Rattle.js_bundle.specs.code.Grouped.{IsGrouped};
 ghost use Rattle.js_bundle.specs.code.Descent.{descends, descents};
 ghost use Rattle.js_bundle.specs.code.Index.{IsAdded, IsIndex, place_key};
 ghost use Rattle.js_bundle.specs.Keyword.{keywords};
+ghost use Rattle.js_bundle.specs.KeywordName.{keyword_names};
 ghost use Rattle.js_bundle.specs.Refusals.{when, decided, on_text, text_rules, at_member, at_site, first_pass};
 ghost use Rattle.js_bundle.specs.code.Scan.{site_of};
 ghost use Rattle.js_bundle.specs.code.Spot.{spot};
@@ -19,6 +20,7 @@ use crate::descent::descends;
 use crate::fault::{Fault, refuse};
 use crate::index::Index;
 use crate::keys::key_after;
+use crate::keyword_table::KeywordTable;
 use crate::refusal::RefusalKind;
 use crate::rules::{check_anchor, check_dialect, check_id, check_place, is_formed, read_assertion};
 use crate::scan::Site;
@@ -194,6 +196,7 @@ pub(crate) struct Passed {
     pub(crate) index: Index,
     /// Of each place, whether it stands below the one before it.
     pub(crate) descents: Vec<bool>,
+    pub(crate) keywords: KeywordTable,
 }
 
 // Adds a place to the index, and answers its key. The other key is that of the place before it.
@@ -228,6 +231,7 @@ pub(crate) fn first_pass(alloc: Global, sites: &[Site<'_>]) -> Result<Passed, Fa
         p.built.all.patterns.items p.built.pattern_ends.items) }
     ensures index { IfOk result (λ p. IsIndex p.index (map site_of sites.now)) }
     ensures descents { IfOk result (λ p. p.descents.items ≡ descents (map spot (map site_of sites.now))) }
+    ensures keywords { IfOk result (λ p. IsGrouped keyword_names (map site_of sites.now) p.keywords.names.items p.keywords.ends.items) }
     ensures err { IfErr result (IsStopped (first_pass [] (map site_of sites.now))) }
 {
     let mut all = Built::new(alloc);
@@ -237,8 +241,10 @@ pub(crate) fn first_pass(alloc: Global, sites: &[Site<'_>]) -> Result<Passed, Fa
     let mut descents = Vec::new(alloc);
     let mut key = String::new(alloc);
     let mut before = None;
+    let mut keywords = KeywordTable::new(alloc);
     for i in 0..sites.len() {
         let site = &sites[i];
+        keywords.add(site)?;
         check_site(alloc, &mut all, &index, &sites[..i], site)?;
         assertion_ends.push(all.assertions.len())?;
         pattern_ends.push(all.patterns.len())?;
@@ -254,5 +260,6 @@ pub(crate) fn first_pass(alloc: Global, sites: &[Site<'_>]) -> Result<Passed, Fa
         built,
         index,
         descents,
+        keywords,
     })
 }

@@ -21,7 +21,7 @@ use crate::document::Document;
 use crate::edges::{Edges, edges_of};
 use crate::fault::Fault;
 use crate::index::Index;
-use crate::keyword_table::{KeywordTable, keyword_table};
+use crate::keyword_table::KeywordTable;
 use crate::location::locations_of;
 use crate::place_check::{Passed, first_pass};
 use crate::reference::{References, resolve_all};
@@ -114,8 +114,8 @@ pub(crate) fn check_whole(alloc: Global, documents: &[Document]) -> Result<Check
         built,
         index,
         descents,
+        keywords,
     } = first_pass(alloc, sites.as_slice())?;
-    let keywords = keyword_table(alloc, sites.as_slice())?;
     let references = resolve_all(alloc, &index, sites.as_slice(), &keywords)?;
     let resources = resources_of(alloc, &index, sites.as_slice(), &keywords)?;
     let spots = spots_of(alloc, sites)?;

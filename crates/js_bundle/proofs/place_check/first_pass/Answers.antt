@@ -1,6 +1,7 @@
 use Rattle.std.proofs.Common.{◌+◌, [], ◌∷◌, ◌++◌, map, take, drop, option_map, ap, ◌∙◌, rules, arith}
 use Rattle.std.proofs.lemmas.Result.{err_from_is_err_and}
 use Rattle.js_bundle.specs.AssertionsAndPatterns.{assertions_at, patterns_at}
+use Rattle.js_bundle.specs.KeywordName.{keyword_names}
 use Rattle.js_bundle.specs.Refusals.{at_site, first_pass}
 use Rattle.js_bundle.specs.code.Descent.{descents}
 use Rattle.js_bundle.specs.code.Scan.{site_of}
@@ -18,7 +19,7 @@ returns-in_err-check_site-clause-err c =
     let ss = c.args.sites.now in
     let x = c.index-sites-i.result in
     let whole = first_pass [] (map site_of ss) in
-    let p = err_from_is_err_and c.from_residual.result c.from_residual.ensures.1 in
+    let p = err_from_is_err_and c.from_residual-in_err-check_site.result c.from_residual-in_err-check_site.ensures.1 in
     rw (p.1, p.2) (leads_stop whole (at_site (map site_of (take l.i ss)) (site_of x)) (first_pass (map site_of (take (l.i + 1) ss)) (map site_of (drop (l.i + 1) ss))) c.in_err-check_site.field-0.0
     (site_next ss l.i x whole (omega arith) c.index-sites-i.is l.invariant.leads) c.in_err-check_site.ensures.err)
 
@@ -35,6 +36,8 @@ loop-i-preserved c =
           c.in_ok-check_site.ensures.assertions (c.in_ok-push.ensures.items ∙ ap (λ n. l.assertion_ends.items ++ n ∷ []) (search rules)) l.invariant.assertions;
       patterns = grouped_next patterns_at ss l.i x l.all.patterns.items c.check_site.new.built.patterns.items l.pattern_ends.items c.push-in-loop-i.new.self.items (omega arith) c.index-sites-i.is
           c.in_ok-check_site.ensures.patterns (c.in_ok-push-2.ensures.items ∙ ap (λ n. l.pattern_ends.items ++ n ∷ []) (search rules)) l.invariant.patterns;
+      keywords = grouped_next keyword_names ss l.i x l.keywords.names.items c.add.new.self.names.items l.keywords.ends.items c.add.new.self.ends.items (omega arith) c.index-sites-i.is
+          c.in_ok-add.ensures.names c.in_ok-add.ensures.ends l.invariant.keywords;
       index = index_more ss l.i x l.index c.add_place.new.index (omega arith) c.index-sites-i.is l.invariant.index c.in_ok-key.ensures.added;
       key = c.in_ok-key.ensures.key;
       descents = descents_next ss l.i x (option_map (λ b. spot (site_of b.now)) l.before) l.descents.items c.add_place.new.descents.items (descents (map spot (map site_of ss))) (omega arith) c.index-sites-i.is

@@ -3,6 +3,7 @@ use Rattle.js_bundle.specs.AssertionsAndPatterns.{assertions_at, patterns_at}
 use Rattle.js_bundle.specs.code.Descent.{descents, descents_after}
 use Rattle.js_bundle.specs.code.Index.{IsIndex, place_key}
 use Rattle.js_bundle.specs.code.Leads.{Leads}
+use Rattle.js_bundle.specs.KeywordName.{keyword_names}
 use Rattle.js_bundle.specs.Refusals.{first_pass}
 use Rattle.js_bundle.specs.code.Scan.{site_of}
 use Rattle.js_bundle.specs.code.Spot.{spot}
@@ -17,6 +18,7 @@ invariant-loop-i l =
       leads : Leads (first_pass [] all) (first_pass (map site_of (take l.i l.sites)) left);
       assertions : AreGrouped assertions_at l.sites l.i l.all.assertions.items l.assertion_ends.items;
       patterns : AreGrouped patterns_at l.sites l.i l.all.patterns.items l.pattern_ends.items;
+      keywords : AreGrouped keyword_names l.sites l.i l.keywords.names.items l.keywords.ends.items;
       index : IsIndex l.index (map site_of (take l.i l.sites));
       key : MatchOption l.before (Unit {0}) (λ b. string_bytes l.key ≡ place_key b.now.document b.now.pointer.value);
       descents : l.descents.items ++ descents_after (option_map (λ b. spot (site_of b.now)) l.before) (map spot left) ≡ descents (map spot all);

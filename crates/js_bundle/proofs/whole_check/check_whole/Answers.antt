@@ -29,16 +29,16 @@ returns-in_err-references-clause-err c =
     let ds = map document_of c.args.documents.now in
     let first : map site_of c.as_slice.result.now ≡ sites ds =
     lists_all ds (map site_of c.as_slice.result.now) (ap (map site_of) c.as_slice.ensures.value ∙ c.in_ok-sites.ensures) c.in_ok-built.ensures.clear in
-    let second : map site_of c.as_slice-3.result.now ≡ sites ds = ap (map site_of) (c.as_slice-3.ensures.value ∙ sym c.as_slice.ensures.value) ∙ first in
-    rw (p.1, p.2) (second_stops ds (map site_of c.as_slice.result.now) (map site_of c.as_slice-3.result.now) c.in_err-references.field-0.0 first second c.in_ok-built.ensures.clear c.in_err-references.ensures.err)
+    let second : map site_of c.as_slice-2.result.now ≡ sites ds = ap (map site_of) (c.as_slice-2.ensures.value ∙ sym c.as_slice.ensures.value) ∙ first in
+    rw (p.1, p.2) (second_stops ds (map site_of c.as_slice.result.now) (map site_of c.as_slice-2.result.now) c.in_err-references.field-0.0 first second c.in_ok-built.ensures.clear c.in_err-references.ensures.err)
 
 pub returns-clause-clear : goal.returns-clause-clear
 returns-clause-clear c =
     let ds = map document_of c.args.documents.now in
     let first : map site_of c.as_slice.result.now ≡ sites ds =
     lists_all ds (map site_of c.as_slice.result.now) (ap (map site_of) c.as_slice.ensures.value ∙ c.in_ok-sites.ensures) c.in_ok-built.ensures.clear in
-    let second : map site_of c.as_slice-3.result.now ≡ sites ds = ap (map site_of) (c.as_slice-3.ensures.value ∙ sym c.as_slice.ensures.value) ∙ first in
-    whole_clear ds (map site_of c.as_slice.result.now) (map site_of c.as_slice-3.result.now) first second c.in_ok-built.ensures.clear c.in_ok-references.ensures.clear
+    let second : map site_of c.as_slice-2.result.now ≡ sites ds = ap (map site_of) (c.as_slice-2.ensures.value ∙ sym c.as_slice.ensures.value) ∙ first in
+    whole_clear ds (map site_of c.as_slice.result.now) (map site_of c.as_slice-2.result.now) first second c.in_ok-built.ensures.clear c.in_ok-references.ensures.clear
 
 pub returns-clause-spots : goal.returns-clause-spots
 returns-clause-spots c =
@@ -68,7 +68,7 @@ returns-clause-dynamic c =
     let ds = map document_of c.args.documents.now in
     let first : map site_of c.as_slice.result.now ≡ sites ds =
     lists_all ds (map site_of c.as_slice.result.now) (ap (map site_of) c.as_slice.ensures.value ∙ c.in_ok-sites.ensures) c.in_ok-built.ensures.clear in
-    let second : map site_of c.as_slice-3.result.now ≡ sites ds = ap (map site_of) (c.as_slice-3.ensures.value ∙ sym c.as_slice.ensures.value) ∙ first in
+    let second : map site_of c.as_slice-2.result.now ≡ sites ds = ap (map site_of) (c.as_slice-2.ensures.value ∙ sym c.as_slice.ensures.value) ∙ first in
     subst (λ ss. IsTold c.in_ok-references.references.dynamic.items (dynamic_at ss) ss) second c.in_ok-references.ensures.dynamic
 
 pub returns-clause-plain : goal.returns-clause-plain
@@ -76,7 +76,7 @@ returns-clause-plain c =
     let ds = map document_of c.args.documents.now in
     let first : map site_of c.as_slice.result.now ≡ sites ds =
     lists_all ds (map site_of c.as_slice.result.now) (ap (map site_of) c.as_slice.ensures.value ∙ c.in_ok-sites.ensures) c.in_ok-built.ensures.clear in
-    let second : map site_of c.as_slice-3.result.now ≡ sites ds = ap (map site_of) (c.as_slice-3.ensures.value ∙ sym c.as_slice.ensures.value) ∙ first in
+    let second : map site_of c.as_slice-2.result.now ≡ sites ds = ap (map site_of) (c.as_slice-2.ensures.value ∙ sym c.as_slice.ensures.value) ∙ first in
     subst (λ ss. IsTold c.in_ok-references.references.plain.items (number_of_target ss (codes "$ref")) ss) second c.in_ok-references.ensures.plain
 
 pub returns-clause-locations : goal.returns-clause-locations
@@ -84,8 +84,8 @@ returns-clause-locations c =
     let ds = map document_of c.args.documents.now in
     let first : map site_of c.as_slice.result.now ≡ sites ds =
     lists_all ds (map site_of c.as_slice.result.now) (ap (map site_of) c.as_slice.ensures.value ∙ c.in_ok-sites.ensures) c.in_ok-built.ensures.clear in
-    kept_locations ds c.in_ok-locations.locations.items c.as_slice-5.result.now c.in_ok-locations.ensures
-    (ap (map spot_of) c.as_slice-5.ensures.value ∙ c.in_ok-spots.ensures ∙ ap (map spot) (ap (map site_of) (sym c.as_slice.ensures.value) ∙ first))
+    kept_locations ds c.in_ok-locations.locations.items c.as_slice-4.result.now c.in_ok-locations.ensures
+    (ap (map spot_of) c.as_slice-4.ensures.value ∙ c.in_ok-spots.ensures ∙ ap (map spot) (ap (map site_of) (sym c.as_slice.ensures.value) ∙ first))
 
 pub returns-clause-index : goal.returns-clause-index
 returns-clause-index c =
@@ -99,7 +99,7 @@ resources_of-requires-clause-index c =
     let ds = map document_of c.args.documents.now in
     let first : map site_of c.as_slice.result.now ≡ sites ds =
     lists_all ds (map site_of c.as_slice.result.now) (ap (map site_of) c.as_slice.ensures.value ∙ c.in_ok-sites.ensures) c.in_ok-built.ensures.clear in
-    let third : map site_of c.as_slice-4.result.now ≡ sites ds = ap (map site_of) (c.as_slice-4.ensures.value ∙ sym c.as_slice.ensures.value) ∙ first in
+    let third : map site_of c.as_slice-3.result.now ≡ sites ds = ap (map site_of) (c.as_slice-3.ensures.value ∙ sym c.as_slice.ensures.value) ∙ first in
     subst (IsIndex c.in_ok-built.field-0.index) (first ∙ sym third) c.in_ok-built.ensures.index
 
 pub resources_of-requires-clause-rooted : goal.resources_of-requires-clause-rooted
@@ -107,7 +107,7 @@ resources_of-requires-clause-rooted c =
     let ds = map document_of c.args.documents.now in
     let first : map site_of c.as_slice.result.now ≡ sites ds =
     lists_all ds (map site_of c.as_slice.result.now) (ap (map site_of) c.as_slice.ensures.value ∙ c.in_ok-sites.ensures) c.in_ok-built.ensures.clear in
-    let third : map site_of c.as_slice-4.result.now ≡ sites ds = ap (map site_of) (c.as_slice-4.ensures.value ∙ sym c.as_slice.ensures.value) ∙ first in
+    let third : map site_of c.as_slice-3.result.now ≡ sites ds = ap (map site_of) (c.as_slice-3.ensures.value ∙ sym c.as_slice.ensures.value) ∙ first in
     subst AreRooted (sym third) (all_are_rooted ds c.requires)
 
 pub returns-clause-resources : goal.returns-clause-resources
@@ -115,7 +115,7 @@ returns-clause-resources c =
     let ds = map document_of c.args.documents.now in
     let first : map site_of c.as_slice.result.now ≡ sites ds =
     lists_all ds (map site_of c.as_slice.result.now) (ap (map site_of) c.as_slice.ensures.value ∙ c.in_ok-sites.ensures) c.in_ok-built.ensures.clear in
-    let third : map site_of c.as_slice-4.result.now ≡ sites ds = ap (map site_of) (c.as_slice-4.ensures.value ∙ sym c.as_slice.ensures.value) ∙ first in
+    let third : map site_of c.as_slice-3.result.now ≡ sites ds = ap (map site_of) (c.as_slice-3.ensures.value ∙ sym c.as_slice.ensures.value) ∙ first in
     subst (IsResourceTable c.in_ok-resources.resources) third c.in_ok-resources.ensures
 
 pub returns-in_err-spots-clause-err : goal.returns-in_err-spots-clause-err
@@ -133,18 +133,12 @@ returns-in_err-resources-clause-err c =
     let p = err_from_is_err_and c.from_residual-in_err-resources.result c.from_residual-in_err-resources.ensures.1 in
     rw (p.1, p.2) tt
 
-pub returns-in_err-keywords-clause-err : goal.returns-in_err-keywords-clause-err
-returns-in_err-keywords-clause-err c =
-    let p = err_from_is_err_and c.from_residual-in_err-keywords.result c.from_residual-in_err-keywords.ensures.1 in
-    rw (p.1, p.2) tt
-
 pub returns-clause-keywords : goal.returns-clause-keywords
 returns-clause-keywords c =
     let ds = map document_of c.args.documents.now in
     let first : map site_of c.as_slice.result.now ≡ sites ds =
     lists_all ds (map site_of c.as_slice.result.now) (ap (map site_of) c.as_slice.ensures.value ∙ c.in_ok-sites.ensures) c.in_ok-built.ensures.clear in
-    let fourth : map site_of c.as_slice-2.result.now ≡ sites ds = ap (map site_of) (c.as_slice-2.ensures.value ∙ sym c.as_slice.ensures.value) ∙ first in
-    subst (λ ss. IsGrouped keyword_names ss c.in_ok-keywords.keywords.names.items c.in_ok-keywords.keywords.ends.items) fourth c.in_ok-keywords.ensures
+    subst (λ ss. IsGrouped keyword_names ss c.in_ok-built.field-0.keywords.names.items c.in_ok-built.field-0.keywords.ends.items) first c.in_ok-built.ensures.keywords
 
 pub returns-in_err-locations-clause-err : goal.returns-in_err-locations-clause-err
 returns-in_err-locations-clause-err c =
@@ -153,16 +147,16 @@ returns-in_err-locations-clause-err c =
 
 pub locations_of-requires : goal.locations_of-requires
 locations_of-requires c =
-    c.as_slice-6.ensures.value ∙ c.in_ok-built.ensures.descents ∙ ap descents (ap (λ ss. map spot (map site_of ss)) c.as_slice.ensures.value ∙ sym c.in_ok-spots.ensures ∙ ap (map spot_of) (sym c.as_slice-5.ensures.value))
+    c.as_slice-5.ensures.value ∙ c.in_ok-built.ensures.descents ∙ ap descents (ap (λ ss. map spot (map site_of ss)) c.as_slice.ensures.value ∙ sym c.in_ok-spots.ensures ∙ ap (map spot_of) (sym c.as_slice-4.ensures.value))
 
 pub edges_of-requires : goal.edges_of-requires
 edges_of-requires c =
-    c.as_slice-8.ensures.value ∙ c.in_ok-built.ensures.descents ∙ ap descents (ap (λ ss. map spot (map site_of ss)) c.as_slice.ensures.value ∙ sym c.in_ok-spots.ensures ∙ ap (map spot_of) (sym c.as_slice-7.ensures.value))
+    c.as_slice-7.ensures.value ∙ c.in_ok-built.ensures.descents ∙ ap descents (ap (λ ss. map spot (map site_of ss)) c.as_slice.ensures.value ∙ sym c.in_ok-spots.ensures ∙ ap (map spot_of) (sym c.as_slice-6.ensures.value))
 
 pub resolve_all-requires-clause-keywords : goal.resolve_all-requires-clause-keywords
 resolve_all-requires-clause-keywords c =
-    subst (λ ss. IsGrouped keyword_names (map site_of ss) c.in_ok-keywords.keywords.names.items c.in_ok-keywords.keywords.ends.items) (c.as_slice-2.ensures.value ∙ sym c.as_slice-3.ensures.value) c.in_ok-keywords.ensures
+    subst (λ ss. IsGrouped keyword_names (map site_of ss) c.in_ok-built.field-0.keywords.names.items c.in_ok-built.field-0.keywords.ends.items) (c.as_slice.ensures.value ∙ sym c.as_slice-2.ensures.value) c.in_ok-built.ensures.keywords
 
 pub resources_of-requires-clause-keywords : goal.resources_of-requires-clause-keywords
 resources_of-requires-clause-keywords c =
-    subst (λ ss. IsGrouped keyword_names (map site_of ss) c.in_ok-keywords.keywords.names.items c.in_ok-keywords.keywords.ends.items) (c.as_slice-2.ensures.value ∙ sym c.as_slice-4.ensures.value) c.in_ok-keywords.ensures
+    subst (λ ss. IsGrouped keyword_names (map site_of ss) c.in_ok-built.field-0.keywords.names.items c.in_ok-built.field-0.keywords.ends.items) (c.as_slice.ensures.value ∙ sym c.as_slice-3.ensures.value) c.in_ok-built.ensures.keywords
