@@ -4,7 +4,7 @@ use Rattle.std.specs.List.{list_any}
 use Rattle.std.proofs.lemmas.List.{append-nil, drop_all}
 use Rattle.js_bundle.specs.declared.scan.Site as rust
 use Rattle.js_bundle.specs.code.Scan.{site_of}
-use Rattle.js_bundle.specs.code.Column.{IsTold, TellAlike}
+use Rattle.js_bundle.specs.code.Column.{IsColumn, TellAlike}
 use Rattle.js_bundle.specs.Finding.{under_number}
 use Rattle.js_bundle.specs.Resource.{Site}
 use Rattle.js_bundle.proofs.UnderNumber.{under_finds}
@@ -21,8 +21,8 @@ none_under (None ∷ column) h (suc n) = none_under column h n
 pub none_told : {A : Type 0} (column new : List (Option A)) (found : Bool) → new ≡ [] → found ≡ list_any is_some column → found ≡ false → TellAlike column new
 none_told column new found empty told h = record { alike = λ n. ap (λ c. under_number c n) empty ∙ none_under column (sym told ∙ h) n }
 
-pub trimmed_told : {A : Type 0} (f : Site → Option A) (all : List Site) (full column : List (Option A)) → full ≡ map f all → TellAlike full column → IsTold column f all
-trimmed_told f all full column e h = record { told = λ n. h.alike n ∙ ap (λ c. under_number c n) e ∙ under_finds f all n }
+pub unless_blank_told : {A : Type 0} (f : Site → Option A) (all : List Site) (full column : List (Option A)) → full ≡ map f all → TellAlike full column → IsColumn column f all
+unless_blank_told f all full column e h = record { told = λ n. h.alike n ∙ ap (λ c. under_number c n) e ∙ under_finds f all n }
 
 -- a list that was made place by place, once no place is left
 pub ended : {A : Type 0} (f : Site → A) (ss : List rust.Site) (i : ℕ) (made all : List A) → length ss ≤ i → made ++ map f (map site_of (drop i ss)) ≡ all → made ≡ all

@@ -9,7 +9,7 @@ use Rattle.url.specs.Parts.{Parts}
 use Rattle.js_doc.proofs.Named.{is_text-sound}
 use Rattle.js_bundle.specs.declared.reference.DynamicReference.{DynamicReference}
 use Rattle.js_bundle.specs.Candidate.{IsClear}
-use Rattle.js_bundle.specs.code.Column.{IsTold}
+use Rattle.js_bundle.specs.code.Column.{IsColumn}
 use Rattle.js_bundle.specs.Document.{Documents}
 use Rattle.js_bundle.specs.Finding.{number_of_target, goes_by_name, dynamic_as, dynamic_at, under_number, by_scope}
 use Rattle.js_bundle.specs.Keyword.{Text, has, text_argument}
@@ -126,7 +126,7 @@ reference_by documents i r (Some s) e h = by_target (number_of_target (sites doc
         }
 
 pub reference_is : (docs documents : Documents) (items : List (Option DynamicReference)) (n place : ℕ) (r : DynamicReference) → docs ≡ documents → n ≡ place
-    → IsTold items (dynamic_in docs) (sites docs) → Some r ≡ under_number items n → IsReference documents place r
+    → IsColumn items (dynamic_in docs) (sites docs) → Some r ≡ under_number items n → IsReference documents place r
 reference_is docs documents items n place r same number e h =
     reference_by documents place r (place_at documents place) refl (sym (kept_under dynamic_in docs documents items n place (Some r) same number e h))
 
@@ -158,6 +158,6 @@ none_kept documents i (Some s) clear e has_it h = by_target (number_of_target (s
     by_target (Some t) some h = absurd (cc)
 
 pub reference_missing : (docs documents : Documents) (items : List (Option DynamicReference)) (n place : ℕ) → docs ≡ documents → n ≡ place → IsClear (candidates docs)
-    → IsTold items (dynamic_in docs) (sites docs) → has_keyword (codes "$dynamicRef") documents place ≡ true → ¬ (None ≡ under_number items n)
+    → IsColumn items (dynamic_in docs) (sites docs) → has_keyword (codes "$dynamicRef") documents place ≡ true → ¬ (None ≡ under_number items n)
 reference_missing docs documents items n place same number clear e has_it h =
     none_kept documents place (place_at documents place) (subst (λ ds. IsClear (candidates ds)) same clear) refl has_it (sym (kept_under dynamic_in docs documents items n place None same number e h))

@@ -7,7 +7,7 @@ use Rattle.js_assert.specs.Keyword.{name_of}
 use Rattle.js_bundle.specs.declared.assertions_and_patterns.BuiltPattern.{BuiltPattern}
 use Rattle.js_bundle.specs.AssertionsAndPatterns.{assertions_at, patterns_at}
 use Rattle.js_bundle.specs.Candidate.{IsClear}
-use Rattle.js_bundle.specs.code.Column.{IsTold}
+use Rattle.js_bundle.specs.code.Column.{IsColumn}
 use Rattle.js_bundle.specs.Document.{Documents}
 use Rattle.js_bundle.specs.Finding.{number_of_target, under_number}
 use Rattle.js_bundle.specs.Keyword.{Text, has}
@@ -55,7 +55,7 @@ under_finds f all n = ap (option_and_then (λ x. x)) (slice_get-map f all n) ∙
 
 -- the same, of what is kept of finished schemas
 pub kept_under : {A : Type 0} (f : Documents → Site → Option A) (docs documents : Documents) (items : List (Option A)) (n place : ℕ) (o : Option A) → docs ≡ documents → n ≡ place
-    → IsTold items (f docs) (sites docs) → o ≡ under_number items n → o ≡ option_and_then (f documents) (place_at documents place)
+    → IsColumn items (f docs) (sites docs) → o ≡ under_number items n → o ≡ option_and_then (f documents) (place_at documents place)
 kept_under f docs documents items n place o same number e h =
     h ∙ e.told n ∙ ap (λ m. option_and_then (f docs) (slice_get (sites docs) m)) number
     ∙ ap (λ ds. option_and_then (f ds) (place_at ds place)) same
@@ -70,7 +70,7 @@ target_by : (documents : Documents) (place : ℕ) (o : Option Site) (t : ℕ) �
 target_by documents place None t is e = absurd (cc)
 target_by documents place (Some s) t is e = let found = number_is_target (sites documents) (codes "$ref") s t e in (found.place, found.target, found.stands)
 
-pub target_is : (docs documents : Documents) (items : List (Option ℕ)) (n place t : ℕ) → docs ≡ documents → n ≡ place → IsTold items (plain_at docs) (sites docs) → Some t ≡ under_number items n
+pub target_is : (docs documents : Documents) (items : List (Option ℕ)) (n place t : ℕ) → docs ≡ documents → n ≡ place → IsColumn items (plain_at docs) (sites docs) → Some t ≡ under_number items n
     → StandsFor documents t (option_and_then (target (sites documents)) (place_at documents place))
 target_is docs documents items n place t same number e h =
     target_by documents place (place_at documents place) t refl (sym (kept_under plain_at docs documents items n place (Some t) same number e h))
@@ -84,6 +84,6 @@ no_target documents place (Some s) clear is there e =
     absurd (cc)
 
 pub target_missing : (docs documents : Documents) (items : List (Option ℕ)) (n place : ℕ) → docs ≡ documents → n ≡ place → IsClear (candidates docs)
-    → IsTold items (plain_at docs) (sites docs) → has_keyword (codes "$ref") documents place ≡ true → ¬ (None ≡ under_number items n)
+    → IsColumn items (plain_at docs) (sites docs) → has_keyword (codes "$ref") documents place ≡ true → ¬ (None ≡ under_number items n)
 target_missing docs documents items n place same number clear e there h =
     no_target documents place (place_at documents place) (subst (λ ds. IsClear (candidates ds)) same clear) refl there (sym (kept_under plain_at docs documents items n place None same number e h))

@@ -4,7 +4,7 @@ ghost use Rattle.std.specs.List.{list_any};
 ghost use Rattle.js_bundle.specs.code.Column.{TellAlike};
 
 /// The list, where some place has an entry. Where none has, an empty one tells the same.
-pub(crate) fn trimmed<T: Copy + Drop>(column: Vec<Option<T>>) -> Vec<Option<T>>
+pub(crate) fn unless_blank<T: Copy + Drop>(column: Vec<Option<T>>) -> Vec<Option<T>>
     ensures { TellAlike column.items result.items }
 {
     if has_entry(column.as_slice()) {

@@ -4,7 +4,7 @@ ghost use Rattle.std.specs.List.{flat_map};
 ghost use Rattle.js_bundle.specs.Candidate.{IsClear, IsStopped};
 ghost use Rattle.std.specs.Option.{option_map_or};
 ghost use Rattle.js_bundle.specs.Finding.{number_named, number_of_target, goes_by_name, dynamic_as, dynamic_at};
-ghost use Rattle.js_bundle.specs.code.Column.{IsTold};
+ghost use Rattle.js_bundle.specs.code.Column.{IsColumn};
 ghost use Rattle.js_bundle.specs.code.Grouped.{IsGrouped};
 ghost use Rattle.js_bundle.specs.code.Index.{IsIndex};
 ghost use Rattle.js_bundle.specs.KeywordName.{keyword_names};
@@ -14,7 +14,7 @@ ghost use Rattle.js_bundle.specs.Resource.{joined};
 ghost use Rattle.js_bundle.specs.code.Scan.{site_of};
 ghost use Rattle.js_bundle.specs.Target.{reference, is_dynamic};
 
-use crate::column::trimmed;
+use crate::column::unless_blank;
 use crate::fault::{Fault, refuse};
 use crate::grouped::part;
 use crate::index::Index;
@@ -249,9 +249,9 @@ pub(crate) fn resolve_all(
     requires index { IsIndex index.now (map site_of sites.now) }
     requires keywords { IsGrouped keyword_names (map site_of sites.now) keywords.now.names.items keywords.now.ends.items }
     ensures clear { OnOk result (IsClear (second_pass (map site_of sites.now))) }
-    ensures dynamic { IfOk result (λ r. IsTold r.dynamic.items
+    ensures dynamic { IfOk result (λ r. IsColumn r.dynamic.items
         (dynamic_at (map site_of sites.now)) (map site_of sites.now)) }
-    ensures plain { IfOk result (λ r. IsTold r.plain.items
+    ensures plain { IfOk result (λ r. IsColumn r.plain.items
         (number_of_target (map site_of sites.now) (codes "$ref")) (map site_of sites.now)) }
     ensures err { IfErr result (IsStopped (second_pass (map site_of sites.now))) }
 {
@@ -264,7 +264,7 @@ pub(crate) fn resolve_all(
         plain.push(targets.plain)?;
     }
     Ok(References {
-        dynamic: trimmed(dynamic),
-        plain: trimmed(plain),
+        dynamic: unless_blank(dynamic),
+        plain: unless_blank(plain),
     })
 }

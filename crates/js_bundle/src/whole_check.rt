@@ -2,7 +2,7 @@
 ghost use Rattle.std.specs.Prelude.{◌≡◌, ◌++◌, [], ◌∷◌, codes, map, OnOk, IfOk, IfErr};
 ghost use Rattle.js_bundle.specs.AssertionsAndPatterns.{assertions_at, patterns_at};
 ghost use Rattle.js_bundle.specs.Candidate.{IsClear, IsStopped};
-ghost use Rattle.js_bundle.specs.code.Column.{IsTold};
+ghost use Rattle.js_bundle.specs.code.Column.{IsColumn};
 ghost use Rattle.js_bundle.specs.code.Edges.{LeadDown};
 ghost use Rattle.js_bundle.specs.Finding.{dynamic_at, number_of_target};
 ghost use Rattle.js_bundle.specs.code.Grouped.{IsGrouped};
@@ -96,9 +96,9 @@ pub(crate) fn check_whole(alloc: Global, documents: &[Document]) -> Result<Check
         c.built.all.patterns.items c.built.pattern_ends.items) }
     ensures keywords { IfOk result (λ c. IsGrouped keyword_names (sites (map document_of documents.now))
         c.keywords.names.items c.keywords.ends.items) }
-    ensures dynamic { IfOk result (λ c. IsTold c.references.dynamic.items
+    ensures dynamic { IfOk result (λ c. IsColumn c.references.dynamic.items
         (dynamic_at (sites (map document_of documents.now))) (sites (map document_of documents.now))) }
-    ensures plain { IfOk result (λ c. IsTold c.references.plain.items
+    ensures plain { IfOk result (λ c. IsColumn c.references.plain.items
         (number_of_target (sites (map document_of documents.now)) (codes "$ref"))
         (sites (map document_of documents.now))) }
     ensures locations { IfOk result (λ c. c.locations.items

@@ -25,12 +25,12 @@ abbrev pub spot_of : rust.Spot → Spot
 spot_of s = record { document = s.document; pointer = s.pointer.value; above = s.above.value; own = s.own.value; identifies = s.identifies }
 
 -- the place, where that schema stands
-abbrev pub with_schema : Value → Spot → Site
-with_schema schema place = record { document = place.document; pointer = place.pointer; above = place.above; own = place.own; identifies = place.identifies; schema = schema }
+abbrev pub site_with : Value → Spot → Site
+site_with schema place = record { document = place.document; pointer = place.pointer; above = place.above; own = place.own; identifies = place.identifies; schema = schema }
 
 -- its absolute location, whatever stands there
 abbrev pub location_of : Spot → Text
-location_of place = location (with_schema null place)
+location_of place = location (site_with null place)
 
 -- the place stands at the step through a keyword of another one
 abbrev pub stands_below : Spot → Text → Step → Spot → Bool

@@ -4,7 +4,7 @@ use Rattle.std.proofs.lemmas.Result.{err_from_is_err_and}
 use Rattle.js_bundle.specs.Finding.{number_of_target, dynamic_at}
 use Rattle.js_bundle.specs.Refusals.{at_references, second_pass}
 use Rattle.js_bundle.specs.code.Scan.{site_of}
-use Rattle.js_bundle.proofs.Columns.{ended, trimmed_told}
+use Rattle.js_bundle.proofs.Columns.{ended, unless_blank_told}
 use Rattle.js_bundle.proofs.NamesOf.{names_are}
 use Rattle.js_bundle.proofs.Stopping.{leads_past, leads_stop}
 use Rattle.js_bundle.proofs.Passes.{leads_next, place_next, dynamic_same}
@@ -48,11 +48,11 @@ pub returns-clause-dynamic : goal.returns-clause-dynamic
 returns-clause-dynamic c =
     let l = c.loop-i in
     let all = map site_of c.args.sites.now in
-    trimmed_told (dynamic_at all) all l.dynamic.items c.trimmed.result.items (ended (dynamic_at all) c.args.sites.now l.i l.dynamic.items (map (dynamic_at all) all) (omega arith) l.invariant.dynamic) c.trimmed.ensures
+    unless_blank_told (dynamic_at all) all l.dynamic.items c.unless_blank.result.items (ended (dynamic_at all) c.args.sites.now l.i l.dynamic.items (map (dynamic_at all) all) (omega arith) l.invariant.dynamic) c.unless_blank.ensures
 
 pub returns-clause-plain : goal.returns-clause-plain
 returns-clause-plain c =
     let l = c.loop-i in
     let all = map site_of c.args.sites.now in
     let f = number_of_target all (codes "$ref") in
-    trimmed_told f all l.plain.items c.trimmed-2.result.items (ended f c.args.sites.now l.i l.plain.items (map f all) (omega arith) l.invariant.plain) c.trimmed-2.ensures
+    unless_blank_told f all l.plain.items c.unless_blank-2.result.items (ended f c.args.sites.now l.i l.plain.items (map f all) (omega arith) l.invariant.plain) c.unless_blank-2.ensures

@@ -2,7 +2,7 @@ use Rattle.std.proofs.Common.{◌≡◌, codes, map, sym, ap, subst, ◌∙◌}
 use Rattle.std.proofs.lemmas.Result.{err_from_is_err_and}
 use Rattle.js_bundle.specs.AssertionsAndPatterns.{assertions_at, patterns_at}
 use Rattle.js_bundle.specs.Finding.{dynamic_at, number_of_target}
-use Rattle.js_bundle.specs.code.Column.{IsTold}
+use Rattle.js_bundle.specs.code.Column.{IsColumn}
 use Rattle.js_bundle.specs.code.Grouped.{IsGrouped}
 use Rattle.js_bundle.specs.code.Index.{IsIndex}
 use Rattle.js_bundle.specs.KeywordName.{keyword_names}
@@ -69,7 +69,7 @@ returns-clause-dynamic c =
     let first : map site_of c.as_slice.result.now ≡ sites ds =
     lists_all ds (map site_of c.as_slice.result.now) (ap (map site_of) c.as_slice.ensures.value ∙ c.in_ok-sites.ensures) c.in_ok-built.ensures.clear in
     let second : map site_of c.as_slice-2.result.now ≡ sites ds = ap (map site_of) (c.as_slice-2.ensures.value ∙ sym c.as_slice.ensures.value) ∙ first in
-    subst (λ ss. IsTold c.in_ok-references.references.dynamic.items (dynamic_at ss) ss) second c.in_ok-references.ensures.dynamic
+    subst (λ ss. IsColumn c.in_ok-references.references.dynamic.items (dynamic_at ss) ss) second c.in_ok-references.ensures.dynamic
 
 pub returns-clause-plain : goal.returns-clause-plain
 returns-clause-plain c =
@@ -77,7 +77,7 @@ returns-clause-plain c =
     let first : map site_of c.as_slice.result.now ≡ sites ds =
     lists_all ds (map site_of c.as_slice.result.now) (ap (map site_of) c.as_slice.ensures.value ∙ c.in_ok-sites.ensures) c.in_ok-built.ensures.clear in
     let second : map site_of c.as_slice-2.result.now ≡ sites ds = ap (map site_of) (c.as_slice-2.ensures.value ∙ sym c.as_slice.ensures.value) ∙ first in
-    subst (λ ss. IsTold c.in_ok-references.references.plain.items (number_of_target ss (codes "$ref")) ss) second c.in_ok-references.ensures.plain
+    subst (λ ss. IsColumn c.in_ok-references.references.plain.items (number_of_target ss (codes "$ref")) ss) second c.in_ok-references.ensures.plain
 
 pub returns-clause-locations : goal.returns-clause-locations
 returns-clause-locations c =

@@ -1,7 +1,7 @@
 use Rattle.std.proofs.Common.{is_some, ap, ◌∙◌}
 use Rattle.std.specs.List.{list_any}
 use Rattle.js_bundle.proofs.Columns.{none_told}
-use Rattle.js_bundle.proofs.column.trimmed.Goals as goal
+use Rattle.js_bundle.proofs.column.unless_blank.Goals as goal
 
 pub returns : goal.returns
 returns g c =
