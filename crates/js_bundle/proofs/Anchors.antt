@@ -161,6 +161,32 @@ number_in root (x ∷ xs) (suc n) k m is h e =
     let other = other_place x root (stands_at root.document root.pointer x) refl (all_at (λ s. ¬ (stands_at x.document x.pointer s ≡ true)) xs n root h.0 e) in
     ap (λ b. cond b (Some k) (position_from (stands_at root.document root.pointer) (k + 1) xs)) other ∙ number_in root xs n (k + 1) m (omega (arith, is)) h.1 e
 
+-- the root of the resource that begins at a place is the place
+pub root_itself : (all : List Site) (n : ℕ) (place : Site) → StandApart all → slice_get all n ≡ Some place → begins_resource place ≡ true
+    → position_from (stands_at place.document place.own.resource) 0 all ≡ Some n
+root_itself all n place h e begins =
+    ap (λ p. position_from (stands_at place.document p) 0 all) (sym (tokens-sound place.pointer place.own.resource begins)) ∙ number_in place all n 0 n (omega arith) h e
+
+pub root_rank : (all : List Site) (n : ℕ) (place : Site) (ranks : List ℕ) (rank : ℕ) → StandApart all → ranks ≡ ranks_from 0 all → slice_get all n ≡ Some place → begins_resource place ≡ true
+    → rank ≡ unwrap_or (slice_get ranks n) 0 → rank ≡ rank_of_root all place
+root_rank all n place ranks rank h same e begins is =
+    is ∙ ap (λ rs. unwrap_or (slice_get rs n) 0) same ∙ ap (λ o. unwrap_or (option_and_then (slice_get (ranks_from 0 all)) o) 0) (sym (root_itself all n place h e begins))
+
+-- it is told of each place whether it is a root
+pub root_told : (all : List Site) (n : ℕ) (place : Site) (told : List Bool) (answer : Bool) → told ≡ map begins_resource all → slice_get all n ≡ Some place
+    → answer ≡ unwrap_or (slice_get told n) false → answer ≡ true → begins_resource place ≡ true
+root_told all n place told answer same e is h =
+    let there : unwrap_or (slice_get (map begins_resource all) n) false ≡ begins_resource place =
+    ap (λ o. unwrap_or o false) (slice_get-map begins_resource all n) ∙ ap (λ o. unwrap_or (option_map begins_resource o) false) e in
+    sym there ∙ ap (λ bs. unwrap_or (slice_get bs n) false) (sym same) ∙ sym is ∙ h
+
+-- places of one resource have one rank
+pub same_rank : (all : List Site) (before place : Site) → belongs_to place.document place.own.resource before ≡ true → rank_of_root all before ≡ rank_of_root all place
+same_rank all before place e =
+    let parts = and_parts _ _ e in
+    ap₂ (λ d r. unwrap_or (option_and_then (slice_get (ranks_from 0 all)) (position_from (stands_at d r) 0 all)) 0)
+    (eqb-true before.document place.document parts.0) (tokens-sound before.own.resource place.own.resource parts.1)
+
 -- each root's resource has the root's number
 pub number_of_root : (all : List Site) (n : ℕ) (root : Site) → StandApart all → slice_get (roots all) n ≡ Some root → resource_number all root ≡ Some n
 number_of_root all n root h e =

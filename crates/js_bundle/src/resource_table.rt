@@ -1,13 +1,13 @@
 //! What is kept of resources, by their numbers (JSON Schema Core, sections 4.3.5 and 8.2.1).
-ghost use Rattle.std.specs.Prelude.{◌≡◌, ◌<◌, Some, map, length, codes, slice_get, unwrap_or, option_and_then, option_copied, option_to_list, OnOk, IfOk};
+ghost use Rattle.std.specs.Prelude.{◌≡◌, ◌<◌, Some, false, map, length, codes, slice_get, unwrap_or, option_and_then, option_copied, option_to_list, OnOk, IfOk, MatchOption};
 ghost use Rattle.std.specs.List.{position_from};
 ghost use Rattle.js_bundle.specs.code.Grouped.{IsGrouped};
 ghost use Rattle.js_bundle.specs.code.Index.{IsIndex};
 ghost use Rattle.js_bundle.specs.Keyword.{text_argument};
 ghost use Rattle.js_bundle.specs.KeywordName.{keyword_names};
-ghost use Rattle.js_bundle.specs.Names.{same_tokens, stands_at};
+ghost use Rattle.js_bundle.specs.Names.{belongs_to, same_tokens, stands_at};
 ghost use Rattle.js_bundle.specs.ResourceNumber.{begins_resource, roots, resource_number};
-ghost use Rattle.js_bundle.specs.ResourceTable.{AreAnchors, AreEmpty, AreNamed, AreRooted, IsOpened, IsResourceTable, rank_of_root, ranks_from};
+ghost use Rattle.js_bundle.specs.ResourceTable.{AreAnchors, AreEmpty, AreNamed, AreRooted, IsOpened, IsResourceTable, StandApart, rank_of_root, ranks_from};
 ghost use Rattle.js_bundle.specs.code.Scan.{site_of};
 
 use crate::grouped::part;
@@ -30,10 +30,16 @@ pub(crate) struct Resources {
     pub(crate) anchors: Vec<Numbering>,
 }
 
+// Which places are roots of resources, and how many of these stand before each place.
+#[derive(Drop)]
+struct Ranks {
+    begins: Vec<bool>,
+    ranks: Vec<usize>,
+}
+
 // The roots of resources, counted.
 struct Roots {
-    // How many stand before each place.
-    ranks: Vec<usize>,
+    ranks: Ranks,
     // Of each, the names in its resource: none yet.
     anchors: Vec<Numbering>,
 }
@@ -66,27 +72,43 @@ fn root_of(
 }
 
 // Opens the resource of a root.
-fn open_resource(alloc: Global, anchors: &mut Vec<Numbering>, site: &Site<'_>) -> Result<(), Memory>
-    ensures { OnOk result (IsOpened (begins_resource (site_of site.now)) anchors.old.items anchors.new.items) }
+fn open_resource(alloc: Global, anchors: &mut Vec<Numbering>, begins: bool) -> Result<(), Memory>
+    ensures { OnOk result (IsOpened begins anchors.old.items anchors.new.items) }
 {
-    if begins_resource(site) {
+    if begins {
         anchors.push(Numbering::new(alloc))?;
     }
     Ok(())
 }
 
 fn roots_of(alloc: Global, sites: &[Site<'_>]) -> Result<Roots, Memory>
-    ensures ranks { IfOk result (λ r. r.ranks.items ≡ ranks_from 0 (map site_of sites.now)) }
+    ensures begins { IfOk result (λ r. r.ranks.begins.items ≡ map begins_resource (map site_of sites.now)) }
+    ensures ranks { IfOk result (λ r. r.ranks.ranks.items ≡ ranks_from 0 (map site_of sites.now)) }
     ensures many { IfOk result (λ r. length r.anchors.items ≡ length (roots (map site_of sites.now))) }
     ensures empty { IfOk result (λ r. AreEmpty r.anchors.items) }
 {
+    let mut begins = Vec::new(alloc);
     let mut ranks = Vec::new(alloc);
     let mut anchors = Vec::new(alloc);
     for i in 0..sites.len() {
+        let is_root = begins_resource(&sites[i]);
+        begins.push(is_root)?;
         ranks.push(anchors.len())?;
-        open_resource(alloc, &mut anchors, &sites[i])?;
+        open_resource(alloc, &mut anchors, is_root)?;
     }
-    Ok(Roots { ranks, anchors })
+    Ok(Roots {
+        ranks: Ranks { begins, ranks },
+        anchors,
+    })
+}
+
+fn is_root(begins: &[bool], number: usize) -> bool
+    ensures { result ≡ unwrap_or (slice_get begins.now number) false }
+{
+    match begins.get(number) {
+        Some(begins) => *begins,
+        None => false,
+    }
 }
 
 fn rank_under(ranks: &[usize], root: Option<usize>) -> usize
@@ -101,22 +123,78 @@ fn rank_under(ranks: &[usize], root: Option<usize>) -> usize
     }
 }
 
+// Whether the place before is of the same resource.
+fn is_of_one(before: &Site<'_>, site: &Site<'_>) -> bool
+    ensures { result ≡ belongs_to site.now.document site.now.own.value.resource (site_of before.now) }
+{
+    before.document == site.document && is_same(&before.own.resource, &site.own.resource)
+}
+
+// The number of a place's resource: that of a root is known, and most other places are of the resource of the one before.
+fn number_after(
+    alloc: Global,
+    index: &Index,
+    sites: &[Site<'_>],
+    ranks: &Ranks,
+    last: usize,
+    before: Option<&Site<'_>>,
+    site: &Site<'_>,
+    number: usize,
+) -> Result<usize, Memory>
+    requires index { IsIndex index.now (map site_of sites.now) }
+    requires apart { StandApart (map site_of sites.now) }
+    requires begins { ranks.now.begins.items ≡ map begins_resource (map site_of sites.now) }
+    requires ranks { ranks.now.ranks.items ≡ ranks_from 0 (map site_of sites.now) }
+    requires last { MatchOption before (Unit {0}) (λ b. last ≡ rank_of_root (map site_of sites.now) (site_of b.now)) }
+    requires site { slice_get (map site_of sites.now) number ≡ Some (site_of site.now) }
+    ensures { IfOk result (λ n. n ≡ rank_of_root (map site_of sites.now) (site_of site.now)) }
+{
+    if is_root(ranks.begins.as_slice(), number) {
+        return Ok(rank_under(ranks.ranks.as_slice(), Some(number)));
+    }
+    match before {
+        Some(before) if is_of_one(before, site) => Ok(last),
+        _ => number_by_root(alloc, index, sites, ranks.ranks.as_slice(), site),
+    }
+}
+
+// The same, by the root of the resource.
+fn number_by_root(
+    alloc: Global,
+    index: &Index,
+    sites: &[Site<'_>],
+    ranks: &[usize],
+    site: &Site<'_>,
+) -> Result<usize, Memory>
+    requires index { IsIndex index.now (map site_of sites.now) }
+    requires ranks { ranks.now ≡ ranks_from 0 (map site_of sites.now) }
+    ensures { IfOk result (λ n. n ≡ rank_of_root (map site_of sites.now) (site_of site.now)) }
+{
+    let root = root_of(alloc, index, sites, site)?;
+    Ok(rank_under(ranks, root))
+}
+
 // The number of each place's resource.
 fn numbers_of(
     alloc: Global,
     index: &Index,
     sites: &[Site<'_>],
-    ranks: &[usize],
+    ranks: &Ranks,
 ) -> Result<Vec<usize>, Memory>
     requires index { IsIndex index.now (map site_of sites.now) }
-    requires ranks { ranks.now ≡ ranks_from 0 (map site_of sites.now) }
+    requires apart { StandApart (map site_of sites.now) }
+    requires begins { ranks.now.begins.items ≡ map begins_resource (map site_of sites.now) }
+    requires ranks { ranks.now.ranks.items ≡ ranks_from 0 (map site_of sites.now) }
     ensures { IfOk result (λ v. v.items ≡ map (rank_of_root (map site_of sites.now)) (map site_of sites.now)) }
 {
     let mut numbers = Vec::new(alloc);
+    let mut last = 0;
+    let mut before = None;
     for i in 0..sites.len() {
         let site = &sites[i];
-        let root = root_of(alloc, index, sites, site)?;
-        numbers.push(rank_under(ranks, root))?;
+        last = number_after(alloc, index, sites, ranks, last, before, site, i)?;
+        numbers.push(last)?;
+        before = Some(site);
     }
     Ok(numbers)
 }
@@ -184,7 +262,7 @@ pub(crate) fn resources_of(
     ensures { IfOk result (λ r. IsResourceTable r (map site_of sites.now)) }
 {
     let Roots { ranks, mut anchors } = roots_of(alloc, sites)?;
-    let numbers = numbers_of(alloc, index, sites, ranks.as_slice())?;
+    let numbers = numbers_of(alloc, index, sites, &ranks)?;
     name_all(alloc, &mut anchors, sites, keywords, numbers.as_slice())?;
     Ok(Resources { numbers, anchors })
 }

@@ -4,7 +4,7 @@ use Rattle.js_bundle.proofs.Anchors.{ranks_are_numbers}
 use Rattle.js_bundle.proofs.resource_table.resources_of.Goals as goal
 
 pub name_all-requires-clause-numbers : goal.name_all-requires-clause-numbers
-name_all-requires-clause-numbers c = ap (map Some) (c.as_slice-2.ensures.value ∙ c.in_ok-numbers.ensures) ∙ ranks_are_numbers (map site_of c.args.sites.now) c.requires.rooted
+name_all-requires-clause-numbers c = ap (map Some) (c.as_slice.ensures.value ∙ c.in_ok-numbers.ensures) ∙ ranks_are_numbers (map site_of c.args.sites.now) c.requires.rooted
 
 pub returns : goal.returns
 returns c = record {
