@@ -1,4 +1,4 @@
-ghost use Rattle.std.specs.Prelude.{◌≡◌};
+ghost use Rattle.std.specs.Prelude.{◌≡◌, is_some};
 ghost use Rattle.js_assert.specs.Keyword.{keyword_named};
 
 /// The keywords of the standard's section 6, in its order.
@@ -56,4 +56,11 @@ impl Keyword {
             _ => None,
         }
     }
+}
+
+/// Whether the keyword of this name judges a value by itself: one of the twenty (JSON Schema Validation, section 6).
+pub fn is_assertion(name: &str) -> bool
+    ensures { result ≡ is_some (keyword_named name.now) }
+{
+    Keyword::keyword_named(name).is_some()
 }

@@ -21,5 +21,6 @@ mod unique;
 
 pub use assertion::Assertion;
 pub use fault::KeywordFault;
+pub use keyword::is_assertion;
 pub use pattern::{Pattern, PatternFault};
 pub use searcher::Searcher;

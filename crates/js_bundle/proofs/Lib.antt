@@ -30,6 +30,7 @@ pub mod Ways
 pub mod BelowBefore
 pub mod Columns
 pub mod NoKeyword
+pub mod KeywordTables
 pub mod NamesOf
 pub mod ExtendedKey
 pub mod ExtendedLocation

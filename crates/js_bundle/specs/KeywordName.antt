@@ -1,5 +1,5 @@
 -- Which keyword of the standard a name is (JSON Schema Core, sections 8, 10 and 11; Validation, section 6).
-use Rattle.std.specs.Prelude.{List, [], ◌∷◌, is_some, codes, bytes_eq, map, if◌then◌else◌}
+use Rattle.std.specs.Prelude.{List, [], ◌∷◌, Option, Some, None, is_some, codes, bytes_eq, map, if◌then◌else◌}
 use Rattle.js_assert.specs.Keyword.{keyword_named}
 use Rattle.js_bundle.specs.declared.keyword_name.KeywordName.{KeywordName}
 use Rattle.js_bundle.specs.declared.keyword_name.KeywordName.TheVariants.{Ref, DynamicRef, AllOf, AnyOf, OneOf, Not, If, Then, Else, DependentSchemas, PrefixItems, Items, Contains, Properties, PatternProperties, AdditionalProperties, PropertyNames, UnevaluatedItems, UnevaluatedProperties, Assertion, Schema, Id, Anchor, DynamicAnchor, Vocabulary, Comment, Defs, Definitions, Other}
@@ -27,7 +27,12 @@ identifying =
     (codes "$schema", Schema) ∷ (codes "$id", Id) ∷ (codes "$anchor", Anchor) ∷ (codes "$dynamicAnchor", DynamicAnchor)
     ∷ (codes "$vocabulary", Vocabulary) ∷ (codes "$comment", Comment) ∷ (codes "$defs", Defs) ∷ (codes "definitions", Definitions) ∷ []
 
--- what the first row with the name has
+-- what the row with the name has, if there is one
+abbrev pub found_in : TableOfNames → Text → Option KeywordName
+found_in [] name = None
+found_in (row ∷ rows) name = if bytes_eq name row.0 then Some row.1 else found_in rows name
+
+-- the same, and something else where there is none
 abbrev pub name_in : TableOfNames → KeywordName → Text → KeywordName
 name_in [] other name = other
 name_in (row ∷ rows) other name = if bytes_eq name row.0 then row.1 else name_in rows other name

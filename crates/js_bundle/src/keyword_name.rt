@@ -1,6 +1,10 @@
 //! Which keyword of the standard a name is.
-ghost use Rattle.std.specs.Prelude.{◌≡◌};
-ghost use Rattle.js_bundle.specs.KeywordName.{keyword_name};
+ghost use Rattle.std.specs.Prelude.{◌≡◌, is_some, if◌then◌else◌};
+ghost use Rattle.js_assert.specs.Keyword.{keyword_named};
+ghost use Rattle.js_bundle.specs.KeywordName.{applying, found_in, identifying, keyword_name, name_in};
+ghost use Rattle.js_bundle.specs.declared.keyword_name.KeywordName.TheVariants.{Assertion, Other};
+
+use js_assert::is_assertion;
 
 /// Which keyword of the standard a name is (JSON Schema Core, sections 8, 10 and 11; Validation, section 6).
 #[derive(Clone, Copy, Debug, Drop, PartialEq, Eq)]
@@ -65,51 +69,61 @@ pub enum KeywordName {
     Other,
 }
 
-/// Which keyword of the standard the name is.
-#[tactic(auto, unfolding(crate::specs::KeywordName::keyword_name, js_assert::specs::Keyword::keyword_named))]
-pub(crate) fn keyword_name(name: &str) -> KeywordName
-    ensures { result ≡ keyword_name name.now }
+impl KeywordName {
+    /// Which keyword of the standard the name is.
+    pub fn of(name: &str) -> KeywordName
+        ensures { result ≡ keyword_name name.now }
+    {
+        match applying(name) {
+            Some(which) => which,
+            None => not_applying(name),
+        }
+    }
+}
+
+// The one that applies schemas, if the name is that of one.
+fn applying(name: &str) -> Option<KeywordName>
+    ensures { result ≡ found_in applying name.now }
 {
     match name {
-        "$ref" => KeywordName::Ref,
-        "$dynamicRef" => KeywordName::DynamicRef,
-        "allOf" => KeywordName::AllOf,
-        "anyOf" => KeywordName::AnyOf,
-        "oneOf" => KeywordName::OneOf,
-        "not" => KeywordName::Not,
-        "if" => KeywordName::If,
-        "then" => KeywordName::Then,
-        "else" => KeywordName::Else,
-        "dependentSchemas" => KeywordName::DependentSchemas,
-        "prefixItems" => KeywordName::PrefixItems,
-        "items" => KeywordName::Items,
-        "contains" => KeywordName::Contains,
-        "properties" => KeywordName::Properties,
-        "patternProperties" => KeywordName::PatternProperties,
-        "additionalProperties" => KeywordName::AdditionalProperties,
-        "propertyNames" => KeywordName::PropertyNames,
-        "unevaluatedItems" => KeywordName::UnevaluatedItems,
-        "unevaluatedProperties" => KeywordName::UnevaluatedProperties,
-        "type" => KeywordName::Assertion,
-        "enum" => KeywordName::Assertion,
-        "const" => KeywordName::Assertion,
-        "multipleOf" => KeywordName::Assertion,
-        "maximum" => KeywordName::Assertion,
-        "exclusiveMaximum" => KeywordName::Assertion,
-        "minimum" => KeywordName::Assertion,
-        "exclusiveMinimum" => KeywordName::Assertion,
-        "maxLength" => KeywordName::Assertion,
-        "minLength" => KeywordName::Assertion,
-        "pattern" => KeywordName::Assertion,
-        "maxItems" => KeywordName::Assertion,
-        "minItems" => KeywordName::Assertion,
-        "uniqueItems" => KeywordName::Assertion,
-        "maxContains" => KeywordName::Assertion,
-        "minContains" => KeywordName::Assertion,
-        "maxProperties" => KeywordName::Assertion,
-        "minProperties" => KeywordName::Assertion,
-        "required" => KeywordName::Assertion,
-        "dependentRequired" => KeywordName::Assertion,
+        "$ref" => Some(KeywordName::Ref),
+        "$dynamicRef" => Some(KeywordName::DynamicRef),
+        "allOf" => Some(KeywordName::AllOf),
+        "anyOf" => Some(KeywordName::AnyOf),
+        "oneOf" => Some(KeywordName::OneOf),
+        "not" => Some(KeywordName::Not),
+        "if" => Some(KeywordName::If),
+        "then" => Some(KeywordName::Then),
+        "else" => Some(KeywordName::Else),
+        "dependentSchemas" => Some(KeywordName::DependentSchemas),
+        "prefixItems" => Some(KeywordName::PrefixItems),
+        "items" => Some(KeywordName::Items),
+        "contains" => Some(KeywordName::Contains),
+        "properties" => Some(KeywordName::Properties),
+        "patternProperties" => Some(KeywordName::PatternProperties),
+        "additionalProperties" => Some(KeywordName::AdditionalProperties),
+        "propertyNames" => Some(KeywordName::PropertyNames),
+        "unevaluatedItems" => Some(KeywordName::UnevaluatedItems),
+        "unevaluatedProperties" => Some(KeywordName::UnevaluatedProperties),
+        _ => None,
+    }
+}
+
+// Of a name that is none of theirs.
+fn not_applying(name: &str) -> KeywordName
+    ensures { result ≡ (if is_some (keyword_named name.now) then Assertion else name_in identifying Other name.now) }
+{
+    if is_assertion(name) {
+        KeywordName::Assertion
+    } else {
+        identifying(name)
+    }
+}
+
+fn identifying(name: &str) -> KeywordName
+    ensures { result ≡ name_in identifying Other name.now }
+{
+    match name {
         "$schema" => KeywordName::Schema,
         "$id" => KeywordName::Id,
         "$anchor" => KeywordName::Anchor,

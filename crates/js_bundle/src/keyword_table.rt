@@ -5,7 +5,7 @@ ghost use Rattle.js_bundle.specs.code.Scan.{site_of};
 ghost use Rattle.js_bundle.specs.Schemas.{is_place, place_at};
 
 use crate::grouped::part;
-use crate::keyword_name::{self, KeywordName};
+use crate::keyword_name::KeywordName;
 use crate::place::Place;
 use crate::scan::Site;
 use crate::schemas::Schemas;
@@ -36,7 +36,7 @@ fn push_members(names: &mut Vec<KeywordName>, members: &Members) -> Result<(), M
     ensures { OnOk result (names.new.items ≡ names.old.items ++ map (λ m. keyword_name m.0) members.now) }
 {
     for (name, _) in members.pairs() {
-        names.push(keyword_name::keyword_name(name.as_str()))?;
+        names.push(KeywordName::of(name.as_str()))?;
     }
     Ok(())
 }
