@@ -44,6 +44,5 @@ same_locations : (ss : List Site) → map location_of (map spot ss) ≡ map loca
 same_locations [] = refl
 same_locations (s ∷ ss) = ap (λ ls. location s ∷ ls) (same_locations ss)
 
-pub kept_locations : (documents : Documents) (locations : List Text) (kept : List rust.Spot) → locations ≡ map location_of (map spot_of kept) → map spot_of kept ≡ map spot (sites documents)
-    → locations ≡ map location (sites documents)
-kept_locations documents locations kept e same = e ∙ ap (map location_of) same ∙ same_locations (sites documents)
+pub kept_locations : (documents : Documents) (locations : List Text) (ss : List Site) → locations ≡ map location_of (map spot ss) → ss ≡ sites documents → locations ≡ map location (sites documents)
+kept_locations documents locations ss e same = e ∙ (ap (λ xs. map location_of (map spot xs)) same ∙ same_locations (sites documents))

@@ -1,6 +1,5 @@
 -- What a table of names tells of a name.
 use Rattle.std.proofs.Common.{◌≡◌, [], ◌∷◌, Bool, true, false, cond, Option, Some, None, is_some, unwrap_or, refl, sym, ap, ◌∙◌}
-
 use Rattle.std.specs.Str.{bytes_eq}
 use Rattle.js_assert.specs.Keyword.{keyword_named}
 use Rattle.js_bundle.specs.declared.keyword_name.KeywordName.{KeywordName}

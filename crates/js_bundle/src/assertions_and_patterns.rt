@@ -1,5 +1,5 @@
 //! What is built of keywords: assertions, and the patterns of `patternProperties`.
-ghost use Rattle.std.specs.Prelude.{◌≡◌, [], ◌∷◌, ◌++◌, map, flat_map, option_to_list, OnOk, IfOk, IfErr};
+ghost use Rattle.std.specs.Prelude.{◌≡◌, [], ◌∷◌, ◌++◌, length, map, flat_map, option_to_list, OnOk, IfOk, IfErr};
 ghost use Rattle.js_doc.specs.Seen.{value_of};
 ghost use Rattle.js_bundle.specs.AssertionsAndPatterns.{pattern_at, patterns_of};
 ghost use Rattle.js_bundle.specs.Candidate.{IsClear, IsStopped};
@@ -40,6 +40,35 @@ impl Built {
             assertions: Vec::new(alloc),
             patterns: Vec::new(alloc),
         }
+    }
+}
+
+impl BuiltTable {
+    /// That of no places.
+    pub(crate) fn new(alloc: Global) -> BuiltTable
+        ensures assertions { result.all.assertions.items ≡ [] }
+        ensures assertion_ends { result.assertion_ends.items ≡ [] }
+        ensures patterns { result.all.patterns.items ≡ [] }
+        ensures pattern_ends { result.pattern_ends.items ≡ [] }
+    {
+        BuiltTable {
+            all: Built::new(alloc),
+            assertion_ends: Vec::new(alloc),
+            pattern_ends: Vec::new(alloc),
+        }
+    }
+
+    /// What is built so far ends a place.
+    pub(crate) fn end_place(&mut self) -> Result<(), Memory>
+        ensures all { OnOk result (self.new.all ≡ self.old.all) }
+        ensures assertion_ends { OnOk result (self.new.assertion_ends.items
+            ≡ self.old.assertion_ends.items ++ length self.old.all.assertions.items ∷ []) }
+        ensures pattern_ends { OnOk result (self.new.pattern_ends.items
+            ≡ self.old.pattern_ends.items ++ length self.old.all.patterns.items ∷ []) }
+    {
+        self.assertion_ends.push(self.all.assertions.len())?;
+        self.pattern_ends.push(self.all.patterns.len())?;
+        Ok(())
     }
 }
 

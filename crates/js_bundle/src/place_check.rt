@@ -1,5 +1,5 @@
 //! The first pass: each place and its keywords, in scan order.
-ghost use Rattle.std.specs.Prelude.{◌≡◌, ◌++◌, [], ◌∷◌, not, map, option_map, string_bytes, MatchOption, OnOk, IfOk, IfErr};
+ghost use Rattle.std.specs.Prelude.{◌≡◌, ◌++◌, [], ◌∷◌, length, not, map, option_map, string_bytes, MatchOption, OnOk, IfOk, IfErr};
 ghost use Rattle.std.specs.List.{flat_map};
 ghost use Rattle.js_doc.specs.Seen.{value_of};
 ghost use Rattle.js_bundle.specs.declared.refusal.RefusalKind.TheVariants.{BadKeyword};
@@ -222,6 +222,72 @@ fn add_place(
     Ok(key)
 }
 
+impl Passed {
+    // That of no places.
+    fn new(alloc: Global) -> Passed
+        ensures assertions { result.built.all.assertions.items ≡ [] }
+        ensures assertion_ends { result.built.assertion_ends.items ≡ [] }
+        ensures patterns { result.built.all.patterns.items ≡ [] }
+        ensures pattern_ends { result.built.pattern_ends.items ≡ [] }
+        ensures index { IsIndex result.index [] }
+        ensures descents { result.descents.items ≡ [] }
+        ensures names { result.keywords.names.items ≡ [] }
+        ensures ends { result.keywords.ends.items ≡ [] }
+    {
+        Passed {
+            built: BuiltTable::new(alloc),
+            index: Index::new(alloc),
+            descents: Vec::new(alloc),
+            keywords: KeywordTable::new(alloc),
+        }
+    }
+
+    // Goes one place further, and answers its key. The other key is that of the place before it.
+    fn pass(
+        &mut self,
+        alloc: Global,
+        earlier: &[Site<'_>],
+        key: String,
+        before: Option<&Site<'_>>,
+        site: &Site<'_>,
+    ) -> Result<String, Fault>
+        requires index { IsIndex self.old.index (map site_of earlier.now) }
+        requires key { MatchOption before (Unit {0}) (λ b. string_bytes key ≡ place_key b.now.document b.now.pointer.value) }
+        ensures clear { OnOk result (IsClear (at_site (map site_of earlier.now) (site_of site.now))) }
+        ensures key { IfOk result (λ t. string_bytes t ≡ place_key site.now.document site.now.pointer.value) }
+        ensures assertions { OnOk result (self.new.built.all.assertions.items
+            ≡ self.old.built.all.assertions.items ++ assertions_at (site_of site.now)) }
+        ensures assertion_ends { OnOk result (self.new.built.assertion_ends.items
+            ≡ self.old.built.assertion_ends.items ++ length self.new.built.all.assertions.items ∷ []) }
+        ensures patterns { OnOk result (self.new.built.all.patterns.items
+            ≡ self.old.built.all.patterns.items ++ patterns_at (site_of site.now)) }
+        ensures pattern_ends { OnOk result (self.new.built.pattern_ends.items
+            ≡ self.old.built.pattern_ends.items ++ length self.new.built.all.patterns.items ∷ []) }
+        ensures index { OnOk result (IsAdded self.old.index (site_of site.now) (length earlier.now) self.new.index) }
+        ensures descents { OnOk result (self.new.descents.items ≡ self.old.descents.items
+            ++ descends (option_map (λ b. spot (site_of b.now)) before.entry) (spot (site_of site.now)) ∷ []) }
+        ensures names { OnOk result (self.new.keywords.names.items
+            ≡ self.old.keywords.names.items ++ keyword_names (site_of site.now)) }
+        ensures ends { OnOk result (self.new.keywords.ends.items
+            ≡ self.old.keywords.ends.items ++ length self.new.keywords.names.items ∷ []) }
+        ensures err { IfErr result (IsStopped (at_site (map site_of earlier.now) (site_of site.now))) }
+    {
+        self.keywords.add(site)?;
+        check_site(alloc, &mut self.built.all, &self.index, earlier, site)?;
+        self.built.end_place()?;
+        let key = add_place(
+            alloc,
+            &mut self.index,
+            &mut self.descents,
+            key,
+            before,
+            site,
+            earlier.len(),
+        )?;
+        Ok(key)
+    }
+}
+
 /// The first pass.
 pub(crate) fn first_pass(alloc: Global, sites: &[Site<'_>]) -> Result<Passed, Fault>
     ensures clear { OnOk result (IsClear (first_pass [] (map site_of sites.now))) }
@@ -234,32 +300,13 @@ pub(crate) fn first_pass(alloc: Global, sites: &[Site<'_>]) -> Result<Passed, Fa
     ensures keywords { IfOk result (λ p. IsGrouped keyword_names (map site_of sites.now) p.keywords.names.items p.keywords.ends.items) }
     ensures err { IfErr result (IsStopped (first_pass [] (map site_of sites.now))) }
 {
-    let mut all = Built::new(alloc);
-    let mut assertion_ends = Vec::new(alloc);
-    let mut pattern_ends = Vec::new(alloc);
-    let mut index = Index::new(alloc);
-    let mut descents = Vec::new(alloc);
+    let mut passed = Passed::new(alloc);
     let mut key = String::new(alloc);
     let mut before = None;
-    let mut keywords = KeywordTable::new(alloc);
     for i in 0..sites.len() {
         let site = &sites[i];
-        keywords.add(site)?;
-        check_site(alloc, &mut all, &index, &sites[..i], site)?;
-        assertion_ends.push(all.assertions.len())?;
-        pattern_ends.push(all.patterns.len())?;
-        key = add_place(alloc, &mut index, &mut descents, key, before, site, i)?;
+        key = passed.pass(alloc, &sites[..i], key, before, site)?;
         before = Some(site);
     }
-    let built = BuiltTable {
-        all,
-        assertion_ends,
-        pattern_ends,
-    };
-    Ok(Passed {
-        built,
-        index,
-        descents,
-        keywords,
-    })
+    Ok(passed)
 }

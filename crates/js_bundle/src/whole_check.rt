@@ -9,12 +9,13 @@ ghost use Rattle.js_bundle.specs.code.Grouped.{IsGrouped};
 ghost use Rattle.js_bundle.specs.code.Index.{IsIndex};
 ghost use Rattle.js_bundle.specs.KeywordName.{keyword_names};
 ghost use Rattle.js_bundle.specs.Location.{location};
-ghost use Rattle.js_bundle.specs.Refusals.{candidates};
+ghost use Rattle.js_bundle.specs.Refusals.{candidates, second_pass};
 ghost use Rattle.js_bundle.specs.Resource.{sites};
-ghost use Rattle.js_bundle.specs.ResourceTable.{IsResourceTable};
+ghost use Rattle.js_bundle.specs.ResourceTable.{AreRooted, IsResourceTable};
 ghost use Rattle.js_bundle.specs.code.Scan.{site_of};
 ghost use Rattle.js_bundle.specs.Seen.{document_of, AreRead};
-ghost use Rattle.js_bundle.specs.code.Spot.{spot, spot_of};
+ghost use Rattle.js_bundle.specs.code.Descent as spec;
+ghost use Rattle.js_bundle.specs.code.Spot.{location_of, spot, spot_of};
 
 use crate::assertions_and_patterns::BuiltTable;
 use crate::document::Document;
@@ -23,7 +24,7 @@ use crate::fault::Fault;
 use crate::index::Index;
 use crate::keyword_table::KeywordTable;
 use crate::location::locations_of;
-use crate::place_check::{Passed, first_pass};
+use crate::place_check::first_pass;
 use crate::reference::{References, resolve_all};
 use crate::resource_table::{Resources, resources_of};
 use crate::scan::{Site, scan};
@@ -84,6 +85,65 @@ fn spots_of(alloc: Global, sites: Vec<Site<'_>>) -> Result<Vec<Spot>, Memory>
     Ok(spots)
 }
 
+/// What is looked up once all places are in the index.
+#[derive(Drop)]
+struct LookedUp {
+    references: References,
+    resources: Resources,
+}
+
+// What references lead to, and the resources.
+fn look_up(
+    alloc: Global,
+    index: &Index,
+    sites: &[Site<'_>],
+    keywords: &KeywordTable,
+) -> Result<LookedUp, Fault>
+    requires index { IsIndex index.now (map site_of sites.now) }
+    requires keywords { IsGrouped keyword_names (map site_of sites.now) keywords.now.names.items keywords.now.ends.items }
+    requires rooted { AreRooted (map site_of sites.now) }
+    ensures clear { OnOk result (IsClear (second_pass (map site_of sites.now))) }
+    ensures dynamic { IfOk result (λ l. IsColumn l.references.dynamic.items
+        (dynamic_at (map site_of sites.now)) (map site_of sites.now)) }
+    ensures plain { IfOk result (λ l. IsColumn l.references.plain.items
+        (number_of_target (map site_of sites.now) (codes "$ref")) (map site_of sites.now)) }
+    ensures resources { IfOk result (λ l. IsResourceTable l.resources (map site_of sites.now)) }
+    ensures err { IfErr result (IsStopped (second_pass (map site_of sites.now))) }
+{
+    let references = resolve_all(alloc, index, sites, keywords)?;
+    let resources = resources_of(alloc, index, sites, keywords)?;
+    Ok(LookedUp {
+        references,
+        resources,
+    })
+}
+
+/// Where the places stand, and the ways between them.
+#[derive(Drop)]
+struct Standing {
+    spots: Vec<Spot>,
+    locations: Vec<Text>,
+    edges: Vec<Edges>,
+}
+
+// The same of these places. It is told of each whether it stands below the one before it.
+fn standing_of(alloc: Global, sites: Vec<Site<'_>>, descents: &[bool]) -> Result<Standing, Memory>
+    requires { descents.now ≡ spec.descents (map spot (map site_of sites.items)) }
+    ensures spots { IfOk result (λ s. map spot_of s.spots.items ≡ map spot (map site_of sites.entry.items)) }
+    ensures locations { IfOk result
+        (λ s. s.locations.items ≡ map location_of (map spot (map site_of sites.entry.items))) }
+    ensures edges { IfOk result (λ s. LeadDown s.edges.items (map spot_of s.spots.items)) }
+{
+    let spots = spots_of(alloc, sites)?;
+    let locations = locations_of(alloc, spots.as_slice(), descents)?;
+    let edges = edges_of(alloc, spots.as_slice(), descents)?;
+    Ok(Standing {
+        spots,
+        locations,
+        edges,
+    })
+}
+
 /// Checks documents whole: each place with its keywords, and then each reference.
 pub(crate) fn check_whole(alloc: Global, documents: &[Document]) -> Result<Checked, Fault>
     requires { AreRead (map document_of documents.now) }
@@ -110,25 +170,17 @@ pub(crate) fn check_whole(alloc: Global, documents: &[Document]) -> Result<Check
     ensures err { IfErr result (IsStopped (candidates (map document_of documents.now))) }
 {
     let sites = scan(alloc, documents)?;
-    let Passed {
-        built,
-        index,
-        descents,
-        keywords,
-    } = first_pass(alloc, sites.as_slice())?;
-    let references = resolve_all(alloc, &index, sites.as_slice(), &keywords)?;
-    let resources = resources_of(alloc, &index, sites.as_slice(), &keywords)?;
-    let spots = spots_of(alloc, sites)?;
-    let locations = locations_of(alloc, spots.as_slice(), descents.as_slice())?;
-    let edges = edges_of(alloc, spots.as_slice(), descents.as_slice())?;
+    let passed = first_pass(alloc, sites.as_slice())?;
+    let found = look_up(alloc, &passed.index, sites.as_slice(), &passed.keywords)?;
+    let standing = standing_of(alloc, sites, passed.descents.as_slice())?;
     Ok(Checked {
-        spots,
-        built,
-        keywords,
-        references,
-        locations,
-        index,
-        resources,
-        edges,
+        spots: standing.spots,
+        built: passed.built,
+        keywords: passed.keywords,
+        references: found.references,
+        locations: standing.locations,
+        index: passed.index,
+        resources: found.resources,
+        edges: standing.edges,
     })
 }

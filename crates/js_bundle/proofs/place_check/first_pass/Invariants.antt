@@ -16,10 +16,10 @@ invariant-loop-i l =
     let left = map site_of (drop l.i l.sites) in
     record {
       leads : Leads (first_pass [] all) (first_pass (map site_of (take l.i l.sites)) left);
-      assertions : AreGrouped assertions_at l.sites l.i l.all.assertions.items l.assertion_ends.items;
-      patterns : AreGrouped patterns_at l.sites l.i l.all.patterns.items l.pattern_ends.items;
-      keywords : AreGrouped keyword_names l.sites l.i l.keywords.names.items l.keywords.ends.items;
-      index : IsIndex l.index (map site_of (take l.i l.sites));
+      assertions : AreGrouped assertions_at l.sites l.i l.passed.built.all.assertions.items l.passed.built.assertion_ends.items;
+      patterns : AreGrouped patterns_at l.sites l.i l.passed.built.all.patterns.items l.passed.built.pattern_ends.items;
+      keywords : AreGrouped keyword_names l.sites l.i l.passed.keywords.names.items l.passed.keywords.ends.items;
+      index : IsIndex l.passed.index (map site_of (take l.i l.sites));
       key : MatchOption l.before (Unit {0}) (λ b. string_bytes l.key ≡ place_key b.now.document b.now.pointer.value);
-      descents : l.descents.items ++ descents_after (option_map (λ b. spot (site_of b.now)) l.before) (map spot left) ≡ descents (map spot all);
+      descents : l.passed.descents.items ++ descents_after (option_map (λ b. spot (site_of b.now)) l.before) (map spot left) ≡ descents (map spot all);
     }
