@@ -4,7 +4,6 @@ pub mod Results
 pub mod Limits
 pub mod NoCircle
 pub mod Examples
-pub mod NoRow
 pub mod AskedNothing
 pub mod FoundByName
 pub mod Turns

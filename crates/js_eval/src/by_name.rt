@@ -9,6 +9,13 @@ use crate::kind::Kind;
 use js_bundle::KeywordName;
 
 /// What the keyword of this name does.
+pub fn kind_of(name: &str) -> Kind
+    ensures { result ≡ kind name.now }
+{
+    kind_of_named(KeywordName::of(name), name)
+}
+
+/// The same, where it is known which keyword of the standard it is.
 #[tactic(auto, using(crate::proofs::Standard::kind_if_named))]
 pub(crate) fn kind_of_named(which: KeywordName, _name: &str) -> Kind
     requires { which ≡ keyword_name _name.now }

@@ -29,6 +29,7 @@ mod telling;
 mod turn;
 mod walking;
 
+pub use by_name::kind_of;
 pub use into::{verdict, walk, walk_into};
-pub use kind::{Kind, kind_of};
+pub use kind::Kind;
 pub use walking::WalkFault;

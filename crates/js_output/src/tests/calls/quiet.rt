@@ -1,6 +1,6 @@
 //! The calls that take no memory: with each growth refused they answer as ever.
-ghost use Rattle.std.specs.Prelude.{◌≡◌, true};
-ghost use Rattle.js_bundle.specs.Schemas.{is_place};
+ghost use Rattle.std.specs.Prelude.{◌≡◌, true, codes};
+ghost use Rattle.js_bundle.specs.Schemas.{has_keyword, is_place};
 ghost use Rattle.js_tree.specs.FlatState.{IsWholeTree, flat_state};
 
 use super::judged::told_tree;
@@ -69,13 +69,31 @@ fn led_to(schemas: &Schemas, place: Place) -> Place
     if schemas.has_ref(place) {
         schemas.target(place)
     } else if schemas.has_dynamic_ref(place) {
-        schemas.dynamic_target(place, &[place])
+        led_dynamically(schemas, place)
     } else {
         match schemas.below(place, "items", Step::Alone) {
             Some(next) => next,
             None => place,
         }
     }
+}
+
+// The same where the scope is told by its places and by the number of its resource; where these don't agree, the place itself.
+fn led_dynamically(schemas: &Schemas, place: Place) -> Place
+    requires here { is_place schemas.now place ≡ true }
+    requires refers { has_keyword (codes "$dynamicRef") schemas.now place ≡ true }
+{
+    let by_path = schemas.dynamic_target(place, &[place]);
+    let by_number = schemas.dynamic_target_in(place, &[schemas.resource_number(place)]);
+    if is_same(schemas, by_path, by_number) {
+        by_number
+    } else {
+        place
+    }
+}
+
+fn is_same(schemas: &Schemas, one: Place, other: Place) -> bool {
+    schemas.has(one) && schemas.has(other) && schemas.absolute_of(one) == schemas.absolute_of(other)
 }
 
 pub fn tree_called(rt: &HostRuntime, call: &str, tree: Tree) -> Result<Told, Memory> {
