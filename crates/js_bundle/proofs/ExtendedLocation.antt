@@ -7,12 +7,11 @@ use Rattle.js_doc.specs.Pointer.{Tokens}
 use Rattle.js_doc.proofs.Named.{is_text-sound}
 use Rattle.js_bundle.specs.code.Edges.{begins_with, is_below}
 use Rattle.js_bundle.specs.code.LocationGoesOn.{is_beside, has_depth_of}
-use Rattle.js_bundle.specs.code.Spot.{Spot, spot, spot_of, location_of}
+use Rattle.js_bundle.specs.code.Spot.{Spot, spot, location_of}
 use Rattle.js_bundle.specs.Document.{Documents}
 use Rattle.js_bundle.specs.Keyword.{Text}
 use Rattle.js_bundle.specs.Location.{location}
 use Rattle.js_bundle.specs.Resource.{Site, sites}
-use Rattle.js_bundle.specs.declared.whole_check.Spot as rust
 use Rattle.js_bundle.specs.Url.{printed}
 use Rattle.js_bundle.proofs.LeadingDown.{front_drop}
 use Rattle.js_bundle.proofs.Ways.{fragment_append}

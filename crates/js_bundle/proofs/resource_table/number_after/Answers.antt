@@ -1,4 +1,4 @@
-use Rattle.std.proofs.Common.{◌≡◌, map, Some, MatchOption, sym, ap, subst, ◌∙◌}
+use Rattle.std.proofs.Common.{◌≡◌, map, MatchOption, sym, subst, ◌∙◌}
 use Rattle.js_bundle.specs.ResourceTable.{rank_of_root}
 use Rattle.js_bundle.specs.code.Scan.{site_of}
 use Rattle.js_bundle.proofs.Anchors.{root_rank, root_told, same_rank}
