@@ -1,5 +1,5 @@
-//! Lists with an entry for each place, which few places have.
-ghost use Rattle.std.specs.Prelude.{◌≡◌, is_some};
+//! Lists with an entry for each place.
+ghost use Rattle.std.specs.Prelude.{◌≡◌, false, is_some, slice_get, unwrap_or};
 ghost use Rattle.std.specs.List.{list_any};
 ghost use Rattle.js_bundle.specs.code.Column.{TellAlike};
 
@@ -22,4 +22,14 @@ fn has_entry<T: Copy>(column: &[Option<T>]) -> bool
         }
     }
     false
+}
+
+/// What is told of the place with this number.
+pub(crate) fn is_told(column: &[bool], number: usize) -> bool
+    ensures { result ≡ unwrap_or (slice_get column.now number) false }
+{
+    match column.get(number) {
+        Some(told) => *told,
+        None => false,
+    }
 }

@@ -1,5 +1,5 @@
 //! Which places stand below the one before them, in scan order: the first that a place holds does.
-ghost use Rattle.std.specs.Prelude.{◌≡◌, false, option_map, slice_get, unwrap_or};
+ghost use Rattle.std.specs.Prelude.{◌≡◌, option_map};
 ghost use Rattle.js_bundle.specs.code.Descent as spec;
 ghost use Rattle.js_bundle.specs.code.Edges.{is_below};
 ghost use Rattle.js_bundle.specs.code.Scan.{site_of};
@@ -22,14 +22,4 @@ fn is_below(above: &Site<'_>, site: &Site<'_>) -> bool
     ensures { result ≡ is_below (spot (site_of above.now)) (spot (site_of site.now)) }
 {
     site.document == above.document && begins_with(site.pointer.tokens(), above.pointer.tokens())
-}
-
-/// The same of the place with this number.
-pub(crate) fn descends_at(descents: &[bool], number: usize) -> bool
-    ensures { result ≡ unwrap_or (slice_get descents.now number) false }
-{
-    match descents.get(number) {
-        Some(descends) => *descends,
-        None => false,
-    }
 }

@@ -8,7 +8,7 @@ ghost use Rattle.js_bundle.specs.Schemas.{step_of, step_tokens};
 ghost use Rattle.js_bundle.specs.code.Spot.{spot_of, stands_below};
 
 use crate::below::is_step;
-use crate::descent::descends_at;
+use crate::column::is_told;
 use crate::place::Step;
 use crate::whole_check::Spot;
 use js_doc::{Memory, Token};
@@ -73,7 +73,7 @@ fn is_edge(spots: &[Spot], descents: &[bool], above: &Spot, number: usize, later
     ensures { IsTrue result → leads_down (spot_of above.now) (map spot_of spots.now) later ≡ true }
 {
     if later == number + 1 {
-        descends_at(descents, later)
+        is_told(descents, later)
     } else {
         leads_down(spots, above, later)
     }

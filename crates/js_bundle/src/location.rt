@@ -8,7 +8,7 @@ ghost use Rattle.js_bundle.specs.code.LocationGoesOn.{has_depth_of, is_beside};
 ghost use Rattle.js_bundle.specs.code.Spot.{location_of, spot_of};
 ghost use Rattle.js_bundle.specs.Url.{printed};
 
-use crate::descent::descends_at;
+use crate::column::is_told;
 use crate::scope::Scope;
 use crate::uri;
 use crate::whole_check::Spot;
@@ -133,7 +133,7 @@ pub(crate) fn locations_of(
     let mut before = None;
     for i in 0..spots.len() {
         let spot = &spots[i];
-        text = location_after(text, before, spot, descends_at(descents, i))?;
+        text = location_after(text, before, spot, is_told(descents, i))?;
         locations.push(Text::new(text.clone()?))?;
         before = Some(spot);
     }

@@ -1,5 +1,5 @@
 //! What is kept of resources, by their numbers (JSON Schema Core, sections 4.3.5 and 8.2.1).
-ghost use Rattle.std.specs.Prelude.{◌≡◌, ◌<◌, Some, false, map, length, codes, slice_get, unwrap_or, option_and_then, option_copied, option_to_list, OnOk, IfOk, MatchOption};
+ghost use Rattle.std.specs.Prelude.{◌≡◌, ◌<◌, Some, map, length, codes, slice_get, unwrap_or, option_and_then, option_copied, option_to_list, OnOk, IfOk, MatchOption};
 ghost use Rattle.std.specs.List.{position_from};
 ghost use Rattle.js_bundle.specs.code.Grouped.{IsGrouped};
 ghost use Rattle.js_bundle.specs.code.Index.{IsIndex};
@@ -10,6 +10,7 @@ ghost use Rattle.js_bundle.specs.ResourceNumber.{begins_resource, roots, resourc
 ghost use Rattle.js_bundle.specs.ResourceTable.{AreAnchors, AreEmpty, AreNamed, AreRooted, IsOpened, IsResourceTable, StandApart, rank_of_root, ranks_from};
 ghost use Rattle.js_bundle.specs.code.Scan.{site_of};
 
+use crate::column::is_told;
 use crate::grouped::part;
 use crate::index::Index;
 use crate::keyword::text_argument;
@@ -91,24 +92,15 @@ fn roots_of(alloc: Global, sites: &[Site<'_>]) -> Result<Roots, Memory>
     let mut ranks = Vec::new(alloc);
     let mut anchors = Vec::new(alloc);
     for i in 0..sites.len() {
-        let is_root = begins_resource(&sites[i]);
-        begins.push(is_root)?;
+        let opens = begins_resource(&sites[i]);
+        begins.push(opens)?;
         ranks.push(anchors.len())?;
-        open_resource(alloc, &mut anchors, is_root)?;
+        open_resource(alloc, &mut anchors, opens)?;
     }
     Ok(Roots {
         ranks: Ranks { begins, ranks },
         anchors,
     })
-}
-
-fn is_root(begins: &[bool], number: usize) -> bool
-    ensures { result ≡ unwrap_or (slice_get begins.now number) false }
-{
-    match begins.get(number) {
-        Some(begins) => *begins,
-        None => false,
-    }
 }
 
 fn rank_under(ranks: &[usize], root: Option<usize>) -> usize
@@ -149,7 +141,7 @@ fn number_after(
     requires site { slice_get (map site_of sites.now) number ≡ Some (site_of site.now) }
     ensures { IfOk result (λ n. n ≡ rank_of_root (map site_of sites.now) (site_of site.now)) }
 {
-    if is_root(ranks.begins.as_slice(), number) {
+    if is_told(ranks.begins.as_slice(), number) {
         return Ok(rank_under(ranks.ranks.as_slice(), Some(number)));
     }
     match before {

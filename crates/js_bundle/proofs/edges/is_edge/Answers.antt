@@ -5,4 +5,4 @@ use Rattle.js_bundle.proofs.edges.is_edge.Goals as goal
 
 pub returns-then-later-number : goal.returns-then-later-number
 returns-then-later-number c =
-    edge_next (map spot_of c.args.spots.now) c.args.descents.now c.args.number c.args.later (spot_of c.args.above.now) c.descends_at.result c.requires.descents c.requires.above (omega arith) c.descends_at.ensures
+    edge_next (map spot_of c.args.spots.now) c.args.descents.now c.args.number c.args.later (spot_of c.args.above.now) c.is_told.result c.requires.descents c.requires.above (omega arith) c.is_told.ensures

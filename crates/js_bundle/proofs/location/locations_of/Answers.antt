@@ -10,7 +10,7 @@ location_after-requires-clause-descends c = λ h.
     let ss = c.args.spots.now in
     let x = c.index-spots-i.result in
     below_before (λ b. spot_of b.now) (map spot_of ss) l.i l.before (spot_of x) l.invariant.before (there_at spot_of ss l.i x (omega arith) c.index-spots-i.is)
-    (told_at (map spot_of ss) c.args.descents.now l.i c.descends_at.result c.requires c.descends_at.ensures h)
+    (told_at (map spot_of ss) c.args.descents.now l.i c.is_told.result c.requires c.is_told.ensures h)
 
 pub loop-i-preserved : goal.loop-i-preserved
 loop-i-preserved c =

@@ -4,13 +4,13 @@ use Rattle.js_bundle.specs.code.Scan.{site_of}
 use Rattle.js_bundle.proofs.Anchors.{root_rank, root_told, same_rank}
 use Rattle.js_bundle.proofs.resource_table.number_after.Goals as goal
 
-pub returns-then-is_root : goal.returns-then-is_root
-returns-then-is_root c =
+pub returns-then-is_told : goal.returns-then-is_told
+returns-then-is_told c =
     let all = map site_of c.args.sites.now in
     let site = site_of c.args.site.now in
     let n = c.args.number in
-    root_rank all n site c.as_slice-then-is_root.result.now c.rank_under.result c.requires.apart (c.as_slice-then-is_root.ensures.value ∙ c.requires.ranks) c.requires.site
-    (root_told all n site c.as_slice.result.now c.is_root.result (c.as_slice.ensures.value ∙ c.requires.begins) c.requires.site c.is_root.ensures c.if-is_root.true) c.rank_under.ensures
+    root_rank all n site c.as_slice-then-is_told.result.now c.rank_under.result c.requires.apart (c.as_slice-then-is_told.ensures.value ∙ c.requires.ranks) c.requires.site
+    (root_told all n site c.as_slice.result.now c.is_told.result (c.as_slice.ensures.value ∙ c.requires.begins) c.requires.site c.is_told.ensures c.if-is_told.true) c.rank_under.ensures
 
 pub returns-in-Some : goal.returns-in-Some
 returns-in-Some c =
