@@ -183,6 +183,30 @@ def places(count):
     return compact({"$defs": {f"n{i:06}": True for i in range(count)}})
 
 
+def wide_bundle(count=6_000):
+    """As many schemas side by side, found by their names, their indexes, references of each kind, and patterns."""
+    kinds = ("$ref", "#/$defs/d{}"), ("$ref", "#a{}"), ("$ref", "u{}"), ("$dynamicRef", "#n{}")
+    made = {}
+    for i in range(count):
+        made[f"d{i}"] = {"minimum": i, "title": f"t{i}", **({}, {"$anchor": f"a{i}"}, {"$id": f"u{i}"}, {"$dynamicAnchor": f"n{i}"})[i % 4]}
+    properties = {f"p{i}": {kinds[i % 4][0]: kinds[i % 4][1].format(i), "const": 7} for i in range(count)}
+    patterns = {f"^p{i}$": {"enum": [i, 7]} for i in range(0, count, 100)}
+    schema = {"$defs": made, "properties": properties, "patternProperties": patterns, "oneOf": [{"required": [f"p{i}"]} for i in range(300)]}
+    return compact(schema), compact({f"p{i}": 7 for i in range(0, count, 10)})
+
+
+def deep_bundle(levels=58):
+    """Schemas far down, in resources within resources, and references from the root and from the deepest to each other."""
+    schema = {"$anchor": "last", "type": "integer", "$ref": f"{U}#top", "patternProperties": {"^a": {"not": {}}}}
+    way = ""
+    for i in reversed(range(levels)):
+        schema = {"properties": {"n": schema}, "required": ["n"], **({"$id": f"r{i}/", "$dynamicAnchor": "end"} if i % 10 == 9 else {})}
+        way += "/properties/n"
+    schema |= {"$defs": {"top": {"$anchor": "top", "maxLength": 2}}, "allOf": [{"$ref": f"#{way}"}, {"$dynamicRef": "#end"}, {"$dynamicAnchor": "end"}]}
+    instance = '{"n":' * levels + '"long"' + "}" * levels
+    return compact(schema), instance
+
+
 def beginnings():
     """Each beginning, short of the whole, of a schema and of an instance."""
     for i in range(len(POLYGON)):
@@ -192,11 +216,15 @@ def beginnings():
 
 
 def large():
-    """Long names, many members, many keywords, patterns that are slow to compile: what is asked is the right answer."""
+    """Long names, many members, many keywords, wide and deep bundles, patterns that are slow to compile: what is asked is the right answer."""
     name = "n" * 1_000_000
     schema, instance = compact({"properties": {name: {"minimum": 3}}}), compact({name: 2})
     for it in FORMATS:
         yield check(f"a name of 1,000,000 bytes, {it}", schema, instance, it, out=None, status=1)
+    for name_, (schema, instance) in (("wide", wide_bundle()), ("deep", deep_bundle())):
+        for it in FORMATS:
+            yield check(f"a {name_} bundle, {it}", schema, instance, it, out=None, status=1)
+        yield Case(f"the places of a {name_} bundle", ["places", U, "schema.json"], {"schema.json": schema}, out=None)
     yield check("a keyword of 1,000,000 bytes", compact({name: 1}), "0", "verbose", out=None)
     members = compact({f"m{i}": 0 for i in range(1_000_000)})
     yield valid("an object of 1,000,000 members", '{"type":"object","minProperties":1000000}', members)
