@@ -3,7 +3,7 @@ use Rattle.std.proofs.Common.{◌≡◌, ℕ, zero, suc, ◌+◌, ◌<◌, ◌�
 use Rattle.std.specs.List.{AllByRecursion, list_any, position_from}
 use Rattle.std.specs.Map.{lookup}
 use Rattle.std.proofs.lemmas.Bool.{and_parts, eqb-true, eqb-false}
-use Rattle.std.proofs.lemmas.List.{length-map, length-take, take_all}
+use Rattle.std.proofs.lemmas.List.{append-nil, drop_all, drop_more, length-map, length-take, take_all}
 use Rattle.std.proofs.lemmas.Option.{slice_get-map, slice_get-get_or, slice_get_within}
 use Rattle.js_doc.specs.Pointer.{Tokens}
 use Rattle.js_bundle.specs.declared.numbering.Numbering.{Numbering}
@@ -13,13 +13,13 @@ use Rattle.js_bundle.specs.Keyword.{text_argument}
 use Rattle.js_bundle.specs.Names.{belongs_to, same_tokens, stands_at}
 use Rattle.js_bundle.specs.Resource.{Site}
 use Rattle.js_bundle.specs.ResourceNumber.{begins_resource, roots, resource_number}
-use Rattle.js_bundle.specs.ResourceTable.{AreAnchors, AreEmpty, AreNamed, AreRooted, IsOpened, StandApart, dynamic_names, rank_of_root, ranks_from}
+use Rattle.js_bundle.specs.ResourceTable.{AreAnchors, AreEmpty, AreNamed, AreRooted, IsOpened, StandApart, count_of, dynamic_names, rank_of_root, ranks_by, ranks_from}
 use Rattle.js_bundle.specs.code.Scan.{site_of}
 use Rattle.js_bundle.proofs.PlacesApart.{all_as}
 use Rattle.js_bundle.proofs.Distinct.{tokens-refl, tokens-sound, at_place, stands_itself}
 use Rattle.js_bundle.proofs.Indexed.{first_next, none_put}
 use Rattle.js_bundle.proofs.Numbers.{nat_eq-refl}
-use Rattle.js_bundle.proofs.Passes.{map_drop_more, map_take_more, piece_next}
+use Rattle.js_bundle.proofs.Passes.{map_take_more, piece_next}
 use Rattle.js_bundle.proofs.RootNumbers.{filtered, root_of_number}
 use Rattle.js_bundle.proofs.Standing.{all_at}
 
@@ -104,27 +104,43 @@ ranks_are_numbers all h =
 
 -- ---- the roots, one place further on
 
-pub record AreOpened (ss : List rust.Site) (i : ℕ) (before : List ℕ) (opened : List Numbering) : Type 0 where
-  pub ranks : before ++ ranks_from (length opened) (map site_of (drop i ss)) ≡ ranks_from 0 (map site_of ss)
-  pub many : length opened + length (roots (map site_of (drop i ss))) ≡ length (roots (map site_of ss))
+pub record AreOpened (told : List Bool) (i : ℕ) (before : List ℕ) (opened : List Numbering) : Type 0 where
+  pub ranks : before ++ ranks_by (length opened) (drop i told) ≡ ranks_by 0 told
+  pub many : length opened + count_of (drop i told) ≡ count_of told
   pub empty : AreEmpty opened
 
-rest_of : (b : Bool) (old new : ℕ) (x : Site) (rest : List Site) (whole : ℕ) → new ≡ (if b then old + 1 else old) → old + length (cond b (x ∷ roots rest) (roots rest)) ≡ whole → new + length (roots rest) ≡ whole
-rest_of true old new x rest whole e h = omega (arith, e, h)
-rest_of false old new x rest whole e h = omega (arith, e, h)
+rest_of : (b : Bool) (old new : ℕ) (rest : List Bool) (whole : ℕ) → new ≡ (if b then old + 1 else old) → old + count_of (b ∷ rest) ≡ whole → new + count_of rest ≡ whole
+rest_of true old new rest whole e h = omega (arith, e, h)
+rest_of false old new rest whole e h = omega (arith, e, h)
 
-pub opened_next : (ss : List rust.Site) (i rank : ℕ) (x : rust.Site) (old_ranks new_ranks : List ℕ) (old new : List Numbering) → i < length ss → x ≡ get_or ss i x
-    → new_ranks ≡ old_ranks ++ rank ∷ [] → rank ≡ length old → IsOpened (begins_resource (site_of x)) old new → AreOpened ss i old_ranks old → AreOpened ss (i + 1) new_ranks new
-opened_next ss i rank x old_ranks new_ranks old new low is pushed counted opened h =
-    let more = map_drop_more site_of ss i x low is in
-    let rest = map site_of (drop (i + 1) ss) in
+pub opened_next : (told : List Bool) (i rank : ℕ) (begins : Bool) (old_ranks new_ranks : List ℕ) (old new : List Numbering) → i < length told → begins ≡ get_or told i begins
+    → new_ranks ≡ old_ranks ++ rank ∷ [] → rank ≡ length old → IsOpened begins old new → AreOpened told i old_ranks old → AreOpened told (i + 1) new_ranks new
+opened_next told i rank begins old_ranks new_ranks old new low is pushed counted opened h =
+    let rest = drop (i + 1) told in
+    let more : drop i told ≡ begins ∷ rest = drop_more told i begins low ∙ ap (λ b. b ∷ rest) (sym is) in
     record {
-      ranks = piece_next old_ranks new_ranks (length old ∷ []) (ranks_from (length new) rest) (ranks_from 0 (map site_of ss)) (pushed ∙ ap (λ n. old_ranks ++ n ∷ []) counted)
-          (ap (λ n. old_ranks ++ length old ∷ ranks_from n rest) opened.many ∙ subst (λ ys. old_ranks ++ ranks_from (length old) ys ≡ ranks_from 0 (map site_of ss)) more h.ranks);
-      many = rest_of (begins_resource (site_of x)) (length old) (length new) (site_of x) rest (length (roots (map site_of ss))) opened.many
-          (subst (λ ys. length old + length (roots ys) ≡ length (roots (map site_of ss))) more h.many);
+      ranks = piece_next old_ranks new_ranks (length old ∷ []) (ranks_by (length new) rest) (ranks_by 0 told) (pushed ∙ ap (λ n. old_ranks ++ n ∷ []) counted)
+          (ap (λ n. old_ranks ++ length old ∷ ranks_by n rest) opened.many ∙ subst (λ bs. old_ranks ++ ranks_by (length old) bs ≡ ranks_by 0 told) more h.ranks);
+      many = rest_of begins (length old) (length new) rest (count_of told) opened.many (subst (λ bs. length old + count_of bs ≡ count_of told) more h.many);
       empty = opened.empty h.empty;
     }
+
+pub ranks_whole : (told : List Bool) (i : ℕ) (ranks : List ℕ) (opened : List Numbering) → length told ≤ i → AreOpened told i ranks opened → ranks ≡ ranks_by 0 told
+ranks_whole told i ranks opened low h = sym (append-nil ranks) ∙ ap (λ bs. ranks ++ ranks_by (length opened) bs) (sym (drop_all i told low)) ∙ h.ranks
+
+pub many_whole : (told : List Bool) (i : ℕ) (ranks : List ℕ) (opened : List Numbering) → length told ≤ i → AreOpened told i ranks opened → length opened ≡ count_of told
+many_whole told i ranks opened low h =
+    let many : length opened + 0 ≡ count_of told = subst (λ bs. length opened + count_of bs ≡ count_of told) (drop_all i told low) h.many in
+    omega (arith, many)
+
+-- as many as there are roots
+pub begun_are_roots : (all : List Site) → count_of (map begins_resource all) ≡ length (roots all)
+begun_are_roots [] = refl
+begun_are_roots (x ∷ xs) = by_test (begins_resource x) (begun_are_roots xs)
+  where
+    by_test : (b : Bool) → count_of (map begins_resource xs) ≡ length (roots xs) → count_of (b ∷ map begins_resource xs) ≡ length (cond b (x ∷ roots xs) (roots xs))
+    by_test true e = ap suc e
+    by_test false e = e
 
 -- ---- the number of a root
 

@@ -1,7 +1,6 @@
 -- A place that is said to stand below the one before it does.
-use Rattle.std.proofs.Common.{◌≡◌, ℕ, zero, suc, ◌+◌, ◌<◌, List, [], ◌∷◌, ◌++◌, Bool, true, false, Option, Some, None, map, drop, get_or, length, option_map, slice_get, unwrap_or, MatchOption, sym, ap, ◌∙◌, subst, arith}
+use Rattle.std.proofs.Common.{◌≡◌, ℕ, zero, suc, ◌+◌, ◌<◌, List, [], ◌∷◌, ◌++◌, Bool, true, false, Option, Some, None, map, drop, get_or, length, option_map, slice_get, unwrap_or, sym, ap, ◌∙◌, subst, arith}
 use Rattle.std.proofs.lemmas.Option.{slice_get-get_or, slice_get-map}
-use Rattle.std.specs.Option.{option_map_or}
 use Rattle.js_bundle.specs.declared.scan.Site as rust
 use Rattle.js_bundle.specs.code.Descent.{descends, descents_after, descents}
 use Rattle.js_bundle.specs.code.Edges.{is_below, leads_down}
@@ -20,18 +19,6 @@ next_after o (x ∷ xs) (suc n) above e d = next_after (Some x) xs n above e d
 
 pub next_below : (places : List Spot) (n : ℕ) (above : Spot) → slice_get places n ≡ Some above → unwrap_or (slice_get (descents places) (suc n)) false ≡ true → leads_down above places (suc n) ≡ true
 next_below places n above e d = next_after None places n above e d
-
--- the place before the one with a number, if there is one
-abbrev pub StandsBefore : {X : Type 0} → (X → Spot) → List Spot → ℕ → Option X → Type 0
-StandsBefore view places i None = Unit {0}
-StandsBefore view places i (Some b) = (n : ℕ) × (i ≡ suc n) × (slice_get places n ≡ Some (view b))
-
-pub below_before : {X : Type 0} (view : X → Spot) (places : List Spot) (i : ℕ) (before : Option X) (place : Spot) → StandsBefore view places i before → slice_get places i ≡ Some place
-    → unwrap_or (slice_get (descents places) i) false ≡ true → MatchOption before (Unit {0}) (λ b. is_below (view b) place ≡ true)
-below_before view places i None place h e d = tt
-below_before view places i (Some b) place (n, is, there) e d =
-    let down = next_below places n (view b) there (ap (λ m. unwrap_or (slice_get (descents places) m) false) (sym is) ∙ d) in
-    ap (λ o. option_map_or (is_below (view b)) o false) (sym e ∙ ap (slice_get places) is) ∙ down
 
 pub told_at : (places : List Spot) (ds : List Bool) (i : ℕ) (told : Bool) → ds ≡ descents places → told ≡ unwrap_or (slice_get ds i) false → told ≡ true → unwrap_or (slice_get (descents places) i) false ≡ true
 told_at places ds i told same answer h = ap (λ bs. unwrap_or (slice_get bs i) false) (sym same) ∙ sym answer ∙ h

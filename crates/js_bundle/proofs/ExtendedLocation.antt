@@ -1,5 +1,5 @@
 -- The location of a place below another one in the same resource goes on from that of the other.
-use Rattle.std.proofs.Common.{◌≡◌, ℕ, ◌≤◌, List, [], ◌∷◌, ◌++◌, true, map, refl, ◌==◌, bytes_eq, nat_le, codes, drop, length, sym, ap, ◌∙◌, append_assoc}
+use Rattle.std.proofs.Common.{◌≡◌, ℕ, ◌≤◌, List, [], ◌++◌, true, ◌==◌, bytes_eq, nat_le, codes, drop, length, sym, ap, ◌∙◌, append_assoc}
 use Rattle.std.proofs.lemmas.Bool.{and_parts, eqb-true, leb-true}
 use Rattle.std.proofs.lemmas.List.{append-nil, drop-append-le}
 use Rattle.js_doc.specs.Fragment.{fragment_text}
@@ -7,11 +7,7 @@ use Rattle.js_doc.specs.Pointer.{Tokens}
 use Rattle.js_doc.proofs.Named.{is_text-sound}
 use Rattle.js_bundle.specs.code.Edges.{begins_with, is_below}
 use Rattle.js_bundle.specs.code.LocationGoesOn.{is_beside, has_depth_of}
-use Rattle.js_bundle.specs.code.Spot.{Spot, spot, location_of}
-use Rattle.js_bundle.specs.Document.{Documents}
-use Rattle.js_bundle.specs.Keyword.{Text}
-use Rattle.js_bundle.specs.Location.{location}
-use Rattle.js_bundle.specs.Resource.{Site, sites}
+use Rattle.js_bundle.specs.code.Spot.{Spot, location_of}
 use Rattle.js_bundle.specs.Url.{printed}
 use Rattle.js_bundle.proofs.LeadingDown.{front_drop}
 use Rattle.js_bundle.proofs.Ways.{fragment_append}
@@ -36,12 +32,3 @@ location_on above place below h =
     ∙ ap (λ q. printed above.own.base ++ (codes "#" ++ fragment_text (drop n q ++ []))) (sym (front_drop place.pointer above.pointer parts.1))
     ∙ ap (λ m. printed above.own.base ++ (codes "#" ++ fragment_text (drop m place.pointer ++ []))) (eqb-true n (length place.own.resource) depths.0)
     ∙ ap (λ b. b ++ (codes "#" ++ fragment_text (drop (length place.own.resource) place.pointer ++ []))) (is_text-sound (printed above.own.base) (printed place.own.base) beside.0)
-
--- ---- what is kept of documents
-
-same_locations : (ss : List Site) → map location_of (map spot ss) ≡ map location ss
-same_locations [] = refl
-same_locations (s ∷ ss) = ap (λ ls. location s ∷ ls) (same_locations ss)
-
-pub kept_locations : (documents : Documents) (locations : List Text) (ss : List Site) → locations ≡ map location_of (map spot ss) → ss ≡ sites documents → locations ≡ map location (sites documents)
-kept_locations documents locations ss e same = e ∙ (ap (λ xs. map location_of (map spot xs)) same ∙ same_locations (sites documents))

@@ -29,6 +29,7 @@ pub mod LeadingDown
 pub mod Ways
 pub mod BelowBefore
 pub mod Columns
+pub mod Locating
 pub mod NoKeyword
 pub mod KeywordTables
 pub mod NamesOf

@@ -1,5 +1,5 @@
 -- What is kept of resources: the number of each place's, and of each resource what `$dynamicAnchor` names in it.
-use Rattle.std.specs.Prelude.{◌≡◌, ℕ, ◌+◌, List, [], ◌∷◌, length, Bool, true, Some, map, slice_get, unwrap_or, option_and_then, option_to_list, codes, if◌then◌else◌}
+use Rattle.std.specs.Prelude.{◌≡◌, ℕ, ◌+◌, List, [], ◌∷◌, length, Bool, true, Some, filter, map, slice_get, unwrap_or, option_and_then, option_to_list, codes, if◌then◌else◌}
 use Rattle.std.specs.List.{list_any, position_from, AllByRecursion}
 use Rattle.js_bundle.specs.declared.numbering.Numbering.{Numbering}
 use Rattle.js_bundle.specs.declared.resource_table.Resources.{Resources}
@@ -24,10 +24,17 @@ pub record IsResourceTable (table : Resources) (all : List Site) : Type 0 where
 
 -- ---- words for how it is made
 
--- before each place so many roots stand, and n before the first
+-- It is told of each place whether it is a root: before each so many roots stand, and n before the first.
+abbrev pub ranks_by : ℕ → List Bool → List ℕ
+ranks_by n [] = []
+ranks_by n (begins ∷ told) = n ∷ ranks_by (if begins then n + 1 else n) told
+
 abbrev pub ranks_from : ℕ → List Site → List ℕ
-ranks_from n [] = []
-ranks_from n (place ∷ places) = n ∷ ranks_from (if begins_resource place then n + 1 else n) places
+ranks_from n places = ranks_by n (map begins_resource places)
+
+-- how many are roots
+abbrev pub count_of : List Bool → ℕ
+count_of told = length (filter (λ begins. begins) told)
 
 -- how many roots stand before the root of a place's resource
 abbrev pub rank_of_root : List Site → Site → ℕ

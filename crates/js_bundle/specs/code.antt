@@ -6,6 +6,7 @@ pub mod Spot
 pub mod Edges
 pub mod LocationGoesOn
 pub mod Descent
+pub mod Located
 pub mod Grouped
 pub mod Column
 pub mod Held

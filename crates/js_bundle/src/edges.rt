@@ -30,8 +30,8 @@ pub(crate) fn edges_of(
     requires { descents.now ≡ spec.descents (map spot_of spots.now) }
     ensures { IfOk result (λ v. LeadDown v.items (map spot_of spots.now)) }
 {
-    let ends = ends_of(alloc, spots)?;
-    let mut edges = Vec::new(alloc);
+    let ends = ends_of(alloc, spots, descents)?;
+    let mut edges = Vec::with_capacity(alloc, spots.len())?;
     for i in 0..spots.len() {
         let places = places_below(alloc, spots, ends.as_slice(), descents, &spots[i], i)?;
         edges.push(Edges { places })?;
@@ -80,23 +80,29 @@ fn is_edge(spots: &[Spot], descents: &[bool], above: &Spot, number: usize, later
 }
 
 // Where what stands below each place ends, from the last place to the first.
-fn ends_of(alloc: Global, spots: &[Spot]) -> Result<Vec<usize>, Memory> {
-    let mut ends = Vec::new(alloc);
-    for _ in 0..spots.len() {
-        ends.push(0)?;
-    }
+fn ends_of(alloc: Global, spots: &[Spot], descents: &[bool]) -> Result<Vec<usize>, Memory> {
+    let mut ends = vec![in alloc; 0; spots.len()]?;
     for i in (0..spots.len()).rev() {
-        let end = end_below(spots, ends.as_slice(), &spots[i], i);
+        let end = end_below(spots, ends.as_slice(), descents, &spots[i], i);
         ends[i] = end;
     }
     Ok(ends)
 }
 
-// Where what stands below a place ends.
-fn end_below(spots: &[Spot], ends: &[usize], above: &Spot, number: usize) -> usize
+// Where what stands below a place ends: right after it, where the next place doesn't stand below it.
+fn end_below(
+    spots: &[Spot],
+    ends: &[usize],
+    descents: &[bool],
+    above: &Spot,
+    number: usize,
+) -> usize
     requires { number < length spots.now }
 {
     let mut next = number + 1;
+    if !is_told(descents, next) {
+        return next;
+    }
     while next < spots.len() {
         if !looks_below(&spots[next], above) {
             return next;

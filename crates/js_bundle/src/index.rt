@@ -1,5 +1,5 @@
 //! What finds places without a search: by the URI of a resource, by where they stand, by the names that they make.
-ghost use Rattle.std.specs.Prelude.{◌≡◌, ◌++◌, [], ◌∷◌, codes, OnOk, string_bytes, option_map, option_copied, option_to_list, if◌then◌else◌};
+ghost use Rattle.std.specs.Prelude.{◌≡◌, ◌++◌, [], ◌∷◌, codes, OnOk, IfOk, string_bytes, option_map, option_copied, option_to_list, if◌then◌else◌};
 ghost use Rattle.js_bundle.specs.code.Index.{ArePut, IsAdded, IsIndex, place_key, name_keys_by, name_keys, root_uris, made_uris};
 ghost use Rattle.js_bundle.specs.Names.{known_as};
 ghost use Rattle.js_bundle.specs.code.Scan.{site_of};
@@ -25,15 +25,15 @@ pub(crate) struct Index {
 }
 
 impl Index {
-    /// That of no places.
-    pub(crate) fn new(alloc: Global) -> Index
-        ensures { IsIndex result [] }
+    /// That of no places, with room for as many.
+    pub(crate) fn with_capacity(alloc: Global, places: usize) -> Result<Index, Memory>
+        ensures { IfOk result (λ i. IsIndex i []) }
     {
-        Index {
+        Ok(Index {
             known: Numbering::new(alloc),
-            places: Numbering::new(alloc),
+            places: Numbering::with_capacity(alloc, places)?,
             names: Numbering::new(alloc),
-        }
+        })
     }
 
     /// Adds the next place, which stands under this key.

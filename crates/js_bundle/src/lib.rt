@@ -20,6 +20,7 @@ mod keyword;
 mod keyword_name;
 mod keyword_table;
 pub mod laws;
+mod located;
 mod location;
 mod names;
 mod numbering;

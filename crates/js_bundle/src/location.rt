@@ -1,18 +1,19 @@
 //! Absolute locations (JSON Schema Core, section 12.3.2).
-ghost use Rattle.std.specs.Prelude.{◌≡◌, ◌++◌, [], true, bytes_eq, codes, drop, length, map, string_bytes, IfOk, OnOk, MatchOption};
+ghost use Rattle.std.specs.Prelude.{◌≡◌, ◌++◌, true, bytes_eq, codes, drop, length, option_map, string_bytes, IfOk, OnOk, MatchOption};
 ghost use Rattle.js_doc.specs.Fragment.{fragment_text};
 ghost use Rattle.js_bundle.specs.Finding.{tokens_of};
 ghost use Rattle.js_bundle.specs.code.Descent as spec;
 ghost use Rattle.js_bundle.specs.code.Edges.{is_below};
 ghost use Rattle.js_bundle.specs.code.LocationGoesOn.{has_depth_of, is_beside};
-ghost use Rattle.js_bundle.specs.code.Spot.{location_of, spot_of};
+ghost use Rattle.js_bundle.specs.code.Scan.{site_of};
+ghost use Rattle.js_bundle.specs.code.Spot.{spot};
+ghost use Rattle.js_bundle.specs.Location.{location};
 ghost use Rattle.js_bundle.specs.Url.{printed};
 
-use crate::column::is_told;
+use crate::scan::Site;
 use crate::scope::Scope;
 use crate::uri;
-use crate::whole_check::Spot;
-use js_doc::{Memory, Pointer, Text, Token, push_fragment_token};
+use js_doc::{Memory, Pointer, Token, push_fragment_token};
 use std::alloc::Global;
 
 /// The absolute location of what stands at the pointer in a resource, or of a keyword there.
@@ -67,75 +68,54 @@ fn push_keyword(text: &mut String, keyword: Option<&str>) -> Result<(), Memory>
 }
 
 // Whether the place stands in a resource of the same URI, whose root is as deep.
-fn is_beside(above: &Spot, spot: &Spot) -> bool
-    ensures { result ≡ is_beside (spot_of above.now) (spot_of spot.now) }
+fn is_beside(above: &Site<'_>, site: &Site<'_>) -> bool
+    ensures { result ≡ is_beside (spot (site_of above.now)) (spot (site_of site.now)) }
 {
-    has_base_of(above, spot) && has_depth_of(above, spot)
+    has_base_of(above, site) && has_depth_of(above, site)
 }
 
-fn has_base_of(above: &Spot, spot: &Spot) -> bool
-    ensures { result ≡ bytes_eq (printed above.now.own.value.base) (printed spot.now.own.value.base) }
+fn has_base_of(above: &Site<'_>, site: &Site<'_>) -> bool
+    ensures { result ≡ bytes_eq (printed above.now.own.value.base) (printed site.now.own.value.base) }
 {
-    uri::text_of(&above.own.base) == uri::text_of(&spot.own.base)
+    uri::text_of(&above.own.base) == uri::text_of(&site.own.base)
 }
 
-fn has_depth_of(above: &Spot, spot: &Spot) -> bool
-    ensures { result ≡ has_depth_of (spot_of above.now) (spot_of spot.now) }
+fn has_depth_of(above: &Site<'_>, site: &Site<'_>) -> bool
+    ensures { result ≡ has_depth_of (spot (site_of above.now)) (spot (site_of site.now)) }
 {
     let depth = above.own.resource.tokens().len();
-    depth == spot.own.resource.tokens().len() && depth <= above.pointer.tokens().len()
+    depth == site.own.resource.tokens().len() && depth <= above.pointer.tokens().len()
 }
 
-// The location of a place, from that of the one before it.
-fn location_after(
+/// The location of a place, from that of the one before it: where it stands below that one in the same resource, it goes
+/// on from there.
+pub(crate) fn location_after(
     text: String,
-    before: Option<&Spot>,
-    spot: &Spot,
+    before: Option<&Site<'_>>,
+    site: &Site<'_>,
     descends: bool,
 ) -> Result<String, Memory>
-    requires text { MatchOption before (Unit {0}) (λ b. string_bytes text ≡ location_of (spot_of b.now)) }
-    requires descends { descends ≡ true → MatchOption before (Unit {0}) (λ b. is_below (spot_of b.now) (spot_of spot.now) ≡ true) }
-    ensures { IfOk result (λ t. string_bytes t ≡ location_of (spot_of spot.now)) }
+    requires text { MatchOption before (Unit {0}) (λ b. string_bytes text ≡ location (site_of b.now)) }
+    requires descends { descends ≡ spec.descends (option_map (λ b. spot (site_of b.now)) before) (spot (site_of site.now)) }
+    ensures { IfOk result (λ t. string_bytes t ≡ location (site_of site.now)) }
 {
     match before {
-        Some(above) if descends && is_beside(above, spot) => extended_location(text, above, spot),
-        _ => written(text, &spot.own, &spot.pointer, None),
+        Some(above) if descends && is_beside(above, site) => extended_location(text, above, site),
+        _ => written(text, &site.own, &site.pointer, None),
     }
 }
 
-// The same of a place below it in the same resource: only the rest of the way is written.
-fn extended_location(text: String, above: &Spot, spot: &Spot) -> Result<String, Memory>
-    requires below { is_below (spot_of above.now) (spot_of spot.now) ≡ true }
-    requires beside { is_beside (spot_of above.now) (spot_of spot.now) ≡ true }
-    requires text { string_bytes text ≡ location_of (spot_of above.now) }
-    ensures { IfOk result (λ t. string_bytes t ≡ location_of (spot_of spot.now)) }
+fn extended_location(text: String, above: &Site<'_>, site: &Site<'_>) -> Result<String, Memory>
+    requires below { is_below (spot (site_of above.now)) (spot (site_of site.now)) ≡ true }
+    requires beside { is_beside (spot (site_of above.now)) (spot (site_of site.now)) ≡ true }
+    requires text { string_bytes text ≡ location (site_of above.now) }
+    ensures { IfOk result (λ t. string_bytes t ≡ location (site_of site.now)) }
 {
     let mut text = text;
     push_way(
         &mut text,
-        spot.pointer.tokens(),
+        site.pointer.tokens(),
         above.pointer.tokens().len(),
     )?;
     Ok(text)
-}
-
-/// The absolute location of each place. It is told of each whether it stands below the one before it.
-pub(crate) fn locations_of(
-    alloc: Global,
-    spots: &[Spot],
-    descents: &[bool],
-) -> Result<Vec<Text>, Memory>
-    requires { descents.now ≡ spec.descents (map spot_of spots.now) }
-    ensures { IfOk result (λ v. v.items ≡ map location_of (map spot_of spots.now)) }
-{
-    let mut locations = Vec::new(alloc);
-    let mut text = String::new(alloc);
-    let mut before = None;
-    for i in 0..spots.len() {
-        let spot = &spots[i];
-        text = location_after(text, before, spot, is_told(descents, i))?;
-        locations.push(Text::new(text.clone()?))?;
-        before = Some(spot);
-    }
-    Ok(locations)
 }

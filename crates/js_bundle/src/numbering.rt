@@ -1,8 +1,9 @@
 //! Numbering of places, each under a text.
-ghost use Rattle.std.specs.Prelude.{◌≡◌, ◌++◌, [], ◌∷◌, None, OnOk, string_bytes, option_to_list, option_copied};
+ghost use Rattle.std.specs.Prelude.{◌≡◌, [], ◌∷◌, OnOk, IfOk, string_bytes, option_to_list, option_copied};
 ghost use Rattle.js_bundle.specs.code.Index.{number_of_key, ArePut};
 
 use indexmap::IndexMap;
+use indexmap::map::Entry;
 use js_doc::Memory;
 use std::alloc::Global;
 
@@ -21,6 +22,15 @@ impl Numbering {
         }
     }
 
+    /// The same, with room for as many texts.
+    pub(crate) fn with_capacity(alloc: Global, texts: usize) -> Result<Numbering, Memory>
+        ensures { IfOk result (λ n. n.first.entries ≡ []) }
+    {
+        Ok(Numbering {
+            first: IndexMap::with_capacity(alloc, texts)?,
+        })
+    }
+
     /// The number under the text.
     pub(crate) fn get(&self, text: &str) -> Option<usize>
         ensures { result ≡ number_of_key self.now text.now }
@@ -32,17 +42,12 @@ impl Numbering {
     pub(crate) fn put(&mut self, text: String, number: usize) -> Result<(), Memory>
         ensures { OnOk result (ArePut self.old (string_bytes text ∷ []) number self.new) }
     {
-        match self.get(text.as_str()) {
-            Some(_) => Ok(()),
-            None => self.append(text, number),
+        match self.first.entry(text)? {
+            Entry::Occupied(_) => {}
+            Entry::Vacant(place) => {
+                place.insert(number);
+            }
         }
-    }
-
-    fn append(&mut self, text: String, number: usize) -> Result<(), Memory>
-        requires { number_of_key self.old (string_bytes text) ≡ None }
-        ensures { OnOk result (self.new.first.entries ≡ self.old.first.entries ++ (text, number) ∷ []) }
-    {
-        self.first.insert(text, number)?;
         Ok(())
     }
 

@@ -1,5 +1,5 @@
 //! The first pass: each place and its keywords, in scan order.
-ghost use Rattle.std.specs.Prelude.{◌≡◌, ◌++◌, [], ◌∷◌, length, not, map, option_map, string_bytes, MatchOption, OnOk, IfOk, IfErr};
+ghost use Rattle.std.specs.Prelude.{◌≡◌, ◌++◌, [], ◌∷◌, length, not, map, option_map, MatchOption, OnOk, IfOk, IfErr};
 ghost use Rattle.std.specs.List.{flat_map};
 ghost use Rattle.js_doc.specs.Seen.{value_of};
 ghost use Rattle.js_bundle.specs.declared.refusal.RefusalKind.TheVariants.{BadKeyword};
@@ -7,20 +7,18 @@ ghost use Rattle.js_bundle.specs.AssertionsAndPatterns.{assertion_at, assertions
 ghost use Rattle.js_bundle.specs.Candidate.{IsClear, IsStopped};
 ghost use Rattle.js_bundle.specs.Form.{is_formed};
 ghost use Rattle.js_bundle.specs.code.Grouped.{IsGrouped};
-ghost use Rattle.js_bundle.specs.code.Descent.{descends, descents};
-ghost use Rattle.js_bundle.specs.code.Index.{IsAdded, IsIndex, place_key};
+ghost use Rattle.js_bundle.specs.code.Index.{IsIndex};
+ghost use Rattle.js_bundle.specs.code.Located.{AreTextsOf, IsLocated, IsLocatedNext};
 ghost use Rattle.js_bundle.specs.Keyword.{keywords};
 ghost use Rattle.js_bundle.specs.KeywordName.{keyword_names};
 ghost use Rattle.js_bundle.specs.Refusals.{when, decided, on_text, text_rules, at_member, at_site, first_pass};
 ghost use Rattle.js_bundle.specs.code.Scan.{site_of};
-ghost use Rattle.js_bundle.specs.code.Spot.{spot};
 
 use crate::assertions_and_patterns::{Built, BuiltTable, keep_assertion, read_names};
-use crate::descent::descends;
 use crate::fault::{Fault, refuse};
 use crate::index::Index;
-use crate::keys::key_after;
 use crate::keyword_table::KeywordTable;
+use crate::located::{Located, Texts};
 use crate::refusal::RefusalKind;
 use crate::rules::{check_anchor, check_dialect, check_id, check_place, is_formed, read_assertion};
 use crate::scan::Site;
@@ -193,68 +191,41 @@ fn check_site(
 #[derive(Drop)]
 pub(crate) struct Passed {
     pub(crate) built: BuiltTable,
-    pub(crate) index: Index,
-    /// Of each place, whether it stands below the one before it.
-    pub(crate) descents: Vec<bool>,
+    pub(crate) located: Located,
     pub(crate) keywords: KeywordTable,
 }
 
-// Adds a place to the index, and answers its key. The other key is that of the place before it.
-fn add_place(
-    alloc: Global,
-    index: &mut Index,
-    descents: &mut Vec<bool>,
-    key: String,
-    before: Option<&Site<'_>>,
-    site: &Site<'_>,
-    number: usize,
-) -> Result<String, Memory>
-    requires { MatchOption before (Unit {0}) (λ b. string_bytes key ≡ place_key b.now.document b.now.pointer.value) }
-    ensures key { IfOk result (λ t. string_bytes t ≡ place_key site.now.document site.now.pointer.value) }
-    ensures added { OnOk result (IsAdded index.old (site_of site.now) number index.new) }
-    ensures descents { OnOk result (descents.new.items ≡ descents.old.items
-        ++ descends (option_map (λ b. spot (site_of b.now)) before.entry) (spot (site_of site.now)) ∷ []) }
-{
-    let descends = descends(before, site);
-    descents.push(descends)?;
-    let key = key_after(key, before, site, descends)?;
-    index.add(alloc, site, number, key.clone()?)?;
-    Ok(key)
-}
-
 impl Passed {
-    // That of no places.
-    fn new(alloc: Global) -> Passed
-        ensures assertions { result.built.all.assertions.items ≡ [] }
-        ensures assertion_ends { result.built.assertion_ends.items ≡ [] }
-        ensures patterns { result.built.all.patterns.items ≡ [] }
-        ensures pattern_ends { result.built.pattern_ends.items ≡ [] }
-        ensures index { IsIndex result.index [] }
-        ensures descents { result.descents.items ≡ [] }
-        ensures names { result.keywords.names.items ≡ [] }
-        ensures ends { result.keywords.ends.items ≡ [] }
+    // That of no places, with room for as many.
+    fn with_capacity(alloc: Global, places: usize) -> Result<Passed, Memory>
+        ensures assertions { IfOk result (λ p. p.built.all.assertions.items ≡ []) }
+        ensures assertion_ends { IfOk result (λ p. p.built.assertion_ends.items ≡ []) }
+        ensures patterns { IfOk result (λ p. p.built.all.patterns.items ≡ []) }
+        ensures pattern_ends { IfOk result (λ p. p.built.pattern_ends.items ≡ []) }
+        ensures located { IfOk result (λ p. IsLocated p.located []) }
+        ensures names { IfOk result (λ p. p.keywords.names.items ≡ []) }
+        ensures ends { IfOk result (λ p. p.keywords.ends.items ≡ []) }
     {
-        Passed {
-            built: BuiltTable::new(alloc),
-            index: Index::new(alloc),
-            descents: Vec::new(alloc),
-            keywords: KeywordTable::new(alloc),
-        }
+        Ok(Passed {
+            built: BuiltTable::with_capacity(alloc, places)?,
+            located: Located::with_capacity(alloc, places)?,
+            keywords: KeywordTable::with_capacity(alloc, places)?,
+        })
     }
 
-    // Goes one place further, and answers its key. The other key is that of the place before it.
+    // Goes one place further, and answers its texts. The other texts are those of the place before it.
     fn pass(
         &mut self,
         alloc: Global,
         earlier: &[Site<'_>],
-        key: String,
+        texts: Texts,
         before: Option<&Site<'_>>,
         site: &Site<'_>,
-    ) -> Result<String, Fault>
-        requires index { IsIndex self.old.index (map site_of earlier.now) }
-        requires key { MatchOption before (Unit {0}) (λ b. string_bytes key ≡ place_key b.now.document b.now.pointer.value) }
+    ) -> Result<Texts, Fault>
+        requires index { IsIndex self.old.located.index (map site_of earlier.now) }
+        requires texts { MatchOption before (Unit {0}) (λ b. AreTextsOf texts (site_of b.now)) }
         ensures clear { OnOk result (IsClear (at_site (map site_of earlier.now) (site_of site.now))) }
-        ensures key { IfOk result (λ t. string_bytes t ≡ place_key site.now.document site.now.pointer.value) }
+        ensures texts { IfOk result (λ t. AreTextsOf t (site_of site.now)) }
         ensures assertions { OnOk result (self.new.built.all.assertions.items
             ≡ self.old.built.all.assertions.items ++ assertions_at (site_of site.now)) }
         ensures assertion_ends { OnOk result (self.new.built.assertion_ends.items
@@ -263,9 +234,8 @@ impl Passed {
             ≡ self.old.built.all.patterns.items ++ patterns_at (site_of site.now)) }
         ensures pattern_ends { OnOk result (self.new.built.pattern_ends.items
             ≡ self.old.built.pattern_ends.items ++ length self.new.built.all.patterns.items ∷ []) }
-        ensures index { OnOk result (IsAdded self.old.index (site_of site.now) (length earlier.now) self.new.index) }
-        ensures descents { OnOk result (self.new.descents.items ≡ self.old.descents.items
-            ++ descends (option_map (λ b. spot (site_of b.now)) before.entry) (spot (site_of site.now)) ∷ []) }
+        ensures located { OnOk result (IsLocatedNext self.old.located (option_map (λ b. site_of b.now) before.entry)
+            (site_of site.now) (length earlier.now) self.new.located) }
         ensures names { OnOk result (self.new.keywords.names.items
             ≡ self.old.keywords.names.items ++ keyword_names (site_of site.now)) }
         ensures ends { OnOk result (self.new.keywords.ends.items
@@ -273,18 +243,11 @@ impl Passed {
         ensures err { IfErr result (IsStopped (at_site (map site_of earlier.now) (site_of site.now))) }
     {
         self.keywords.add(site)?;
-        check_site(alloc, &mut self.built.all, &self.index, earlier, site)?;
+        let index = &self.located.index;
+        check_site(alloc, &mut self.built.all, index, earlier, site)?;
         self.built.end_place()?;
-        let key = add_place(
-            alloc,
-            &mut self.index,
-            &mut self.descents,
-            key,
-            before,
-            site,
-            earlier.len(),
-        )?;
-        Ok(key)
+        let texts = self.located.add(alloc, texts, before, site, earlier.len())?;
+        Ok(texts)
     }
 }
 
@@ -295,17 +258,16 @@ pub(crate) fn first_pass(alloc: Global, sites: &[Site<'_>]) -> Result<Passed, Fa
         p.built.all.assertions.items p.built.assertion_ends.items) }
     ensures patterns { IfOk result (λ p. IsGrouped patterns_at (map site_of sites.now)
         p.built.all.patterns.items p.built.pattern_ends.items) }
-    ensures index { IfOk result (λ p. IsIndex p.index (map site_of sites.now)) }
-    ensures descents { IfOk result (λ p. p.descents.items ≡ descents (map spot (map site_of sites.now))) }
+    ensures located { IfOk result (λ p. IsLocated p.located (map site_of sites.now)) }
     ensures keywords { IfOk result (λ p. IsGrouped keyword_names (map site_of sites.now) p.keywords.names.items p.keywords.ends.items) }
     ensures err { IfErr result (IsStopped (first_pass [] (map site_of sites.now))) }
 {
-    let mut passed = Passed::new(alloc);
-    let mut key = String::new(alloc);
+    let mut passed = Passed::with_capacity(alloc, sites.len())?;
+    let mut texts = Texts::new(alloc);
     let mut before = None;
     for i in 0..sites.len() {
         let site = &sites[i];
-        key = passed.pass(alloc, &sites[..i], key, before, site)?;
+        texts = passed.pass(alloc, &sites[..i], texts, before, site)?;
         before = Some(site);
     }
     Ok(passed)

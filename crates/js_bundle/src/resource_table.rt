@@ -3,11 +3,12 @@ ghost use Rattle.std.specs.Prelude.{◌≡◌, ◌<◌, Some, map, length, codes
 ghost use Rattle.std.specs.List.{position_from};
 ghost use Rattle.js_bundle.specs.code.Grouped.{IsGrouped};
 ghost use Rattle.js_bundle.specs.code.Index.{IsIndex};
+ghost use Rattle.js_bundle.specs.code.Located.{IsLocated};
 ghost use Rattle.js_bundle.specs.Keyword.{text_argument};
 ghost use Rattle.js_bundle.specs.KeywordName.{keyword_names};
 ghost use Rattle.js_bundle.specs.Names.{belongs_to, same_tokens, stands_at};
 ghost use Rattle.js_bundle.specs.ResourceNumber.{begins_resource, roots, resource_number};
-ghost use Rattle.js_bundle.specs.ResourceTable.{AreAnchors, AreEmpty, AreNamed, AreRooted, IsOpened, IsResourceTable, StandApart, rank_of_root, ranks_from};
+ghost use Rattle.js_bundle.specs.ResourceTable.{AreAnchors, AreEmpty, AreNamed, AreRooted, IsOpened, IsResourceTable, StandApart, count_of, rank_of_root, ranks_by, ranks_from};
 ghost use Rattle.js_bundle.specs.code.Scan.{site_of};
 
 use crate::column::is_told;
@@ -16,6 +17,7 @@ use crate::index::Index;
 use crate::keyword::text_argument;
 use crate::keyword_name::KeywordName;
 use crate::keyword_table::KeywordTable;
+use crate::located::Located;
 use crate::names::place_at;
 use crate::numbering::Numbering;
 use crate::scan::Site;
@@ -31,22 +33,16 @@ pub(crate) struct Resources {
     pub(crate) anchors: Vec<Numbering>,
 }
 
-// Which places are roots of resources, and how many of these stand before each place.
-#[derive(Drop)]
-struct Ranks {
-    begins: Vec<bool>,
-    ranks: Vec<usize>,
-}
-
 // The roots of resources, counted.
 struct Roots {
-    ranks: Ranks,
+    // How many stand before each place.
+    ranks: Vec<usize>,
     // Of each, the names in its resource: none yet.
     anchors: Vec<Numbering>,
 }
 
-// Whether the place is the root of its own resource.
-fn begins_resource(site: &Site<'_>) -> bool
+/// Whether the place is the root of its own resource.
+pub(crate) fn begins_resource(site: &Site<'_>) -> bool
     ensures { result ≡ begins_resource (site_of site.now) }
 {
     is_same(&site.pointer, &site.own.resource)
@@ -82,25 +78,19 @@ fn open_resource(alloc: Global, anchors: &mut Vec<Numbering>, begins: bool) -> R
     Ok(())
 }
 
-fn roots_of(alloc: Global, sites: &[Site<'_>]) -> Result<Roots, Memory>
-    ensures begins { IfOk result (λ r. r.ranks.begins.items ≡ map begins_resource (map site_of sites.now)) }
-    ensures ranks { IfOk result (λ r. r.ranks.ranks.items ≡ ranks_from 0 (map site_of sites.now)) }
-    ensures many { IfOk result (λ r. length r.anchors.items ≡ length (roots (map site_of sites.now))) }
+// It is told of each place whether it is a root.
+fn roots_of(alloc: Global, begins: &[bool]) -> Result<Roots, Memory>
+    ensures ranks { IfOk result (λ r. r.ranks.items ≡ ranks_by 0 begins.now) }
+    ensures many { IfOk result (λ r. length r.anchors.items ≡ count_of begins.now) }
     ensures empty { IfOk result (λ r. AreEmpty r.anchors.items) }
 {
-    let mut begins = Vec::new(alloc);
-    let mut ranks = Vec::new(alloc);
+    let mut ranks = Vec::with_capacity(alloc, begins.len())?;
     let mut anchors = Vec::new(alloc);
-    for i in 0..sites.len() {
-        let opens = begins_resource(&sites[i]);
-        begins.push(opens)?;
+    for i in 0..begins.len() {
         ranks.push(anchors.len())?;
-        open_resource(alloc, &mut anchors, opens)?;
+        open_resource(alloc, &mut anchors, begins[i])?;
     }
-    Ok(Roots {
-        ranks: Ranks { begins, ranks },
-        anchors,
-    })
+    Ok(Roots { ranks, anchors })
 }
 
 fn rank_under(ranks: &[usize], root: Option<usize>) -> usize
@@ -127,7 +117,8 @@ fn number_after(
     alloc: Global,
     index: &Index,
     sites: &[Site<'_>],
-    ranks: &Ranks,
+    begins: &[bool],
+    ranks: &[usize],
     last: usize,
     before: Option<&Site<'_>>,
     site: &Site<'_>,
@@ -135,18 +126,18 @@ fn number_after(
 ) -> Result<usize, Memory>
     requires index { IsIndex index.now (map site_of sites.now) }
     requires apart { StandApart (map site_of sites.now) }
-    requires begins { ranks.now.begins.items ≡ map begins_resource (map site_of sites.now) }
-    requires ranks { ranks.now.ranks.items ≡ ranks_from 0 (map site_of sites.now) }
+    requires begins { begins.now ≡ map begins_resource (map site_of sites.now) }
+    requires ranks { ranks.now ≡ ranks_from 0 (map site_of sites.now) }
     requires last { MatchOption before (Unit {0}) (λ b. last ≡ rank_of_root (map site_of sites.now) (site_of b.now)) }
     requires site { slice_get (map site_of sites.now) number ≡ Some (site_of site.now) }
     ensures { IfOk result (λ n. n ≡ rank_of_root (map site_of sites.now) (site_of site.now)) }
 {
-    if is_told(ranks.begins.as_slice(), number) {
-        return Ok(rank_under(ranks.ranks.as_slice(), Some(number)));
+    if is_told(begins, number) {
+        return Ok(rank_under(ranks, Some(number)));
     }
     match before {
         Some(before) if is_of_one(before, site) => Ok(last),
-        _ => number_by_root(alloc, index, sites, ranks.ranks.as_slice(), site),
+        _ => number_by_root(alloc, index, sites, ranks, site),
     }
 }
 
@@ -171,20 +162,21 @@ fn numbers_of(
     alloc: Global,
     index: &Index,
     sites: &[Site<'_>],
-    ranks: &Ranks,
+    begins: &[bool],
+    ranks: &[usize],
 ) -> Result<Vec<usize>, Memory>
     requires index { IsIndex index.now (map site_of sites.now) }
     requires apart { StandApart (map site_of sites.now) }
-    requires begins { ranks.now.begins.items ≡ map begins_resource (map site_of sites.now) }
-    requires ranks { ranks.now.ranks.items ≡ ranks_from 0 (map site_of sites.now) }
+    requires begins { begins.now ≡ map begins_resource (map site_of sites.now) }
+    requires ranks { ranks.now ≡ ranks_from 0 (map site_of sites.now) }
     ensures { IfOk result (λ v. v.items ≡ map (rank_of_root (map site_of sites.now)) (map site_of sites.now)) }
 {
-    let mut numbers = Vec::new(alloc);
+    let mut numbers = Vec::with_capacity(alloc, sites.len())?;
     let mut last = 0;
     let mut before = None;
     for i in 0..sites.len() {
         let site = &sites[i];
-        last = number_after(alloc, index, sites, ranks, last, before, site, i)?;
+        last = number_after(alloc, index, sites, begins, ranks, last, before, site, i)?;
         numbers.push(last)?;
         before = Some(site);
     }
@@ -244,17 +236,18 @@ fn name_all(
 /// The table of the resources of all places.
 pub(crate) fn resources_of(
     alloc: Global,
-    index: &Index,
+    located: &Located,
     sites: &[Site<'_>],
     keywords: &KeywordTable,
 ) -> Result<Resources, Memory>
-    requires index { IsIndex index.now (map site_of sites.now) }
+    requires located { IsLocated located.now (map site_of sites.now) }
     requires keywords { IsGrouped keyword_names (map site_of sites.now) keywords.now.names.items keywords.now.ends.items }
     requires rooted { AreRooted (map site_of sites.now) }
     ensures { IfOk result (λ r. IsResourceTable r (map site_of sites.now)) }
 {
-    let Roots { ranks, mut anchors } = roots_of(alloc, sites)?;
-    let numbers = numbers_of(alloc, index, sites, &ranks)?;
+    let begins = located.roots.as_slice();
+    let Roots { ranks, mut anchors } = roots_of(alloc, begins)?;
+    let numbers = numbers_of(alloc, &located.index, sites, begins, ranks.as_slice())?;
     name_all(alloc, &mut anchors, sites, keywords, numbers.as_slice())?;
     Ok(Resources { numbers, anchors })
 }

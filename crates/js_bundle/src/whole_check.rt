@@ -7,6 +7,7 @@ ghost use Rattle.js_bundle.specs.code.Edges.{LeadDown};
 ghost use Rattle.js_bundle.specs.Finding.{dynamic_at, number_of_target};
 ghost use Rattle.js_bundle.specs.code.Grouped.{IsGrouped};
 ghost use Rattle.js_bundle.specs.code.Index.{IsIndex};
+ghost use Rattle.js_bundle.specs.code.Located.{IsLocated};
 ghost use Rattle.js_bundle.specs.KeywordName.{keyword_names};
 ghost use Rattle.js_bundle.specs.Location.{location};
 ghost use Rattle.js_bundle.specs.Refusals.{candidates, second_pass};
@@ -15,7 +16,7 @@ ghost use Rattle.js_bundle.specs.ResourceTable.{AreRooted, IsResourceTable};
 ghost use Rattle.js_bundle.specs.code.Scan.{site_of};
 ghost use Rattle.js_bundle.specs.Seen.{document_of, AreRead};
 ghost use Rattle.js_bundle.specs.code.Descent as spec;
-ghost use Rattle.js_bundle.specs.code.Spot.{location_of, spot, spot_of};
+ghost use Rattle.js_bundle.specs.code.Spot.{spot, spot_of};
 
 use crate::assertions_and_patterns::BuiltTable;
 use crate::document::Document;
@@ -23,7 +24,7 @@ use crate::edges::{Edges, edges_of};
 use crate::fault::Fault;
 use crate::index::Index;
 use crate::keyword_table::KeywordTable;
-use crate::location::locations_of;
+use crate::located::Located;
 use crate::place_check::first_pass;
 use crate::reference::{References, resolve_all};
 use crate::resource_table::{Resources, resources_of};
@@ -64,7 +65,7 @@ pub(crate) struct Checked {
 fn spots_of(alloc: Global, sites: Vec<Site<'_>>) -> Result<Vec<Spot>, Memory>
     ensures { IfOk result (λ v. map spot_of v.items ≡ map spot (map site_of sites.entry.items)) }
 {
-    let mut spots = Vec::new(alloc);
+    let mut spots = Vec::with_capacity(alloc, sites.len())?;
     for site in sites {
         let Site {
             document,
@@ -95,11 +96,11 @@ struct LookedUp {
 // What references lead to, and the resources.
 fn look_up(
     alloc: Global,
-    index: &Index,
+    located: &Located,
     sites: &[Site<'_>],
     keywords: &KeywordTable,
 ) -> Result<LookedUp, Fault>
-    requires index { IsIndex index.now (map site_of sites.now) }
+    requires located { IsLocated located.now (map site_of sites.now) }
     requires keywords { IsGrouped keyword_names (map site_of sites.now) keywords.now.names.items keywords.now.ends.items }
     requires rooted { AreRooted (map site_of sites.now) }
     ensures clear { OnOk result (IsClear (second_pass (map site_of sites.now))) }
@@ -110,8 +111,8 @@ fn look_up(
     ensures resources { IfOk result (λ l. IsResourceTable l.resources (map site_of sites.now)) }
     ensures err { IfErr result (IsStopped (second_pass (map site_of sites.now))) }
 {
-    let references = resolve_all(alloc, index, sites, keywords)?;
-    let resources = resources_of(alloc, index, sites, keywords)?;
+    let references = resolve_all(alloc, &located.index, sites, keywords)?;
+    let resources = resources_of(alloc, located, sites, keywords)?;
     Ok(LookedUp {
         references,
         resources,
@@ -122,7 +123,6 @@ fn look_up(
 #[derive(Drop)]
 struct Standing {
     spots: Vec<Spot>,
-    locations: Vec<Text>,
     edges: Vec<Edges>,
 }
 
@@ -130,18 +130,11 @@ struct Standing {
 fn standing_of(alloc: Global, sites: Vec<Site<'_>>, descents: &[bool]) -> Result<Standing, Memory>
     requires { descents.now ≡ spec.descents (map spot (map site_of sites.items)) }
     ensures spots { IfOk result (λ s. map spot_of s.spots.items ≡ map spot (map site_of sites.entry.items)) }
-    ensures locations { IfOk result
-        (λ s. s.locations.items ≡ map location_of (map spot (map site_of sites.entry.items))) }
     ensures edges { IfOk result (λ s. LeadDown s.edges.items (map spot_of s.spots.items)) }
 {
     let spots = spots_of(alloc, sites)?;
-    let locations = locations_of(alloc, spots.as_slice(), descents)?;
     let edges = edges_of(alloc, spots.as_slice(), descents)?;
-    Ok(Standing {
-        spots,
-        locations,
-        edges,
-    })
+    Ok(Standing { spots, edges })
 }
 
 /// Checks documents whole: each place with its keywords, and then each reference.
@@ -171,15 +164,15 @@ pub(crate) fn check_whole(alloc: Global, documents: &[Document]) -> Result<Check
 {
     let sites = scan(alloc, documents)?;
     let passed = first_pass(alloc, sites.as_slice())?;
-    let found = look_up(alloc, &passed.index, sites.as_slice(), &passed.keywords)?;
-    let standing = standing_of(alloc, sites, passed.descents.as_slice())?;
+    let found = look_up(alloc, &passed.located, sites.as_slice(), &passed.keywords)?;
+    let standing = standing_of(alloc, sites, passed.located.descents.as_slice())?;
     Ok(Checked {
         spots: standing.spots,
         built: passed.built,
         keywords: passed.keywords,
         references: found.references,
-        locations: standing.locations,
-        index: passed.index,
+        locations: passed.located.locations,
+        index: passed.located.index,
         resources: found.resources,
         edges: standing.edges,
     })

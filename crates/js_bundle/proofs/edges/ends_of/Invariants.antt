@@ -1,8 +1,5 @@
 use Rattle.std.proofs.Common.{◌≡◌, length}
 use Rattle.js_bundle.proofs.edges.ends_of.Given as goal
 
-abbrev pub invariant-loop : goal.invariant-loop
-invariant-loop l = length l.ends.items ≡ l.counter
-
 abbrev pub invariant-loop-i : goal.invariant-loop-i
 invariant-loop-i l = length l.ends.items ≡ length l.spots

@@ -1,27 +1,24 @@
-use Rattle.std.proofs.Common.{◌+◌, [], map, take, drop, option_map, rules, arith}
+use Rattle.std.proofs.Common.{◌+◌, [], map, take, drop, option_map, arith}
 use Rattle.std.proofs.lemmas.Result.{err_from_is_err_and}
 use Rattle.js_bundle.specs.AssertionsAndPatterns.{assertions_at, patterns_at}
 use Rattle.js_bundle.specs.KeywordName.{keyword_names}
 use Rattle.js_bundle.specs.Refusals.{at_site, first_pass}
-use Rattle.js_bundle.specs.code.Descent.{descents}
 use Rattle.js_bundle.specs.code.Scan.{site_of}
-use Rattle.js_bundle.specs.code.Spot.{spot}
-use Rattle.js_bundle.proofs.BelowBefore.{descents_next}
 use Rattle.js_bundle.proofs.Grouping.{grouped_next}
-use Rattle.js_bundle.proofs.Indexed.{index_more, index_whole}
+use Rattle.js_bundle.proofs.Locating.{located_next, located_whole}
 use Rattle.js_bundle.proofs.Passes.{site_next}
 use Rattle.js_bundle.proofs.Stopping.{leads_past, leads_stop}
 use Rattle.js_bundle.proofs.place_check.first_pass.Goals as goal
 
-pub returns-in_err-key-clause-err : goal.returns-in_err-key-clause-err
-returns-in_err-key-clause-err c =
+pub returns-in_err-texts-clause-err : goal.returns-in_err-texts-clause-err
+returns-in_err-texts-clause-err c =
     let l = c.loop-i in
     let ss = c.args.sites.now in
     let x = c.index-sites-i.result in
     let whole = first_pass [] (map site_of ss) in
-    let p = err_from_is_err_and c.from_residual.result c.from_residual.ensures.1 in
-    rw (p.1, p.2) (leads_stop whole (at_site (map site_of (take l.i ss)) (site_of x)) (first_pass (map site_of (take (l.i + 1) ss)) (map site_of (drop (l.i + 1) ss))) c.in_err-key.field-0.0
-    (site_next ss l.i x whole (omega arith) c.index-sites-i.is l.invariant.leads) c.in_err-key.ensures.err)
+    let p = err_from_is_err_and c.from_residual-in_err-texts.result c.from_residual-in_err-texts.ensures.1 in
+    rw (p.1, p.2) (leads_stop whole (at_site (map site_of (take l.i ss)) (site_of x)) (first_pass (map site_of (take (l.i + 1) ss)) (map site_of (drop (l.i + 1) ss))) c.in_err-texts.field-0.0
+    (site_next ss l.i x whole (omega arith) c.index-sites-i.is l.invariant.leads) c.in_err-texts.ensures.err)
 
 pub loop-i-preserved : goal.loop-i-preserved
 loop-i-preserved c =
@@ -31,7 +28,7 @@ loop-i-preserved c =
     let whole = first_pass [] (map site_of ss) in
     let old = l.passed in
     let new = c.pass.new.self in
-    let e = c.in_ok-key.ensures in
+    let e = c.in_ok-texts.ensures in
     record {
       leads = leads_past whole (at_site (map site_of (take l.i ss)) (site_of x)) (first_pass (map site_of (take (l.i + 1) ss)) (map site_of (drop (l.i + 1) ss)))
           (site_next ss l.i x whole (omega arith) c.index-sites-i.is l.invariant.leads) e.clear;
@@ -41,11 +38,9 @@ loop-i-preserved c =
           e.patterns e.pattern_ends l.invariant.patterns;
       keywords = grouped_next keyword_names ss l.i x old.keywords.names.items new.keywords.names.items old.keywords.ends.items new.keywords.ends.items (omega arith) c.index-sites-i.is
           e.names e.ends l.invariant.keywords;
-      index = index_more ss l.i x old.index new.index (omega arith) c.index-sites-i.is l.invariant.index (search rules);
-      key = e.key;
-      descents = descents_next ss l.i x (option_map (λ b. spot (site_of b.now)) l.before) old.descents.items new.descents.items (descents (map spot (map site_of ss))) (omega arith) c.index-sites-i.is
-          e.descents l.invariant.descents;
+      located = located_next ss l.i x (option_map (λ b. site_of b.now) l.before) old.located new.located (omega arith) c.index-sites-i.is e.located l.invariant.located;
+      texts = e.texts;
     }
 
-pub returns-clause-index : goal.returns-clause-index
-returns-clause-index c = index_whole c.args.sites.now c.loop-i.i c.loop-i.passed.index (omega arith) c.loop-i.invariant.index
+pub returns-clause-located : goal.returns-clause-located
+returns-clause-located c = located_whole c.args.sites.now c.loop-i.i (option_map (λ b. site_of b.now) c.loop-i.before) c.loop-i.passed.located (omega arith) c.loop-i.invariant.located

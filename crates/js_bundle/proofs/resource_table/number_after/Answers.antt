@@ -9,8 +9,8 @@ returns-then-is_told c =
     let all = map site_of c.args.sites.now in
     let site = site_of c.args.site.now in
     let n = c.args.number in
-    root_rank all n site c.as_slice-then-is_told.result.now c.rank_under.result c.requires.apart (c.as_slice-then-is_told.ensures.value ∙ c.requires.ranks) c.requires.site
-    (root_told all n site c.as_slice.result.now c.is_told.result (c.as_slice.ensures.value ∙ c.requires.begins) c.requires.site c.is_told.ensures c.if-is_told.true) c.rank_under.ensures
+    root_rank all n site c.args.ranks.now c.rank_under.result c.requires.apart c.requires.ranks c.requires.site
+    (root_told all n site c.args.begins.now c.is_told.result c.requires.begins c.requires.site c.is_told.ensures c.if-is_told.true) c.rank_under.ensures
 
 pub returns-in-Some : goal.returns-in-Some
 returns-in-Some c =

@@ -3,6 +3,7 @@ use Rattle.std.proofs.lemmas.Result.{err_from_is_err_and}
 use Rattle.js_bundle.specs.AssertionsAndPatterns.{assertions_at, patterns_at}
 use Rattle.js_bundle.specs.Finding.{dynamic_at, number_of_target}
 use Rattle.js_bundle.specs.KeywordName.{keyword_names}
+use Rattle.js_bundle.specs.Location.{location}
 use Rattle.js_bundle.specs.Resource.{sites}
 use Rattle.js_bundle.specs.ResourceTable.{AreRooted, IsResourceTable}
 use Rattle.js_bundle.specs.Seen.{document_of}
@@ -10,9 +11,9 @@ use Rattle.js_bundle.specs.code.Column.{IsColumn}
 use Rattle.js_bundle.specs.code.Descent.{descents}
 use Rattle.js_bundle.specs.code.Grouped.{IsGrouped}
 use Rattle.js_bundle.specs.code.Index.{IsIndex}
+use Rattle.js_bundle.specs.code.Located.{IsLocated}
 use Rattle.js_bundle.specs.code.Scan.{site_of}
 use Rattle.js_bundle.specs.code.Spot.{spot}
-use Rattle.js_bundle.proofs.ExtendedLocation.{kept_locations}
 use Rattle.js_bundle.proofs.Rooted.{all_are_rooted}
 use Rattle.js_bundle.proofs.Whole.{lists_all, first_stops, second_stops, whole_clear}
 use Rattle.js_bundle.proofs.whole_check.check_whole.Goals as goal
@@ -37,13 +38,13 @@ returns-in_err-standing-clause-err c =
     let p = err_from_is_err_and c.from_residual-in_err-standing.result c.from_residual-in_err-standing.ensures.1 in
     rw (p.1, p.2) tt
 
-pub look_up-requires-clause-index : goal.look_up-requires-clause-index
-look_up-requires-clause-index c =
+pub look_up-requires-clause-located : goal.look_up-requires-clause-located
+look_up-requires-clause-located c =
     let ds = map document_of c.args.documents.now in
     let first : map site_of c.as_slice.result.now ≡ sites ds =
     lists_all ds (map site_of c.as_slice.result.now) (ap (map site_of) c.as_slice.ensures.value ∙ c.in_ok-sites.ensures) c.in_ok-passed.ensures.clear in
     let second : map site_of c.as_slice-2.result.now ≡ sites ds = ap (map site_of) (c.as_slice-2.ensures.value ∙ sym c.as_slice.ensures.value) ∙ first in
-    subst (IsIndex c.in_ok-passed.passed.index) (first ∙ sym second) c.in_ok-passed.ensures.index
+    subst (IsLocated c.in_ok-passed.passed.located) (first ∙ sym second) c.in_ok-passed.ensures.located
 
 pub look_up-requires-clause-keywords : goal.look_up-requires-clause-keywords
 look_up-requires-clause-keywords c =
@@ -58,7 +59,7 @@ look_up-requires-clause-rooted c =
     subst AreRooted (sym second) (all_are_rooted ds c.requires)
 
 pub standing_of-requires : goal.standing_of-requires
-standing_of-requires c = c.as_slice-3.ensures.value ∙ c.in_ok-passed.ensures.descents ∙ ap (λ ss. descents (map spot (map site_of ss))) c.as_slice.ensures.value
+standing_of-requires c = c.as_slice-3.ensures.value ∙ c.in_ok-passed.ensures.located.descents ∙ ap (λ ss. descents (map spot (map site_of ss))) c.as_slice.ensures.value
 
 pub returns-clause-clear : goal.returns-clause-clear
 returns-clause-clear c =
@@ -121,15 +122,14 @@ returns-clause-locations c =
     let ds = map document_of c.args.documents.now in
     let first : map site_of c.as_slice.result.now ≡ sites ds =
     lists_all ds (map site_of c.as_slice.result.now) (ap (map site_of) c.as_slice.ensures.value ∙ c.in_ok-sites.ensures) c.in_ok-passed.ensures.clear in
-    let all : map site_of c.in_ok-sites.sites.items ≡ sites ds = ap (map site_of) (sym c.as_slice.ensures.value) ∙ first in
-    kept_locations ds c.in_ok-standing.standing.locations.items (map site_of c.in_ok-sites.sites.items) c.in_ok-standing.ensures.locations all
+    c.in_ok-passed.ensures.located.locations ∙ ap (map location) first
 
 pub returns-clause-index : goal.returns-clause-index
 returns-clause-index c =
     let ds = map document_of c.args.documents.now in
     let first : map site_of c.as_slice.result.now ≡ sites ds =
     lists_all ds (map site_of c.as_slice.result.now) (ap (map site_of) c.as_slice.ensures.value ∙ c.in_ok-sites.ensures) c.in_ok-passed.ensures.clear in
-    subst (IsIndex c.in_ok-passed.passed.index) first c.in_ok-passed.ensures.index
+    subst (IsIndex c.in_ok-passed.passed.located.index) first c.in_ok-passed.ensures.located.index
 
 pub returns-clause-resources : goal.returns-clause-resources
 returns-clause-resources c =

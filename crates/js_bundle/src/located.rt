@@ -1,0 +1,83 @@
+//! What the first pass tells of where places stand.
+ghost use Rattle.std.specs.Prelude.{◌≡◌, ◌++◌, ◌∷◌, [], option_map, string_bytes, MatchOption, OnOk, IfOk};
+ghost use Rattle.js_bundle.specs.code.Descent as spec;
+ghost use Rattle.js_bundle.specs.code.Located.{AreTextsOf, IsLocated, IsLocatedNext};
+ghost use Rattle.js_bundle.specs.code.Scan.{site_of};
+ghost use Rattle.js_bundle.specs.code.Spot.{spot};
+ghost use Rattle.js_bundle.specs.Location.{location};
+
+use crate::descent::descends;
+use crate::index::Index;
+use crate::keys::key_after;
+use crate::location::location_after;
+use crate::resource_table::begins_resource;
+use crate::scan::Site;
+use js_doc::{Memory, Text};
+use std::alloc::Global;
+
+/// Where places stand, one after another.
+#[derive(Drop)]
+pub(crate) struct Located {
+    pub(crate) index: Index,
+    /// Of each place, whether it stands below the one before it.
+    pub(crate) descents: Vec<bool>,
+    /// Of each, whether it is the root of its own resource.
+    pub(crate) roots: Vec<bool>,
+    /// The absolute location of each.
+    pub(crate) locations: Vec<Text>,
+}
+
+/// The texts of a place, from which those of the next one go on.
+#[derive(Drop)]
+pub(crate) struct Texts {
+    /// The key of where it stands.
+    pub(crate) key: String,
+    pub(crate) location: String,
+}
+
+impl Texts {
+    pub(crate) fn new(alloc: Global) -> Texts {
+        Texts {
+            key: String::new(alloc),
+            location: String::new(alloc),
+        }
+    }
+}
+
+impl Located {
+    /// That of no places, with room for as many.
+    pub(crate) fn with_capacity(alloc: Global, places: usize) -> Result<Located, Memory>
+        ensures { IfOk result (λ l. IsLocated l []) }
+    {
+        Ok(Located {
+            index: Index::with_capacity(alloc, places)?,
+            descents: Vec::with_capacity(alloc, places)?,
+            roots: Vec::with_capacity(alloc, places)?,
+            locations: Vec::with_capacity(alloc, places)?,
+        })
+    }
+
+    /// Adds a place, and answers its texts. The other texts are those of the place before it.
+    pub(crate) fn add(
+        &mut self,
+        alloc: Global,
+        texts: Texts,
+        before: Option<&Site<'_>>,
+        site: &Site<'_>,
+        number: usize,
+    ) -> Result<Texts, Memory>
+        requires { MatchOption before (Unit {0}) (λ b. AreTextsOf texts (site_of b.now)) }
+        ensures texts { IfOk result (λ t. AreTextsOf t (site_of site.now)) }
+        ensures located { OnOk result (IsLocatedNext self.old (option_map (λ b. site_of b.now) before.entry) (site_of site.now) number self.new) }
+    {
+        let descends = descends(before, site);
+        self.descents.push(descends)?;
+        self.roots.push(begins_resource(site))?;
+        let Texts { key, location } = texts;
+        let key = key_after(key, before, site, descends)?;
+        self.index.add(alloc, site, number, key.clone()?)?;
+        let location = location_after(location, before, site, descends)?;
+        self.locations.push(Text::new(location.clone()?))?;
+        Ok(Texts { key, location })
+    }
+}
