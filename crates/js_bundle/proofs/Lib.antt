@@ -27,7 +27,7 @@ pub mod Finds
 pub mod Absent
 pub mod LeadingDown
 pub mod Ways
-pub mod BelowBefore
+pub mod Parents
 pub mod Columns
 pub mod Locating
 pub mod NoKeyword

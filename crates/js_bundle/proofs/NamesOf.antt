@@ -1,12 +1,15 @@
 -- The part of a place in the table of keywords is which keywords its own are.
-use Rattle.std.proofs.Common.{◌≡◌, ℕ, ◌<◌, List, ◌∷◌, map, get_or, length, slice_get, unwrap_or, sym, subst}
+use Rattle.std.proofs.Common.{◌≡◌, ℕ, ◌<◌, List, ◌∷◌, Some, map, get_or, length, option_map, slice_get, unwrap_or, sym, ap, ◌∙◌, subst}
+use Rattle.std.proofs.lemmas.Option.{slice_get-get_or, slice_get-map}
 use Rattle.js_bundle.specs.code.Grouped.{IsGrouped, IsPart}
 use Rattle.js_bundle.specs.declared.keyword_name.KeywordName.{KeywordName}
 use Rattle.js_bundle.specs.declared.scan.Site as rust
 use Rattle.js_bundle.specs.KeywordName.{keyword_names}
 use Rattle.js_bundle.specs.code.Scan.{site_of}
-use Rattle.js_bundle.proofs.BelowBefore.{there_at}
 use Rattle.js_bundle.proofs.Grouping.{part_there}
+
+there_at : {A B : Type 0} (f : A → B) (xs : List A) (i : ℕ) (x : A) → i < length xs → x ≡ get_or xs i x → slice_get (map f xs) i ≡ Some (f x)
+there_at f xs i x low is = slice_get-map f xs i ∙ ap (option_map f) (slice_get-get_or xs i x low ∙ ap Some (sym is))
 
 pub names_are : (ss : List rust.Site) (i : ℕ) (x : rust.Site) (listed : List KeywordName) (ending : List ℕ) (found names : List KeywordName) (ends : List ℕ)
     → IsGrouped keyword_names (map site_of ss) listed ending → i < length ss → x ≡ get_or ss i x → names ≡ listed → ends ≡ ending

@@ -1,12 +1,9 @@
 //! What the first pass tells of where places stand.
-ghost use Rattle.std.specs.Prelude.{◌≡◌, ◌++◌, ◌∷◌, [], option_map, string_bytes, MatchOption, OnOk, IfOk};
-ghost use Rattle.js_bundle.specs.code.Descent as spec;
-ghost use Rattle.js_bundle.specs.code.Located.{AreTextsOf, IsLocated, IsLocatedNext};
+ghost use Rattle.std.specs.Prelude.{[], map, option_map, MatchOption, OnOk, IfOk};
+ghost use Rattle.js_bundle.specs.code.Located.{AreTextsOf, IsLast, IsLocated, IsLocatedNext};
 ghost use Rattle.js_bundle.specs.code.Scan.{site_of};
-ghost use Rattle.js_bundle.specs.code.Spot.{spot};
-ghost use Rattle.js_bundle.specs.Location.{location};
 
-use crate::descent::descends;
+use crate::descent::{descends, parent_of};
 use crate::index::Index;
 use crate::keys::key_after;
 use crate::location::location_after;
@@ -19,12 +16,14 @@ use std::alloc::Global;
 #[derive(Drop)]
 pub(crate) struct Located {
     pub(crate) index: Index,
-    /// Of each place, whether it stands below the one before it.
-    pub(crate) descents: Vec<bool>,
+    /// Of each place, the number of the one that it stands directly below.
+    pub(crate) parents: Vec<Option<usize>>,
     /// Of each, whether it is the root of its own resource.
     pub(crate) roots: Vec<bool>,
     /// The absolute location of each.
     pub(crate) locations: Vec<Text>,
+    /// The numbers of the last place and of those above it, the lowest last.
+    way: Vec<usize>,
 }
 
 /// The texts of a place, from which those of the next one go on.
@@ -51,9 +50,10 @@ impl Located {
     {
         Ok(Located {
             index: Index::with_capacity(alloc, places)?,
-            descents: Vec::with_capacity(alloc, places)?,
+            parents: Vec::with_capacity(alloc, places)?,
             roots: Vec::with_capacity(alloc, places)?,
             locations: Vec::with_capacity(alloc, places)?,
+            way: Vec::new(alloc),
         })
     }
 
@@ -62,20 +62,23 @@ impl Located {
         &mut self,
         alloc: Global,
         texts: Texts,
+        earlier: &[Site<'_>],
         before: Option<&Site<'_>>,
         site: &Site<'_>,
-        number: usize,
     ) -> Result<Texts, Memory>
-        requires { MatchOption before (Unit {0}) (λ b. AreTextsOf texts (site_of b.now)) }
+        requires texts { MatchOption before (Unit {0}) (λ b. AreTextsOf texts (site_of b.now)) }
+        requires before { IsLast (map site_of earlier.now) (option_map (λ b. site_of b.now) before) }
         ensures texts { IfOk result (λ t. AreTextsOf t (site_of site.now)) }
-        ensures located { OnOk result (IsLocatedNext self.old (option_map (λ b. site_of b.now) before.entry) (site_of site.now) number self.new) }
+        ensures located { OnOk result (IsLocatedNext self.old (map site_of earlier.now) (site_of site.now) self.new) }
     {
         let descends = descends(before, site);
-        self.descents.push(descends)?;
+        let parent = parent_of(&mut self.way, earlier, site, descends);
+        self.parents.push(parent)?;
+        self.way.push(earlier.len())?;
         self.roots.push(begins_resource(site))?;
         let Texts { key, location } = texts;
         let key = key_after(key, before, site, descends)?;
-        self.index.add(alloc, site, number, key.clone()?)?;
+        self.index.add(alloc, site, earlier.len(), key.clone()?)?;
         let location = location_after(location, before, site, descends)?;
         self.locations.push(Text::new(location.clone()?))?;
         Ok(Texts { key, location })

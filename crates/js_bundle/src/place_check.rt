@@ -8,7 +8,7 @@ ghost use Rattle.js_bundle.specs.Candidate.{IsClear, IsStopped};
 ghost use Rattle.js_bundle.specs.Form.{is_formed};
 ghost use Rattle.js_bundle.specs.code.Grouped.{IsGrouped};
 ghost use Rattle.js_bundle.specs.code.Index.{IsIndex};
-ghost use Rattle.js_bundle.specs.code.Located.{AreTextsOf, IsLocated, IsLocatedNext};
+ghost use Rattle.js_bundle.specs.code.Located.{AreTextsOf, IsLast, IsLocated, IsLocatedNext};
 ghost use Rattle.js_bundle.specs.Keyword.{keywords};
 ghost use Rattle.js_bundle.specs.KeywordName.{keyword_names};
 ghost use Rattle.js_bundle.specs.Refusals.{when, decided, on_text, text_rules, at_member, at_site, first_pass};
@@ -224,6 +224,7 @@ impl Passed {
     ) -> Result<Texts, Fault>
         requires index { IsIndex self.old.located.index (map site_of earlier.now) }
         requires texts { MatchOption before (Unit {0}) (λ b. AreTextsOf texts (site_of b.now)) }
+        requires before { IsLast (map site_of earlier.now) (option_map (λ b. site_of b.now) before) }
         ensures clear { OnOk result (IsClear (at_site (map site_of earlier.now) (site_of site.now))) }
         ensures texts { IfOk result (λ t. AreTextsOf t (site_of site.now)) }
         ensures assertions { OnOk result (self.new.built.all.assertions.items
@@ -234,8 +235,7 @@ impl Passed {
             ≡ self.old.built.all.patterns.items ++ patterns_at (site_of site.now)) }
         ensures pattern_ends { OnOk result (self.new.built.pattern_ends.items
             ≡ self.old.built.pattern_ends.items ++ length self.new.built.all.patterns.items ∷ []) }
-        ensures located { OnOk result (IsLocatedNext self.old.located (option_map (λ b. site_of b.now) before.entry)
-            (site_of site.now) (length earlier.now) self.new.located) }
+        ensures located { OnOk result (IsLocatedNext self.old.located (map site_of earlier.now) (site_of site.now) self.new.located) }
         ensures names { OnOk result (self.new.keywords.names.items
             ≡ self.old.keywords.names.items ++ keyword_names (site_of site.now)) }
         ensures ends { OnOk result (self.new.keywords.ends.items
@@ -246,7 +246,7 @@ impl Passed {
         let index = &self.located.index;
         check_site(alloc, &mut self.built.all, index, earlier, site)?;
         self.built.end_place()?;
-        let texts = self.located.add(alloc, texts, before, site, earlier.len())?;
+        let texts = self.located.add(alloc, texts, earlier, before, site)?;
         Ok(texts)
     }
 }

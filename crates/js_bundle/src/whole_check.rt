@@ -3,6 +3,7 @@ ghost use Rattle.std.specs.Prelude.{◌≡◌, ◌++◌, [], ◌∷◌, codes, m
 ghost use Rattle.js_bundle.specs.AssertionsAndPatterns.{assertions_at, patterns_at};
 ghost use Rattle.js_bundle.specs.Candidate.{IsClear, IsStopped};
 ghost use Rattle.js_bundle.specs.code.Column.{IsColumn};
+ghost use Rattle.js_bundle.specs.code.Descent.{LeadUp};
 ghost use Rattle.js_bundle.specs.code.Edges.{LeadDown};
 ghost use Rattle.js_bundle.specs.Finding.{dynamic_at, number_of_target};
 ghost use Rattle.js_bundle.specs.code.Grouped.{IsGrouped};
@@ -15,7 +16,6 @@ ghost use Rattle.js_bundle.specs.Resource.{sites};
 ghost use Rattle.js_bundle.specs.ResourceTable.{AreRooted, IsResourceTable};
 ghost use Rattle.js_bundle.specs.code.Scan.{site_of};
 ghost use Rattle.js_bundle.specs.Seen.{document_of, AreRead};
-ghost use Rattle.js_bundle.specs.code.Descent as spec;
 ghost use Rattle.js_bundle.specs.code.Spot.{spot, spot_of};
 
 use crate::assertions_and_patterns::BuiltTable;
@@ -126,14 +126,18 @@ struct Standing {
     edges: Vec<Edges>,
 }
 
-// The same of these places. It is told of each whether it stands below the one before it.
-fn standing_of(alloc: Global, sites: Vec<Site<'_>>, descents: &[bool]) -> Result<Standing, Memory>
-    requires { descents.now ≡ spec.descents (map spot (map site_of sites.items)) }
+// The same of these places. It is told of each which one it stands directly below.
+fn standing_of(
+    alloc: Global,
+    sites: Vec<Site<'_>>,
+    parents: &[Option<usize>],
+) -> Result<Standing, Memory>
+    requires { LeadUp parents.now (map spot (map site_of sites.items)) }
     ensures spots { IfOk result (λ s. map spot_of s.spots.items ≡ map spot (map site_of sites.entry.items)) }
     ensures edges { IfOk result (λ s. LeadDown s.edges.items (map spot_of s.spots.items)) }
 {
     let spots = spots_of(alloc, sites)?;
-    let edges = edges_of(alloc, spots.as_slice(), descents)?;
+    let edges = edges_of(alloc, spots.as_slice(), parents)?;
     Ok(Standing { spots, edges })
 }
 
@@ -165,7 +169,7 @@ pub(crate) fn check_whole(alloc: Global, documents: &[Document]) -> Result<Check
     let sites = scan(alloc, documents)?;
     let passed = first_pass(alloc, sites.as_slice())?;
     let found = look_up(alloc, &passed.located, sites.as_slice(), &passed.keywords)?;
-    let standing = standing_of(alloc, sites, passed.located.descents.as_slice())?;
+    let standing = standing_of(alloc, sites, passed.located.parents.as_slice())?;
     Ok(Checked {
         spots: standing.spots,
         built: passed.built,

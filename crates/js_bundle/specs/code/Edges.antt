@@ -1,6 +1,6 @@
 -- The ways from each place to those below it, by their numbers.
-use Rattle.std.specs.Prelude.{◌≡◌, ℕ, List, [], ◌∷◌, Bool, true, false, ◌&&◌, ◌==◌, bytes_eq, drop, Some, slice_get}
-use Rattle.std.specs.List.{list_all, position_from}
+use Rattle.std.specs.Prelude.{◌≡◌, ℕ, List, [], ◌∷◌, ◌++◌, length, Bool, true, false, ◌&&◌, ◌==◌, bytes_eq, drop, Some, slice_get}
+use Rattle.std.specs.List.{AllByRecursion, list_all, position_from}
 use Rattle.std.specs.Option.{option_map_or}
 use Rattle.js_doc.specs.Pointer.{Tokens}
 use Rattle.js_bundle.specs.declared.edges.Edges.{Edges}
@@ -28,6 +28,16 @@ edges_under edges n = option_map_or (λ e. e.places.items) (slice_get edges n) [
 
 pub record LeadDown (edges : List Edges) (places : List Spot) : Type 0 where
   pub down : (n : ℕ) (above : Spot) → slice_get places n ≡ Some above → list_all (leads_down above places) (edges_under edges n) ≡ true
+
+-- no place has an edge
+abbrev pub AreBare : List Edges → Type 0
+AreBare edges = AllByRecursion (λ e. e.places.items ≡ []) edges
+
+-- the place of the one number has an edge more, to that of the other
+pub record IsLinked (old : List Edges) (above place : ℕ) (new : List Edges) : Type 0 where
+  pub many : length new ≡ length old
+  pub here : (a b : Edges) → slice_get old above ≡ Some a → slice_get new above ≡ Some b → b.places.items ≡ a.places.items ++ place ∷ []
+  pub others : (n : ℕ) → ¬ (n ≡ above) → slice_get new n ≡ slice_get old n
 
 -- the place of this number goes on by the step through a keyword, after so many tokens
 abbrev pub goes_by : ℕ → Text → Step → List Spot → ℕ → Bool

@@ -1,9 +1,9 @@
--- Where places stand, as the first pass tells it: their keys in the index, which stand below the one before, which are
--- roots of resources, and their absolute locations.
-use Rattle.std.specs.Prelude.{◌≡◌, ℕ, List, [], ◌∷◌, ◌++◌, Option, map, option_map, string_bytes}
+-- Where places stand, as the first pass tells it: their keys in the index, which place each stands directly below, which
+-- are roots of resources, and their absolute locations.
+use Rattle.std.specs.Prelude.{◌≡◌, ℕ, ◌-◌, List, [], ◌∷◌, ◌++◌, length, Option, true, map, slice_get, string_bytes, MatchOption}
 use Rattle.js_bundle.specs.declared.located.Located.{Located}
 use Rattle.js_bundle.specs.declared.located.Texts.{Texts}
-use Rattle.js_bundle.specs.code.Descent.{descends, descents}
+use Rattle.js_bundle.specs.code.Descent.{LeadUp, stands_under}
 use Rattle.js_bundle.specs.code.Index.{IsAdded, IsIndex, place_key}
 use Rattle.js_bundle.specs.code.Spot.{spot}
 use Rattle.js_bundle.specs.Location.{location}
@@ -16,13 +16,24 @@ pub record AreTextsOf (texts : Texts) (place : Site) : Type 0 where
 
 pub record IsLocated (located : Located) (all : List Site) : Type 0 where
   pub index : IsIndex located.index all
-  pub descents : located.descents.items ≡ descents (map spot all)
+  pub many : length located.parents.items ≡ length all
+  pub parents : LeadUp located.parents.items (map spot all)
   pub roots : located.roots.items ≡ map begins_resource all
   pub locations : located.locations.items ≡ map location all
 
--- a place more, after this one
-pub record IsLocatedNext (old : Located) (before : Option Site) (place : Site) (n : ℕ) (new : Located) : Type 0 where
-  pub index : IsAdded old.index place n new.index
-  pub descents : new.descents.items ≡ old.descents.items ++ descends (option_map spot before) (spot place) ∷ []
+-- the last of these, if there is one
+abbrev pub IsLast : List Site → Option Site → Type 0
+IsLast places last = last ≡ slice_get places (length places - 1)
+
+-- of a place one before it that it stands below, or none
+abbrev pub IsParent : List Site → Site → Option ℕ → Type 0
+IsParent before place parent = MatchOption parent (Unit {0}) (λ n. stands_under (map spot before) n (spot place) ≡ true)
+
+-- a place more, after these
+pub record IsLocatedNext (old : Located) (before : List Site) (place : Site) (new : Located) : Type 0 where
+  pub index : IsAdded old.index place (length before) new.index
+  pub parent : Option ℕ
+  pub parents : new.parents.items ≡ old.parents.items ++ parent ∷ []
+  pub above : IsParent before place parent
   pub roots : new.roots.items ≡ old.roots.items ++ begins_resource place ∷ []
   pub locations : new.locations.items ≡ old.locations.items ++ location place ∷ []

@@ -1,4 +1,4 @@
-use Rattle.std.proofs.Common.{◌+◌, [], map, take, drop, option_map, arith}
+use Rattle.std.proofs.Common.{◌+◌, [], map, take, drop, arith}
 use Rattle.std.proofs.lemmas.Result.{err_from_is_err_and}
 use Rattle.js_bundle.specs.AssertionsAndPatterns.{assertions_at, patterns_at}
 use Rattle.js_bundle.specs.KeywordName.{keyword_names}
@@ -6,6 +6,7 @@ use Rattle.js_bundle.specs.Refusals.{at_site, first_pass}
 use Rattle.js_bundle.specs.code.Scan.{site_of}
 use Rattle.js_bundle.proofs.Grouping.{grouped_next}
 use Rattle.js_bundle.proofs.Locating.{located_next, located_whole}
+use Rattle.js_bundle.proofs.Parents.{last_more}
 use Rattle.js_bundle.proofs.Passes.{site_next}
 use Rattle.js_bundle.proofs.Stopping.{leads_past, leads_stop}
 use Rattle.js_bundle.proofs.place_check.first_pass.Goals as goal
@@ -38,9 +39,10 @@ loop-i-preserved c =
           e.patterns e.pattern_ends l.invariant.patterns;
       keywords = grouped_next keyword_names ss l.i x old.keywords.names.items new.keywords.names.items old.keywords.ends.items new.keywords.ends.items (omega arith) c.index-sites-i.is
           e.names e.ends l.invariant.keywords;
-      located = located_next ss l.i x (option_map (λ b. site_of b.now) l.before) old.located new.located (omega arith) c.index-sites-i.is e.located l.invariant.located;
+      located = located_next ss l.i x old.located new.located (omega arith) c.index-sites-i.is e.located l.invariant.located;
+      before = last_more ss l.i x (omega arith) c.index-sites-i.is;
       texts = e.texts;
     }
 
 pub returns-clause-located : goal.returns-clause-located
-returns-clause-located c = located_whole c.args.sites.now c.loop-i.i (option_map (λ b. site_of b.now) c.loop-i.before) c.loop-i.passed.located (omega arith) c.loop-i.invariant.located
+returns-clause-located c = located_whole c.args.sites.now c.loop-i.i c.loop-i.passed.located (omega arith) c.loop-i.invariant.located

@@ -1,6 +1,6 @@
 use Rattle.std.proofs.Common.{[], map, take, drop, option_map, MatchOption}
 use Rattle.js_bundle.specs.AssertionsAndPatterns.{assertions_at, patterns_at}
-use Rattle.js_bundle.specs.code.Located.{AreTextsOf}
+use Rattle.js_bundle.specs.code.Located.{AreTextsOf, IsLast}
 use Rattle.js_bundle.specs.code.Leads.{Leads}
 use Rattle.js_bundle.specs.KeywordName.{keyword_names}
 use Rattle.js_bundle.specs.Refusals.{first_pass}
@@ -18,6 +18,7 @@ invariant-loop-i l =
       assertions : AreGrouped assertions_at l.sites l.i l.passed.built.all.assertions.items l.passed.built.assertion_ends.items;
       patterns : AreGrouped patterns_at l.sites l.i l.passed.built.all.patterns.items l.passed.built.pattern_ends.items;
       keywords : AreGrouped keyword_names l.sites l.i l.passed.keywords.names.items l.passed.keywords.ends.items;
-      located : AreLocated l.sites l.i (option_map (λ b. site_of b.now) l.before) l.passed.located;
+      located : AreLocated l.sites l.i l.passed.located;
+      before : IsLast (map site_of (take l.i l.sites)) (option_map (λ b. site_of b.now) l.before);
       texts : MatchOption l.before (Unit {0}) (λ b. AreTextsOf l.texts (site_of b.now));
     }

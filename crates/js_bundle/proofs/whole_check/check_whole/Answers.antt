@@ -8,7 +8,7 @@ use Rattle.js_bundle.specs.Resource.{sites}
 use Rattle.js_bundle.specs.ResourceTable.{AreRooted, IsResourceTable}
 use Rattle.js_bundle.specs.Seen.{document_of}
 use Rattle.js_bundle.specs.code.Column.{IsColumn}
-use Rattle.js_bundle.specs.code.Descent.{descents}
+use Rattle.js_bundle.specs.code.Descent.{LeadUp}
 use Rattle.js_bundle.specs.code.Grouped.{IsGrouped}
 use Rattle.js_bundle.specs.code.Index.{IsIndex}
 use Rattle.js_bundle.specs.code.Located.{IsLocated}
@@ -59,7 +59,9 @@ look_up-requires-clause-rooted c =
     subst AreRooted (sym second) (all_are_rooted ds c.requires)
 
 pub standing_of-requires : goal.standing_of-requires
-standing_of-requires c = c.as_slice-3.ensures.value ∙ c.in_ok-passed.ensures.located.descents ∙ ap (λ ss. descents (map spot (map site_of ss))) c.as_slice.ensures.value
+standing_of-requires c =
+    subst (λ ps. LeadUp ps (map spot (map site_of c.in_ok-sites.sites.items))) (sym c.as_slice-3.ensures.value)
+    (subst (λ ss. LeadUp c.in_ok-passed.passed.located.parents.items (map spot (map site_of ss))) c.as_slice.ensures.value c.in_ok-passed.ensures.located.parents)
 
 pub returns-clause-clear : goal.returns-clause-clear
 returns-clause-clear c =
