@@ -25,13 +25,14 @@ pub(crate) struct Index {
 }
 
 impl Index {
-    /// That of no places, with room for as many.
+    /// That of no places, with room for the keys of as many.
     pub(crate) fn with_capacity(alloc: Global, places: usize) -> Result<Index, Memory>
         ensures { IfOk result (λ i. IsIndex i []) }
     {
+        let places = Numbering::with_capacity(alloc, places)?;
         Ok(Index {
             known: Numbering::new(alloc),
-            places: Numbering::with_capacity(alloc, places)?,
+            places,
             names: Numbering::new(alloc),
         })
     }

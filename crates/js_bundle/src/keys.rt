@@ -15,19 +15,18 @@ use std::alloc::Global;
 pub(crate) fn place_key(alloc: Global, document: usize, pointer: &Pointer) -> Result<String, Memory>
     ensures { IfOk result (λ t. string_bytes t ≡ place_key document pointer.now) }
 {
-    let key = String::with_capacity(alloc, room_for(pointer.tokens()))?;
-    written_key(key, document, pointer)
+    let mut key = String::with_capacity(alloc, room_for(pointer.tokens()))?;
+    write_key(&mut key, document, pointer)?;
+    Ok(key)
 }
 
 // The same, written in the place of what the text has.
-fn written_key(key: String, document: usize, pointer: &Pointer) -> Result<String, Memory>
-    ensures { IfOk result (λ t. string_bytes t ≡ place_key document pointer.now) }
+fn write_key(key: &mut String, document: usize, pointer: &Pointer) -> Result<(), Memory>
+    ensures { OnOk result (string_bytes key.new ≡ place_key document pointer.now) }
 {
-    let mut key = key;
     key.clear();
-    push_document(&mut key, document)?;
-    push_tokens(&mut key, pointer.tokens(), 0)?;
-    Ok(key)
+    push_document(key, document)?;
+    push_tokens(key, pointer.tokens(), 0)
 }
 
 /// The key of a name in the resource that has its root at the pointer.
@@ -72,33 +71,27 @@ fn push_tokens(key: &mut String, tokens: &[Token], from: usize) -> Result<(), Me
     Ok(())
 }
 
-/// The key of a place, from that of the one before it: where it stands below that one, it goes on from there.
-pub(crate) fn key_after(
-    key: String,
+/// Makes the key of a place of that of the one before it: where it stands below that one, it goes on from there.
+pub(crate) fn next_key(
+    key: &mut String,
     before: Option<&Site<'_>>,
     site: &Site<'_>,
     descends: bool,
-) -> Result<String, Memory>
-    requires key { MatchOption before (Unit {0}) (λ b. string_bytes key ≡ place_key b.now.document b.now.pointer.value) }
+) -> Result<(), Memory>
+    requires key { MatchOption before (Unit {0}) (λ b. string_bytes key.old ≡ place_key b.now.document b.now.pointer.value) }
     requires descends { descends ≡ spec.descends (option_map (λ b. spot (site_of b.now)) before) (spot (site_of site.now)) }
-    ensures { IfOk result (λ t. string_bytes t ≡ place_key site.now.document site.now.pointer.value) }
+    ensures { OnOk result (string_bytes key.new ≡ place_key site.now.document site.now.pointer.value) }
 {
     match before {
-        Some(before) if descends => extended_key(key, before, site),
-        _ => written_key(key, site.document, &site.pointer),
+        Some(before) if descends => extend_key(key, before, site),
+        _ => write_key(key, site.document, &site.pointer),
     }
 }
 
-fn extended_key(key: String, before: &Site<'_>, site: &Site<'_>) -> Result<String, Memory>
+fn extend_key(key: &mut String, before: &Site<'_>, site: &Site<'_>) -> Result<(), Memory>
     requires below { is_below (spot (site_of before.now)) (spot (site_of site.now)) ≡ true }
-    requires key { string_bytes key ≡ place_key before.now.document before.now.pointer.value }
-    ensures { IfOk result (λ t. string_bytes t ≡ place_key site.now.document site.now.pointer.value) }
+    requires key { string_bytes key.old ≡ place_key before.now.document before.now.pointer.value }
+    ensures { OnOk result (string_bytes key.new ≡ place_key site.now.document site.now.pointer.value) }
 {
-    let mut key = key;
-    push_tokens(
-        &mut key,
-        site.pointer.tokens(),
-        before.pointer.tokens().len(),
-    )?;
-    Ok(key)
+    push_tokens(key, site.pointer.tokens(), before.pointer.tokens().len())
 }

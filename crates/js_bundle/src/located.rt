@@ -5,8 +5,8 @@ ghost use Rattle.js_bundle.specs.code.Scan.{site_of};
 
 use crate::descent::{descends, parent_of};
 use crate::index::Index;
-use crate::keys::key_after;
-use crate::location::location_after;
+use crate::keys::next_key;
+use crate::location::next_location;
 use crate::resource_table::begins_resource;
 use crate::scan::Site;
 use js_doc::{Memory, Text};
@@ -44,31 +44,32 @@ impl Texts {
 }
 
 impl Located {
-    /// That of no places, with room for as many.
+    /// That of no places, whose index has room for as many.
     pub(crate) fn with_capacity(alloc: Global, places: usize) -> Result<Located, Memory>
         ensures { IfOk result (λ l. IsLocated l []) }
     {
+        let index = Index::with_capacity(alloc, places)?;
         Ok(Located {
-            index: Index::with_capacity(alloc, places)?,
-            parents: Vec::with_capacity(alloc, places)?,
-            roots: Vec::with_capacity(alloc, places)?,
-            locations: Vec::with_capacity(alloc, places)?,
+            index,
+            parents: Vec::new(alloc),
+            roots: Vec::new(alloc),
+            locations: Vec::new(alloc),
             way: Vec::new(alloc),
         })
     }
 
-    /// Adds a place, and answers its texts. The other texts are those of the place before it.
+    /// Adds a place, and makes its texts of those of the place before it.
     pub(crate) fn add(
         &mut self,
         alloc: Global,
-        texts: Texts,
+        texts: &mut Texts,
         earlier: &[Site<'_>],
         before: Option<&Site<'_>>,
         site: &Site<'_>,
-    ) -> Result<Texts, Memory>
-        requires texts { MatchOption before (Unit {0}) (λ b. AreTextsOf texts (site_of b.now)) }
+    ) -> Result<(), Memory>
+        requires texts { MatchOption before (Unit {0}) (λ b. AreTextsOf texts.old (site_of b.now)) }
         requires before { IsLast (map site_of earlier.now) (option_map (λ b. site_of b.now) before) }
-        ensures texts { IfOk result (λ t. AreTextsOf t (site_of site.now)) }
+        ensures texts { OnOk result (AreTextsOf texts.new (site_of site.now)) }
         ensures located { OnOk result (IsLocatedNext self.old (map site_of earlier.now) (site_of site.now) self.new) }
     {
         let descends = descends(before, site);
@@ -76,11 +77,11 @@ impl Located {
         self.parents.push(parent)?;
         self.way.push(earlier.len())?;
         self.roots.push(begins_resource(site))?;
-        let Texts { key, location } = texts;
-        let key = key_after(key, before, site, descends)?;
-        self.index.add(alloc, site, earlier.len(), key.clone()?)?;
-        let location = location_after(location, before, site, descends)?;
-        self.locations.push(Text::new(location.clone()?))?;
-        Ok(Texts { key, location })
+        next_key(&mut texts.key, before, site, descends)?;
+        self.index
+            .add(alloc, site, earlier.len(), texts.key.clone()?)?;
+        next_location(&mut texts.location, before, site, descends)?;
+        self.locations.push(Text::new(texts.location.clone()?))?;
+        Ok(())
     }
 }

@@ -26,26 +26,26 @@ pub(crate) fn absolute(
     ensures { IfOk result (λ t. string_bytes t ≡ printed scope.now.base
         ++ (codes "#" ++ fragment_text (drop (length scope.now.resource) pointer.now ++ tokens_of keyword.entry))) }
 {
-    written(String::new(alloc), scope, pointer, keyword)
+    let mut text = String::new(alloc);
+    write(&mut text, scope, pointer, keyword)?;
+    Ok(text)
 }
 
 // The same, written in the place of what the text has.
-fn written(
-    text: String,
+fn write(
+    text: &mut String,
     scope: &Scope,
     pointer: &Pointer,
     keyword: Option<&str>,
-) -> Result<String, Memory>
-    ensures { IfOk result (λ t. string_bytes t ≡ printed scope.now.base
+) -> Result<(), Memory>
+    ensures { OnOk result (string_bytes text.new ≡ printed scope.now.base
         ++ (codes "#" ++ fragment_text (drop (length scope.now.resource) pointer.now ++ tokens_of keyword.entry))) }
 {
-    let mut text = text;
     text.clear();
     text.push_str(uri::text_of(&scope.base))?;
     text.push('#')?;
-    push_way(&mut text, pointer.tokens(), scope.resource.tokens().len())?;
-    push_keyword(&mut text, keyword)?;
-    Ok(text)
+    push_way(text, pointer.tokens(), scope.resource.tokens().len())?;
+    push_keyword(text, keyword)
 }
 
 // The tokens after the first ones, as a fragment.
@@ -87,35 +87,29 @@ fn has_depth_of(above: &Site<'_>, site: &Site<'_>) -> bool
     depth == site.own.resource.tokens().len() && depth <= above.pointer.tokens().len()
 }
 
-/// The location of a place, from that of the one before it: where it stands below that one in the same resource, it goes
-/// on from there.
-pub(crate) fn location_after(
-    text: String,
+/// Makes the location of a place of that of the one before it: where it stands below that one in the same resource, it
+/// goes on from there.
+pub(crate) fn next_location(
+    text: &mut String,
     before: Option<&Site<'_>>,
     site: &Site<'_>,
     descends: bool,
-) -> Result<String, Memory>
-    requires text { MatchOption before (Unit {0}) (λ b. string_bytes text ≡ location (site_of b.now)) }
+) -> Result<(), Memory>
+    requires text { MatchOption before (Unit {0}) (λ b. string_bytes text.old ≡ location (site_of b.now)) }
     requires descends { descends ≡ spec.descends (option_map (λ b. spot (site_of b.now)) before) (spot (site_of site.now)) }
-    ensures { IfOk result (λ t. string_bytes t ≡ location (site_of site.now)) }
+    ensures { OnOk result (string_bytes text.new ≡ location (site_of site.now)) }
 {
     match before {
-        Some(above) if descends && is_beside(above, site) => extended_location(text, above, site),
-        _ => written(text, &site.own, &site.pointer, None),
+        Some(above) if descends && is_beside(above, site) => extend(text, above, site),
+        _ => write(text, &site.own, &site.pointer, None),
     }
 }
 
-fn extended_location(text: String, above: &Site<'_>, site: &Site<'_>) -> Result<String, Memory>
+fn extend(text: &mut String, above: &Site<'_>, site: &Site<'_>) -> Result<(), Memory>
     requires below { is_below (spot (site_of above.now)) (spot (site_of site.now)) ≡ true }
     requires beside { is_beside (spot (site_of above.now)) (spot (site_of site.now)) ≡ true }
-    requires text { string_bytes text ≡ location (site_of above.now) }
-    ensures { IfOk result (λ t. string_bytes t ≡ location (site_of site.now)) }
+    requires text { string_bytes text.old ≡ location (site_of above.now) }
+    ensures { OnOk result (string_bytes text.new ≡ location (site_of site.now)) }
 {
-    let mut text = text;
-    push_way(
-        &mut text,
-        site.pointer.tokens(),
-        above.pointer.tokens().len(),
-    )?;
-    Ok(text)
+    push_way(text, site.pointer.tokens(), above.pointer.tokens().len())
 }

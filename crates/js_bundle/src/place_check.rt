@@ -196,7 +196,7 @@ pub(crate) struct Passed {
 }
 
 impl Passed {
-    // That of no places, with room for as many.
+    // That of no places, whose index has room for as many.
     fn with_capacity(alloc: Global, places: usize) -> Result<Passed, Memory>
         ensures assertions { IfOk result (λ p. p.built.all.assertions.items ≡ []) }
         ensures assertion_ends { IfOk result (λ p. p.built.assertion_ends.items ≡ []) }
@@ -206,27 +206,28 @@ impl Passed {
         ensures names { IfOk result (λ p. p.keywords.names.items ≡ []) }
         ensures ends { IfOk result (λ p. p.keywords.ends.items ≡ []) }
     {
+        let located = Located::with_capacity(alloc, places)?;
         Ok(Passed {
-            built: BuiltTable::with_capacity(alloc, places)?,
-            located: Located::with_capacity(alloc, places)?,
-            keywords: KeywordTable::with_capacity(alloc, places)?,
+            built: BuiltTable::new(alloc),
+            located,
+            keywords: KeywordTable::new(alloc),
         })
     }
 
-    // Goes one place further, and answers its texts. The other texts are those of the place before it.
+    // Goes one place further, and makes its texts of those of the place before it.
     fn pass(
         &mut self,
         alloc: Global,
         earlier: &[Site<'_>],
-        texts: Texts,
+        texts: &mut Texts,
         before: Option<&Site<'_>>,
         site: &Site<'_>,
-    ) -> Result<Texts, Fault>
+    ) -> Result<(), Fault>
         requires index { IsIndex self.old.located.index (map site_of earlier.now) }
-        requires texts { MatchOption before (Unit {0}) (λ b. AreTextsOf texts (site_of b.now)) }
+        requires texts { MatchOption before (Unit {0}) (λ b. AreTextsOf texts.old (site_of b.now)) }
         requires before { IsLast (map site_of earlier.now) (option_map (λ b. site_of b.now) before) }
         ensures clear { OnOk result (IsClear (at_site (map site_of earlier.now) (site_of site.now))) }
-        ensures texts { IfOk result (λ t. AreTextsOf t (site_of site.now)) }
+        ensures texts { OnOk result (AreTextsOf texts.new (site_of site.now)) }
         ensures assertions { OnOk result (self.new.built.all.assertions.items
             ≡ self.old.built.all.assertions.items ++ assertions_at (site_of site.now)) }
         ensures assertion_ends { OnOk result (self.new.built.assertion_ends.items
@@ -246,8 +247,8 @@ impl Passed {
         let index = &self.located.index;
         check_site(alloc, &mut self.built.all, index, earlier, site)?;
         self.built.end_place()?;
-        let texts = self.located.add(alloc, texts, earlier, before, site)?;
-        Ok(texts)
+        self.located.add(alloc, texts, earlier, before, site)?;
+        Ok(())
     }
 }
 
@@ -267,7 +268,7 @@ pub(crate) fn first_pass(alloc: Global, sites: &[Site<'_>]) -> Result<Passed, Fa
     let mut before = None;
     for i in 0..sites.len() {
         let site = &sites[i];
-        texts = passed.pass(alloc, &sites[..i], texts, before, site)?;
+        passed.pass(alloc, &sites[..i], &mut texts, before, site)?;
         before = Some(site);
     }
     Ok(passed)

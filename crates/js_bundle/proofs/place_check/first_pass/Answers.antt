@@ -11,15 +11,15 @@ use Rattle.js_bundle.proofs.Passes.{site_next}
 use Rattle.js_bundle.proofs.Stopping.{leads_past, leads_stop}
 use Rattle.js_bundle.proofs.place_check.first_pass.Goals as goal
 
-pub returns-in_err-texts-clause-err : goal.returns-in_err-texts-clause-err
-returns-in_err-texts-clause-err c =
+pub returns-in_err-pass-clause-err : goal.returns-in_err-pass-clause-err
+returns-in_err-pass-clause-err c =
     let l = c.loop-i in
     let ss = c.args.sites.now in
     let x = c.index-sites-i.result in
     let whole = first_pass [] (map site_of ss) in
-    let p = err_from_is_err_and c.from_residual-in_err-texts.result c.from_residual-in_err-texts.ensures.1 in
-    rw (p.1, p.2) (leads_stop whole (at_site (map site_of (take l.i ss)) (site_of x)) (first_pass (map site_of (take (l.i + 1) ss)) (map site_of (drop (l.i + 1) ss))) c.in_err-texts.field-0.0
-    (site_next ss l.i x whole (omega arith) c.index-sites-i.is l.invariant.leads) c.in_err-texts.ensures.err)
+    let p = err_from_is_err_and c.from_residual-in_err-pass.result c.from_residual-in_err-pass.ensures.1 in
+    rw (p.1, p.2) (leads_stop whole (at_site (map site_of (take l.i ss)) (site_of x)) (first_pass (map site_of (take (l.i + 1) ss)) (map site_of (drop (l.i + 1) ss))) c.in_err-pass.field-0.0
+    (site_next ss l.i x whole (omega arith) c.index-sites-i.is l.invariant.leads) c.in_err-pass.ensures.err)
 
 pub loop-i-preserved : goal.loop-i-preserved
 loop-i-preserved c =
@@ -29,7 +29,7 @@ loop-i-preserved c =
     let whole = first_pass [] (map site_of ss) in
     let old = l.passed in
     let new = c.pass.new.self in
-    let e = c.in_ok-texts.ensures in
+    let e = c.in_ok-pass.ensures in
     record {
       leads = leads_past whole (at_site (map site_of (take l.i ss)) (site_of x)) (first_pass (map site_of (take (l.i + 1) ss)) (map site_of (drop (l.i + 1) ss)))
           (site_next ss l.i x whole (omega arith) c.index-sites-i.is l.invariant.leads) e.clear;

@@ -1,9 +1,10 @@
 use Rattle.std.proofs.Common.{◌≡◌, [], ◌∷◌, ◌++◌, drop, length, string_bytes, ap, ◌∙◌}
+use Rattle.std.proofs.lemmas.Result.{on_ok_weaker}
 use Rattle.js_doc.specs.Fragment.{fragment_text}
 use Rattle.js_bundle.specs.Finding.{tokens_of}
 use Rattle.js_bundle.specs.Url.{printed}
 use Rattle.js_bundle.proofs.Ways.{parts_of}
-use Rattle.js_bundle.proofs.location.written.Goals as goal
+use Rattle.js_bundle.proofs.location.write.Goals as goal
 
 pub returns : goal.returns
 unfolding lib.Utf8.encode
@@ -16,4 +17,5 @@ returns c =
     c.in_ok-push_way.ensures ∙ ap (λ b. b ++ fragment_text (drop (length c.tokens-2.result.now) c.tokens.result.now)) marked
     ∙ ap (λ ts. (base ++ 35 ∷ []) ++ fragment_text (drop (length c.tokens-2.result.now) ts)) c.tokens.ensures
     ∙ ap (λ ts. (base ++ 35 ∷ []) ++ fragment_text (drop (length ts) pointer)) c.tokens-2.ensures in
-    parts_of base (35 ∷ []) (string_bytes c.push_way.new.text) (string_bytes c.push_keyword.new.text) (drop (length resource) pointer) (tokens_of c.args.keyword) way c.in_ok-push_keyword.ensures
+    on_ok_weaker c.push_keyword.result
+    (λ e. parts_of base (35 ∷ []) (string_bytes c.push_way.new.text) (string_bytes c.push_keyword.new.text) (drop (length resource) pointer) (tokens_of c.args.keyword) way e) c.push_keyword.ensures
