@@ -44,18 +44,18 @@ impl Built {
 }
 
 impl BuiltTable {
-    /// That of no places.
-    pub(crate) fn new(alloc: Global) -> BuiltTable
-        ensures assertions { result.all.assertions.items ≡ [] }
-        ensures assertion_ends { result.assertion_ends.items ≡ [] }
-        ensures patterns { result.all.patterns.items ≡ [] }
-        ensures pattern_ends { result.pattern_ends.items ≡ [] }
+    /// That of no places, with room for as many.
+    pub(crate) fn with_capacity(alloc: Global, places: usize) -> Result<BuiltTable, Memory>
+        ensures assertions { IfOk result (λ t. t.all.assertions.items ≡ []) }
+        ensures assertion_ends { IfOk result (λ t. t.assertion_ends.items ≡ []) }
+        ensures patterns { IfOk result (λ t. t.all.patterns.items ≡ []) }
+        ensures pattern_ends { IfOk result (λ t. t.pattern_ends.items ≡ []) }
     {
-        BuiltTable {
+        Ok(BuiltTable {
             all: Built::new(alloc),
-            assertion_ends: Vec::new(alloc),
-            pattern_ends: Vec::new(alloc),
-        }
+            assertion_ends: Vec::with_capacity(alloc, places)?,
+            pattern_ends: Vec::with_capacity(alloc, places)?,
+        })
     }
 
     /// What is built so far ends a place.

@@ -1,5 +1,5 @@
 //! Which keyword of the standard each keyword of each place is.
-ghost use Rattle.std.specs.Prelude.{◌≡◌, ◌++◌, ◌∷◌, [], true, length, map, option_map, OnOk};
+ghost use Rattle.std.specs.Prelude.{◌≡◌, ◌++◌, ◌∷◌, [], true, length, map, option_map, OnOk, IfOk};
 ghost use Rattle.js_bundle.specs.KeywordName.{keyword_name, keyword_names};
 ghost use Rattle.js_bundle.specs.code.Scan.{site_of};
 ghost use Rattle.js_bundle.specs.Schemas.{is_place, place_at};
@@ -51,15 +51,15 @@ fn push_names(names: &mut Vec<KeywordName>, site: &Site<'_>) -> Result<(), Memor
 }
 
 impl KeywordTable {
-    /// That of no places.
-    pub(crate) fn new(alloc: Global) -> KeywordTable
-        ensures names { result.names.items ≡ [] }
-        ensures ends { result.ends.items ≡ [] }
+    /// That of no places, with room for as many.
+    pub(crate) fn with_capacity(alloc: Global, places: usize) -> Result<KeywordTable, Memory>
+        ensures names { IfOk result (λ t. t.names.items ≡ []) }
+        ensures ends { IfOk result (λ t. t.ends.items ≡ []) }
     {
-        KeywordTable {
+        Ok(KeywordTable {
             names: Vec::new(alloc),
-            ends: Vec::new(alloc),
-        }
+            ends: Vec::with_capacity(alloc, places)?,
+        })
     }
 
     /// Adds the next place.

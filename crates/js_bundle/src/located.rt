@@ -44,16 +44,16 @@ impl Texts {
 }
 
 impl Located {
-    /// That of no places, whose index has room for as many.
+    /// That of no places, with room for as many.
     pub(crate) fn with_capacity(alloc: Global, places: usize) -> Result<Located, Memory>
         ensures { IfOk result (λ l. IsLocated l []) }
     {
         let index = Index::with_capacity(alloc, places)?;
         Ok(Located {
             index,
-            parents: Vec::new(alloc),
-            roots: Vec::new(alloc),
-            locations: Vec::new(alloc),
+            parents: Vec::with_capacity(alloc, places)?,
+            roots: Vec::with_capacity(alloc, places)?,
+            locations: Vec::with_capacity(alloc, places)?,
             way: Vec::new(alloc),
         })
     }

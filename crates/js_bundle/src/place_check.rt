@@ -196,7 +196,7 @@ pub(crate) struct Passed {
 }
 
 impl Passed {
-    // That of no places, whose index has room for as many.
+    // That of no places, with room for as many.
     fn with_capacity(alloc: Global, places: usize) -> Result<Passed, Memory>
         ensures assertions { IfOk result (λ p. p.built.all.assertions.items ≡ []) }
         ensures assertion_ends { IfOk result (λ p. p.built.assertion_ends.items ≡ []) }
@@ -208,9 +208,9 @@ impl Passed {
     {
         let located = Located::with_capacity(alloc, places)?;
         Ok(Passed {
-            built: BuiltTable::new(alloc),
+            built: BuiltTable::with_capacity(alloc, places)?,
             located,
-            keywords: KeywordTable::new(alloc),
+            keywords: KeywordTable::with_capacity(alloc, places)?,
         })
     }
 
