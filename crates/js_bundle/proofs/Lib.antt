@@ -33,8 +33,7 @@ pub mod Locating
 pub mod NoKeyword
 pub mod KeywordTables
 pub mod NamesOf
-pub mod ExtendedKey
-pub mod ExtendedLocation
+pub mod SharedTokens
 pub mod Schema
 pub mod UnderNumber
 pub mod Dynamic

@@ -4,7 +4,7 @@ pub mod Scan
 pub mod Index
 pub mod Spot
 pub mod Edges
-pub mod LocationGoesOn
+pub mod Beginning
 pub mod Descent
 pub mod Located
 pub mod Grouped

@@ -1,5 +1,6 @@
 //! Which place each one stands directly below: in scan order the one before it, or one that stands above that.
 ghost use Rattle.std.specs.Prelude.{◌≡◌, ◌-◌, true, length, map, option_map, MatchOption};
+ghost use Rattle.js_bundle.specs.code.Beginning.{shared_with};
 ghost use Rattle.js_bundle.specs.code.Descent as spec;
 ghost use Rattle.js_bundle.specs.code.Edges.{begins_with, is_below};
 ghost use Rattle.js_bundle.specs.code.Scan.{site_of};
@@ -8,12 +9,14 @@ ghost use Rattle.js_bundle.specs.code.Spot.{spot};
 use crate::scan::Site;
 use js_doc::Token;
 
-/// Whether the place stands below the one before it.
-pub(crate) fn descends(before: Option<&Site<'_>>, site: &Site<'_>) -> bool
+/// Whether the place stands below the one before it. It is told with how many tokens alike their pointers begin.
+pub(crate) fn descends(before: Option<&Site<'_>>, site: &Site<'_>, shared: usize) -> bool
+    requires { shared ≡ shared_with (option_map (λ b. site_of b.now) before) (site_of site.now) }
     ensures { result ≡ spec.descends (option_map (λ b. spot (site_of b.now)) before.entry) (spot (site_of site.now)) }
 {
     match before {
-        Some(before) => is_below(before, site),
+        Some(before) => site.document == before.document
+            && shared == before.pointer.tokens().len(),
         None => false,
     }
 }

@@ -1,12 +1,11 @@
 //! The keys under which places and names stand in the index: as texts of pointers, which tell their tokens apart.
-ghost use Rattle.std.specs.Prelude.{◌≡◌, ◌++◌, decimal, drop, true, OnOk, IfOk, MatchOption, option_map, string_bytes};
+ghost use Rattle.std.specs.Prelude.{◌≡◌, ◌≤◌, ◌++◌, [], decimal, drop, take, length, OnOk, IfOk, MatchOption, option_map, string_bytes};
 ghost use Rattle.js_doc.specs.Pointer.{pointer_text, token_text};
-ghost use Rattle.js_bundle.specs.code.Descent as spec;
-ghost use Rattle.js_bundle.specs.code.Edges.{is_below};
+ghost use Rattle.js_bundle.specs.code.Beginning.{BeginsKey, shared_with};
 ghost use Rattle.js_bundle.specs.code.Index.{place_key, name_key};
 ghost use Rattle.js_bundle.specs.code.Scan.{site_of};
-ghost use Rattle.js_bundle.specs.code.Spot.{spot};
 
+use crate::beginning::{Beginning, room_for};
 use crate::scan::Site;
 use js_doc::{Memory, Pointer, Token, push_token};
 use std::alloc::Global;
@@ -15,18 +14,11 @@ use std::alloc::Global;
 pub(crate) fn place_key(alloc: Global, document: usize, pointer: &Pointer) -> Result<String, Memory>
     ensures { IfOk result (λ t. string_bytes t ≡ place_key document pointer.now) }
 {
-    let mut key = String::with_capacity(alloc, room_for(pointer.tokens()))?;
-    write_key(&mut key, document, pointer)?;
+    let room = room_for(pointer.tokens(), 0).saturating_add(2);
+    let mut key = String::with_capacity(alloc, room)?;
+    push_document(&mut key, document)?;
+    push_tokens(&mut key, pointer.tokens(), 0)?;
     Ok(key)
-}
-
-// The same, written in the place of what the text has.
-fn write_key(key: &mut String, document: usize, pointer: &Pointer) -> Result<(), Memory>
-    ensures { OnOk result (string_bytes key.new ≡ place_key document pointer.now) }
-{
-    key.clear();
-    push_document(key, document)?;
-    push_tokens(key, pointer.tokens(), 0)
 }
 
 /// The key of a name in the resource that has its root at the pointer.
@@ -43,15 +35,6 @@ pub(crate) fn name_key(
     push_token(&mut key, name)?;
     push_tokens(&mut key, root.tokens(), 0)?;
     Ok(key)
-}
-
-// How many bytes a key has, at least.
-fn room_for(tokens: &[Token]) -> usize {
-    let mut room = 2usize;
-    for token in tokens {
-        room = room.saturating_add(token.as_str().len()).saturating_add(1);
-    }
-    room
 }
 
 fn push_document(key: &mut String, document: usize) -> Result<(), Memory>
@@ -71,27 +54,64 @@ fn push_tokens(key: &mut String, tokens: &[Token], from: usize) -> Result<(), Me
     Ok(())
 }
 
-/// Makes the key of a place of that of the one before it: where it stands below that one, it goes on from there.
+/// Makes the key of a place, and how it begins, of how that of the place before it began.
 pub(crate) fn next_key(
-    key: &mut String,
+    alloc: Global,
+    beginning: &mut Beginning,
     before: Option<&Site<'_>>,
     site: &Site<'_>,
-    descends: bool,
+    shared: usize,
+) -> Result<String, Memory>
+    requires before { MatchOption before (Unit {0}) (λ b. BeginsKey beginning.old (site_of b.now)) }
+    requires shared { shared ≡ shared_with (option_map (λ b. site_of b.now) before) (site_of site.now) }
+    ensures begins { OnOk result (BeginsKey beginning.new (site_of site.now)) }
+    ensures key { IfOk result (λ t. string_bytes t ≡ place_key site.now.document site.now.pointer.value) }
+{
+    let tokens = site.pointer.tokens();
+    let told = tokens.len().saturating_sub(1);
+    begin(beginning, before, site, shared.min(told))?;
+    extend(beginning, tokens, told)?;
+    let mut key = beginning.copy(alloc, tokens)?;
+    push_tokens(&mut key, tokens, told)?;
+    Ok(key)
+}
+
+// Leaves the beginning as it is where it is one of the place's key too, with no more tokens than that. Else it begins
+// with no token.
+fn begin(
+    beginning: &mut Beginning,
+    before: Option<&Site<'_>>,
+    site: &Site<'_>,
+    most: usize,
 ) -> Result<(), Memory>
-    requires key { MatchOption before (Unit {0}) (λ b. string_bytes key.old ≡ place_key b.now.document b.now.pointer.value) }
-    requires descends { descends ≡ spec.descends (option_map (λ b. spot (site_of b.now)) before) (spot (site_of site.now)) }
-    ensures { OnOk result (string_bytes key.new ≡ place_key site.now.document site.now.pointer.value) }
+    requires before { MatchOption before (Unit {0}) (λ b. BeginsKey beginning.old (site_of b.now)) }
+    requires most { most ≤ shared_with (option_map (λ b. site_of b.now) before) (site_of site.now) }
+    ensures begins { OnOk result (BeginsKey beginning.new (site_of site.now)) }
+    ensures within { OnOk result (beginning.new.tokens ≤ most) }
 {
     match before {
-        Some(before) if descends => extend_key(key, before, site),
-        _ => write_key(key, site.document, &site.pointer),
+        Some(before) if before.document == site.document && beginning.tokens <= most => Ok(()),
+        _ => begin_anew(beginning, site.document),
     }
 }
 
-fn extend_key(key: &mut String, before: &Site<'_>, site: &Site<'_>) -> Result<(), Memory>
-    requires below { is_below (spot (site_of before.now)) (spot (site_of site.now)) ≡ true }
-    requires key { string_bytes key.old ≡ place_key before.now.document before.now.pointer.value }
-    ensures { OnOk result (string_bytes key.new ≡ place_key site.now.document site.now.pointer.value) }
+fn begin_anew(beginning: &mut Beginning, document: usize) -> Result<(), Memory>
+    ensures text { OnOk result (string_bytes beginning.new.text ≡ place_key document []) }
+    ensures none { OnOk result (beginning.new.tokens ≡ 0) }
 {
-    push_tokens(key, site.pointer.tokens(), before.pointer.tokens().len())
+    beginning.tokens = 0;
+    beginning.text.clear();
+    push_document(&mut beginning.text, document)
+}
+
+// Tells the first tokens in it.
+fn extend(beginning: &mut Beginning, tokens: &[Token], told: usize) -> Result<(), Memory>
+    requires { told ≤ length tokens.now }
+    ensures text { OnOk result (string_bytes beginning.new.text
+        ≡ string_bytes beginning.old.text ++ pointer_text (drop beginning.old.tokens (take told tokens.now))) }
+    ensures tokens { OnOk result (beginning.new.tokens ≡ told) }
+{
+    push_tokens(&mut beginning.text, &tokens[..told], beginning.tokens)?;
+    beginning.tokens = told;
+    Ok(())
 }

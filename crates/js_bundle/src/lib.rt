@@ -3,6 +3,7 @@
 #![tactic(auto)]
 
 mod assertions_and_patterns;
+mod beginning;
 mod below;
 mod bundle;
 mod column;

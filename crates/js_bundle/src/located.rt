@@ -1,8 +1,9 @@
 //! What the first pass tells of where places stand.
 ghost use Rattle.std.specs.Prelude.{[], map, option_map, MatchOption, OnOk, IfOk};
-ghost use Rattle.js_bundle.specs.code.Located.{AreTextsOf, IsLast, IsLocated, IsLocatedNext};
+ghost use Rattle.js_bundle.specs.code.Located.{BeginTextsOf, IsLast, IsLocated, IsLocatedNext};
 ghost use Rattle.js_bundle.specs.code.Scan.{site_of};
 
+use crate::beginning::{Beginning, shared_with};
 use crate::descent::{descends, parent_of};
 use crate::index::Index;
 use crate::keys::next_key;
@@ -26,19 +27,19 @@ pub(crate) struct Located {
     way: Vec<usize>,
 }
 
-/// The texts of a place, from which those of the next one go on.
+/// How the texts of a place begin, from where those of the next one go on.
 #[derive(Drop)]
-pub(crate) struct Texts {
-    /// The key of where it stands.
-    pub(crate) key: String,
-    pub(crate) location: String,
+pub(crate) struct Beginnings {
+    /// Of the key of where it stands.
+    pub(crate) key: Beginning,
+    pub(crate) location: Beginning,
 }
 
-impl Texts {
-    pub(crate) fn new(alloc: Global) -> Texts {
-        Texts {
-            key: String::new(alloc),
-            location: String::new(alloc),
+impl Beginnings {
+    pub(crate) fn new(alloc: Global) -> Beginnings {
+        Beginnings {
+            key: Beginning::new(alloc),
+            location: Beginning::new(alloc),
         }
     }
 }
@@ -58,30 +59,30 @@ impl Located {
         })
     }
 
-    /// Adds a place, and makes its texts of those of the place before it.
+    /// Adds a place, and makes its texts, of how those of the place before it began.
     pub(crate) fn add(
         &mut self,
         alloc: Global,
-        texts: &mut Texts,
+        beginnings: &mut Beginnings,
         earlier: &[Site<'_>],
         before: Option<&Site<'_>>,
         site: &Site<'_>,
     ) -> Result<(), Memory>
-        requires texts { MatchOption before (Unit {0}) (λ b. AreTextsOf texts.old (site_of b.now)) }
+        requires begin { MatchOption before (Unit {0}) (λ b. BeginTextsOf beginnings.old (site_of b.now)) }
         requires before { IsLast (map site_of earlier.now) (option_map (λ b. site_of b.now) before) }
-        ensures texts { OnOk result (AreTextsOf texts.new (site_of site.now)) }
+        ensures begin { OnOk result (BeginTextsOf beginnings.new (site_of site.now)) }
         ensures located { OnOk result (IsLocatedNext self.old (map site_of earlier.now) (site_of site.now) self.new) }
     {
-        let descends = descends(before, site);
+        let shared = shared_with(before, site);
+        let descends = descends(before, site, shared);
         let parent = parent_of(&mut self.way, earlier, site, descends);
         self.parents.push(parent)?;
         self.way.push(earlier.len())?;
         self.roots.push(begins_resource(site))?;
-        next_key(&mut texts.key, before, site, descends)?;
-        self.index
-            .add(alloc, site, earlier.len(), texts.key.clone()?)?;
-        next_location(&mut texts.location, before, site, descends)?;
-        self.locations.push(Text::new(texts.location.clone()?))?;
+        let key = next_key(alloc, &mut beginnings.key, before, site, shared)?;
+        self.index.add(alloc, site, earlier.len(), key)?;
+        let location = next_location(alloc, &mut beginnings.location, before, site, shared)?;
+        self.locations.push(Text::new(location))?;
         Ok(())
     }
 }

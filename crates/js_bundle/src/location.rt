@@ -1,15 +1,13 @@
 //! Absolute locations (JSON Schema Core, section 12.3.2).
-ghost use Rattle.std.specs.Prelude.{◌≡◌, ◌++◌, true, bytes_eq, codes, drop, length, option_map, string_bytes, IfOk, OnOk, MatchOption};
+ghost use Rattle.std.specs.Prelude.{◌≡◌, ◌≤◌, ◌-◌, ◌++◌, ◌&&◌, ◌==◌, bytes_eq, codes, drop, take, length, option_map, string_bytes, IfOk, OnOk, MatchOption};
 ghost use Rattle.js_doc.specs.Fragment.{fragment_text};
 ghost use Rattle.js_bundle.specs.Finding.{tokens_of};
-ghost use Rattle.js_bundle.specs.code.Descent as spec;
-ghost use Rattle.js_bundle.specs.code.Edges.{is_below};
-ghost use Rattle.js_bundle.specs.code.LocationGoesOn.{has_depth_of, is_beside};
+ghost use Rattle.js_bundle.specs.code.Beginning.{BeginsLocation, shared_with};
 ghost use Rattle.js_bundle.specs.code.Scan.{site_of};
-ghost use Rattle.js_bundle.specs.code.Spot.{spot};
 ghost use Rattle.js_bundle.specs.Location.{location};
 ghost use Rattle.js_bundle.specs.Url.{printed};
 
+use crate::beginning::Beginning;
 use crate::scan::Site;
 use crate::scope::Scope;
 use crate::uri;
@@ -27,25 +25,19 @@ pub(crate) fn absolute(
         ++ (codes "#" ++ fragment_text (drop (length scope.now.resource) pointer.now ++ tokens_of keyword.entry))) }
 {
     let mut text = String::new(alloc);
-    write(&mut text, scope, pointer, keyword)?;
+    push_resource(&mut text, scope)?;
+    push_way(&mut text, pointer.tokens(), scope.resource.tokens().len())?;
+    push_keyword(&mut text, keyword)?;
     Ok(text)
 }
 
-// The same, written in the place of what the text has.
-fn write(
-    text: &mut String,
-    scope: &Scope,
-    pointer: &Pointer,
-    keyword: Option<&str>,
-) -> Result<(), Memory>
-    ensures { OnOk result (string_bytes text.new ≡ printed scope.now.base
-        ++ (codes "#" ++ fragment_text (drop (length scope.now.resource) pointer.now ++ tokens_of keyword.entry))) }
+// The resource's URI and a `#`.
+fn push_resource(text: &mut String, scope: &Scope) -> Result<(), Memory>
+    ensures { OnOk result (string_bytes text.new ≡ string_bytes text.old ++ (printed scope.now.base ++ codes "#")) }
 {
-    text.clear();
     text.push_str(uri::text_of(&scope.base))?;
     text.push('#')?;
-    push_way(text, pointer.tokens(), scope.resource.tokens().len())?;
-    push_keyword(text, keyword)
+    Ok(())
 }
 
 // The tokens after the first ones, as a fragment.
@@ -67,49 +59,84 @@ fn push_keyword(text: &mut String, keyword: Option<&str>) -> Result<(), Memory>
     }
 }
 
-// Whether the place stands in a resource of the same URI, whose root is as deep.
-fn is_beside(above: &Site<'_>, site: &Site<'_>) -> bool
-    ensures { result ≡ is_beside (spot (site_of above.now)) (spot (site_of site.now)) }
-{
-    has_base_of(above, site) && has_depth_of(above, site)
-}
-
-fn has_base_of(above: &Site<'_>, site: &Site<'_>) -> bool
-    ensures { result ≡ bytes_eq (printed above.now.own.value.base) (printed site.now.own.value.base) }
-{
-    uri::text_of(&above.own.base) == uri::text_of(&site.own.base)
-}
-
-fn has_depth_of(above: &Site<'_>, site: &Site<'_>) -> bool
-    ensures { result ≡ has_depth_of (spot (site_of above.now)) (spot (site_of site.now)) }
-{
-    let depth = above.own.resource.tokens().len();
-    depth == site.own.resource.tokens().len() && depth <= above.pointer.tokens().len()
-}
-
-/// Makes the location of a place of that of the one before it: where it stands below that one in the same resource, it
-/// goes on from there.
+/// Makes the location of a place, and how it begins, of how that of the place before it began.
 pub(crate) fn next_location(
-    text: &mut String,
+    alloc: Global,
+    beginning: &mut Beginning,
     before: Option<&Site<'_>>,
     site: &Site<'_>,
-    descends: bool,
-) -> Result<(), Memory>
-    requires text { MatchOption before (Unit {0}) (λ b. string_bytes text.old ≡ location (site_of b.now)) }
-    requires descends { descends ≡ spec.descends (option_map (λ b. spot (site_of b.now)) before) (spot (site_of site.now)) }
-    ensures { OnOk result (string_bytes text.new ≡ location (site_of site.now)) }
+    shared: usize,
+) -> Result<String, Memory>
+    requires before { MatchOption before (Unit {0}) (λ b. BeginsLocation beginning.old (site_of b.now)) }
+    requires shared { shared ≡ shared_with (option_map (λ b. site_of b.now) before) (site_of site.now) }
+    ensures begins { OnOk result (BeginsLocation beginning.new (site_of site.now)) }
+    ensures location { IfOk result (λ t. string_bytes t ≡ location (site_of site.now)) }
 {
-    match before {
-        Some(above) if descends && is_beside(above, site) => extend(text, above, site),
-        _ => write(text, &site.own, &site.pointer, None),
+    let root = site.own.resource.tokens().len();
+    let way = way_from(site.pointer.tokens(), root);
+    let told = way.len().saturating_sub(1);
+    begin(beginning, before, site, shared.saturating_sub(root).min(told))?;
+    extend(beginning, way, told)?;
+    let mut text = beginning.copy(alloc, way)?;
+    push_way(&mut text, way, told)?;
+    Ok(text)
+}
+
+// The tokens after those of the resource's root.
+fn way_from(tokens: &[Token], root: usize) -> &[Token]
+    ensures { result.now ≡ drop root tokens.now }
+{
+    match tokens.get(root..) {
+        Some(way) => way,
+        None => &[],
     }
 }
 
-fn extend(text: &mut String, above: &Site<'_>, site: &Site<'_>) -> Result<(), Memory>
-    requires below { is_below (spot (site_of above.now)) (spot (site_of site.now)) ≡ true }
-    requires beside { is_beside (spot (site_of above.now)) (spot (site_of site.now)) ≡ true }
-    requires text { string_bytes text.old ≡ location (site_of above.now) }
-    ensures { OnOk result (string_bytes text.new ≡ location (site_of site.now)) }
+// Leaves the beginning as it is where it is one of the place's location too, with no more tokens than that. Else it
+// begins with no token.
+fn begin(
+    beginning: &mut Beginning,
+    before: Option<&Site<'_>>,
+    site: &Site<'_>,
+    most: usize,
+) -> Result<(), Memory>
+    requires before { MatchOption before (Unit {0}) (λ b. BeginsLocation beginning.old (site_of b.now)) }
+    requires most { most ≤ shared_with (option_map (λ b. site_of b.now) before) (site_of site.now) - length site.now.own.value.resource }
+    ensures begins { OnOk result (BeginsLocation beginning.new (site_of site.now)) }
+    ensures within { OnOk result (beginning.new.tokens ≤ most) }
 {
-    push_way(text, site.pointer.tokens(), above.pointer.tokens().len())
+    match before {
+        Some(before) if has_base_and_depth_of(before, site) && beginning.tokens <= most => Ok(()),
+        _ => begin_anew(beginning, &site.own),
+    }
+}
+
+// Whether the resources of the two have the same URI, and roots as deep.
+fn has_base_and_depth_of(before: &Site<'_>, site: &Site<'_>) -> bool
+    ensures { result ≡ (bytes_eq (printed before.now.own.value.base) (printed site.now.own.value.base)
+        && length before.now.own.value.resource == length site.now.own.value.resource) }
+{
+    uri::text_of(&before.own.base) == uri::text_of(&site.own.base)
+        && before.own.resource.tokens().len() == site.own.resource.tokens().len()
+}
+
+fn begin_anew(beginning: &mut Beginning, scope: &Scope) -> Result<(), Memory>
+    ensures text { OnOk result (string_bytes beginning.new.text ≡ printed scope.now.base ++ codes "#") }
+    ensures none { OnOk result (beginning.new.tokens ≡ 0) }
+{
+    beginning.tokens = 0;
+    beginning.text.clear();
+    push_resource(&mut beginning.text, scope)
+}
+
+// Tells the first tokens of the way in it.
+fn extend(beginning: &mut Beginning, way: &[Token], told: usize) -> Result<(), Memory>
+    requires { told ≤ length way.now }
+    ensures text { OnOk result (string_bytes beginning.new.text
+        ≡ string_bytes beginning.old.text ++ fragment_text (drop beginning.old.tokens (take told way.now))) }
+    ensures tokens { OnOk result (beginning.new.tokens ≡ told) }
+{
+    push_way(&mut beginning.text, &way[..told], beginning.tokens)?;
+    beginning.tokens = told;
+    Ok(())
 }

@@ -8,7 +8,7 @@ ghost use Rattle.js_bundle.specs.Candidate.{IsClear, IsStopped};
 ghost use Rattle.js_bundle.specs.Form.{is_formed};
 ghost use Rattle.js_bundle.specs.code.Grouped.{IsGrouped};
 ghost use Rattle.js_bundle.specs.code.Index.{IsIndex};
-ghost use Rattle.js_bundle.specs.code.Located.{AreTextsOf, IsLast, IsLocated, IsLocatedNext};
+ghost use Rattle.js_bundle.specs.code.Located.{BeginTextsOf, IsLast, IsLocated, IsLocatedNext};
 ghost use Rattle.js_bundle.specs.Keyword.{keywords};
 ghost use Rattle.js_bundle.specs.KeywordName.{keyword_names};
 ghost use Rattle.js_bundle.specs.Refusals.{when, decided, on_text, text_rules, at_member, at_site, first_pass};
@@ -18,7 +18,7 @@ use crate::assertions_and_patterns::{Built, BuiltTable, keep_assertion, read_nam
 use crate::fault::{Fault, refuse};
 use crate::index::Index;
 use crate::keyword_table::KeywordTable;
-use crate::located::{Located, Texts};
+use crate::located::{Beginnings, Located};
 use crate::refusal::RefusalKind;
 use crate::rules::{check_anchor, check_dialect, check_id, check_place, is_formed, read_assertion};
 use crate::scan::Site;
@@ -214,20 +214,20 @@ impl Passed {
         })
     }
 
-    // Goes one place further, and makes its texts of those of the place before it.
+    // Goes one place further, and makes its texts, of how those of the place before it began.
     fn pass(
         &mut self,
         alloc: Global,
         earlier: &[Site<'_>],
-        texts: &mut Texts,
+        beginnings: &mut Beginnings,
         before: Option<&Site<'_>>,
         site: &Site<'_>,
     ) -> Result<(), Fault>
         requires index { IsIndex self.old.located.index (map site_of earlier.now) }
-        requires texts { MatchOption before (Unit {0}) (λ b. AreTextsOf texts.old (site_of b.now)) }
+        requires begin { MatchOption before (Unit {0}) (λ b. BeginTextsOf beginnings.old (site_of b.now)) }
         requires before { IsLast (map site_of earlier.now) (option_map (λ b. site_of b.now) before) }
         ensures clear { OnOk result (IsClear (at_site (map site_of earlier.now) (site_of site.now))) }
-        ensures texts { OnOk result (AreTextsOf texts.new (site_of site.now)) }
+        ensures begin { OnOk result (BeginTextsOf beginnings.new (site_of site.now)) }
         ensures assertions { OnOk result (self.new.built.all.assertions.items
             ≡ self.old.built.all.assertions.items ++ assertions_at (site_of site.now)) }
         ensures assertion_ends { OnOk result (self.new.built.assertion_ends.items
@@ -247,7 +247,8 @@ impl Passed {
         let index = &self.located.index;
         check_site(alloc, &mut self.built.all, index, earlier, site)?;
         self.built.end_place()?;
-        self.located.add(alloc, texts, earlier, before, site)?;
+        self.located
+            .add(alloc, beginnings, earlier, before, site)?;
         Ok(())
     }
 }
@@ -264,11 +265,11 @@ pub(crate) fn first_pass(alloc: Global, sites: &[Site<'_>]) -> Result<Passed, Fa
     ensures err { IfErr result (IsStopped (first_pass [] (map site_of sites.now))) }
 {
     let mut passed = Passed::with_capacity(alloc, sites.len())?;
-    let mut texts = Texts::new(alloc);
+    let mut beginnings = Beginnings::new(alloc);
     let mut before = None;
     for i in 0..sites.len() {
         let site = &sites[i];
-        passed.pass(alloc, &sites[..i], &mut texts, before, site)?;
+        passed.pass(alloc, &sites[..i], &mut beginnings, before, site)?;
         before = Some(site);
     }
     Ok(passed)

@@ -1,18 +1,19 @@
 -- Where places stand, as the first pass tells it: their keys in the index, which place each stands directly below, which
 -- are roots of resources, and their absolute locations.
-use Rattle.std.specs.Prelude.{◌≡◌, ℕ, ◌-◌, List, [], ◌∷◌, ◌++◌, length, Option, true, map, slice_get, string_bytes, MatchOption}
+use Rattle.std.specs.Prelude.{◌≡◌, ℕ, ◌-◌, List, [], ◌∷◌, ◌++◌, length, Option, true, map, slice_get, MatchOption}
 use Rattle.js_bundle.specs.declared.located.Located.{Located}
-use Rattle.js_bundle.specs.declared.located.Texts.{Texts}
+use Rattle.js_bundle.specs.declared.located.Beginnings.{Beginnings}
+use Rattle.js_bundle.specs.code.Beginning.{BeginsKey, BeginsLocation}
 use Rattle.js_bundle.specs.code.Descent.{LeadUp, stands_under}
-use Rattle.js_bundle.specs.code.Index.{IsAdded, IsIndex, place_key}
+use Rattle.js_bundle.specs.code.Index.{IsAdded, IsIndex}
 use Rattle.js_bundle.specs.code.Spot.{spot}
 use Rattle.js_bundle.specs.Location.{location}
 use Rattle.js_bundle.specs.Resource.{Site}
 use Rattle.js_bundle.specs.ResourceNumber.{begins_resource}
 
-pub record AreTextsOf (texts : Texts) (place : Site) : Type 0 where
-  pub key : string_bytes texts.key ≡ place_key place.document place.pointer
-  pub location : string_bytes texts.location ≡ location place
+pub record BeginTextsOf (beginnings : Beginnings) (place : Site) : Type 0 where
+  pub key : BeginsKey beginnings.key place
+  pub location : BeginsLocation beginnings.location place
 
 pub record IsLocated (located : Located) (all : List Site) : Type 0 where
   pub index : IsIndex located.index all

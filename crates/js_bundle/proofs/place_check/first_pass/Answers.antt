@@ -41,7 +41,7 @@ loop-i-preserved c =
           e.names e.ends l.invariant.keywords;
       located = located_next ss l.i x old.located new.located (omega arith) c.index-sites-i.is e.located l.invariant.located;
       before = last_more ss l.i x (omega arith) c.index-sites-i.is;
-      texts = e.texts;
+      begin = e.begin;
     }
 
 pub returns-clause-located : goal.returns-clause-located

@@ -1,6 +1,6 @@
 use Rattle.std.proofs.Common.{[], map, take, drop, option_map, MatchOption}
 use Rattle.js_bundle.specs.AssertionsAndPatterns.{assertions_at, patterns_at}
-use Rattle.js_bundle.specs.code.Located.{AreTextsOf, IsLast}
+use Rattle.js_bundle.specs.code.Located.{BeginTextsOf, IsLast}
 use Rattle.js_bundle.specs.code.Leads.{Leads}
 use Rattle.js_bundle.specs.KeywordName.{keyword_names}
 use Rattle.js_bundle.specs.Refusals.{first_pass}
@@ -20,5 +20,5 @@ invariant-loop-i l =
       keywords : AreGrouped keyword_names l.sites l.i l.passed.keywords.names.items l.passed.keywords.ends.items;
       located : AreLocated l.sites l.i l.passed.located;
       before : IsLast (map site_of (take l.i l.sites)) (option_map (λ b. site_of b.now) l.before);
-      texts : MatchOption l.before (Unit {0}) (λ b. AreTextsOf l.texts (site_of b.now));
+      begin : MatchOption l.before (Unit {0}) (λ b. BeginTextsOf l.beginnings (site_of b.now));
     }

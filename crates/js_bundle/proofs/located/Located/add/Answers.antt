@@ -25,5 +25,5 @@ returns-clause-located c =
       parents = (search rules);
       above = c.parent_of-parent.ensures;
       roots = (search rules);
-      locations = (search rules) ∙ ap (λ t. old.locations.items ++ t ∷ []) c.in_ok-next_location.ensures;
+      locations = (search rules) ∙ ap (λ t. old.locations.items ++ t ∷ []) c.in_ok-location.ensures.location;
     }
