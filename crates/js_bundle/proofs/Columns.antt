@@ -1,28 +1,45 @@
 -- What lists with an entry for each place tell.
-use Rattle.std.proofs.Common.{◌≡◌, ℕ, zero, suc, ◌≤◌, List, [], ◌∷◌, ◌++◌, Bool, false, map, drop, length, Option, Some, None, is_some, refl, sym, ap, ◌∙◌}
-use Rattle.std.specs.List.{list_any}
-use Rattle.std.proofs.lemmas.List.{append-nil, drop_all}
+use Rattle.std.proofs.Common.{◌≡◌, ℕ, zero, suc, ◌+◌, ◌<◌, ◌≤◌, List, [], ◌∷◌, ◌++◌, Bool, true, false, ◌==◌, map, take, drop, get_or, length, Option, Some, None, option_and_then, slice_get, if◌then◌else◌, refl, sym, ap, subst, ◌∙◌, arith}
+use Rattle.std.proofs.lemmas.Bool.{eqb-true, eqb-false}
+use Rattle.std.proofs.lemmas.List.{append-nil, drop_all, length-append, length-map, length-take-le, take_all}
+use Rattle.std.proofs.lemmas.Option.{slice_get_past}
 use Rattle.js_bundle.specs.declared.scan.Site as rust
 use Rattle.js_bundle.specs.code.Scan.{site_of}
-use Rattle.js_bundle.specs.code.Column.{IsColumn, TellAlike}
+use Rattle.js_bundle.specs.code.Column.{IsColumn, IsTold, TellAlike}
 use Rattle.js_bundle.specs.Finding.{under_number}
 use Rattle.js_bundle.specs.Resource.{Site}
-use Rattle.js_bundle.proofs.UnderNumber.{under_finds}
+use Rattle.js_bundle.proofs.Passes.{map_take_more}
 
-pub same_told : {A : Type 0} (column : List (Option A)) → TellAlike column column
-same_told column = record { alike = λ n. refl }
+-- ---- one entry more
 
-none_under : {A : Type 0} (column : List (Option A)) → list_any is_some column ≡ false → (n : ℕ) → None ≡ under_number column n
-none_under [] h n = refl
-none_under (Some a ∷ column) h n = absurd (cc)
-none_under (None ∷ column) h zero = refl
-none_under (None ∷ column) h (suc n) = none_under column h n
+last_there : {A : Type 0} (xs : List A) (x : A) → slice_get (xs ++ x ∷ []) (length xs) ≡ Some x
+last_there [] x = refl
+last_there (y ∷ ys) x = last_there ys x
 
-pub none_told : {A : Type 0} (column new : List (Option A)) (found : Bool) → new ≡ [] → found ≡ list_any is_some column → found ≡ false → TellAlike column new
-none_told column new found empty told h = record { alike = λ n. ap (λ c. under_number c n) empty ∙ none_under column (sym told ∙ h) n }
+others_there : {A : Type 0} (xs : List A) (x : A) (n : ℕ) → ¬ (n ≡ length xs) → slice_get (xs ++ x ∷ []) n ≡ slice_get xs n
+others_there [] x zero other = absurd (other refl)
+others_there [] x (suc n) other = refl
+others_there (y ∷ ys) x zero other = refl
+others_there (y ∷ ys) x (suc n) other = others_there ys x n (λ e. other (ap suc e))
 
-pub unless_blank_told : {A : Type 0} (f : Site → Option A) (all : List Site) (full column : List (Option A)) → full ≡ map f all → TellAlike full column → IsColumn column f all
-unless_blank_told f all full column e h = record { told = λ n. h.alike n ∙ ap (λ c. under_number c n) e ∙ under_finds f all n }
+-- ---- a list that is told place by place
+
+pub column_first : {A : Type 0} (f : Site → Option A) (column : List (Option A)) → column ≡ [] → IsColumn column f []
+column_first f column e = record { told = λ n. ap (λ c. under_number c n) e }
+
+pub column_told : {A : Type 0} (f : Site → Option A) (ss : List rust.Site) (i : ℕ) (x : rust.Site) (old new : List (Option A)) (entry : Option A) → i < length ss → x ≡ get_or ss i x
+    → IsTold old i entry new → entry ≡ f (site_of x) → IsColumn old f (map site_of (take i ss)) → IsColumn new f (map site_of (take (i + 1) ss))
+column_told f ss i x old new entry low is told same h = record { told = λ n. told.told n ∙ by_number n (n == i) refl ∙ ap (λ l. option_and_then f (slice_get l n)) (sym (map_take_more site_of ss i x low is)) }
+  where
+    many : length (map site_of (take i ss)) ≡ i
+    many = length-map (take i ss) site_of ∙ length-take-le i ss (omega (arith, low))
+
+    by_number : (n : ℕ) (b : Bool) → n == i ≡ b → (if b then entry else under_number old n) ≡ option_and_then f (slice_get (map site_of (take i ss) ++ site_of x ∷ []) n)
+    by_number n true e = same ∙ ap (option_and_then f) (sym (last_there (map site_of (take i ss)) (site_of x))) ∙ ap (λ m. option_and_then f (slice_get (map site_of (take i ss) ++ site_of x ∷ []) m)) (many ∙ sym (eqb-true n i e))
+    by_number n false e = h.told n ∙ ap (option_and_then f) (sym (others_there (map site_of (take i ss)) (site_of x) n (λ g. eqb-false n i e (g ∙ many))))
+
+pub column_whole : {A : Type 0} (f : Site → Option A) (ss : List rust.Site) (i : ℕ) (column : List (Option A)) → length ss ≤ i → IsColumn column f (map site_of (take i ss)) → IsColumn column f (map site_of ss)
+column_whole f ss i column none h = subst (λ l. IsColumn column f (map site_of l)) (take_all i ss none) h
 
 -- a list that was made place by place, once no place is left
 pub ended : {A : Type 0} (f : Site → A) (ss : List rust.Site) (i : ℕ) (made all : List A) → length ss ≤ i → made ++ map f (map site_of (drop i ss)) ≡ all → made ≡ all

@@ -1,27 +1,37 @@
-//! Lists with an entry for each place.
-ghost use Rattle.std.specs.Prelude.{◌≡◌, false, is_some, slice_get, unwrap_or};
-ghost use Rattle.std.specs.List.{list_any};
-ghost use Rattle.js_bundle.specs.code.Column.{TellAlike};
+//! Lists with an entry for each place, which few places have.
+ghost use Rattle.std.specs.Prelude.{◌≡◌, ◌≤◌, false, length, slice_get, unwrap_or, OnOk};
+ghost use Rattle.js_bundle.specs.code.Column.{IsTold, TellAlike};
 
-/// The list, where some place has an entry. Where none has, an empty one tells the same.
-pub(crate) fn unless_blank<T: Copy + Drop>(column: Vec<Option<T>>) -> Vec<Option<T>>
-    ensures { TellAlike column.items result.items }
+use js_doc::Memory;
+
+/// Tells the entry of the place with this number, those before it are told of. Where the last places have none, the list
+/// ends before them.
+pub(crate) fn tell<T: Copy + Drop>(
+    column: &mut Vec<Option<T>>,
+    number: usize,
+    entry: Option<T>,
+) -> Result<(), Memory>
+    requires { length column.old.items ≤ number }
+    ensures { OnOk result (IsTold column.old.items number entry column.new.items) }
 {
-    if has_entry(column.as_slice()) {
-        return column;
+    if entry.is_none() {
+        return Ok(());
     }
-    Vec::new(*column.allocator())
+    fill(column, number)?;
+    column.push(entry)?;
+    Ok(())
 }
 
-fn has_entry<T: Copy>(column: &[Option<T>]) -> bool
-    ensures { result ≡ list_any is_some column.now }
+// Makes the list so long, with places that have no entry.
+fn fill<T: Copy + Drop>(column: &mut Vec<Option<T>>, number: usize) -> Result<(), Memory>
+    requires { length column.old.items ≤ number }
+    ensures alike { OnOk result (TellAlike column.old.items column.new.items) }
+    ensures long { OnOk result (length column.new.items ≡ number) }
 {
-    for entry in column {
-        if entry.is_some() {
-            return true;
-        }
+    for _ in column.len()..number {
+        column.push(None)?;
     }
-    false
+    Ok(())
 }
 
 /// What is told of the place with this number.

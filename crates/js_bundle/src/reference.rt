@@ -14,7 +14,7 @@ ghost use Rattle.js_bundle.specs.Resource.{joined};
 ghost use Rattle.js_bundle.specs.code.Scan.{site_of};
 ghost use Rattle.js_bundle.specs.Target.{reference, is_dynamic};
 
-use crate::column::unless_blank;
+use crate::column::tell;
 use crate::fault::{Fault, refuse};
 use crate::grouped::part;
 use crate::index::Index;
@@ -260,11 +260,8 @@ pub(crate) fn resolve_all(
     for i in 0..sites.len() {
         let names = part(keywords.names.as_slice(), keywords.ends.as_slice(), i);
         let targets = targets_of(alloc, index, sites, &sites[i], names)?;
-        dynamic.push(dynamic_of(targets.dynamic, targets.by_name))?;
-        plain.push(targets.plain)?;
+        tell(&mut dynamic, i, dynamic_of(targets.dynamic, targets.by_name))?;
+        tell(&mut plain, i, targets.plain)?;
     }
-    Ok(References {
-        dynamic: unless_blank(dynamic),
-        plain: unless_blank(plain),
-    })
+    Ok(References { dynamic, plain })
 }

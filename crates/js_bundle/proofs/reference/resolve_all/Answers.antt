@@ -4,10 +4,10 @@ use Rattle.std.proofs.lemmas.Result.{err_from_is_err_and}
 use Rattle.js_bundle.specs.Finding.{number_of_target, dynamic_at}
 use Rattle.js_bundle.specs.Refusals.{at_references, second_pass}
 use Rattle.js_bundle.specs.code.Scan.{site_of}
-use Rattle.js_bundle.proofs.Columns.{ended, unless_blank_told}
+use Rattle.js_bundle.proofs.Columns.{column_told, column_whole}
 use Rattle.js_bundle.proofs.NamesOf.{names_are}
 use Rattle.js_bundle.proofs.Stopping.{leads_past, leads_stop}
-use Rattle.js_bundle.proofs.Passes.{leads_next, place_next, dynamic_same}
+use Rattle.js_bundle.proofs.Passes.{leads_next, dynamic_same}
 use Rattle.js_bundle.proofs.reference.resolve_all.Goals as goal
 
 pub returns-in_err-targets-clause-err : goal.returns-in_err-targets-clause-err
@@ -38,21 +38,16 @@ loop-i-preserved c =
     record {
       leads = leads_past (second_pass all) (at_references all (site_of x)) (flat_map (at_references all) (map site_of (drop (l.i + 1) ss)))
           (leads_next (at_references all) ss l.i x (second_pass all) (omega arith) c.index-sites-i.is l.invariant.leads) c.in_ok-targets.ensures.clear;
-      dynamic = place_next (dynamic_at all) ss l.i x l.dynamic.items c.push.new.self.items c.dynamic_of.result (map (dynamic_at all) all) (omega arith) c.index-sites-i.is c.in_ok-push.ensures.items
+      dynamic = column_told (dynamic_at all) ss l.i x l.dynamic.items c.tell.new.column.items c.dynamic_of.result (omega arith) c.index-sites-i.is c.in_ok-tell.ensures
           (c.dynamic_of.ensures ∙ dynamic_same all (site_of x) c.in_ok-targets.targets.by_name c.in_ok-targets.targets.dynamic c.in_ok-targets.ensures.by_name c.in_ok-targets.ensures.dynamic) l.invariant.dynamic;
-      plain = place_next (number_of_target all (codes "$ref")) ss l.i x l.plain.items c.push-in-loop-i.new.self.items c.in_ok-targets.targets.plain (map (number_of_target all (codes "$ref")) all)
-          (omega arith) c.index-sites-i.is c.in_ok-push-2.ensures.items c.in_ok-targets.ensures.plain l.invariant.plain;
+      dynamic_long = c.in_ok-tell.ensures.long;
+      plain = column_told (number_of_target all (codes "$ref")) ss l.i x l.plain.items c.tell-in-loop-i.new.column.items c.in_ok-targets.targets.plain (omega arith) c.index-sites-i.is c.in_ok-tell-2.ensures
+          c.in_ok-targets.ensures.plain l.invariant.plain;
+      plain_long = c.in_ok-tell-2.ensures.long;
     }
 
 pub returns-clause-dynamic : goal.returns-clause-dynamic
-returns-clause-dynamic c =
-    let l = c.loop-i in
-    let all = map site_of c.args.sites.now in
-    unless_blank_told (dynamic_at all) all l.dynamic.items c.unless_blank.result.items (ended (dynamic_at all) c.args.sites.now l.i l.dynamic.items (map (dynamic_at all) all) (omega arith) l.invariant.dynamic) c.unless_blank.ensures
+returns-clause-dynamic c = column_whole (dynamic_at (map site_of c.args.sites.now)) c.args.sites.now c.loop-i.i c.loop-i.dynamic.items (omega arith) c.loop-i.invariant.dynamic
 
 pub returns-clause-plain : goal.returns-clause-plain
-returns-clause-plain c =
-    let l = c.loop-i in
-    let all = map site_of c.args.sites.now in
-    let f = number_of_target all (codes "$ref") in
-    unless_blank_told f all l.plain.items c.unless_blank-2.result.items (ended f c.args.sites.now l.i l.plain.items (map f all) (omega arith) l.invariant.plain) c.unless_blank-2.ensures
+returns-clause-plain c = column_whole (number_of_target (map site_of c.args.sites.now) (codes "$ref")) c.args.sites.now c.loop-i.i c.loop-i.plain.items (omega arith) c.loop-i.invariant.plain

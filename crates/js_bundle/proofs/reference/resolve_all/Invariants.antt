@@ -1,6 +1,7 @@
-use Rattle.std.proofs.Common.{◌≡◌, ◌++◌, codes, map, drop}
+use Rattle.std.proofs.Common.{◌≤◌, codes, map, take, drop, length}
 use Rattle.std.specs.List.{flat_map}
 use Rattle.js_bundle.specs.Finding.{number_of_target, dynamic_at}
+use Rattle.js_bundle.specs.code.Column.{IsColumn}
 use Rattle.js_bundle.specs.code.Leads.{Leads}
 use Rattle.js_bundle.specs.Refusals.{at_references, second_pass}
 use Rattle.js_bundle.specs.code.Scan.{site_of}
@@ -11,6 +12,8 @@ invariant-loop-i l =
     let all = map site_of l.sites in
     record {
       leads : Leads (second_pass all) (flat_map (at_references all) (map site_of (drop l.i l.sites)));
-      dynamic : l.dynamic.items ++ map (dynamic_at all) (map site_of (drop l.i l.sites)) ≡ map (dynamic_at all) all;
-      plain : l.plain.items ++ map (number_of_target all (codes "$ref")) (map site_of (drop l.i l.sites)) ≡ map (number_of_target all (codes "$ref")) all;
+      dynamic : IsColumn l.dynamic.items (dynamic_at all) (map site_of (take l.i l.sites));
+      dynamic_long : length l.dynamic.items ≤ l.i;
+      plain : IsColumn l.plain.items (number_of_target all (codes "$ref")) (map site_of (take l.i l.sites));
+      plain_long : length l.plain.items ≤ l.i;
     }
