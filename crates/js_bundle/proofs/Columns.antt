@@ -1,11 +1,10 @@
 -- What lists with an entry for each place tell.
-use Rattle.std.proofs.Common.{◌≡◌, ℕ, zero, suc, ◌+◌, ◌<◌, ◌≤◌, List, [], ◌∷◌, ◌++◌, Bool, true, false, ◌==◌, map, take, drop, get_or, length, Option, Some, None, option_and_then, slice_get, if◌then◌else◌, refl, sym, ap, subst, ◌∙◌, arith}
+use Rattle.std.proofs.Common.{◌≡◌, ℕ, zero, suc, ◌+◌, ◌<◌, ◌≤◌, List, [], ◌∷◌, ◌++◌, Bool, true, false, ◌==◌, map, take, drop, get_or, length, Option, Some, option_and_then, slice_get, if◌then◌else◌, refl, sym, ap, subst, ◌∙◌, arith}
 use Rattle.std.proofs.lemmas.Bool.{eqb-true, eqb-false}
-use Rattle.std.proofs.lemmas.List.{append-nil, drop_all, length-append, length-map, length-take-le, take_all}
-use Rattle.std.proofs.lemmas.Option.{slice_get_past}
+use Rattle.std.proofs.lemmas.List.{append-nil, drop_all, length-map, length-take-le, take_all}
 use Rattle.js_bundle.specs.declared.scan.Site as rust
 use Rattle.js_bundle.specs.code.Scan.{site_of}
-use Rattle.js_bundle.specs.code.Column.{IsColumn, IsTold, TellAlike}
+use Rattle.js_bundle.specs.code.Column.{IsColumn, IsTold}
 use Rattle.js_bundle.specs.Finding.{under_number}
 use Rattle.js_bundle.specs.Resource.{Site}
 use Rattle.js_bundle.proofs.Passes.{map_take_more}

@@ -1,18 +1,17 @@
 -- What an edge leads to stands there, and nothing else does.
-use Rattle.std.proofs.Common.{◌≡◌, ℕ, zero, suc, ◌<◌, List, [], ◌∷◌, ◌++◌, map, length, drop, get_or, Bool, true, false, ◌&&◌, ◌==◌, nat_eq, Option, Some, None, option_map, slice_get, refl, sym, ap, ◌∙◌, subst, arith}
+use Rattle.std.proofs.Common.{◌≡◌, ℕ, zero, suc, ◌<◌, ◌≤◌, List, [], ◌∷◌, ◌++◌, map, length, drop, Bool, true, false, ◌&&◌, ◌==◌, if◌then◌else◌, Option, Some, None, option_map, slice_get, refl, sym, ap, ◌∙◌, subst, arith}
 use Rattle.std.specs.List.{list_all, position_from}
 use Rattle.std.specs.Option.{option_map_or}
 use Rattle.std.specs.Str.{bytes_eq}
 use Rattle.std.proofs.lemmas.Bool.{and_parts, eqb-true, eqb-false}
-use Rattle.std.proofs.lemmas.List.{length-map}
-use Rattle.std.proofs.lemmas.Option.{slice_get-get_or, slice_get-map, slice_get_within}
+use Rattle.std.proofs.lemmas.List.{append-nil}
+use Rattle.std.proofs.lemmas.Option.{slice_get-map}
 use Rattle.js_doc.specs.Pointer.{Tokens}
 use Rattle.js_doc.proofs.Named.{is_text-sound}
 use Rattle.js_bundle.specs.declared.edges.Edges.{Edges}
 use Rattle.js_bundle.specs.declared.whole_check.Spot as rust
 use Rattle.js_bundle.specs.Document.{Documents}
-use Rattle.js_bundle.specs.code.Descent.{IsUnder, LeadUp}
-use Rattle.js_bundle.specs.code.Edges.{begins_with, is_below, leads_down, edges_under, goes_by, AreAlone, AreBare, IsLinked, LeadDown}
+use Rattle.js_bundle.specs.code.Edges.{begins_with, is_below, leads_down, edges_under, goes_by, AreAlone, AreLinked, HaveAlike, IsLinked, LeadDown}
 use Rattle.js_bundle.specs.Keyword.{Text}
 use Rattle.js_bundle.specs.Names.{same_tokens}
 use Rattle.js_bundle.specs.Resource.{sites}
@@ -21,54 +20,28 @@ use Rattle.js_bundle.specs.Seen.{AreRead}
 use Rattle.js_bundle.specs.code.Spot.{Spot, spot, spot_of, stands_below}
 use Rattle.js_bundle.proofs.Distinct.{number_of, tokens-sound}
 use Rattle.js_bundle.proofs.Finds.{position-map}
-use Rattle.js_bundle.proofs.Standing.{all_at, made_at}
+use Rattle.js_bundle.proofs.Standing.{made_at}
 
 -- ---- the edges, one more
 
-all_last : {A : Type 0} (f : A → Bool) (xs : List A) (y : A) → list_all f xs ≡ true → f y ≡ true → list_all f (xs ++ y ∷ []) ≡ true
-all_last f [] y h e = ap (λ b. b && true) e
-all_last f (x ∷ xs) y h e =
-    let parts = and_parts (f x) (list_all f xs) h in
-    ap (λ b. b && list_all f (xs ++ y ∷ [])) parts.0 ∙ all_last f xs y parts.1 e
+none_past : {A : Type 0} (xs : List A) (i : ℕ) → slice_get xs i ≡ None → length xs ≤ i
+none_past [] i e = omega arith
+none_past (x ∷ xs) zero e = absurd (cc)
+none_past (x ∷ xs) (suc i) e = let past = none_past xs i e in omega (arith, past)
 
-pub bare_down : (edges : List Edges) (places : List Spot) → AreBare edges → LeadDown edges places
-bare_down edges places h = record { down = λ n above there. by_edges above (slice_get edges n) (λ e is. all_at (λ x. x.places.items ≡ []) edges n e h is) }
+pub linked_some : (old more new : List Edges) (above place : ℕ) → HaveAlike old more → above < length more → IsLinked more above place new → AreLinked old (Some above) place new
+linked_some old more new above place alike low linked = record { told = λ n. by_number n (n == above) refl }
   where
-    by_edges : (above : Spot) (o : Option Edges) → ((e : Edges) → o ≡ Some e → e.places.items ≡ []) → list_all (leads_down above places) (option_map_or (λ e. e.places.items) o []) ≡ true
-    by_edges above None none = refl
-    by_edges above (Some e) none = ap (list_all (leads_down above places)) (none e refl)
+    here : (o q : Option Edges) → slice_get more above ≡ o → slice_get new above ≡ q → option_map_or (λ d. d.places.items) q [] ≡ option_map_or (λ d. d.places.items) o [] ++ place ∷ []
+    here None q first last = absurd (let within = none_past more above first in omega (arith, low, within))
+    here (Some a) None first last = absurd (let within = none_past new above last in let many = linked.many in omega (arith, low, within, many))
+    here (Some a) (Some b) first last = linked.here a b first last
 
-pub linked_down : (old new : List Edges) (places : List Spot) (above place : ℕ) → LeadDown old places → above < length old → IsUnder places above place → IsLinked old above place new → LeadDown new places
-linked_down old new places above place h low under linked = record { down = λ n x there. by_number n x (nat_eq n above) refl there }
-  where
-    more : (x : Spot) (o : Option Edges) → slice_get places above ≡ Some x → slice_get new above ≡ o → list_all (leads_down x places) (option_map_or (λ e. e.places.items) o []) ≡ true
-    more x None there is = refl
-    more x (Some b) there is =
-        let a = get_or old above b in
-        let had : slice_get old above ≡ Some a = slice_get-get_or old above b low in
-        let both : Some under.place ≡ Some x = sym under.there ∙ there in
-        let same : under.place ≡ x = cc in
-        ap (list_all (leads_down x places)) (linked.here a b had is)
-        ∙ all_last (leads_down x places) a.places.items place
-        (sym (ap (λ o. list_all (leads_down x places) (option_map_or (λ e. e.places.items) o [])) had) ∙ h.down above x there)
-        (subst (λ y. leads_down y places place ≡ true) same under.below)
-
-    by_number : (n : ℕ) (x : Spot) (b : Bool) → nat_eq n above ≡ b → slice_get places n ≡ Some x → list_all (leads_down x places) (edges_under new n) ≡ true
-    by_number n x true e there =
+    by_number : (n : ℕ) (b : Bool) → n == above ≡ b → edges_under new n ≡ edges_under old n ++ (if b then place ∷ [] else [])
+    by_number n true e =
         let same : n ≡ above = eqb-true n above e in
-        ap (λ m. list_all (leads_down x places) (edges_under new m)) same ∙ more x (slice_get new above) (ap (slice_get places) (sym same) ∙ there) refl
-    by_number n x false e there =
-        ap (λ o. list_all (leads_down x places) (option_map_or (λ e. e.places.items) o [])) (linked.others n (eqb-false n above e)) ∙ h.down n x there
-
-pub under_within : (spots : List rust.Spot) (above n : ℕ) → IsUnder (map spot_of spots) above n → above < length spots
-under_within spots above n h =
-    let within = slice_get_within (map spot_of spots) above h.place h.there in
-    let many = length-map spots spot_of in
-    omega (arith, within, many)
-
-pub parent_under : (spots : List rust.Spot) (parents : List (Option ℕ)) (i above : ℕ) → LeadUp parents (map spot_of spots) → i < length parents → get_or parents i None ≡ Some above
-    → IsUnder (map spot_of spots) above i
-parent_under spots parents i above h low is = h.up i above (slice_get-get_or parents i None low ∙ ap Some is)
+        ap (edges_under new) same ∙ here (slice_get more above) (slice_get new above) refl refl ∙ ap (λ es. es ++ place ∷ []) (alike.alike above ∙ ap (edges_under old) (sym same))
+    by_number n false e = ap (λ o. option_map_or (λ d. d.places.items) o []) (linked.others n (eqb-false n above e)) ∙ alike.alike n ∙ sym (append-nil (edges_under old n))
 
 -- ---- where an edge leads
 

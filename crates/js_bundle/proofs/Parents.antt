@@ -1,11 +1,14 @@
--- Each place stands below the one that it is said to stand directly below.
-use Rattle.std.proofs.Common.{◌≡◌, ℕ, zero, suc, ◌+◌, ◌-◌, ◌<◌, ◌≤◌, List, [], ◌∷◌, ◌++◌, inl, inr, ◌⊎◌, Bool, true, false, Option, Some, None, map, take, get_or, length, option_map, slice_get, MatchOption, refl, sym, ap, ◌∙◌, subst, arith}
+-- The edges lead from each place to places below it.
+use Rattle.std.proofs.Common.{◌≡◌, ℕ, zero, suc, ◌+◌, ◌-◌, ◌<◌, ◌≤◌, List, [], ◌∷◌, ◌++◌, inl, inr, ◌⊎◌, Bool, true, false, ◌&&◌, ◌==◌, if◌then◌else◌, Option, Some, None, map, take, get_or, length, option_map, slice_get, MatchOption, refl, sym, ap, ◌∙◌, arith}
+use Rattle.std.specs.List.{list_all}
+use Rattle.std.proofs.lemmas.Bool.{and_parts, eqb-true}
 use Rattle.std.proofs.lemmas.List.{length-append}
-use Rattle.std.proofs.lemmas.Option.{slice_get-map, slice_get_past}
+use Rattle.std.proofs.lemmas.Option.{slice_get-map, slice_get_past, slice_get_within}
 use Rattle.std.specs.Option.{option_map_or}
 use Rattle.js_bundle.specs.declared.scan.Site as rust
-use Rattle.js_bundle.specs.code.Descent.{descends, stands_under, IsUnder, LeadUp}
-use Rattle.js_bundle.specs.code.Edges.{is_below, leads_down}
+use Rattle.js_bundle.specs.declared.edges.Edges.{Edges}
+use Rattle.js_bundle.specs.code.Descent.{descends, stands_under}
+use Rattle.js_bundle.specs.code.Edges.{is_below, leads_down, edges_to, edges_under, AreLinked, LeadDown}
 use Rattle.js_bundle.specs.code.Located.{IsLast}
 use Rattle.js_bundle.specs.code.Scan.{site_of}
 use Rattle.js_bundle.specs.code.Spot.{Spot, spot}
@@ -45,29 +48,73 @@ last_more ss i x low is = sym (ap (λ l. slice_get l (length l - 1)) (map_take_m
 
 -- ---- one place more
 
-still_under : (places : List Spot) (x : Spot) (above n : ℕ) → IsUnder places above n → IsUnder (places ++ x ∷ []) above n
-still_under places x above n h = record { place = h.place; there = still_there places x h.place above h.there; below = down (slice_get places n) refl h.below }
+all_still : (places : List Spot) (x above : Spot) (ns : List ℕ) → list_all (leads_down above places) ns ≡ true → list_all (leads_down above (places ++ x ∷ [])) ns ≡ true
+all_still places x above [] h = refl
+all_still places x above (n ∷ ns) h =
+    let parts = and_parts (leads_down above places n) (list_all (leads_down above places) ns) h in
+    ap (λ b. b && list_all (leads_down above (places ++ x ∷ [])) ns) (still (slice_get places n) refl parts.0) ∙ all_still places x above ns parts.1
   where
-    down : (o : Option Spot) → slice_get places n ≡ o → option_map_or (is_below h.place) o false ≡ true → leads_down h.place (places ++ x ∷ []) n ≡ true
-    down None e b = absurd (cc)
-    down (Some p) e b = ap (λ q. option_map_or (is_below h.place) q false) (still_there places x p n e) ∙ b
+    still : (o : Option Spot) → slice_get places n ≡ o → option_map_or (is_below above) o false ≡ true → leads_down above (places ++ x ∷ []) n ≡ true
+    still None e b = absurd (cc)
+    still (Some p) e b = ap (λ q. option_map_or (is_below above) q false) (still_there places x p n e) ∙ b
 
-last_under : (places : List Spot) (x : Spot) (above : ℕ) → stands_under places above x ≡ true → IsUnder (places ++ x ∷ []) above (length places)
-last_under places x above h = by_place (slice_get places above) refl h
+all_both : {A : Type 0} (f : A → Bool) (xs ys : List A) → list_all f xs ≡ true → list_all f ys ≡ true → list_all f (xs ++ ys) ≡ true
+all_both f [] ys h e = e
+all_both f (x ∷ xs) ys h e =
+    let parts = and_parts (f x) (list_all f xs) h in
+    ap (λ b. b && list_all f (xs ++ ys)) parts.0 ∙ all_both f xs ys parts.1 e
+
+-- the edge to the new place leads to one below
+new_below : (places : List Spot) (x y : Spot) (a : ℕ) → stands_under places a x ≡ true → slice_get (places ++ x ∷ []) a ≡ Some y → list_all (leads_down y (places ++ x ∷ [])) (length places ∷ []) ≡ true
+new_below places x y a h there = by_place (slice_get places a) refl h
   where
-    by_place : (o : Option Spot) → slice_get places above ≡ o → option_map_or (λ a. is_below a x) o false ≡ true → IsUnder (places ++ x ∷ []) above (length places)
+    by_place : (o : Option Spot) → slice_get places a ≡ o → option_map_or (λ p. is_below p x) o false ≡ true → list_all (leads_down y (places ++ x ∷ [])) (length places ∷ []) ≡ true
     by_place None e b = absurd (cc)
-    by_place (Some a) e b = record { place = a; there = still_there places x a above e; below = ap (λ q. option_map_or (is_below a) q false) (last_there places x) ∙ b }
+    by_place (Some p) e b =
+        let both : Some p ≡ Some y = sym (still_there places x p a e) ∙ there in
+        let same : p ≡ y = cc in
+        ap (λ o. option_map_or (is_below y) o false && true) (last_there places x) ∙ ap (λ q. is_below q x && true) (sym same) ∙ ap (λ t. t && true) b
 
-pub up_next : (parents : List (Option ℕ)) (places : List Spot) (p : Option ℕ) (x : Spot) → length parents ≡ length places → LeadUp parents places
-    → MatchOption p (Unit {0}) (λ n. stands_under places n x ≡ true) → LeadUp (parents ++ p ∷ []) (places ++ x ∷ [])
-up_next parents places p x many h up = record { up = λ n above e. by_last n above (last_or parents p (Some above) n e) }
+pub down_next : (old new : List Edges) (places : List Spot) (above : Option ℕ) (x : Spot) → ((n : ℕ) → length places ≤ n → edges_under old n ≡ []) → LeadDown old places
+    → MatchOption above (Unit {0}) (λ n. stands_under places n x ≡ true) → AreLinked old above (length places) new → LeadDown new (places ++ x ∷ [])
+down_next old new places above x later h up linked = record {
+  down = λ n y there. ap (list_all (leads_down y (places ++ x ∷ []))) (linked.told n)
+      ∙ all_both (leads_down y (places ++ x ∷ [])) (edges_under old n) (edges_to above (length places) n) (had n y (last_or places x y n there)) (new_edge n y above up there);
+}
   where
-    by_last : (n above : ℕ) → (slice_get parents n ≡ Some (Some above)) ⊎ ((n ≡ length parents) × (p ≡ Some above)) → IsUnder (places ++ x ∷ []) above n
-    by_last n above (inl e) = still_under places x above n (h.up n above e)
-    by_last n above (inr e) =
-        let under : stands_under places above x ≡ true = subst (λ q. MatchOption q (Unit {0}) (λ m. stands_under places m x ≡ true)) e.1 up in
-        subst (IsUnder (places ++ x ∷ []) above) (sym (e.0 ∙ many)) (last_under places x above under)
+    had : (n : ℕ) (y : Spot) → (slice_get places n ≡ Some y) ⊎ ((n ≡ length places) × (x ≡ y)) → list_all (leads_down y (places ++ x ∷ [])) (edges_under old n) ≡ true
+    had n y (inl e) = all_still places x y (edges_under old n) (h.down n y e)
+    had n y (inr e) =
+        let last = e.0 in
+        ap (list_all (leads_down y (places ++ x ∷ []))) (later n (omega (arith, last)))
+
+    new_edge : (n : ℕ) (y : Spot) (a : Option ℕ) → MatchOption a (Unit {0}) (λ m. stands_under places m x ≡ true) → slice_get (places ++ x ∷ []) n ≡ Some y → list_all (leads_down y (places ++ x ∷ [])) (edges_to a (length places) n) ≡ true
+    new_edge n y None u there = refl
+    new_edge n y (Some a) u there = by_number (n == a) refl
+      where
+        by_number : (b : Bool) → n == a ≡ b → list_all (leads_down y (places ++ x ∷ [])) (if b then length places ∷ [] else []) ≡ true
+        by_number true e = new_below places x y a u (ap (slice_get (places ++ x ∷ [])) (sym (eqb-true n a e)) ∙ there)
+        by_number false e = refl
+
+-- what isn't a place has no edges
+pub later_next : (old new : List Edges) (places : List Spot) (above : Option ℕ) (x : Spot) (n : ℕ) → ((m : ℕ) → length places ≤ m → edges_under old m ≡ [])
+    → MatchOption above (Unit {0}) (λ m. stands_under places m x ≡ true) → AreLinked old above (length places) new → length places + 1 ≤ n → edges_under new n ≡ []
+later_next old new places above x n later up linked past = linked.told n ∙ ap (λ es. es ++ edges_to above (length places) n) (later n (omega (arith, past))) ∙ by_above above up
+  where
+    by_above : (a : Option ℕ) → MatchOption a (Unit {0}) (λ m. stands_under places m x ≡ true) → edges_to a (length places) n ≡ []
+    by_above None u = refl
+    by_above (Some a) u = by_number (n == a) refl
+      where
+        by_place : (o : Option Spot) → slice_get places a ≡ o → option_map_or (λ p. is_below p x) o false ≡ true → a < length places
+        by_place None e b = absurd (cc)
+        by_place (Some p) e b = slice_get_within places a p e
+
+        by_number : (b : Bool) → n == a ≡ b → (if b then length places ∷ [] else []) ≡ []
+        by_number true e =
+            let within = by_place (slice_get places a) refl u in
+            let same = eqb-true n a e in
+            absurd (omega (arith, within, same, past))
+        by_number false e = refl
 
 -- ---- a place below another one
 

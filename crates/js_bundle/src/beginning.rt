@@ -27,7 +27,10 @@ impl Beginning {
     pub(crate) fn copy(&self, alloc: Global, tokens: &[Token]) -> Result<String, Memory>
         ensures { IfOk result (λ t. string_bytes t ≡ string_bytes self.now.text) }
     {
-        let room = self.text.len().saturating_add(room_for(tokens, self.tokens));
+        let room = self
+            .text
+            .len()
+            .saturating_add(room_for(tokens, self.tokens));
         let mut text = String::with_capacity(alloc, room)?;
         text.push_str(self.text.as_str())?;
         Ok(text)

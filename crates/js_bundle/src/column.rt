@@ -4,8 +4,8 @@ ghost use Rattle.js_bundle.specs.code.Column.{IsTold, TellAlike};
 
 use js_doc::Memory;
 
-/// Tells the entry of the place with this number, those before it are told of. Where the last places have none, the list
-/// ends before them.
+/// Tells the entry of the place with this number, once those before it are told of. Where the last places have none, the
+/// list ends before them.
 pub(crate) fn tell<T: Copy + Drop>(
     column: &mut Vec<Option<T>>,
     number: usize,

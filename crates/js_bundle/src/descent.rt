@@ -15,8 +15,7 @@ pub(crate) fn descends(before: Option<&Site<'_>>, site: &Site<'_>, shared: usize
     ensures { result ≡ spec.descends (option_map (λ b. spot (site_of b.now)) before.entry) (spot (site_of site.now)) }
 {
     match before {
-        Some(before) => site.document == before.document
-            && shared == before.pointer.tokens().len(),
+        Some(before) => site.document == before.document && shared == before.pointer.tokens().len(),
         None => false,
     }
 }

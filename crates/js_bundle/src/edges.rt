@@ -1,8 +1,7 @@
 //! The ways from each place to those that stand directly below it.
 ghost use Rattle.std.specs.Prelude.{◌≡◌, ◌<◌, ◌∷◌, true, drop, length, map, Some, IfOk, OnOk, MatchOption};
 ghost use Rattle.std.specs.List.{list_all, position_from};
-ghost use Rattle.js_bundle.specs.code.Descent.{LeadUp};
-ghost use Rattle.js_bundle.specs.code.Edges.{leads_down, goes_by, edges_under, AreAlone, AreBare, IsLinked, LeadDown};
+ghost use Rattle.js_bundle.specs.code.Edges.{leads_down, goes_by, edges_under, AreAlone, AreLinked, HaveAlike, IsLinked};
 ghost use Rattle.js_bundle.specs.Names.{same_tokens};
 ghost use Rattle.js_bundle.specs.Schemas.{step_of, step_tokens};
 ghost use Rattle.js_bundle.specs.code.Spot.{spot_of, stands_below};
@@ -20,36 +19,34 @@ pub(crate) struct Edges {
     pub(crate) places: Vec<usize>,
 }
 
-/// The edges of each place. It is told of each which one it stands directly below.
-pub(crate) fn edges_of(
+/// Adds an edge to a place from the one that it stands directly below. Where the last places have no edges, the list ends
+/// before them.
+pub(crate) fn link(
     alloc: Global,
-    spots: &[Spot],
-    parents: &[Option<usize>],
-) -> Result<Vec<Edges>, Memory>
-    requires { LeadUp parents.now (map spot_of spots.now) }
-    ensures { IfOk result (λ v. LeadDown v.items (map spot_of spots.now)) }
+    edges: &mut Vec<Edges>,
+    above: Option<usize>,
+    place: usize,
+) -> Result<(), Memory>
+    ensures { OnOk result (AreLinked edges.old.items above place edges.new.items) }
 {
-    let mut edges = no_edges(alloc, spots.len())?;
-    for i in 0..parents.len() {
-        if let Some(above) = parents[i] {
-            add_edge(&mut edges, above, i)?;
-        }
-    }
-    Ok(edges)
+    let Some(above) = above else {
+        return Ok(());
+    };
+    reach(alloc, edges, above)?;
+    add_edge(edges, above, place)
 }
 
-// Those of as many places, none yet.
-fn no_edges(alloc: Global, places: usize) -> Result<Vec<Edges>, Memory>
-    ensures many { IfOk result (λ v. length v.items ≡ places) }
-    ensures none { IfOk result (λ v. AreBare v.items) }
+// Makes the list so long that it has the place with this number.
+fn reach(alloc: Global, edges: &mut Vec<Edges>, number: usize) -> Result<(), Memory>
+    ensures alike { OnOk result (HaveAlike edges.old.items edges.new.items) }
+    ensures there { OnOk result (number < length edges.new.items) }
 {
-    let mut edges = Vec::with_capacity(alloc, places)?;
-    for _ in 0..places {
+    while edges.len() <= number {
         edges.push(Edges {
             places: Vec::new(alloc),
         })?;
     }
-    Ok(edges)
+    Ok(())
 }
 
 // Adds the edge to a place from the one above it.

@@ -5,6 +5,7 @@ ghost use Rattle.js_bundle.specs.code.Scan.{site_of};
 
 use crate::beginning::{Beginning, shared_with};
 use crate::descent::{descends, parent_of};
+use crate::edges::{Edges, link};
 use crate::index::Index;
 use crate::keys::next_key;
 use crate::location::next_location;
@@ -17,8 +18,8 @@ use std::alloc::Global;
 #[derive(Drop)]
 pub(crate) struct Located {
     pub(crate) index: Index,
-    /// Of each place, the number of the one that it stands directly below.
-    pub(crate) parents: Vec<Option<usize>>,
+    /// The ways from each place to those directly below it. Where the last places have none, it ends before them.
+    pub(crate) edges: Vec<Edges>,
     /// Of each, whether it is the root of its own resource.
     pub(crate) roots: Vec<bool>,
     /// The absolute location of each.
@@ -52,7 +53,7 @@ impl Located {
         let index = Index::with_capacity(alloc, places)?;
         Ok(Located {
             index,
-            parents: Vec::with_capacity(alloc, places)?,
+            edges: Vec::new(alloc),
             roots: Vec::with_capacity(alloc, places)?,
             locations: Vec::with_capacity(alloc, places)?,
             way: Vec::new(alloc),
@@ -76,7 +77,7 @@ impl Located {
         let shared = shared_with(before, site);
         let descends = descends(before, site, shared);
         let parent = parent_of(&mut self.way, earlier, site, descends);
-        self.parents.push(parent)?;
+        link(alloc, &mut self.edges, parent, earlier.len())?;
         self.way.push(earlier.len())?;
         self.roots.push(begins_resource(site))?;
         let key = next_key(alloc, &mut beginnings.key, before, site, shared)?;

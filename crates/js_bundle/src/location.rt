@@ -75,7 +75,12 @@ pub(crate) fn next_location(
     let root = site.own.resource.tokens().len();
     let way = way_from(site.pointer.tokens(), root);
     let told = way.len().saturating_sub(1);
-    begin(beginning, before, site, shared.saturating_sub(root).min(told))?;
+    begin(
+        beginning,
+        before,
+        site,
+        shared.saturating_sub(root).min(told),
+    )?;
     extend(beginning, way, told)?;
     let mut text = beginning.copy(alloc, way)?;
     push_way(&mut text, way, told)?;

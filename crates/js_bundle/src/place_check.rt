@@ -247,8 +247,7 @@ impl Passed {
         let index = &self.located.index;
         check_site(alloc, &mut self.built.all, index, earlier, site)?;
         self.built.end_place()?;
-        self.located
-            .add(alloc, beginnings, earlier, before, site)?;
+        self.located.add(alloc, beginnings, earlier, before, site)?;
         Ok(())
     }
 }

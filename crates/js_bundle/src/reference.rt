@@ -260,7 +260,11 @@ pub(crate) fn resolve_all(
     for i in 0..sites.len() {
         let names = part(keywords.names.as_slice(), keywords.ends.as_slice(), i);
         let targets = targets_of(alloc, index, sites, &sites[i], names)?;
-        tell(&mut dynamic, i, dynamic_of(targets.dynamic, targets.by_name))?;
+        tell(
+            &mut dynamic,
+            i,
+            dynamic_of(targets.dynamic, targets.by_name),
+        )?;
         tell(&mut plain, i, targets.plain)?;
     }
     Ok(References { dynamic, plain })

@@ -3,7 +3,6 @@ ghost use Rattle.std.specs.Prelude.{◌≡◌, ◌++◌, [], ◌∷◌, codes, m
 ghost use Rattle.js_bundle.specs.AssertionsAndPatterns.{assertions_at, patterns_at};
 ghost use Rattle.js_bundle.specs.Candidate.{IsClear, IsStopped};
 ghost use Rattle.js_bundle.specs.code.Column.{IsColumn};
-ghost use Rattle.js_bundle.specs.code.Descent.{LeadUp};
 ghost use Rattle.js_bundle.specs.code.Edges.{LeadDown};
 ghost use Rattle.js_bundle.specs.Finding.{dynamic_at, number_of_target};
 ghost use Rattle.js_bundle.specs.code.Grouped.{IsGrouped};
@@ -20,7 +19,7 @@ ghost use Rattle.js_bundle.specs.code.Spot.{spot, spot_of};
 
 use crate::assertions_and_patterns::BuiltTable;
 use crate::document::Document;
-use crate::edges::{Edges, edges_of};
+use crate::edges::Edges;
 use crate::fault::Fault;
 use crate::index::Index;
 use crate::keyword_table::KeywordTable;
@@ -119,28 +118,6 @@ fn look_up(
     })
 }
 
-/// Where the places stand, and the ways between them.
-#[derive(Drop)]
-struct Standing {
-    spots: Vec<Spot>,
-    edges: Vec<Edges>,
-}
-
-// The same of these places. It is told of each which one it stands directly below.
-fn standing_of(
-    alloc: Global,
-    sites: Vec<Site<'_>>,
-    parents: &[Option<usize>],
-) -> Result<Standing, Memory>
-    requires { LeadUp parents.now (map spot (map site_of sites.items)) }
-    ensures spots { IfOk result (λ s. map spot_of s.spots.items ≡ map spot (map site_of sites.entry.items)) }
-    ensures edges { IfOk result (λ s. LeadDown s.edges.items (map spot_of s.spots.items)) }
-{
-    let spots = spots_of(alloc, sites)?;
-    let edges = edges_of(alloc, spots.as_slice(), parents)?;
-    Ok(Standing { spots, edges })
-}
-
 /// Checks documents whole: each place with its keywords, and then each reference.
 pub(crate) fn check_whole(alloc: Global, documents: &[Document]) -> Result<Checked, Fault>
     requires { AreRead (map document_of documents.now) }
@@ -169,15 +146,14 @@ pub(crate) fn check_whole(alloc: Global, documents: &[Document]) -> Result<Check
     let sites = scan(alloc, documents)?;
     let passed = first_pass(alloc, sites.as_slice())?;
     let found = look_up(alloc, &passed.located, sites.as_slice(), &passed.keywords)?;
-    let standing = standing_of(alloc, sites, passed.located.parents.as_slice())?;
     Ok(Checked {
-        spots: standing.spots,
+        spots: spots_of(alloc, sites)?,
         built: passed.built,
         keywords: passed.keywords,
         references: found.references,
         locations: passed.located.locations,
         index: passed.located.index,
         resources: found.resources,
-        edges: standing.edges,
+        edges: passed.located.edges,
     })
 }

@@ -1,4 +1,4 @@
-use Rattle.std.proofs.Common.{◌≡◌, ◌+◌, min, length, sym, ap, ◌∙◌, arith}
+use Rattle.std.proofs.Common.{◌≡◌, ◌+◌, sym, ap, ◌∙◌, arith}
 use Rattle.js_bundle.proofs.SharedTokens.{shared_ends}
 use Rattle.js_bundle.proofs.beginning.shared.Goals as goal
 

@@ -1,4 +1,4 @@
-use Rattle.std.proofs.Common.{◌≡◌, ◌≤◌, ◌++◌, drop, take, string_bytes, ap, ◌∙◌, arith}
+use Rattle.std.proofs.Common.{◌++◌, drop, take, string_bytes, ap, ◌∙◌, arith}
 use Rattle.js_doc.specs.Pointer.{pointer_text}
 use Rattle.js_bundle.specs.code.Beginning.{BeginsKey}
 use Rattle.js_bundle.specs.code.Scan.{site_of}

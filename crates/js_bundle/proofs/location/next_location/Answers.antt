@@ -1,4 +1,4 @@
-use Rattle.std.proofs.Common.{◌≡◌, ◌≤◌, ◌++◌, drop, take, length, string_bytes, ap, ◌∙◌, arith}
+use Rattle.std.proofs.Common.{◌≡◌, ◌++◌, drop, take, length, string_bytes, ap, ◌∙◌, arith}
 use Rattle.js_doc.specs.Fragment.{fragment_text}
 use Rattle.js_bundle.specs.code.Beginning.{BeginsLocation}
 use Rattle.js_bundle.specs.code.Scan.{site_of}

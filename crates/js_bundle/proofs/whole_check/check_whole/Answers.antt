@@ -8,7 +8,7 @@ use Rattle.js_bundle.specs.Resource.{sites}
 use Rattle.js_bundle.specs.ResourceTable.{AreRooted, IsResourceTable}
 use Rattle.js_bundle.specs.Seen.{document_of}
 use Rattle.js_bundle.specs.code.Column.{IsColumn}
-use Rattle.js_bundle.specs.code.Descent.{LeadUp}
+use Rattle.js_bundle.specs.code.Edges.{LeadDown}
 use Rattle.js_bundle.specs.code.Grouped.{IsGrouped}
 use Rattle.js_bundle.specs.code.Index.{IsIndex}
 use Rattle.js_bundle.specs.code.Located.{IsLocated}
@@ -33,9 +33,9 @@ returns-in_err-found-clause-err c =
     let second : map site_of c.as_slice-2.result.now ≡ sites ds = ap (map site_of) (c.as_slice-2.ensures.value ∙ sym c.as_slice.ensures.value) ∙ first in
     rw (p.1, p.2) (second_stops ds (map site_of c.as_slice.result.now) (map site_of c.as_slice-2.result.now) c.in_err-found.field-0.0 first second c.in_ok-passed.ensures.clear c.in_err-found.ensures.err)
 
-pub returns-in_err-standing-clause-err : goal.returns-in_err-standing-clause-err
-returns-in_err-standing-clause-err c =
-    let p = err_from_is_err_and c.from_residual-in_err-standing.result c.from_residual-in_err-standing.ensures.1 in
+pub returns-in_err-spots_of-clause-err : goal.returns-in_err-spots_of-clause-err
+returns-in_err-spots_of-clause-err c =
+    let p = err_from_is_err_and c.from_residual-in_err-spots_of.result c.from_residual-in_err-spots_of.ensures.1 in
     rw (p.1, p.2) tt
 
 pub look_up-requires-clause-located : goal.look_up-requires-clause-located
@@ -58,11 +58,6 @@ look_up-requires-clause-rooted c =
     let second : map site_of c.as_slice-2.result.now ≡ sites ds = ap (map site_of) (c.as_slice-2.ensures.value ∙ sym c.as_slice.ensures.value) ∙ first in
     subst AreRooted (sym second) (all_are_rooted ds c.requires)
 
-pub standing_of-requires : goal.standing_of-requires
-standing_of-requires c =
-    subst (λ ps. LeadUp ps (map spot (map site_of c.in_ok-sites.sites.items))) (sym c.as_slice-3.ensures.value)
-    (subst (λ ss. LeadUp c.in_ok-passed.passed.located.parents.items (map spot (map site_of ss))) c.as_slice.ensures.value c.in_ok-passed.ensures.located.parents)
-
 pub returns-clause-clear : goal.returns-clause-clear
 returns-clause-clear c =
     let ds = map document_of c.args.documents.now in
@@ -77,7 +72,7 @@ returns-clause-spots c =
     let first : map site_of c.as_slice.result.now ≡ sites ds =
     lists_all ds (map site_of c.as_slice.result.now) (ap (map site_of) c.as_slice.ensures.value ∙ c.in_ok-sites.ensures) c.in_ok-passed.ensures.clear in
     let all : map site_of c.in_ok-sites.sites.items ≡ sites ds = ap (map site_of) (sym c.as_slice.ensures.value) ∙ first in
-    c.in_ok-standing.ensures.spots ∙ ap (map spot) all
+    c.in_ok-spots_of.ensures ∙ ap (map spot) all
 
 pub returns-clause-assertions : goal.returns-clause-assertions
 returns-clause-assertions c =
@@ -140,3 +135,8 @@ returns-clause-resources c =
     lists_all ds (map site_of c.as_slice.result.now) (ap (map site_of) c.as_slice.ensures.value ∙ c.in_ok-sites.ensures) c.in_ok-passed.ensures.clear in
     let second : map site_of c.as_slice-2.result.now ≡ sites ds = ap (map site_of) (c.as_slice-2.ensures.value ∙ sym c.as_slice.ensures.value) ∙ first in
     subst (IsResourceTable c.in_ok-found.found.resources) second c.in_ok-found.ensures.resources
+
+pub returns-clause-edges : goal.returns-clause-edges
+returns-clause-edges c =
+    let edges = c.in_ok-passed.passed.located.edges.items in
+    subst (LeadDown edges) (ap (λ ss. map spot (map site_of ss)) c.as_slice.ensures.value ∙ sym c.in_ok-spots_of.ensures) c.in_ok-passed.ensures.located.edges

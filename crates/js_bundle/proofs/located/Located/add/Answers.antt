@@ -1,6 +1,7 @@
 use Rattle.std.proofs.Common.{◌-◌, ◌∷◌, ◌++◌, [], map, option_map, sym, ap, subst, ◌∙◌, rules}
 use Rattle.std.proofs.lemmas.List.{length-map}
 use Rattle.js_bundle.specs.code.Descent.{descends, stands_under}
+use Rattle.js_bundle.specs.code.Edges.{AreLinked}
 use Rattle.js_bundle.specs.code.Index.{IsAdded}
 use Rattle.js_bundle.specs.code.Scan.{site_of}
 use Rattle.js_bundle.specs.code.Spot.{spot}
@@ -22,8 +23,8 @@ returns-clause-located c =
     record {
       index = subst (λ n. IsAdded old.index site n c.add.new.self) (sym (length-map c.args.earlier.now site_of)) c.in_ok-add.ensures;
       parent = c.parent_of-parent.result;
-      parents = (search rules);
       above = c.parent_of-parent.ensures;
+      edges = subst (λ n. AreLinked old.edges.items c.parent_of-parent.result n c.link.new.edges.items) (sym (length-map c.args.earlier.now site_of)) c.in_ok-link.ensures;
       roots = (search rules);
       locations = (search rules) ∙ ap (λ t. old.locations.items ++ t ∷ []) c.in_ok-location.ensures.location;
     }
