@@ -23,9 +23,6 @@ others_there (y ∷ ys) x (suc n) other = others_there ys x n (λ e. other (ap s
 
 -- ---- a list that is told place by place
 
-pub column_first : {A : Type 0} (f : Site → Option A) (column : List (Option A)) → column ≡ [] → IsColumn column f []
-column_first f column e = record { told = λ n. ap (λ c. under_number c n) e }
-
 pub column_told : {A : Type 0} (f : Site → Option A) (ss : List rust.Site) (i : ℕ) (x : rust.Site) (old new : List (Option A)) (entry : Option A) → i < length ss → x ≡ get_or ss i x
     → IsTold old i entry new → entry ≡ f (site_of x) → IsColumn old f (map site_of (take i ss)) → IsColumn new f (map site_of (take (i + 1) ss))
 column_told f ss i x old new entry low is told same h = record { told = λ n. told.told n ∙ by_number n (n == i) refl ∙ ap (λ l. option_and_then f (slice_get l n)) (sym (map_take_more site_of ss i x low is)) }

@@ -1,8 +1,8 @@
 -- The texts that tell where a place stands go on from where those of the place before it are the same.
-use Rattle.std.proofs.Common.{◌≡◌, ℕ, zero, suc, ◌+◌, ◌-◌, ◌<◌, ◌≤◌, min, List, [], ◌∷◌, ◌++◌, Bool, true, false, ◌&&◌, ◌==◌, bytes_eq, codes, decimal, take, drop, get_or, length, string_bytes, if◌then◌else◌, refl, sym, ap, ap₂, ◌∙◌, append_assoc, arith}
+use Rattle.std.proofs.Common.{◌≡◌, ℕ, zero, suc, ◌-◌, ◌≤◌, min, List, [], ◌∷◌, ◌++◌, Bool, true, false, ◌&&◌, ◌==◌, bytes_eq, codes, decimal, take, drop, length, string_bytes, if◌then◌else◌, refl, sym, ap, ap₂, ◌∙◌, append_assoc, arith}
 use Rattle.std.proofs.Math.Dec.{eqb-suc-suc, eqb-zero-suc}
 use Rattle.std.proofs.lemmas.Bool.{and_parts, eqb-true}
-use Rattle.std.proofs.lemmas.List.{append-nil, drop_more, length-drop, take-append-drop, take-take}
+use Rattle.std.proofs.lemmas.List.{append-nil, length-drop, take-append-drop, take-take}
 use Rattle.js_doc.specs.Fragment.{fragment_text}
 use Rattle.js_doc.specs.Pointer.{Tokens, pointer_text, token_text}
 use Rattle.js_doc.proofs.Named.{is_text-sound}
@@ -51,12 +51,7 @@ shared_way n (suc r) (l ∷ q) (k ∷ p) h = by_token (bytes_eq l k) (shared_way
     by_token true more low = more (omega (arith, low))
     by_token false more low = take_none n (drop r p) (drop r q) (omega (arith, low))
 
--- one token more, and after the last one
-pub shared_more : (q p : Tokens) (i : ℕ) (l k : List ℕ) → i < length q → i < length p → l ≡ get_or q i l → k ≡ get_or p i k
-    → shared (drop i q) (drop i p) ≡ (if bytes_eq l k then suc (shared (drop (i + 1) q) (drop (i + 1) p)) else 0)
-shared_more q p i l k inner outer is that =
-    ap₂ shared (drop_more q i l inner ∙ ap (λ t. t ∷ drop (i + 1) q) (sym is)) (drop_more p i k outer ∙ ap (λ t. t ∷ drop (i + 1) p) (sym that))
-
+-- after the last one of either
 pub shared_ends : (q p : Tokens) (i : ℕ) → i ≡ min (length q) (length p) → shared (drop i q) (drop i p) ≡ 0
 shared_ends q p i e = by_lists (drop i q) (drop i p) (length-drop i q) (length-drop i p)
   where

@@ -1,7 +1,6 @@
 -- What is kept under a place's number.
-use Rattle.std.proofs.Common.{◌≡◌, ℕ, List, map, true, Option, Some, None, option_map, option_and_then, is_some, slice_get, find, bytes_eq, codes, false, refl, sym, ap, ◌∙◌, subst}
+use Rattle.std.proofs.Common.{◌≡◌, ℕ, List, true, Option, Some, None, option_map, option_and_then, is_some, slice_get, find, bytes_eq, codes, false, refl, sym, ap, ◌∙◌, subst}
 use Rattle.std.specs.Option.{option_map_or}
-use Rattle.std.proofs.lemmas.Option.{slice_get-map}
 use Rattle.js_assert.specs.Assertion.{Asserted}
 use Rattle.js_assert.specs.Keyword.{name_of}
 use Rattle.js_bundle.specs.declared.assertions_and_patterns.BuiltPattern.{BuiltPattern}
@@ -46,14 +45,7 @@ pattern_is documents r place name items o e h = ap (option_map (λ b. b.pattern)
 
 -- ---- what stands in a list with an entry for each place
 
-flat : {A : Type 0} (f : Site → Option A) (o : Option Site) → option_and_then (λ x. x) (option_map f o) ≡ option_and_then f o
-flat f None = refl
-flat f (Some s) = refl
-
-pub under_finds : {A : Type 0} (f : Site → Option A) (all : List Site) (n : ℕ) → under_number (map f all) n ≡ option_and_then f (slice_get all n)
-under_finds f all n = ap (option_and_then (λ x. x)) (slice_get-map f all n) ∙ flat f (slice_get all n)
-
--- the same, of what is kept of finished schemas
+-- what is kept of finished schemas
 pub kept_under : {A : Type 0} (f : Documents → Site → Option A) (docs documents : Documents) (items : List (Option A)) (n place : ℕ) (o : Option A) → docs ≡ documents → n ≡ place
     → IsColumn items (f docs) (sites docs) → o ≡ under_number items n → o ≡ option_and_then (f documents) (place_at documents place)
 kept_under f docs documents items n place o same number e h =
