@@ -231,6 +231,9 @@ def large():
     keywords = compact({f"k{i}": 0 for i in range(999_999)})
     yield valid("a schema of 999,999 keywords", keywords, "0")
     yield from too_large("a schema of 1,000,000 keywords", compact({f"k{i}": 0 for i in range(1_000_000)}))
+    patterns = compact({"patternProperties": {f"^p{i:05}$": {} for i in range(50_000)}, "additionalProperties": False})
+    yield valid("50,000 patterns, each name matched by one", patterns, '{"p00000":1,"p25007":2,"p49999":3}')
+    yield check("50,000 patterns, a name matched by none", patterns, '{"p00000":1,"p50000":2}', out=INVALID, status=1)
     yield valid("a pattern that is slow to compile", compact({"pattern": "(\\pL{40}){8}"}), "0")
     yield refused("a pattern that is too large", 'document 0 at "/pattern": PatternTooLarge',
                   compact({"pattern": "((a{100}){100}){100}"}))

@@ -21,7 +21,7 @@ use Rattle.js_bundle.specs.code.Spot.{Spot, spot}
 use Rattle.js_bundle.specs.Target as spec
 use Rattle.js_bundle.specs.Url.{fragment}
 use Rattle.js_bundle.proofs.Finds.{finds_place}
-use Rattle.js_bundle.proofs.UnderNumber.{kept_under}
+use Rattle.js_bundle.proofs.UnderNumber.{has_kept, has_target, kept_under}
 use Rattle.js_bundle.proofs.Targets.{first_target_there, number_is_target}
 
 -- ---- a search by numbers, one number on
@@ -148,16 +148,21 @@ led documents path place m r h there =
 
 -- ---- there is one
 
-none_kept : (documents : Documents) (i : ℕ) (o : Option Site) → IsClear (candidates documents) → place_at documents i ≡ o → option_map_or (λ s. has (codes "$dynamicRef") s.schema) o false ≡ true
-    → ¬ (option_and_then (dynamic_in documents) o ≡ None)
-none_kept documents i None clear e has_it h = absurd (cc)
-none_kept documents i (Some s) clear e has_it h = by_target (number_of_target (sites documents) (codes "$dynamicRef") s) (first_target_there documents clear i s e has_it) h
-  where
-    by_target : (o : Option ℕ) → is_some o ≡ true → ¬ (option_map (dynamic_as (goes_by_name (sites documents) s)) o ≡ None)
-    by_target None some h = absurd (cc)
-    by_target (Some t) some h = absurd (cc)
+some_of_map : {A B : Type 0} (f : A → B) (o : Option A) → is_some (option_map f o) ≡ is_some o
+some_of_map f None = refl
+some_of_map f (Some x) = refl
+
+pub has_dynamic_ref_kept : (docs documents : Documents) (items : List (Option DynamicReference)) (n place : ℕ) → docs ≡ documents → n ≡ place → IsClear (candidates docs)
+    → IsColumn items (dynamic_in docs) (sites docs) → is_some (under_number items n) ≡ has_keyword (codes "$dynamicRef") documents place
+has_dynamic_ref_kept docs documents items n place same number clear e =
+    has_kept dynamic_in (codes "$dynamicRef") docs documents items n place same number e
+    (λ s is. some_of_map (dynamic_as (goes_by_name (sites documents) s)) (number_of_target (sites documents) (codes "$dynamicRef") s)
+    ∙ has_target (sites documents) (codes "$dynamicRef") s (has (codes "$dynamicRef") s.schema) refl
+    (first_target_there documents (subst (λ ds. IsClear (candidates ds)) same clear) place s is))
 
 pub reference_missing : (docs documents : Documents) (items : List (Option DynamicReference)) (n place : ℕ) → docs ≡ documents → n ≡ place → IsClear (candidates docs)
     → IsColumn items (dynamic_in docs) (sites docs) → has_keyword (codes "$dynamicRef") documents place ≡ true → ¬ (None ≡ under_number items n)
-reference_missing docs documents items n place same number clear e has_it h =
-    none_kept documents place (place_at documents place) (subst (λ ds. IsClear (candidates ds)) same clear) refl has_it (sym (kept_under dynamic_in docs documents items n place None same number e h))
+reference_missing docs documents items n place same number clear e there_is h =
+    let some : is_some (under_number items n) ≡ true = has_dynamic_ref_kept docs documents items n place same number clear e ∙ there_is in
+    let none : is_some (under_number items n) ≡ false = ap is_some (sym h) in
+    absurd (cc)

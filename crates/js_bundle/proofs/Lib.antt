@@ -21,6 +21,7 @@ pub mod OneName
 pub mod Assertions
 pub mod Depth
 pub mod PatternNext
+pub mod Patterns
 pub mod Whole
 pub mod Kept
 pub mod Finds

@@ -1,7 +1,5 @@
 -- The schema of a place that is kept.
-use Rattle.std.specs.Option.{option_map_or}
-use Rattle.js_bundle.specs.Keyword.{Text, has}
-use Rattle.std.proofs.Common.{◌≡◌, ℕ, ◌+◌, ◌<◌, List, [], ◌∷◌, ◌++◌, map, take, length, get_or, slice_get, false, Option, Some, None, option_map, refl, sym, ap, ◌∙◌, subst}
+use Rattle.std.proofs.Common.{◌≡◌, ℕ, ◌+◌, ◌<◌, List, [], ◌∷◌, ◌++◌, map, take, length, get_or, slice_get, Option, Some, None, option_map, refl, sym, ap, ◌∙◌, subst}
 use Rattle.std.proofs.lemmas.List.{take_more}
 use Rattle.std.proofs.lemmas.Option.{slice_get_within, get_or_from_slice_get}
 use Rattle.js_doc.specs.Lookup.{at}
@@ -55,12 +53,6 @@ at_index items x o d there e = ap (λ y. at x.pointer (value_of y.root)) (e ∙ 
 pub some_there : (items : List rust.Document) (x : Spot) (o : Option Site) → SchemaThere items x o → option_map spot o ≡ Some x → ¬ (option_map (λ s. s.schema) o ≡ None)
 some_there items x None there h e = absurd (cc)
 some_there items x (Some s) there h e = absurd (cc)
-
--- ---- a keyword of it
-
-pub has_at : (k : Text) (o : Option Site) (v : Value) → option_map (λ s. s.schema) o ≡ Some v → has k v ≡ option_map_or (λ place. has k place.schema) o false
-has_at k None v e = absurd (cc)
-has_at k (Some s) v e = let same : v ≡ s.schema = cc in ap (has k) same
 
 -- ---- a place as the scan found it
 

@@ -1,6 +1,7 @@
 -- What is kept under a place's number.
-use Rattle.std.proofs.Common.{◌≡◌, ℕ, List, true, Option, Some, None, option_map, option_and_then, is_some, slice_get, find, bytes_eq, codes, false, refl, sym, ap, ◌∙◌, subst}
+use Rattle.std.proofs.Common.{◌≡◌, ℕ, List, Bool, true, Option, Some, None, option_map, option_and_then, is_some, slice_get, find, bytes_eq, codes, false, refl, sym, ap, ◌∙◌, subst}
 use Rattle.std.specs.Option.{option_map_or}
+use Rattle.js_doc.specs.Value.{Value}
 use Rattle.js_assert.specs.Assertion.{Asserted}
 use Rattle.js_assert.specs.Keyword.{name_of}
 use Rattle.js_bundle.specs.declared.assertions_and_patterns.BuiltPattern.{BuiltPattern}
@@ -8,10 +9,10 @@ use Rattle.js_bundle.specs.AssertionsAndPatterns.{assertions_at, patterns_at}
 use Rattle.js_bundle.specs.Candidate.{IsClear}
 use Rattle.js_bundle.specs.code.Column.{IsColumn}
 use Rattle.js_bundle.specs.Document.{Documents}
-use Rattle.js_bundle.specs.Finding.{number_of_target, under_number}
-use Rattle.js_bundle.specs.Keyword.{Text, has}
+use Rattle.js_bundle.specs.Finding.{number_named, number_of_target, under_number}
+use Rattle.js_bundle.specs.Keyword.{Text, argument, as_text, has}
 use Rattle.js_bundle.specs.Refusals.{candidates}
-use Rattle.js_bundle.specs.Resource.{Site, sites}
+use Rattle.js_bundle.specs.Resource.{Site, joined, sites}
 use Rattle.js_bundle.specs.Schemas.{place_at, has_keyword, assertion, pattern, StandsFor}
 use Rattle.js_bundle.specs.Seen.{AreRead}
 use Rattle.js_bundle.specs.Target.{target}
@@ -67,15 +68,40 @@ pub target_is : (docs documents : Documents) (items : List (Option ℕ)) (n plac
 target_is docs documents items n place t same number e h =
     target_by documents place (place_at documents place) t refl (sym (kept_under plain_at docs documents items n place (Some t) same number e h))
 
-no_target : (documents : Documents) (place : ℕ) (o : Option Site) → IsClear (candidates documents) → place_at documents place ≡ o
-    → option_map_or (λ s. has (codes "$ref") s.schema) o false ≡ true → ¬ (option_and_then (plain_at documents) o ≡ None)
-no_target documents place None clear is there e = absurd (cc)
-no_target documents place (Some s) clear is there e =
-    let some : is_some (number_of_target (sites documents) (codes "$ref") s) ≡ true = target_there documents clear place s is there in
-    let none : is_some (number_of_target (sites documents) (codes "$ref") s) ≡ false = ap is_some e in
-    absurd (cc)
+-- ---- whether there is one
+
+no_reference : (all : List Site) (k : Text) (s : Site) → has k s.schema ≡ false → is_some (number_of_target all k s) ≡ false
+no_reference all k s e = by_argument (argument k s.schema) refl e
+  where
+    by_argument : (o : Option Value) → argument k s.schema ≡ o → is_some o ≡ false → is_some (number_of_target all k s) ≡ false
+    by_argument None is e = ap (λ o. is_some (option_and_then (number_named all) (option_and_then (joined s.own.base) (option_and_then as_text o)))) is
+    by_argument (Some v) is e = absurd (cc)
+
+-- a place has a target exactly where it has the keyword
+pub has_target : (all : List Site) (k : Text) (s : Site) (b : Bool) → has k s.schema ≡ b → (has k s.schema ≡ true → is_some (number_of_target all k s) ≡ true)
+    → is_some (number_of_target all k s) ≡ has k s.schema
+has_target all k s true e there = there e ∙ sym e
+has_target all k s false e there = no_reference all k s e ∙ sym e
+
+pub has_kept : {A : Type 0} (f : Documents → Site → Option A) (k : Text) (docs documents : Documents) (items : List (Option A)) (n place : ℕ) → docs ≡ documents → n ≡ place
+    → IsColumn items (f docs) (sites docs) → ((s : Site) → place_at documents place ≡ Some s → is_some (f documents s) ≡ has k s.schema)
+    → is_some (under_number items n) ≡ has_keyword k documents place
+has_kept f k docs documents items n place same number e h =
+    ap is_some (kept_under f docs documents items n place (under_number items n) same number e refl) ∙ by_place (place_at documents place) refl
+  where
+    by_place : (o : Option Site) → place_at documents place ≡ o → is_some (option_and_then (f documents) o) ≡ option_map_or (λ s. has k s.schema) o false
+    by_place None is = refl
+    by_place (Some s) is = h s is
+
+pub has_ref_kept : (docs documents : Documents) (items : List (Option ℕ)) (n place : ℕ) → docs ≡ documents → n ≡ place → IsClear (candidates docs)
+    → IsColumn items (plain_at docs) (sites docs) → is_some (under_number items n) ≡ has_keyword (codes "$ref") documents place
+has_ref_kept docs documents items n place same number clear e =
+    has_kept plain_at (codes "$ref") docs documents items n place same number e
+    (λ s is. has_target (sites documents) (codes "$ref") s (has (codes "$ref") s.schema) refl (target_there documents (subst (λ ds. IsClear (candidates ds)) same clear) place s is))
 
 pub target_missing : (docs documents : Documents) (items : List (Option ℕ)) (n place : ℕ) → docs ≡ documents → n ≡ place → IsClear (candidates docs)
     → IsColumn items (plain_at docs) (sites docs) → has_keyword (codes "$ref") documents place ≡ true → ¬ (None ≡ under_number items n)
 target_missing docs documents items n place same number clear e there h =
-    no_target documents place (place_at documents place) (subst (λ ds. IsClear (candidates ds)) same clear) refl there (sym (kept_under plain_at docs documents items n place None same number e h))
+    let some : is_some (under_number items n) ≡ true = has_ref_kept docs documents items n place same number clear e ∙ there in
+    let none : is_some (under_number items n) ≡ false = ap is_some (sym h) in
+    absurd (cc)

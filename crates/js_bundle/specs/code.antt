@@ -8,5 +8,6 @@ pub mod Beginning
 pub mod Descent
 pub mod Located
 pub mod Grouped
+pub mod Patterns
 pub mod Column
 pub mod Held

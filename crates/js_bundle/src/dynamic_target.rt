@@ -144,8 +144,8 @@ fn anchored(anchors: &[Numbering], resource: usize, name: &str) -> Option<usize>
     }
 }
 
-// The reference that is kept under a place's number.
-fn reference_under(
+/// The reference that is kept under a place's number.
+pub(crate) fn reference_under(
     references: &[Option<DynamicReference>],
     place: usize,
 ) -> Option<DynamicReference>

@@ -4,12 +4,14 @@ ghost use Rattle.js_assert.specs.Keyword.{name_of};
 ghost use Rattle.js_bundle.specs.AssertionsAndPatterns.{assertions_at, patterns_at};
 ghost use Rattle.js_bundle.specs.Schemas.{is_place, has_keyword, place_at, assertion, pattern};
 ghost use Rattle.js_bundle.specs.Seen.{AreRead};
+ghost use Rattle.js_bundle.specs.code.Patterns.{AreOwn};
 
 use crate::assertions_and_patterns::BuiltPattern;
+use crate::dynamic_target::reference_under;
 use crate::grouped::part;
-use crate::keyword::has;
 use crate::place::Place;
 use crate::schemas::Schemas;
+use crate::target::target_under;
 use js_assert::{Assertion, Pattern};
 
 impl Schemas {
@@ -64,7 +66,7 @@ impl Schemas {
         requires { is_place self.now place ≡ true }
         ensures { result ≡ has_keyword (codes "$ref") self.now place }
     {
-        self.has_keyword(place, "$ref")
+        target_under(self.kept.references.plain.as_slice(), place.number).is_some()
     }
 
     /// Whether the place has a `$dynamicRef` (JSON Schema Core, section 8.2.3.2).
@@ -72,14 +74,7 @@ impl Schemas {
         requires { is_place self.now place ≡ true }
         ensures { result ≡ has_keyword (codes "$dynamicRef") self.now place }
     {
-        self.has_keyword(place, "$dynamicRef")
-    }
-
-    fn has_keyword(&self, place: Place, keyword: &str) -> bool
-        requires { is_place self.now place ≡ true }
-        ensures { result ≡ has_keyword keyword.now self.now place }
-    {
-        has(self.schema(place), keyword)
+        reference_under(self.kept.references.dynamic.as_slice(), place.number).is_some()
     }
 }
 
@@ -94,7 +89,24 @@ fn find_assertion<'b>(built: &'b [Assertion], keyword: &str) -> Option<&'b Asser
     None
 }
 
+// The pattern of this name. They stand in the order of their names, so it is looked for by halves; where it isn't found so,
+// each is looked at.
 fn find_pattern<'b>(built: &'b [BuiltPattern], name: &str) -> Option<&'b BuiltPattern>
+    requires { AreOwn built.now }
+    ensures { option_map (λ b. b.now) result ≡ find (λ b. bytes_eq name.now b.name) built.now }
+{
+    match built.get(first_from(built, name)) {
+        Some(one) if name == one.name.as_str() => Some(one),
+        _ => search_pattern(built, name),
+    }
+}
+
+// Where the first stands whose name doesn't come before this one.
+fn first_from(built: &[BuiltPattern], name: &str) -> usize {
+    built.partition_point(|one| one.name.as_str() < name)
+}
+
+fn search_pattern<'b>(built: &'b [BuiltPattern], name: &str) -> Option<&'b BuiltPattern>
     ensures { option_map (λ b. b.now) result ≡ find (λ b. bytes_eq name.now b.name) built.now }
 {
     for one in built {

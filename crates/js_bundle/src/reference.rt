@@ -222,7 +222,7 @@ pub(crate) struct DynamicReference {
     pub(crate) by_name: bool,
 }
 
-/// What the references of each place name, in scan order.
+/// What the references of each place name, in scan order. Where the last places have none, a list ends before them.
 #[derive(Drop)]
 pub(crate) struct References {
     pub(crate) dynamic: Vec<Option<DynamicReference>>,

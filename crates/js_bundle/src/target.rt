@@ -23,8 +23,8 @@ impl Schemas {
     }
 }
 
-// The target that is kept under a place's number.
-fn target_under(targets: &[Option<usize>], place: usize) -> Option<usize>
+/// The target that is kept under a place's number.
+pub(crate) fn target_under(targets: &[Option<usize>], place: usize) -> Option<usize>
     ensures { result ≡ under_number targets.now place }
 {
     match targets.get(place) {

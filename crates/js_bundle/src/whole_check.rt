@@ -57,7 +57,7 @@ pub(crate) struct Checked {
     pub(crate) locations: Vec<Text>,
     pub(crate) index: Index,
     pub(crate) resources: Resources,
-    /// What stands directly below each.
+    /// The ways from each place to those directly below it. Where the last places have none, it ends before them.
     pub(crate) edges: Vec<Edges>,
 }
 

@@ -127,14 +127,9 @@ impl<'p> AllAnswers<'p> {
     }
 }
 
-// The place of the pattern's answers; behind the last, where it has none.
+// Where the pattern's answers stand, if they are there: they stand in the order of their patterns.
 fn place_of(each: &[PatternAnswers<'_>], pattern: &str) -> usize {
-    for (index, answers) in each.iter().enumerate() {
-        if answers.pattern == pattern {
-            return index;
-        }
-    }
-    each.len()
+    each.partition_point(|answers| answers.pattern < pattern)
 }
 
 /// Asks each pattern of a place's `patternProperties` once for each name, where the value is an object, and keeps the answers.

@@ -4,6 +4,7 @@ ghost use Rattle.std.specs.Prelude.{◌≡◌, true};
 ghost use Rattle.js_bundle.specs.Schemas.{is_place};
 
 mod adding;
+pub mod asked;
 mod dynamic;
 mod entries;
 mod places;

@@ -4,6 +4,7 @@
 //! The words after the test's name: the call, and of those that judge something the row. On standard error goes `<` right before
 //! the call and `>` right after it. On standard output goes `Memory` as a line where the call found none, and then the answer, or
 //! what stands after the refusal. `devices` runs a whole job over devices that are slow, and that fail at each call in turn.
+//! `ask` answers what standard input asks of a document's places.
 mod bundles;
 mod devices;
 mod fakes;
@@ -16,6 +17,7 @@ mod told;
 mod trees;
 mod values;
 
+use super::bundles::asked;
 use js_doc::Memory;
 use std::env;
 use std::io::Write;
@@ -29,6 +31,7 @@ fn by_itself(rt: HostRuntime) -> Result<(), Fail> {
     // (the program's name, and the test's)
     let mut words = words.skip(2);
     match words.next() {
+        Some(call) if call == "ask" => tell(&rt, &told::done(asked::answers(&rt)?)?),
         Some(call) => {
             let row = words.next();
             tell(&rt, &called(&rt, call.as_str(), row)?)

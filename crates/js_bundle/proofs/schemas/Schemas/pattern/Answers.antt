@@ -1,6 +1,11 @@
 use Rattle.std.proofs.Common.{Some, None}
+use Rattle.js_bundle.specs.Schemas.{place_at}
+use Rattle.js_bundle.proofs.Patterns.{own_at}
 use Rattle.js_bundle.proofs.UnderNumber.{pattern_is}
 use Rattle.js_bundle.proofs.schemas.Schemas.pattern.Goals as goal
+
+pub find_pattern-requires : goal.find_pattern-requires
+find_pattern-requires c = own_at (place_at c.args.self.now c.args.place) c.patterns.result.now c.patterns.ensures.patterns
 
 pub returns-in-Some : goal.returns-in-Some
 returns-in-Some c =

@@ -1,6 +1,6 @@
 use Rattle.std.proofs.Common.{◌≡◌, find, bytes_eq, drop}
 use Rattle.js_bundle.specs.declared.assertions_and_patterns.BuiltPattern.{BuiltPattern}
-use Rattle.js_bundle.proofs.place_keywords.find_pattern.Given as goal
+use Rattle.js_bundle.proofs.place_keywords.search_pattern.Given as goal
 
 abbrev pub invariant-loop-one : goal.invariant-loop-one
 invariant-loop-one l =
