@@ -31,7 +31,7 @@ fn by_itself(rt: HostRuntime) -> Result<(), Fail> {
     // (the program's name, and the test's)
     let mut words = words.skip(2);
     match words.next() {
-        Some(call) if call == "ask" => tell(&rt, &told::done(asked::answers(&rt)?)?),
+        Some(call) if call.as_str() == "ask" => tell(&rt, &told::done(asked::answers(&rt)?)?),
         Some(call) => {
             let row = words.next();
             tell(&rt, &called(&rt, call.as_str(), row)?)
