@@ -20,7 +20,7 @@ use Rattle.js_bundle.specs.Place.{holding, values, items_in, IsPlace, at_root, i
 use Rattle.js_bundle.specs.Resource.{Site, sites}
 use Rattle.js_bundle.specs.Schemas.{place_at, Finds, Step, Alone, Index, Name, fits, step_tokens, below}
 use Rattle.js_bundle.specs.Seen.{AreOrdered, AreShort, AreRead}
-use Rattle.js_bundle.specs.code.Held.{has_step, holds, IsSmall}
+use Rattle.js_bundle.specs.code.Held.{held_in, holds, part, IsSmall}
 use Rattle.js_bundle.proofs.Distinct.{stands_there}
 use Rattle.js_bundle.proofs.Listing.{Among, is-among}
 use Rattle.js_bundle.proofs.Numbers.{get_first, number_finds, no_number}
@@ -71,9 +71,6 @@ index_small (text t) i u s e = absurd (none_some i u e)
 index_small (list vs) i u s e = omega (arith, s.0, within_count vs i u e)
 index_small (object ms) i u s e = absurd (none_some i u e)
 
-index_within : {A : Type 0} (xs : List A) (i : ℕ) (u : A) → slice_get xs i ≡ Some u → nat_lt i (length xs) ≡ true
-index_within xs i u e = lt-ltb i (length xs) (slice_get_within xs i u e)
-
 -- ---- in one document
 
 listed_not_one : (h : Holding) → h ≡ Listed → ¬ (h ≡ One)
@@ -115,13 +112,13 @@ module _ (root : Value) (a : NamesAscend root) (s : IsShort root) where
 
   -- what stands at the step is held there by the schema
   held_at : (p : Tokens) (v : Value) (k : Text) (step : Step) (q : Tokens) (u : Value) → IsPlace root p v → fits (holding k) step ≡ true → IsSmall step → IsPlace root q u → q ≡ p ++ k ∷ step_tokens step
-      → option_map_or (has_step step) (argument k v) false ≡ true
+      → is_some (held_in k step v) ≡ true
   held_at p v k Alone q u here f small at_root is = absurd (no_end p k [] is)
   held_at p v k (Index j) q u here f small at_root is = absurd (no_end p k (decimal j ∷ []) is)
   held_at p v k (Name n) q u here f small at_root is = absurd (no_end p k (n ∷ []) is)
   held_at p v k Alone q u here f small (in_keyword p' v' k' u' q' h e m there) is =
       let ends = last_alike p' p k' k (sym there ∙ is) in
-      ap (λ o. option_map_or (has_step Alone) o false) (argument_there p p' v v' k k' u' here h ends.0 ends.1 (is-among (k', u') (keywords v') m.0 m.1.0 m.1.1))
+      ap (λ o. is_some (option_and_then (part Alone) o)) (argument_there p p' v v' k k' u' here h ends.0 ends.1 (is-among (k', u') (keywords v') m.0 m.1.0 m.1.1))
   held_at p v k (Index j) q u here f small (in_keyword p' v' k' u' q' h e m there) is =
       let ends = last_alike p' (p ++ k ∷ []) k' (decimal j) (sym there ∙ is ∙ sym (two_tokens p k (decimal j))) in
       absurd (none_between root (length p) p v k p' v' refl here (λ o. let x : false ≡ true = sym (ap (λ h. fits h (Index j)) o) ∙ f in absurd (cc)) h ends.0)
@@ -138,8 +135,8 @@ module _ (root : Value) (a : NamesAscend root) (s : IsShort root) where
       let up = place_stands root p' v' a s h in
       let low = index_small l i u' (below_member k' v' l up.ascends up.short among).short g in
       let same : i ≡ j = decimal_injective i j low small ends.1 in
-      ap (λ o. option_map_or (has_step (Index j)) o false) (argument_there p p' v v' k k' l here h first.0 first.1 among)
-      ∙ ap (λ x. nat_lt x (length (items_in l))) (sym same) ∙ index_within (items_in l) i u' g
+      ap (λ o. is_some (option_and_then (part (Index j)) o)) (argument_there p p' v v' k k' l here h first.0 first.1 among)
+      ∙ ap (λ x. is_some (slice_get (items_in l) x)) (sym same) ∙ ap is_some g
   held_at p v k (Name n) q u here f small (in_list p' v' k' l i u' q' h e m g there) is =
       let ends = last_alike (p' ++ k' ∷ []) (p ++ k ∷ []) (decimal i) n (two_tokens p' k' (decimal i) ∙ sym there ∙ is ∙ sym (two_tokens p k n)) in
       let first = last_alike p' p k' k ends.0 in
@@ -160,13 +157,13 @@ module _ (root : Value) (a : NamesAscend root) (s : IsShort root) where
       let up = place_stands root p' v' a s h in
       let held = below_member k' v' l up.ascends up.short among in
       let name : argument n l ≡ Some u' = ap (λ x. argument x l) (sym ends.1) ∙ argument_of i l u' held.ascends held.short (is-among (i, u') (keywords l) g.0 g.1.0 g.1.1) in
-      ap (λ o. option_map_or (has_step (Name n)) o false) (argument_there p p' v v' k k' l here h first.0 first.1 among) ∙ ap is_some name
+      ap (λ o. is_some (option_and_then (part (Name n)) o)) (argument_there p p' v v' k k' l here h first.0 first.1 among) ∙ ap is_some name
 
 -- ---- over all documents
 
 -- what the schema of a place doesn't hold stands nowhere
 none_stands : (documents : Documents) → AreOrdered documents → AreShort documents → (n : ℕ) (s : Site) → slice_get (sites documents) n ≡ Some s
-    → (k : Text) (step : Step) → IsSmall step → fits (holding k) step ≡ true → option_map_or (has_step step) (argument k s.schema) false ≡ false
+    → (k : Text) (step : Step) → IsSmall step → fits (holding k) step ≡ true → is_some (held_in k step s.schema) ≡ false
     → position_from (stands_at s.document (s.pointer ++ k ∷ step_tokens step)) 0 (sites documents) ≡ None
 none_stands documents a h n s e k step small f lacks = by_number (position_from test 0 (sites documents)) refl
   where
@@ -190,7 +187,7 @@ none_stands documents a h n s e k step small f lacks = by_number (position_from 
         absurd (cc)
 
 none_by : (documents : Documents) → AreOrdered documents → AreShort documents → (place : ℕ) (s : Site) → slice_get (sites documents) place ≡ Some s → (k : Text) (step : Step) → IsSmall step
-    → (b : Bool) → fits (holding k) step ≡ b → (b && option_map_or (has_step step) (argument k s.schema) false) ≡ false → below documents s k step ≡ None
+    → (b : Bool) → fits (holding k) step ≡ b → (b && is_some (held_in k step s.schema)) ≡ false → below documents s k step ≡ None
 none_by documents a h place s e k step small false f lacks = ap (λ b. if b then find (stands_at s.document (s.pointer ++ k ∷ step_tokens step)) (sites documents) else None) f
 none_by documents a h place s e k step small true f lacks =
     let test = stands_at s.document (s.pointer ++ k ∷ step_tokens step) in
@@ -208,9 +205,3 @@ pub finds_nothing : (docs documents : Documents) → docs ≡ documents → AreR
     → false ≡ holds k step v → Finds documents None (option_and_then (λ t. below documents t k step) (place_at documents place))
 finds_nothing docs documents same read place k step v small e lacks =
     finds_none_by documents (subst (λ ds. AreRead ds) same read) place k step v small (sym lacks) (place_at documents place) refl e
-
--- ---- the items that the code counts
-
-pub values_are : (vs : Values) → values (items vs) ≡ vs
-values_are [] = refl
-values_are (v ∷ vs) = λ i. v ∷ values_are vs i

@@ -11,6 +11,7 @@ pub mod Numbers
 pub mod Distinct
 pub mod AllPlaces
 pub mod Held
+pub mod SchemaBelow
 pub mod Named
 pub mod Stopping
 pub mod Passes

@@ -1,11 +1,9 @@
 //! What the keywords of a place hold.
-ghost use Rattle.std.specs.Prelude.{◌≡◌, ◌++◌, [], ◌∷◌, true, false, find, length, map, nat_lt, option_map, option_and_then, decimal, None, Some, MatchOption, if◌then◌else◌};
+ghost use Rattle.std.specs.Prelude.{◌≡◌, ◌++◌, [], ◌∷◌, true, find, map, slice_get, option_map, option_and_then, decimal, None, Some, MatchOption, if◌then◌else◌};
 ghost use Rattle.std.specs.List.{list_all, position_from};
-ghost use Rattle.std.specs.Option.{option_map_or};
 ghost use Rattle.js_doc.specs.Seen.{value_of};
 ghost use Rattle.js_bundle.specs.code.Edges.{leads_down, AreAlone};
-ghost use Rattle.js_bundle.specs.code.Held.{has_step, holds, IsSmall};
-ghost use Rattle.js_bundle.specs.Keyword.{argument};
+ghost use Rattle.js_bundle.specs.code.Held.{held_in, holds, part, IsSmall};
 ghost use Rattle.js_bundle.specs.Names.{same_tokens};
 ghost use Rattle.js_bundle.specs.Place.{holding, items_in};
 ghost use Rattle.js_bundle.specs.Schemas.{is_place, place_at, below, fits, step_of, step_tokens, Finds, FindsSchema, Holds};
@@ -13,7 +11,7 @@ ghost use Rattle.js_bundle.specs.code.Spot.{spot_of, stands_below};
 
 use crate::edges::{edge_to, edges_under};
 use crate::holding::Holding;
-use crate::keyword::{argument, has};
+use crate::keyword::argument;
 use crate::place::{Place, Step};
 use crate::scan::holding_of;
 use crate::schemas::Schemas;
@@ -40,6 +38,32 @@ impl Schemas {
         match number_led_to(spots, edges, self.spot(place), keyword, step) {
             Some(number) => Some(Place { number }),
             None => self.below_without_edge(place, keyword, step),
+        }
+    }
+
+    /// The same place, and the schema that stands there. `schema`: that of the place itself, in which the other is found, by the
+    /// keyword and the step; a call of `schema` would go all the way from the document's root.
+    pub fn schema_below<'a>(
+        &'a self,
+        place: Place,
+        schema: &'a Doc,
+        keyword: &str,
+        step: Step<'_>,
+    ) -> Option<(Place, &'a Doc)>
+        requires place { is_place self.now place ≡ true }
+        requires schema { option_map (λ s. s.schema) (place_at self.now place) ≡ Some (value_of schema.now) }
+        ensures found { Finds self.now (option_map (λ e. e.0) result)
+            (option_and_then (λ s. below self.now s keyword.now (step_of step.entry)) (place_at self.now place)) }
+        ensures schema { MatchOption result (Unit {0}) (λ e. option_map (λ s. s.schema) (place_at self.now e.0) ≡ Some (value_of e.1.now)) }
+        ensures held { (s : Site) (u : Value) → place_at self.now place ≡ Some s
+            → Holds s.schema keyword.now (step_of step.entry) u → FindsSchema self.now (option_map (λ e. e.0) result) u }
+    {
+        match self.below(place, keyword, step) {
+            Some(below) => match held(schema, keyword, step) {
+                Some(held) => Some((below, held)),
+                None => Some((below, self.schema(below))), // never: what stands below is held
+            },
+            None => None,
         }
     }
 
@@ -86,34 +110,35 @@ fn holds(schema: &Doc, keyword: &str, step: Step<'_>) -> bool
     ensures holds { result ≡ holds keyword.now (step_of step.entry) (value_of schema.now) }
     ensures small { IsSmall (step_of step.entry) }
 {
-    fits(holding_of(keyword), step) && argument_has(schema, keyword, step)
+    fits(holding_of(keyword), step) && held(schema, keyword, step).is_some()
 }
 
-fn argument_has(schema: &Doc, keyword: &str, step: Step<'_>) -> bool
-    ensures { result ≡ option_map_or (has_step (step_of step.entry)) (argument keyword.now (value_of schema.now)) false }
+// What stands in the keyword's argument at the step, whether or not the keyword holds schemas so.
+fn held<'a>(schema: &'a Doc, keyword: &str, step: Step<'_>) -> Option<&'a Doc>
+    ensures { option_map (λ d. value_of d.now) result ≡ held_in keyword.now (step_of step.entry) (value_of schema.now) }
 {
     match argument(schema, keyword) {
-        Some(argument) => has_step(argument, step),
-        None => false,
+        Some(argument) => part(argument, step),
+        None => None,
     }
 }
 
-fn has_step(argument: &Doc, step: Step<'_>) -> bool
-    ensures { result ≡ has_step (step_of step.entry) (value_of argument.now) }
+fn part<'a>(value: &'a Doc, step: Step<'_>) -> Option<&'a Doc>
+    ensures { option_map (λ d. value_of d.now) result ≡ part (step_of step.entry) (value_of value.now) }
 {
     match step {
-        Step::Alone => true,
-        Step::Index(index) => has_item(argument, index),
-        Step::Name(name) => has(argument, name),
+        Step::Alone => Some(value),
+        Step::Index(index) => item(value, index),
+        Step::Name(name) => argument(value, name),
     }
 }
 
-fn has_item(argument: &Doc, index: usize) -> bool
-    ensures { result ≡ nat_lt index (length (items_in (value_of argument.now))) }
+fn item(list: &Doc, index: usize) -> Option<&Doc>
+    ensures { option_map (λ d. value_of d.now) result ≡ slice_get (items_in (value_of list.now)) index }
 {
-    match argument {
-        Doc::List(items) => index < items.len(),
-        _ => false,
+    match list {
+        Doc::List(items) => items.as_slice().get(index),
+        _ => None,
     }
 }
 

@@ -1,9 +1,15 @@
--- What is asked for where there are no members, and of an array's items from the first on.
-use Rattle.std.proofs.Common.{◌≡◌, ℕ, nat_le, List, [], ◌∷◌, true, filter, refl}
+-- What is asked for where there are no members, of an array's items from the first on, and by one application alone.
+use Rattle.std.proofs.Common.{◌≡◌, ℕ, nat_le, List, [], ◌∷◌, true, Option, Some, None, filter, refl}
+use Rattle.std.specs.Prelude.{MatchOption}
 use Rattle.std.proofs.Math.Dec.{leb-zero}
 use Rattle.std.specs.List.{flat_map}
 use Rattle.js_doc.specs.Value.{Value, Named}
 use Rattle.js_assert.specs.Argument.{has}
+use Rattle.js_bundle.specs.Document.{Documents}
+use Rattle.js_eval.specs.code.Applied.{applied_of}
+use Rattle.js_eval.specs.code.Asked.{IsOne, one_asked}
+use Rattle.js_eval.specs.code.Placed.{IsPlaced}
+use Rattle.js_eval.specs.declared.instance.Applied.{Applied}
 
 -- no name is one of no members'
 pub none_named : (ms : Named) → filter (λ m. has {A = Value} m.0 []) ms ≡ []
@@ -22,3 +28,13 @@ from_first (e ∷ es) =
     let t : nat_le 0 e.0 ≡ true = leb-zero e.0 in
     let r = from_first es in
     cc
+
+-- ---- one application is asked for, and then nothing
+
+pub taken : (documents : Documents) (o r n : Option Applied) → r ≡ o → n ≡ None → MatchOption r (one_asked documents o ≡ []) (λ a. one_asked documents o ≡ applied_of documents a ∷ one_asked documents n)
+taken documents None r n e f = rw e refl
+taken documents (Some a) r n e f = rw (e, f) refl
+
+pub taken_placed : (documents : Documents) (o r : Option Applied) → r ≡ o → IsOne documents o → MatchOption r (Unit {0}) (λ a. IsPlaced documents a.placed)
+taken_placed documents None r e h = rw e tt
+taken_placed documents (Some a) r e h = rw e h

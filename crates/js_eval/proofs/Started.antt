@@ -15,10 +15,6 @@ use Rattle.js_eval.specs.code.Cursors.{is_matched, is_named, named_in}
 use Rattle.js_eval.specs.SchemaSet.{Text, Alone, Index, Name}
 use Rattle.js_eval.proofs.MembersLeft.{filter_alike}
 
--- the place that is kept is one of the documents'
-pub there : {A : Type 0} (documents : Documents) (n m : ℕ) (xs ys : List A) → n ≡ m → is_place documents m ≡ true → xs ≡ ys → cond (is_place documents n) xs [] ≡ ys
-there documents n m xs ys e is same = ap (λ k. cond (is_place documents k) xs []) e ∙ ap (λ b. cond b xs []) is ∙ same
-
 -- a schema on items, and on members, where it stands and what they are
 abbrev pub on_items : (ℕ → Bool) → Site → List Value → List (Application Site)
 on_items t s vs = map (λ e. record { place = s; step = Alone; at = Index e.0; value = e.1 }) (filter (λ e. t e.0) (indexed_from 0 vs))
@@ -49,7 +45,3 @@ pub additional_by : (o p : Option (Bor Named)) (schema ms : Named) → named_in 
 additional_by o p schema ms e f =
     filter_alike (λ (m : List ℕ × Value). not (is_named o m.0 || is_matched p m.0)) (λ m. not (is_property schema m.0 || matches_pattern schema m.0))
     (λ m. ap₂ (λ a b. not (a || b)) (is_property_by o schema m.0 e) (matches_by p schema m.0 f)) ms
-
-pub there_both : {A : Type 0} (documents : Documents) (n m k : ℕ) (xs ys : List A) → n ≡ k → m ≡ k → is_place documents k ≡ true → xs ≡ ys → cond (is_place documents n && is_place documents m) xs [] ≡ ys
-there_both documents n m k xs ys e f is same =
-    ap₂ (λ a b. cond (a && b) xs []) (ap (is_place documents) e ∙ is) (ap (is_place documents) f ∙ is) ∙ same

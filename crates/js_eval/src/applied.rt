@@ -1,24 +1,25 @@
 //! A schema of finished schemas that is applied to a value.
-ghost use Rattle.std.specs.Prelude.{◌≡◌, true};
-ghost use Rattle.js_bundle.specs.Schemas.{is_place};
+ghost use Rattle.std.specs.Prelude.{◌≡◌};
 ghost use Rattle.js_doc.specs.Seen.{value_of};
-ghost use Rattle.js_eval.specs.code.Applied.{IsHeld, applied, applied_of, at_in, kept_place, namesake, site_in, step_in, value_in};
+ghost use Rattle.js_eval.specs.code.Applied.{IsHeld, applied, applied_of, at_in, namesake, site_in, step_in, value_in};
+ghost use Rattle.js_eval.specs.code.Placed.{IsPlaced};
 ghost use Rattle.js_eval.specs.Seen.{instance_of, step_of};
 ghost use Rattle.js_eval.specs.Sited.{numbered_site};
 ghost use Rattle.js_eval.specs.declared.applied.To.TheVariants as to;
 
 use crate::bundled::below;
 use crate::instance::{Applied, Instance};
-use js_bundle::{Place, Schemas, Step};
+use crate::placed::Placed;
+use js_bundle::{Schemas, Step};
 use js_doc::{Doc, Members};
 
 /// Where the schemas that a keyword applies to the parts of a value stand.
 #[derive(Clone, Copy)]
 pub(crate) enum Held<'a> {
     /// One schema, which is the keyword's argument.
-    One(Place),
-    /// Below this place's keyword, a schema for each part, at the step to the part.
-    Each(Place, &'a str),
+    One(Placed<'a>),
+    /// Below this schema's keyword, a schema for each part, at the step to the part.
+    Each(Placed<'a>, &'a str),
 }
 
 /// What a schema is applied to.
@@ -35,24 +36,14 @@ pub(crate) enum To<'a> {
 }
 
 impl<'a> Held<'a> {
-    /// The place that is kept of it.
-    pub fn kept_place(&self) -> Place
-        ensures { result ≡ kept_place self.now }
-    {
-        match self {
-            Held::One(place) => *place,
-            Held::Each(place, _) => *place,
-        }
-    }
-
-    fn place(&self, schemas: &Schemas, step: Step<'_>) -> Place
+    fn placed(&self, schemas: &'a Schemas, step: Step<'_>) -> Placed<'a>
         requires { IsHeld schemas.now self.now }
-        ensures is { is_place schemas.now result ≡ true }
-        ensures site { numbered_site schemas.now result ≡ site_in schemas.now self.now (step_of step.entry) }
+        ensures is { IsPlaced schemas.now result }
+        ensures site { numbered_site schemas.now result.place ≡ site_in schemas.now self.now (step_of step.entry) }
     {
         match self {
-            Held::One(place) => *place,
-            Held::Each(place, keyword) => below(schemas, *place, keyword, step),
+            Held::One(placed) => *placed,
+            Held::Each(placed, keyword) => below(schemas, *placed, keyword, step),
         }
     }
 
@@ -117,7 +108,7 @@ fn named<'a>(step: Step<'a>, part: &'a Doc) -> Instance<'a>
 
 /// The schema for a part of a value, applied as the keyword does.
 pub(crate) fn apply_to_part<'a>(
-    schemas: &Schemas,
+    schemas: &'a Schemas,
     held: &Held<'a>,
     to: &To<'a>,
     step: Step<'a>,
@@ -126,10 +117,10 @@ pub(crate) fn apply_to_part<'a>(
     requires { IsHeld schemas.now held.now }
     ensures applied { applied_of schemas.now result
         ≡ applied schemas.now held.now to.now (step_of step.entry) (value_of part.now) }
-    ensures is { is_place schemas.now result.place ≡ true }
+    ensures is { IsPlaced schemas.now result.placed }
 {
     Applied {
-        place: held.place(schemas, step),
+        placed: held.placed(schemas, step),
         step: held.step(step),
         at: to.step(step),
         value: to.value(step, part),

@@ -6,24 +6,28 @@ ghost use Rattle.js_bundle.specs.Resource.{sites};
 ghost use Rattle.js_bundle.specs.ResourceNumber.{dynamic_target_in};
 ghost use Rattle.js_bundle.specs.Schemas.{StandsFor, has_keyword, is_place, path_at, place_at};
 ghost use Rattle.js_bundle.specs.Target.{dynamic_target};
-ghost use Rattle.js_doc.specs.Seen.{value_of};
 ghost use Rattle.js_assert.specs.Argument.{entries};
 ghost use Rattle.js_eval.specs.Bundle.{schemas_of};
+ghost use Rattle.js_eval.specs.code.Placed.{IsPlaced};
 ghost use Rattle.js_eval.specs.code.Standard.{keyword_names_of};
 ghost use Rattle.js_eval.specs.Seen.{step_of};
 ghost use Rattle.js_eval.specs.Sited.{numbered_site, resource_of};
 
+use crate::placed::Placed;
 use js_bundle::laws::{a_number_tells_a_resource, numbers_tell_the_dynamic_scope};
 use js_bundle::{KeywordName, Place, Schemas, Step};
-use js_doc::Doc;
 
-/// The schema that stands at a place.
+/// A place with the schema there, which is looked for from its document's root on.
 #[tactic(auto, using(crate::proofs::Paths::schema_is))]
-pub(crate) fn schema_at(schemas: &Schemas, place: Place) -> &Doc
+pub(crate) fn placed_at(schemas: &Schemas, place: Place) -> Placed<'_>
     requires { is_place schemas.now place ≡ true }
-    ensures { value_of result.now ≡ (numbered_site schemas.now place).schema }
+    ensures is { IsPlaced schemas.now result }
+    ensures place { result.place ≡ place }
 {
-    schemas.schema(place)
+    Placed {
+        place,
+        schema: schemas.schema(place),
+    }
 }
 
 /// Which keyword of the standard each keyword of a place is, in the order of the schema's members.
@@ -35,52 +39,57 @@ pub(crate) fn names_at(schemas: &Schemas, place: Place) -> &[KeywordName]
     schemas.keywords(place)
 }
 
-/// The place to which a step leads through a keyword.
-pub(crate) fn below(schemas: &Schemas, place: Place, keyword: &str, step: Step<'_>) -> Place
-    requires { is_place schemas.now place ≡ true }
-    ensures is { is_place schemas.now result ≡ true }
-    ensures site { numbered_site schemas.now result
-        ≡ (schemas_of schemas.now).below (numbered_site schemas.now place) keyword.now (step_of step.entry) }
+/// The schema to which a step leads through a keyword. It is found in the one above.
+pub(crate) fn below<'a>(
+    schemas: &'a Schemas,
+    above: Placed<'a>,
+    keyword: &str,
+    step: Step<'_>,
+) -> Placed<'a>
+    requires { IsPlaced schemas.now above }
+    ensures is { IsPlaced schemas.now result }
+    ensures site { numbered_site schemas.now result.place
+        ≡ (schemas_of schemas.now).below (numbered_site schemas.now above.entry.place) keyword.now (step_of step.entry) }
 {
-    match schemas.below(place, keyword, step) {
-        Some(below) => below,
-        None => place,
+    match schemas.schema_below(above.place, above.schema, keyword, step) {
+        Some((place, schema)) => Placed { place, schema },
+        None => above,
     }
 }
 
-/// The place that the `$ref` of a place names.
-pub(crate) fn target_at(schemas: &Schemas, place: Place) -> Place
-    requires { is_place schemas.now place ≡ true }
-    ensures is { is_place schemas.now result ≡ true }
-    ensures site { numbered_site schemas.now result ≡ (schemas_of schemas.now).target (numbered_site schemas.now place) }
+/// The schema that the `$ref` of a schema names.
+pub(crate) fn target_at<'a>(schemas: &'a Schemas, placed: Placed<'a>) -> Placed<'a>
+    requires { IsPlaced schemas.now placed }
+    ensures is { IsPlaced schemas.now result }
+    ensures site { numbered_site schemas.now result.place ≡ (schemas_of schemas.now).target (numbered_site schemas.now placed.entry.place) }
 {
-    if schemas.has_ref(place) {
-        schemas.target(place)
+    if schemas.has_ref(placed.place) {
+        placed_at(schemas, schemas.target(placed.place))
     } else {
-        place
+        placed
     }
 }
 
-/// The place that the `$dynamicRef` of a place names, after all the places of a path that ends in it. `resources`: those of the
+/// The schema that the `$dynamicRef` of a schema names, after all the places of a path that ends in it. `resources`: those of the
 /// path, of equal neighbours one.
 #[tactic(auto, using(crate::proofs::Paths::path_is))]
-pub(crate) fn dynamic_target_at(
-    schemas: &Schemas,
-    place: Place,
+pub(crate) fn dynamic_target_at<'a>(
+    schemas: &'a Schemas,
+    placed: Placed<'a>,
     path: &[Place],
     resources: &[usize],
-) -> Place
-    requires place { is_place schemas.now place ≡ true }
+) -> Placed<'a>
+    requires placed { IsPlaced schemas.now placed }
     requires path { list_all (is_place schemas.now) path.now ≡ true }
     requires resources { resources.now ≡ dedup nat_eq (map (resource_of schemas.now) path.now) }
-    ensures is { is_place schemas.now result ≡ true }
-    ensures site { numbered_site schemas.now result
-        ≡ (schemas_of schemas.now).dynamic_target (map (numbered_site schemas.now) path.now) (numbered_site schemas.now place) }
+    ensures is { IsPlaced schemas.now result }
+    ensures site { numbered_site schemas.now result.place
+        ≡ (schemas_of schemas.now).dynamic_target (map (numbered_site schemas.now) path.now) (numbered_site schemas.now placed.entry.place) }
 {
-    if schemas.has_dynamic_ref(place) {
-        led_by_numbers(schemas, place, path, resources)
+    if schemas.has_dynamic_ref(placed.place) {
+        placed_at(schemas, led_by_numbers(schemas, placed.place, path, resources))
     } else {
-        place
+        placed
     }
 }
 

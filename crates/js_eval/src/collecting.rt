@@ -4,6 +4,7 @@ ghost use Rattle.std.specs.Prelude.{◌≡◌, IfOk};
 use crate::here::Here;
 use crate::instance::Instance;
 use crate::keyword::Keyword;
+use crate::placed::Placed;
 use crate::telling::keyword_note;
 use crate::walking::{Judged, Reporter, Trail};
 use js_bundle::Place;
@@ -78,10 +79,10 @@ impl<'a, C: Collector<'a>> Reporter<Here<'a>> for Collecting<'a, C> {
         &mut self,
         alloc: Global,
         world: &Here<'a>,
-        place: Place,
+        schema: Placed<'a>,
         valid: bool,
     ) -> Result<(), Memory> {
-        let note = world.schema_says(alloc, place)?;
+        let note = world.schema_says(alloc, schema)?;
         self.collector.leave(valid, note)
     }
 }

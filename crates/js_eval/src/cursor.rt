@@ -1,9 +1,9 @@
 //! What a keyword asks for, one application after another (Core, sections 8.2.3, 10 and 11).
-ghost use Rattle.std.specs.Prelude.{◌≡◌, ◌&&◌, ◌∷◌, [], IfOk, MatchOption, true};
+ghost use Rattle.std.specs.Prelude.{◌≡◌, ◌∷◌, [], IfOk, MatchOption};
 ghost use Rattle.js_bundle.specs.Document.{Documents};
-ghost use Rattle.js_bundle.specs.Schemas.{is_place};
 ghost use Rattle.js_eval.specs.code.Applied.{applied_of};
-ghost use Rattle.js_eval.specs.code.Asked.{asked, items_of_asking, members_of_asking, one_of_asking, patterns_of_asking};
+ghost use Rattle.js_eval.specs.code.Asked.{IsAsking, IsOne, asked, one_asked};
+ghost use Rattle.js_eval.specs.code.Placed.{IsPlaced};
 ghost use Rattle.js_eval.specs.SchemaSet as spec;
 ghost use Rattle.js_eval.specs.Seen.{instance_of};
 ghost use Rattle.js_eval.specs.Sited.{numbered_site};
@@ -12,8 +12,9 @@ use crate::instance::{Applied, Instance};
 use crate::item_cursor::{ItemCursor, next_on_item};
 use crate::member_cursor::{MemberCursor, next_on_member};
 use crate::pattern_cursor::{PatternCursor, next_matching};
+use crate::placed::Placed;
 use crate::searchers::Searchers;
-use js_bundle::{Place, Schemas, Step};
+use js_bundle::{Schemas, Step};
 use js_doc::Memory;
 use std::alloc::Global;
 
@@ -27,13 +28,14 @@ pub(crate) enum Asking<'a> {
     Patterns(PatternCursor<'a>),
 }
 
-/// The schema at a place, on the value itself.
-pub(crate) fn alone<'a>(place: Place, value: Instance<'a>) -> Asking<'a>
-    ensures { (documents : Documents) → is_place documents place ≡ true → asked documents result
-        ≡ record { place = numbered_site documents place; step = spec.Alone; at = spec.Alone; value = instance_of value.entry } ∷ [] }
+/// One schema, on the value itself.
+pub(crate) fn alone<'a>(placed: Placed<'a>, value: Instance<'a>) -> Asking<'a>
+    ensures asked { (documents : Documents) → asked documents result
+        ≡ record { place = numbered_site documents placed.entry.place; step = spec.Alone; at = spec.Alone; value = instance_of value.entry } ∷ [] }
+    ensures is { (documents : Documents) → IsPlaced documents placed.entry → IsAsking documents result }
 {
     Asking::One(Some(Applied {
-        place,
+        placed,
         step: Step::Alone,
         at: Step::Alone,
         value,
@@ -50,79 +52,27 @@ pub(crate) fn next_asked<'a>(
     searchers: &Searchers<'a>,
     asking: &mut Asking<'a>,
 ) -> Result<Option<Applied<'a>>, Memory>
+    requires { IsAsking schemas.now asking.old }
     ensures next { IfOk result (λ o. MatchOption o (asked schemas.now asking.old ≡ [])
         (λ a. asked schemas.now asking.old ≡ applied_of schemas.now a ∷ asked schemas.now asking.new)) }
-    ensures is { IfOk result (λ o. MatchOption o (Unit {0}) (λ a. is_place schemas.now a.place ≡ true)) }
+    ensures placed { IfOk result (λ o. MatchOption o (Unit {0}) (λ a. IsPlaced schemas.now a.placed)) }
+    ensures is { IfOk result (λ _. IsAsking schemas.now asking.new) }
 {
     match asking {
         Asking::One(one) => Ok(next_alone(schemas, one)),
-        Asking::Items(items) => Ok(next_item(schemas, items)),
-        Asking::Members(members) => next_member(alloc, schemas, searchers, members),
-        Asking::Patterns(patterns) => next_pattern(alloc, schemas, searchers, patterns),
+        Asking::Items(items) => Ok(next_on_item(schemas, items)),
+        Asking::Members(members) => next_on_member(alloc, schemas, searchers, members),
+        Asking::Patterns(patterns) => next_matching(alloc, schemas, searchers, patterns),
     }
 }
 
-fn next_alone<'a>(schemas: &Schemas, one: &mut Option<Applied<'a>>) -> Option<Applied<'a>>
-    ensures next { MatchOption result (one_of_asking schemas.now one.old ≡ [])
-        (λ a. one_of_asking schemas.now one.old ≡ applied_of schemas.now a ∷ one_of_asking schemas.now one.new) }
-    ensures is { MatchOption result (Unit {0}) (λ a. is_place schemas.now a.place ≡ true) }
+#[tactic(auto, using(crate::proofs::AskedNothing::taken, crate::proofs::AskedNothing::taken_placed))]
+fn next_alone<'a>(_schemas: &Schemas, one: &mut Option<Applied<'a>>) -> Option<Applied<'a>>
+    requires { IsOne _schemas.now one.old }
+    ensures next { MatchOption result (one_asked _schemas.now one.old ≡ [])
+        (λ a. one_asked _schemas.now one.old ≡ applied_of _schemas.now a ∷ one_asked _schemas.now one.new) }
+    ensures placed { MatchOption result (Unit {0}) (λ a. IsPlaced _schemas.now a.placed) }
+    ensures is { IsOne _schemas.now one.new }
 {
-    match one {
-        Some(applied) => {
-            if !schemas.has(applied.place) {
-                return None;
-            }
-        }
-        None => return None,
-    }
     one.take()
-}
-
-fn next_item<'a>(schemas: &Schemas, items: &mut ItemCursor<'a>) -> Option<Applied<'a>>
-    ensures next { MatchOption result (items_of_asking schemas.now items.old ≡ [])
-        (λ a. items_of_asking schemas.now items.old ≡ applied_of schemas.now a ∷ items_of_asking schemas.now items.new) }
-    ensures is { MatchOption result (Unit {0}) (λ a. is_place schemas.now a.place ≡ true) }
-{
-    if !schemas.has(items.held.kept_place()) {
-        return None;
-    }
-    next_on_item(schemas, items)
-}
-
-fn next_member<'a>(
-    alloc: Global,
-    schemas: &'a Schemas,
-    searchers: &Searchers<'a>,
-    members: &mut MemberCursor<'a>,
-) -> Result<Option<Applied<'a>>, Memory>
-    ensures next { IfOk result (λ o. MatchOption o (members_of_asking schemas.now members.old ≡ [])
-        (λ a. members_of_asking schemas.now members.old ≡ applied_of schemas.now a ∷ members_of_asking schemas.now members.new)) }
-    ensures is { IfOk result (λ o. MatchOption o (Unit {0}) (λ a. is_place schemas.now a.place ≡ true)) }
-{
-    if !schemas.has(members.held.kept_place()) {
-        return Ok(None);
-    }
-    next_on_member(alloc, schemas, searchers, members)
-}
-
-fn next_pattern<'a>(
-    alloc: Global,
-    schemas: &'a Schemas,
-    searchers: &Searchers<'a>,
-    patterns: &mut PatternCursor<'a>,
-) -> Result<Option<Applied<'a>>, Memory>
-    ensures next { IfOk result (λ o. MatchOption o (patterns_of_asking schemas.now patterns.old ≡ [])
-        (λ a. patterns_of_asking schemas.now patterns.old ≡ applied_of schemas.now a ∷ patterns_of_asking schemas.now patterns.new)) }
-    ensures is { IfOk result (λ o. MatchOption o (Unit {0}) (λ a. is_place schemas.now a.place ≡ true)) }
-{
-    if !has_both(schemas, patterns.place, patterns.below) {
-        return Ok(None);
-    }
-    next_matching(alloc, schemas, searchers, patterns)
-}
-
-fn has_both(schemas: &Schemas, one: Place, other: Place) -> bool
-    ensures { result ≡ (is_place schemas.now one && is_place schemas.now other) }
-{
-    schemas.has(one) && schemas.has(other)
 }

@@ -3,6 +3,7 @@ ghost use Rattle.std.specs.Prelude.{◌≡◌, ◌++◌, IfOk, None, OnOk, Some,
 ghost use Rattle.js_bundle.specs.Schemas.{is_place};
 ghost use Rattle.js_doc.specs.Fragment.{fragment_token};
 ghost use Rattle.js_eval.specs.Bundle.{schemas_of};
+ghost use Rattle.js_eval.specs.code.Placed.{IsPlaced};
 ghost use Rattle.js_eval.specs.Evaluated.{index_in, name_in};
 ghost use Rattle.js_eval.specs.Seen.{instance_of, step_of};
 ghost use Rattle.js_eval.specs.Sited.{numbered_site};
@@ -10,13 +11,14 @@ ghost use Rattle.js_eval.specs.Walk.Told.{at_step, schema_says};
 ghost use Rattle.js_tree.specs.Seen.{note_of};
 
 use crate::answers::keep_all;
-use crate::bundled::{names_at, schema_at};
+use crate::bundled::names_at;
 use crate::counted;
 use crate::cursor::{Asking, next_asked};
 use crate::instance::{Applied, Instance};
 use crate::keyword::Keyword;
 use crate::keyword_cursor::Keywords;
 use crate::kind::Kind;
+use crate::placed::Placed;
 use crate::schema::is_accepting;
 use crate::searchers::Searchers;
 use crate::start::{Facts, Scene, start};
@@ -39,6 +41,7 @@ impl<'a> World for Here<'a> {
     ghost use Rattle.js_bundle.specs.Schemas.{is_place};
     ghost use Rattle.js_eval.specs.code.Applied.{applied_of};
     ghost use Rattle.js_eval.specs.code.Asked as here;
+    ghost use Rattle.js_eval.specs.code.Placed.{IsPlaced};
     ghost use Rattle.js_eval.specs.Bundle.{schemas_of};
     ghost use Rattle.js_eval.specs.code.KeywordsLeft as left;
     ghost use Rattle.js_eval.specs.Seen.{instance_of, keyword_of};
@@ -47,6 +50,8 @@ impl<'a> World for Here<'a> {
     type Value = Instance<'a>;
 
     type Name = &'a str;
+
+    type Schema = Placed<'a>;
 
     type Keyword = Keyword<'a>;
 
@@ -64,6 +69,10 @@ impl<'a> World for Here<'a> {
 
     ghost resource = { λ h n. resource_of h.schemas.now n };
 
+    ghost number = { λ s. s.place };
+
+    ghost is_schema = { λ h s. IsPlaced h.schemas.now s };
+
     ghost value_of = { instance_of };
 
     ghost text_of = { λ name. name.now };
@@ -74,13 +83,19 @@ impl<'a> World for Here<'a> {
 
     ghost application_of = { λ h a. applied_of h.schemas.now a };
 
-    ghost place_of = { λ a. a.place };
+    ghost applied_schema = { λ a. a.placed };
 
     ghost asked = { λ h a. here.asked h.schemas.now a };
 
+    ghost is_asking = { λ h a. here.IsAsking h.schemas.now a };
+
+    fn place(&self, schema: Placed<'a>) -> Place {
+        schema.place
+    }
+
     #[tactic(auto, unfolding(crate::specs::Walk::Told::accepts_at))]
-    fn accepts(&self, place: Place) -> bool {
-        is_accepting(schema_at(self.schemas, place))
+    fn accepts(&self, schema: Placed<'a>) -> bool {
+        is_accepting(schema.schema)
     }
 
     fn resource(&self, place: Place) -> usize {
@@ -88,11 +103,8 @@ impl<'a> World for Here<'a> {
     }
 
     #[tactic(auto, unfolding(crate::specs::Walk::Told::keywords_at))]
-    fn keywords(&self, place: Place) -> Keywords<'a> {
-        Keywords::new(
-            names_at(self.schemas, place),
-            schema_at(self.schemas, place),
-        )
+    fn keywords(&self, schema: Placed<'a>) -> Keywords<'a> {
+        Keywords::new(names_at(self.schemas, schema.place), schema.schema)
     }
 
     fn next_keyword(&self, keywords: &mut Keywords<'a>) -> Option<Keyword<'a>> {
@@ -110,22 +122,27 @@ impl<'a> World for Here<'a> {
         alloc: Global,
         path: &[Place],
         resources: &[usize],
-        place: Place,
+        schema: Placed<'a>,
         value: Instance<'a>,
         keyword: Keyword<'a>,
         condition: Option<bool>,
         names: &[&'a str],
         indexes: &[usize],
     ) -> Result<Asking<'a>, Memory> {
-        let schema = schema_at(self.schemas, place);
         if matches!(keyword.kind, Kind::AdditionalProperties) {
-            keep_all(alloc, self.schemas, &self.searchers, place, schema, value)?;
+            keep_all(
+                alloc,
+                self.schemas,
+                &self.searchers,
+                schema.place,
+                schema.schema,
+                value,
+            )?;
         }
         let scene = Scene {
             path,
             scope: resources,
-            place,
-            schema,
+            placed: schema,
             value,
         };
         let facts = Facts {
@@ -140,8 +157,12 @@ impl<'a> World for Here<'a> {
         next_asked(alloc, self.schemas, &self.searchers, asking)
     }
 
-    fn place(&self, application: Applied<'a>) -> Place {
-        place_of(application.place, application.step, application.value.doc())
+    fn schema(&self, application: Applied<'a>) -> Placed<'a> {
+        schema_of(
+            application.placed,
+            application.step,
+            application.value.doc(),
+        )
     }
 
     fn value(&self, application: Applied<'a>) -> Instance<'a> {
@@ -159,7 +180,7 @@ impl<'a> World for Here<'a> {
     fn passes(
         &self,
         alloc: Global,
-        place: Place,
+        schema: Placed<'a>,
         value: Instance<'a>,
         keyword: Keyword<'a>,
         tally: Tally,
@@ -169,7 +190,7 @@ impl<'a> World for Here<'a> {
             alloc,
             self.schemas,
             &self.searchers,
-            place,
+            schema,
             value,
             keyword,
             tally,
@@ -189,15 +210,17 @@ impl<'a> World for Here<'a> {
     fn go_to_value(&self, application: Applied<'a>, trail: &mut Trail) -> Result<(), Memory> {
         go(application.at, application.value.doc(), trail)
     }
+
+    ghost stands = { λ h s is. is.0 };
 }
 
 // What an application is made of. Each of these is handed a step and a document too, which it doesn't look at: a function
 // that takes a struct has to speak of each type in it.
 
-fn place_of<'a>(place: Place, _step: Step<'a>, _doc: Option<&'a Doc>) -> Place
-    ensures { result ≡ place }
+fn schema_of<'a>(schema: Placed<'a>, _step: Step<'a>, _doc: Option<&'a Doc>) -> Placed<'a>
+    ensures { result ≡ schema.entry }
 {
-    place
+    schema
 }
 
 fn value_of<'a>(_step: Step<'a>, value: Instance<'a>, _doc: Option<&'a Doc>) -> Instance<'a>
@@ -273,11 +296,15 @@ impl Here<'_> {
     /// # Errors
     /// `Memory`.
     #[tactic(auto, unfolding(crate::specs::Walk::Told::schema_says))]
-    pub fn schema_says<'n>(&self, alloc: Global, place: Place) -> Result<Note<'n>, Memory>
-        requires { is_place self.now.schemas.now place ≡ true }
-        ensures { IfOk result (λ n. note_of n ≡ schema_says (schemas_of self.now.schemas.now) (numbered_site self.now.schemas.now place)) }
+    pub fn schema_says<'n>(
+        &self,
+        alloc: Global,
+        placed: Placed<'_>,
+    ) -> Result<Note<'n>, Memory>
+        requires { IsPlaced self.now.schemas.now placed }
+        ensures { IfOk result (λ n. note_of n ≡ schema_says (schemas_of self.now.schemas.now) (numbered_site self.now.schemas.now placed.entry.place)) }
     {
-        schema_note(alloc, schema_at(self.schemas, place))
+        schema_note(alloc, placed.schema)
     }
 }
 

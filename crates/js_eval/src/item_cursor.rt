@@ -1,20 +1,21 @@
 //! What a keyword asks for item by item (Core, sections 10.2.1, 10.3.1 and 11.2): each schema of a list on the value, or
 //! a schema on each item of an array.
-ghost use Rattle.std.specs.Prelude.{◌≡◌, ◌∷◌, [], IfOk, MatchOption, filter, length, map, nat_le, nat_lt, not, take, true};
-ghost use Rattle.js_bundle.specs.Schemas.{is_place};
+ghost use Rattle.std.specs.Prelude.{◌≡◌, ◌∷◌, [], IfOk, MatchOption, filter, length, map, nat_le, nat_lt, not, take};
 ghost use Rattle.js_doc.specs.Seen.{value_of};
 ghost use Rattle.js_bundle.specs.Document.{Documents};
 ghost use Rattle.js_eval.specs.Applications.{among_indexes, application, indexed_from};
-ghost use Rattle.js_eval.specs.code.Applied.{IsHeld, applied_of, kept_place};
+ghost use Rattle.js_eval.specs.code.Applied.{IsHeld, applied_of, kept};
 ghost use Rattle.js_eval.specs.Bundle.{schemas_of};
 ghost use Rattle.js_eval.specs.code.Cursors.{AreMarked, is_marked, items_asked, items_left};
+ghost use Rattle.js_eval.specs.code.Placed.{IsPlaced};
 ghost use Rattle.js_eval.specs.SchemaSet as spec;
 ghost use Rattle.js_eval.specs.Seen.{instance_of};
 ghost use Rattle.js_eval.specs.Sited.{numbered_site};
 
 use crate::applied::{Held, To, apply_to_part};
 use crate::instance::{Applied, Instance};
-use js_bundle::{Place, Schemas, Step};
+use crate::placed::Placed;
+use js_bundle::{Schemas, Step};
 use js_doc::{Doc, Memory};
 use std::alloc::Global;
 
@@ -34,18 +35,18 @@ pub(crate) struct ItemCursor<'a> {
 #[tactic(auto, using(crate::proofs::ItemsLeft::all_left))]
 pub(crate) fn each_listed<'a>(
     alloc: Global,
-    place: Place,
+    placed: Placed<'a>,
     keyword: &'a str,
     list: &'a [Doc],
     value: Instance<'a>,
 ) -> ItemCursor<'a>
     ensures asked { (documents : Documents) → items_asked documents result
-        ≡ map (λ e. application (schemas_of documents) (numbered_site documents place) keyword.now (spec.Index e.0) spec.Alone (instance_of value.entry))
+        ≡ map (λ e. application (schemas_of documents) (numbered_site documents placed.entry.place) keyword.now (spec.Index e.0) spec.Alone (instance_of value.entry))
         (indexed_from 0 (map value_of list.now)) }
-    ensures number { kept_place result.held ≡ place }
+    ensures held { kept result.held ≡ placed.entry }
 {
     ItemCursor {
-        held: Held::Each(place, keyword),
+        held: Held::Each(placed, keyword),
         to: To::Whole(value),
         items: list,
         next: 0,
@@ -57,18 +58,18 @@ pub(crate) fn each_listed<'a>(
 #[tactic(auto, using(crate::proofs::ItemsLeft::all_left))]
 pub(crate) fn each_in_step<'a>(
     alloc: Global,
-    place: Place,
+    placed: Placed<'a>,
     keyword: &'a str,
     list: &[Doc],
     items: &'a [Doc],
 ) -> ItemCursor<'a>
     ensures asked { (documents : Documents) → items_asked documents result
-        ≡ map (λ e. application (schemas_of documents) (numbered_site documents place) keyword.now (spec.Index e.0) (spec.Index e.0) e.1)
+        ≡ map (λ e. application (schemas_of documents) (numbered_site documents placed.entry.place) keyword.now (spec.Index e.0) (spec.Index e.0) e.1)
         (filter (λ e. nat_lt e.0 (length list.now)) (indexed_from 0 (map value_of items.now))) }
-    ensures number { kept_place result.held ≡ place }
+    ensures held { kept result.held ≡ placed.entry }
 {
     ItemCursor {
-        held: Held::Each(place, keyword),
+        held: Held::Each(placed, keyword),
         to: To::Part,
         items: first_of(items, list.len()),
         next: 0,
@@ -87,17 +88,17 @@ fn first_of(items: &[Doc], count: usize) -> &[Doc]
     }
 }
 
-/// The schema at a place, on each item from one on.
+/// A schema, on each item from one on.
 pub(crate) fn each_from<'a>(
     alloc: Global,
-    below: Place,
+    below: Placed<'a>,
     items: &'a [Doc],
     first: usize,
 ) -> ItemCursor<'a>
     ensures asked { (documents : Documents) → items_asked documents result
-        ≡ map (λ e. record { place = numbered_site documents below; step = spec.Alone; at = spec.Index e.0; value = e.1 })
+        ≡ map (λ e. record { place = numbered_site documents below.entry.place; step = spec.Alone; at = spec.Index e.0; value = e.1 })
         (filter (λ e. nat_le first e.0) (indexed_from 0 (map value_of items.now))) }
-    ensures number { kept_place result.held ≡ below }
+    ensures held { kept result.held ≡ below.entry }
 {
     ItemCursor {
         held: Held::One(below),
@@ -108,20 +109,20 @@ pub(crate) fn each_from<'a>(
     }
 }
 
-/// The schema at a place, on each item that isn't at one of these indexes.
+/// A schema, on each item that isn't at one of these indexes.
 ///
 /// # Errors
 /// `Memory`.
 pub(crate) fn each_except<'a>(
     alloc: Global,
-    below: Place,
+    below: Placed<'a>,
     items: &'a [Doc],
     indexes: &[usize],
 ) -> Result<ItemCursor<'a>, Memory>
     ensures asked { IfOk result (λ c. (documents : Documents) → items_asked documents c
-        ≡ map (λ e. record { place = numbered_site documents below; step = spec.Alone; at = spec.Index e.0; value = e.1 })
+        ≡ map (λ e. record { place = numbered_site documents below.entry.place; step = spec.Alone; at = spec.Index e.0; value = e.1 })
         (filter (λ e. not (among_indexes e.0 indexes.now)) (indexed_from 0 (map value_of items.now)))) }
-    ensures number { IfOk result (λ c. kept_place c.held ≡ below) }
+    ensures held { IfOk result (λ c. kept c.held ≡ below.entry) }
 {
     Ok(ItemCursor {
         held: Held::One(below),
@@ -147,13 +148,13 @@ fn marks_at(alloc: Global, count: usize, indexes: &[usize]) -> Result<Vec<bool>,
 
 /// The next application.
 pub(crate) fn next_on_item<'a>(
-    schemas: &Schemas,
+    schemas: &'a Schemas,
     cursor: &mut ItemCursor<'a>,
 ) -> Option<Applied<'a>>
     requires { IsHeld schemas.now cursor.old.held }
     ensures next { MatchOption result (items_asked schemas.now cursor.old ≡ [])
         (λ a. items_asked schemas.now cursor.old ≡ applied_of schemas.now a ∷ items_asked schemas.now cursor.new) }
-    ensures is { MatchOption result (Unit {0}) (λ a. is_place schemas.now a.place ≡ true) }
+    ensures is { MatchOption result (Unit {0}) (λ a. IsPlaced schemas.now a.placed) }
     ensures held { IsHeld schemas.now cursor.new.held }
 {
     let (index, item) = next_item(

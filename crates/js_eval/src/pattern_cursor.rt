@@ -1,20 +1,21 @@
 //! What `patternProperties` asks for (Core, section 10.3.2.2): for each pattern, its schema on each member whose name it
 //! matches.
-ghost use Rattle.std.specs.Prelude.{◌≡◌, ◌∷◌, [], IfOk, MatchOption, filter, map, true};
+ghost use Rattle.std.specs.Prelude.{◌≡◌, ◌∷◌, [], IfOk, MatchOption, filter, map};
 ghost use Rattle.std.specs.List.{flat_map};
 ghost use Rattle.js_assert.specs.Pattern.{matches};
 ghost use Rattle.js_bundle.specs.Document.{Documents};
-ghost use Rattle.js_bundle.specs.Schemas.{is_place};
 ghost use Rattle.js_doc.specs.Seen.{pair_of, value_of};
 ghost use Rattle.js_eval.specs.code.Applied.{applied_of};
 ghost use Rattle.js_eval.specs.code.Cursors.{IsBegun, matching_asked, on_matched_member, patterns_asked};
+ghost use Rattle.js_eval.specs.code.Placed.{IsPlaced};
 ghost use Rattle.js_eval.specs.Sited.{numbered_site};
 
 use crate::bundled::below;
 use crate::instance::{Applied, Instance};
 use crate::member_cursor::pattern_of;
+use crate::placed::Placed;
 use crate::searchers::{NamedPattern, Searchers};
-use js_bundle::{Place, Schemas, Step};
+use js_bundle::{Schemas, Step};
 use js_doc::{Doc, Members, Memory};
 use std::alloc::Global;
 use std::collections::btree_map::Iter;
@@ -22,14 +23,14 @@ use std::collections::btree_map::Iter;
 /// The patterns that are still to come, and the members that are left of the present one.
 #[derive(Drop)]
 pub(crate) struct PatternCursor<'a> {
-    pub place: Place,
+    pub placed: Placed<'a>,
     pub keyword: &'a str,
     pub patterns: Iter<'a, String, Doc>,
     pub members: &'a Members,
-    /// The present pattern, where there is one, its text and the place of its schema.
+    /// The present pattern, where there is one, its text and its schema.
     pub present: Option<NamedPattern<'a>>,
     pub name: &'a str,
-    pub below: Place,
+    pub below: Placed<'a>,
     pub left: Iter<'a, String, Doc>,
     /// Whether what the patterns say of the names is kept, since another keyword of the schema has asked them.
     pub is_kept: bool,
@@ -37,25 +38,25 @@ pub(crate) struct PatternCursor<'a> {
 
 /// What `patternProperties` asks for on these members.
 pub(crate) fn each_matching<'a>(
-    place: Place,
+    placed: Placed<'a>,
     keyword: &'a str,
     patterns: &'a Members,
     members: &'a Members,
     is_kept: bool,
 ) -> PatternCursor<'a>
     ensures asked { (documents : Documents) → patterns_asked documents result
-        ≡ flat_map (λ p. matching_asked documents (numbered_site documents place) keyword.now p.0 members.now) patterns.now }
-    ensures place { result.place ≡ place }
-    ensures below { result.below ≡ place }
+        ≡ flat_map (λ p. matching_asked documents (numbered_site documents placed.entry.place) keyword.now p.0 members.now) patterns.now }
+    ensures placed { result.placed ≡ placed.entry }
+    ensures below { result.below ≡ placed.entry }
 {
     PatternCursor {
-        place,
+        placed,
         keyword,
         patterns: patterns.pairs(),
         members,
         present: None,
         name: keyword,
-        below: place,
+        below: placed,
         left: members.pairs(),
         is_kept,
     }
@@ -71,17 +72,17 @@ pub(crate) fn next_matching<'a>(
     searchers: &Searchers<'a>,
     cursor: &mut PatternCursor<'a>,
 ) -> Result<Option<Applied<'a>>, Memory>
-    requires place { is_place schemas.now cursor.old.place ≡ true }
-    requires below { is_place schemas.now cursor.old.below ≡ true }
+    requires placed { IsPlaced schemas.now cursor.old.placed }
+    requires below { IsPlaced schemas.now cursor.old.below }
     ensures next { IfOk result (λ o. MatchOption o (patterns_asked schemas.now cursor.old ≡ [])
         (λ a. patterns_asked schemas.now cursor.old ≡ applied_of schemas.now a ∷ patterns_asked schemas.now cursor.new)) }
-    ensures is { IfOk result (λ o. MatchOption o (Unit {0}) (λ a. is_place schemas.now a.place ≡ true)) }
-    ensures place { IfOk result (λ _. cursor.new.place ≡ cursor.old.place) }
-    ensures below { IfOk result (λ _. is_place schemas.now cursor.new.below ≡ true) }
+    ensures is { IfOk result (λ o. MatchOption o (Unit {0}) (λ a. IsPlaced schemas.now a.placed)) }
+    ensures placed { IfOk result (λ _. cursor.new.placed ≡ cursor.old.placed) }
+    ensures below { IfOk result (λ _. IsPlaced schemas.now cursor.new.below) }
 {
     match next_match(alloc, schemas, searchers, cursor)? {
         Some((name, member)) => Ok(Some(Applied {
-            place: cursor.below,
+            placed: cursor.below,
             step: Step::Name(cursor.name),
             at: Step::Name(name),
             value: Instance::Doc(member),
@@ -102,12 +103,12 @@ fn next_match<'a>(
     searchers: &Searchers<'a>,
     cursor: &mut PatternCursor<'a>,
 ) -> Result<Option<(&'a str, &'a Doc)>, Memory>
-    requires place { is_place schemas.now cursor.old.place ≡ true }
-    requires below { is_place schemas.now cursor.old.below ≡ true }
+    requires placed { IsPlaced schemas.now cursor.old.placed }
+    requires below { IsPlaced schemas.now cursor.old.below }
     ensures next { IfOk result (λ o. MatchOption o (patterns_asked schemas.now cursor.old ≡ [])
-        (λ m. patterns_asked schemas.now cursor.old ≡ on_matched_member schemas.now cursor.new.below cursor.new.name.now (m.0.now, value_of m.1.now) ∷ patterns_asked schemas.now cursor.new)) }
-    ensures place { IfOk result (λ _. cursor.new.place ≡ cursor.old.place) }
-    ensures below { IfOk result (λ _. is_place schemas.now cursor.new.below ≡ true) }
+        (λ m. patterns_asked schemas.now cursor.old ≡ on_matched_member schemas.now cursor.new.below.place cursor.new.name.now (m.0.now, value_of m.1.now) ∷ patterns_asked schemas.now cursor.new)) }
+    ensures placed { IfOk result (λ _. cursor.new.placed ≡ cursor.old.placed) }
+    ensures below { IfOk result (λ _. IsPlaced schemas.now cursor.new.below) }
 {
     if let Some(pattern) = cursor.present {
         let is_kept = cursor.is_kept;
@@ -132,14 +133,14 @@ fn begin<'a>(
     cursor: &mut PatternCursor<'a>,
     name: &'a str,
 ) -> Result<NamedPattern<'a>, Memory>
-    requires { is_place schemas.now cursor.old.place ≡ true }
+    requires { IsPlaced schemas.now cursor.old.placed }
     ensures { IfOk result (λ p. IsBegun schemas.now name.now p cursor.old cursor.new) }
 {
-    match pattern_of(schemas, cursor.place, name) {
+    match pattern_of(schemas, cursor.placed.place, name) {
         Some(pattern) => {
             cursor.present = Some(pattern);
             cursor.name = name;
-            cursor.below = below(schemas, cursor.place, cursor.keyword, Step::Name(name));
+            cursor.below = below(schemas, cursor.placed, cursor.keyword, Step::Name(name));
             cursor.left = cursor.members.pairs();
             if cursor.is_kept {
                 searchers.begin_kept(name);

@@ -5,7 +5,8 @@ ghost use Rattle.js_assert.specs.Argument.{entries};
 ghost use Rattle.js_bundle.specs.Schemas.{is_place};
 ghost use Rattle.js_doc.specs.Seen.{value_of};
 ghost use Rattle.js_eval.specs.Applications.{application, asks_of, if_fails, if_holds};
-ghost use Rattle.js_eval.specs.code.Asked.{asked};
+ghost use Rattle.js_eval.specs.code.Asked.{IsAsking, asked};
+ghost use Rattle.js_eval.specs.code.Placed.{IsPlaced};
 ghost use Rattle.js_eval.specs.Bundle.{schemas_of};
 ghost use Rattle.js_eval.specs.SchemaSet as spec;
 ghost use Rattle.js_eval.specs.Seen.{instance_of, keyword_of, texts_of};
@@ -16,9 +17,10 @@ use crate::cursor::{Asking, alone};
 use crate::instance::Instance;
 use crate::keyword::Keyword;
 use crate::kind::Kind;
+use crate::placed::Placed;
 use crate::{start_items, start_members};
 use js_bundle::{Place, Schemas, Step};
-use js_doc::{Doc, Memory};
+use js_doc::Memory;
 use std::alloc::Global;
 
 /// Where a keyword is judged, and on what.
@@ -28,10 +30,8 @@ pub(crate) struct Scene<'s, 'a> {
     pub path: &'s [Place],
     /// Their resources, of equal neighbours one.
     pub scope: &'s [usize],
-    /// The present place.
-    pub place: Place,
-    /// The schema there.
-    pub schema: &'a Doc,
+    /// The present schema.
+    pub placed: Placed<'a>,
     /// The value.
     pub value: Instance<'a>,
 }
@@ -53,53 +53,53 @@ pub(crate) struct Facts<'s, 'a> {
 /// `Memory`.
 pub(crate) fn start<'a>(
     alloc: Global,
-    schemas: &Schemas,
+    schemas: &'a Schemas,
     scene: Scene<'_, 'a>,
     facts: Facts<'_, 'a>,
     keyword: Keyword<'a>,
     kind: Kind,
 ) -> Result<Asking<'a>, Memory>
-    requires place { is_place schemas.now scene.place ≡ true }
+    requires placed { IsPlaced schemas.now scene.placed }
     requires path { list_all (is_place schemas.now) scene.path.now ≡ true }
     requires resources { scene.scope.now ≡ dedup nat_eq (map (resource_of schemas.now) scene.path.now) }
-    ensures { IfOk result (λ a. asked schemas.now a
-        ≡ asks_of (schemas_of schemas.now) (map (numbered_site schemas.now) scene.entry.path.now) (numbered_site schemas.now scene.entry.place) (entries (value_of scene.entry.schema.now))
+    ensures asked { IfOk result (λ a. asked schemas.now a
+        ≡ asks_of (schemas_of schemas.now) (map (numbered_site schemas.now) scene.entry.path.now) (numbered_site schemas.now scene.entry.placed.place) (entries (value_of scene.entry.placed.schema.now))
         (instance_of scene.entry.value) facts.entry.condition (texts_of facts.entry.names.now) facts.entry.indexes.now (keyword_of keyword.entry) kind) }
+    ensures is { IfOk result (λ a. IsAsking schemas.now a) }
 {
     let Scene {
         path,
         scope,
-        place,
-        schema,
+        placed,
         value,
     } = scene;
     let name = keyword.name;
     match kind {
-        Kind::Reference => Ok(referred(schemas, place, value)),
-        Kind::DynamicReference => Ok(referred_dynamically(schemas, place, path, scope, value)),
-        Kind::AllOf => Ok(start_items::listed(alloc, schemas, place, keyword, value)),
-        Kind::AnyOf => Ok(start_items::listed(alloc, schemas, place, keyword, value)),
-        Kind::OneOf => Ok(start_items::listed(alloc, schemas, place, keyword, value)),
-        Kind::Not => Ok(held(schemas, place, name, value)),
-        Kind::If => Ok(held(schemas, place, name, value)),
-        Kind::Then => Ok(held_then(schemas, place, name, facts.condition, value)),
-        Kind::Else => Ok(held_else(schemas, place, name, facts.condition, value)),
-        Kind::DependentSchemas => Ok(start_members::dependent(schemas, place, keyword, value)),
-        Kind::PrefixItems => Ok(start_items::prefix(alloc, schemas, place, keyword, value)),
-        Kind::Items => Ok(start_items::following(alloc, schemas, place, name, schema, value)),
-        Kind::Contains => Ok(start_items::every(alloc, schemas, place, name, value)),
-        Kind::Properties => Ok(start_members::properties(schemas, place, keyword, value)),
+        Kind::Reference => Ok(referred(schemas, placed, value)),
+        Kind::DynamicReference => Ok(referred_dynamically(schemas, placed, path, scope, value)),
+        Kind::AllOf => Ok(start_items::listed(alloc, schemas, placed, keyword, value)),
+        Kind::AnyOf => Ok(start_items::listed(alloc, schemas, placed, keyword, value)),
+        Kind::OneOf => Ok(start_items::listed(alloc, schemas, placed, keyword, value)),
+        Kind::Not => Ok(held(schemas, placed, name, value)),
+        Kind::If => Ok(held(schemas, placed, name, value)),
+        Kind::Then => Ok(held_then(schemas, placed, name, facts.condition, value)),
+        Kind::Else => Ok(held_else(schemas, placed, name, facts.condition, value)),
+        Kind::DependentSchemas => Ok(start_members::dependent(schemas, placed, keyword, value)),
+        Kind::PrefixItems => Ok(start_items::prefix(alloc, schemas, placed, keyword, value)),
+        Kind::Items => Ok(start_items::following(alloc, schemas, placed, name, value)),
+        Kind::Contains => Ok(start_items::every(alloc, schemas, placed, name, value)),
+        Kind::Properties => Ok(start_members::properties(schemas, placed, keyword, value)),
         Kind::PatternProperties => Ok(start_members::patterns(
-            schemas, place, keyword, schema, value,
+            schemas, placed, keyword, value,
         )),
         Kind::AdditionalProperties => Ok(start_members::additional(
-            schemas, place, name, schema, value,
+            schemas, placed, name, value,
         )),
-        Kind::PropertyNames => Ok(start_members::property_names(schemas, place, name, value)),
+        Kind::PropertyNames => Ok(start_members::property_names(schemas, placed, name, value)),
         Kind::UnevaluatedItems => start_items::unevaluated_items(
             alloc,
             schemas,
-            place,
+            placed,
             name,
             facts.indexes,
             value,
@@ -107,7 +107,7 @@ pub(crate) fn start<'a>(
         Kind::UnevaluatedProperties => start_members::unevaluated_properties(
             alloc,
             schemas,
-            place,
+            placed,
             name,
             facts.names,
             value,
@@ -118,63 +118,67 @@ pub(crate) fn start<'a>(
 }
 
 // What `$ref` names, on the value itself.
-fn referred<'a>(schemas: &Schemas, place: Place, value: Instance<'a>) -> Asking<'a>
-    requires { is_place schemas.now place ≡ true }
-    ensures { asked schemas.now result ≡ record {
-      place = (schemas_of schemas.now).target (numbered_site schemas.now place);
+fn referred<'a>(schemas: &'a Schemas, placed: Placed<'a>, value: Instance<'a>) -> Asking<'a>
+    requires { IsPlaced schemas.now placed }
+    ensures asked { asked schemas.now result ≡ record {
+      place = (schemas_of schemas.now).target (numbered_site schemas.now placed.entry.place);
       step = spec.Alone;
       at = spec.Alone;
       value = instance_of value.entry;
     } ∷ [] }
+    ensures is { IsAsking schemas.now result }
 {
-    alone(target_at(schemas, place), value)
+    alone(target_at(schemas, placed), value)
 }
 
 // What `$dynamicRef` names, on the value itself.
 fn referred_dynamically<'a>(
-    schemas: &Schemas,
-    place: Place,
+    schemas: &'a Schemas,
+    placed: Placed<'a>,
     path: &[Place],
     resources: &[usize],
     value: Instance<'a>,
 ) -> Asking<'a>
-    requires place { is_place schemas.now place ≡ true }
+    requires placed { IsPlaced schemas.now placed }
     requires path { list_all (is_place schemas.now) path.now ≡ true }
     requires resources { resources.now ≡ dedup nat_eq (map (resource_of schemas.now) path.now) }
-    ensures { asked schemas.now result
+    ensures asked { asked schemas.now result
         ≡ record {
-          place = (schemas_of schemas.now).dynamic_target (map (numbered_site schemas.now) path.now) (numbered_site schemas.now place);
+          place = (schemas_of schemas.now).dynamic_target (map (numbered_site schemas.now) path.now) (numbered_site schemas.now placed.entry.place);
           step = spec.Alone;
           at = spec.Alone;
           value = instance_of value.entry;
         } ∷ [] }
+    ensures is { IsAsking schemas.now result }
 {
-    alone(dynamic_target_at(schemas, place, path, resources), value)
+    alone(dynamic_target_at(schemas, placed, path, resources), value)
 }
 
 // The keyword's schema, on the value itself.
-fn held<'a>(schemas: &Schemas, place: Place, keyword: &str, value: Instance<'a>) -> Asking<'a>
-    requires { is_place schemas.now place ≡ true }
-    ensures { asked schemas.now result
-        ≡ application (schemas_of schemas.now) (numbered_site schemas.now place) keyword.now spec.Alone spec.Alone (instance_of value.entry) ∷ [] }
+fn held<'a>(schemas: &'a Schemas, placed: Placed<'a>, keyword: &str, value: Instance<'a>) -> Asking<'a>
+    requires { IsPlaced schemas.now placed }
+    ensures asked { asked schemas.now result
+        ≡ application (schemas_of schemas.now) (numbered_site schemas.now placed.entry.place) keyword.now spec.Alone spec.Alone (instance_of value.entry) ∷ [] }
+    ensures is { IsAsking schemas.now result }
 {
-    alone(below(schemas, place, keyword, Step::Alone), value)
+    alone(below(schemas, placed, keyword, Step::Alone), value)
 }
 
 // The schema of `then`. `condition`: the verdict of the adjacent `if`, if there is one.
 fn held_then<'a>(
-    schemas: &Schemas,
-    place: Place,
+    schemas: &'a Schemas,
+    placed: Placed<'a>,
     keyword: &str,
     condition: Option<bool>,
     value: Instance<'a>,
 ) -> Asking<'a>
-    requires { is_place schemas.now place ≡ true }
-    ensures { asked schemas.now result ≡ if_holds condition
-        (application (schemas_of schemas.now) (numbered_site schemas.now place) keyword.now spec.Alone spec.Alone (instance_of value.entry) ∷ []) }
+    requires { IsPlaced schemas.now placed }
+    ensures asked { asked schemas.now result ≡ if_holds condition
+        (application (schemas_of schemas.now) (numbered_site schemas.now placed.entry.place) keyword.now spec.Alone spec.Alone (instance_of value.entry) ∷ []) }
+    ensures is { IsAsking schemas.now result }
 {
     match condition {
-        Some(true) => held(schemas, place, keyword, value),
+        Some(true) => held(schemas, placed, keyword, value),
         Some(false) => Asking::One(None),
         None => Asking::One(None),
     }
@@ -182,18 +186,19 @@ fn held_then<'a>(
 
 // The schema of `else`. `condition`: the verdict of the adjacent `if`, if there is one.
 fn held_else<'a>(
-    schemas: &Schemas,
-    place: Place,
+    schemas: &'a Schemas,
+    placed: Placed<'a>,
     keyword: &str,
     condition: Option<bool>,
     value: Instance<'a>,
 ) -> Asking<'a>
-    requires { is_place schemas.now place ≡ true }
-    ensures { asked schemas.now result ≡ if_fails condition
-        (application (schemas_of schemas.now) (numbered_site schemas.now place) keyword.now spec.Alone spec.Alone (instance_of value.entry) ∷ []) }
+    requires { IsPlaced schemas.now placed }
+    ensures asked { asked schemas.now result ≡ if_fails condition
+        (application (schemas_of schemas.now) (numbered_site schemas.now placed.entry.place) keyword.now spec.Alone spec.Alone (instance_of value.entry) ∷ []) }
+    ensures is { IsAsking schemas.now result }
 {
     match condition {
-        Some(false) => held(schemas, place, keyword, value),
+        Some(false) => held(schemas, placed, keyword, value),
         Some(true) => Asking::One(None),
         None => Asking::One(None),
     }

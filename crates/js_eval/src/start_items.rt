@@ -1,11 +1,11 @@
 //! What the keywords for arrays, and those with a list of schemas, begin to ask for (Core, sections 10.2.1, 10.3.1 and
 //! 11.2).
-ghost use Rattle.std.specs.Prelude.{◌≡◌, IfOk, filter, length, map, nat_le, nat_lt, not, true};
+ghost use Rattle.std.specs.Prelude.{◌≡◌, IfOk, filter, length, map, nat_le, nat_lt, not};
 ghost use Rattle.js_assert.specs.Argument.{entries, values};
-ghost use Rattle.js_bundle.specs.Schemas.{is_place};
 ghost use Rattle.js_doc.specs.Seen.{value_of};
 ghost use Rattle.js_eval.specs.Applications.{among_indexes, application, indexed, prefix_length};
-ghost use Rattle.js_eval.specs.code.Asked.{asked};
+ghost use Rattle.js_eval.specs.code.Asked.{IsAsking, asked};
+ghost use Rattle.js_eval.specs.code.Placed.{IsPlaced};
 ghost use Rattle.js_eval.specs.Bundle.{schemas_of};
 ghost use Rattle.js_eval.specs.SchemaSet as spec;
 ghost use Rattle.js_eval.specs.Seen.{instance_of};
@@ -16,27 +16,29 @@ use crate::cursor::Asking;
 use crate::instance::{Instance, array_in};
 use crate::item_cursor::{each_except, each_from, each_in_step, each_listed};
 use crate::keyword::Keyword;
+use crate::placed::Placed;
 use crate::schema::argument_in;
-use js_bundle::{Place, Schemas, Step};
+use js_bundle::{Schemas, Step};
 use js_doc::{Doc, Memory};
 use std::alloc::Global;
 
 /// Each schema of a keyword's list, on the value itself.
 pub(crate) fn listed<'a>(
     alloc: Global,
-    schemas: &Schemas,
-    place: Place,
+    schemas: &'a Schemas,
+    placed: Placed<'a>,
     keyword: Keyword<'a>,
     value: Instance<'a>,
 ) -> Asking<'a>
-    requires { is_place schemas.now place ≡ true }
-    ensures { asked schemas.now result
-        ≡ map (λ e. application (schemas_of schemas.now) (numbered_site schemas.now place) keyword.entry.name.now (spec.Index e.0) spec.Alone (instance_of value.entry))
+    requires { IsPlaced schemas.now placed }
+    ensures asked { asked schemas.now result
+        ≡ map (λ e. application (schemas_of schemas.now) (numbered_site schemas.now placed.entry.place) keyword.entry.name.now (spec.Index e.0) spec.Alone (instance_of value.entry))
         (indexed (value_of keyword.entry.argument.now)) }
+    ensures is { IsAsking schemas.now result }
 {
     Asking::Items(each_listed(
         alloc,
-        place,
+        placed,
         keyword.name,
         array_in(keyword.argument),
         value,
@@ -46,19 +48,20 @@ pub(crate) fn listed<'a>(
 /// Each schema of `prefixItems`, on the item at the same index.
 pub(crate) fn prefix<'a>(
     alloc: Global,
-    schemas: &Schemas,
-    place: Place,
+    schemas: &'a Schemas,
+    placed: Placed<'a>,
     keyword: Keyword<'a>,
     value: Instance<'a>,
 ) -> Asking<'a>
-    requires { is_place schemas.now place ≡ true }
-    ensures { asked schemas.now result
-        ≡ map (λ e. application (schemas_of schemas.now) (numbered_site schemas.now place) keyword.entry.name.now (spec.Index e.0) (spec.Index e.0) e.1)
+    requires { IsPlaced schemas.now placed }
+    ensures asked { asked schemas.now result
+        ≡ map (λ e. application (schemas_of schemas.now) (numbered_site schemas.now placed.entry.place) keyword.entry.name.now (spec.Index e.0) (spec.Index e.0) e.1)
         (filter (λ e. nat_lt e.0 (length (values (value_of keyword.entry.argument.now)))) (indexed (instance_of value.entry))) }
+    ensures is { IsAsking schemas.now result }
 {
     Asking::Items(each_in_step(
         alloc,
-        place,
+        placed,
         keyword.name,
         array_in(keyword.argument),
         value.array(),
@@ -68,57 +71,59 @@ pub(crate) fn prefix<'a>(
 /// The schema of `items`, on each item behind those that the adjacent `prefixItems` has schemas for.
 pub(crate) fn following<'a>(
     alloc: Global,
-    schemas: &Schemas,
-    place: Place,
+    schemas: &'a Schemas,
+    placed: Placed<'a>,
     keyword: &str,
-    schema: &Doc,
     value: Instance<'a>,
 ) -> Asking<'a>
-    requires { is_place schemas.now place ≡ true }
-    ensures { asked schemas.now result
-        ≡ map (λ e. application (schemas_of schemas.now) (numbered_site schemas.now place) keyword.now spec.Alone (spec.Index e.0) e.1)
-        (filter (λ e. nat_le (prefix_length (entries (value_of schema.now))) e.0) (indexed (instance_of value.entry))) }
+    requires { IsPlaced schemas.now placed }
+    ensures asked { asked schemas.now result
+        ≡ map (λ e. application (schemas_of schemas.now) (numbered_site schemas.now placed.entry.place) keyword.now spec.Alone (spec.Index e.0) e.1)
+        (filter (λ e. nat_le (prefix_length (entries (value_of placed.entry.schema.now))) e.0) (indexed (instance_of value.entry))) }
+    ensures is { IsAsking schemas.now result }
 {
     from_index(
         alloc,
         schemas,
-        place,
+        placed,
         keyword,
         value,
-        prefix_length_in(schema),
+        prefix_length_in(placed.schema),
     )
 }
 
 /// The schema of `contains`, on each item.
 pub(crate) fn every<'a>(
     alloc: Global,
-    schemas: &Schemas,
-    place: Place,
+    schemas: &'a Schemas,
+    placed: Placed<'a>,
     keyword: &str,
     value: Instance<'a>,
 ) -> Asking<'a>
-    requires { is_place schemas.now place ≡ true }
-    ensures { asked schemas.now result
-        ≡ map (λ e. application (schemas_of schemas.now) (numbered_site schemas.now place) keyword.now spec.Alone (spec.Index e.0) e.1)
+    requires { IsPlaced schemas.now placed }
+    ensures asked { asked schemas.now result
+        ≡ map (λ e. application (schemas_of schemas.now) (numbered_site schemas.now placed.entry.place) keyword.now spec.Alone (spec.Index e.0) e.1)
         (indexed (instance_of value.entry)) }
+    ensures is { IsAsking schemas.now result }
 {
-    from_index(alloc, schemas, place, keyword, value, 0)
+    from_index(alloc, schemas, placed, keyword, value, 0)
 }
 
 fn from_index<'a>(
     alloc: Global,
-    schemas: &Schemas,
-    place: Place,
+    schemas: &'a Schemas,
+    placed: Placed<'a>,
     keyword: &str,
     value: Instance<'a>,
     first: usize,
 ) -> Asking<'a>
-    requires { is_place schemas.now place ≡ true }
-    ensures { asked schemas.now result
-        ≡ map (λ e. application (schemas_of schemas.now) (numbered_site schemas.now place) keyword.now spec.Alone (spec.Index e.0) e.1)
+    requires { IsPlaced schemas.now placed }
+    ensures asked { asked schemas.now result
+        ≡ map (λ e. application (schemas_of schemas.now) (numbered_site schemas.now placed.entry.place) keyword.now spec.Alone (spec.Index e.0) e.1)
         (filter (λ e. nat_le first e.0) (indexed (instance_of value.entry))) }
+    ensures is { IsAsking schemas.now result }
 {
-    let below = below(schemas, place, keyword, Step::Alone);
+    let below = below(schemas, placed, keyword, Step::Alone);
     Asking::Items(each_from(alloc, below, value.array(), first))
 }
 
@@ -138,18 +143,19 @@ fn prefix_length_in(schema: &Doc) -> usize
 /// `Memory`.
 pub(crate) fn unevaluated_items<'a>(
     alloc: Global,
-    schemas: &Schemas,
-    place: Place,
+    schemas: &'a Schemas,
+    placed: Placed<'a>,
     keyword: &str,
     indexes: &[usize],
     value: Instance<'a>,
 ) -> Result<Asking<'a>, Memory>
-    requires { is_place schemas.now place ≡ true }
-    ensures { IfOk result (λ a. asked schemas.now a
-        ≡ map (λ e. application (schemas_of schemas.now) (numbered_site schemas.now place) keyword.now spec.Alone (spec.Index e.0) e.1)
+    requires { IsPlaced schemas.now placed }
+    ensures asked { IfOk result (λ a. asked schemas.now a
+        ≡ map (λ e. application (schemas_of schemas.now) (numbered_site schemas.now placed.entry.place) keyword.now spec.Alone (spec.Index e.0) e.1)
         (filter (λ e. not (among_indexes e.0 indexes.now)) (indexed (instance_of value.entry)))) }
+    ensures is { IfOk result (λ a. IsAsking schemas.now a) }
 {
-    let below = below(schemas, place, keyword, Step::Alone);
+    let below = below(schemas, placed, keyword, Step::Alone);
     let items = each_except(alloc, below, value.array(), indexes)?;
     Ok(Asking::Items(items))
 }

@@ -148,7 +148,7 @@ fn told(alloc: Global, schemas: &Schemas, place: Place, question: &Question) -> 
             let count = schemas.resource_count();
             Ok(format!(in alloc; "{number} of {count}")?)
         }
-        Below(keyword, step) => found(alloc, schemas, schemas.below(place, keyword, *step)),
+        Below(keyword, step) => places::below(alloc, schemas, place, keyword, *step),
         Assertion(keyword, value) => places::said(alloc, schemas, place, keyword, value),
         Pattern(name, text) => places::matched(alloc, schemas, place, name, text),
         Target => targets::target(alloc, schemas, place),

@@ -1,14 +1,14 @@
-use Rattle.std.proofs.Common.{◌≡◌, true, length}
-use Rattle.js_bundle.specs.Schemas.{is_place}
+use Rattle.std.proofs.Common.{◌≡◌, length}
 use Rattle.js_eval.specs.code.Cursors.{coming_asked, patterns_asked}
+use Rattle.js_eval.specs.code.Placed.{IsPlaced}
 use Rattle.js_eval.proofs.pattern_cursor.next_match.Given as goal
 
 abbrev pub invariant-loop-name : goal.invariant-loop-name
 invariant-loop-name l = record {
   asks : patterns_asked l.schemas l.fn.cursor ≡ coming_asked l.schemas l.cursor l.cursor.patterns;
-  place : l.cursor.place ≡ l.fn.cursor.place;
-  is : is_place l.schemas l.cursor.place ≡ true;
-  below : is_place l.schemas l.cursor.below ≡ true;
+  placed : l.cursor.placed ≡ l.fn.cursor.placed;
+  is : IsPlaced l.schemas l.cursor.placed;
+  below : IsPlaced l.schemas l.cursor.below;
 }
 
 abbrev pub decreases-loop-name : goal.decreases-loop-name

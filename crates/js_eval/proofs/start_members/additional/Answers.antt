@@ -6,14 +6,13 @@ use Rattle.js_eval.specs.code.Cursors.{is_matched, is_named}
 use Rattle.js_eval.specs.SchemaSet as spec
 use Rattle.js_eval.specs.Seen.{instance_of}
 use Rattle.js_eval.specs.Sited.{numbered_site}
-use Rattle.js_eval.proofs.Started.{additional_by, moved, on_members, there}
+use Rattle.js_eval.proofs.Started.{additional_by, moved, on_members}
 use Rattle.js_eval.proofs.start_members.additional.Goals as goal
 
-pub returns-in-Some : goal.returns-in-Some
-returns-in-Some c =
+pub returns-in-Some-clause-asked : goal.returns-in-Some-clause-asked
+returns-in-Some-clause-asked c =
     let documents = c.args.schemas.now in
-    there documents _ c.below-below.result _ _ c.each_additional.ensures.number c.below-below.ensures.is
-    (moved (on_members (λ n. not (is_named c.object_at-properties.result n || is_matched c.object_at-patterns.result n))) _ _ _ _ _
+    moved (on_members (λ n. not (is_named c.object_at-properties.result n || is_matched c.object_at-patterns.result n))) _ _ _ _ _
     (c.each_additional.ensures.asked documents) c.below-below.ensures.site c.in-Some.ensures
-    ∙ ap (map (λ m. record { place = (schemas_of documents).below (numbered_site documents c.args.place) c.args.keyword.now spec.Alone; step = spec.Alone; at = spec.Name m.0; value = m.1 }))
-    (additional_by c.object_at-properties.result c.object_at-patterns.result (entries (value_of c.args.schema.now)) (entries (instance_of c.args.value)) c.object_at-properties.ensures c.object_at-patterns.ensures))
+    ∙ ap (map (λ m. record { place = (schemas_of documents).below (numbered_site documents c.args.placed.place) c.args.keyword.now spec.Alone; step = spec.Alone; at = spec.Name m.0; value = m.1 }))
+    (additional_by c.object_at-properties.result c.object_at-patterns.result (entries (value_of c.args.placed.schema.now)) (entries (instance_of c.args.value)) c.object_at-properties.ensures c.object_at-patterns.ensures)

@@ -15,6 +15,28 @@ pub fn standing(alloc: Global, schemas: &Schemas, place: Place) -> Result<String
     Ok(format!(in alloc; "of {resource}, document {document} at {pointer}: {schema}")?)
 }
 
+// What stands at a step, where both calls that tell of it agree, and the schema is that of the place.
+pub fn below(
+    alloc: Global,
+    schemas: &Schemas,
+    place: Place,
+    keyword: &str,
+    step: Step<'_>,
+) -> Result<String, Fail>
+    requires { is_place schemas.now place ≡ true }
+{
+    let answer = found(alloc, schemas, schemas.below(place, keyword, step))?;
+    match schemas.schema_below(place, schemas.schema(place), keyword, step) {
+        Some((below, schema)) => {
+            let own = text(alloc, schemas.schema(below))?;
+            same(alloc, keyword, text(alloc, schema)?.as_str(), own.as_str())?;
+            same(alloc, keyword, location(alloc, schemas, below)?.as_str(), answer.as_str())?;
+        }
+        None => same(alloc, keyword, "none", answer.as_str())?,
+    }
+    Ok(answer)
+}
+
 // The absolute locations of all places, a line each.
 pub fn all_places(alloc: Global, schemas: &Schemas) -> Result<String, Fail> {
     let mut lines = String::new(alloc);

@@ -71,10 +71,20 @@ fn led_to(schemas: &Schemas, place: Place) -> Place
     } else if schemas.has_dynamic_ref(place) {
         led_dynamically(schemas, place)
     } else {
-        match schemas.below(place, "items", Step::Alone) {
-            Some(next) => next,
-            None => place,
-        }
+        held(schemas, place)
+    }
+}
+
+// What stands in the place's `items`, where both calls that tell of it agree; else the place itself.
+fn held(schemas: &Schemas, place: Place) -> Place
+    requires { is_place schemas.now place ≡ true }
+{
+    let Some(next) = schemas.below(place, "items", Step::Alone) else {
+        return place;
+    };
+    match schemas.schema_below(place, schemas.schema(place), "items", Step::Alone) {
+        Some((other, _)) if is_same(schemas, next, other) => next,
+        _ => place,
     }
 }
 
