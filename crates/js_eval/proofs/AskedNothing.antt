@@ -7,8 +7,7 @@ use Rattle.js_doc.specs.Value.{Value, Named}
 use Rattle.js_assert.specs.Argument.{has}
 use Rattle.js_bundle.specs.Document.{Documents}
 use Rattle.js_eval.specs.code.Applied.{applied_of}
-use Rattle.js_eval.specs.code.Asked.{IsOne, one_asked}
-use Rattle.js_eval.specs.code.Placed.{IsPlaced}
+use Rattle.js_eval.specs.code.Asked.{IsApplied, IsOne, one_asked}
 use Rattle.js_eval.specs.declared.instance.Applied.{Applied}
 
 -- no name is one of no members'
@@ -35,6 +34,6 @@ pub taken : (documents : Documents) (o r n : Option Applied) → r ≡ o → n �
 taken documents None r n e f = rw e refl
 taken documents (Some a) r n e f = rw (e, f) refl
 
-pub taken_placed : (documents : Documents) (o r : Option Applied) → r ≡ o → IsOne documents o → MatchOption r (Unit {0}) (λ a. IsPlaced documents a.placed)
-taken_placed documents None r e h = rw e tt
-taken_placed documents (Some a) r e h = rw e h
+pub taken_applied : (documents : Documents) (o r : Option Applied) → r ≡ o → IsOne documents o → MatchOption r (Unit {0}) (λ a. IsApplied documents a)
+taken_applied documents None r e h = rw e tt
+taken_applied documents (Some a) r e h = rw e h

@@ -20,9 +20,9 @@ module _ (documents : Documents) where
 
   pub found_in : (c : PatternCursor) (p : NamedPattern) (left' : List (String Global × Doc)) (m : List ℕ × Value)
       → c.present ≡ Some p → filter (λ m. matches p.text.now m.0) (map pair_of c.left) ≡ m ∷ filter (λ m. matches p.text.now m.0) (map pair_of left')
-      → patterns_asked documents c ≡ on_matched_member documents c.below.place c.name.now m ∷ patterns_asked documents (record c { left = left' })
+      → patterns_asked documents c ≡ on_matched_member documents c.below c.name.now m ∷ patterns_asked documents (record c { left = left' })
   found_in c p left' m e f =
-      ap (λ xs. xs ++ coming_asked documents c c.patterns) (present_more c.present p c.below.place c.name.now c.left left' m e f)
+      ap (λ xs. xs ++ coming_asked documents c c.patterns) (present_more c.present p c.below c.name.now c.left left' m e f)
 
   -- it is applied to none any more
   present_none : (o : Option NamedPattern) (p : NamedPattern) (place : ℕ) (name : Text) (left : List (String Global × Doc))
@@ -31,14 +31,14 @@ module _ (documents : Documents) where
 
   pub none_in : (c : PatternCursor) (p : NamedPattern) → c.present ≡ Some p → filter (λ m. matches p.text.now m.0) (map pair_of c.left) ≡ []
       → patterns_asked documents c ≡ coming_asked documents c c.patterns
-  none_in c p e f = ap (λ xs. xs ++ coming_asked documents c c.patterns) (present_none c.present p c.below.place c.name.now c.left e f)
+  none_in c p e f = ap (λ xs. xs ++ coming_asked documents c c.patterns) (present_none c.present p c.below c.name.now c.left e f)
 
   -- a pattern is begun
   pub begun_asks : (c d : PatternCursor) (e : String Global × Doc) (rest : List (String Global × Doc)) (name : Text) (p : NamedPattern)
       → string_bytes e.0 ≡ name → IsBegun documents name p (record c { patterns = rest }) d
       → coming_asked documents c (e ∷ rest) ≡ patterns_asked documents d
   begun_asks c d e rest name p n b =
-      let first : matching_asked documents (numbered_site documents c.placed.place) c.keyword.now (string_bytes e.0) c.members.now ≡ present_asked documents d.present d.below.place d.name.now d.left =
-      ap (λ x. matching_asked documents (numbered_site documents c.placed.place) c.keyword.now x c.members.now) n ∙ sym b.asks in
-      let later : coming_asked documents c rest ≡ coming_asked documents d d.patterns = rw (b.placed, b.keyword, b.members, b.patterns) in
+      let first : matching_asked documents (numbered_site documents c.place) c.keyword.now (string_bytes e.0) c.members.now ≡ present_asked documents d.present d.below d.name.now d.left =
+      ap (λ x. matching_asked documents (numbered_site documents c.place) c.keyword.now x c.members.now) n ∙ sym b.asks in
+      let later : coming_asked documents c rest ≡ coming_asked documents d d.patterns = rw (b.place, b.keyword, b.members, b.patterns) in
       ap₂ (λ xs ys. xs ++ ys) first later

@@ -5,4 +5,4 @@ pub mod Standard
 pub mod Turns
 pub mod KeywordsLeft
 pub mod Applied
-pub mod Placed
+pub mod Standing

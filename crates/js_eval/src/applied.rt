@@ -2,24 +2,24 @@
 ghost use Rattle.std.specs.Prelude.{◌≡◌};
 ghost use Rattle.js_doc.specs.Seen.{value_of};
 ghost use Rattle.js_eval.specs.code.Applied.{IsHeld, applied, applied_of, at_in, namesake, site_in, step_in, value_in};
-ghost use Rattle.js_eval.specs.code.Placed.{IsPlaced};
+ghost use Rattle.js_eval.specs.code.Asked.{IsApplied};
+ghost use Rattle.js_eval.specs.code.Standing.{StandsAt};
 ghost use Rattle.js_eval.specs.Seen.{instance_of, step_of};
 ghost use Rattle.js_eval.specs.Sited.{numbered_site};
 ghost use Rattle.js_eval.specs.declared.applied.To.TheVariants as to;
 
 use crate::bundled::below;
 use crate::instance::{Applied, Instance};
-use crate::placed::Placed;
-use js_bundle::{Schemas, Step};
+use js_bundle::{Place, Schemas, Step};
 use js_doc::{Doc, Members};
 
 /// Where the schemas that a keyword applies to the parts of a value stand.
 #[derive(Clone, Copy)]
 pub(crate) enum Held<'a> {
-    /// One schema, which is the keyword's argument.
-    One(Placed<'a>),
-    /// Below this schema's keyword, a schema for each part, at the step to the part.
-    Each(Placed<'a>, &'a str),
+    /// One schema, which is the keyword's argument, and its place.
+    One(Place, &'a Doc),
+    /// Below the keyword of this name, of this place with this schema, one for each part, at the step to the part.
+    Each(Place, &'a Doc, &'a str),
 }
 
 /// What a schema is applied to.
@@ -36,14 +36,15 @@ pub(crate) enum To<'a> {
 }
 
 impl<'a> Held<'a> {
-    fn placed(&self, schemas: &'a Schemas, step: Step<'_>) -> Placed<'a>
+    // The schema for the part to which the step leads, with its place.
+    fn schema(&self, schemas: &'a Schemas, step: Step<'_>) -> (Place, &'a Doc)
         requires { IsHeld schemas.now self.now }
-        ensures is { IsPlaced schemas.now result }
-        ensures site { numbered_site schemas.now result.place ≡ site_in schemas.now self.now (step_of step.entry) }
+        ensures is { StandsAt schemas.now result.0 (value_of result.1.now) }
+        ensures site { numbered_site schemas.now result.0 ≡ site_in schemas.now self.now (step_of step.entry) }
     {
         match self {
-            Held::One(placed) => *placed,
-            Held::Each(placed, keyword) => below(schemas, *placed, keyword, step),
+            Held::One(place, schema) => (*place, schema),
+            Held::Each(place, schema, keyword) => below(schemas, *place, schema, keyword, step),
         }
     }
 
@@ -51,8 +52,8 @@ impl<'a> Held<'a> {
         ensures { step_of result ≡ step_in self.now (step_of step.entry) }
     {
         match self {
-            Held::One(_) => Step::Alone,
-            Held::Each(_, _) => step,
+            Held::One(_, _) => Step::Alone,
+            Held::Each(_, _, _) => step,
         }
     }
 }
@@ -117,10 +118,12 @@ pub(crate) fn apply_to_part<'a>(
     requires { IsHeld schemas.now held.now }
     ensures applied { applied_of schemas.now result
         ≡ applied schemas.now held.now to.now (step_of step.entry) (value_of part.now) }
-    ensures is { IsPlaced schemas.now result.placed }
+    ensures is { IsApplied schemas.now result }
 {
+    let (place, schema) = held.schema(schemas, step);
     Applied {
-        placed: held.placed(schemas, step),
+        place,
+        schema,
         step: held.step(step),
         at: to.step(step),
         value: to.value(step, part),

@@ -6,28 +6,25 @@ ghost use Rattle.js_bundle.specs.Resource.{sites};
 ghost use Rattle.js_bundle.specs.ResourceNumber.{dynamic_target_in};
 ghost use Rattle.js_bundle.specs.Schemas.{StandsFor, has_keyword, is_place, path_at, place_at};
 ghost use Rattle.js_bundle.specs.Target.{dynamic_target};
+ghost use Rattle.js_doc.specs.Seen.{value_of};
 ghost use Rattle.js_assert.specs.Argument.{entries};
 ghost use Rattle.js_eval.specs.Bundle.{schemas_of};
-ghost use Rattle.js_eval.specs.code.Placed.{IsPlaced};
 ghost use Rattle.js_eval.specs.code.Standard.{keyword_names_of};
+ghost use Rattle.js_eval.specs.code.Standing.{StandsAt};
 ghost use Rattle.js_eval.specs.Seen.{step_of};
 ghost use Rattle.js_eval.specs.Sited.{numbered_site, resource_of};
 
-use crate::placed::Placed;
 use js_bundle::laws::{a_number_tells_a_resource, numbers_tell_the_dynamic_scope};
 use js_bundle::{KeywordName, Place, Schemas, Step};
+use js_doc::Doc;
 
-/// A place with the schema there, which is looked for from its document's root on.
+/// The schema that stands at a place, which is looked for from its document's root on.
 #[tactic(auto, using(crate::proofs::Paths::schema_is))]
-pub(crate) fn placed_at(schemas: &Schemas, place: Place) -> Placed<'_>
+pub(crate) fn schema_at(schemas: &Schemas, place: Place) -> &Doc
     requires { is_place schemas.now place ≡ true }
-    ensures is { IsPlaced schemas.now result }
-    ensures place { result.place ≡ place }
+    ensures { value_of result.now ≡ (numbered_site schemas.now place).schema }
 {
-    Placed {
-        place,
-        schema: schemas.schema(place),
-    }
+    schemas.schema(place)
 }
 
 /// Which keyword of the standard each keyword of a place is, in the order of the schema's members.
@@ -39,57 +36,65 @@ pub(crate) fn names_at(schemas: &Schemas, place: Place) -> &[KeywordName]
     schemas.keywords(place)
 }
 
-/// The schema to which a step leads through a keyword. It is found in the one above.
+/// The place to which a step leads through a keyword, and the schema there, which is found in the one above.
 pub(crate) fn below<'a>(
     schemas: &'a Schemas,
-    above: Placed<'a>,
+    place: Place,
+    schema: &'a Doc,
     keyword: &str,
     step: Step<'_>,
-) -> Placed<'a>
-    requires { IsPlaced schemas.now above }
-    ensures is { IsPlaced schemas.now result }
-    ensures site { numbered_site schemas.now result.place
-        ≡ (schemas_of schemas.now).below (numbered_site schemas.now above.entry.place) keyword.now (step_of step.entry) }
+) -> (Place, &'a Doc)
+    requires { StandsAt schemas.now place (value_of schema.now) }
+    ensures is { StandsAt schemas.now result.0 (value_of result.1.now) }
+    ensures site { numbered_site schemas.now result.0
+        ≡ (schemas_of schemas.now).below (numbered_site schemas.now place) keyword.now (step_of step.entry) }
 {
-    match schemas.schema_below(above.place, above.schema, keyword, step) {
-        Some((place, schema)) => Placed { place, schema },
-        None => above,
+    match schemas.schema_below(place, schema, keyword, step) {
+        Some((below, held)) => (below, held),
+        None => (place, schema),
     }
 }
 
-/// The schema that the `$ref` of a schema names.
-pub(crate) fn target_at<'a>(schemas: &'a Schemas, placed: Placed<'a>) -> Placed<'a>
-    requires { IsPlaced schemas.now placed }
-    ensures is { IsPlaced schemas.now result }
-    ensures site { numbered_site schemas.now result.place ≡ (schemas_of schemas.now).target (numbered_site schemas.now placed.entry.place) }
+/// The place that the `$ref` of a place names, and the schema there.
+pub(crate) fn target_at<'a>(
+    schemas: &'a Schemas,
+    place: Place,
+    schema: &'a Doc,
+) -> (Place, &'a Doc)
+    requires { StandsAt schemas.now place (value_of schema.now) }
+    ensures is { StandsAt schemas.now result.0 (value_of result.1.now) }
+    ensures site { numbered_site schemas.now result.0 ≡ (schemas_of schemas.now).target (numbered_site schemas.now place) }
 {
-    if schemas.has_ref(placed.place) {
-        placed_at(schemas, schemas.target(placed.place))
+    if schemas.has_ref(place) {
+        let target = schemas.target(place);
+        (target, schema_at(schemas, target))
     } else {
-        placed
+        (place, schema)
     }
 }
 
-/// The schema that the `$dynamicRef` of a schema names, after all the places of a path that ends in it. `resources`: those of the
+/// The place that the `$dynamicRef` of a place names, and the schema there, after all the places of a path that ends in it. `resources`: those of the
 /// path, of equal neighbours one.
 #[tactic(auto, using(crate::proofs::Paths::path_is))]
 pub(crate) fn dynamic_target_at<'a>(
     schemas: &'a Schemas,
-    placed: Placed<'a>,
+    place: Place,
+    schema: &'a Doc,
     path: &[Place],
     resources: &[usize],
-) -> Placed<'a>
-    requires placed { IsPlaced schemas.now placed }
+) -> (Place, &'a Doc)
+    requires schema { StandsAt schemas.now place (value_of schema.now) }
     requires path { list_all (is_place schemas.now) path.now ≡ true }
     requires resources { resources.now ≡ dedup nat_eq (map (resource_of schemas.now) path.now) }
-    ensures is { IsPlaced schemas.now result }
-    ensures site { numbered_site schemas.now result.place
-        ≡ (schemas_of schemas.now).dynamic_target (map (numbered_site schemas.now) path.now) (numbered_site schemas.now placed.entry.place) }
+    ensures is { StandsAt schemas.now result.0 (value_of result.1.now) }
+    ensures site { numbered_site schemas.now result.0
+        ≡ (schemas_of schemas.now).dynamic_target (map (numbered_site schemas.now) path.now) (numbered_site schemas.now place) }
 {
-    if schemas.has_dynamic_ref(placed.place) {
-        placed_at(schemas, led_by_numbers(schemas, placed.place, path, resources))
+    if schemas.has_dynamic_ref(place) {
+        let target = led_by_numbers(schemas, place, path, resources);
+        (target, schema_at(schemas, target))
     } else {
-        placed
+        (place, schema)
     }
 }
 

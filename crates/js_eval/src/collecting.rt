@@ -4,7 +4,6 @@ ghost use Rattle.std.specs.Prelude.{◌≡◌, IfOk};
 use crate::here::Here;
 use crate::instance::Instance;
 use crate::keyword::Keyword;
-use crate::placed::Placed;
 use crate::telling::keyword_note;
 use crate::walking::{Judged, Reporter, Trail};
 use js_bundle::Place;
@@ -79,10 +78,11 @@ impl<'a, C: Collector<'a>> Reporter<Here<'a>> for Collecting<'a, C> {
         &mut self,
         alloc: Global,
         world: &Here<'a>,
-        schema: Placed<'a>,
+        place: Place,
+        schema: &'a Doc,
         valid: bool,
     ) -> Result<(), Memory> {
-        let note = world.schema_says(alloc, schema)?;
+        let note = world.schema_says(alloc, place, schema)?;
         self.collector.leave(valid, note)
     }
 }

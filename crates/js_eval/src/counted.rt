@@ -8,7 +8,7 @@ ghost use Rattle.js_assert.specs.Pattern.{matches};
 ghost use Rattle.js_bundle.specs.Schemas.{is_place};
 ghost use Rattle.js_doc.specs.Seen.{value_of};
 ghost use Rattle.js_eval.specs.Bundle.{schemas_of};
-ghost use Rattle.js_eval.specs.code.Placed.{IsPlaced};
+ghost use Rattle.js_eval.specs.code.Standing.{StandsAt};
 ghost use Rattle.js_eval.specs.Keywords as table;
 ghost use Rattle.js_eval.specs.Passes.{all, any, how_many, may_contain_none, passes_of};
 ghost use Rattle.js_eval.specs.Seen.{instance_of, keyword_of};
@@ -19,7 +19,6 @@ ghost use Rattle.js_eval.specs.declared.kind.Kind.TheVariants.{Assertion as Asse
 use crate::instance::Instance;
 use crate::keyword::Keyword;
 use crate::kind::Kind;
-use crate::placed::Placed;
 use crate::schema::argument_in;
 use crate::searchers::{NamedPattern, Searchers};
 use crate::walking::Tally;
@@ -28,7 +27,7 @@ use js_bundle::{Place, Schemas};
 use js_doc::{Doc, Memory, Text, Whole};
 use std::alloc::Global;
 
-/// Whether a keyword of a schema passes, which asked for so many applications of which so many hold, where so many items match the
+/// Whether a keyword of a place passes, which asked for so many applications of which so many hold, where so many items match the
 /// adjacent `contains`.
 ///
 /// # Errors
@@ -38,25 +37,24 @@ pub(crate) fn passes<'a>(
     alloc: Global,
     schemas: &'a Schemas,
     searchers: &Searchers<'a>,
-    placed: Placed<'a>,
+    place: Place,
+    schema: &Doc,
     value: Instance<'_>,
     keyword: Keyword<'_>,
     tally: Tally,
     matching: u64,
 ) -> Result<bool, Memory>
-    requires placed { IsPlaced schemas.now placed }
-    requires keyword { IsKeywordAt (schemas_of schemas.now) (numbered_site schemas.now placed.place) (keyword_of keyword) }
+    requires schema { StandsAt schemas.now place (value_of schema.now) }
+    requires keyword { IsKeywordAt (schemas_of schemas.now) (numbered_site schemas.now place) (keyword_of keyword) }
     ensures { IfOk result (λ b. (verdicts : List Bool) → length verdicts ≡ tally.asked → how_many verdicts ≡ tally.held
-        → b ≡ passes_at (schemas_of schemas.now) (numbered_site schemas.now placed.entry.place) (instance_of value.entry) matching (keyword_of keyword.entry) verdicts) }
+        → b ≡ passes_at (schemas_of schemas.now) (numbered_site schemas.now place) (instance_of value.entry) matching (keyword_of keyword.entry) verdicts) }
 {
     let kind = keyword.kind;
     let said = match kind {
-        Kind::Assertion => {
-            says_at(alloc, schemas, searchers, placed.place, value, keyword, matching)?
-        }
+        Kind::Assertion => says_at(alloc, schemas, searchers, place, value, keyword, matching)?,
         _ => true,
     };
-    Ok(passes_by_count(kind, placed.schema, value, said, tally))
+    Ok(passes_by_count(kind, schema, value, said, tally))
 }
 
 /// Whether a keyword of this kind passes, which stands in the schema. `said`: whether the value holds under it, where it is an

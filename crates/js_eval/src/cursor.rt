@@ -1,9 +1,10 @@
 //! What a keyword asks for, one application after another (Core, sections 8.2.3, 10 and 11).
 ghost use Rattle.std.specs.Prelude.{◌≡◌, ◌∷◌, [], IfOk, MatchOption};
 ghost use Rattle.js_bundle.specs.Document.{Documents};
+ghost use Rattle.js_doc.specs.Seen.{value_of};
 ghost use Rattle.js_eval.specs.code.Applied.{applied_of};
-ghost use Rattle.js_eval.specs.code.Asked.{IsAsking, IsOne, asked, one_asked};
-ghost use Rattle.js_eval.specs.code.Placed.{IsPlaced};
+ghost use Rattle.js_eval.specs.code.Asked.{IsApplied, IsAsking, IsOne, asked, one_asked};
+ghost use Rattle.js_eval.specs.code.Standing.{StandsAt};
 ghost use Rattle.js_eval.specs.SchemaSet as spec;
 ghost use Rattle.js_eval.specs.Seen.{instance_of};
 ghost use Rattle.js_eval.specs.Sited.{numbered_site};
@@ -12,10 +13,9 @@ use crate::instance::{Applied, Instance};
 use crate::item_cursor::{ItemCursor, next_on_item};
 use crate::member_cursor::{MemberCursor, next_on_member};
 use crate::pattern_cursor::{PatternCursor, next_matching};
-use crate::placed::Placed;
 use crate::searchers::Searchers;
-use js_bundle::{Schemas, Step};
-use js_doc::Memory;
+use js_bundle::{Place, Schemas, Step};
+use js_doc::{Doc, Memory};
 use std::alloc::Global;
 
 /// What a keyword has still to ask for, of the schemas that it was made for.
@@ -28,14 +28,15 @@ pub(crate) enum Asking<'a> {
     Patterns(PatternCursor<'a>),
 }
 
-/// One schema, on the value itself.
-pub(crate) fn alone<'a>(placed: Placed<'a>, value: Instance<'a>) -> Asking<'a>
+/// The schema at a place, on the value itself.
+pub(crate) fn alone<'a>(place: Place, schema: &'a Doc, value: Instance<'a>) -> Asking<'a>
     ensures asked { (documents : Documents) → asked documents result
-        ≡ record { place = numbered_site documents placed.entry.place; step = spec.Alone; at = spec.Alone; value = instance_of value.entry } ∷ [] }
-    ensures is { (documents : Documents) → IsPlaced documents placed.entry → IsAsking documents result }
+        ≡ record { place = numbered_site documents place; step = spec.Alone; at = spec.Alone; value = instance_of value.entry } ∷ [] }
+    ensures is { (documents : Documents) → StandsAt documents place (value_of schema.now) → IsAsking documents result }
 {
     Asking::One(Some(Applied {
-        placed,
+        place,
+        schema,
         step: Step::Alone,
         at: Step::Alone,
         value,
@@ -55,7 +56,7 @@ pub(crate) fn next_asked<'a>(
     requires { IsAsking schemas.now asking.old }
     ensures next { IfOk result (λ o. MatchOption o (asked schemas.now asking.old ≡ [])
         (λ a. asked schemas.now asking.old ≡ applied_of schemas.now a ∷ asked schemas.now asking.new)) }
-    ensures placed { IfOk result (λ o. MatchOption o (Unit {0}) (λ a. IsPlaced schemas.now a.placed)) }
+    ensures applied { IfOk result (λ o. MatchOption o (Unit {0}) (λ a. IsApplied schemas.now a)) }
     ensures is { IfOk result (λ _. IsAsking schemas.now asking.new) }
 {
     match asking {
@@ -66,12 +67,12 @@ pub(crate) fn next_asked<'a>(
     }
 }
 
-#[tactic(auto, using(crate::proofs::AskedNothing::taken, crate::proofs::AskedNothing::taken_placed))]
+#[tactic(auto, using(crate::proofs::AskedNothing::taken, crate::proofs::AskedNothing::taken_applied))]
 fn next_alone<'a>(_schemas: &Schemas, one: &mut Option<Applied<'a>>) -> Option<Applied<'a>>
     requires { IsOne _schemas.now one.old }
     ensures next { MatchOption result (one_asked _schemas.now one.old ≡ [])
         (λ a. one_asked _schemas.now one.old ≡ applied_of _schemas.now a ∷ one_asked _schemas.now one.new) }
-    ensures placed { MatchOption result (Unit {0}) (λ a. IsPlaced _schemas.now a.placed) }
+    ensures applied { MatchOption result (Unit {0}) (λ a. IsApplied _schemas.now a) }
     ensures is { IsOne _schemas.now one.new }
 {
     one.take()

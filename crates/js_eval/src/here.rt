@@ -3,7 +3,8 @@ ghost use Rattle.std.specs.Prelude.{◌≡◌, ◌++◌, IfOk, None, OnOk, Some,
 ghost use Rattle.js_bundle.specs.Schemas.{is_place};
 ghost use Rattle.js_doc.specs.Fragment.{fragment_token};
 ghost use Rattle.js_eval.specs.Bundle.{schemas_of};
-ghost use Rattle.js_eval.specs.code.Placed.{IsPlaced};
+ghost use Rattle.js_eval.specs.code.Standing.{StandsAt};
+ghost use Rattle.js_doc.specs.Seen.{value_of as schema_value};
 ghost use Rattle.js_eval.specs.Evaluated.{index_in, name_in};
 ghost use Rattle.js_eval.specs.Seen.{instance_of, step_of};
 ghost use Rattle.js_eval.specs.Sited.{numbered_site};
@@ -18,7 +19,6 @@ use crate::instance::{Applied, Instance};
 use crate::keyword::Keyword;
 use crate::keyword_cursor::Keywords;
 use crate::kind::Kind;
-use crate::placed::Placed;
 use crate::schema::is_accepting;
 use crate::searchers::Searchers;
 use crate::start::{Facts, Scene, start};
@@ -39,9 +39,9 @@ pub(crate) struct Here<'a> {
 
 impl<'a> World for Here<'a> {
     ghost use Rattle.js_bundle.specs.Schemas.{is_place};
+    ghost use Rattle.js_doc.specs.Seen as seen;
     ghost use Rattle.js_eval.specs.code.Applied.{applied_of};
     ghost use Rattle.js_eval.specs.code.Asked as here;
-    ghost use Rattle.js_eval.specs.code.Placed.{IsPlaced};
     ghost use Rattle.js_eval.specs.Bundle.{schemas_of};
     ghost use Rattle.js_eval.specs.code.KeywordsLeft as left;
     ghost use Rattle.js_eval.specs.Seen.{instance_of, keyword_of};
@@ -51,7 +51,7 @@ impl<'a> World for Here<'a> {
 
     type Name = &'a str;
 
-    type Schema = Placed<'a>;
+    type Schema = &'a Doc;
 
     type Keyword = Keyword<'a>;
 
@@ -67,11 +67,9 @@ impl<'a> World for Here<'a> {
 
     ghost site = { λ h n. numbered_site h.schemas.now n };
 
+    ghost stands_at = { λ h n schema. seen.value_of schema.now ≡ (numbered_site h.schemas.now n).schema };
+
     ghost resource = { λ h n. resource_of h.schemas.now n };
-
-    ghost number = { λ s. s.place };
-
-    ghost is_schema = { λ h s. IsPlaced h.schemas.now s };
 
     ghost value_of = { instance_of };
 
@@ -83,19 +81,17 @@ impl<'a> World for Here<'a> {
 
     ghost application_of = { λ h a. applied_of h.schemas.now a };
 
-    ghost applied_schema = { λ a. a.placed };
+    ghost place_of = { λ a. a.place };
+
+    ghost schema_of = { λ a. a.schema };
 
     ghost asked = { λ h a. here.asked h.schemas.now a };
 
     ghost is_asking = { λ h a. here.IsAsking h.schemas.now a };
 
-    fn place(&self, schema: Placed<'a>) -> Place {
-        schema.place
-    }
-
     #[tactic(auto, unfolding(crate::specs::Walk::Told::accepts_at))]
-    fn accepts(&self, schema: Placed<'a>) -> bool {
-        is_accepting(schema.schema)
+    fn accepts(&self, _place: Place, schema: &'a Doc) -> bool {
+        is_accepting(schema)
     }
 
     fn resource(&self, place: Place) -> usize {
@@ -103,8 +99,8 @@ impl<'a> World for Here<'a> {
     }
 
     #[tactic(auto, unfolding(crate::specs::Walk::Told::keywords_at))]
-    fn keywords(&self, schema: Placed<'a>) -> Keywords<'a> {
-        Keywords::new(names_at(self.schemas, schema.place), schema.schema)
+    fn keywords(&self, place: Place, schema: &'a Doc) -> Keywords<'a> {
+        Keywords::new(names_at(self.schemas, place), schema)
     }
 
     fn next_keyword(&self, keywords: &mut Keywords<'a>) -> Option<Keyword<'a>> {
@@ -122,7 +118,8 @@ impl<'a> World for Here<'a> {
         alloc: Global,
         path: &[Place],
         resources: &[usize],
-        schema: Placed<'a>,
+        place: Place,
+        schema: &'a Doc,
         value: Instance<'a>,
         keyword: Keyword<'a>,
         condition: Option<bool>,
@@ -130,19 +127,13 @@ impl<'a> World for Here<'a> {
         indexes: &[usize],
     ) -> Result<Asking<'a>, Memory> {
         if matches!(keyword.kind, Kind::AdditionalProperties) {
-            keep_all(
-                alloc,
-                self.schemas,
-                &self.searchers,
-                schema.place,
-                schema.schema,
-                value,
-            )?;
+            keep_all(alloc, self.schemas, &self.searchers, place, schema, value)?;
         }
         let scene = Scene {
             path,
             scope: resources,
-            placed: schema,
+            place,
+            schema,
             value,
         };
         let facts = Facts {
@@ -157,9 +148,13 @@ impl<'a> World for Here<'a> {
         next_asked(alloc, self.schemas, &self.searchers, asking)
     }
 
-    fn schema(&self, application: Applied<'a>) -> Placed<'a> {
+    fn place(&self, application: Applied<'a>) -> Place {
+        place_of(application.place, application.step, application.value.doc())
+    }
+
+    fn schema(&self, application: Applied<'a>) -> &'a Doc {
         schema_of(
-            application.placed,
+            application.schema,
             application.step,
             application.value.doc(),
         )
@@ -180,7 +175,8 @@ impl<'a> World for Here<'a> {
     fn passes(
         &self,
         alloc: Global,
-        schema: Placed<'a>,
+        place: Place,
+        schema: &'a Doc,
         value: Instance<'a>,
         keyword: Keyword<'a>,
         tally: Tally,
@@ -190,6 +186,7 @@ impl<'a> World for Here<'a> {
             alloc,
             self.schemas,
             &self.searchers,
+            place,
             schema,
             value,
             keyword,
@@ -210,14 +207,18 @@ impl<'a> World for Here<'a> {
     fn go_to_value(&self, application: Applied<'a>, trail: &mut Trail) -> Result<(), Memory> {
         go(application.at, application.value.doc(), trail)
     }
-
-    ghost stands = { λ h s is. is.0 };
 }
 
 // What an application is made of. Each of these is handed a step and a document too, which it doesn't look at: a function
 // that takes a struct has to speak of each type in it.
 
-fn schema_of<'a>(schema: Placed<'a>, _step: Step<'a>, _doc: Option<&'a Doc>) -> Placed<'a>
+fn place_of<'a>(place: Place, _step: Step<'a>, _doc: Option<&'a Doc>) -> Place
+    ensures { result ≡ place }
+{
+    place
+}
+
+fn schema_of<'a>(schema: &'a Doc, _step: Step<'a>, _doc: Option<&'a Doc>) -> &'a Doc
     ensures { result ≡ schema.entry }
 {
     schema
@@ -299,12 +300,13 @@ impl Here<'_> {
     pub fn schema_says<'n>(
         &self,
         alloc: Global,
-        placed: Placed<'_>,
+        _place: Place,
+        schema: &Doc,
     ) -> Result<Note<'n>, Memory>
-        requires { IsPlaced self.now.schemas.now placed }
-        ensures { IfOk result (λ n. note_of n ≡ schema_says (schemas_of self.now.schemas.now) (numbered_site self.now.schemas.now placed.entry.place)) }
+        requires { StandsAt self.now.schemas.now _place (schema_value schema.now) }
+        ensures { IfOk result (λ n. note_of n ≡ schema_says (schemas_of self.now.schemas.now) (numbered_site self.now.schemas.now _place)) }
     {
-        schema_note(alloc, placed.schema)
+        schema_note(alloc, schema)
     }
 }
 

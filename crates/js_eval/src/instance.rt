@@ -4,8 +4,7 @@ ghost use Rattle.js_assert.specs.Argument.{entries, values};
 ghost use Rattle.js_doc.specs.Seen.{value_of};
 ghost use Rattle.js_eval.specs.Seen.{instance_of};
 
-use crate::placed::Placed;
-use js_bundle::Step;
+use js_bundle::{Place, Step};
 use js_doc::{Doc, Members};
 
 /// What is judged: a value of the instance, or the name of one of its members.
@@ -18,8 +17,10 @@ pub(crate) enum Instance<'a> {
 /// A schema applied to a value.
 #[derive(Clone, Copy)]
 pub(crate) struct Applied<'a> {
-    /// The schema, with its place.
-    pub placed: Placed<'a>,
+    /// The place of the schema.
+    pub place: Place,
+    /// The schema there.
+    pub schema: &'a Doc,
     /// The step to it from the keyword.
     pub step: Step<'a>,
     /// The step to the value from the instance that the keyword is judged on.

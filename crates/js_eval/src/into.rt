@@ -4,7 +4,7 @@ ghost use Rattle.js_doc.specs.Seen.{value_of};
 ghost use Rattle.js_bundle.specs.Schemas.{is_place};
 ghost use Rattle.js_eval.specs.Walked.{IsResultWithin, IsVerdict, LeadsTo, NoneStands, OnTooLarge};
 
-use crate::bundled::placed_at;
+use crate::bundled::schema_at;
 use crate::collecting::Collecting;
 use crate::here::Here;
 use crate::instance::Instance;
@@ -41,8 +41,9 @@ pub fn walk_into<'a, C: Collector<'a>>(
         collector,
         notes: PhantomData,
     };
-    let schema = placed_at(schemas, place);
-    let done = walk_from(alloc, &here, &mut collecting, schema, Instance::Doc(value));
+    let schema = schema_at(schemas, place);
+    let value = Instance::Doc(value);
+    let done = walk_from(alloc, &here, &mut collecting, place, schema, value);
     let Collecting {
         collector,
         notes: _,
@@ -91,8 +92,9 @@ pub fn verdict<'a>(
         schemas,
         searchers: Searchers::new(alloc),
     };
-    let schema = placed_at(schemas, place);
-    match walk_from(alloc, &here, &mut Silent, schema, Instance::Doc(value)) {
+    let schema = schema_at(schemas, place);
+    let value = Instance::Doc(value);
+    match walk_from(alloc, &here, &mut Silent, place, schema, value) {
         Ok(valid) => Ok(valid),
         Err(fault) => Err(fault),
     }

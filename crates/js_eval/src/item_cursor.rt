@@ -4,18 +4,18 @@ ghost use Rattle.std.specs.Prelude.{◌≡◌, ◌∷◌, [], IfOk, MatchOption,
 ghost use Rattle.js_doc.specs.Seen.{value_of};
 ghost use Rattle.js_bundle.specs.Document.{Documents};
 ghost use Rattle.js_eval.specs.Applications.{among_indexes, application, indexed_from};
-ghost use Rattle.js_eval.specs.code.Applied.{IsHeld, applied_of, kept};
+ghost use Rattle.js_eval.specs.code.Applied.{IsHeld, applied_of};
+ghost use Rattle.js_eval.specs.code.Asked.{IsApplied};
 ghost use Rattle.js_eval.specs.Bundle.{schemas_of};
 ghost use Rattle.js_eval.specs.code.Cursors.{AreMarked, is_marked, items_asked, items_left};
-ghost use Rattle.js_eval.specs.code.Placed.{IsPlaced};
+ghost use Rattle.js_eval.specs.code.Standing.{StandsAt};
 ghost use Rattle.js_eval.specs.SchemaSet as spec;
 ghost use Rattle.js_eval.specs.Seen.{instance_of};
 ghost use Rattle.js_eval.specs.Sited.{numbered_site};
 
 use crate::applied::{Held, To, apply_to_part};
 use crate::instance::{Applied, Instance};
-use crate::placed::Placed;
-use js_bundle::{Schemas, Step};
+use js_bundle::{Place, Schemas, Step};
 use js_doc::{Doc, Memory};
 use std::alloc::Global;
 
@@ -35,18 +35,19 @@ pub(crate) struct ItemCursor<'a> {
 #[tactic(auto, using(crate::proofs::ItemsLeft::all_left))]
 pub(crate) fn each_listed<'a>(
     alloc: Global,
-    placed: Placed<'a>,
+    place: Place,
+    schema: &'a Doc,
     keyword: &'a str,
     list: &'a [Doc],
     value: Instance<'a>,
 ) -> ItemCursor<'a>
     ensures asked { (documents : Documents) → items_asked documents result
-        ≡ map (λ e. application (schemas_of documents) (numbered_site documents placed.entry.place) keyword.now (spec.Index e.0) spec.Alone (instance_of value.entry))
+        ≡ map (λ e. application (schemas_of documents) (numbered_site documents place) keyword.now (spec.Index e.0) spec.Alone (instance_of value.entry))
         (indexed_from 0 (map value_of list.now)) }
-    ensures held { kept result.held ≡ placed.entry }
+    ensures held { (documents : Documents) → StandsAt documents place (value_of schema.now) → IsHeld documents result.held }
 {
     ItemCursor {
-        held: Held::Each(placed, keyword),
+        held: Held::Each(place, schema, keyword),
         to: To::Whole(value),
         items: list,
         next: 0,
@@ -58,18 +59,19 @@ pub(crate) fn each_listed<'a>(
 #[tactic(auto, using(crate::proofs::ItemsLeft::all_left))]
 pub(crate) fn each_in_step<'a>(
     alloc: Global,
-    placed: Placed<'a>,
+    place: Place,
+    schema: &'a Doc,
     keyword: &'a str,
     list: &[Doc],
     items: &'a [Doc],
 ) -> ItemCursor<'a>
     ensures asked { (documents : Documents) → items_asked documents result
-        ≡ map (λ e. application (schemas_of documents) (numbered_site documents placed.entry.place) keyword.now (spec.Index e.0) (spec.Index e.0) e.1)
+        ≡ map (λ e. application (schemas_of documents) (numbered_site documents place) keyword.now (spec.Index e.0) (spec.Index e.0) e.1)
         (filter (λ e. nat_lt e.0 (length list.now)) (indexed_from 0 (map value_of items.now))) }
-    ensures held { kept result.held ≡ placed.entry }
+    ensures held { (documents : Documents) → StandsAt documents place (value_of schema.now) → IsHeld documents result.held }
 {
     ItemCursor {
-        held: Held::Each(placed, keyword),
+        held: Held::Each(place, schema, keyword),
         to: To::Part,
         items: first_of(items, list.len()),
         next: 0,
@@ -88,20 +90,21 @@ fn first_of(items: &[Doc], count: usize) -> &[Doc]
     }
 }
 
-/// A schema, on each item from one on.
+/// The schema at a place, on each item from one on.
 pub(crate) fn each_from<'a>(
     alloc: Global,
-    below: Placed<'a>,
+    below: Place,
+    schema: &'a Doc,
     items: &'a [Doc],
     first: usize,
 ) -> ItemCursor<'a>
     ensures asked { (documents : Documents) → items_asked documents result
-        ≡ map (λ e. record { place = numbered_site documents below.entry.place; step = spec.Alone; at = spec.Index e.0; value = e.1 })
+        ≡ map (λ e. record { place = numbered_site documents below; step = spec.Alone; at = spec.Index e.0; value = e.1 })
         (filter (λ e. nat_le first e.0) (indexed_from 0 (map value_of items.now))) }
-    ensures held { kept result.held ≡ below.entry }
+    ensures held { (documents : Documents) → StandsAt documents below (value_of schema.now) → IsHeld documents result.held }
 {
     ItemCursor {
-        held: Held::One(below),
+        held: Held::One(below, schema),
         to: To::Part,
         items,
         next: first,
@@ -109,23 +112,24 @@ pub(crate) fn each_from<'a>(
     }
 }
 
-/// A schema, on each item that isn't at one of these indexes.
+/// The schema at a place, on each item that isn't at one of these indexes.
 ///
 /// # Errors
 /// `Memory`.
 pub(crate) fn each_except<'a>(
     alloc: Global,
-    below: Placed<'a>,
+    below: Place,
+    schema: &'a Doc,
     items: &'a [Doc],
     indexes: &[usize],
 ) -> Result<ItemCursor<'a>, Memory>
     ensures asked { IfOk result (λ c. (documents : Documents) → items_asked documents c
-        ≡ map (λ e. record { place = numbered_site documents below.entry.place; step = spec.Alone; at = spec.Index e.0; value = e.1 })
+        ≡ map (λ e. record { place = numbered_site documents below; step = spec.Alone; at = spec.Index e.0; value = e.1 })
         (filter (λ e. not (among_indexes e.0 indexes.now)) (indexed_from 0 (map value_of items.now)))) }
-    ensures held { IfOk result (λ c. kept c.held ≡ below.entry) }
+    ensures held { IfOk result (λ c. (documents : Documents) → StandsAt documents below (value_of schema.now) → IsHeld documents c.held) }
 {
     Ok(ItemCursor {
-        held: Held::One(below),
+        held: Held::One(below, schema),
         to: To::Part,
         items,
         next: 0,
@@ -154,7 +158,7 @@ pub(crate) fn next_on_item<'a>(
     requires { IsHeld schemas.now cursor.old.held }
     ensures next { MatchOption result (items_asked schemas.now cursor.old ≡ [])
         (λ a. items_asked schemas.now cursor.old ≡ applied_of schemas.now a ∷ items_asked schemas.now cursor.new) }
-    ensures is { MatchOption result (Unit {0}) (λ a. IsPlaced schemas.now a.placed) }
+    ensures is { MatchOption result (Unit {0}) (λ a. IsApplied schemas.now a) }
     ensures held { IsHeld schemas.now cursor.new.held }
 {
     let (index, item) = next_item(

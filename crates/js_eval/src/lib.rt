@@ -20,7 +20,6 @@ pub mod laws;
 mod member_cursor;
 mod name_set;
 mod pattern_cursor;
-mod placed;
 mod schema;
 mod searchers;
 mod start;

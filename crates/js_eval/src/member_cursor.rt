@@ -10,10 +10,11 @@ ghost use Rattle.js_doc.specs.Members.{get};
 ghost use Rattle.js_doc.specs.Seen.{value_of};
 ghost use Rattle.js_doc.specs.Value.{text};
 ghost use Rattle.js_eval.specs.Applications.{among_names, application};
-ghost use Rattle.js_eval.specs.code.Applied.{IsHeld, applied_of, kept};
+ghost use Rattle.js_eval.specs.code.Applied.{IsHeld, applied_of};
+ghost use Rattle.js_eval.specs.code.Asked.{IsApplied};
 ghost use Rattle.js_eval.specs.Bundle.{schemas_of};
 ghost use Rattle.js_eval.specs.code.Cursors.{is_chosen, is_matched, is_named, members_asked, members_left, named_in};
-ghost use Rattle.js_eval.specs.code.Placed.{IsPlaced};
+ghost use Rattle.js_eval.specs.code.Standing.{StandsAt};
 ghost use Rattle.js_eval.specs.SchemaSet as spec;
 ghost use Rattle.js_eval.specs.SchemaSet.{Text};
 ghost use Rattle.js_eval.specs.Seen.{instance_of, texts_of};
@@ -22,7 +23,6 @@ ghost use Rattle.js_eval.specs.Sited.{numbered_site};
 use crate::applied::{Held, To, apply_to_part};
 use crate::instance::{Applied, Instance, object_in};
 use crate::name_set::{is_in, set_of};
-use crate::placed::Placed;
 use crate::schema::argument_in;
 use crate::searchers::{NamedPattern, Searchers};
 use js_bundle::{Place, Schemas, Step};
@@ -62,28 +62,29 @@ pub(crate) struct MemberCursor<'a> {
 
 /// The schema of each name that is a member's, on the member: the names are gone through where they are fewer, and else the members.
 pub(crate) fn each_named<'a>(
-    placed: Placed<'a>,
+    place: Place,
+    schema: &'a Doc,
     keyword: &'a str,
     named: &'a Members,
     members: &'a Members,
 ) -> MemberCursor<'a>
     ensures asked { (documents : Documents) → members_asked documents result
-        ≡ map (λ m. application (schemas_of documents) (numbered_site documents placed.entry.place) keyword.now (spec.Name m.0) (spec.Name m.0) m.1)
+        ≡ map (λ m. application (schemas_of documents) (numbered_site documents place) keyword.now (spec.Name m.0) (spec.Name m.0) m.1)
         (filter (λ m. has m.0 named.now) members.now) }
-    ensures held { kept result.held ≡ placed.entry }
+    ensures held { (documents : Documents) → StandsAt documents place (value_of schema.now) → IsHeld documents result.held }
 {
     let names = named.pairs();
     let left = members.pairs();
     if named.len() < members.len() {
         MemberCursor {
-            held: Held::Each(placed, keyword),
+            held: Held::Each(place, schema, keyword),
             to: To::Namesake(members),
             members: names,
             choice: Choice::Named(members),
         }
     } else {
         MemberCursor {
-            held: Held::Each(placed, keyword),
+            held: Held::Each(place, schema, keyword),
             to: To::Part,
             members: left,
             choice: Choice::Named(named),
@@ -93,55 +94,61 @@ pub(crate) fn each_named<'a>(
 
 /// The schema of each name that is a member's, on the value itself.
 pub(crate) fn each_in_place<'a>(
-    placed: Placed<'a>,
+    place: Place,
+    schema: &'a Doc,
     keyword: &'a str,
     named: &'a Members,
     members: &'a Members,
     value: Instance<'a>,
 ) -> MemberCursor<'a>
     ensures asked { (documents : Documents) → members_asked documents result
-        ≡ map (λ m. application (schemas_of documents) (numbered_site documents placed.entry.place) keyword.now (spec.Name m.0) spec.Alone (instance_of value.entry))
+        ≡ map (λ m. application (schemas_of documents) (numbered_site documents place) keyword.now (spec.Name m.0) spec.Alone (instance_of value.entry))
         (filter (λ m. has m.0 members.now) named.now) }
-    ensures held { kept result.held ≡ placed.entry }
+    ensures held { (documents : Documents) → StandsAt documents place (value_of schema.now) → IsHeld documents result.held }
 {
     MemberCursor {
-        held: Held::Each(placed, keyword),
+        held: Held::Each(place, schema, keyword),
         to: To::Whole(value),
         members: named.pairs(),
         choice: Choice::Named(members),
     }
 }
 
-/// A schema, on each name, as a string.
+/// The schema at a place, on each name, as a string.
 #[tactic(auto, using(crate::proofs::MembersLeft::all_chosen))]
-pub(crate) fn each_name<'a>(below: Placed<'a>, members: &'a Members) -> MemberCursor<'a>
+pub(crate) fn each_name<'a>(
+    below: Place,
+    schema: &'a Doc,
+    members: &'a Members,
+) -> MemberCursor<'a>
     ensures asked { (documents : Documents) → members_asked documents result
-        ≡ map (λ m. record { place = numbered_site documents below.entry.place; step = spec.Alone; at = spec.Name m.0; value = text m.0 }) members.now }
-    ensures held { kept result.held ≡ below.entry }
+        ≡ map (λ m. record { place = numbered_site documents below; step = spec.Alone; at = spec.Name m.0; value = text m.0 }) members.now }
+    ensures held { (documents : Documents) → StandsAt documents below (value_of schema.now) → IsHeld documents result.held }
 {
     MemberCursor {
-        held: Held::One(below),
+        held: Held::One(below, schema),
         to: To::Name,
         members: members.pairs(),
         choice: Choice::All,
     }
 }
 
-/// A schema, on each member of which the adjacent keywords don't speak.
+/// The schema at a place, on each member of which the adjacent keywords don't speak.
 pub(crate) fn each_additional<'a>(
-    below: Placed<'a>,
+    below: Place,
+    schema: &'a Doc,
     place: Place,
     properties: Option<&'a Members>,
     patterns: Option<&'a Members>,
     members: &'a Members,
 ) -> MemberCursor<'a>
     ensures asked { (documents : Documents) → members_asked documents result
-        ≡ map (λ m. record { place = numbered_site documents below.entry.place; step = spec.Alone; at = spec.Name m.0; value = m.1 })
+        ≡ map (λ m. record { place = numbered_site documents below; step = spec.Alone; at = spec.Name m.0; value = m.1 })
         (filter (λ m. not (is_named properties.entry m.0 || is_matched patterns.entry m.0)) members.now) }
-    ensures held { kept result.held ≡ below.entry }
+    ensures held { (documents : Documents) → StandsAt documents below (value_of schema.now) → IsHeld documents result.held }
 {
     MemberCursor {
-        held: Held::One(below),
+        held: Held::One(below, schema),
         to: To::Part,
         members: members.pairs(),
         choice: Choice::Additional(Adjacent {
@@ -152,24 +159,25 @@ pub(crate) fn each_additional<'a>(
     }
 }
 
-/// A schema, on each member that isn't among these.
+/// The schema at a place, on each member that isn't among these.
 ///
 /// # Errors
 /// `Memory`.
 pub(crate) fn each_other<'a>(
     alloc: Global,
-    below: Placed<'a>,
+    below: Place,
+    schema: &'a Doc,
     names: &[&'a str],
     members: &'a Members,
 ) -> Result<MemberCursor<'a>, Memory>
     ensures asked { IfOk result (λ c. (documents : Documents) → members_asked documents c
-        ≡ map (λ m. record { place = numbered_site documents below.entry.place; step = spec.Alone; at = spec.Name m.0; value = m.1 })
+        ≡ map (λ m. record { place = numbered_site documents below; step = spec.Alone; at = spec.Name m.0; value = m.1 })
         (filter (λ m. not (among_names m.0 (texts_of names.now))) members.now)) }
-    ensures held { IfOk result (λ c. kept c.held ≡ below.entry) }
+    ensures held { IfOk result (λ c. (documents : Documents) → StandsAt documents below (value_of schema.now) → IsHeld documents c.held) }
 {
     let set = set_of(alloc, names)?;
     Ok(MemberCursor {
-        held: Held::One(below),
+        held: Held::One(below, schema),
         to: To::Part,
         members: members.pairs(),
         choice: Choice::Except(set),
@@ -199,7 +207,7 @@ pub(crate) fn next_on_member<'a>(
     requires { IsHeld schemas.now cursor.old.held }
     ensures next { IfOk result (λ o. MatchOption o (members_asked schemas.now cursor.old ≡ [])
         (λ a. members_asked schemas.now cursor.old ≡ applied_of schemas.now a ∷ members_asked schemas.now cursor.new)) }
-    ensures is { IfOk result (λ o. MatchOption o (Unit {0}) (λ a. IsPlaced schemas.now a.placed)) }
+    ensures is { IfOk result (λ o. MatchOption o (Unit {0}) (λ a. IsApplied schemas.now a)) }
     ensures held { cursor.new.held ≡ cursor.old.held }
 {
     match next_member(

@@ -6,16 +6,16 @@ ghost use Rattle.js_assert.specs.Pattern.{matches};
 ghost use Rattle.js_bundle.specs.Document.{Documents};
 ghost use Rattle.js_doc.specs.Seen.{pair_of, value_of};
 ghost use Rattle.js_eval.specs.code.Applied.{applied_of};
+ghost use Rattle.js_eval.specs.code.Asked.{ArePatterns, IsApplied};
 ghost use Rattle.js_eval.specs.code.Cursors.{IsBegun, matching_asked, on_matched_member, patterns_asked};
-ghost use Rattle.js_eval.specs.code.Placed.{IsPlaced};
+ghost use Rattle.js_eval.specs.code.Standing.{StandsAt};
 ghost use Rattle.js_eval.specs.Sited.{numbered_site};
 
 use crate::bundled::below;
 use crate::instance::{Applied, Instance};
 use crate::member_cursor::pattern_of;
-use crate::placed::Placed;
 use crate::searchers::{NamedPattern, Searchers};
-use js_bundle::{Schemas, Step};
+use js_bundle::{Place, Schemas, Step};
 use js_doc::{Doc, Members, Memory};
 use std::alloc::Global;
 use std::collections::btree_map::Iter;
@@ -23,14 +23,16 @@ use std::collections::btree_map::Iter;
 /// The patterns that are still to come, and the members that are left of the present one.
 #[derive(Drop)]
 pub(crate) struct PatternCursor<'a> {
-    pub placed: Placed<'a>,
+    pub place: Place,
+    pub schema: &'a Doc,
     pub keyword: &'a str,
     pub patterns: Iter<'a, String, Doc>,
     pub members: &'a Members,
-    /// The present pattern, where there is one, its text and its schema.
+    /// The present pattern, where there is one, its text, its schema and the place of that.
     pub present: Option<NamedPattern<'a>>,
     pub name: &'a str,
-    pub below: Placed<'a>,
+    pub below: Place,
+    pub schema_below: &'a Doc,
     pub left: Iter<'a, String, Doc>,
     /// Whether what the patterns say of the names is kept, since another keyword of the schema has asked them.
     pub is_kept: bool,
@@ -38,25 +40,27 @@ pub(crate) struct PatternCursor<'a> {
 
 /// What `patternProperties` asks for on these members.
 pub(crate) fn each_matching<'a>(
-    placed: Placed<'a>,
+    place: Place,
+    schema: &'a Doc,
     keyword: &'a str,
     patterns: &'a Members,
     members: &'a Members,
     is_kept: bool,
 ) -> PatternCursor<'a>
     ensures asked { (documents : Documents) → patterns_asked documents result
-        ≡ flat_map (λ p. matching_asked documents (numbered_site documents placed.entry.place) keyword.now p.0 members.now) patterns.now }
-    ensures placed { result.placed ≡ placed.entry }
-    ensures below { result.below ≡ placed.entry }
+        ≡ flat_map (λ p. matching_asked documents (numbered_site documents place) keyword.now p.0 members.now) patterns.now }
+    ensures are { (documents : Documents) → StandsAt documents place (value_of schema.now) → ArePatterns documents result }
 {
     PatternCursor {
-        placed,
+        place,
+        schema,
         keyword,
         patterns: patterns.pairs(),
         members,
         present: None,
         name: keyword,
-        below: placed,
+        below: place,
+        schema_below: schema,
         left: members.pairs(),
         is_kept,
     }
@@ -72,17 +76,16 @@ pub(crate) fn next_matching<'a>(
     searchers: &Searchers<'a>,
     cursor: &mut PatternCursor<'a>,
 ) -> Result<Option<Applied<'a>>, Memory>
-    requires placed { IsPlaced schemas.now cursor.old.placed }
-    requires below { IsPlaced schemas.now cursor.old.below }
+    requires { ArePatterns schemas.now cursor.old }
     ensures next { IfOk result (λ o. MatchOption o (patterns_asked schemas.now cursor.old ≡ [])
         (λ a. patterns_asked schemas.now cursor.old ≡ applied_of schemas.now a ∷ patterns_asked schemas.now cursor.new)) }
-    ensures is { IfOk result (λ o. MatchOption o (Unit {0}) (λ a. IsPlaced schemas.now a.placed)) }
-    ensures placed { IfOk result (λ _. cursor.new.placed ≡ cursor.old.placed) }
-    ensures below { IfOk result (λ _. IsPlaced schemas.now cursor.new.below) }
+    ensures is { IfOk result (λ o. MatchOption o (Unit {0}) (λ a. IsApplied schemas.now a)) }
+    ensures are { IfOk result (λ _. ArePatterns schemas.now cursor.new) }
 {
     match next_match(alloc, schemas, searchers, cursor)? {
         Some((name, member)) => Ok(Some(Applied {
-            placed: cursor.below,
+            place: cursor.below,
+            schema: cursor.schema_below,
             step: Step::Name(cursor.name),
             at: Step::Name(name),
             value: Instance::Doc(member),
@@ -103,12 +106,10 @@ fn next_match<'a>(
     searchers: &Searchers<'a>,
     cursor: &mut PatternCursor<'a>,
 ) -> Result<Option<(&'a str, &'a Doc)>, Memory>
-    requires placed { IsPlaced schemas.now cursor.old.placed }
-    requires below { IsPlaced schemas.now cursor.old.below }
+    requires { ArePatterns schemas.now cursor.old }
     ensures next { IfOk result (λ o. MatchOption o (patterns_asked schemas.now cursor.old ≡ [])
-        (λ m. patterns_asked schemas.now cursor.old ≡ on_matched_member schemas.now cursor.new.below.place cursor.new.name.now (m.0.now, value_of m.1.now) ∷ patterns_asked schemas.now cursor.new)) }
-    ensures placed { IfOk result (λ _. cursor.new.placed ≡ cursor.old.placed) }
-    ensures below { IfOk result (λ _. IsPlaced schemas.now cursor.new.below) }
+        (λ m. patterns_asked schemas.now cursor.old ≡ on_matched_member schemas.now cursor.new.below cursor.new.name.now (m.0.now, value_of m.1.now) ∷ patterns_asked schemas.now cursor.new)) }
+    ensures are { IfOk result (λ _. ArePatterns schemas.now cursor.new) }
 {
     if let Some(pattern) = cursor.present {
         let is_kept = cursor.is_kept;
@@ -133,14 +134,17 @@ fn begin<'a>(
     cursor: &mut PatternCursor<'a>,
     name: &'a str,
 ) -> Result<NamedPattern<'a>, Memory>
-    requires { IsPlaced schemas.now cursor.old.placed }
+    requires { StandsAt schemas.now cursor.old.place (value_of cursor.old.schema.now) }
     ensures { IfOk result (λ p. IsBegun schemas.now name.now p cursor.old cursor.new) }
 {
-    match pattern_of(schemas, cursor.placed.place, name) {
+    match pattern_of(schemas, cursor.place, name) {
         Some(pattern) => {
             cursor.present = Some(pattern);
             cursor.name = name;
-            cursor.below = below(schemas, cursor.placed, cursor.keyword, Step::Name(name));
+            let step = Step::Name(name);
+            let (place, schema) = below(schemas, cursor.place, cursor.schema, cursor.keyword, step);
+            cursor.below = place;
+            cursor.schema_below = schema;
             cursor.left = cursor.members.pairs();
             if cursor.is_kept {
                 searchers.begin_kept(name);

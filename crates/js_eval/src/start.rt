@@ -6,7 +6,7 @@ ghost use Rattle.js_bundle.specs.Schemas.{is_place};
 ghost use Rattle.js_doc.specs.Seen.{value_of};
 ghost use Rattle.js_eval.specs.Applications.{application, asks_of, if_fails, if_holds};
 ghost use Rattle.js_eval.specs.code.Asked.{IsAsking, asked};
-ghost use Rattle.js_eval.specs.code.Placed.{IsPlaced};
+ghost use Rattle.js_eval.specs.code.Standing.{StandsAt};
 ghost use Rattle.js_eval.specs.Bundle.{schemas_of};
 ghost use Rattle.js_eval.specs.SchemaSet as spec;
 ghost use Rattle.js_eval.specs.Seen.{instance_of, keyword_of, texts_of};
@@ -17,10 +17,9 @@ use crate::cursor::{Asking, alone};
 use crate::instance::Instance;
 use crate::keyword::Keyword;
 use crate::kind::Kind;
-use crate::placed::Placed;
 use crate::{start_items, start_members};
 use js_bundle::{Place, Schemas, Step};
-use js_doc::Memory;
+use js_doc::{Doc, Memory};
 use std::alloc::Global;
 
 /// Where a keyword is judged, and on what.
@@ -30,8 +29,10 @@ pub(crate) struct Scene<'s, 'a> {
     pub path: &'s [Place],
     /// Their resources, of equal neighbours one.
     pub scope: &'s [usize],
-    /// The present schema.
-    pub placed: Placed<'a>,
+    /// The present place.
+    pub place: Place,
+    /// The schema there.
+    pub schema: &'a Doc,
     /// The value.
     pub value: Instance<'a>,
 }
@@ -59,47 +60,49 @@ pub(crate) fn start<'a>(
     keyword: Keyword<'a>,
     kind: Kind,
 ) -> Result<Asking<'a>, Memory>
-    requires placed { IsPlaced schemas.now scene.placed }
+    requires schema { StandsAt schemas.now scene.place (value_of scene.schema.now) }
     requires path { list_all (is_place schemas.now) scene.path.now ≡ true }
     requires resources { scene.scope.now ≡ dedup nat_eq (map (resource_of schemas.now) scene.path.now) }
     ensures asked { IfOk result (λ a. asked schemas.now a
-        ≡ asks_of (schemas_of schemas.now) (map (numbered_site schemas.now) scene.entry.path.now) (numbered_site schemas.now scene.entry.placed.place) (entries (value_of scene.entry.placed.schema.now))
+        ≡ asks_of (schemas_of schemas.now) (map (numbered_site schemas.now) scene.entry.path.now) (numbered_site schemas.now scene.entry.place) (entries (value_of scene.entry.schema.now))
         (instance_of scene.entry.value) facts.entry.condition (texts_of facts.entry.names.now) facts.entry.indexes.now (keyword_of keyword.entry) kind) }
     ensures is { IfOk result (λ a. IsAsking schemas.now a) }
 {
     let Scene {
         path,
         scope,
-        placed,
+        place,
+        schema,
         value,
     } = scene;
     let name = keyword.name;
     match kind {
-        Kind::Reference => Ok(referred(schemas, placed, value)),
-        Kind::DynamicReference => Ok(referred_dynamically(schemas, placed, path, scope, value)),
-        Kind::AllOf => Ok(start_items::listed(alloc, schemas, placed, keyword, value)),
-        Kind::AnyOf => Ok(start_items::listed(alloc, schemas, placed, keyword, value)),
-        Kind::OneOf => Ok(start_items::listed(alloc, schemas, placed, keyword, value)),
-        Kind::Not => Ok(held(schemas, placed, name, value)),
-        Kind::If => Ok(held(schemas, placed, name, value)),
-        Kind::Then => Ok(held_then(schemas, placed, name, facts.condition, value)),
-        Kind::Else => Ok(held_else(schemas, placed, name, facts.condition, value)),
-        Kind::DependentSchemas => Ok(start_members::dependent(schemas, placed, keyword, value)),
-        Kind::PrefixItems => Ok(start_items::prefix(alloc, schemas, placed, keyword, value)),
-        Kind::Items => Ok(start_items::following(alloc, schemas, placed, name, value)),
-        Kind::Contains => Ok(start_items::every(alloc, schemas, placed, name, value)),
-        Kind::Properties => Ok(start_members::properties(schemas, placed, keyword, value)),
+        Kind::Reference => Ok(referred(schemas, place, schema, value)),
+        Kind::DynamicReference => Ok(referred_dynamically(schemas, place, schema, path, scope, value)),
+        Kind::AllOf => Ok(start_items::listed(alloc, schemas, place, schema, keyword, value)),
+        Kind::AnyOf => Ok(start_items::listed(alloc, schemas, place, schema, keyword, value)),
+        Kind::OneOf => Ok(start_items::listed(alloc, schemas, place, schema, keyword, value)),
+        Kind::Not => Ok(held(schemas, place, schema, name, value)),
+        Kind::If => Ok(held(schemas, place, schema, name, value)),
+        Kind::Then => Ok(held_then(schemas, place, schema, name, facts.condition, value)),
+        Kind::Else => Ok(held_else(schemas, place, schema, name, facts.condition, value)),
+        Kind::DependentSchemas => Ok(start_members::dependent(schemas, place, schema, keyword, value)),
+        Kind::PrefixItems => Ok(start_items::prefix(alloc, schemas, place, schema, keyword, value)),
+        Kind::Items => Ok(start_items::following(alloc, schemas, place, schema, name, value)),
+        Kind::Contains => Ok(start_items::every(alloc, schemas, place, schema, name, value)),
+        Kind::Properties => Ok(start_members::properties(schemas, place, schema, keyword, value)),
         Kind::PatternProperties => Ok(start_members::patterns(
-            schemas, placed, keyword, value,
+            schemas, place, schema, keyword, value,
         )),
         Kind::AdditionalProperties => Ok(start_members::additional(
-            schemas, placed, name, value,
+            schemas, place, schema, name, value,
         )),
-        Kind::PropertyNames => Ok(start_members::property_names(schemas, placed, name, value)),
+        Kind::PropertyNames => Ok(start_members::property_names(schemas, place, schema, name, value)),
         Kind::UnevaluatedItems => start_items::unevaluated_items(
             alloc,
             schemas,
-            placed,
+            place,
+            schema,
             name,
             facts.indexes,
             value,
@@ -107,7 +110,8 @@ pub(crate) fn start<'a>(
         Kind::UnevaluatedProperties => start_members::unevaluated_properties(
             alloc,
             schemas,
-            placed,
+            place,
+            schema,
             name,
             facts.names,
             value,
@@ -118,67 +122,72 @@ pub(crate) fn start<'a>(
 }
 
 // What `$ref` names, on the value itself.
-fn referred<'a>(schemas: &'a Schemas, placed: Placed<'a>, value: Instance<'a>) -> Asking<'a>
-    requires { IsPlaced schemas.now placed }
+fn referred<'a>(schemas: &'a Schemas, place: Place, schema: &'a Doc, value: Instance<'a>) -> Asking<'a>
+    requires { StandsAt schemas.now place (value_of schema.now) }
     ensures asked { asked schemas.now result ≡ record {
-      place = (schemas_of schemas.now).target (numbered_site schemas.now placed.entry.place);
+      place = (schemas_of schemas.now).target (numbered_site schemas.now place);
       step = spec.Alone;
       at = spec.Alone;
       value = instance_of value.entry;
     } ∷ [] }
     ensures is { IsAsking schemas.now result }
 {
-    alone(target_at(schemas, placed), value)
+    let (place, schema) = target_at(schemas, place, schema);
+    alone(place, schema, value)
 }
 
 // What `$dynamicRef` names, on the value itself.
 fn referred_dynamically<'a>(
     schemas: &'a Schemas,
-    placed: Placed<'a>,
+    place: Place,
+    schema: &'a Doc,
     path: &[Place],
     resources: &[usize],
     value: Instance<'a>,
 ) -> Asking<'a>
-    requires placed { IsPlaced schemas.now placed }
+    requires schema { StandsAt schemas.now place (value_of schema.now) }
     requires path { list_all (is_place schemas.now) path.now ≡ true }
     requires resources { resources.now ≡ dedup nat_eq (map (resource_of schemas.now) path.now) }
     ensures asked { asked schemas.now result
         ≡ record {
-          place = (schemas_of schemas.now).dynamic_target (map (numbered_site schemas.now) path.now) (numbered_site schemas.now placed.entry.place);
+          place = (schemas_of schemas.now).dynamic_target (map (numbered_site schemas.now) path.now) (numbered_site schemas.now place);
           step = spec.Alone;
           at = spec.Alone;
           value = instance_of value.entry;
         } ∷ [] }
     ensures is { IsAsking schemas.now result }
 {
-    alone(dynamic_target_at(schemas, placed, path, resources), value)
+    let (place, schema) = dynamic_target_at(schemas, place, schema, path, resources);
+    alone(place, schema, value)
 }
 
 // The keyword's schema, on the value itself.
-fn held<'a>(schemas: &'a Schemas, placed: Placed<'a>, keyword: &str, value: Instance<'a>) -> Asking<'a>
-    requires { IsPlaced schemas.now placed }
+fn held<'a>(schemas: &'a Schemas, place: Place, schema: &'a Doc, keyword: &str, value: Instance<'a>) -> Asking<'a>
+    requires { StandsAt schemas.now place (value_of schema.now) }
     ensures asked { asked schemas.now result
-        ≡ application (schemas_of schemas.now) (numbered_site schemas.now placed.entry.place) keyword.now spec.Alone spec.Alone (instance_of value.entry) ∷ [] }
+        ≡ application (schemas_of schemas.now) (numbered_site schemas.now place) keyword.now spec.Alone spec.Alone (instance_of value.entry) ∷ [] }
     ensures is { IsAsking schemas.now result }
 {
-    alone(below(schemas, placed, keyword, Step::Alone), value)
+    let (place, schema) = below(schemas, place, schema, keyword, Step::Alone);
+    alone(place, schema, value)
 }
 
 // The schema of `then`. `condition`: the verdict of the adjacent `if`, if there is one.
 fn held_then<'a>(
     schemas: &'a Schemas,
-    placed: Placed<'a>,
+    place: Place,
+    schema: &'a Doc,
     keyword: &str,
     condition: Option<bool>,
     value: Instance<'a>,
 ) -> Asking<'a>
-    requires { IsPlaced schemas.now placed }
+    requires { StandsAt schemas.now place (value_of schema.now) }
     ensures asked { asked schemas.now result ≡ if_holds condition
-        (application (schemas_of schemas.now) (numbered_site schemas.now placed.entry.place) keyword.now spec.Alone spec.Alone (instance_of value.entry) ∷ []) }
+        (application (schemas_of schemas.now) (numbered_site schemas.now place) keyword.now spec.Alone spec.Alone (instance_of value.entry) ∷ []) }
     ensures is { IsAsking schemas.now result }
 {
     match condition {
-        Some(true) => held(schemas, placed, keyword, value),
+        Some(true) => held(schemas, place, schema, keyword, value),
         Some(false) => Asking::One(None),
         None => Asking::One(None),
     }
@@ -187,18 +196,19 @@ fn held_then<'a>(
 // The schema of `else`. `condition`: the verdict of the adjacent `if`, if there is one.
 fn held_else<'a>(
     schemas: &'a Schemas,
-    placed: Placed<'a>,
+    place: Place,
+    schema: &'a Doc,
     keyword: &str,
     condition: Option<bool>,
     value: Instance<'a>,
 ) -> Asking<'a>
-    requires { IsPlaced schemas.now placed }
+    requires { StandsAt schemas.now place (value_of schema.now) }
     ensures asked { asked schemas.now result ≡ if_fails condition
-        (application (schemas_of schemas.now) (numbered_site schemas.now placed.entry.place) keyword.now spec.Alone spec.Alone (instance_of value.entry) ∷ []) }
+        (application (schemas_of schemas.now) (numbered_site schemas.now place) keyword.now spec.Alone spec.Alone (instance_of value.entry) ∷ []) }
     ensures is { IsAsking schemas.now result }
 {
     match condition {
-        Some(false) => held(schemas, placed, keyword, value),
+        Some(false) => held(schemas, place, schema, keyword, value),
         Some(true) => Asking::One(None),
         None => Asking::One(None),
     }

@@ -5,7 +5,7 @@ ghost use Rattle.js_assert.specs.Argument.{entries, values};
 ghost use Rattle.js_doc.specs.Seen.{value_of};
 ghost use Rattle.js_eval.specs.Applications.{among_indexes, application, indexed, prefix_length};
 ghost use Rattle.js_eval.specs.code.Asked.{IsAsking, asked};
-ghost use Rattle.js_eval.specs.code.Placed.{IsPlaced};
+ghost use Rattle.js_eval.specs.code.Standing.{StandsAt};
 ghost use Rattle.js_eval.specs.Bundle.{schemas_of};
 ghost use Rattle.js_eval.specs.SchemaSet as spec;
 ghost use Rattle.js_eval.specs.Seen.{instance_of};
@@ -16,9 +16,8 @@ use crate::cursor::Asking;
 use crate::instance::{Instance, array_in};
 use crate::item_cursor::{each_except, each_from, each_in_step, each_listed};
 use crate::keyword::Keyword;
-use crate::placed::Placed;
 use crate::schema::argument_in;
-use js_bundle::{Schemas, Step};
+use js_bundle::{Place, Schemas, Step};
 use js_doc::{Doc, Memory};
 use std::alloc::Global;
 
@@ -26,19 +25,21 @@ use std::alloc::Global;
 pub(crate) fn listed<'a>(
     alloc: Global,
     schemas: &'a Schemas,
-    placed: Placed<'a>,
+    place: Place,
+    schema: &'a Doc,
     keyword: Keyword<'a>,
     value: Instance<'a>,
 ) -> Asking<'a>
-    requires { IsPlaced schemas.now placed }
+    requires { StandsAt schemas.now place (value_of schema.now) }
     ensures asked { asked schemas.now result
-        ≡ map (λ e. application (schemas_of schemas.now) (numbered_site schemas.now placed.entry.place) keyword.entry.name.now (spec.Index e.0) spec.Alone (instance_of value.entry))
+        ≡ map (λ e. application (schemas_of schemas.now) (numbered_site schemas.now place) keyword.entry.name.now (spec.Index e.0) spec.Alone (instance_of value.entry))
         (indexed (value_of keyword.entry.argument.now)) }
     ensures is { IsAsking schemas.now result }
 {
     Asking::Items(each_listed(
         alloc,
-        placed,
+        place,
+        schema,
         keyword.name,
         array_in(keyword.argument),
         value,
@@ -49,19 +50,21 @@ pub(crate) fn listed<'a>(
 pub(crate) fn prefix<'a>(
     alloc: Global,
     schemas: &'a Schemas,
-    placed: Placed<'a>,
+    place: Place,
+    schema: &'a Doc,
     keyword: Keyword<'a>,
     value: Instance<'a>,
 ) -> Asking<'a>
-    requires { IsPlaced schemas.now placed }
+    requires { StandsAt schemas.now place (value_of schema.now) }
     ensures asked { asked schemas.now result
-        ≡ map (λ e. application (schemas_of schemas.now) (numbered_site schemas.now placed.entry.place) keyword.entry.name.now (spec.Index e.0) (spec.Index e.0) e.1)
+        ≡ map (λ e. application (schemas_of schemas.now) (numbered_site schemas.now place) keyword.entry.name.now (spec.Index e.0) (spec.Index e.0) e.1)
         (filter (λ e. nat_lt e.0 (length (values (value_of keyword.entry.argument.now)))) (indexed (instance_of value.entry))) }
     ensures is { IsAsking schemas.now result }
 {
     Asking::Items(each_in_step(
         alloc,
-        placed,
+        place,
+        schema,
         keyword.name,
         array_in(keyword.argument),
         value.array(),
@@ -72,23 +75,25 @@ pub(crate) fn prefix<'a>(
 pub(crate) fn following<'a>(
     alloc: Global,
     schemas: &'a Schemas,
-    placed: Placed<'a>,
+    place: Place,
+    schema: &'a Doc,
     keyword: &str,
     value: Instance<'a>,
 ) -> Asking<'a>
-    requires { IsPlaced schemas.now placed }
+    requires { StandsAt schemas.now place (value_of schema.now) }
     ensures asked { asked schemas.now result
-        ≡ map (λ e. application (schemas_of schemas.now) (numbered_site schemas.now placed.entry.place) keyword.now spec.Alone (spec.Index e.0) e.1)
-        (filter (λ e. nat_le (prefix_length (entries (value_of placed.entry.schema.now))) e.0) (indexed (instance_of value.entry))) }
+        ≡ map (λ e. application (schemas_of schemas.now) (numbered_site schemas.now place) keyword.now spec.Alone (spec.Index e.0) e.1)
+        (filter (λ e. nat_le (prefix_length (entries (value_of schema.now))) e.0) (indexed (instance_of value.entry))) }
     ensures is { IsAsking schemas.now result }
 {
     from_index(
         alloc,
         schemas,
-        placed,
+        place,
+        schema,
         keyword,
         value,
-        prefix_length_in(placed.schema),
+        prefix_length_in(schema),
     )
 }
 
@@ -96,35 +101,37 @@ pub(crate) fn following<'a>(
 pub(crate) fn every<'a>(
     alloc: Global,
     schemas: &'a Schemas,
-    placed: Placed<'a>,
+    place: Place,
+    schema: &'a Doc,
     keyword: &str,
     value: Instance<'a>,
 ) -> Asking<'a>
-    requires { IsPlaced schemas.now placed }
+    requires { StandsAt schemas.now place (value_of schema.now) }
     ensures asked { asked schemas.now result
-        ≡ map (λ e. application (schemas_of schemas.now) (numbered_site schemas.now placed.entry.place) keyword.now spec.Alone (spec.Index e.0) e.1)
+        ≡ map (λ e. application (schemas_of schemas.now) (numbered_site schemas.now place) keyword.now spec.Alone (spec.Index e.0) e.1)
         (indexed (instance_of value.entry)) }
     ensures is { IsAsking schemas.now result }
 {
-    from_index(alloc, schemas, placed, keyword, value, 0)
+    from_index(alloc, schemas, place, schema, keyword, value, 0)
 }
 
 fn from_index<'a>(
     alloc: Global,
     schemas: &'a Schemas,
-    placed: Placed<'a>,
+    place: Place,
+    schema: &'a Doc,
     keyword: &str,
     value: Instance<'a>,
     first: usize,
 ) -> Asking<'a>
-    requires { IsPlaced schemas.now placed }
+    requires { StandsAt schemas.now place (value_of schema.now) }
     ensures asked { asked schemas.now result
-        ≡ map (λ e. application (schemas_of schemas.now) (numbered_site schemas.now placed.entry.place) keyword.now spec.Alone (spec.Index e.0) e.1)
+        ≡ map (λ e. application (schemas_of schemas.now) (numbered_site schemas.now place) keyword.now spec.Alone (spec.Index e.0) e.1)
         (filter (λ e. nat_le first e.0) (indexed (instance_of value.entry))) }
     ensures is { IsAsking schemas.now result }
 {
-    let below = below(schemas, placed, keyword, Step::Alone);
-    Asking::Items(each_from(alloc, below, value.array(), first))
+    let (below, held) = below(schemas, place, schema, keyword, Step::Alone);
+    Asking::Items(each_from(alloc, below, held, value.array(), first))
 }
 
 // How many schemas the adjacent `prefixItems` holds.
@@ -144,18 +151,19 @@ fn prefix_length_in(schema: &Doc) -> usize
 pub(crate) fn unevaluated_items<'a>(
     alloc: Global,
     schemas: &'a Schemas,
-    placed: Placed<'a>,
+    place: Place,
+    schema: &'a Doc,
     keyword: &str,
     indexes: &[usize],
     value: Instance<'a>,
 ) -> Result<Asking<'a>, Memory>
-    requires { IsPlaced schemas.now placed }
+    requires { StandsAt schemas.now place (value_of schema.now) }
     ensures asked { IfOk result (λ a. asked schemas.now a
-        ≡ map (λ e. application (schemas_of schemas.now) (numbered_site schemas.now placed.entry.place) keyword.now spec.Alone (spec.Index e.0) e.1)
+        ≡ map (λ e. application (schemas_of schemas.now) (numbered_site schemas.now place) keyword.now spec.Alone (spec.Index e.0) e.1)
         (filter (λ e. not (among_indexes e.0 indexes.now)) (indexed (instance_of value.entry)))) }
     ensures is { IfOk result (λ a. IsAsking schemas.now a) }
 {
-    let below = below(schemas, placed, keyword, Step::Alone);
-    let items = each_except(alloc, below, value.array(), indexes)?;
+    let (below, held) = below(schemas, place, schema, keyword, Step::Alone);
+    let items = each_except(alloc, below, held, value.array(), indexes)?;
     Ok(Asking::Items(items))
 }

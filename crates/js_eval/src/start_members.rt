@@ -8,7 +8,7 @@ ghost use Rattle.js_doc.specs.Seen.{value_of};
 ghost use Rattle.js_doc.specs.Value.{text};
 ghost use Rattle.js_eval.specs.Applications.{among_names, application, is_property, matches_pattern};
 ghost use Rattle.js_eval.specs.code.Asked.{IsAsking, asked};
-ghost use Rattle.js_eval.specs.code.Placed.{IsPlaced};
+ghost use Rattle.js_eval.specs.code.Standing.{StandsAt};
 ghost use Rattle.js_eval.specs.Bundle.{schemas_of};
 ghost use Rattle.js_eval.specs.SchemaSet as spec;
 ghost use Rattle.js_eval.specs.Seen.{instance_of, texts_of};
@@ -22,22 +22,22 @@ use crate::member_cursor::{
     each_additional, each_in_place, each_name, each_named, each_other, object_at,
 };
 use crate::pattern_cursor::each_matching;
-use crate::placed::Placed;
 use crate::schema::argument_in;
-use js_bundle::{Schemas, Step};
+use js_bundle::{Place, Schemas, Step};
 use js_doc::{Doc, Memory};
 use std::alloc::Global;
 
 /// What `dependentSchemas` asks for.
 pub(crate) fn dependent<'a>(
     schemas: &'a Schemas,
-    placed: Placed<'a>,
+    place: Place,
+    schema: &'a Doc,
     keyword: Keyword<'a>,
     value: Instance<'a>,
 ) -> Asking<'a>
-    requires { IsPlaced schemas.now placed }
+    requires { StandsAt schemas.now place (value_of schema.now) }
     ensures asked { asked schemas.now result
-        ≡ map (λ m. application (schemas_of schemas.now) (numbered_site schemas.now placed.entry.place) keyword.entry.name.now (spec.Name m.0) spec.Alone (instance_of value.entry))
+        ≡ map (λ m. application (schemas_of schemas.now) (numbered_site schemas.now place) keyword.entry.name.now (spec.Name m.0) spec.Alone (instance_of value.entry))
         (filter (λ m. has m.0 (entries (instance_of value.entry))) (entries (value_of keyword.entry.argument.now))) }
     ensures is { IsAsking schemas.now result }
 {
@@ -45,7 +45,7 @@ pub(crate) fn dependent<'a>(
         return Asking::One(None);
     };
     match value.object() {
-        Some(members) => Asking::Members(each_in_place(placed, keyword.name, named, members, value)),
+        Some(members) => Asking::Members(each_in_place(place, schema, keyword.name, named, members, value)),
         None => Asking::One(None),
     }
 }
@@ -53,13 +53,14 @@ pub(crate) fn dependent<'a>(
 /// What `properties` asks for.
 pub(crate) fn properties<'a>(
     schemas: &'a Schemas,
-    placed: Placed<'a>,
+    place: Place,
+    schema: &'a Doc,
     keyword: Keyword<'a>,
     value: Instance<'a>,
 ) -> Asking<'a>
-    requires { IsPlaced schemas.now placed }
+    requires { StandsAt schemas.now place (value_of schema.now) }
     ensures asked { asked schemas.now result
-        ≡ map (λ m. application (schemas_of schemas.now) (numbered_site schemas.now placed.entry.place) keyword.entry.name.now (spec.Name m.0) (spec.Name m.0) m.1)
+        ≡ map (λ m. application (schemas_of schemas.now) (numbered_site schemas.now place) keyword.entry.name.now (spec.Name m.0) (spec.Name m.0) m.1)
         (filter (λ m. has m.0 (entries (value_of keyword.entry.argument.now))) (entries (instance_of value.entry))) }
     ensures is { IsAsking schemas.now result }
 {
@@ -67,7 +68,7 @@ pub(crate) fn properties<'a>(
         return Asking::One(None);
     };
     match value.object() {
-        Some(members) => Asking::Members(each_named(placed, keyword.name, named, members)),
+        Some(members) => Asking::Members(each_named(place, schema, keyword.name, named, members)),
         None => Asking::One(None),
     }
 }
@@ -75,13 +76,14 @@ pub(crate) fn properties<'a>(
 /// What `patternProperties` asks for.
 pub(crate) fn patterns<'a>(
     schemas: &'a Schemas,
-    placed: Placed<'a>,
+    place: Place,
+    schema: &'a Doc,
     keyword: Keyword<'a>,
     value: Instance<'a>,
 ) -> Asking<'a>
-    requires { IsPlaced schemas.now placed }
+    requires { StandsAt schemas.now place (value_of schema.now) }
     ensures asked { asked schemas.now result
-        ≡ flat_map (λ p. map (λ m. application (schemas_of schemas.now) (numbered_site schemas.now placed.entry.place) keyword.entry.name.now (spec.Name p.0) (spec.Name m.0) m.1)
+        ≡ flat_map (λ p. map (λ m. application (schemas_of schemas.now) (numbered_site schemas.now place) keyword.entry.name.now (spec.Name p.0) (spec.Name m.0) m.1)
         (filter (λ m. matches p.0 m.0) (entries (instance_of value.entry)))) (entries (value_of keyword.entry.argument.now)) }
     ensures is { IsAsking schemas.now result }
 {
@@ -90,11 +92,12 @@ pub(crate) fn patterns<'a>(
     };
     match value.object() {
         Some(members) => Asking::Patterns(each_matching(
-            placed,
+            place,
+            schema,
             keyword.name,
             patterns,
             members,
-            argument_in(placed.schema, "additionalProperties").is_some(),
+            argument_in(schema, "additionalProperties").is_some(),
         )),
         None => Asking::One(None),
     }
@@ -103,22 +106,23 @@ pub(crate) fn patterns<'a>(
 /// What `additionalProperties` asks for.
 pub(crate) fn additional<'a>(
     schemas: &'a Schemas,
-    placed: Placed<'a>,
+    place: Place,
+    schema: &'a Doc,
     keyword: &str,
     value: Instance<'a>,
 ) -> Asking<'a>
-    requires { IsPlaced schemas.now placed }
+    requires { StandsAt schemas.now place (value_of schema.now) }
     ensures asked { asked schemas.now result
-        ≡ map (λ m. application (schemas_of schemas.now) (numbered_site schemas.now placed.entry.place) keyword.now spec.Alone (spec.Name m.0) m.1)
-        (filter (λ m. not (is_property (entries (value_of placed.entry.schema.now)) m.0 || matches_pattern (entries (value_of placed.entry.schema.now)) m.0)) (entries (instance_of value.entry))) }
+        ≡ map (λ m. application (schemas_of schemas.now) (numbered_site schemas.now place) keyword.now spec.Alone (spec.Name m.0) m.1)
+        (filter (λ m. not (is_property (entries (value_of schema.now)) m.0 || matches_pattern (entries (value_of schema.now)) m.0)) (entries (instance_of value.entry))) }
     ensures is { IsAsking schemas.now result }
 {
-    let below = below(schemas, placed, keyword, Step::Alone);
-    let properties = object_at(placed.schema, "properties");
-    let patterns = object_at(placed.schema, "patternProperties");
+    let (below, held) = below(schemas, place, schema, keyword, Step::Alone);
+    let properties = object_at(schema, "properties");
+    let patterns = object_at(schema, "patternProperties");
     match value.object() {
         Some(members) => Asking::Members(each_additional(
-            below, placed.place, properties, patterns, members,
+            below, held, place, properties, patterns, members,
         )),
         None => Asking::One(None),
     }
@@ -127,18 +131,19 @@ pub(crate) fn additional<'a>(
 /// What `propertyNames` asks for.
 pub(crate) fn property_names<'a>(
     schemas: &'a Schemas,
-    placed: Placed<'a>,
+    place: Place,
+    schema: &'a Doc,
     keyword: &str,
     value: Instance<'a>,
 ) -> Asking<'a>
-    requires { IsPlaced schemas.now placed }
+    requires { StandsAt schemas.now place (value_of schema.now) }
     ensures asked { asked schemas.now result
-        ≡ map (λ m. application (schemas_of schemas.now) (numbered_site schemas.now placed.entry.place) keyword.now spec.Alone (spec.Name m.0) (text m.0)) (entries (instance_of value.entry)) }
+        ≡ map (λ m. application (schemas_of schemas.now) (numbered_site schemas.now place) keyword.now spec.Alone (spec.Name m.0) (text m.0)) (entries (instance_of value.entry)) }
     ensures is { IsAsking schemas.now result }
 {
-    let below = below(schemas, placed, keyword, Step::Alone);
+    let (below, held) = below(schemas, place, schema, keyword, Step::Alone);
     match value.object() {
-        Some(members) => Asking::Members(each_name(below, members)),
+        Some(members) => Asking::Members(each_name(below, held, members)),
         None => Asking::One(None),
     }
 }
@@ -150,21 +155,22 @@ pub(crate) fn property_names<'a>(
 pub(crate) fn unevaluated_properties<'a>(
     alloc: Global,
     schemas: &'a Schemas,
-    placed: Placed<'a>,
+    place: Place,
+    schema: &'a Doc,
     keyword: &str,
     evaluated: &[&'a str],
     value: Instance<'a>,
 ) -> Result<Asking<'a>, Memory>
-    requires { IsPlaced schemas.now placed }
+    requires { StandsAt schemas.now place (value_of schema.now) }
     ensures asked { IfOk result (λ a. asked schemas.now a
-        ≡ map (λ m. application (schemas_of schemas.now) (numbered_site schemas.now placed.entry.place) keyword.now spec.Alone (spec.Name m.0) m.1)
+        ≡ map (λ m. application (schemas_of schemas.now) (numbered_site schemas.now place) keyword.now spec.Alone (spec.Name m.0) m.1)
         (filter (λ m. not (among_names m.0 (texts_of evaluated.now))) (entries (instance_of value.entry)))) }
     ensures is { IfOk result (λ a. IsAsking schemas.now a) }
 {
     let Some(members) = value.object() else {
         return Ok(Asking::One(None));
     };
-    let below = below(schemas, placed, keyword, Step::Alone);
-    let members = each_other(alloc, below, evaluated, members)?;
+    let (below, held) = below(schemas, place, schema, keyword, Step::Alone);
+    let members = each_other(alloc, below, held, evaluated, members)?;
     Ok(Asking::Members(members))
 }

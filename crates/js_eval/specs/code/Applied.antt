@@ -1,12 +1,13 @@
 -- What the walk's applications are seen as: places told by their numbers stand for what they are the places of.
-use Rattle.std.specs.Prelude.{unwrap_or}
+use Rattle.std.specs.Prelude.{ℕ, unwrap_or}
+use Rattle.js_doc.specs.Seen.{value_of}
 use Rattle.js_doc.specs.Members.{get}
 use Rattle.js_doc.specs.Value.{Value, Named, text}
 use Rattle.js_bundle.specs.Document.{Documents}
 use Rattle.js_bundle.specs.Resource.{Site}
 use Rattle.js_eval.specs.Applications.{Application}
 use Rattle.js_eval.specs.Bundle.{schemas_of}
-use Rattle.js_eval.specs.code.Placed.{IsPlaced}
+use Rattle.js_eval.specs.code.Standing.{StandsAt}
 use Rattle.js_eval.specs.SchemaSet.{Step, Alone, Index, Name}
 use Rattle.js_eval.specs.Seen.{step_of, instance_of}
 use Rattle.js_eval.specs.Sited.{numbered_site}
@@ -15,28 +16,31 @@ use Rattle.js_eval.specs.declared.applied.Held.{Held}
 use Rattle.js_eval.specs.declared.applied.Held.TheVariants.{One, Each}
 use Rattle.js_eval.specs.declared.applied.To.{To}
 use Rattle.js_eval.specs.declared.applied.To.TheVariants as to
-use Rattle.js_eval.specs.declared.placed.Placed.{Placed}
 
 abbrev pub applied_of : Documents → Applied → Application Site
-applied_of documents a = record { place = numbered_site documents a.placed.place; step = step_of a.step; at = step_of a.at; value = instance_of a.value }
+applied_of documents a = record { place = numbered_site documents a.place; step = step_of a.step; at = step_of a.at; value = instance_of a.value }
 
 -- ---- the schema for the part of a value to which a step leads
 
--- the schema that is kept of it
-abbrev pub kept : Held → Placed
-kept (One placed) = placed
-kept (Each placed keyword) = placed
+-- the place that is kept of it, and what stands there
+abbrev pub kept_place : Held → ℕ
+kept_place (One place schema) = place
+kept_place (Each place schema keyword) = place
+
+abbrev pub kept_schema : Held → Value
+kept_schema (One place schema) = value_of schema.now
+kept_schema (Each place schema keyword) = value_of schema.now
 
 abbrev pub IsHeld : Documents → Held → Type 0
-IsHeld documents held = IsPlaced documents (kept held)
+IsHeld documents held = StandsAt documents (kept_place held) (kept_schema held)
 
 abbrev pub site_in : Documents → Held → Step → Site
-site_in documents (One placed) step = numbered_site documents placed.place
-site_in documents (Each placed keyword) step = (schemas_of documents).below (numbered_site documents placed.place) keyword.now step
+site_in documents (One place schema) step = numbered_site documents place
+site_in documents (Each place schema keyword) step = (schemas_of documents).below (numbered_site documents place) keyword.now step
 
 abbrev pub step_in : Held → Step → Step
-step_in (One placed) step = Alone
-step_in (Each placed keyword) step = step
+step_in (One place schema) step = Alone
+step_in (Each place schema keyword) step = step
 
 -- ---- what it is applied to
 

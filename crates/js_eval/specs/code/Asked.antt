@@ -1,14 +1,16 @@
 -- What an asking has still to ask for, of the schemas that it was made for.
 use Rattle.std.specs.Prelude.{List, [], ◌∷◌, Option, Some, None}
+use Rattle.js_doc.specs.Seen.{value_of}
 use Rattle.js_bundle.specs.Document.{Documents}
 use Rattle.js_bundle.specs.Resource.{Site}
 use Rattle.js_eval.specs.Applications.{Application}
 use Rattle.js_eval.specs.code.Applied.{IsHeld, applied_of}
 use Rattle.js_eval.specs.code.Cursors.{items_asked, members_asked, patterns_asked}
-use Rattle.js_eval.specs.code.Placed.{IsPlaced}
+use Rattle.js_eval.specs.code.Standing.{StandsAt}
 use Rattle.js_eval.specs.declared.instance.Applied.{Applied}
 use Rattle.js_eval.specs.declared.cursor.Asking.{Asking}
 use Rattle.js_eval.specs.declared.cursor.Asking.TheVariants.{One, Items, Members, Patterns}
+use Rattle.js_eval.specs.declared.pattern_cursor.PatternCursor.{PatternCursor}
 
 abbrev pub one_asked : Documents → Option Applied → List (Application Site)
 one_asked documents None = []
@@ -22,12 +24,19 @@ asked documents (Patterns c) = patterns_asked documents c
 
 -- ---- it was made for these
 
+abbrev pub IsApplied : Documents → Applied → Type 0
+IsApplied documents a = StandsAt documents a.place (value_of a.schema.now)
+
 abbrev pub IsOne : Documents → Option Applied → Type 0
 IsOne documents None = Unit {0}
-IsOne documents (Some a) = IsPlaced documents a.placed
+IsOne documents (Some a) = IsApplied documents a
+
+-- the place with the patterns, and that of the present one's schema
+abbrev pub ArePatterns : Documents → PatternCursor → Type 0
+ArePatterns documents c = StandsAt documents c.place (value_of c.schema.now) × StandsAt documents c.below (value_of c.schema_below.now)
 
 abbrev pub IsAsking : Documents → Asking → Type 0
 IsAsking documents (One one) = IsOne documents one
 IsAsking documents (Items c) = IsHeld documents c.held
 IsAsking documents (Members c) = IsHeld documents c.held
-IsAsking documents (Patterns c) = IsPlaced documents c.placed × IsPlaced documents c.below
+IsAsking documents (Patterns c) = ArePatterns documents c

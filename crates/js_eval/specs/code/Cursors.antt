@@ -14,7 +14,7 @@ use Rattle.js_bundle.specs.Document.{Documents}
 use Rattle.js_bundle.specs.Resource.{Site}
 use Rattle.js_eval.specs.Applications.{Application, application, among_indexes, among_names, indexed_from}
 use Rattle.js_eval.specs.code.Applied.{applied}
-use Rattle.js_eval.specs.code.Placed.{IsPlaced}
+use Rattle.js_eval.specs.code.Standing.{StandsAt}
 use Rattle.js_eval.specs.Bundle.{schemas_of}
 use Rattle.js_eval.specs.SchemaSet.{Text, Index, Name}
 use Rattle.js_eval.specs.Sited.{numbered_site}
@@ -94,18 +94,19 @@ present_asked documents (Some pattern) place name left = map (on_matched_member 
 
 -- what the patterns that are still to come ask for
 abbrev pub coming_asked : Documents → PatternCursor → List (String Global × Doc) → List (Application Site)
-coming_asked documents c patterns = flat_map (λ p. matching_asked documents (numbered_site documents c.placed.place) c.keyword.now p.0 c.members.now) (map pair_of patterns)
+coming_asked documents c patterns = flat_map (λ p. matching_asked documents (numbered_site documents c.place) c.keyword.now p.0 c.members.now) (map pair_of patterns)
 
 abbrev pub patterns_asked : Documents → PatternCursor → List (Application Site)
-patterns_asked documents c = present_asked documents c.present c.below.place c.name.now c.left ++ coming_asked documents c c.patterns
+patterns_asked documents c = present_asked documents c.present c.below c.name.now c.left ++ coming_asked documents c c.patterns
 
 -- this pattern is the present one, and all members are left of it
 pub record IsBegun (documents : Documents) (name : Text) (pattern : NamedPattern) (c d : PatternCursor) : Type 0 where
   pub present : d.present ≡ Some pattern
   pub pattern_is : pattern.text.now ≡ name
-  pub asks : present_asked documents d.present d.below.place d.name.now d.left ≡ matching_asked documents (numbered_site documents c.placed.place) c.keyword.now name c.members.now
-  pub is : IsPlaced documents d.below
-  pub placed : d.placed ≡ c.placed
+  pub asks : present_asked documents d.present d.below d.name.now d.left ≡ matching_asked documents (numbered_site documents c.place) c.keyword.now name c.members.now
+  pub is : StandsAt documents d.below (value_of d.schema_below.now)
+  pub place : d.place ≡ c.place
+  pub schema : d.schema ≡ c.schema
   pub keyword : d.keyword ≡ c.keyword
   pub members : d.members ≡ c.members
   pub patterns : d.patterns ≡ c.patterns

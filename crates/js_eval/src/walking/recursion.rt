@@ -17,9 +17,10 @@ use crate::walking::steps::{
 use crate::walking::tally::{Case, Judged, Judging, Known, Tally};
 use crate::walking::way::{Mark, Way};
 use crate::walking::world::World;
+use js_bundle::Place;
 use std::alloc::Global;
 
-/// The node of a schema on a value, with all that stands below it.
+/// The node of a place on a value, with all that stands below it.
 #[cycle(walk)]
 pub(crate) fn node<W: World, R: Reporter<W>>(
     alloc: Global,
@@ -27,15 +28,17 @@ pub(crate) fn node<W: World, R: Reporter<W>>(
     way: &mut Way<W::Name>,
     into: &mut R,
     depth: usize,
+    place: Place,
     schema: W::Schema,
     value: W::Value,
 ) -> Result<bool, WalkFault>
     requires path { list_all (W.is_place world.now) way.old.path.items ≡ true }
     requires scope { way.old.scope ≡ map (W.resource world.now) way.old.path.items }
-    requires schema { W.is_schema world.now schema }
+    requires place { W.is_place world.now place ≡ true }
+    requires schema { W.stands_at world.now place schema }
     ensures { MatchResult result
-        (λ valid. NodeDone (W.schemas world.now) W.text_of R.takes depth (map (W.site world.now) way.old.path.items) (W.site world.now (W.number schema)) (W.value_of value) valid way.old way.new into.old into.new)
-        (λ e. OnTooLarge e (HasNone (W.schemas world.now) depth (map (W.site world.now) way.old.path.items) (W.site world.now (W.number schema)) (W.value_of value) way.old.left)) }
+        (λ valid. NodeDone (W.schemas world.now) W.text_of R.takes depth (map (W.site world.now) way.old.path.items) (W.site world.now place) (W.value_of value) valid way.old way.new into.old into.new)
+        (λ e. OnTooLarge e (HasNone (W.schemas world.now) depth (map (W.site world.now) way.old.path.items) (W.site world.now place) (W.value_of value) way.old.left)) }
 {
     if depth == 0 {
         return Err(WalkFault::TooLarge);
@@ -44,16 +47,17 @@ pub(crate) fn node<W: World, R: Reporter<W>>(
         return Err(WalkFault::TooLarge);
     }
     let start = way.mark();
-    open_schema(alloc, world, way, into, schema)?;
+    open_schema(alloc, world, way, into, place)?;
     let known = Known {
-        valid: world.accepts(schema),
+        valid: world.accepts(place, schema),
         condition: None,
         matching: 0,
     };
-    let keywords = world.keywords(schema);
+    let keywords = world.keywords(place, schema);
     let mut judging = Judging { keywords, known };
     'keywords: while let Some(keyword) = next_keyword(world, &mut judging) {
         let case = Case {
+            place,
             schema,
             value,
             keyword,
@@ -72,11 +76,11 @@ pub(crate) fn node<W: World, R: Reporter<W>>(
         judging.known = known.with_keyword(world.kind(keyword), judged.passes, judged.held);
     }
     let valid = judging.known.valid;
-    close_schema(alloc, world, way, into, schema, start, valid)?;
+    close_schema(alloc, world, way, into, place, schema, start, valid)?;
     Ok(valid)
 }
 
-/// The node of a keyword of the schema that the path ends in.
+/// The node of a keyword of the place that the path ends in.
 #[cycle(walk)]
 pub(crate) fn keyword_node<W: World, R: Reporter<W>>(
     alloc: Global,
@@ -90,16 +94,17 @@ pub(crate) fn keyword_node<W: World, R: Reporter<W>>(
 ) -> Result<Judged, WalkFault>
     requires path { list_all (W.is_place world.now) way.old.path.items ≡ true }
     requires scope { way.old.scope ≡ map (W.resource world.now) way.old.path.items }
-    requires schema { W.is_schema world.now case.schema }
+    requires place { W.is_place world.now case.place ≡ true }
+    requires schema { W.stands_at world.now case.place case.schema }
     requires names { start.names ≤ length way.old.names.items }
     requires indexes { start.indexes ≤ length way.old.indexes.items }
-    requires keyword { IsKeywordAt (W.schemas world.now) (W.site world.now (W.number case.schema)) (W.keyword_of case.keyword) }
+    requires keyword { IsKeywordAt (W.schemas world.now) (W.site world.now case.place) (W.keyword_of case.keyword) }
     ensures { MatchResult result
-        (λ j. KeywordDone (W.schemas world.now) W.text_of R.takes depth (map (W.site world.now) way.old.path.items) (W.site world.now (W.number case.schema)) (W.value_of case.value) (W.keyword_of case.keyword) known.matching
-        (asked_by (W.schemas world.now) depth (map (W.site world.now) way.old.path.items) (W.site world.now (W.number case.schema)) (W.value_of case.value) (W.keyword_of case.keyword)
+        (λ j. KeywordDone (W.schemas world.now) W.text_of R.takes depth (map (W.site world.now) way.old.path.items) (W.site world.now case.place) (W.value_of case.value) (W.keyword_of case.keyword) known.matching
+        (asked_by (W.schemas world.now) depth (map (W.site world.now) way.old.path.items) (W.site world.now case.place) (W.value_of case.value) (W.keyword_of case.keyword)
         known.condition (map W.text_of (drop start.names way.old.names.items)) (drop start.indexes way.old.indexes.items)) j way.old way.new into.old into.new)
-        (λ e. OnTooLarge e (KeywordHasNone (W.schemas world.now) depth (map (W.site world.now) way.old.path.items) (W.site world.now (W.number case.schema)) (W.value_of case.value) (W.keyword_of case.keyword)
-        (asked_by (W.schemas world.now) depth (map (W.site world.now) way.old.path.items) (W.site world.now (W.number case.schema)) (W.value_of case.value) (W.keyword_of case.keyword)
+        (λ e. OnTooLarge e (KeywordHasNone (W.schemas world.now) depth (map (W.site world.now) way.old.path.items) (W.site world.now case.place) (W.value_of case.value) (W.keyword_of case.keyword)
+        (asked_by (W.schemas world.now) depth (map (W.site world.now) way.old.path.items) (W.site world.now case.place) (W.value_of case.value) (W.keyword_of case.keyword)
         known.condition (map W.text_of (drop start.names way.old.names.items)) (drop start.indexes way.old.indexes.items)) way.old.left)) }
 {
     if way.left == 0 {
@@ -107,7 +112,7 @@ pub(crate) fn keyword_node<W: World, R: Reporter<W>>(
     }
     let here = way.mark();
     let mut asking = asked(alloc, world, way, case, start, known.condition)?;
-    open_keyword(alloc, world, way, into, case.schema, case.keyword)?;
+    open_keyword(alloc, world, way, into, case.place, case.keyword)?;
     let tally = applications(
         alloc,
         world,
@@ -153,6 +158,7 @@ pub(crate) fn applications<W: World, R: Reporter<W>>(
             way,
             into,
             depth,
+            world.place(application),
             world.schema(application),
             world.value(application),
         )?;

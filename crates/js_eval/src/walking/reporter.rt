@@ -65,9 +65,11 @@ pub(crate) trait Reporter<W: World> {
         &mut self,
         alloc: Global,
         world: &W,
+        place: Place,
         schema: W::Schema,
         valid: bool,
     ) -> Result<(), Memory>
-        requires { W.is_schema world.now schema }
-        ensures { OnOk result (takes self.old (closing valid (schema_says (W.schemas world.now) (W.site world.now (W.number schema)))) self.new) };
+        requires place { W.is_place world.now place ≡ true }
+        requires schema { W.stands_at world.now place schema }
+        ensures { OnOk result (takes self.old (closing valid (schema_says (W.schemas world.now) (W.site world.now place))) self.new) };
 }

@@ -56,6 +56,7 @@ impl<W: World> Reporter<W> for Silent {
         &mut self,
         _alloc: Global,
         _world: &W,
+        _place: Place,
         _schema: W::Schema,
         _valid: bool,
     ) -> Result<(), Memory> {

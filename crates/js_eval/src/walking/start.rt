@@ -12,6 +12,7 @@ use crate::walking::reporter::Reporter;
 use crate::walking::trail::Trail;
 use crate::walking::way::Way;
 use crate::walking::world::World;
+use js_bundle::Place;
 use std::alloc::Global;
 
 /// How many nodes of schemas may stand on a way from the root.
@@ -20,7 +21,7 @@ const MOST_LEVELS: usize = 512;
 /// How many nodes a result may have.
 const MOST_NODES: usize = 1_000_000;
 
-/// Judges a value by a schema, and reports the result node by node.
+/// Judges a value at a place, and reports the result node by node.
 ///
 /// # Errors
 /// `Memory`; `TooLarge` exactly where no result stands within the limits.
@@ -28,13 +29,15 @@ pub(crate) fn walk_from<W: World, R: Reporter<W>>(
     alloc: Global,
     world: &W,
     into: &mut R,
+    place: Place,
     schema: W::Schema,
     value: W::Value,
 ) -> Result<bool, WalkFault>
-    requires { W.is_schema world.now schema }
+    requires place { W.is_place world.now place ≡ true }
+    requires schema { W.stands_at world.now place schema }
     ensures { MatchResult result
-        (λ valid. Reported (W.schemas world.now) (W.site world.now (W.number schema)) (W.value_of value) R.takes valid into.old into.new)
-        (λ e. OnTooLarge e ((t : ResultTree) → IsResult (W.schemas world.now) [] (W.site world.now (W.number schema)) at_root (W.value_of value) t → IsWithinLimits t → ⊥)) }
+        (λ valid. Reported (W.schemas world.now) (W.site world.now place) (W.value_of value) R.takes valid into.old into.new)
+        (λ e. OnTooLarge e ((t : ResultTree) → IsResult (W.schemas world.now) [] (W.site world.now place) at_root (W.value_of value) t → IsWithinLimits t → ⊥)) }
 {
     let mut way = Way {
         path: Vec::new(alloc),
@@ -45,7 +48,16 @@ pub(crate) fn walk_from<W: World, R: Reporter<W>>(
         indexes: Vec::new(alloc),
         scope: DynamicScope::new(alloc),
     };
-    match node(alloc, world, &mut way, into, MOST_LEVELS, schema, value) {
+    match node(
+        alloc,
+        world,
+        &mut way,
+        into,
+        MOST_LEVELS,
+        place,
+        schema,
+        value,
+    ) {
         Ok(valid) => Ok(valid),
         Err(fault) => Err(fault),
     }

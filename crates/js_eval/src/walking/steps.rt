@@ -11,6 +11,7 @@ use crate::walking::reporter::Reporter;
 use crate::walking::tally::{Case, Judged, Judging, Tally};
 use crate::walking::way::{Mark, Way};
 use crate::walking::world::World;
+use js_bundle::Place;
 use js_doc::Memory;
 use std::alloc::Global;
 
@@ -20,14 +21,13 @@ pub(crate) fn open_schema<W: World, R: Reporter<W>>(
     world: &W,
     way: &mut Way<W::Name>,
     into: &mut R,
-    schema: W::Schema,
+    place: Place,
 ) -> Result<(), Memory>
-    requires schema { W.is_schema world.now schema }
+    requires place { W.is_place world.now place ≡ true }
     requires left { 0 < way.old.left }
-    ensures { OnOk result (SchemaOpened (W.schemas world.now) W.text_of R.takes (W.site world.now (W.number schema)) (W.number schema) (W.resource world.now (W.number schema)) way.old way.new into.old into.new) }
+    ensures { OnOk result (SchemaOpened (W.schemas world.now) W.text_of R.takes (W.site world.now place) place (W.resource world.now place) way.old way.new into.old into.new) }
 {
     way.left -= 1;
-    let place = world.place(schema);
     into.open_schema(alloc, world, place, &way.keyword, &way.instance)?;
     way.path.push(place)?;
     way.scope.push(world.resource(place))?;
@@ -40,14 +40,16 @@ pub(crate) fn close_schema<W: World, R: Reporter<W>>(
     world: &W,
     way: &mut Way<W::Name>,
     into: &mut R,
+    place: Place,
     schema: W::Schema,
     start: Mark,
     valid: bool,
 ) -> Result<(), Memory>
-    requires { W.is_schema world.now schema }
-    ensures { OnOk result (SchemaClosed (W.schemas world.now) W.text_of R.takes (W.site world.now (W.number schema)) start valid way.old way.new into.old into.new) }
+    requires place { W.is_place world.now place ≡ true }
+    requires schema { W.stands_at world.now place schema }
+    ensures { OnOk result (SchemaClosed (W.schemas world.now) W.text_of R.takes (W.site world.now place) start valid way.old way.new into.old into.new) }
 {
-    into.close_schema(alloc, world, schema, valid)?;
+    into.close_schema(alloc, world, place, schema, valid)?;
     let _ = way.path.pop();
     way.scope.pop();
     cut_unless(&mut way.names, start.names, valid);
@@ -72,16 +74,15 @@ pub(crate) fn open_keyword<W: World, R: Reporter<W>>(
     world: &W,
     way: &mut Way<W::Name>,
     into: &mut R,
-    schema: W::Schema,
+    place: Place,
     keyword: W::Keyword,
 ) -> Result<(), Memory>
-    requires schema { W.is_schema world.now schema }
+    requires place { W.is_place world.now place ≡ true }
     requires left { 0 < way.old.left }
-    ensures { OnOk result (KeywordOpened (W.schemas world.now) W.text_of R.takes (W.site world.now (W.number schema)) (W.keyword_of keyword) way.old way.new into.old into.new) }
+    ensures { OnOk result (KeywordOpened (W.schemas world.now) W.text_of R.takes (W.site world.now place) (W.keyword_of keyword) way.old way.new into.old into.new) }
 {
     way.left -= 1;
     world.go_to_keyword(keyword, &mut way.keyword)?;
-    let place = world.place(schema);
     into.open_keyword(alloc, world, place, keyword, &way.keyword, &way.instance)
 }
 
@@ -96,10 +97,11 @@ pub(crate) fn asked<W: World>(
 ) -> Result<W::Asking, Memory>
     requires path { list_all (W.is_place world.now) way.now.path.items ≡ true }
     requires scope { way.now.scope ≡ map (W.resource world.now) way.now.path.items }
-    requires schema { W.is_schema world.now case.schema }
+    requires place { W.is_place world.now case.place ≡ true }
+    requires schema { W.stands_at world.now case.place case.schema }
     requires names { start.names ≤ length way.now.names.items }
     requires indexes { start.indexes ≤ length way.now.indexes.items }
-    ensures asked { IfOk result (λ a. W.asked world.now a ≡ asked_by (W.schemas world.now) 0 (map (W.site world.now) way.now.path.items) (W.site world.now (W.number case.schema)) (W.value_of case.value) (W.keyword_of case.keyword)
+    ensures asked { IfOk result (λ a. W.asked world.now a ≡ asked_by (W.schemas world.now) 0 (map (W.site world.now) way.now.path.items) (W.site world.now case.place) (W.value_of case.value) (W.keyword_of case.keyword)
         condition (map W.text_of (drop start.names way.now.names.items)) (drop start.indexes way.now.indexes.items)) }
     ensures is { IfOk result (λ a. W.is_asking world.now a) }
 {
@@ -109,6 +111,7 @@ pub(crate) fn asked<W: World>(
         alloc,
         way.path.as_slice(),
         way.scope.resources(),
+        case.place,
         case.schema,
         case.value,
         case.keyword,
@@ -129,26 +132,27 @@ pub(crate) fn close_keyword<W: World, R: Reporter<W>>(
     tally: Tally,
     matching: u64,
 ) -> Result<bool, Memory>
-    requires schema { W.is_schema world.now case.schema }
+    requires place { W.is_place world.now case.place ≡ true }
+    requires schema { W.stands_at world.now case.place case.schema }
     requires names { here.names ≤ length way.old.names.items }
     requires indexes { here.indexes ≤ length way.old.indexes.items }
     requires trail { IsSplitPoint way.old.keyword here.keyword }
-    requires keyword { IsKeywordAt (W.schemas world.now) (W.site world.now (W.number case.schema)) (W.keyword_of case.keyword) }
-    ensures { IfOk result (λ passes. KeywordClosed (W.schemas world.now) W.text_of R.takes (W.site world.now (W.number case.schema)) (W.value_of case.value) (W.keyword_of case.keyword) matching tally here passes way.old way.new into.old into.new) }
+    requires keyword { IsKeywordAt (W.schemas world.now) (W.site world.now case.place) (W.keyword_of case.keyword) }
+    ensures { IfOk result (λ passes. KeywordClosed (W.schemas world.now) W.text_of R.takes (W.site world.now case.place) (W.value_of case.value) (W.keyword_of case.keyword) matching tally here passes way.old way.new into.old into.new) }
 {
     let Case {
+        place,
         schema,
         value,
         keyword,
     } = case;
-    let passes = world.passes(alloc, schema, value, keyword, tally, matching)?;
+    let passes = world.passes(alloc, place, schema, value, keyword, tally, matching)?;
     let judged = Judged {
         passes,
         held: tally.held,
     };
     let names = &way.names[here.names..];
     let indexes = &way.indexes[here.indexes..];
-    let place = world.place(schema);
     into.close_keyword(
         alloc, world, place, value, keyword, judged, matching, names, indexes,
     )?;

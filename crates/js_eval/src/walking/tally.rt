@@ -3,10 +3,12 @@ ghost use Rattle.std.specs.Prelude.{◌≡◌, ◌&&◌, ◌≤◌, ◌<◌, ◌
 ghost use Rattle.js_eval.specs.Walk.Keeping.{condition_step, matching_step};
 
 use crate::kind::Kind;
+use js_bundle::Place;
 
-/// What is judged: a keyword of a schema, on a value.
+/// What is judged: a keyword of a place, on a value.
 #[derive(Clone, Copy)]
 pub(crate) struct Case<S, V, K> {
+    pub place: Place,
     pub schema: S,
     pub value: V,
     pub keyword: K,

@@ -26,7 +26,7 @@ pub(crate) trait World {
     /// The name of a member.
     type Name: Copy;
 
-    /// A schema, with its place.
+    /// What stands at a place.
     type Schema: Copy;
 
     type Keyword: Copy;
@@ -45,13 +45,11 @@ pub(crate) trait World {
 
     ghost site: { Self → ℕ → Site };
 
+    /// At the place of a number stands this schema.
+    ghost stands_at: { Self → ℕ → Self.Schema → Type 0 };
+
     /// The number of the resource of the place of a number.
     ghost resource: { Self → ℕ → ℕ };
-
-    /// The number of a schema's place, and whether it is the schema that stands there.
-    ghost number: { Self.Schema → ℕ };
-
-    ghost is_schema: { Self → Self.Schema → Type 0 };
 
     ghost value_of: { Self.Value → JsonValue };
 
@@ -63,23 +61,20 @@ pub(crate) trait World {
 
     ghost application_of: { Self → Self.Application → Applied Site };
 
-    ghost applied_schema: { Self.Application → Self.Schema };
+    ghost place_of: { Self.Application → ℕ };
+
+    ghost schema_of: { Self.Application → Self.Schema };
 
     ghost asked: { Self → Self.Asking → List (Applied Site) };
 
-    /// Whether what is asked for are schemas of these.
+    /// What is asked for are schemas of these.
     ghost is_asking: { Self → Self.Asking → Type 0 };
 
-    /// Where a schema stands.
-    fn place(&self, schema: Self::Schema) -> Place
-        requires { is_schema self.now schema }
-        ensures number { result ≡ number schema }
-        ensures is { is_place self.now result ≡ true };
-
     /// The schema isn't `false`.
-    fn accepts(&self, schema: Self::Schema) -> bool
-        requires { is_schema self.now schema }
-        ensures { result ≡ accepts_at (schemas self.now) (site self.now (number schema)) };
+    fn accepts(&self, place: Place, schema: Self::Schema) -> bool
+        requires place { is_place self.now place ≡ true }
+        requires schema { stands_at self.now place schema }
+        ensures { result ≡ accepts_at (schemas self.now) (site self.now place) };
 
     /// The number of a place's resource.
     fn resource(&self, place: Place) -> usize
@@ -87,10 +82,11 @@ pub(crate) trait World {
         ensures { result ≡ resource self.now place };
 
     /// The keywords of a schema that have a node, in the order of their nodes.
-    fn keywords(&self, schema: Self::Schema) -> Self::Keywords
-        requires { is_schema self.now schema }
-        ensures listed { listed result ≡ keywords_at (schemas self.now) (site self.now (number schema)) }
-        ensures ascending { IsAscending (entries ((schemas self.now).schema (site self.now (number schema)))) };
+    fn keywords(&self, place: Place, schema: Self::Schema) -> Self::Keywords
+        requires place { is_place self.now place ≡ true }
+        requires schema { stands_at self.now place schema }
+        ensures listed { listed result ≡ keywords_at (schemas self.now) (site self.now place) }
+        ensures ascending { IsAscending (entries ((schemas self.now).schema (site self.now place))) };
 
     fn next_keyword(&self, keywords: &mut Self::Keywords) -> Option<Self::Keyword>
         ensures { MatchOption result (listed keywords.old ≡ []) (λ k. listed keywords.old ≡ keyword_of k ∷ listed keywords.new) };
@@ -105,6 +101,7 @@ pub(crate) trait World {
         alloc: Global,
         path: &[Place],
         resources: &[usize],
+        place: Place,
         schema: Self::Schema,
         value: Self::Value,
         keyword: Self::Keyword,
@@ -114,8 +111,9 @@ pub(crate) trait World {
     ) -> Result<Self::Asking, Memory>
         requires path { list_all (is_place self.now) path.now ≡ true }
         requires resources { resources.now ≡ dedup nat_eq (map (resource self.now) path.now) }
-        requires schema { is_schema self.now schema }
-        ensures asked { IfOk result (λ a. asked self.now a ≡ asked_by (schemas self.now) 0 (map (site self.now) path.now) (site self.now (number schema)) (value_of value) (keyword_of keyword)
+        requires place { is_place self.now place ≡ true }
+        requires schema { stands_at self.now place schema }
+        ensures asked { IfOk result (λ a. asked self.now a ≡ asked_by (schemas self.now) 0 (map (site self.now) path.now) (site self.now place) (value_of value) (keyword_of keyword)
             condition (map text_of names.now) indexes.now) }
         ensures is { IfOk result (λ a. is_asking self.now a) };
 
@@ -126,13 +124,18 @@ pub(crate) trait World {
     ) -> Result<Option<Self::Application>, Memory>
         requires { is_asking self.now asking.old }
         ensures next { IfOk result (λ o. MatchOption o (asked self.now asking.old ≡ []) (λ a. asked self.now asking.old ≡ application_of self.now a ∷ asked self.now asking.new)) }
-        ensures schema { IfOk result (λ o. MatchOption o (Unit {0}) (λ a. is_schema self.now (applied_schema a))) }
-        ensures is { IfOk result (λ _. is_asking self.now asking.new) };
+        ensures is { IfOk result (λ o. MatchOption o (Unit {0}) (λ a. is_place self.now (place_of a) ≡ true)) }
+        ensures schema { IfOk result (λ o. MatchOption o (Unit {0}) (λ a. stands_at self.now (place_of a) (schema_of a))) }
+        ensures asking { IfOk result (λ _. is_asking self.now asking.new) };
 
-    /// The schema that is applied.
+    /// The place of the schema that is applied.
+    fn place(&self, application: Self::Application) -> Place
+        ensures number { result ≡ place_of application }
+        ensures site { site self.now result ≡ (application_of self.now application).place };
+
+    /// What stands there.
     fn schema(&self, application: Self::Application) -> Self::Schema
-        ensures schema { result ≡ applied_schema application }
-        ensures site { site self.now (number result) ≡ (application_of self.now application).place };
+        ensures { result ≡ schema_of application };
 
     /// The value that it is applied to.
     fn value(&self, application: Self::Application) -> Self::Value
@@ -151,16 +154,18 @@ pub(crate) trait World {
     fn passes(
         &self,
         alloc: Global,
+        place: Place,
         schema: Self::Schema,
         value: Self::Value,
         keyword: Self::Keyword,
         tally: Tally,
         matching: u64,
     ) -> Result<bool, Memory>
-        requires schema { is_schema self.now schema }
-        requires keyword { IsKeywordAt (schemas self.now) (site self.now (number schema)) (keyword_of keyword) }
+        requires place { is_place self.now place ≡ true }
+        requires schema { stands_at self.now place schema }
+        requires keyword { IsKeywordAt (schemas self.now) (site self.now place) (keyword_of keyword) }
         ensures { IfOk result (λ b. (verdicts : List Bool) → length verdicts ≡ tally.asked → how_many verdicts ≡ tally.held
-            → b ≡ passes_at (schemas self.now) (site self.now (number schema)) (value_of value) matching (keyword_of keyword) verdicts) };
+            → b ≡ passes_at (schemas self.now) (site self.now place) (value_of value) matching (keyword_of keyword) verdicts) };
 
     /// Goes from a schema to its keyword.
     fn go_to_keyword(&self, keyword: Self::Keyword, trail: &mut Trail) -> Result<(), Memory>
@@ -173,6 +178,4 @@ pub(crate) trait World {
     /// Goes from an instance to the value that the schema is applied to.
     fn go_to_value(&self, application: Self::Application, trail: &mut Trail) -> Result<(), Memory>
         ensures { OnOk result (trail.new ≡ at_step trail.old (application_of self.now application).at) };
-
-    ghost stands: { (w : Self) (s : Self.Schema) → is_schema w s → is_place w (number s) ≡ true };
 }

@@ -6,5 +6,5 @@ use Rattle.js_eval.proofs.item_cursor.each_except.Goals as goal
 
 pub returns-clause-asked : goal.returns-clause-asked
 returns-clause-asked c = λ documents.
-    ap (map (λ e. record { place = numbered_site documents c.args.below.place; step = spec.Alone; at = spec.Index e.0; value = e.1 }))
+    ap (map (λ e. record { place = numbered_site documents c.args.below; step = spec.Alone; at = spec.Index e.0; value = e.1 }))
     (except_left _ c.args.items.now (length c.args.items.now) c.args.indexes.now refl c.in_ok-marks_at.ensures)

@@ -8,5 +8,5 @@ use Rattle.js_eval.proofs.item_cursor.each_in_step.Goals as goal
 
 pub returns-clause-asked : goal.returns-clause-asked
 returns-clause-asked c = λ documents.
-    ap (map (λ e. application (schemas_of documents) (numbered_site documents c.args.placed.place) c.args.keyword.now (spec.Index e.0) (spec.Index e.0) e.1))
+    ap (map (λ e. application (schemas_of documents) (numbered_site documents c.args.place) c.args.keyword.now (spec.Index e.0) (spec.Index e.0) e.1))
     (first_left c.new.result.items c.args.items.now c.first_of.result.now (length c.args.list.now) c.new.ensures.items c.first_of.ensures)

@@ -7,5 +7,5 @@ use Rattle.js_eval.proofs.member_cursor.each_name.Goals as goal
 
 pub returns-clause-asked : goal.returns-clause-asked
 returns-clause-asked c = λ documents.
-    ap (map (λ m. record { place = numbered_site documents c.args.below.place; step = spec.Alone; at = spec.Name m.0; value = text m.0 }))
+    ap (map (λ m. record { place = numbered_site documents c.args.below; step = spec.Alone; at = spec.Name m.0; value = text m.0 }))
     (all_chosen _ ∙ c.pairs.ensures.pairs)

@@ -12,6 +12,6 @@ use Rattle.js_eval.proofs.member_cursor.each_named.Goals as goal
 
 pub returns-then-len-clause-asked : goal.returns-then-len-clause-asked
 returns-then-len-clause-asked c = λ documents.
-    let app : spec.Text × Value → Application Site = λ m. application (schemas_of documents) (numbered_site documents c.args.placed.place) c.args.keyword.now (spec.Name m.0) (spec.Name m.0) m.1 in
+    let app : spec.Text × Value → Application Site = λ m. application (schemas_of documents) (numbered_site documents c.args.place) c.args.keyword.now (spec.Name m.0) (spec.Name m.0) m.1 in
     ap (λ ns. map (λ m. app (m.0, namesake c.args.members.now (spec.Name m.0) m.1)) (filter (λ m. has m.0 c.args.members.now) ns)) c.pairs-names.ensures.pairs
     ∙ by_name app c.args.members.now c.args.named.now c.pairs-names.ensures.ascending c.pairs-left.ensures.ascending

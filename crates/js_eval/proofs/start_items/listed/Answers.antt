@@ -1,7 +1,6 @@
-use Rattle.std.proofs.Common.{map, ap, subst, sym, ◌∙◌}
+use Rattle.std.proofs.Common.{map, ap, ◌∙◌}
 use Rattle.js_eval.specs.Applications.{application, indexed_from}
 use Rattle.js_eval.specs.Bundle.{schemas_of}
-use Rattle.js_eval.specs.code.Placed.{IsPlaced}
 use Rattle.js_eval.specs.SchemaSet as spec
 use Rattle.js_eval.specs.Seen.{instance_of}
 use Rattle.js_eval.specs.Sited.{numbered_site}
@@ -10,7 +9,4 @@ use Rattle.js_eval.proofs.start_items.listed.Goals as goal
 pub returns-clause-asked : goal.returns-clause-asked
 returns-clause-asked c =
     c.each_listed.ensures.asked c.args.schemas.now
-    ∙ ap (λ vs. map (λ e. application (schemas_of c.args.schemas.now) (numbered_site c.args.schemas.now c.args.placed.place) c.args.keyword.name.now (spec.Index e.0) spec.Alone (instance_of c.args.value)) (indexed_from 0 vs)) c.array_in.ensures
-
-pub returns-clause-is : goal.returns-clause-is
-returns-clause-is c = subst (IsPlaced c.args.schemas.now) (sym c.each_listed.ensures.held) c.requires
+    ∙ ap (λ vs. map (λ e. application (schemas_of c.args.schemas.now) (numbered_site c.args.schemas.now c.args.place) c.args.keyword.name.now (spec.Index e.0) spec.Alone (instance_of c.args.value)) (indexed_from 0 vs)) c.array_in.ensures

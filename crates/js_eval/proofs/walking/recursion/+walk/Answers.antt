@@ -56,15 +56,15 @@ applications-each-preserved g t c =
     let same : c.go_down.new.way.path.items ≡ c.args.way.now.path.items = down.path ∙ c.each.invariant.back.path in
     record {
       so = rw (c.with_application-tally.ensures.asked, c.with_application-tally.ensures.held) (each_step S g.W.World.text_of g.R.Reporter.takes c.args.depth path c.args.kind (g.W.World.asked c.args.world.now c.args.asking.now) rest a (map g.W.World.text_of c.args.way.now.names.items) c.args.way.now.indexes.items c.args.way.now.left c.args.way.now.keyword c.args.way.now.instance
-          c.each.tally c.each.way c.go_down.new.way c.node.new.way c.come_back.new.way c.mark-here.result (g.W.World.site c.args.world.now (g.W.World.number c.schema.result)) (map (g.W.World.site c.args.world.now) c.go_down.new.way.path.items) (g.W.World.value_of c.value.result) c.in_ok-holds.holds c.args.into.now c.each.into c.node.new.into
-          so c.each.invariant.back.keyword c.each.invariant.back.instance c.mark-here.ensures down (ap (map (g.W.World.site c.args.world.now)) same) c.schema.ensures.site c.value.ensures done back);
+          c.each.tally c.each.way c.go_down.new.way c.node.new.way c.come_back.new.way c.mark-here.result (g.W.World.site c.args.world.now c.place.result) (map (g.W.World.site c.args.world.now) c.go_down.new.way.path.items) (g.W.World.value_of c.value.result) c.in_ok-holds.holds c.args.into.now c.each.into c.node.new.into
+          so c.each.invariant.back.keyword c.each.invariant.back.instance c.mark-here.ensures down (ap (map (g.W.World.site c.args.world.now)) same) c.place.ensures.site c.value.ensures done back);
       back = record {
         path = back.path ∙ (done.back.path ∙ same);
         scope = back.scope ∙ (done.back.scope ∙ (down.scope ∙ c.each.invariant.back.scope));
         keyword = back.keyword ∙ (step_back c.each.way.keyword c.node.new.way.keyword a.step c.mark-here.result.keyword c.mark-here.ensures.keyword (done.back.keyword ∙ down.keyword) ∙ c.each.invariant.back.keyword);
         instance = back.instance ∙ (step_back c.each.way.instance c.node.new.way.instance a.at c.mark-here.result.instance c.mark-here.ensures.instance (done.back.instance ∙ down.instance) ∙ c.each.invariant.back.instance);
       };
-      asking = c.in_ok-application.ensures.is;
+      asking = c.in_ok-application.ensures.asking;
       few = let e = c.with_application-tally.ensures.asked in let f = done.falls in let l = down.left in let m = back.left in let i = c.each.invariant.few in omega (arith, e, f, l, m, i);
       held = let e = c.with_application-tally.ensures.asked in let f = c.with_application-tally.ensures.held in let i = c.each.invariant.held in omega (arith, e, f, i, at_most_one c.in_ok-holds.holds);
     }
@@ -73,7 +73,7 @@ pub keyword_node-returns-in_err-tally : goal.keyword_node-returns-in_err-tally
 keyword_node-returns-in_err-tally g t c =
     let S = g.W.World.schemas c.args.world.now in
     let path = map (g.W.World.site c.args.world.now) c.args.way.now.path.items in
-    let place = g.W.World.site c.args.world.now (g.W.World.number c.args.case.schema) in
+    let place = g.W.World.site c.args.world.now c.args.case.place in
     let v = g.W.World.value_of c.args.case.value in
     let k = g.W.World.keyword_of c.args.case.keyword in
     let apps = asked_by S c.args.depth path place v k c.args.known.condition (map g.W.World.text_of (drop c.args.start.names c.args.way.now.names.items)) (drop c.args.start.indexes c.args.way.now.indexes.items) in
@@ -101,7 +101,7 @@ pub keyword_node-returns : goal.keyword_node-returns
 keyword_node-returns g t c =
     let S = g.W.World.schemas c.args.world.now in
     let path = map (g.W.World.site c.args.world.now) c.args.way.now.path.items in
-    let place = g.W.World.site c.args.world.now (g.W.World.number c.args.case.schema) in
+    let place = g.W.World.site c.args.world.now c.args.case.place in
     let v = g.W.World.value_of c.args.case.value in
     let k = g.W.World.keyword_of c.args.case.keyword in
     let apps = asked_by S c.args.depth path place v k c.args.known.condition (map g.W.World.text_of (drop c.args.start.names c.args.way.now.names.items)) (drop c.args.start.indexes c.args.way.now.indexes.items) in
@@ -114,17 +114,17 @@ keyword_node-returns g t c =
 
 pub node-returns-then-depth-eq0 : goal.node-returns-then-depth-eq0
 node-returns-then-depth-eq0 g t c =
-    none_at_zero (g.W.World.schemas c.args.world.now) 0 (map (g.W.World.site c.args.world.now) c.args.way.now.path.items) (g.W.World.site c.args.world.now (g.W.World.number c.args.schema)) (g.W.World.value_of c.args.value) c.args.depth c.args.way.now.left c.if-depth-eq0.true
+    none_at_zero (g.W.World.schemas c.args.world.now) 0 (map (g.W.World.site c.args.world.now) c.args.way.now.path.items) (g.W.World.site c.args.world.now c.args.place) (g.W.World.value_of c.args.value) c.args.depth c.args.way.now.left c.if-depth-eq0.true
 
 pub node-returns-then-way-eq0 : goal.node-returns-then-way-eq0
 node-returns-then-way-eq0 g t c =
-    none_left (g.W.World.schemas c.args.world.now) 0 (map (g.W.World.site c.args.world.now) c.args.way.now.path.items) (g.W.World.site c.args.world.now (g.W.World.number c.args.schema)) (g.W.World.value_of c.args.value) c.args.depth c.args.way.now.left c.if-depth-eq0.false c.if-way-eq0.true
+    none_left (g.W.World.schemas c.args.world.now) 0 (map (g.W.World.site c.args.world.now) c.args.way.now.path.items) (g.W.World.site c.args.world.now c.args.place) (g.W.World.value_of c.args.value) c.args.depth c.args.way.now.left c.if-depth-eq0.false c.if-way-eq0.true
 
 pub node-keywords-init : goal.node-keywords-init
 node-keywords-init g t c =
     record {
-      loop = node_start (g.W.World.schemas c.args.world.now) g.W.World.text_of g.R.Reporter.takes (c.args.depth - 1) (map (g.W.World.site c.args.world.now) c.args.way.now.path.items) (g.W.World.site c.args.world.now (g.W.World.number c.args.schema)) (g.W.World.value_of c.args.value)
-          c.args.way.now c.open_schema.new.way (g.W.World.number c.args.schema) (g.W.World.resource c.args.world.now (g.W.World.number c.args.schema)) c.args.into.now c.open_schema.new.into c.accepts.result (g.W.World.listed c.keywords-keywords.result) c.in_ok-open_schema.ensures c.accepts.ensures c.keywords-keywords.ensures.listed;
+      loop = node_start (g.W.World.schemas c.args.world.now) g.W.World.text_of g.R.Reporter.takes (c.args.depth - 1) (map (g.W.World.site c.args.world.now) c.args.way.now.path.items) (g.W.World.site c.args.world.now c.args.place) (g.W.World.value_of c.args.value)
+          c.args.way.now c.open_schema.new.way c.args.place (g.W.World.resource c.args.world.now c.args.place) c.args.into.now c.open_schema.new.into c.accepts.result (g.W.World.listed c.keywords-keywords.result) c.in_ok-open_schema.ensures c.accepts.ensures c.keywords-keywords.ensures.listed;
       path = c.in_ok-open_schema.ensures.path;
       scope = c.in_ok-open_schema.ensures.scope;
       keyword = c.in_ok-open_schema.ensures.keyword;
@@ -136,10 +136,10 @@ pub node-keyword_node-requires : goal.node-keyword_node-requires
 node-keyword_node-requires g t c κs within =
     let site = g.W.World.site c.args.world.now in
     let places : list_all (g.W.World.is_place c.args.world.now) c.keywords.way.path.items ≡ true =
-    ap (list_all (g.W.World.is_place c.args.world.now)) c.keywords.invariant.path ∙ (list_all-append (g.W.World.is_place c.args.world.now) c.args.way.now.path.items ((g.W.World.number c.args.schema) ∷ []) ∙ and_true c.requires.path (and_true (g.met.W.World.stands c.args.world.now c.args.schema c.requires.schema) refl)) in
+    ap (list_all (g.W.World.is_place c.args.world.now)) c.keywords.invariant.path ∙ (list_all-append (g.W.World.is_place c.args.world.now) c.args.way.now.path.items (c.args.place ∷ []) ∙ and_true c.requires.path (and_true c.requires.place refl)) in
     let resource = g.W.World.resource c.args.world.now in
     let scope : c.keywords.way.scope ≡ map resource c.keywords.way.path.items =
-    c.keywords.invariant.scope ∙ (ap (λ (s : List ℕ). s ++ resource (g.W.World.number c.args.schema) ∷ []) c.requires.scope ∙ (sym (map-append resource c.args.way.now.path.items ((g.W.World.number c.args.schema) ∷ [])) ∙ ap (map resource) (sym c.keywords.invariant.path))) in
+    c.keywords.invariant.scope ∙ (ap (λ (s : List ℕ). s ++ resource c.args.place ∷ []) c.requires.scope ∙ (sym (map-append resource c.args.way.now.path.items (c.args.place ∷ [])) ∙ ap (map resource) (sym c.keywords.invariant.path))) in
     let so = c.keywords.invariant.loop.so in
     let l = ap length so.of_names ∙ length-append (map g.W.World.text_of c.args.way.now.names.items) _ in
     let e1 = length-map c.keywords.way.names.items g.W.World.text_of in
@@ -152,7 +152,7 @@ node-keyword_node-requires g t c κs within =
     let k = g.W.World.keyword_of c.in-Some.keyword in
     let x : g.W.World.listed c.keywords.judging.keywords ≡ k ∷ g.W.World.listed c.next_keyword.new.judging.keywords = c.in-Some.ensures.next in
     let loop = rw (x, sym c.next_keyword.ensures.known) at c.keywords.invariant.loop in
-    let there = is_keyword_at (g.W.World.schemas c.args.world.now) (site (g.W.World.number c.args.schema)) c.keywords-keywords.ensures.ascending loop.done (g.W.World.listed c.next_keyword.new.judging.keywords) k loop.so.split in
+    let there = is_keyword_at (g.W.World.schemas c.args.world.now) (site c.args.place) c.keywords-keywords.ensures.ascending loop.done (g.W.World.listed c.next_keyword.new.judging.keywords) k loop.so.split in
     search (rules, places, scope, names, indexes, there)
 
 pub node-returns-in_err-judged : goal.node-returns-in_err-judged
@@ -160,13 +160,13 @@ node-returns-in_err-judged g t c =
     let S = g.W.World.schemas c.args.world.now in
     let site = g.W.World.site c.args.world.now in
     let path = map site c.args.way.now.path.items in
-    let place = site (g.W.World.number c.args.schema) in
+    let place = site c.args.place in
     let v = g.W.World.value_of c.args.value in
     let k = g.W.World.keyword_of c.in-Some.keyword in
     let rest = g.W.World.listed c.next_keyword.new.judging.keywords in
     let x : g.W.World.listed c.keywords.judging.keywords ≡ k ∷ rest = c.in-Some.ensures.next in
     let loop = rw (x, sym c.next_keyword.ensures.known) at c.keywords.invariant.loop in
-    let same : map site c.keywords.way.path.items ≡ path ++ place ∷ [] = ap (map site) c.keywords.invariant.path ∙ map-append site c.args.way.now.path.items ((g.W.World.number c.args.schema) ∷ []) in
+    let same : map site c.keywords.way.path.items ≡ path ++ place ∷ [] = ap (map site) c.keywords.invariant.path ∙ map-append site c.args.way.now.path.items (c.args.place ∷ []) in
     let apps = asked_by S (c.args.depth - 1) (map site c.keywords.way.path.items) place v k c.next_keyword.new.judging.known.condition (map g.W.World.text_of (drop c.mark-start.result.names c.keywords.way.names.items)) (drop c.mark-start.result.indexes c.keywords.way.indexes.items) in
     let p = err_from_is_err_and c.from_residual-in_err-judged.result c.from_residual-in_err-judged.ensures.1 in
     rw (p.1, p.2) (on_too_large (KeywordHasNone S (c.args.depth - 1) (map site c.keywords.way.path.items) place v k apps c.keywords.way.left) (HasNone S c.args.depth path place v c.args.way.now.left) c.in_err-judged.field-0.0
@@ -179,13 +179,13 @@ node-keywords-preserved g t c =
     let S = g.W.World.schemas c.args.world.now in
     let site = g.W.World.site c.args.world.now in
     let path = map site c.args.way.now.path.items in
-    let place = site (g.W.World.number c.args.schema) in
+    let place = site c.args.place in
     let v = g.W.World.value_of c.args.value in
     let k = g.W.World.keyword_of c.in-Some.keyword in
     let rest = g.W.World.listed c.next_keyword.new.judging.keywords in
     let x : g.W.World.listed c.keywords.judging.keywords ≡ k ∷ rest = c.in-Some.ensures.next in
     let loop = rw (x, sym c.next_keyword.ensures.known) at c.keywords.invariant.loop in
-    let same : map site c.keywords.way.path.items ≡ path ++ place ∷ [] = ap (map site) c.keywords.invariant.path ∙ map-append site c.args.way.now.path.items ((g.W.World.number c.args.schema) ∷ []) in
+    let same : map site c.keywords.way.path.items ≡ path ++ place ∷ [] = ap (map site) c.keywords.invariant.path ∙ map-append site c.args.way.now.path.items (c.args.place ∷ []) in
     let done = c.in_ok-judged.ensures in
     record {
       loop = loop_as S g.W.World.text_of g.R.Reporter.takes (c.args.depth - 1) path place v k rest c.next_keyword.new.judging.known.valid c.in_ok-judged.judged.passes c.with_keyword-judging.result.valid c.next_keyword.new.judging.known.condition c.with_keyword-judging.result.condition c.next_keyword.new.judging.known.matching c.with_keyword-judging.result.matching
@@ -205,10 +205,10 @@ node-returns g t c =
     let S = g.W.World.schemas c.args.world.now in
     let site = g.W.World.site c.args.world.now in
     let path = map site c.args.way.now.path.items in
-    let place = site (g.W.World.number c.args.schema) in
+    let place = site c.args.place in
     let v = g.W.World.value_of c.args.value in
     let x : g.W.World.listed c.keywords.judging.keywords ≡ [] = c.in_default.ensures.next in
     let loop = rw (x, sym c.next_keyword.ensures.known) at c.keywords.invariant.loop in
     subst (λ d. NodeDone S g.W.World.text_of g.R.Reporter.takes d path place v c.next_keyword.new.judging.known.valid c.args.way.now c.close_schema.new.way c.args.into.now c.close_schema.new.into) (one_less c.args.depth c.if-depth-eq0.false)
-    (node_end S g.W.World.text_of g.R.Reporter.takes (c.args.depth - 1) path place v c.next_keyword.new.judging.known.valid c.next_keyword.new.judging.known.condition c.next_keyword.new.judging.known.matching c.args.way.now c.keywords.way c.close_schema.new.way c.mark-start.result c.args.way.now.path.items (g.W.World.number c.args.schema) (g.W.World.resource c.args.world.now (g.W.World.number c.args.schema))
+    (node_end S g.W.World.text_of g.R.Reporter.takes (c.args.depth - 1) path place v c.next_keyword.new.judging.known.valid c.next_keyword.new.judging.known.condition c.next_keyword.new.judging.known.matching c.args.way.now c.keywords.way c.close_schema.new.way c.mark-start.result c.args.way.now.path.items c.args.place (g.W.World.resource c.args.world.now c.args.place)
     c.args.into.now c.keywords.into c.close_schema.new.into c.mark-start.ensures c.keywords.invariant.path c.keywords.invariant.scope c.keywords.invariant.keyword c.keywords.invariant.instance c.keywords.invariant.falls loop c.in_ok-close_schema.ensures)

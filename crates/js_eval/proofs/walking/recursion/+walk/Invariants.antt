@@ -30,10 +30,10 @@ decreases-applications-each g l = length (g.W.World.asked l.world l.asking)
 abbrev pub invariant-node-keywords : goal.invariant-node-keywords
 invariant-node-keywords g l =
     record {
-      loop : KeywordsLoop (g.W.World.schemas l.world) (l.depth - 1) (map (g.W.World.site l.world) l.fn.way.path.items) (g.W.World.site l.world (g.W.World.number l.schema)) (g.W.World.value_of l.value) g.R.Reporter.takes (g.W.World.listed l.judging.keywords) l.judging.known.valid l.judging.known.condition l.judging.known.matching
+      loop : KeywordsLoop (g.W.World.schemas l.world) (l.depth - 1) (map (g.W.World.site l.world) l.fn.way.path.items) (g.W.World.site l.world l.place) (g.W.World.value_of l.value) g.R.Reporter.takes (g.W.World.listed l.judging.keywords) l.judging.known.valid l.judging.known.condition l.judging.known.matching
           (map g.W.World.text_of l.fn.way.names.items) (map g.W.World.text_of l.way.names.items) l.fn.way.indexes.items l.way.indexes.items l.fn.way.left l.way.left l.fn.way.keyword l.fn.way.instance l.fn.into l.into;
-      path : l.way.path.items ≡ l.fn.way.path.items ++ (g.W.World.number l.schema) ∷ [];
-      scope : l.way.scope ≡ l.fn.way.scope ++ g.W.World.resource l.world (g.W.World.number l.schema) ∷ [];
+      path : l.way.path.items ≡ l.fn.way.path.items ++ l.place ∷ [];
+      scope : l.way.scope ≡ l.fn.way.scope ++ g.W.World.resource l.world l.place ∷ [];
       keyword : l.way.keyword ≡ l.fn.way.keyword;
       instance : l.way.instance ≡ l.fn.way.instance;
       falls : l.way.left < l.fn.way.left;
