@@ -6,8 +6,7 @@ from json_text import pointer_text, text
 
 URI = cases.U
 WORDS = {"$anchor": "Anchor", "$defs": "Defs", "$dynamicAnchor": "DynamicAnchor", "$dynamicRef": "DynamicRef", "$id": "Id", "$ref": "Ref",
-         "allOf": "AllOf", "oneOf": "OneOf", "not": "Not", "properties": "Properties", "patternProperties": "PatternProperties",
-         "title": "Other"}
+         "allOf": "AllOf", "oneOf": "OneOf", "not": "Not", "properties": "Properties", "patternProperties": "PatternProperties"}
 JUDGED = (("minimum", 7), ("const", 7), ("maxLength", "abc"), ("title", 7))
 
 
@@ -35,7 +34,7 @@ def of_place(bundle, place, number):
     yield "location", place.absolute()
     yield "keyword\ta b/c", place.absolute("a b/c")
     yield "standing", f"of {place.base.text()}, document {place.document} at {pointer_text(place.pointer)}: {text(place.schema)}"
-    yield "keywords", "[" + ", ".join("Assertion" if it in FORMS else WORDS[it] for it in schema) + "]"
+    yield "keywords", "[" + ", ".join(word(it) for it in schema) + "]"
     yield "resource number", number
     yield "target", place.target.absolute() if place.target else "dynamic" if place.dynamic else "none"
     if place.dynamic:
@@ -49,6 +48,12 @@ def of_place(bundle, place, number):
         yield f"assertion\t{keyword}\t{text(value)}", said(keyword, schema, value)
     for name in (*schema.get("patternProperties", ()), "^none$"):
         yield f"pattern\t{name}\tp0", matched(name, schema)
+
+
+def word(keyword):
+    if keyword in WORDS:
+        return WORDS[keyword]
+    return ("Assertion" if keyword in FORMS else "Other") + ("BehindIf" if keyword > "if" else "UpToIf")
 
 
 def step_asked(keyword, step):

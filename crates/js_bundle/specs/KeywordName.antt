@@ -1,8 +1,10 @@
 -- Which keyword of the standard a name is (JSON Schema Core, sections 8, 10 and 11; Validation, section 6).
-use Rattle.std.specs.Prelude.{List, [], ◌∷◌, Option, Some, None, is_some, codes, bytes_eq, map, if◌then◌else◌}
+use Rattle.std.specs.Prelude.{List, [], ◌∷◌, Bool, Option, Some, None, is_some, codes, bytes_eq, map, if◌then◌else◌}
+use Rattle.std.specs.Ordering.{is_gt}
+use Rattle.js_doc.specs.Members.{name_cmp}
 use Rattle.js_assert.specs.Keyword.{keyword_named}
 use Rattle.js_bundle.specs.declared.keyword_name.KeywordName.{KeywordName}
-use Rattle.js_bundle.specs.declared.keyword_name.KeywordName.TheVariants.{Ref, DynamicRef, AllOf, AnyOf, OneOf, Not, If, Then, Else, DependentSchemas, PrefixItems, Items, Contains, Properties, PatternProperties, AdditionalProperties, PropertyNames, UnevaluatedItems, UnevaluatedProperties, Assertion, Schema, Id, Anchor, DynamicAnchor, Vocabulary, Comment, Defs, Definitions, Other}
+use Rattle.js_bundle.specs.declared.keyword_name.KeywordName.TheVariants.{Ref, DynamicRef, AllOf, AnyOf, OneOf, Not, If, Then, Else, DependentSchemas, PrefixItems, Items, Contains, Properties, PatternProperties, AdditionalProperties, PropertyNames, UnevaluatedItems, UnevaluatedProperties, AssertionUpToIf, AssertionBehindIf, Schema, Id, Anchor, DynamicAnchor, Vocabulary, Comment, Defs, Definitions, OtherUpToIf, OtherBehindIf}
 use Rattle.js_bundle.specs.Keyword.{Text, keywords}
 use Rattle.js_bundle.specs.Resource.{Site}
 
@@ -37,8 +39,22 @@ abbrev pub name_in : TableOfNames → KeywordName → Text → KeywordName
 name_in [] other name = other
 name_in (row ∷ rows) other name = if bytes_eq name row.0 then row.1 else name_in rows other name
 
+-- where names ascend, it stands behind `if`
+abbrev pub stands_behind_if : Text → Bool
+stands_behind_if name = is_gt (name_cmp name (codes "if"))
+
+-- by the side of `if` on which a name stands
+abbrev pub by_side : KeywordName → KeywordName → Text → KeywordName
+by_side up_to behind name = if stands_behind_if name then behind else up_to
+
+-- what a name is that applies no schemas
+abbrev pub not_applying : Text → KeywordName
+not_applying name =
+    if is_some (keyword_named name) then by_side AssertionUpToIf AssertionBehindIf name
+    else name_in identifying (by_side OtherUpToIf OtherBehindIf name) name
+
 unfoldable pub keyword_name : Text → KeywordName
-keyword_name name = name_in applying (if is_some (keyword_named name) then Assertion else name_in identifying Other name) name
+keyword_name name = name_in applying (not_applying name) name
 
 -- of each of a place's keywords, by name ascending
 abbrev pub keyword_names : Site → List KeywordName

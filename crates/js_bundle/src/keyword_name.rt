@@ -1,8 +1,7 @@
 //! Which keyword of the standard a name is.
-ghost use Rattle.std.specs.Prelude.{◌≡◌, is_some, if◌then◌else◌};
-ghost use Rattle.js_assert.specs.Keyword.{keyword_named};
-ghost use Rattle.js_bundle.specs.KeywordName.{applying, found_in, identifying, keyword_name, name_in};
-ghost use Rattle.js_bundle.specs.declared.keyword_name.KeywordName.TheVariants.{Assertion, Other};
+ghost use Rattle.std.specs.Prelude.{◌≡◌};
+ghost use Rattle.js_bundle.specs.KeywordName.{applying, by_side, found_in, identifying, keyword_name, name_in, not_applying};
+ghost use Rattle.js_bundle.specs.declared.keyword_name.KeywordName.TheVariants.{OtherBehindIf, OtherUpToIf};
 
 use js_assert::is_assertion;
 
@@ -47,8 +46,10 @@ pub enum KeywordName {
     UnevaluatedItems,
     /// `unevaluatedProperties`
     UnevaluatedProperties,
-    /// One that judges a value by itself: those of the Validation part, section 6.
-    Assertion,
+    /// One that judges a value by itself (Validation, section 6), whose name stands before `if`
+    AssertionUpToIf,
+    /// One that judges a value by itself, whose name stands behind `if`
+    AssertionBehindIf,
     /// `$schema`
     Schema,
     /// `$id`
@@ -65,8 +66,10 @@ pub enum KeywordName {
     Defs,
     /// `definitions`, which is taken as `$defs`
     Definitions,
-    /// Each other name, known or not.
-    Other,
+    /// Each other name, known or not, that stands before `if`
+    OtherUpToIf,
+    /// Each other name, known or not, that stands behind `if`
+    OtherBehindIf,
 }
 
 impl KeywordName {
@@ -111,17 +114,21 @@ fn applying(name: &str) -> Option<KeywordName>
 
 // Of a name that is none of theirs.
 fn not_applying(name: &str) -> KeywordName
-    ensures { result ≡ (if is_some (keyword_named name.now) then Assertion else name_in identifying Other name.now) }
+    ensures { result ≡ not_applying name.now }
 {
     if is_assertion(name) {
-        KeywordName::Assertion
+        by_side(
+            name,
+            KeywordName::AssertionUpToIf,
+            KeywordName::AssertionBehindIf,
+        )
     } else {
         identifying(name)
     }
 }
 
 fn identifying(name: &str) -> KeywordName
-    ensures { result ≡ name_in identifying Other name.now }
+    ensures { result ≡ name_in identifying (by_side OtherUpToIf OtherBehindIf name.now) name.now }
 {
     match name {
         "$schema" => KeywordName::Schema,
@@ -132,6 +139,13 @@ fn identifying(name: &str) -> KeywordName
         "$comment" => KeywordName::Comment,
         "$defs" => KeywordName::Defs,
         "definitions" => KeywordName::Definitions,
-        _ => KeywordName::Other,
+        _ => by_side(name, KeywordName::OtherUpToIf, KeywordName::OtherBehindIf),
     }
+}
+
+// By the side of `if` on which the name stands.
+fn by_side(name: &str, up_to: KeywordName, behind: KeywordName) -> KeywordName
+    ensures { result ≡ by_side up_to behind name.now }
+{
+    if name > "if" { behind } else { up_to }
 }

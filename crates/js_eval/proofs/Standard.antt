@@ -1,23 +1,26 @@
--- Which keyword of the standard a name is tells what the keyword does, and whether it has a node.
-use Rattle.std.specs.Prelude.{◌≡◌, ℕ, Bool, true, false, not, ◌||◌, cond, List, [], ◌∷◌, Some, is_some, option_map, refl}
+-- Which keyword of the standard a name is tells what the keyword does, and when it has its turn.
+use Rattle.std.specs.Prelude.{◌≡◌, ℕ, Bool, true, false, not, ◌||◌, cond, List, [], ◌∷◌, Some, is_some, option_map, codes, refl}
 use Rattle.std.specs.List.{AllByRecursion, list_any}
 use Rattle.std.specs.Str.{bytes_eq}
-use Rattle.std.proofs.Common.{sym, ◌∙◌, ap}
+use Rattle.std.proofs.Common.{sym, ◌∙◌, ap, subst}
 use Rattle.std.proofs.lemmas.Slice.Eq.{bytes_eq-Decides}
 use Rattle.js_assert.specs.Keyword.{keyword_named}
 use Rattle.js_assert.specs.Argument.{entries}
 use Rattle.js_bundle.specs.Document.{Documents}
-use Rattle.js_bundle.specs.KeywordName.{TableOfNames, applying, identifying, name_in, keyword_name, keyword_names}
+use Rattle.js_bundle.specs.KeywordName.{TableOfNames, applying, identifying, name_in, stands_behind_if, by_side, not_applying, keyword_name, keyword_names}
 use Rattle.js_bundle.specs.Schemas.{is_place, place_at}
 use Rattle.js_eval.specs.Sited.{numbered_site}
 use Rattle.js_eval.proofs.AssertionThere.{place_is, same_members}
 use Rattle.js_bundle.specs.declared.keyword_name.KeywordName.{KeywordName}
-use Rattle.js_bundle.specs.declared.keyword_name.KeywordName.TheVariants.{Other, Assertion as AssertionName}
-use Rattle.js_eval.specs.Keywords.{has_node, without_node}
+use Rattle.js_bundle.specs.declared.keyword_name.KeywordName.TheVariants.{AssertionUpToIf, AssertionBehindIf, OtherUpToIf, OtherBehindIf}
+use Rattle.js_eval.specs.Keywords.{has_node, is_else, is_after_if, without_node}
 use Rattle.js_eval.specs.Kind.{Applicator, kind, kind_in}
-use Rattle.js_eval.specs.code.Standard.{kind_by, has_node_by, keyword_names_of}
+use Rattle.js_eval.specs.code.Standard.{kind_by, turn_by_name, keyword_names_of}
+use Rattle.js_eval.specs.code.Turns.{turn_by, turn_of}
 use Rattle.js_eval.specs.declared.kind.Kind.{Kind}
 use Rattle.js_eval.specs.declared.kind.Kind.TheVariants.{Assertion, Annotation}
+use Rattle.js_eval.specs.declared.turn.Turn.{Turn}
+use Rattle.js_eval.specs.declared.turn.Turn.TheVariants.{Never}
 
 -- ---- what it does
 
@@ -34,37 +37,47 @@ kind_by_rows : (rows : TableOfNames) (otherwise : KeywordName) (name : List ℕ)
 kind_by_rows [] otherwise name e = e
 kind_by_rows (row ∷ rows) otherwise name e = row_by (bytes_eq name row.0) row.1 (name_in rows otherwise name) (kind_in (rows_of rows) name) (kind_by_rows rows otherwise name e)
 
-none_does : (rows : TableOfNames) (name : List ℕ) → AllByRecursion (λ row. kind_by row.1 ≡ Annotation) rows → kind_by (name_in rows Other name) ≡ Annotation
-none_does [] name h = refl
-none_does (row ∷ rows) name h = at (bytes_eq name row.0) (none_does rows name h.1)
+side_does : (b : Bool) (up_to behind : KeywordName) (κ : Kind) → kind_by up_to ≡ κ → kind_by behind ≡ κ → kind_by (cond b behind up_to) ≡ κ
+side_does true up_to behind κ u v = v
+side_does false up_to behind κ u v = u
+
+none_does : (rows : TableOfNames) (otherwise : KeywordName) (name : List ℕ) → AllByRecursion (λ row. kind_by row.1 ≡ Annotation) rows → kind_by otherwise ≡ Annotation
+    → kind_by (name_in rows otherwise name) ≡ Annotation
+none_does [] otherwise name h e = e
+none_does (row ∷ rows) otherwise name h e = at (bytes_eq name row.0) (none_does rows otherwise name h.1 e)
   where
-    at : (b : Bool) → kind_by (name_in rows Other name) ≡ Annotation → kind_by (cond b row.1 (name_in rows Other name)) ≡ Annotation
+    at : (b : Bool) → kind_by (name_in rows otherwise name) ≡ Annotation → kind_by (cond b row.1 (name_in rows otherwise name)) ≡ Annotation
     at true r = h.0
     at false r = r
 
-other_kind : (b : Bool) (n : KeywordName) → kind_by n ≡ Annotation → cond b Assertion Annotation ≡ kind_by (cond b AssertionName n)
-other_kind true n h = refl
-other_kind false n h = sym h
+other_kind : (b : Bool) (n m : KeywordName) → kind_by n ≡ Assertion → kind_by m ≡ Annotation → cond b Assertion Annotation ≡ kind_by (cond b n m)
+other_kind true n m g h = sym g
+other_kind false n m g h = sym h
 
 pub kind_is : (name : List ℕ) → kind_by (keyword_name name) ≡ kind name
 unfolding kind keyword_name
 kind_is name =
-    sym (kind_by_rows applying (cond (is_some (keyword_named name)) AssertionName (name_in identifying Other name)) name
-    (other_kind (is_some (keyword_named name)) (name_in identifying Other name) (none_does identifying name (refl, (refl, (refl, (refl, (refl, (refl, (refl, (refl, tt)))))))))))
+    let behind = stands_behind_if name in
+    sym (kind_by_rows applying (not_applying name) name
+    (other_kind (is_some (keyword_named name)) (by_side AssertionUpToIf AssertionBehindIf name) (name_in identifying (by_side OtherUpToIf OtherBehindIf name) name)
+    (side_does behind AssertionUpToIf AssertionBehindIf Assertion refl refl)
+    (none_does identifying (by_side OtherUpToIf OtherBehindIf name) name (refl, (refl, (refl, (refl, (refl, (refl, (refl, (refl, tt))))))))
+    (side_does behind OtherUpToIf OtherBehindIf Annotation refl refl))))
 
--- ---- whether it has a node
+-- ---- when it has its turn
 
 abbrev names_of_rows : TableOfNames → List (List ℕ)
 names_of_rows [] = []
 names_of_rows (row ∷ rows) = row.0 ∷ names_of_rows rows
 
-node_in : (rows : TableOfNames) (name : List ℕ) → AllByRecursion (λ row. has_node_by row.1 ≡ false) rows
-    → not (list_any (bytes_eq name) (names_of_rows rows)) ≡ has_node_by (name_in rows Other name)
-node_in [] name h = refl
-node_in (row ∷ rows) name h = at (bytes_eq name row.0) (node_in rows name h.1)
+-- the names in these rows have none
+none_in : (rows : TableOfNames) (otherwise : KeywordName) (name : List ℕ) (after is_it : Bool) → AllByRecursion (λ row. turn_by_name row.1 ≡ Never) rows
+    → turn_by true after is_it ≡ turn_by_name otherwise → turn_by (not (list_any (bytes_eq name) (names_of_rows rows))) after is_it ≡ turn_by_name (name_in rows otherwise name)
+none_in [] otherwise name after is_it h e = e
+none_in (row ∷ rows) otherwise name after is_it h e = at (bytes_eq name row.0) (none_in rows otherwise name after is_it h.1 e)
   where
-    at : (b : Bool) → not (list_any (bytes_eq name) (names_of_rows rows)) ≡ has_node_by (name_in rows Other name)
-        → not (b || list_any (bytes_eq name) (names_of_rows rows)) ≡ has_node_by (cond b row.1 (name_in rows Other name))
+    at : (b : Bool) → turn_by (not (list_any (bytes_eq name) (names_of_rows rows))) after is_it ≡ turn_by_name (name_in rows otherwise name)
+        → turn_by (not (b || list_any (bytes_eq name) (names_of_rows rows))) after is_it ≡ turn_by_name (cond b row.1 (name_in rows otherwise name))
     at true r = sym h.0
     at false r = r
 
@@ -82,33 +95,54 @@ all_unnamed : AllByRecursion (λ n. is_some (keyword_named n) ≡ false) without
 unfolding keyword_named
 all_unnamed = (refl, (refl, (refl, (refl, (refl, (refl, (refl, (refl, tt))))))))
 
-other_node : (b : Bool) (name : List ℕ) → is_some (keyword_named name) ≡ b → has_node name ≡ has_node_by (cond b AssertionName (name_in identifying Other name))
-other_node true name e = ap not (none_named without_node name all_unnamed e)
-other_node false name e = node_in identifying name (refl, (refl, (refl, (refl, (refl, (refl, (refl, (refl, tt))))))))
+assertion_side : (b : Bool) → turn_by true b false ≡ turn_by_name (cond b AssertionBehindIf AssertionUpToIf)
+assertion_side true = refl
+assertion_side false = refl
 
-node_by_rows : (rows : TableOfNames) (otherwise : KeywordName) (name : List ℕ) → AllByRecursion (λ row. has_node row.0 ≡ has_node_by row.1) rows → has_node name ≡ has_node_by otherwise
-    → has_node name ≡ has_node_by (name_in rows otherwise name)
-node_by_rows [] otherwise name h e = e
-node_by_rows (row ∷ rows) otherwise name h e = at (bytes_eq name row.0) refl (node_by_rows rows otherwise name h.1 e)
+other_side : (b : Bool) → turn_by true b false ≡ turn_by_name (cond b OtherBehindIf OtherUpToIf)
+other_side true = refl
+other_side false = refl
+
+-- of a name that applies no schemas
+other_turn : (b : Bool) (name : List ℕ) → is_some (keyword_named name) ≡ b
+    → turn_by (has_node name) (is_after_if name) false
+    ≡ turn_by_name (cond b (by_side AssertionUpToIf AssertionBehindIf name) (name_in identifying (by_side OtherUpToIf OtherBehindIf name) name))
+other_turn true name e = ap (λ n. turn_by (not n) (is_after_if name) false) (none_named without_node name all_unnamed e) ∙ assertion_side (is_after_if name)
+other_turn false name e =
+    none_in identifying (by_side OtherUpToIf OtherBehindIf name) name (is_after_if name) false (refl, (refl, (refl, (refl, (refl, (refl, (refl, (refl, tt))))))))
+    (other_side (is_after_if name))
+
+turn_by_rows : (rows : TableOfNames) (otherwise : KeywordName) (name : List ℕ) → AllByRecursion (λ row. turn_of row.0 ≡ turn_by_name row.1) rows → turn_of name ≡ turn_by_name otherwise
+    → turn_of name ≡ turn_by_name (name_in rows otherwise name)
+turn_by_rows [] otherwise name h e = e
+turn_by_rows (row ∷ rows) otherwise name h e = at (bytes_eq name row.0) refl (turn_by_rows rows otherwise name h.1 e)
   where
-    at : (b : Bool) → bytes_eq name row.0 ≡ b → has_node name ≡ has_node_by (name_in rows otherwise name) → has_node name ≡ has_node_by (cond b row.1 (name_in rows otherwise name))
-    at true q r = ap has_node ((bytes_eq-Decides name row.0).0 q) ∙ h.0
+    at : (b : Bool) → bytes_eq name row.0 ≡ b → turn_of name ≡ turn_by_name (name_in rows otherwise name) → turn_of name ≡ turn_by_name (cond b row.1 (name_in rows otherwise name))
+    at true q r = ap turn_of ((bytes_eq-Decides name row.0).0 q) ∙ h.0
     at false q r = r
 
-pub node_is : (name : List ℕ) → has_node_by (keyword_name name) ≡ has_node name
-unfolding keyword_name
-node_is name =
-    sym (node_by_rows applying (cond (is_some (keyword_named name)) AssertionName (name_in identifying Other name)) name
+else_turn : turn_of (codes "else") ≡ turn_by_name (keyword_name (codes "else"))
+unfolding turn_of keyword_name
+else_turn = refl
+
+turn_at : (b : Bool) (name : List ℕ) → is_else name ≡ b → turn_of name ≡ turn_by_name (keyword_name name)
+unfolding turn_of keyword_name
+turn_at true name e = subst (λ n. turn_of n ≡ turn_by_name (keyword_name n)) (sym ((bytes_eq-Decides name (codes "else")).0 e)) else_turn
+turn_at false name e =
+    turn_by_rows applying (not_applying name) name
     (refl, (refl, (refl, (refl, (refl, (refl, (refl, (refl, (refl, (refl, (refl, (refl, (refl, (refl, (refl, (refl, (refl, (refl, (refl, tt)))))))))))))))))))
-    (other_node (is_some (keyword_named name)) name refl))
+    (ap (turn_by (has_node name) (is_after_if name)) e ∙ other_turn (is_some (keyword_named name)) name refl)
+
+pub turn_is : (name : List ℕ) → turn_of name ≡ turn_by_name (keyword_name name)
+turn_is name = turn_at (is_else name) name refl
 
 -- ---- as the code asks
 
 pub kind_if_named : (which : KeywordName) (name : List ℕ) (κ : Kind) → which ≡ keyword_name name → κ ≡ kind_by which → κ ≡ kind name
 kind_if_named which name κ e h = h ∙ (ap kind_by e ∙ kind_is name)
 
-pub node_if_named : (which : KeywordName) (name : List ℕ) (b : Bool) → which ≡ keyword_name name → b ≡ has_node_by which → b ≡ has_node name
-node_if_named which name b e h = h ∙ (ap has_node_by e ∙ node_is name)
+pub turn_if_named : (which : KeywordName) (name : List ℕ) (t : Turn) → which ≡ keyword_name name → t ≡ turn_by_name which → t ≡ turn_of name
+turn_if_named which name t e h = h ∙ (ap turn_by_name e ∙ sym (turn_is name))
 
 -- ---- of a place's keywords
 

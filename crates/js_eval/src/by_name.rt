@@ -1,9 +1,8 @@
-//! What a keyword does and whether it has a node, by which keyword of the standard it is.
+//! What a keyword does, by which keyword of the standard it is.
 ghost use Rattle.std.specs.Prelude.{◌≡◌};
 ghost use Rattle.js_bundle.specs.KeywordName.{keyword_name};
-ghost use Rattle.js_eval.specs.Keywords as table;
 ghost use Rattle.js_eval.specs.Kind.{kind};
-ghost use Rattle.js_eval.specs.code.Standard.{has_node_by, kind_by};
+ghost use Rattle.js_eval.specs.code.Standard.{kind_by};
 
 use crate::kind::Kind;
 use js_bundle::KeywordName;
@@ -22,15 +21,6 @@ pub(crate) fn kind_of_named(which: KeywordName, _name: &str) -> Kind
     ensures { result ≡ kind _name.now }
 {
     kind_by(which)
-}
-
-/// Whether the keyword of this name has a node.
-#[tactic(auto, using(crate::proofs::Standard::node_if_named))]
-pub(crate) fn has_node(which: KeywordName, _name: &str) -> bool
-    requires { which ≡ keyword_name _name.now }
-    ensures { result ≡ table.has_node _name.now }
-{
-    has_node_by(which)
 }
 
 fn kind_by(which: KeywordName) -> Kind
@@ -56,7 +46,8 @@ fn kind_by(which: KeywordName) -> Kind
         KeywordName::PropertyNames => Kind::PropertyNames,
         KeywordName::UnevaluatedItems => Kind::UnevaluatedItems,
         KeywordName::UnevaluatedProperties => Kind::UnevaluatedProperties,
-        KeywordName::Assertion => Kind::Assertion,
+        KeywordName::AssertionUpToIf => Kind::Assertion,
+        KeywordName::AssertionBehindIf => Kind::Assertion,
         KeywordName::Schema => Kind::Annotation,
         KeywordName::Id => Kind::Annotation,
         KeywordName::Anchor => Kind::Annotation,
@@ -65,22 +56,7 @@ fn kind_by(which: KeywordName) -> Kind
         KeywordName::Comment => Kind::Annotation,
         KeywordName::Defs => Kind::Annotation,
         KeywordName::Definitions => Kind::Annotation,
-        KeywordName::Other => Kind::Annotation,
-    }
-}
-
-fn has_node_by(which: KeywordName) -> bool
-    ensures { result ≡ has_node_by which }
-{
-    match which {
-        KeywordName::Schema => false,
-        KeywordName::Id => false,
-        KeywordName::Anchor => false,
-        KeywordName::DynamicAnchor => false,
-        KeywordName::Vocabulary => false,
-        KeywordName::Comment => false,
-        KeywordName::Defs => false,
-        KeywordName::Definitions => false,
-        _ => true,
+        KeywordName::OtherUpToIf => Kind::Annotation,
+        KeywordName::OtherBehindIf => Kind::Annotation,
     }
 }

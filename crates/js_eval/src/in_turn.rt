@@ -64,6 +64,6 @@ fn first_name(names: &[KeywordName]) -> (KeywordName, &[KeywordName])
 {
     match names.split_first() {
         Some((first, others)) => (*first, others),
-        None => (KeywordName::Other, names), // never: each member has one
+        None => (KeywordName::OtherUpToIf, names), // never: each member has one
     }
 }

@@ -1,9 +1,9 @@
 //! When a keyword has its turn among the nodes of its schema.
 ghost use Rattle.std.specs.Prelude.{◌≡◌};
 ghost use Rattle.js_bundle.specs.KeywordName.{keyword_name};
+ghost use Rattle.js_eval.specs.code.Standard.{turn_by_name};
 ghost use Rattle.js_eval.specs.code.Turns.{is_ever, turn_of};
 
-use crate::by_name::has_node;
 use js_bundle::KeywordName;
 
 /// When a keyword has its turn among the nodes of its schema.
@@ -20,21 +20,50 @@ pub(crate) enum Turn {
 }
 
 /// When a keyword of this name has its turn.
-#[tactic(auto, unfolding(crate::specs::code::Turns::turn_of))]
-pub(crate) fn turn_of(which: KeywordName, name: &str) -> Turn
-    requires { which ≡ keyword_name name.now }
-    ensures { result ≡ turn_of name.now }
+#[tactic(auto, using(crate::proofs::Standard::turn_if_named))]
+pub(crate) fn turn_of(which: KeywordName, _name: &str) -> Turn
+    requires { which ≡ keyword_name _name.now }
+    ensures { result ≡ turn_of _name.now }
 {
-    if !has_node(which, name) {
-        return Turn::Never;
+    turn_by_name(which)
+}
+
+fn turn_by_name(which: KeywordName) -> Turn
+    ensures { result ≡ turn_by_name which }
+{
+    match which {
+        KeywordName::Ref => Turn::First,
+        KeywordName::DynamicRef => Turn::First,
+        KeywordName::AllOf => Turn::First,
+        KeywordName::AnyOf => Turn::First,
+        KeywordName::OneOf => Turn::Last,
+        KeywordName::Not => Turn::Last,
+        KeywordName::If => Turn::First,
+        KeywordName::Then => Turn::Last,
+        KeywordName::Else => Turn::Second,
+        KeywordName::DependentSchemas => Turn::First,
+        KeywordName::PrefixItems => Turn::Last,
+        KeywordName::Items => Turn::Last,
+        KeywordName::Contains => Turn::First,
+        KeywordName::Properties => Turn::Last,
+        KeywordName::PatternProperties => Turn::Last,
+        KeywordName::AdditionalProperties => Turn::First,
+        KeywordName::PropertyNames => Turn::Last,
+        KeywordName::UnevaluatedItems => Turn::Last,
+        KeywordName::UnevaluatedProperties => Turn::Last,
+        KeywordName::AssertionUpToIf => Turn::First,
+        KeywordName::AssertionBehindIf => Turn::Last,
+        KeywordName::Schema => Turn::Never,
+        KeywordName::Id => Turn::Never,
+        KeywordName::Anchor => Turn::Never,
+        KeywordName::DynamicAnchor => Turn::Never,
+        KeywordName::Vocabulary => Turn::Never,
+        KeywordName::Comment => Turn::Never,
+        KeywordName::Defs => Turn::Never,
+        KeywordName::Definitions => Turn::Never,
+        KeywordName::OtherUpToIf => Turn::First,
+        KeywordName::OtherBehindIf => Turn::Last,
     }
-    if name > "if" {
-        return Turn::Last;
-    }
-    if name == "else" {
-        return Turn::Second;
-    }
-    Turn::First
 }
 
 /// Whether a keyword with this turn has a node.

@@ -1,11 +1,13 @@
--- What a keyword does and whether it has a node, by which keyword of the standard it is (of private functions).
-use Rattle.std.specs.Prelude.{List, Bool, true, false, map}
+-- What a keyword does and when it has its turn, by which keyword of the standard it is (of private functions).
+use Rattle.std.specs.Prelude.{List, map}
 use Rattle.js_doc.specs.Value.{Named}
 use Rattle.js_bundle.specs.KeywordName.{keyword_name}
 use Rattle.js_bundle.specs.declared.keyword_name.KeywordName.{KeywordName}
 use Rattle.js_bundle.specs.declared.keyword_name.KeywordName.TheVariants as name
 use Rattle.js_eval.specs.declared.kind.Kind.{Kind}
 use Rattle.js_eval.specs.declared.kind.Kind.TheVariants as kind
+use Rattle.js_eval.specs.declared.turn.Turn.{Turn}
+use Rattle.js_eval.specs.declared.turn.Turn.TheVariants as turn
 
 abbrev pub kind_by : KeywordName → Kind
 kind_by name.Ref = kind.Reference
@@ -27,7 +29,8 @@ kind_by name.AdditionalProperties = kind.AdditionalProperties
 kind_by name.PropertyNames = kind.PropertyNames
 kind_by name.UnevaluatedItems = kind.UnevaluatedItems
 kind_by name.UnevaluatedProperties = kind.UnevaluatedProperties
-kind_by name.Assertion = kind.Assertion
+kind_by name.AssertionUpToIf = kind.Assertion
+kind_by name.AssertionBehindIf = kind.Assertion
 kind_by name.Schema = kind.Annotation
 kind_by name.Id = kind.Annotation
 kind_by name.Anchor = kind.Annotation
@@ -36,38 +39,41 @@ kind_by name.Vocabulary = kind.Annotation
 kind_by name.Comment = kind.Annotation
 kind_by name.Defs = kind.Annotation
 kind_by name.Definitions = kind.Annotation
-kind_by name.Other = kind.Annotation
+kind_by name.OtherUpToIf = kind.Annotation
+kind_by name.OtherBehindIf = kind.Annotation
 
-abbrev pub has_node_by : KeywordName → Bool
-has_node_by name.Schema = false
-has_node_by name.Id = false
-has_node_by name.Anchor = false
-has_node_by name.DynamicAnchor = false
-has_node_by name.Vocabulary = false
-has_node_by name.Comment = false
-has_node_by name.Defs = false
-has_node_by name.Definitions = false
-has_node_by name.Ref = true
-has_node_by name.DynamicRef = true
-has_node_by name.AllOf = true
-has_node_by name.AnyOf = true
-has_node_by name.OneOf = true
-has_node_by name.Not = true
-has_node_by name.If = true
-has_node_by name.Then = true
-has_node_by name.Else = true
-has_node_by name.DependentSchemas = true
-has_node_by name.PrefixItems = true
-has_node_by name.Items = true
-has_node_by name.Contains = true
-has_node_by name.Properties = true
-has_node_by name.PatternProperties = true
-has_node_by name.AdditionalProperties = true
-has_node_by name.PropertyNames = true
-has_node_by name.UnevaluatedItems = true
-has_node_by name.UnevaluatedProperties = true
-has_node_by name.Assertion = true
-has_node_by name.Other = true
+abbrev pub turn_by_name : KeywordName → Turn
+turn_by_name name.Ref = turn.First
+turn_by_name name.DynamicRef = turn.First
+turn_by_name name.AllOf = turn.First
+turn_by_name name.AnyOf = turn.First
+turn_by_name name.OneOf = turn.Last
+turn_by_name name.Not = turn.Last
+turn_by_name name.If = turn.First
+turn_by_name name.Then = turn.Last
+turn_by_name name.Else = turn.Second
+turn_by_name name.DependentSchemas = turn.First
+turn_by_name name.PrefixItems = turn.Last
+turn_by_name name.Items = turn.Last
+turn_by_name name.Contains = turn.First
+turn_by_name name.Properties = turn.Last
+turn_by_name name.PatternProperties = turn.Last
+turn_by_name name.AdditionalProperties = turn.First
+turn_by_name name.PropertyNames = turn.Last
+turn_by_name name.UnevaluatedItems = turn.Last
+turn_by_name name.UnevaluatedProperties = turn.Last
+turn_by_name name.AssertionUpToIf = turn.First
+turn_by_name name.AssertionBehindIf = turn.Last
+turn_by_name name.Schema = turn.Never
+turn_by_name name.Id = turn.Never
+turn_by_name name.Anchor = turn.Never
+turn_by_name name.DynamicAnchor = turn.Never
+turn_by_name name.Vocabulary = turn.Never
+turn_by_name name.Comment = turn.Never
+turn_by_name name.Defs = turn.Never
+turn_by_name name.Definitions = turn.Never
+turn_by_name name.OtherUpToIf = turn.First
+turn_by_name name.OtherBehindIf = turn.Last
 
 -- of each of a schema's keywords, which keyword of the standard it is
 abbrev pub keyword_names_of : Named → List KeywordName

@@ -125,7 +125,7 @@ fn keywords_are_those_of_the_standard(rt: HostRuntime) -> Result<(), Fail> {
             (
                 "https://a.example/t",
                 Keywords,
-                "[Comment, DynamicAnchor, Contains, Assertion, Not, Other, UnevaluatedItems]",
+                "[Comment, DynamicAnchor, Contains, AssertionBehindIf, Not, OtherBehindIf, UnevaluatedItems]",
             ),
         ],
     )
