@@ -1,22 +1,19 @@
 -- Where the schema of a place holds nothing at a step, no place stands there.
-use Rattle.std.proofs.Common.{◌≡◌, ℕ, zero, suc, ◌<◌, ◌^◌, List, [], ◌∷◌, ◌++◌, length, Bool, true, false, ◌&&◌, if◌then◌else◌, nat_lt, decimal, Option, Some, None, option_map, option_and_then, is_some, slice_get, find, refl, sym, ap, ◌∙◌, subst, arith, length-append, append_assoc}
+use Rattle.std.proofs.Common.{◌≡◌, ℕ, zero, suc, ◌<◌, ◌^◌, [], ◌∷◌, ◌++◌, length, Bool, true, false, ◌&&◌, if◌then◌else◌, decimal, Option, Some, None, option_map, option_and_then, is_some, slice_get, find, refl, sym, ap, ◌∙◌, subst, arith, length-append, append_assoc}
 use Rattle.std.specs.List.{position_from}
-use Rattle.std.specs.Option.{option_map_or}
 use Rattle.std.specs.Str.{bytes_eq}
-use Rattle.std.proofs.lemmas.Bool.{lt-ltb}
 use Rattle.std.proofs.lemmas.Fmt.{decimal_injective}
-use Rattle.std.proofs.lemmas.Option.{slice_get_within}
 use Rattle.js_doc.specs.Lookup.{member_named, at}
 use Rattle.js_doc.specs.Members.{get, NamesAscend}
 use Rattle.js_doc.specs.Pointer.{Tokens}
 use Rattle.js_doc.specs.Short.{IsShort}
-use Rattle.js_doc.specs.Value.{Value, null, truth, whole, text, list, object, Values, items, Members, no_members, member}
+use Rattle.js_doc.specs.Value.{Value, null, truth, whole, text, list, object, Members, no_members, member}
 use Rattle.js_bundle.specs.declared.holding.Holding.{Holding}
 use Rattle.js_bundle.specs.declared.holding.Holding.TheVariants.{One, Listed, Named}
 use Rattle.js_bundle.specs.Document.{Documents}
 use Rattle.js_bundle.specs.Keyword.{Text, member_pairs, keywords, argument}
 use Rattle.js_bundle.specs.Names.{stands_at}
-use Rattle.js_bundle.specs.Place.{holding, values, items_in, IsPlace, at_root, in_keyword, in_list, in_object}
+use Rattle.js_bundle.specs.Place.{holding, items_in, IsPlace, at_root, in_keyword, in_list, in_object}
 use Rattle.js_bundle.specs.Resource.{Site, sites}
 use Rattle.js_bundle.specs.Schemas.{place_at, Finds, Step, Alone, Index, Name, fits, step_tokens, below}
 use Rattle.js_bundle.specs.Seen.{AreOrdered, AreShort, AreRead}

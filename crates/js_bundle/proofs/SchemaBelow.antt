@@ -11,7 +11,7 @@ use Rattle.js_bundle.specs.declared.holding.Holding.{Holding}
 use Rattle.js_bundle.specs.declared.holding.Holding.TheVariants.{One, Listed, Named, Nothing}
 use Rattle.js_bundle.specs.Document.{Documents}
 use Rattle.js_bundle.specs.Keyword.{Text, argument}
-use Rattle.js_bundle.specs.Place.{holding, values, items_in}
+use Rattle.js_bundle.specs.Place.{holding, values}
 use Rattle.js_bundle.specs.Names.{stands_at}
 use Rattle.js_bundle.specs.Resource.{Site, sites}
 use Rattle.js_bundle.specs.Schemas.{place_at, Finds, FindsSchema, Holds, Step, Alone, Index, Name, fits, step_tokens, below}
