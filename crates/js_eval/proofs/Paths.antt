@@ -25,13 +25,6 @@ its_schema (Some s) v e = cc
 pub schema_is : (documents : Documents) (n : ℕ) (v : Value) → option_map (λ s. s.schema) (place_at documents n) ≡ Some v → v ≡ (numbered_site documents n).schema
 schema_is documents n v e = its_schema (place_at documents n) v e
 
-its_own : (o : Option Site) (s : Site) (v : Value) → o ≡ Some s → v ≡ (unwrap_or o nowhere).schema → option_map (λ s. s.schema) o ≡ Some v
-its_own None s v is e = absurd (cc)
-its_own (Some t) s v is e = ap Some (sym e)
-
-pub its_schema_is : (documents : Documents) (n : ℕ) (v : Value) → is_place documents n ≡ true → v ≡ (numbered_site documents n).schema → option_map (λ s. s.schema) (place_at documents n) ≡ Some v
-its_schema_is documents n v h e = its_own (place_at documents n) _ v (slice_get-get_or (sites documents) n nowhere (ltb-true n (length (sites documents)) h)) e
-
 its_location : (o : Option Site) (t : List ℕ) → option_map location o ≡ Some t → t ≡ absolute (unwrap_or o nowhere) []
 its_location None t e = absurd (cc)
 its_location (Some s) t e = cc

@@ -1,15 +1,13 @@
 -- What an asking begins with.
-use Rattle.std.proofs.Common.{◌≡◌, ◌||◌, ◌&&◌, ℕ, Bool, true, not, cond, List, [], Option, Some, None, Bor, map, filter, refl, sym, ap, ap₂, ◌∙◌}
+use Rattle.std.proofs.Common.{◌≡◌, ◌||◌, ℕ, Bool, not, List, [], Option, Some, None, Bor, map, filter, refl, sym, ap, ap₂, ◌∙◌}
 use Rattle.std.specs.Prelude.{codes}
 use Rattle.std.specs.List.{list_any}
 use Rattle.std.specs.Option.{option_map_or}
 use Rattle.js_assert.specs.Argument.{entries, has}
 use Rattle.js_assert.specs.Pattern.{matches}
-use Rattle.js_bundle.specs.Document.{Documents}
 use Rattle.js_bundle.specs.Resource.{Site}
-use Rattle.js_bundle.specs.Schemas.{is_place}
 use Rattle.js_doc.specs.Members.{get}
-use Rattle.js_doc.specs.Value.{Value, Named, text}
+use Rattle.js_doc.specs.Value.{Value, Named}
 use Rattle.js_eval.specs.Applications.{Application, indexed_from, is_property, matches_pattern}
 use Rattle.js_eval.specs.code.Cursors.{is_matched, is_named, named_in}
 use Rattle.js_eval.specs.SchemaSet.{Text, Alone, Index, Name}
@@ -21,9 +19,6 @@ on_items t s vs = map (λ e. record { place = s; step = Alone; at = Index e.0; v
 
 abbrev pub on_members : (Text → Bool) → Site → Named → List (Application Site)
 on_members t s ms = map (λ m. record { place = s; step = Alone; at = Name m.0; value = m.1 }) (filter (λ m. t m.0) ms)
-
-abbrev pub on_names : Site → Named → List (Application Site)
-on_names s ms = map (λ m. record { place = s; step = Alone; at = Name m.0; value = text m.0 }) ms
 
 pub moved : {A B : Type 0} (f : Site → B → List A) (xs : List A) (s t : Site) (v w : B) → xs ≡ f s v → s ≡ t → v ≡ w → xs ≡ f t w
 moved f xs s t v w e p q = e ∙ ap₂ f p q

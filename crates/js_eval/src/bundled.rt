@@ -56,11 +56,7 @@ pub(crate) fn below<'a>(
 }
 
 /// The place that the `$ref` of a place names, and the schema there.
-pub(crate) fn target_at<'a>(
-    schemas: &'a Schemas,
-    place: Place,
-    schema: &'a Doc,
-) -> (Place, &'a Doc)
+pub(crate) fn target_at<'a>(schemas: &'a Schemas, place: Place, schema: &'a Doc) -> (Place, &'a Doc)
     requires { StandsAt schemas.now place (value_of schema.now) }
     ensures is { StandsAt schemas.now result.0 (value_of result.1.now) }
     ensures site { numbered_site schemas.now result.0 ≡ (schemas_of schemas.now).target (numbered_site schemas.now place) }

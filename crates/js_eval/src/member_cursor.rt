@@ -116,11 +116,7 @@ pub(crate) fn each_in_place<'a>(
 
 /// The schema at a place, on each name, as a string.
 #[tactic(auto, using(crate::proofs::MembersLeft::all_chosen))]
-pub(crate) fn each_name<'a>(
-    below: Place,
-    schema: &'a Doc,
-    members: &'a Members,
-) -> MemberCursor<'a>
+pub(crate) fn each_name<'a>(below: Place, schema: &'a Doc, members: &'a Members) -> MemberCursor<'a>
     ensures asked { (documents : Documents) → members_asked documents result
         ≡ map (λ m. record { place = numbered_site documents below; step = spec.Alone; at = spec.Name m.0; value = text m.0 }) members.now }
     ensures held { (documents : Documents) → StandsAt documents below (value_of schema.now) → IsHeld documents result.held }

@@ -78,7 +78,9 @@ pub(crate) fn start<'a>(
     let name = keyword.name;
     match kind {
         Kind::Reference => Ok(referred(schemas, place, schema, value)),
-        Kind::DynamicReference => Ok(referred_dynamically(schemas, place, schema, path, scope, value)),
+        Kind::DynamicReference => Ok(referred_dynamically(
+            schemas, place, schema, path, scope, value,
+        )),
         Kind::AllOf => Ok(start_items::listed(alloc, schemas, place, schema, keyword, value)),
         Kind::AnyOf => Ok(start_items::listed(alloc, schemas, place, schema, keyword, value)),
         Kind::OneOf => Ok(start_items::listed(alloc, schemas, place, schema, keyword, value)),
@@ -86,7 +88,9 @@ pub(crate) fn start<'a>(
         Kind::If => Ok(held(schemas, place, schema, name, value)),
         Kind::Then => Ok(held_then(schemas, place, schema, name, facts.condition, value)),
         Kind::Else => Ok(held_else(schemas, place, schema, name, facts.condition, value)),
-        Kind::DependentSchemas => Ok(start_members::dependent(schemas, place, schema, keyword, value)),
+        Kind::DependentSchemas => Ok(start_members::dependent(
+            schemas, place, schema, keyword, value,
+        )),
         Kind::PrefixItems => Ok(start_items::prefix(alloc, schemas, place, schema, keyword, value)),
         Kind::Items => Ok(start_items::following(alloc, schemas, place, schema, name, value)),
         Kind::Contains => Ok(start_items::every(alloc, schemas, place, schema, name, value)),
@@ -97,7 +101,9 @@ pub(crate) fn start<'a>(
         Kind::AdditionalProperties => Ok(start_members::additional(
             schemas, place, schema, name, value,
         )),
-        Kind::PropertyNames => Ok(start_members::property_names(schemas, place, schema, name, value)),
+        Kind::PropertyNames => Ok(start_members::property_names(
+            schemas, place, schema, name, value,
+        )),
         Kind::UnevaluatedItems => start_items::unevaluated_items(
             alloc,
             schemas,
@@ -122,7 +128,12 @@ pub(crate) fn start<'a>(
 }
 
 // What `$ref` names, on the value itself.
-fn referred<'a>(schemas: &'a Schemas, place: Place, schema: &'a Doc, value: Instance<'a>) -> Asking<'a>
+fn referred<'a>(
+    schemas: &'a Schemas,
+    place: Place,
+    schema: &'a Doc,
+    value: Instance<'a>,
+) -> Asking<'a>
     requires { StandsAt schemas.now place (value_of schema.now) }
     ensures asked { asked schemas.now result ≡ record {
       place = (schemas_of schemas.now).target (numbered_site schemas.now place);
@@ -162,7 +173,13 @@ fn referred_dynamically<'a>(
 }
 
 // The keyword's schema, on the value itself.
-fn held<'a>(schemas: &'a Schemas, place: Place, schema: &'a Doc, keyword: &str, value: Instance<'a>) -> Asking<'a>
+fn held<'a>(
+    schemas: &'a Schemas,
+    place: Place,
+    schema: &'a Doc,
+    keyword: &str,
+    value: Instance<'a>,
+) -> Asking<'a>
     requires { StandsAt schemas.now place (value_of schema.now) }
     ensures asked { asked schemas.now result
         ≡ application (schemas_of schemas.now) (numbered_site schemas.now place) keyword.now spec.Alone spec.Alone (instance_of value.entry) ∷ [] }

@@ -45,7 +45,14 @@ pub(crate) fn dependent<'a>(
         return Asking::One(None);
     };
     match value.object() {
-        Some(members) => Asking::Members(each_in_place(place, schema, keyword.name, named, members, value)),
+        Some(members) => Asking::Members(each_in_place(
+            place,
+            schema,
+            keyword.name,
+            named,
+            members,
+            value,
+        )),
         None => Asking::One(None),
     }
 }

@@ -30,7 +30,12 @@ pub fn below(
         Some((below, schema)) => {
             let own = text(alloc, schemas.schema(below))?;
             same(alloc, keyword, text(alloc, schema)?.as_str(), own.as_str())?;
-            same(alloc, keyword, location(alloc, schemas, below)?.as_str(), answer.as_str())?;
+            same(
+                alloc,
+                keyword,
+                location(alloc, schemas, below)?.as_str(),
+                answer.as_str(),
+            )?;
         }
         None => same(alloc, keyword, "none", answer.as_str())?,
     }
