@@ -1,5 +1,5 @@
 //! What the keywords of a place hold.
-ghost use Rattle.std.specs.Prelude.{◌≡◌, ◌++◌, [], ◌∷◌, true, find, map, slice_get, option_map, option_and_then, decimal, None, Some, MatchOption, if◌then◌else◌};
+ghost use Rattle.std.specs.Prelude.{◌≡◌, ◌++◌, [], ◌∷◌, true, map, slice_get, option_map, option_and_then, decimal, None, Some, MatchOption, if◌then◌else◌};
 ghost use Rattle.std.specs.List.{list_all, position_from};
 ghost use Rattle.js_doc.specs.Seen.{value_of};
 ghost use Rattle.js_bundle.specs.code.Edges.{leads_down, AreAlone};

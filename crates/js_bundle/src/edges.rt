@@ -1,5 +1,5 @@
 //! The ways from each place to those that stand directly below it.
-ghost use Rattle.std.specs.Prelude.{◌≡◌, ◌<◌, ◌∷◌, true, drop, length, map, Some, IfOk, OnOk, MatchOption};
+ghost use Rattle.std.specs.Prelude.{◌≡◌, ◌<◌, ◌∷◌, true, drop, length, map, Some, OnOk, MatchOption};
 ghost use Rattle.std.specs.List.{list_all, position_from};
 ghost use Rattle.js_bundle.specs.code.Edges.{leads_down, goes_by, edges_under, AreAlone, AreLinked, HaveAlike, IsLinked};
 ghost use Rattle.js_bundle.specs.Names.{same_tokens};

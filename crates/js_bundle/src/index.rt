@@ -1,5 +1,5 @@
 //! What finds places without a search: by the URI of a resource, by where they stand, by the names that they make.
-ghost use Rattle.std.specs.Prelude.{◌≡◌, ◌++◌, [], ◌∷◌, codes, OnOk, IfOk, string_bytes, option_map, option_copied, option_to_list, if◌then◌else◌};
+ghost use Rattle.std.specs.Prelude.{◌≡◌, [], OnOk, IfOk, string_bytes, option_copied, option_to_list};
 ghost use Rattle.js_bundle.specs.code.Index.{ArePut, IsAdded, IsIndex, place_key, name_keys_by, name_keys, root_uris, made_uris};
 ghost use Rattle.js_bundle.specs.Names.{known_as};
 ghost use Rattle.js_bundle.specs.code.Scan.{site_of};

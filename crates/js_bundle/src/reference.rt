@@ -1,6 +1,5 @@
 //! The second pass: what references lead to.
-ghost use Rattle.std.specs.Prelude.{◌≡◌, [], ◌∷◌, ◌++◌, Some, Ok, false, OnOk, IfOk, IfErr, codes, map, option_map, option_and_then, slice_get};
-ghost use Rattle.std.specs.List.{flat_map};
+ghost use Rattle.std.specs.Prelude.{◌≡◌, [], ◌∷◌, Some, Ok, false, OnOk, IfOk, IfErr, codes, map, option_map, option_and_then, slice_get};
 ghost use Rattle.js_bundle.specs.Candidate.{IsClear, IsStopped};
 ghost use Rattle.std.specs.Option.{option_map_or};
 ghost use Rattle.js_bundle.specs.Finding.{number_named, number_of_target, goes_by_name, dynamic_as, dynamic_at};

@@ -1,6 +1,6 @@
 //! The rules of the first pass, each by itself.
-ghost use Rattle.std.specs.Prelude.{◌≡◌, ◌&&◌, ◌||◌, [], ◌∷◌, ◌++◌, Some, Ok, true, false, not, nat_le, length, codes, map, OnOk, IfOk, IfErr, if◌then◌else◌};
-ghost use Rattle.std.specs.List.{list_any, list_all};
+ghost use Rattle.std.specs.Prelude.{◌≡◌, ◌&&◌, ◌||◌, [], ◌∷◌, Some, Ok, true, false, not, nat_le, length, map, OnOk, IfOk, IfErr};
+ghost use Rattle.std.specs.List.{list_all};
 ghost use Rattle.js_doc.specs.Seen.{value_of};
 ghost use Rattle.js_doc.specs.Value.{list, items};
 ghost use Rattle.js_bundle.specs.declared.refusal.RefusalKind.TheVariants.{TooManyPlaces, NotASchema, DuplicateUri};
@@ -8,10 +8,9 @@ ghost use Rattle.js_bundle.specs.Candidate.{IsClear, IsStopped};
 ghost use Rattle.js_bundle.specs.Form.{is_formed, is_filled_list, is_schema};
 ghost use Rattle.js_bundle.specs.code.Index.{IsIndex};
 ghost use Rattle.js_bundle.specs.Names.{is_root, is_name, begins_name, continues_name};
-ghost use Rattle.js_bundle.specs.Refusals.{when, decided, is_taken, is_made, is_dialect, on_text, at_dialect, at_id, at_joined_id, at_anchor, at_place, assertion_rules};
+ghost use Rattle.js_bundle.specs.Refusals.{when, decided, is_taken, is_made, is_dialect, at_dialect, at_id, at_joined_id, at_anchor, at_place, assertion_rules};
 ghost use Rattle.js_assert.specs.Assertion.{asserted};
 ghost use Rattle.js_bundle.specs.code.Scan.{site_of};
-ghost use Rattle.js_bundle.specs.Url as spec;
 
 use crate::fault::{Fault, refuse};
 use crate::index::Index;

@@ -1,9 +1,9 @@
 //! Finished schemas: places, and what stands there.
-ghost use Rattle.std.specs.Prelude.{◌≡◌, ◌++◌, Some, true, length, map, option_map, IfOk, string_bytes};
+ghost use Rattle.std.specs.Prelude.{◌≡◌, Some, true, map, option_map, IfOk, string_bytes};
 ghost use Rattle.js_doc.specs.Seen.{value_of};
 ghost use Rattle.js_bundle.specs.Finding.{tokens_of};
 ghost use Rattle.js_bundle.specs.Location.{absolute, canonical, location};
-ghost use Rattle.js_bundle.specs.Schemas.{is_place, place_at, place_numbers, resources};
+ghost use Rattle.js_bundle.specs.Schemas.{is_place, place_at, place_numbers};
 ghost use Rattle.js_bundle.specs.code.Spot.{spot, spot_of};
 
 use crate::document::Document;

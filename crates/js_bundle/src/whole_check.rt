@@ -1,5 +1,5 @@
 //! The check of documents as a whole.
-ghost use Rattle.std.specs.Prelude.{◌≡◌, ◌++◌, [], ◌∷◌, codes, map, OnOk, IfOk, IfErr};
+ghost use Rattle.std.specs.Prelude.{◌≡◌, codes, map, OnOk, IfOk, IfErr};
 ghost use Rattle.js_bundle.specs.AssertionsAndPatterns.{assertions_at, patterns_at};
 ghost use Rattle.js_bundle.specs.Candidate.{IsClear, IsStopped};
 ghost use Rattle.js_bundle.specs.code.Column.{IsColumn};

@@ -1,5 +1,5 @@
 //! The program's work, over files and devices of any make.
-ghost use Rattle.std.specs.Prelude.{◌≡◌, ◌≢◌, ◌≤◌, ◌<◌, ◌⊎◌, ◌↔◌, ◌==◌, ◌++◌, ◌∷◌, [], ℕ, List, Option, None, false, IfOk, IfErr, OnOk, OnErr, IfSome, IsErrOf, string_bytes};
+ghost use Rattle.std.specs.Prelude.{◌≡◌, ◌≢◌, ◌≤◌, ◌<◌, ◌⊎◌, ◌==◌, ◌++◌, ◌∷◌, [], ℕ, List, Option, None, false, IfOk, IfErr, OnOk, OnErr, IfSome, string_bytes};
 ghost use Rattle.std.specs.Io.KnownBytes.{Keeps};
 ghost use Rattle.js_output.specs.Device.{AppendsBeginning, IsLeft};
 ghost use Rattle.js_output.specs.Input.{IsInputFault};

@@ -1,5 +1,5 @@
 //! What the program's words ask for.
-ghost use Rattle.std.specs.Prelude.{◌≡◌, ℕ, [], Ok, Some, IfOk, IfErr, OnOk, ◌<◌, length, ◌++◌, ◌∷◌, unwrap_or, option_map, map, codes};
+ghost use Rattle.std.specs.Prelude.{◌≡◌, Ok, Some, IfOk, IfErr, ◌<◌, length, option_map, codes};
 ghost use Rattle.clap.specs.Words.{found_of, first_of, all_of, rows_of, subcommand_rows_of};
 ghost use Rattle.js_cli.specs.Words.{request_of, request_seen, words_of, pairs_in, pairs_seen, format_of, places_by, IsMisuse, IsNoPairs};
 ghost use Rattle.js_cli.specs.Found.{entered, request_in, check_in, suite_in, pairs_of};

@@ -1,5 +1,5 @@
 //! What a pattern says of the names of an object, kept from one keyword to another.
-ghost use Rattle.std.specs.Prelude.{◌≡◌, ℕ, Bool, List, IfOk, MatchOption, drop, get_or, map, false};
+ghost use Rattle.std.specs.Prelude.{◌≡◌, IfOk, MatchOption, drop, get_or, map, false};
 ghost use Rattle.std.specs.List.{list_any};
 ghost use Rattle.js_assert.specs.Pattern.{matches};
 ghost use Rattle.js_doc.specs.Seen.{pair_of};

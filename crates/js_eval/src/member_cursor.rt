@@ -1,6 +1,6 @@
 //! What a keyword asks for member by member (Core, sections 10.2.2.4, 10.3.2 and 11.3): a schema on each of the members
 //! that it chooses by their names, or on the value, for each of its own names that is a member's.
-ghost use Rattle.std.specs.Prelude.{◌≡◌, ◌||◌, ◌++◌, ◌∷◌, [], IfOk, List, MatchOption, OnOk, filter, map, not};
+ghost use Rattle.std.specs.Prelude.{◌≡◌, ◌||◌, ◌∷◌, [], IfOk, MatchOption, filter, map, not};
 ghost use Rattle.std.specs.List.{list_any};
 ghost use Rattle.std.specs.Option.{option_map_or};
 ghost use Rattle.js_assert.specs.Argument.{entries, has};
@@ -16,7 +16,6 @@ ghost use Rattle.js_eval.specs.Bundle.{schemas_of};
 ghost use Rattle.js_eval.specs.code.Cursors.{is_chosen, is_matched, is_named, members_asked, members_left, named_in};
 ghost use Rattle.js_eval.specs.code.Standing.{StandsAt};
 ghost use Rattle.js_eval.specs.SchemaSet as spec;
-ghost use Rattle.js_eval.specs.SchemaSet.{Text};
 ghost use Rattle.js_eval.specs.Seen.{instance_of, texts_of};
 ghost use Rattle.js_eval.specs.Sited.{numbered_site};
 

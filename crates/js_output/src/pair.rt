@@ -1,5 +1,5 @@
 //! A document and an instance in one input.
-ghost use Rattle.std.specs.Prelude.{◌≡◌, ◌≢◌, ◌≤◌, ◌+◌, ◌↔◌, [], true, false, Err, length, ◌<◌, IfSome, IfOk, IfErr, OnOk, IsErrOf};
+ghost use Rattle.std.specs.Prelude.{◌≡◌, ◌≢◌, ◌≤◌, ◌+◌, ◌↔◌, [], true, Err, length, ◌<◌, IfSome, IfErr, IsErrOf};
 ghost use Rattle.js_output.specs.Device.{input_limit};
 ghost use Rattle.js_output.specs.Outcome.{OutcomeOfTexts, PairOutcome, first_line_feed, text_before, text_after, telling_output};
 ghost use Rattle.js_output.specs.Telling.{Answers, Tells};

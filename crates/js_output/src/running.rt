@@ -1,5 +1,5 @@
 //! From documents and an instance to the output's text.
-ghost use Rattle.std.specs.Prelude.{◌≡◌, ◌≢◌, ◌≤◌, ◌+◌, [], true, false, min, ◌^◌, ◌-◌, IfOk, IfErr, OnOk, IsErrOf};
+ghost use Rattle.std.specs.Prelude.{◌≡◌, ◌≢◌, ◌≤◌, ◌+◌, [], true, ◌-◌, IfErr, IsErrOf};
 ghost use Rattle.js_bundle.specs.Schemas.{is_place, place_at};
 ghost use Rattle.js_output.specs.Device.{input_limit};
 ghost use Rattle.js_output.specs.Documents.{documents_of};

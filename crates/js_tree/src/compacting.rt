@@ -1,6 +1,6 @@
 //! Pruning and condensing of flat forms, in place.
 ghost use Rattle.std.specs.Prelude.{◌≡◌, ◌<◌, ◌≤◌, ◌+◌, ◌^◌, ◌++◌, List, drop, take, length, map, suc};
-ghost use Rattle.js_tree.specs.code.Compacting.{AreMarkedTrees, IsRemaining, gathered, left, left_of, left_trees, marked, gone_with, room, stays};
+ghost use Rattle.js_tree.specs.code.Compacting.{AreMarkedTrees, gathered, left, left_of, left_trees, marked, gone_with, room, stays};
 ghost use Rattle.js_tree.specs.Flat.{flat, flat_of};
 ghost use Rattle.js_tree.specs.FlatState.{IsWholeTree, row_of, flat_state, whole_tree};
 ghost use Rattle.js_tree.specs.Forest.{Forest, node_count};

@@ -1,5 +1,5 @@
 //! The output formats, as JSON values (Core, section 12.4).
-ghost use Rattle.std.specs.Prelude.{◌≡◌, [], ◌∷◌, ◌++◌, List, ℕ, IfOk, OnOk, codes, map, not, pos, true};
+ghost use Rattle.std.specs.Prelude.{◌≡◌, [], ◌∷◌, ◌++◌, List, IfOk, OnOk, codes, map, not, pos, true};
 ghost use Rattle.js_doc.specs.Members.{put};
 ghost use Rattle.js_doc.specs.Seen.{value_of};
 ghost use Rattle.js_doc.specs.Value.{text, list, members, object, truth, whole, items};

@@ -1,9 +1,9 @@
 //! Laws of result trees. Each is the contract of a function that does nothing.
-ghost use Rattle.std.specs.Prelude.{◌≡◌, ◌+◌, ◌<◌, ◌↔◌, List, IsTrue, Some, false, true};
+ghost use Rattle.std.specs.Prelude.{◌≡◌, ◌+◌, ◌<◌, ◌↔◌, IsTrue, Some, false, true};
 ghost use Rattle.js_tree.specs.Alike.{same_but_keyword};
 ghost use Rattle.js_tree.specs.Forest.{Forest, ◌⊹◌, node_count, tree};
 ghost use Rattle.js_tree.specs.Holding.{BoxedHolds, FlatHolds, VerdictHolds};
-ghost use Rattle.js_tree.specs.Result.{ResultTree, Normal, Run, Step, kept, moved, replayed};
+ghost use Rattle.js_tree.specs.Result.{ResultTree, Normal, Run, Step, kept, moved};
 ghost use Rattle.js_tree.specs.declared.moves.Move.{Move};
 ghost use Rattle.js_tree.specs.Merged.{alike, firsts, has_alike};
 ghost use Rattle.js_tree.specs.MergedResult.{merged, without_keywords, NormalOfThree, RunOfThree, StepOfThree};

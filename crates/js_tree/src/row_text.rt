@@ -1,5 +1,5 @@
 //! The text of a flat form, piece by piece.
-ghost use Rattle.std.specs.Prelude.{◌≡◌, [], false, map, not, true};
+ghost use Rattle.std.specs.Prelude.{◌≡◌, [], false, map, true};
 ghost use Rattle.js_doc.specs.BytesOut.{Puts};
 ghost use Rattle.js_doc.specs.Compact.{compact};
 ghost use Rattle.js_doc.specs.Value.{items, list};
