@@ -10,6 +10,16 @@ NUMBERS = (0, 1, 2, 3, -1, 5, 2**63, 2**64 - 1, -2**63)
 BASES = ("https://a.example/s", "https://a.example/t", "https://b.example/u/v", "urn:example:w")
 IDS = ("x", "y/z", "/r", "https://c.example/q", "?k")
 ANCHORS = ("n", "m")
+FAULTY = ("type", "allOf", "properties", "not", "$ref", "$anchor", "minimum", "pattern", "$id", "if")
+# Those that stand here twice are made more often.
+KEYWORDS = (
+    "type", "enum", "const", "multipleOf", "maximum", "exclusiveMaximum", "minimum", "exclusiveMinimum", "maxLength",
+    "minLength", "pattern", "maxItems", "minItems", "uniqueItems", "maxContains", "minContains", "maxProperties",
+    "minProperties", "required", "dependentRequired", "allOf", "anyOf", "oneOf", "not", "if", "if", "then", "else",
+    "dependentSchemas", "prefixItems", "items", "contains", "contains", "properties", "properties",
+    "patternProperties", "additionalProperties", "propertyNames", "unevaluatedItems", "unevaluatedProperties",
+    "unevaluatedItems", "unevaluatedProperties", "$ref", "$ref", "$dynamicRef", "$anchor", "$dynamicAnchor", "$id",
+    "$defs", "definitions", "title", "format", "iff", "$comment", "x")
 
 
 class Maker:
@@ -36,7 +46,9 @@ class Maker:
         return self.random.randint(0, 3)
 
     def string(self):
-        return self.one(NAMES) if self.chance(0.7) else "".join(self.random.choices("ab1é\U0001F600 \"\\\n\x01\x7f", k=self.count()))
+        if self.chance(0.7):
+            return self.one(NAMES)
+        return "".join(self.random.choices("ab1é\U0001F600 \"\\\n\x01\x7f", k=self.count()))
 
     def value(self, depth=3):
         kind = self.random.randrange(10 if depth else 6)
@@ -57,7 +69,8 @@ class Maker:
         for _ in range(self.random.randint(1, 4)):
             self.add_keyword(made, depth - 1)
         if self.chance(self.faults):
-            made[self.one(("type", "allOf", "properties", "not", "$ref", "$anchor", "minimum", "pattern", "$id", "if"))] = self.value(1)
+            fault = self.value(1)
+            made[self.one(FAULTY)] = fault
         return made
 
     def schemas(self, depth):
@@ -77,14 +90,7 @@ class Maker:
         return fragment if self.chance(0.6) else known + fragment
 
     def add_keyword(self, made, depth):
-        keyword = self.one((
-            "type", "enum", "const", "multipleOf", "maximum", "exclusiveMaximum", "minimum", "exclusiveMinimum", "maxLength",
-            "minLength", "pattern", "maxItems", "minItems", "uniqueItems", "maxContains", "minContains", "maxProperties",
-            "minProperties", "required", "dependentRequired", "allOf", "anyOf", "oneOf", "not", "if", "if", "then", "else",
-            "dependentSchemas", "prefixItems", "items", "contains", "contains", "properties", "properties",
-            "patternProperties", "additionalProperties", "propertyNames", "unevaluatedItems", "unevaluatedProperties",
-            "unevaluatedItems", "unevaluatedProperties", "$ref", "$ref", "$dynamicRef", "$anchor", "$dynamicAnchor", "$id",
-            "$defs", "definitions", "title", "format", "iff", "$comment", "x"))
+        keyword = self.one(KEYWORDS)
         if keyword in ("$anchor", "$dynamicAnchor", "$id") and not self.chance(self.faults):
             keyword = "title"
         made[keyword] = self.argument(keyword, depth)
@@ -102,7 +108,7 @@ class Maker:
         if keyword == "$dynamicRef" and self.chance(0.7):
             return self.one(("#n", "#m"))
         return {
-            "type": lambda: self.one(TYPES) if self.chance(0.6) else self.random.sample(TYPES, self.random.randint(1, 3)),
+            "type": self.types,
             "enum": lambda: [self.value(1) for _ in range(self.count())],
             "const": lambda: self.value(1),
             "multipleOf": lambda: self.one((1, 2, 3, 2**63)),
@@ -116,6 +122,11 @@ class Maker:
             "$comment": self.string, "format": self.string,
         }.get(keyword, self.count if keyword.startswith(("min", "max")) and keyword not in ("minimum", "maximum") else
               self.number if "imum" in keyword else lambda: self.value(2))()
+
+    def types(self):
+        if self.chance(0.6):
+            return self.one(TYPES)
+        return self.random.sample(TYPES, self.random.randint(1, 3))
 
     def resource(self, depth):
         """A schema with what references lead to."""

@@ -29,7 +29,8 @@ else:
     def left_out(all_members, entry):
         """Where that package is known not to do what the standard says."""
         names = {name for name, _ in all_members}
-        references = [it for it in [*all_members, ("$ref", entry)] if it[0] in ("$ref", "$dynamicRef") and is_name(it[1])]
+        references = [(name, value) for name, value in [*all_members, ("$ref", entry)]
+                      if name in ("$ref", "$dynamicRef") and is_name(value)]
         if any("%" in it for _, it in references):
             return "it doesn't decode the name of an anchor"
         if "$dynamicAnchor" in names and any(name == "$ref" for name, _ in references):

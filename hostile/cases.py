@@ -2,6 +2,8 @@
 import json
 from dataclasses import dataclass, field
 
+from jschema import answer
+
 U = "https://a.example/s"
 STANDARD_FORMATS = ("flag", "basic", "detailed", "verbose")
 FORMATS = (*STANDARD_FORMATS, "merged")
@@ -16,15 +18,21 @@ POINTS = '[{"x":2,"y":1},{"x":1,"z":6}]'
 
 @dataclass
 class Case:
-    """A run of the program. Without `out` the text is the reference's; a large one is a function that yields its pieces."""
+    """A run of the program. Where `out` is None, the reference answers; a large text is a function to its pieces."""
 
     name: str
     words: list
     files: dict = field(default_factory=dict)
     given: bytes = b""
     out: object = b""
-    faults: bytes = b""
+    errors: bytes = b""
     status: int = 0
+
+    def wanted(self):
+        """What must be answered. The case's files must be in the current folder."""
+        if self.out is None:
+            return answer(self.words, lambda: self.given)
+        return self.out, self.errors, self.status
 
 
 def check(name, schema, instance, format_="flag", entry=U, uri=U, **how):
@@ -37,14 +45,15 @@ def valid(name, schema, instance, **how):
 
 
 def refused(name, line, schema, instance="0", **how):
-    return check(name, schema, instance, faults=f"refused: {line}\n".encode(), status=3, **how)
+    return check(name, schema, instance, errors=f"refused: {line}\n".encode(), status=3, **how)
 
 
 def error(name, schema, instance, keyword, text):
     """One assertion that doesn't hold, told by basic."""
     unit = {"absoluteKeywordLocation": f"{U}#/{keyword}", "error": text, "instanceLocation": "",
             "keywordLocation": f"/{keyword}", "valid": False}
-    return check(name, schema, instance, "basic", out=compact({"errors": [unit], "valid": False}).encode() + b"\n", status=1)
+    out = compact({"errors": [unit], "valid": False}).encode() + b"\n"
+    return check(name, schema, instance, "basic", out=out, status=1)
 
 
 def too_large(name, schema, instance="0"):
@@ -81,7 +90,7 @@ def head(absolute, keyword, instance="", annotation="", has_children=True):
 
 
 def pieces(node):
-    """The pieces of a passing node's text. A node is what `head` takes but for the last, and a function to its children."""
+    """The pieces of a passing node's text. A node is the first arguments of `head`, and a function to its children."""
     left = [node]
     while left:
         it = left.pop()
@@ -136,7 +145,8 @@ def doubled_text(k, format_):
 
 def refused_pair():
     """A pair whose schema is refused as soon as it is looked at."""
-    return Case("a pair with a refused schema", [], given=b"3\nnull", faults=b'refused: document 0 at "": NotASchema\n', status=3)
+    return Case("a pair with a refused schema", [], given=b"3\nnull",
+                errors=b'refused: document 0 at "": NotASchema\n', status=3)
 
 
 def limits():
@@ -159,7 +169,8 @@ def limits():
     yield refused("a schema of 16,777,217 bytes", "input: InputTooLarge", " " * 16_777_215 + "{}")
     pair = b"{}\n" + b" " * 16_777_212
     yield Case("an input of 16,777,216 bytes", [], given=pair + b"0", out=VALID)
-    yield Case("an input of 16,777,217 bytes", [], given=pair + b" 0", faults=b"refused: input: InputTooLarge\n", status=3)
+    yield Case("an input of 16,777,217 bytes", [], given=pair + b" 0",
+               errors=b"refused: input: InputTooLarge\n", status=3)
     yield refused("a reference of 65,536 bytes", 'document 0 at "/$ref": Unresolved', compact({"$ref": "a" * 65_536}))
     yield refused("a reference of 65,537 bytes", 'document 0 at "/$ref": UriTooLong', compact({"$ref": "a" * 65_537}))
     long = U + "a" * 65_517
@@ -167,7 +178,7 @@ def limits():
     yield refused("a URI of 65,537 bytes", 'document 0 at "": UriTooLong', "true", uri=long + "a")
     yield refused("an entry of 65,537 bytes", "entry: UriTooLong", "true", entry=long + "a")
     yield documents(1_000, out=VALID)
-    yield documents(1_001, faults=b'refused: document 1000 at "": TooManyDocuments\n', status=3)
+    yield documents(1_001, errors=b'refused: document 1000 at "": TooManyDocuments\n', status=3)
     yield valid("100,000 places", places(99_999), "0")
     yield refused("100,001 places", 'document 0 at "/$defs/n099999": TooManyPlaces', places(100_000))
 
@@ -185,24 +196,30 @@ def places(count):
 
 def wide_bundle(count=6_000):
     """As many schemas side by side, found by their names, their indexes, references of each kind, and patterns."""
-    kinds = ("$ref", "#/$defs/d{}"), ("$ref", "#a{}"), ("$ref", "u{}"), ("$dynamicRef", "#n{}")
-    made = {}
+    made, properties = {}, {}
     for i in range(count):
-        made[f"d{i}"] = {"minimum": i, "title": f"t{i}", **({}, {"$anchor": f"a{i}"}, {"$id": f"u{i}"}, {"$dynamicAnchor": f"n{i}"})[i % 4]}
-    properties = {f"p{i}": {kinds[i % 4][0]: kinds[i % 4][1].format(i), "const": 7} for i in range(count)}
+        name, reference = (
+            ({}, {"$ref": f"#/$defs/d{i}"}),
+            ({"$anchor": f"a{i}"}, {"$ref": f"#a{i}"}),
+            ({"$id": f"u{i}"}, {"$ref": f"u{i}"}),
+            ({"$dynamicAnchor": f"n{i}"}, {"$dynamicRef": f"#n{i}"}))[i % 4]
+        made[f"d{i}"] = {"minimum": i, "title": f"t{i}", **name}
+        properties[f"p{i}"] = {**reference, "const": 7}
     patterns = {f"^p{i}$": {"enum": [i, 7]} for i in range(0, count, 100)}
-    schema = {"$defs": made, "properties": properties, "patternProperties": patterns, "oneOf": [{"required": [f"p{i}"]} for i in range(300)]}
+    branches = [{"required": [f"p{i}"]} for i in range(300)]
+    schema = {"$defs": made, "properties": properties, "patternProperties": patterns, "oneOf": branches}
     return compact(schema), compact({f"p{i}": 7 for i in range(0, count, 10)})
 
 
 def deep_bundle(levels=58):
-    """Schemas far down, in resources within resources, and references from the root and from the deepest to each other."""
+    """Schemas far down, in resources within resources, and references between the root and the deepest."""
     schema = {"$anchor": "last", "type": "integer", "$ref": f"{U}#top", "patternProperties": {"^a": {"not": {}}}}
-    way = ""
     for i in reversed(range(levels)):
-        schema = {"properties": {"n": schema}, "required": ["n"], **({"$id": f"r{i}/", "$dynamicAnchor": "end"} if i % 10 == 9 else {})}
-        way += "/properties/n"
-    schema |= {"$defs": {"top": {"$anchor": "top", "maxLength": 2}}, "allOf": [{"$ref": f"#{way}"}, {"$dynamicRef": "#end"}, {"$dynamicAnchor": "end"}]}
+        names = {"$id": f"r{i}/", "$dynamicAnchor": "end"} if i % 10 == 9 else {}
+        schema = {"properties": {"n": schema}, "required": ["n"], **names}
+    deepest = "/properties/n" * levels
+    schema |= {"$defs": {"top": {"$anchor": "top", "maxLength": 2}},
+               "allOf": [{"$ref": f"#{deepest}"}, {"$dynamicRef": "#end"}, {"$dynamicAnchor": "end"}]}
     instance = '{"n":' * levels + '"long"' + "}" * levels
     return compact(schema), instance
 
@@ -216,30 +233,19 @@ def beginnings():
 
 
 def large():
-    """Long names, many members, many keywords, wide and deep bundles, patterns that are slow to compile: what is asked is the right answer."""
+    """Long names, many members, many keywords, wide and deep bundles, many and large patterns."""
+    yield from bundles()
+    yield from patterns()
     name = "n" * 1_000_000
     schema, instance = compact({"properties": {name: {"minimum": 3}}}), compact({name: 2})
     for it in FORMATS:
-        yield check(f"a name of 1,000,000 bytes, {it}", schema, instance, it, out=None, status=1)
-    for name_, (schema, instance) in (("wide", wide_bundle()), ("deep", deep_bundle())):
-        for it in FORMATS:
-            yield check(f"a {name_} bundle, {it}", schema, instance, it, out=None, status=1)
-        yield Case(f"the places of a {name_} bundle", ["places", U, "schema.json"], {"schema.json": schema}, out=None)
+        yield check(f"a name of 1,000,000 bytes, {it}", schema, instance, it, out=None)
     yield check("a keyword of 1,000,000 bytes", compact({name: 1}), "0", "verbose", out=None)
     members = compact({f"m{i}": 0 for i in range(1_000_000)})
     yield valid("an object of 1,000,000 members", '{"type":"object","minProperties":1000000}', members)
     keywords = compact({f"k{i}": 0 for i in range(999_999)})
     yield valid("a schema of 999,999 keywords", keywords, "0")
     yield from too_large("a schema of 1,000,000 keywords", compact({f"k{i}": 0 for i in range(1_000_000)}))
-    patterns = compact({"patternProperties": {f"^p{i:05}$": {} for i in range(50_000)}, "additionalProperties": False})
-    yield valid("50,000 patterns, each name matched by one", patterns, '{"p00000":1,"p25007":2,"p49999":3}')
-    yield check("50,000 patterns, a name matched by none", patterns, '{"p00000":1,"p50000":2}', out=INVALID, status=1)
-    yield valid("a pattern that is slow to compile", compact({"pattern": "(\\pL{40}){8}"}), "0")
-    yield refused("a pattern that is too large", 'document 0 at "/pattern": PatternTooLarge',
-                  compact({"pattern": "((a{100}){100}){100}"}))
-    yield refused("a pattern that looks ahead", 'document 0 at "/pattern": BadPattern', compact({"pattern": "(?=a)"}))
-    yield refused("a pattern that nests deep", 'document 0 at "/pattern": BadPattern',
-                  compact({"pattern": "(" * 300 + ")" * 300}))
     yield valid("an array of 300,000 distinct items", '{"uniqueItems":true}', compact(list(range(300_000))))
     many = 1_000_000
     for last, pair in ((0, "0 and 1000000"), (many - 1, "999999 and 1000000")):
@@ -248,7 +254,33 @@ def large():
     names = [f"n{i}" for i in range(300_000)]
     required = compact({"required": names})
     yield valid("300,000 required names", required, compact({it: 0 for it in names}))
-    yield error("300,000 required names but one", required, compact({it: 0 for it in names[1:]}), "required", 'missing: ["n0"]')
+    yield error("300,000 required names but one", required, compact({it: 0 for it in names[1:]}),
+                "required", 'missing: ["n0"]')
+
+
+def bundles():
+    """A wide and a deep bundle."""
+    for name, (schema, instance) in (("wide", wide_bundle()), ("deep", deep_bundle())):
+        for it in FORMATS:
+            yield check(f"a {name} bundle, {it}", schema, instance, it, out=None)
+        yield Case(f"the places of a {name} bundle", ["places", U, "schema.json"], {"schema.json": schema}, out=None)
+
+
+def patterns():
+    """Many patterns, and those that are slow to compile or refused."""
+    many = compact({"patternProperties": {f"^p{i:05}$": {} for i in range(50_000)}, "additionalProperties": False})
+    yield valid("50,000 patterns, each name matched by one", many, '{"p00000":1,"p25007":2,"p49999":3}')
+    yield check("50,000 patterns, a name matched by none", many, '{"p00000":1,"p50000":2}', out=INVALID, status=1)
+    yield valid("a pattern that is slow to compile", compact({"pattern": "(\\pL{40}){8}"}), "0")
+    yield refused("a pattern that is too large", 'document 0 at "/pattern": PatternTooLarge',
+                  compact({"pattern": "((a{100}){100}){100}"}))
+    yield from refused_patterns()
+
+
+def refused_patterns():
+    yield refused("a pattern that looks ahead", 'document 0 at "/pattern": BadPattern', compact({"pattern": "(?=a)"}))
+    yield refused("a pattern that nests deep", 'document 0 at "/pattern": BadPattern',
+                  compact({"pattern": "(" * 300 + ")" * 300}))
 
 
 def at_the_limit():
@@ -264,7 +296,5 @@ def at_the_limit():
     yield valid("unique items nested 126 times", '{"uniqueItems":true}', "[" + nested(126) + "]")
     yield valid("schemas nested 120 times", '{"not":' * 120 + "true" + "}" * 120, "0")
     yield refused("a schema nested 128 times", 'document 0 at "": NotJson', '{"const":' + nested(127) + "}")
-    yield refused("a pattern that looks ahead", 'document 0 at "/pattern": BadPattern', compact({"pattern": "(?=a)"}))
-    yield refused("a pattern that nests deep", 'document 0 at "/pattern": BadPattern',
-                  compact({"pattern": "(" * 300 + ")" * 300}))
+    yield from refused_patterns()
     yield valid("a pattern that nests 200 times", compact({"pattern": "(" * 200 + "a" + ")" * 200}), '"a"')

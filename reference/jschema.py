@@ -2,18 +2,21 @@
 """The program's words over the reference: slow and short, to be compared with the program.
 
     reference/jschema.py (check FORMAT INSTANCE ENTRY | suite SUITE | places) [URI FILE]...
+
+It ends with the program's status, or with 70 and a traceback where the reference itself fails.
 """
 import functools
-import os
 import sys
-import threading
+import traceback
 
 from bundle import Bundle, EntryRefused, Refused
+from deep_stack import with_deep_stack
 from forms import FORMATS, form_text
 from json_text import Fraction, NotJson, NotWhole, any_value, first_fraction, pointer_text, read, text
 from result import TooLarge, result
 
 LARGEST = 16_777_216
+CRASHED = 70
 USAGE = "usage: jschema (check FORMAT INSTANCE ENTRY | suite SUITE | places) [URI FILE]..."
 PAIRS = "usage: URI and FILE come in pairs"
 
@@ -210,17 +213,17 @@ def main():
     sys.stdout.buffer.flush()
     sys.stderr.buffer.write(faults)
     sys.stderr.buffer.flush()
-    os._exit(status)
+    return status
 
 
-def with_deep_stack(call):
-    """Runs a call with room for results as deep as the limits allow."""
-    sys.setrecursionlimit(100_000)
-    threading.stack_size(512 * 1024 * 1024)
-    thread = threading.Thread(target=call)
-    thread.start()
-    thread.join()
+def status_of_main():
+    """The program's status, or one that it doesn't have where the reference itself fails."""
+    try:
+        return with_deep_stack(main)
+    except Exception:
+        traceback.print_exc()
+        return CRASHED
 
 
 if __name__ == "__main__":
-    with_deep_stack(main)
+    sys.exit(status_of_main())

@@ -1,0 +1,84 @@
+"""Each growth of memory refused in turn, over whole runs of the program: the parts `growth` and `arguments`."""
+import cases
+import series
+from jschema import USAGE
+from room import in_turn, preloaded, short
+
+OUT_OF_MEMORY = b"", b"failed: Memory\n", 4
+# What `main` answers out of memory before its command begins, and where no memory is left for a line.
+SILENT = b"", b"", 4
+MISUSED = b"", f"{USAGE}\n".encode(), 2
+
+
+def growth(room):
+    """Each growth refused, alone and with all later ones: the answer is `Memory`, or the one with ample memory."""
+    for case in room.chosen(series.growths()):
+        own = case.wanted()
+        got = []
+
+        def judge_alone(answer, told):
+            got.append(answer)
+            return judge(answer, told, own, may_begin=is_suite(case), line=OUT_OF_MEMORY)
+
+        count = in_turn(room, f"{case.name}, growth", refusing(room, case), judge_alone)
+        room.tell(f"{case.name}, growths before the command", judge_silent(got))
+        in_turn(room, f"{case.name}, growth and all later", refusing(room, case, REFUSE_ALL=1),
+                lambda answer, told: judge(answer, told, own, may_begin=is_suite(case), line=SILENT))
+        print(f"{case.name}: {count} growths, each refused in turn", flush=True)
+
+
+def is_suite(case):
+    """A suite's lines go out one by one, so some may be out before memory fails."""
+    return case.words[:1] == ["suite"]
+
+
+def refusing(room, case, **how):
+    return lambda number: preloaded(room, room.program, case.words, case.given, REFUSE_NTH=number, **how)
+
+
+def judge(got, told, own, may_begin, line):
+    """Judges the answer of a run of which a growth was refused. Out of memory it writes `line`, or nothing."""
+    out, errors, status = got
+    if got == own:
+        return None
+    if not told:
+        return f"nothing was refused; wanted {short(own)}, got {short(got)}"
+    if status == 4 and errors in (line[1], b"") and (out == b"" or may_begin and own[0].startswith(out)):
+        return None
+    # The line of a refusal takes memory; a usage text doesn't.
+    if own[2] == 3 and got == (b"", b"", 3):
+        return None
+    return f"wanted {short(own)} or out of memory, got {short(got)}"
+
+
+def judge_silent(got):
+    """A growth refused alone comes to a line, but for the first ones, which `main` makes before its command."""
+    silent = [number for number, it in enumerate(got, 1) if it == SILENT]
+    if not silent:
+        return "a line was written for each growth, also for those of the arguments"
+    if silent[-1] != len(silent):
+        return f"no line was written for growths {silent}"
+    return None
+
+
+def arguments(room):
+    """An argument that isn't UTF-8 is misuse, wherever it stands; so is such a name of the program."""
+    room.put({"schema.json": "true", "instance.json": "0"})
+    valid = ["check", "flag", "instance.json", cases.U, cases.U, "schema.json"]
+    for at in range(len(valid) + 1):
+        case = cases.Case(f"argument {at} isn't UTF-8", [*valid[:at], b"\xff", *valid[at:]])
+        answer, _ = preloaded(room, room.program, case.words)
+        room.judge(case.name, MISUSED, answer)
+        for what, how in (("growth", {}), ("growth and all later", {"REFUSE_ALL": 1})):
+            in_turn(room, f"{case.name}, {what}", refusing(room, case, **how), judge_misused)
+    answer, _ = preloaded(room, b"\xff", [], executable=room.program)
+    room.judge("the program's name isn't UTF-8", MISUSED, answer)
+    answer, _ = preloaded(room, room.program, ["check", b"\xff"], FAIL_WRITE=1, WRITE_ON=2)
+    room.judge("an argument that isn't UTF-8, and standard error fails", (b"", b"", 2), answer)
+
+
+def judge_misused(got, told):
+    """Out of memory before the arguments are read no line comes."""
+    if got == MISUSED or told and got == SILENT:
+        return None
+    return f"wanted {short(MISUSED)}{' or out of memory' * bool(told)}, got {short(got)}"
