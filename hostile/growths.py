@@ -1,5 +1,4 @@
 """Each growth of memory refused in turn, over whole runs of the program: the parts `growth` and `arguments`."""
-import cases
 import series
 from jschema import USAGE
 from room import in_turn, preloaded, short
@@ -63,10 +62,7 @@ def judge_silent(got):
 
 def arguments(room):
     """An argument that isn't UTF-8 is misuse, wherever it stands; so is such a name of the program."""
-    room.put({"schema.json": "true", "instance.json": "0"})
-    valid = ["check", "flag", "instance.json", cases.U, cases.U, "schema.json"]
-    for at in range(len(valid) + 1):
-        case = cases.Case(f"argument {at} isn't UTF-8", [*valid[:at], b"\xff", *valid[at:]])
+    for case in room.chosen(series.not_utf_8()):
         answer, _ = preloaded(room, room.program, case.words)
         room.judge(case.name, MISUSED, answer)
         for what, how in (("growth", {}), ("growth and all later", {"REFUSE_ALL": 1})):

@@ -29,3 +29,10 @@ def growths():
     yield Case("arguments that ask for nothing", ["chec"], out=None)
     yield Case("a URI without a file", ["places", U], out=None)
     yield cases.check("a refused schema", '{"type":[]}', "0", out=None)
+
+
+def not_utf_8():
+    """A valid check, with an argument more that isn't UTF-8, at each place."""
+    valid = cases.check("", "true", "0")
+    for at in range(len(valid.words) + 1):
+        yield Case(f"argument {at} isn't UTF-8", [*valid.words[:at], b"\xff", *valid.words[at:]], valid.files)
