@@ -1,14 +1,15 @@
-/* Preloaded into a built program: refuses growths, and has reads and writes fail.
+/* Preloaded into a built program: refuses allocations, and makes reads and writes fail. The environment says which:
 
-   REFUSE_NTH=N      growth N, counted from 1, is refused; where REFUSE_ALL is set every later one too
-   REFUSE_MARKED     only growths count between the byte '<' and the byte '>' that the program writes on standard error
-   FAIL_READ=N       read N answers an error, where INTERRUPTED is set that it was interrupted
-   FAIL_WRITE=N      write N on descriptor WRITE_ON answers an error, where TAKE_NONE is set that it took nothing
-   ONE_BYTE          each read and write moves at most one byte
-   TELL_OPENED       the path of each file that is opened goes on descriptor 3, with a line feed, and nothing else does
+   REFUSE_NTH=N      allocation N, counted from 1, is refused; with REFUSE_ALL every later one too
+   REFUSE_MARKED     count only allocations between the byte '<' and the byte '>' that the program writes on standard
+                     error
+   FAIL_READ=N       read N fails; with INTERRUPTED because it is interrupted
+   FAIL_WRITE=N      write N on descriptor WRITE_ON fails; with TAKE_NONE it succeeds and takes nothing
+   ONE_BYTE          each read and write transfers at most one byte
+   TELL_OPENED       write the path of each file that is opened to descriptor 3, with a line feed, and nothing else
 
-   Else on descriptor 3 goes a byte 'x' for each growth, read or write that is refused, and a byte 'y' for each read or write
-   of the same descriptor after it. */
+   Otherwise descriptor 3 gets a byte 'x' for each allocation, read or write that fails, and a byte 'y' for each later
+   read or write of the descriptor that failed. */
 typedef unsigned long size_t;
 extern void *__libc_malloc(size_t);
 extern void *__libc_realloc(void *, size_t);
