@@ -1,89 +1,82 @@
-//! One public call by itself, on a row whose answer is known, for `hostile/run`: it refuses the call's growths, one after the
-//! other, and compares.
+//! Public calls by themselves, for `hostile/run single`: it asks, refuses the growths of a call one after the other, and compares.
 //!
-//! The words after the test's name: the call, and of those that judge something the row. On standard error goes `<` right before
-//! the call and `>` right after it. On standard output goes `Memory` as a line where the call found none, and then the answer, or
-//! what stands after the refusal. `devices` runs a whole job over devices that are slow, and that fail at each call in turn.
-//! `ask` answers what standard input asks of a document's places.
+//! Standard input has two groups with U+001D between them: the documents of a bundle, and questions. A group's records have
+//! U+001E between them, and a record's words U+001F. A document is its URI and its text. A question's first word names what
+//! is asked, by the modules below; each answer goes to standard output, with U+001E after it.
+//!
+//! On standard error goes `<` right before a call, and `>` right after it. A call that finds no memory answers `Memory`, and
+//! where something has to stand after it, what stands. The word after the test's name says which calls on the bundle itself
+//! stand between these marks: `add`, `add_doc` or `finish`, else none.
 mod bundles;
 mod devices;
-mod fakes;
-mod judged;
-mod quiet;
-mod refusing;
-mod rows;
-mod stopping;
-mod told;
+pub mod fakes;
+mod flat_lists;
+mod hand_made;
+mod places;
+mod results;
+mod telling;
 mod trees;
 mod values;
 
-use crate::bundles::asked;
-use js_doc::Memory;
-use std::env;
+use js_bundle::Schemas;
+use std::alloc::Global;
 use std::io::Write;
 use std::test::Fail;
-use told::Told;
+use std::{env, io};
 
-/// Without words, as the gate runs each test: a pointer gets a token.
+/// Without words, as the gate runs each test, one pointer is asked for its fragment.
 #[test]
 fn by_itself(rt: HostRuntime) -> Result<(), Fail> {
-    let words = env::args(&rt)?;
     // (the program's name, and the test's)
-    let mut words = words.skip(2);
-    match words.next() {
-        Some(call) if call.as_str() == "ask" => tell(&rt, &told::done(asked::answers(&rt)?)?),
-        Some(call) => {
-            let row = words.next();
-            tell(&rt, &called(&rt, call.as_str(), row)?)
+    match env::args(&rt)?.nth(2) {
+        Some(marked) => {
+            let input = io::read_to_string(rt.alloc(), rt.stdin())?;
+            let answers = answers(&rt, marked.as_str(), input.as_str())?;
+            rt.stdout().write_all(answers.as_bytes())?;
         }
         None => {
-            assert_eq!(rt; values::pushed(&rt)?.text.as_str(), "/a~1b/0/1/2/c d");
-            Ok(())
+            let answers = answers(&rt, "", "\u{1d}value\u{1f}fragment\u{1f}/a~1b c")?;
+            assert_eq!(rt; answers.as_str(), "/a~1b%20c\u{1e}");
         }
     }
-}
-
-fn tell(rt: &HostRuntime, told: &Told) -> Result<(), Fail> {
-    let mut out = rt.stdout();
-    if told.refused {
-        out.write_all(b"Memory\n")?;
-    }
-    out.write_all(told.text.as_bytes())?;
     Ok(())
 }
 
-fn called(rt: &HostRuntime, call: &str, row: Option<String>) -> Result<Told, Memory> {
-    match row {
-        Some(job) if call == "devices" => devices::run_over_devices(rt, job.as_str()),
-        Some(row) => judged::judged(rt, call, row.as_str()),
-        None => alone(rt, call),
+fn answers(rt: &HostRuntime, marked: &str, input: &str) -> Result<String, Fail> {
+    let mut groups = input.split('\u{1d}');
+    let documents = groups.next().unwrap_or("");
+    let mut answers = String::new(rt.alloc());
+    let schemas = bundles::finished(rt, marked, documents, &mut answers)?;
+    for question in groups.next().unwrap_or("").split('\u{1e}') {
+        let words = words_of(rt.alloc(), question)?;
+        let answer = answer(rt, documents, &schemas, words.as_slice())?;
+        answers.push_str(answer.as_str())?;
+        answers.push('\u{1e}')?;
     }
+    Ok(answers)
 }
 
-// The calls that need no row.
-fn alone(rt: &HostRuntime, call: &str) -> Result<Told, Memory> {
-    match call {
-        "read" => values::read_bytes(rt),
-        "from_value" => values::from_read_value(rt),
-        "copy" => values::copied(rt),
-        "text" => values::text_of(rt),
-        "put" => values::put(rt),
-        "push" => values::pushed(rt),
-        "copy_pointer" => values::pointer_copied(rt),
-        "further" => values::further(rt),
-        "parse" => values::parsed(rt),
-        "pointer" => values::pointer_text(rt),
-        "fragment" => values::fragment(rt),
-        "from_fragment" => values::from_fragment(rt),
-        "pattern" => values::pattern(rt),
-        "holds" => values::holds(rt),
-        "assertion" => values::assertion(rt),
-        "check" => values::check(rt),
-        "at" => quiet::at(rt),
-        "equal" => quiet::equal(rt),
-        "add" | "add_doc" => bundles::added(rt, call),
-        "finish" => bundles::finished(rt),
-        "entry" | "places" | "resources" | "absolute" => judged::judged(rt, call, "embedded"),
-        _ => told::other(rt.alloc()),
+/// The words of a record.
+fn words_of<'q>(alloc: Global, record: &'q str) -> Result<Vec<&'q str>, Fail> {
+    let mut words = Vec::new(alloc);
+    for word in record.split('\u{1f}') {
+        words.push(word)?;
+    }
+    Ok(words)
+}
+
+fn answer(
+    rt: &HostRuntime,
+    documents: &str,
+    schemas: &Schemas,
+    words: &[&str],
+) -> Result<String, Fail> {
+    match words {
+        ["value", words @ ..] => values::answer(rt, words),
+        ["place", words @ ..] => places::answer(rt, schemas, words),
+        ["result", words @ ..] => results::answer(rt, schemas, words),
+        ["hand-made", words @ ..] => hand_made::answer(rt, words),
+        ["devices", words @ ..] => devices::answer(rt, documents, words),
+        _ => Err(Fail::from("it is no question")),
     }
 }

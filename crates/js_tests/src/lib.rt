@@ -1,15 +1,12 @@
-//! Tests of the calls of the library crates: what no contract says of them, that each succeeds where there is memory.
+//! Tests of the library crates' calls, and nothing else: each crate that they call is proved once, without tests.
 //!
-//! The crate holds nothing but tests, so each crate that is tested is proved once. The lines of faults and the texts of
-//! formats stand in `rows/`; `hostile/run` asks `calls` for single calls with each growth refused, and for whole runs over
-//! devices that fail at each call.
+//! `hostile/run single` asks one test, `calls::by_itself`, call after call, and compares the answers with worked examples and
+//! with the reference.
 #![tactic(auto)]
 
-#[cfg(test)]
-mod bundles;
+mod words;
+
+pub use words::word_at;
+
 #[cfg(test)]
 mod calls;
-#[cfg(test)]
-mod trees;
-#[cfg(test)]
-mod values;

@@ -1,165 +1,170 @@
-//! Calls on a row's result, as a tree and as a flat list.
-ghost use Rattle.std.specs.Prelude.{◌≡◌, true};
-ghost use Rattle.js_bundle.specs.Schemas.{is_place};
-ghost use Rattle.js_tree.specs.FlatState.{IsWholeTree, flat_state};
-
-use super::quiet;
-use super::stopping::{stopped_rows, stopped_tree};
-use super::told::{Told, begin, done, end, memory, other};
-use js_bundle::{Place, Schemas};
-use js_doc::{Doc, Memory, text};
-use js_eval::{walk, walk_into};
+//! Calls on a result tree.
+use super::telling::{begin, end, told_value, yes_or_no};
+use super::values::ROOM;
+use js_doc::{Memory, text};
 use js_tree::{
-    Flat, Format, Tree, Unit, flat_condense, flat_doc, flat_prune, flat_units, form, tree_doc,
-    units,
+    Collector, Format, Head, Move, Note, Rule, Tree, Unit, Verdict, apply, condense, form,
+    is_merged, is_normal, merge_condense, prune, put_tree, replay, tree_doc, units,
 };
 use std::alloc::Global;
+use std::test::Fail;
 
-pub fn called<'a>(
-    rt: &HostRuntime,
-    call: &str,
-    schemas: &'a Schemas,
-    place: Place,
-    value: &'a Doc,
-) -> Result<Told, Memory>
-    requires { is_place schemas.now place ≡ true }
-{
-    if call.starts_with("flat_") {
-        match walk_into(rt.alloc(), schemas, place, value, Flat::new(rt.alloc())) {
-            Ok(flat) => rows_called(rt, call, flat),
-            Err(_) => Err(Memory),
-        }
-    } else {
-        match walk(rt.alloc(), schemas, place, value) {
-            Ok(tree) => tree_called(rt, call, tree),
-            Err(_) => Err(Memory),
-        }
-    }
-}
-
-fn rows_called(rt: &HostRuntime, call: &str, flat: Flat) -> Result<Told, Memory> {
-    if !flat.whole() {
-        return other(rt.alloc());
-    }
-    flat_called(rt, call, flat)
-}
-
-fn tree_called(rt: &HostRuntime, call: &str, tree: Tree) -> Result<Told, Memory> {
+/// What the call answers on the tree. `more` is a format or moves, for those that take some.
+pub fn answer(rt: &HostRuntime, call: &str, more: &str, tree: Tree) -> Result<String, Fail> {
     match call {
-        "units" => noted(rt, tree),
-        "tree_doc" => doc_of(rt, &tree),
-        "form_flag" => formed(rt, tree, Format::Flag),
-        "form_basic" => formed(rt, tree, Format::Basic),
-        "form_detailed" => formed(rt, tree, Format::Detailed),
-        "form_merged" => formed(rt, tree, Format::Merged),
-        "form_verbose" => formed(rt, tree, Format::Verbose),
-        "stopped_tree" => stopped_tree(rt.alloc(), &tree),
-        _ => quiet::tree_called(rt, call, tree),
+        "units" => noted(rt, &tree),
+        "tree_doc" | "form" => as_value(rt, call, more, tree),
+        "put_tree" => put_out(rt, &tree),
+        "prune" | "condense" | "merge_condense" => changed(rt, call, tree),
+        "is_normal" | "is_merged" => looked_at(rt, call, &tree),
+        "apply" | "replay" => moved(rt, call, more, tree),
+        "enter_and_leave" => told_by_events(rt, &tree),
+        _ => shown(rt.alloc(), &tree),
     }
 }
 
-fn noted(rt: &HostRuntime, tree: Tree) -> Result<Told, Memory> {
+fn shown(alloc: Global, tree: &Tree) -> Result<String, Fail> {
+    Ok(text(alloc, &tree_doc(alloc, tree)?)?)
+}
+
+pub fn format_of(name: &str) -> Format {
+    match name {
+        "flag" => Format::Flag,
+        "basic" => Format::Basic,
+        "detailed" => Format::Detailed,
+        "merged" => Format::Merged,
+        _ => Format::Verbose,
+    }
+}
+
+fn noted(rt: &HostRuntime, tree: &Tree) -> Result<String, Fail> {
     begin(rt);
-    let found = units(rt.alloc(), &tree);
+    let found = units(rt.alloc(), tree);
     end(rt);
-    match found {
-        Ok(found) => done(lines(rt.alloc(), found.as_slice())?),
-        Err(Memory) => memory(rt.alloc()),
-    }
+    told_units(rt.alloc(), found)
 }
 
-// The units' keyword locations.
-fn lines(alloc: Global, units: &[&Unit]) -> Result<String, Memory> {
+/// The units' keyword locations, a line each.
+pub fn told_units(alloc: Global, found: Result<Vec<&Unit>, Memory>) -> Result<String, Fail> {
     let mut lines = String::new(alloc);
-    for unit in units {
-        lines.push_str(unit.keyword.as_str())?;
-        lines.push('\n')?;
+    match found {
+        Ok(units) => {
+            for unit in units.iter() {
+                lines.push_str(unit.keyword.as_str())?;
+                lines.push('\n')?;
+            }
+        }
+        Err(_) => lines.push_str("Memory")?,
     }
     Ok(lines)
 }
 
-fn doc_of(rt: &HostRuntime, tree: &Tree) -> Result<Told, Memory> {
+fn as_value(rt: &HostRuntime, call: &str, format: &str, tree: Tree) -> Result<String, Fail> {
+    let alloc = rt.alloc();
     begin(rt);
-    let made = tree_doc(rt.alloc(), tree);
+    let made = match call {
+        "tree_doc" => tree_doc(alloc, &tree),
+        _ => form(alloc, tree, format_of(format)),
+    };
     end(rt);
-    told_doc(rt.alloc(), made)
+    told_value(alloc, made)
 }
 
-fn told_doc(alloc: Global, made: Result<Doc, Memory>) -> Result<Told, Memory> {
+// (the text has its room before)
+fn put_out(rt: &HostRuntime, tree: &Tree) -> Result<String, Fail> {
+    let mut out = String::with_capacity(rt.alloc(), ROOM)?;
+    begin(rt);
+    let put = put_tree(tree, &mut out);
+    end(rt);
+    put?;
+    Ok(out)
+}
+
+fn changed(rt: &HostRuntime, call: &str, tree: Tree) -> Result<String, Fail> {
+    begin(rt);
+    let made = match call {
+        "prune" => prune(tree),
+        "condense" => condense(tree),
+        _ => merge_condense(tree),
+    };
+    end(rt);
+    shown(rt.alloc(), &made)
+}
+
+fn looked_at(rt: &HostRuntime, call: &str, tree: &Tree) -> Result<String, Fail> {
+    begin(rt);
+    let holds = match call {
+        "is_normal" => is_normal(tree),
+        _ => is_merged(tree),
+    };
+    end(rt);
+    yes_or_no(rt.alloc(), holds)
+}
+
+// The number of the first move that isn't possible, or `done`, and the tree that is left.
+fn moved(rt: &HostRuntime, call: &str, moves: &str, tree: Tree) -> Result<String, Fail> {
+    let alloc = rt.alloc();
+    let moves = moves_of(alloc, moves)?;
+    begin(rt);
+    let made = match (call, moves.first()) {
+        ("apply", Some(first)) => match apply(tree, first) {
+            Ok(left) => Ok(left),
+            Err((_, left)) => Err((0, left)),
+        },
+        _ => replay(tree, moves.as_slice()),
+    };
+    end(rt);
     match made {
-        Ok(doc) => done(text(alloc, &doc)?),
-        Err(Memory) => memory(alloc),
+        Ok(left) => {
+            let left = shown(alloc, &left)?;
+            Ok(format!(in alloc; "done {left}")?)
+        }
+        Err((number, left)) => {
+            let left = shown(alloc, &left)?;
+            Ok(format!(in alloc; "{number} {left}")?)
+        }
     }
 }
 
-fn formed(rt: &HostRuntime, tree: Tree, format: Format) -> Result<Told, Memory> {
+// The moves of a text: with spaces between, `drop`, `lift` or `merge` for the rule of those that come next, or a position.
+fn moves_of(alloc: Global, text: &str) -> Result<Vec<Move>, Fail> {
+    let mut moves = Vec::new(alloc);
+    let mut rule = Rule::Drop;
+    for word in text.split(' ') {
+        match word {
+            "drop" => rule = Rule::Drop,
+            "lift" => rule = Rule::Lift,
+            "merge" => rule = Rule::Merge,
+            _ => moves.push(Move {
+                rule,
+                position: word.parse::<usize>()?,
+            })?,
+        }
+    }
+    Ok(moves)
+}
+
+// What a verdict holds of a failing root over a passing node, told of texts that are made before.
+fn told_by_events(rt: &HostRuntime, tree: &Tree) -> Result<String, Fail> {
+    let root = head_of(tree)?;
+    let node = head_of(tree)?;
+    let mut verdict = Verdict::new();
     begin(rt);
-    let made = form(rt.alloc(), tree, format);
+    let entered = verdict.enter(root).and(verdict.enter(node));
+    let left = verdict
+        .leave(true, Note::Truth)
+        .and(verdict.leave(false, Note::Silent));
+    let valid = verdict.valid();
     end(rt);
-    told_doc(rt.alloc(), made)
+    entered?;
+    left?;
+    Ok(format!(in rt.alloc(); "{valid:?}")?)
 }
 
-fn flat_called(rt: &HostRuntime, call: &str, flat: Flat) -> Result<Told, Memory>
-    requires { IsWholeTree (flat_state flat) }
-{
-    match call {
-        "flat_units" => flat_noted(rt, flat),
-        "flat_flag" => flat_shown(rt, &flat, Format::Flag),
-        "flat_basic" => flat_shown(rt, &flat_prune(flat), Format::Basic),
-        "flat_detailed" => flat_shown(rt, &condensed(flat), Format::Detailed),
-        "flat_verbose" => flat_shown(rt, &flat, Format::Verbose),
-        "flat_stopped_flag" => flat_stopped(rt.alloc(), &flat, Format::Flag),
-        "flat_stopped_basic" => flat_stopped(rt.alloc(), &flat_prune(flat), Format::Basic),
-        "flat_stopped_detailed" => flat_stopped(rt.alloc(), &condensed(flat), Format::Detailed),
-        "flat_stopped_verbose" => flat_stopped(rt.alloc(), &flat, Format::Verbose),
-        _ => quiet::flat_called(rt, call, flat),
-    }
-}
-
-fn flat_noted(rt: &HostRuntime, flat: Flat) -> Result<Told, Memory>
-    requires { IsWholeTree (flat_state flat) }
-{
-    begin(rt);
-    let found = flat_units(rt.alloc(), &flat);
-    end(rt);
-    match found {
-        Ok(found) => done(lines(rt.alloc(), found.as_slice())?),
-        Err(Memory) => memory(rt.alloc()),
-    }
-}
-
-fn condensed(flat: Flat) -> Flat
-    requires { IsWholeTree (flat_state flat) }
-{
-    let pruned = flat_prune(flat);
-    if pruned.whole() {
-        flat_condense(pruned)
-    } else {
-        pruned
-    }
-}
-
-fn flat_shown(rt: &HostRuntime, flat: &Flat, format: Format) -> Result<Told, Memory> {
-    if !flat.whole() {
-        return other(rt.alloc());
-    }
-    begin(rt);
-    let made = flat_doc(rt.alloc(), flat, format);
-    end(rt);
-    told_doc(rt.alloc(), made)
-}
-
-fn flat_stopped(alloc: Global, flat: &Flat, format: Format) -> Result<Told, Memory> {
-    if !flat.whole() {
-        return other(alloc);
-    }
-    stopped_rows(alloc, flat, format)
-}
-
-/// The text of the rows' tree.
-pub fn told_rows(alloc: Global, flat: &Flat) -> Result<Told, Memory> {
-    if !flat.whole() {
-        return other(alloc);
-    }
-    done(text(alloc, &flat_doc(alloc, flat, Format::Verbose)?)?)
+fn head_of(tree: &Tree) -> Result<Head, Fail> {
+    Ok(Head {
+        keyword: tree.unit.keyword.copy()?,
+        absolute: tree.unit.absolute.copy()?,
+        instance: tree.unit.instance.copy()?,
+    })
 }

@@ -1,229 +1,301 @@
-//! Calls on values, pointers, patterns and assertions.
-use super::rows::{POLYGON, value};
-use super::told::{Told, begin, done, end, memory, other, refused};
-use js_assert::{Assertion, KeywordFault, Pattern, PatternFault};
-use js_doc::{Doc, Members, Memory, Pointer, PointerFault, ReadFault, from_value, read, text};
+//! js_doc's and js_assert's calls. The words of a question: the call, and the texts that it is made on.
+use super::telling::{begin, end, told_after, told_text, told_value, yes_or_no};
+use crate::word_at;
+use js_assert::{Assertion, Pattern};
+use js_doc::{
+    Doc, Members, Pointer, from_value, push_fragment_token, push_string, push_token, put_text,
+    read, text,
+};
 use serde_json::Value;
-use std::alloc::Global;
+use std::test::Fail;
 
-pub fn read_bytes(rt: &HostRuntime) -> Result<Told, Memory> {
-    begin(rt);
-    let made = read(rt.alloc(), POLYGON.as_bytes());
-    end(rt);
-    told_doc(rt.alloc(), made)
-}
+/// More bytes than the texts of questions have.
+pub const ROOM: usize = 16_777_216;
 
-fn told_doc(alloc: Global, made: Result<Doc, ReadFault>) -> Result<Told, Memory> {
-    match made {
-        Ok(doc) => done(text(alloc, &doc)?),
-        Err(ReadFault::Memory) => memory(alloc),
-        Err(_) => other(alloc),
+pub fn answer(rt: &HostRuntime, words: &[&str]) -> Result<String, Fail> {
+    let call = word_at(words, 0);
+    let first = word_at(words, 1);
+    let second = word_at(words, 2);
+    match call {
+        "read" | "from_value" | "copy" | "text" => value_called(rt, call, first),
+        "put_text" => put_out(rt, first),
+        "put" => member_put(rt, first, second),
+        "get" => member_found(rt, first, second),
+        "at" => found_at(rt, first, second),
+        "equal" => equal(rt, first, second),
+        "parse" | "from_fragment" => pointer_read(rt, call, first),
+        "pointer" | "fragment" => pointer_told(rt, call, first),
+        "copy_pointer" | "further" => pointer_made(rt, call, first, second),
+        "push" => token_pushed(rt, first, second),
+        "push_token" | "push_fragment_token" | "push_string" => text_pushed(rt, call, first),
+        "pattern" | "searcher" | "search" | "matches" => pattern_called(rt, call, first, second),
+        _ => assertion_called(rt, call, first, second, word_at(words, 3)),
     }
 }
 
-pub fn from_read_value(rt: &HostRuntime) -> Result<Told, Memory> {
-    let Ok(value) = Value::from_slice(rt.alloc(), POLYGON.as_bytes()) else {
-        return Err(Memory);
-    };
-    begin(rt);
-    let made = from_value(rt.alloc(), &value);
-    end(rt);
-    told_doc(rt.alloc(), made)
-}
-
-pub fn copied(rt: &HostRuntime) -> Result<Told, Memory> {
-    let doc = value(rt.alloc(), POLYGON)?;
-    begin(rt);
-    let made = doc.copy(rt.alloc());
-    end(rt);
-    match made {
-        Ok(copy) => done(text(rt.alloc(), &copy)?),
-        Err(Memory) => memory(rt.alloc()),
-    }
-}
-
-pub fn text_of(rt: &HostRuntime) -> Result<Told, Memory> {
-    let doc = value(rt.alloc(), POLYGON)?;
-    begin(rt);
-    let made = text(rt.alloc(), &doc);
-    end(rt);
-    told_text(rt.alloc(), made)
-}
-
-fn told_text(alloc: Global, made: Result<String, Memory>) -> Result<Told, Memory> {
-    match made {
-        Ok(text) => done(text),
-        Err(Memory) => memory(alloc),
-    }
-}
-
-/// The first member: after a refusal there is none.
-pub fn put(rt: &HostRuntime) -> Result<Told, Memory> {
+fn value_called(rt: &HostRuntime, call: &str, source: &str) -> Result<String, Fail> {
     let alloc = rt.alloc();
-    let mut members = Members::new(alloc);
-    let name = String::from_str(alloc, "b")?;
+    match call {
+        "read" => {
+            begin(rt);
+            let made = read(alloc, source.as_bytes());
+            end(rt);
+            told_value(alloc, made)
+        }
+        "from_value" => {
+            let value = Value::from_slice(alloc, source.as_bytes())?;
+            begin(rt);
+            let made = from_value(alloc, &value);
+            end(rt);
+            told_value(alloc, made)
+        }
+        "copy" => {
+            let doc = read(alloc, source.as_bytes())?;
+            begin(rt);
+            let made = doc.copy(alloc);
+            end(rt);
+            told_value(alloc, made)
+        }
+        _ => {
+            let doc = read(alloc, source.as_bytes())?;
+            begin(rt);
+            let made = text(alloc, &doc);
+            end(rt);
+            told_text(alloc, made)
+        }
+    }
+}
+
+// (the text has its room before)
+fn put_out(rt: &HostRuntime, source: &str) -> Result<String, Fail> {
+    let doc = read(rt.alloc(), source.as_bytes())?;
+    let mut out = String::with_capacity(rt.alloc(), ROOM)?;
+    begin(rt);
+    let put = put_text(&doc, &mut out);
+    end(rt);
+    put?;
+    Ok(out)
+}
+
+// An object into which `true` is put under a name.
+fn member_put(rt: &HostRuntime, object: &str, name: &str) -> Result<String, Fail> {
+    let mut members = members_of(rt, object)?;
+    let name = String::from_str(rt.alloc(), name)?;
     begin(rt);
     let made = members.put(name, Doc::Truth(true));
     end(rt);
-    let stands = text(alloc, &Doc::Members(members))?;
-    match made {
-        Ok(()) => done(stands),
-        Err(Memory) => refused(stands),
+    let stands = text(rt.alloc(), &Doc::Members(members))?;
+    told_after(rt.alloc(), made, stands)
+}
+
+fn members_of(rt: &HostRuntime, object: &str) -> Result<Members, Fail> {
+    match read(rt.alloc(), object.as_bytes())? {
+        Doc::Members(members) => Ok(members),
+        _ => Err(Fail::from("it is no object")),
     }
 }
 
-/// The pointer `/a~1b`.
-fn pointer(alloc: Global) -> Result<Pointer, Memory> {
-    let mut pointer = Pointer::new(alloc);
-    pointer.push("a/b")?;
-    Ok(pointer)
-}
-
-/// A token more, for which the list has no room: after a refusal the pointer's text is what it was.
-pub fn pushed(rt: &HostRuntime) -> Result<Told, Memory> {
-    let mut pointer = pointer(rt.alloc())?;
-    for token in ["0", "1", "2"] {
-        pointer.push(token)?;
-    }
+// The value of a name, or `none`; and the last name of all.
+fn member_found(rt: &HostRuntime, object: &str, name: &str) -> Result<String, Fail> {
+    let members = members_of(rt, object)?;
+    let mut last = "";
     begin(rt);
-    let made = pointer.push("c d");
+    let found = members.get(name);
+    for (name, _) in members.pairs() {
+        last = name.as_str();
+    }
+    end(rt);
+    let found = match found {
+        Some(found) => text(rt.alloc(), found)?,
+        None => String::from_str(rt.alloc(), "none")?,
+    };
+    Ok(format!(in rt.alloc(); "{found} {last}")?)
+}
+
+fn found_at(rt: &HostRuntime, source: &str, pointer: &str) -> Result<String, Fail> {
+    let doc = read(rt.alloc(), source.as_bytes())?;
+    let pointer = Pointer::parse(rt.alloc(), pointer)?;
+    begin(rt);
+    let found = doc.at(&pointer);
+    end(rt);
+    match found {
+        Some(found) => Ok(text(rt.alloc(), found)?),
+        None => Ok(String::from_str(rt.alloc(), "none")?),
+    }
+}
+
+fn equal(rt: &HostRuntime, one: &str, other: &str) -> Result<String, Fail> {
+    let one = read(rt.alloc(), one.as_bytes())?;
+    let other = read(rt.alloc(), other.as_bytes())?;
+    begin(rt);
+    let is_equal = one == other;
+    end(rt);
+    yes_or_no(rt.alloc(), is_equal)
+}
+
+// The text of the pointer that is read.
+fn pointer_read(rt: &HostRuntime, call: &str, text: &str) -> Result<String, Fail> {
+    let alloc = rt.alloc();
+    begin(rt);
+    let made = match call {
+        "parse" => Pointer::parse(alloc, text),
+        _ => Pointer::from_fragment(alloc, text),
+    };
+    end(rt);
+    match made {
+        Ok(pointer) => Ok(pointer.text(alloc)?),
+        Err(fault) => Ok(format!(in alloc; "{fault:?}")?),
+    }
+}
+
+fn pointer_told(rt: &HostRuntime, call: &str, text: &str) -> Result<String, Fail> {
+    let alloc = rt.alloc();
+    let pointer = Pointer::parse(alloc, text)?;
+    begin(rt);
+    let made = match call {
+        "pointer" => pointer.text(alloc),
+        _ => pointer.fragment(alloc),
+    };
+    end(rt);
+    told_text(alloc, made)
+}
+
+fn pointer_made(rt: &HostRuntime, call: &str, text: &str, token: &str) -> Result<String, Fail> {
+    let alloc = rt.alloc();
+    let pointer = Pointer::parse(alloc, text)?;
+    begin(rt);
+    let made = match call {
+        "further" => pointer.further(alloc, token),
+        _ => pointer.copy(alloc),
+    };
+    end(rt);
+    match made {
+        Ok(pointer) => Ok(pointer.text(alloc)?),
+        Err(fault) => Ok(format!(in alloc; "{fault:?}")?),
+    }
+}
+
+fn token_pushed(rt: &HostRuntime, text: &str, token: &str) -> Result<String, Fail> {
+    let mut pointer = Pointer::parse(rt.alloc(), text)?;
+    begin(rt);
+    let made = pointer.push(token);
     end(rt);
     let stands = pointer.text(rt.alloc())?;
-    match made {
-        Ok(()) => done(stands),
-        Err(Memory) => refused(stands),
-    }
+    told_after(rt.alloc(), made, stands)
 }
 
-pub fn pointer_copied(rt: &HostRuntime) -> Result<Told, Memory> {
-    let pointer = pointer(rt.alloc())?;
+// A token as pointers and fragments have it, or a text as JSON has it.
+fn text_pushed(rt: &HostRuntime, call: &str, text: &str) -> Result<String, Fail> {
+    let mut out = String::new(rt.alloc());
     begin(rt);
-    let made = pointer.copy(rt.alloc());
-    end(rt);
-    told_copy(rt.alloc(), made)
-}
-
-pub fn further(rt: &HostRuntime) -> Result<Told, Memory> {
-    let pointer = pointer(rt.alloc())?;
-    begin(rt);
-    let made = pointer.further(rt.alloc(), "c d");
-    end(rt);
-    told_copy(rt.alloc(), made)
-}
-
-fn told_copy(alloc: Global, made: Result<Pointer, Memory>) -> Result<Told, Memory> {
-    match made {
-        Ok(pointer) => done(pointer.text(alloc)?),
-        Err(Memory) => memory(alloc),
-    }
-}
-
-pub fn parsed(rt: &HostRuntime) -> Result<Told, Memory> {
-    begin(rt);
-    let made = Pointer::parse(rt.alloc(), "/a~1b/c d/~0/0");
-    end(rt);
-    told_pointer(rt.alloc(), made)
-}
-
-fn told_pointer(alloc: Global, made: Result<Pointer, PointerFault>) -> Result<Told, Memory> {
-    match made {
-        Ok(pointer) => done(pointer.text(alloc)?),
-        Err(PointerFault::Memory) => memory(alloc),
-        Err(_) => other(alloc),
-    }
-}
-
-pub fn pointer_text(rt: &HostRuntime) -> Result<Told, Memory> {
-    let mut pointer = pointer(rt.alloc())?;
-    pointer.push("c d")?;
-    begin(rt);
-    let made = pointer.text(rt.alloc());
-    end(rt);
-    told_text(rt.alloc(), made)
-}
-
-pub fn fragment(rt: &HostRuntime) -> Result<Told, Memory> {
-    let mut pointer = pointer(rt.alloc())?;
-    pointer.push("c d")?;
-    begin(rt);
-    let made = pointer.fragment(rt.alloc());
-    end(rt);
-    told_text(rt.alloc(), made)
-}
-
-pub fn from_fragment(rt: &HostRuntime) -> Result<Told, Memory> {
-    begin(rt);
-    let made = Pointer::from_fragment(rt.alloc(), "/a~1b/c%20d");
-    end(rt);
-    told_pointer(rt.alloc(), made)
-}
-
-pub fn pattern(rt: &HostRuntime) -> Result<Told, Memory> {
-    begin(rt);
-    let made = Pattern::new(rt.alloc(), "a+b");
-    end(rt);
-    match made {
-        Ok(pattern) => told_match(rt.alloc(), pattern.holds(rt.alloc(), "xaaby")),
-        Err(PatternFault::Memory) => memory(rt.alloc()),
-        Err(_) => other(rt.alloc()),
-    }
-}
-
-pub fn holds(rt: &HostRuntime) -> Result<Told, Memory> {
-    let Ok(pattern) = Pattern::new(rt.alloc(), "a+b") else {
-        return Err(Memory);
+    let made = match call {
+        "push_token" => push_token(&mut out, text),
+        "push_fragment_token" => push_fragment_token(&mut out, text),
+        _ => push_string(&mut out, text),
     };
-    begin(rt);
-    let made = pattern.holds(rt.alloc(), "xaaby");
     end(rt);
-    told_match(rt.alloc(), made)
-}
-
-fn told_match(alloc: Global, made: Result<bool, Memory>) -> Result<Told, Memory> {
     match made {
-        Ok(true) => done(String::from_str(alloc, "a match")?),
-        Ok(false) => other(alloc),
-        Err(Memory) => memory(alloc),
+        Ok(()) => Ok(out),
+        Err(fault) => Ok(format!(in rt.alloc(); "{fault:?}")?),
     }
 }
 
-/// `required` of the names `y` and `z`.
-fn required(alloc: Global) -> Result<Doc, Memory> {
-    value(alloc, "[\"y\",\"z\"]")
-}
-
-pub fn assertion(rt: &HostRuntime) -> Result<Told, Memory> {
+// Whether a pattern holds of a text, by itself and by its searcher: the call by this name is marked.
+fn pattern_called(rt: &HostRuntime, call: &str, pattern: &str, text: &str) -> Result<String, Fail> {
     let alloc = rt.alloc();
-    let argument = required(alloc)?;
-    let siblings = Members::new(alloc);
-    begin(rt);
-    let made = Assertion::read(alloc, "required", &argument, &siblings);
+    if call == "pattern" {
+        begin(rt);
+    }
+    let made = Pattern::new(alloc, pattern);
     end(rt);
     match made {
-        Ok(Some(assertion)) => told_error(alloc, assertion.check(alloc, &value(alloc, "{}")?, 0)),
-        Err(KeywordFault::Memory) => memory(alloc),
-        _ => other(alloc),
+        Ok(pattern) => pattern_asked(rt, call, &pattern, text),
+        Err(fault) => Ok(format!(in alloc; "{fault:?}")?),
     }
 }
 
-pub fn check(rt: &HostRuntime) -> Result<Told, Memory> {
+fn pattern_asked(
+    rt: &HostRuntime,
+    call: &str,
+    pattern: &Pattern,
+    text: &str,
+) -> Result<String, Fail> {
     let alloc = rt.alloc();
-    let argument = required(alloc)?;
-    let siblings = Members::new(alloc);
-    let Ok(Some(assertion)) = Assertion::read(alloc, "required", &argument, &siblings) else {
-        return Err(Memory);
-    };
-    let empty = value(alloc, "{}")?;
-    begin(rt);
-    let made = assertion.check(alloc, &empty, 0);
+    if call == "matches" {
+        begin(rt);
+    }
+    let made = pattern.holds(alloc, text);
     end(rt);
-    told_error(alloc, made)
+    if call == "searcher" {
+        begin(rt);
+    }
+    let searcher = pattern.searcher(alloc);
+    end(rt);
+    match (made, searcher) {
+        (Ok(holds), Ok(mut searcher)) => {
+            if call == "search" {
+                begin(rt);
+            }
+            let is_found = searcher.holds(text);
+            end(rt);
+            yes_or_no(alloc, holds && is_found)
+        }
+        _ => Ok(String::from_str(alloc, "Memory")?),
+    }
 }
 
-fn told_error(alloc: Global, made: Result<Option<String>, Memory>) -> Result<Told, Memory> {
+// What an assertion without siblings says of a value: the call by this name is marked.
+fn assertion_called(
+    rt: &HostRuntime,
+    call: &str,
+    keyword: &str,
+    argument: &str,
+    value: &str,
+) -> Result<String, Fail> {
+    let alloc = rt.alloc();
+    let argument = read(alloc, argument.as_bytes())?;
+    let value = read(alloc, value.as_bytes())?;
+    if call == "assertion" {
+        begin(rt);
+    }
+    let made = Assertion::read(alloc, keyword, &argument, &Members::new(alloc));
+    end(rt);
     match made {
-        Ok(Some(error)) => done(error),
-        Ok(None) => other(alloc),
-        Err(Memory) => memory(alloc),
+        Ok(Some(assertion)) => assertion_asked(rt, call, &assertion, &value),
+        Ok(None) => Ok(String::from_str(alloc, "no assertion")?),
+        Err(fault) => Ok(format!(in alloc; "{fault:?}")?),
+    }
+}
+
+fn assertion_asked(
+    rt: &HostRuntime,
+    call: &str,
+    assertion: &Assertion,
+    value: &Doc,
+) -> Result<String, Fail> {
+    let alloc = rt.alloc();
+    match call {
+        "holds" => {
+            begin(rt);
+            let made = assertion.holds(alloc, value, 0);
+            end(rt);
+            Ok(format!(in alloc; "{made:?}")?)
+        }
+        "error" => {
+            begin(rt);
+            let made = assertion.error(alloc, value, 0);
+            end(rt);
+            told_text(alloc, made)
+        }
+        _ => {
+            begin(rt);
+            let made = assertion.check(alloc, value, 0);
+            end(rt);
+            match made {
+                Ok(Some(error)) => Ok(error),
+                Ok(None) => Ok(String::from_str(alloc, "holds")?),
+                Err(fault) => Ok(format!(in alloc; "{fault:?}")?),
+            }
+        }
     }
 }
