@@ -57,16 +57,16 @@ def of_values():
         yield Question(("value", "read", source), compact)
         yield Question(("value", "copy", source), compact)
         yield quiet("value", "put_text", source, answer=compact)
-        yield quiet("value", "equal", source, compact, answer="yes")
+        yield quiet("value", "equal", source, compact, answer="true")
     for source in ("[1,", "", "\ufeff0", "1e400", "nul", '"\\ud800"'):
         yield Question(("value", "read", source), "NotJson")
     yield quiet("value", "put_text", cases.POLYGON, answer=polygon)
-    yield quiet("value", "equal", cases.POLYGON, polygon, answer="yes")
-    yield quiet("value", "equal", cases.POLYGON, cases.POINTS, answer="no")
-    yield quiet("value", "equal", "1", "true", answer="no")
-    yield in_turn("value", "put", "{}", "b", answer='{"b":true}', refused="Memory {}")
-    yield Question(("value", "put", '{"a":1,"c":2}', "b"), '{"a":1,"b":true,"c":2}')
-    yield Question(("value", "put", '{"a":1,"c":2}', "c"), '{"a":1,"c":true}')
+    yield quiet("value", "equal", cases.POLYGON, polygon, answer="true")
+    yield quiet("value", "equal", cases.POLYGON, cases.POINTS, answer="false")
+    yield quiet("value", "equal", "1", "true", answer="false")
+    yield in_turn("value", "put", "{}", "b", answer='Ok(()) {"b":true}', refused="Err(Memory) {}")
+    yield Question(("value", "put", '{"a":1,"c":2}', "b"), 'Ok(()) {"a":1,"b":true,"c":2}')
+    yield Question(("value", "put", '{"a":1,"c":2}', "c"), 'Ok(()) {"a":1,"c":true}')
     for name, found in (("a", "1"), ("b", "none"), ("c", "2")):
         yield quiet("value", "get", '{"c":2,"a":1}', name, answer=f"{found} c")
     for pointer, found in (("", polygon), ("/$defs/point/required/1", '"y"'), ("/$defs/point/required/01", "none"), ("/minItems/0", "none")):
@@ -88,17 +88,18 @@ def of_pointers():
             ("pointer", "/a~1b/c d", "/a~1b/c d"), ("fragment", "/a~1b/c d", "/a~1b/c%20d"), ("copy_pointer", "/a~1b", "/a~1b")):
         yield in_turn("value", call, given, answer=answer)
     yield in_turn("value", "further", "/a~1b", "c d", answer="/a~1b/c d")
-    yield in_turn("value", "push", "/a~1b/0/1/2", "c d", answer="/a~1b/0/1/2/c d", refused="Memory /a~1b/0/1/2")
+    yield in_turn("value", "push", "/a~1b/0/1/2", "c d", answer="Ok(()) /a~1b/0/1/2/c d", refused="Err(Memory) /a~1b/0/1/2")
     for token, *told in TOKENS:
         for call, answer in zip(("push_token", "push_fragment_token", "push_string"), told):
             yield in_turn("value", call, token, answer=answer)
 
 
 def of_assertions():
-    for call in ("pattern", "matches", "searcher"):
-        yield in_turn("value", call, "a+b", "xaaby", answer="yes")
-    yield quiet("value", "search", "a+b", "xaaby", answer="yes")
-    yield quiet("value", "search", "a+b", "ba", answer="no")
+    yield in_turn("value", "pattern", "a+b", "xaaby", answer="Ok(true) true")
+    yield in_turn("value", "matches", "a+b", "xaaby", answer="Ok(true) true", refused="Err(Memory) true")
+    yield in_turn("value", "searcher", "a+b", "xaaby", answer="Ok(true) true")
+    yield quiet("value", "search", "a+b", "xaaby", answer="Ok(true) true")
+    yield quiet("value", "search", "a+b", "ba", answer="Ok(false) false")
     yield Question(("value", "pattern", "(", ""), "NotAPattern")
     missing = 'missing: ["y","z"]'
     for call in ("assertion", "check", "error"):
@@ -144,7 +145,7 @@ def of_result(row):
     for call in ("walk", "walk_into_boxed", "walk_into_flat"):
         yield in_turn("result", entry, instance, call, answer=whole)
     for call in ("verdict", "walk_into_verdict"):
-        yield in_turn("result", entry, instance, call, answer="yes" if node.valid else "no")
+        yield in_turn("result", entry, instance, call, answer="true" if node.valid else "false")
     # (a node is two calls of a collector)
     calls = 2 * moves.size(node)
     for given in range(calls + 2):
@@ -166,10 +167,10 @@ def of_tree(node, words):
         yield quiet(*words, "put_flat", it, answer=text(forms.form(node, it)))
     yield quiet(*words, "put_tree", answer=whole)
     for call, answer in (("prune", pruned), ("flat_prune", pruned), ("condense", condensed), ("flat_condense", condensed),
-                         ("merge_condense", text(forms.tree(forms.merged(node)))), ("enter_and_leave", "Some(false)")):
+                         ("merge_condense", text(forms.tree(forms.merged(node))))):
         yield quiet(*words, call, answer=answer)
     for call, holds in (("is_normal", is_normal), ("is_merged", is_merged)):
-        yield quiet(*words, call, answer="yes" if holds(node) else "no")
+        yield quiet(*words, call, answer="true" if holds(node) else "false")
 
 
 def of_moves(node, words):
@@ -215,27 +216,26 @@ def run_table(what, documents, entry, given, answer, written):
     words = ("devices", what, entry, given)
     reads, writes = 0 if what == "places" else len(given) + 1, len(written.encode())
 
-    def told(made, reads, writes, reads_then, writes_then, text):
-        return f"{made}; {reads}, {writes}; {reads_then}, {writes_then}; {text}"
-
     def asked(fails_read=0, how="", step=1, fails_write=0):
         return *words, str(fails_read), how, str(step), str(fails_write)
 
+    def told(made, calls, more, calls_then, failed, text):
+        return f"{made}, {calls[0]}, {calls[1]}; {more}, {calls_then}, {failed}; {text}"
+
+    done, end = (reads, writes), "Ok([])"
+    no_read, no_write = "Err(Read)", "Err(Write)"
     # (the end is read once more)
-    after = f"{reads + 1} sound Ok([])"
-    sound = f"{reads} sound", f"{writes} sound"
-    questions = [
-        quiet(*asked(), answer=told(answer, *sound, after, f"{writes + 1} sound Ok(())", written)),
+    then = reads + 1
+    table = [
+        quiet(*asked(), answer=told(answer, done, f"{end}, Ok(())", (then, writes + 1), "(false, false)", written)),
         # the flush fails by itself
-        Question(asked(fails_write=writes + 1), told(answer, *sound, after, f"{writes + 1} failed Err(Write)", written)),
+        Question(asked(fails_write=writes + 1), told(answer, done, f"{end}, {no_write}", (then, writes + 1), "(false, true)", written)),
         # a writer that takes nothing is called once
-        Question(asked(step=0), told("failed: Write", f"{reads} sound", "1 failed", after, "1 failed Err(Write)", ""))]
+        Question(asked(step=0), told("failed: Write", (reads, 1), f"{end}, {no_write}", (then, 1), "(false, true)", ""))]
     for how in ("", "interrupted"):
         for k in range(1, reads + 1):
-            read = f"{k} failed"
-            questions.append(Question(asked(k, how), told("failed: Read", read, "0 sound", f"{read} Err(Read)", "1 sound Ok(())", "")))
+            table.append(Question(asked(k, how), told("failed: Read", (k, 0), f"{no_read}, Ok(())", (k, 1), "(true, false)", "")))
     for k in range(1, writes + 1):
-        write = f"{k} failed"
         begun = written.encode()[:k - 1].decode()
-        questions.append(Question(asked(fails_write=k), told("failed: Write", f"{reads} sound", write, after, f"{write} Err(Write)", begun)))
-    return Table(f"a run of {what}: {reads} reads and {writes} writes, each failed in turn", questions, documents)
+        table.append(Question(asked(fails_write=k), told("failed: Write", (reads, k), f"{end}, {no_write}", (then, k), "(false, true)", begun)))
+    return Table(f"a run of {what}: {reads} reads and {writes} writes, each failed in turn", table, documents)

@@ -84,6 +84,7 @@ def examples():
         yield asked(events, call, answer=shown(left))
         if call != "merge_condense":
             yield asked(events, f"flat_{call}", answer=shown(left))
+    yield asked("", "enter_and_leave", answer="Some(false)")
     for events in (CHAIN, LEAVES, ALIKE, "rabc+)def+))))", "rabc!d+-ed+)))", "rx!y+z!-"):
         yield from (replace(it, in_turn=False) for it in of_events(events))
 
@@ -125,16 +126,16 @@ def large():
             if it != "merged":
                 yield quiet(*words, "put_flat", it, answer=answer)
         yield quiet(*words, "put_tree", answer=shown(events))
-        yield quiet(*words, "is_normal", answer="no")
+        yield quiet(*words, "is_normal", answer="false")
         yield Question((*words, "verdict"), "Some(false)")
         for call in ("condense", "flat_condense"):
             yield quiet(*words, call, answer=shown("ab!-"))
         for call in ("units", "flat_units"):
             yield Question((*words, call), "b\n")
     for events, left in MERGED:
-        yield asked(events, "is_merged", answer="no")
+        yield asked(events, "is_merged", answer="false")
         yield asked(events, "merge_condense", answer=shown(left))
-        yield asked(left, "is_merged", answer="yes")
+        yield asked(left, "is_merged", answer="true")
     yield asked(DEEP, "replay", "lift" + " 1" * 510, answer=f"done {shown('ab!-')}")
     yield asked(WIDE, "apply", "drop 99999", answer=f"done {shown('a' + 'a-' * 99_998 + 'b!-')}")
     yield asked(WIDE, "apply", "drop 100000", answer=f"0 {shown(WIDE)}")

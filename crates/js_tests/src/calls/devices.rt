@@ -12,8 +12,8 @@ use std::alloc::Global;
 use std::io::{ErrorKind, Read, Write};
 use std::test::Fail;
 
-/// What the run answers, and how its devices stand after it: how often each was called, and whether it failed; and then after
-/// the source is read once more and the sink is flushed; and what was written.
+/// What the run answers, and how often its reader and its writer were called; what one more `read_all` and a flush answer, how
+/// often they were called then, and whether the source and the sink have failed; and what was written.
 pub fn answer(rt: &HostRuntime, documents: &str, words: &[&str]) -> Result<String, Fail> {
     let alloc = rt.alloc();
     let kind = match word_at(words, 4) {
@@ -32,18 +32,17 @@ pub fn answer(rt: &HostRuntime, documents: &str, words: &[&str]) -> Result<Strin
         Ok(answer) => answer,
         Err(fault) => refusal_line(alloc, &fault)?,
     };
-    let reads = standing(alloc, source.calls(), source.failed())?;
-    let writes = standing(alloc, out.calls(), out.failed())?;
+    let (reads, writes) = (source.calls(), out.calls());
     let read_again = read_all(alloc, &mut source);
     begin(rt);
     let flushed = out.flush();
+    let calls = (source.calls(), out.calls());
+    let failed = (source.failed(), out.failed());
     end(rt);
-    let reads_then = standing(alloc, source.calls(), source.failed())?;
-    let writes_then = standing(alloc, out.calls(), out.failed())?;
     drop(out);
     let written = String::from_utf8(writer.got)?;
     Ok(format!(in alloc;
-        "{made}; {reads}, {writes}; {reads_then} {read_again:?}, {writes_then} {flushed:?}; {written}"
+        "{made}, {reads}, {writes}; {read_again:?}, {flushed:?}, {calls:?}, {failed:?}; {written}"
     )?)
 }
 
@@ -87,10 +86,4 @@ fn performed<R: Read, W: Write>(
             Ok(format!(in alloc; "{valid}")?)
         }
     }
-}
-
-// How often a device was called, and whether it failed.
-fn standing(alloc: Global, calls: u64, failed: bool) -> Result<String, Fail> {
-    let stands = if failed { "failed" } else { "sound" };
-    Ok(format!(in alloc; "{calls} {stands}")?)
 }

@@ -14,9 +14,13 @@ use std::test::Fail;
 pub fn answer(rt: &HostRuntime, call: &str, format: &str, flat: Flat) -> Result<String, Fail> {
     let flat = whole(flat)?;
     match call {
-        "flat_units" => noted(rt, &flat),
-        "flat_doc" => as_value(rt, format_of(format), flat),
-        "put_flat" => put_out(rt, format_of(format), flat),
+        "flat_units" => {
+            begin(rt);
+            let found = flat_units(rt.alloc(), &flat);
+            end(rt);
+            told_units(rt.alloc(), found)
+        }
+        "flat_doc" | "put_flat" => formatted(rt, call, format_of(format), flat),
         "flat_prune" | "flat_condense" => changed(rt, call, flat),
         _ => shown(rt.alloc(), &flat),
     }
@@ -51,36 +55,23 @@ fn trimmed<'a>(rows: Flat<'a>, format: Format) -> Result<Flat<'a>, Fail>
     }
 }
 
-fn noted(rt: &HostRuntime, flat: &Flat) -> Result<String, Fail>
-    requires { IsWholeTree (flat_state flat.now) }
-{
-    begin(rt);
-    let found = flat_units(rt.alloc(), flat);
-    end(rt);
-    told_units(rt.alloc(), found)
-}
-
-fn as_value(rt: &HostRuntime, format: Format, flat: Flat) -> Result<String, Fail>
+// (a text has its room before it is put out)
+fn formatted(rt: &HostRuntime, call: &str, format: Format, flat: Flat) -> Result<String, Fail>
     requires { IsWholeTree (flat_state flat) }
 {
     let flat = trimmed(flat, format)?;
+    if call == "put_flat" {
+        let mut out = String::with_capacity(rt.alloc(), ROOM)?;
+        begin(rt);
+        let put = put_flat(&flat, format, &mut out);
+        end(rt);
+        put?;
+        return Ok(out);
+    }
     begin(rt);
     let made = flat_doc(rt.alloc(), &flat, format);
     end(rt);
     told_value(rt.alloc(), made)
-}
-
-// (the text has its room before)
-fn put_out(rt: &HostRuntime, format: Format, flat: Flat) -> Result<String, Fail>
-    requires { IsWholeTree (flat_state flat) }
-{
-    let flat = trimmed(flat, format)?;
-    let mut out = String::with_capacity(rt.alloc(), ROOM)?;
-    begin(rt);
-    let put = put_flat(&flat, format, &mut out);
-    end(rt);
-    put?;
-    Ok(out)
 }
 
 fn changed(rt: &HostRuntime, call: &str, flat: Flat) -> Result<String, Fail>

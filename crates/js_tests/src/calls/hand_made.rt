@@ -1,4 +1,5 @@
 //! Result trees by hand. The words of a question: the value of a note, the events of a tree, the call, and with what.
+use super::telling::{begin, end};
 use super::{flat_lists, trees};
 use crate::word_at;
 use js_doc::{Doc, Text, read};
@@ -12,6 +13,9 @@ pub fn answer(rt: &HostRuntime, words: &[&str]) -> Result<String, Fail> {
     let events = word_at(words, 1);
     let call = word_at(words, 2);
     let more = word_at(words, 3);
+    if call == "enter_and_leave" {
+        return told_by_events(rt);
+    }
     if call == "verdict" {
         let mut verdict = Verdict::new();
         tell(alloc, events, &value, &mut verdict)?;
@@ -71,4 +75,21 @@ fn note_of<'a>(alloc: Global, sign: char, value: &'a Doc) -> Result<Note<'a>, Fa
         '1' => Note::Indexes(Indexes::new(Vec::new(alloc))),
         _ => Note::Silent,
     })
+}
+
+// What a verdict holds of a failing root over a passing node, told of texts that are made before.
+fn told_by_events(rt: &HostRuntime) -> Result<String, Fail> {
+    let root = head(rt.alloc(), 'r')?;
+    let node = head(rt.alloc(), 'a')?;
+    let mut verdict = Verdict::new();
+    begin(rt);
+    let entered = verdict.enter(root).and(verdict.enter(node));
+    let left = verdict
+        .leave(true, Note::Truth)
+        .and(verdict.leave(false, Note::Silent));
+    let valid = verdict.valid();
+    end(rt);
+    entered?;
+    left?;
+    Ok(format!(in rt.alloc(); "{valid:?}")?)
 }

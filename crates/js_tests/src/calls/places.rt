@@ -37,7 +37,12 @@ fn asked(
     let second = word_at(words, 3);
     match question {
         "entry" => location(rt.alloc(), schemas, Some(place)),
-        "absolute" => absolute(rt, schemas, place, first),
+        "absolute" => {
+            begin(rt);
+            let made = schemas.absolute(rt.alloc(), place, Some(first));
+            end(rt);
+            told_text(rt.alloc(), made)
+        }
         "standing" => standing(rt, schemas, place),
         "alone" => below(rt, schemas, place, first, Step::Alone),
         "index" => below(
@@ -67,20 +72,6 @@ fn location(alloc: Global, schemas: &Schemas, place: Option<Place>) -> Result<St
         Some(_) => Err(Fail::from("it is no place")),
         None => Ok(String::from_str(alloc, "none")?),
     }
-}
-
-fn absolute(
-    rt: &HostRuntime,
-    schemas: &Schemas,
-    place: Place,
-    keyword: &str,
-) -> Result<String, Fail>
-    requires { is_place schemas.now place ≡ true }
-{
-    begin(rt);
-    let made = schemas.absolute(rt.alloc(), place, Some(keyword));
-    end(rt);
-    told_text(rt.alloc(), made)
 }
 
 // Where a place stands, its schema and its keywords.
@@ -207,8 +198,12 @@ fn dynamic_target(
     for uri in words.iter().skip(2) {
         let next = schemas.entry(alloc, uri)?;
         path.push(next)?;
+        // (of equal neighbours one)
         if schemas.has(next) {
-            push_apart(&mut numbers, schemas.resource_number(next))?;
+            let number = schemas.resource_number(next);
+            if numbers.last() != Some(&number) {
+                numbers.push(number)?;
+            }
         }
     }
     if !schemas.has_dynamic_ref(place) {
@@ -221,14 +216,6 @@ fn dynamic_target(
     let by_path = location(alloc, schemas, Some(by_path))?;
     let by_numbers = location(alloc, schemas, Some(by_numbers))?;
     Ok(format!(in alloc; "{by_path} {by_numbers}")?)
-}
-
-// (of equal neighbours one)
-fn push_apart(numbers: &mut Vec<usize>, number: usize) -> Result<(), Fail> {
-    if numbers.last() != Some(&number) {
-        numbers.push(number)?;
-    }
-    Ok(())
 }
 
 // The absolute locations of all places, a line each.

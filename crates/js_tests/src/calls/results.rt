@@ -3,7 +3,7 @@
 ghost use Rattle.std.specs.Prelude.{◌≡◌, true};
 ghost use Rattle.js_bundle.specs.Schemas.{is_place};
 
-use super::telling::{begin, end, yes_or_no};
+use super::telling::{begin, end};
 use super::{flat_lists, trees};
 use crate::word_at;
 use js_bundle::{Place, Schemas};
@@ -47,7 +47,7 @@ fn judged<'a>(
     };
     end(rt);
     match made {
-        Ok(valid) => yes_or_no(alloc, valid),
+        Ok(valid) => Ok(format!(in alloc; "{valid}")?),
         Err(fault) => Ok(format!(in alloc; "{fault:?}")?),
     }
 }

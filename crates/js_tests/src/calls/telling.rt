@@ -1,5 +1,5 @@
 //! The marks around a call, and how its answer is told.
-use js_doc::{Doc, Memory, text};
+use js_doc::{Doc, text};
 use std::alloc::Global;
 use std::fmt::Debug;
 use std::io::Write;
@@ -29,16 +29,4 @@ pub fn told_text<F: Debug + Drop>(alloc: Global, made: Result<String, F>) -> Res
         Ok(text) => Ok(text),
         Err(fault) => Ok(format!(in alloc; "{fault:?}")?),
     }
-}
-
-/// What stands after the call, behind `Memory` where it found none.
-pub fn told_after(alloc: Global, made: Result<(), Memory>, stands: String) -> Result<String, Fail> {
-    match made {
-        Ok(()) => Ok(stands),
-        Err(Memory) => Ok(format!(in alloc; "Memory {stands}")?),
-    }
-}
-
-pub fn yes_or_no(alloc: Global, holds: bool) -> Result<String, Fail> {
-    Ok(String::from_str(alloc, if holds { "yes" } else { "no" })?)
 }

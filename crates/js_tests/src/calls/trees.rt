@@ -1,10 +1,10 @@
 //! Calls on a result tree.
-use super::telling::{begin, end, told_value, yes_or_no};
+use super::telling::{begin, end, told_value};
 use super::values::ROOM;
 use js_doc::{Memory, text};
 use js_tree::{
-    Collector, Format, Head, Move, Note, Rule, Tree, Unit, Verdict, apply, condense, form,
-    is_merged, is_normal, merge_condense, prune, put_tree, replay, tree_doc, units,
+    Format, Move, Rule, Tree, Unit, apply, condense, form, is_merged, is_normal, merge_condense,
+    prune, put_tree, replay, tree_doc, units,
 };
 use std::alloc::Global;
 use std::test::Fail;
@@ -12,13 +12,16 @@ use std::test::Fail;
 /// What the call answers on the tree. `more` is a format or moves, for those that take some.
 pub fn answer(rt: &HostRuntime, call: &str, more: &str, tree: Tree) -> Result<String, Fail> {
     match call {
-        "units" => noted(rt, &tree),
-        "tree_doc" | "form" => as_value(rt, call, more, tree),
-        "put_tree" => put_out(rt, &tree),
+        "units" => {
+            begin(rt);
+            let found = units(rt.alloc(), &tree);
+            end(rt);
+            told_units(rt.alloc(), found)
+        }
+        "tree_doc" | "form" | "put_tree" => formatted(rt, call, more, tree),
         "prune" | "condense" | "merge_condense" => changed(rt, call, tree),
         "is_normal" | "is_merged" => looked_at(rt, call, &tree),
         "apply" | "replay" => moved(rt, call, more, tree),
-        "enter_and_leave" => told_by_events(rt, &tree),
         _ => shown(rt.alloc(), &tree),
     }
 }
@@ -37,13 +40,6 @@ pub fn format_of(name: &str) -> Format {
     }
 }
 
-fn noted(rt: &HostRuntime, tree: &Tree) -> Result<String, Fail> {
-    begin(rt);
-    let found = units(rt.alloc(), tree);
-    end(rt);
-    told_units(rt.alloc(), found)
-}
-
 /// The units' keyword locations, a line each.
 pub fn told_units(alloc: Global, found: Result<Vec<&Unit>, Memory>) -> Result<String, Fail> {
     let mut lines = String::new(alloc);
@@ -59,8 +55,17 @@ pub fn told_units(alloc: Global, found: Result<Vec<&Unit>, Memory>) -> Result<St
     Ok(lines)
 }
 
-fn as_value(rt: &HostRuntime, call: &str, format: &str, tree: Tree) -> Result<String, Fail> {
+// (a text has its room before it is put out)
+fn formatted(rt: &HostRuntime, call: &str, format: &str, tree: Tree) -> Result<String, Fail> {
     let alloc = rt.alloc();
+    if call == "put_tree" {
+        let mut out = String::with_capacity(alloc, ROOM)?;
+        begin(rt);
+        let put = put_tree(&tree, &mut out);
+        end(rt);
+        put?;
+        return Ok(out);
+    }
     begin(rt);
     let made = match call {
         "tree_doc" => tree_doc(alloc, &tree),
@@ -68,16 +73,6 @@ fn as_value(rt: &HostRuntime, call: &str, format: &str, tree: Tree) -> Result<St
     };
     end(rt);
     told_value(alloc, made)
-}
-
-// (the text has its room before)
-fn put_out(rt: &HostRuntime, tree: &Tree) -> Result<String, Fail> {
-    let mut out = String::with_capacity(rt.alloc(), ROOM)?;
-    begin(rt);
-    let put = put_tree(tree, &mut out);
-    end(rt);
-    put?;
-    Ok(out)
 }
 
 fn changed(rt: &HostRuntime, call: &str, tree: Tree) -> Result<String, Fail> {
@@ -98,7 +93,7 @@ fn looked_at(rt: &HostRuntime, call: &str, tree: &Tree) -> Result<String, Fail> 
         _ => is_merged(tree),
     };
     end(rt);
-    yes_or_no(rt.alloc(), holds)
+    Ok(format!(in rt.alloc(); "{holds}")?)
 }
 
 // The number of the first move that isn't possible, or `done`, and the tree that is left.
@@ -142,29 +137,4 @@ fn moves_of(alloc: Global, text: &str) -> Result<Vec<Move>, Fail> {
         }
     }
     Ok(moves)
-}
-
-// What a verdict holds of a failing root over a passing node, told of texts that are made before.
-fn told_by_events(rt: &HostRuntime, tree: &Tree) -> Result<String, Fail> {
-    let root = head_of(tree)?;
-    let node = head_of(tree)?;
-    let mut verdict = Verdict::new();
-    begin(rt);
-    let entered = verdict.enter(root).and(verdict.enter(node));
-    let left = verdict
-        .leave(true, Note::Truth)
-        .and(verdict.leave(false, Note::Silent));
-    let valid = verdict.valid();
-    end(rt);
-    entered?;
-    left?;
-    Ok(format!(in rt.alloc(); "{valid:?}")?)
-}
-
-fn head_of(tree: &Tree) -> Result<Head, Fail> {
-    Ok(Head {
-        keyword: tree.unit.keyword.copy()?,
-        absolute: tree.unit.absolute.copy()?,
-        instance: tree.unit.instance.copy()?,
-    })
 }

@@ -1,10 +1,10 @@
 //! js_doc's and js_assert's calls. The words of a question: the call, and the texts that it is made on.
-use super::telling::{begin, end, told_after, told_text, told_value, yes_or_no};
+use super::telling::{begin, end, told_text, told_value};
 use crate::word_at;
 use js_assert::{Assertion, Pattern};
 use js_doc::{
-    Doc, Members, Pointer, from_value, push_fragment_token, push_string, push_token, put_text,
-    read, text,
+    Doc, Members, Pointer, PointerFault, from_value, push_fragment_token, push_string, push_token,
+    put_text, read, text,
 };
 use serde_json::Value;
 use std::test::Fail;
@@ -17,23 +17,20 @@ pub fn answer(rt: &HostRuntime, words: &[&str]) -> Result<String, Fail> {
     let first = word_at(words, 1);
     let second = word_at(words, 2);
     match call {
-        "read" | "from_value" | "copy" | "text" => value_called(rt, call, first),
-        "put_text" => put_out(rt, first),
-        "put" => member_put(rt, first, second),
-        "get" => member_found(rt, first, second),
-        "at" => found_at(rt, first, second),
-        "equal" => equal(rt, first, second),
-        "parse" | "from_fragment" => pointer_read(rt, call, first),
-        "pointer" | "fragment" => pointer_told(rt, call, first),
-        "copy_pointer" | "further" => pointer_made(rt, call, first, second),
-        "push" => token_pushed(rt, first, second),
+        "read" | "from_value" | "copy" | "text" => value_made(rt, call, first),
+        "put_text" | "equal" | "at" => value_seen(rt, call, first, second),
+        "put" | "get" => members_called(rt, call, first, second),
+        "parse" | "from_fragment" | "copy_pointer" | "further" => pointer_made(
+            rt, call, first, second,
+        ),
+        "pointer" | "fragment" | "push" => pointer_called(rt, call, first, second),
         "push_token" | "push_fragment_token" | "push_string" => text_pushed(rt, call, first),
-        "pattern" | "searcher" | "search" | "matches" => pattern_called(rt, call, first, second),
+        "pattern" | "matches" | "searcher" | "search" => pattern_called(rt, call, first, second),
         _ => assertion_called(rt, call, first, second, word_at(words, 3)),
     }
 }
 
-fn value_called(rt: &HostRuntime, call: &str, source: &str) -> Result<String, Fail> {
+fn value_made(rt: &HostRuntime, call: &str, source: &str) -> Result<String, Fail> {
     let alloc = rt.alloc();
     match call {
         "read" => {
@@ -66,38 +63,53 @@ fn value_called(rt: &HostRuntime, call: &str, source: &str) -> Result<String, Fa
     }
 }
 
-// (the text has its room before)
-fn put_out(rt: &HostRuntime, source: &str) -> Result<String, Fail> {
-    let doc = read(rt.alloc(), source.as_bytes())?;
-    let mut out = String::with_capacity(rt.alloc(), ROOM)?;
-    begin(rt);
-    let put = put_text(&doc, &mut out);
-    end(rt);
-    put?;
-    Ok(out)
-}
-
-// An object into which `true` is put under a name.
-fn member_put(rt: &HostRuntime, object: &str, name: &str) -> Result<String, Fail> {
-    let mut members = members_of(rt, object)?;
-    let name = String::from_str(rt.alloc(), name)?;
-    begin(rt);
-    let made = members.put(name, Doc::Truth(true));
-    end(rt);
-    let stands = text(rt.alloc(), &Doc::Members(members))?;
-    told_after(rt.alloc(), made, stands)
-}
-
-fn members_of(rt: &HostRuntime, object: &str) -> Result<Members, Fail> {
-    match read(rt.alloc(), object.as_bytes())? {
-        Doc::Members(members) => Ok(members),
-        _ => Err(Fail::from("it is no object")),
+// (a text has its room before it is put out)
+fn value_seen(rt: &HostRuntime, call: &str, source: &str, more: &str) -> Result<String, Fail> {
+    let alloc = rt.alloc();
+    let doc = read(alloc, source.as_bytes())?;
+    match call {
+        "put_text" => {
+            let mut out = String::with_capacity(alloc, ROOM)?;
+            begin(rt);
+            let put = put_text(&doc, &mut out);
+            end(rt);
+            put?;
+            Ok(out)
+        }
+        "equal" => {
+            let other = read(alloc, more.as_bytes())?;
+            begin(rt);
+            let is_equal = doc == other;
+            end(rt);
+            Ok(format!(in alloc; "{is_equal}")?)
+        }
+        _ => {
+            let pointer = Pointer::parse(alloc, more)?;
+            begin(rt);
+            let found = doc.at(&pointer);
+            end(rt);
+            match found {
+                Some(found) => Ok(text(alloc, found)?),
+                None => Ok(String::from_str(alloc, "none")?),
+            }
+        }
     }
 }
 
-// The value of a name, or `none`; and the last name of all.
-fn member_found(rt: &HostRuntime, object: &str, name: &str) -> Result<String, Fail> {
-    let members = members_of(rt, object)?;
+// An object into which `true` is put under a name; or the value of a name, and the last name of all.
+fn members_called(rt: &HostRuntime, call: &str, object: &str, name: &str) -> Result<String, Fail> {
+    let alloc = rt.alloc();
+    let Doc::Members(mut members) = read(alloc, object.as_bytes())? else {
+        return Err(Fail::from("it is no object"));
+    };
+    if call == "put" {
+        let name = String::from_str(alloc, name)?;
+        begin(rt);
+        let made = members.put(name, Doc::Truth(true));
+        end(rt);
+        let stands = text(alloc, &Doc::Members(members))?;
+        return Ok(format!(in alloc; "{made:?} {stands}")?);
+    }
     let mut last = "";
     begin(rt);
     let found = members.get(name);
@@ -105,41 +117,28 @@ fn member_found(rt: &HostRuntime, object: &str, name: &str) -> Result<String, Fa
         last = name.as_str();
     }
     end(rt);
-    let found = match found {
-        Some(found) => text(rt.alloc(), found)?,
-        None => String::from_str(rt.alloc(), "none")?,
-    };
-    Ok(format!(in rt.alloc(); "{found} {last}")?)
-}
-
-fn found_at(rt: &HostRuntime, source: &str, pointer: &str) -> Result<String, Fail> {
-    let doc = read(rt.alloc(), source.as_bytes())?;
-    let pointer = Pointer::parse(rt.alloc(), pointer)?;
-    begin(rt);
-    let found = doc.at(&pointer);
-    end(rt);
     match found {
-        Some(found) => Ok(text(rt.alloc(), found)?),
-        None => Ok(String::from_str(rt.alloc(), "none")?),
+        Some(found) => {
+            let found = text(alloc, found)?;
+            Ok(format!(in alloc; "{found} {last}")?)
+        }
+        None => Ok(format!(in alloc; "none {last}")?),
     }
 }
 
-fn equal(rt: &HostRuntime, one: &str, other: &str) -> Result<String, Fail> {
-    let one = read(rt.alloc(), one.as_bytes())?;
-    let other = read(rt.alloc(), other.as_bytes())?;
-    begin(rt);
-    let is_equal = one == other;
-    end(rt);
-    yes_or_no(rt.alloc(), is_equal)
-}
-
-// The text of the pointer that is read.
-fn pointer_read(rt: &HostRuntime, call: &str, text: &str) -> Result<String, Fail> {
+// The text of the pointer that is made.
+fn pointer_made(rt: &HostRuntime, call: &str, source: &str, token: &str) -> Result<String, Fail> {
     let alloc = rt.alloc();
+    let known = match call {
+        "copy_pointer" | "further" => Pointer::parse(alloc, source)?,
+        _ => Pointer::new(alloc),
+    };
     begin(rt);
     let made = match call {
-        "parse" => Pointer::parse(alloc, text),
-        _ => Pointer::from_fragment(alloc, text),
+        "parse" => Pointer::parse(alloc, source),
+        "from_fragment" => Pointer::from_fragment(alloc, source),
+        "further" => known.further(alloc, token).map_err(PointerFault::from),
+        _ => known.copy(alloc).map_err(PointerFault::from),
     };
     end(rt);
     match made {
@@ -148,9 +147,16 @@ fn pointer_read(rt: &HostRuntime, call: &str, text: &str) -> Result<String, Fail
     }
 }
 
-fn pointer_told(rt: &HostRuntime, call: &str, text: &str) -> Result<String, Fail> {
+fn pointer_called(rt: &HostRuntime, call: &str, source: &str, token: &str) -> Result<String, Fail> {
     let alloc = rt.alloc();
-    let pointer = Pointer::parse(alloc, text)?;
+    let mut pointer = Pointer::parse(alloc, source)?;
+    if call == "push" {
+        begin(rt);
+        let made = pointer.push(token);
+        end(rt);
+        let stands = pointer.text(alloc)?;
+        return Ok(format!(in alloc; "{made:?} {stands}")?);
+    }
     begin(rt);
     let made = match call {
         "pointer" => pointer.text(alloc),
@@ -158,30 +164,6 @@ fn pointer_told(rt: &HostRuntime, call: &str, text: &str) -> Result<String, Fail
     };
     end(rt);
     told_text(alloc, made)
-}
-
-fn pointer_made(rt: &HostRuntime, call: &str, text: &str, token: &str) -> Result<String, Fail> {
-    let alloc = rt.alloc();
-    let pointer = Pointer::parse(alloc, text)?;
-    begin(rt);
-    let made = match call {
-        "further" => pointer.further(alloc, token),
-        _ => pointer.copy(alloc),
-    };
-    end(rt);
-    match made {
-        Ok(pointer) => Ok(pointer.text(alloc)?),
-        Err(fault) => Ok(format!(in alloc; "{fault:?}")?),
-    }
-}
-
-fn token_pushed(rt: &HostRuntime, text: &str, token: &str) -> Result<String, Fail> {
-    let mut pointer = Pointer::parse(rt.alloc(), text)?;
-    begin(rt);
-    let made = pointer.push(token);
-    end(rt);
-    let stands = pointer.text(rt.alloc())?;
-    told_after(rt.alloc(), made, stands)
 }
 
 // A token as pointers and fragments have it, or a text as JSON has it.
@@ -208,19 +190,10 @@ fn pattern_called(rt: &HostRuntime, call: &str, pattern: &str, text: &str) -> Re
     }
     let made = Pattern::new(alloc, pattern);
     end(rt);
-    match made {
-        Ok(pattern) => pattern_asked(rt, call, &pattern, text),
-        Err(fault) => Ok(format!(in alloc; "{fault:?}")?),
-    }
-}
-
-fn pattern_asked(
-    rt: &HostRuntime,
-    call: &str,
-    pattern: &Pattern,
-    text: &str,
-) -> Result<String, Fail> {
-    let alloc = rt.alloc();
+    let pattern = match made {
+        Ok(pattern) => pattern,
+        Err(fault) => return Ok(format!(in alloc; "{fault:?}")?),
+    };
     if call == "matches" {
         begin(rt);
     }
@@ -231,17 +204,15 @@ fn pattern_asked(
     }
     let searcher = pattern.searcher(alloc);
     end(rt);
-    match (made, searcher) {
-        (Ok(holds), Ok(mut searcher)) => {
-            if call == "search" {
-                begin(rt);
-            }
-            let is_found = searcher.holds(text);
-            end(rt);
-            yes_or_no(alloc, holds && is_found)
-        }
-        _ => Ok(String::from_str(alloc, "Memory")?),
+    let Ok(mut searcher) = searcher else {
+        return Ok(String::from_str(alloc, "Memory")?);
+    };
+    if call == "search" {
+        begin(rt);
     }
+    let is_found = searcher.holds(text);
+    end(rt);
+    Ok(format!(in alloc; "{made:?} {is_found}")?)
 }
 
 // What an assertion without siblings says of a value: the call by this name is marked.
