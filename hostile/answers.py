@@ -1,201 +1,241 @@
-"""The calls that a test of js_output makes by themselves, on rows whose answers are known."""
+"""What single calls answer: on values, on the documents of a bundle, on results, and over devices in memory."""
 import json
-from dataclasses import dataclass
 
 import cases
-from jschema import answer
+import forms
+import moves
+from asked import EMBEDDED, SCOPES, TREES, lines
+from bundle import Bundle
+from json_text import fragment, pointer_of, read, text
+from questions import Question, Table, in_turn, quiet
+from result import result
 
-TREE = ('{"$id":"https://example.com/tree","$dynamicAnchor":"node","type":"object","properties":{"data":true,'
-        '"children":{"type":"array","items":{"$dynamicRef":"#node"}}}}')
-STRICT = '{"$id":"https://example.com/strict-tree","$dynamicAnchor":"node","$ref":"tree","unevaluatedProperties":false}'
+DOUBLED = '{"$defs":{"n":{"type":"integer"}},"allOf":[{"$ref":"#/$defs/n"},{"$ref":"#/$defs/n"}]}'
+TITLED = r'{"title":"\"\n\u0001\u00e9\ud834\udd1e","properties":{"\"\n":{"description":["\\"]}}}'
+# Of each row the entry, the documents under their URIs, and the instance.
 ROWS = {
     "polygon": ("https://example.com/polygon", {cases.U: cases.POLYGON}, cases.POINTS),
-    "strict_tree": ("https://example.com/strict-tree",
-                    {"https://example.com/tree": TREE, "https://example.com/strict-tree": STRICT}, '{"children":[{"daat":1}]}'),
-    "doubled": (cases.U, {cases.U: '{"$defs":{"n":{"type":"integer"}},"allOf":[{"$ref":"#/$defs/n"},{"$ref":"#/$defs/n"}]}'}, '"x"'),
-    "titled": (cases.U, {cases.U: r'{"title":"\"\n\u0001\u00e9\ud834\udd1e","properties":{"\"\n":{"description":["\\"]}}}'}, r'{"\"\n":1}'),
+    "strict_tree": ("https://example.com/strict-tree", TREES, '{"children":[{"daat":1}]}'),
+    "dynamic_scope": (cases.U, SCOPES, '"a"'),
+    "doubled": (cases.U, {cases.U: DOUBLED}, '"x"'),
+    "titled": (cases.U, {cases.U: TITLED}, r'{"\"\n":1}'),
     "annotated_property": (cases.U, {cases.U: '{"properties":{"a":{"title":"t"}}}'}, '{"a":1}'),
 }
 SECOND = "https://a.example/t"
-LOCATIONS = "https://a.example/x#\nhttps://a.example/y#\nhttps://a.example/y#/not\nhttps://a.example/x#/allOf/0\n"
-RESOURCES = ("https://a.example/s https://a.example/x#\nhttps://a.example/x https://a.example/x#\n"
-             "https://a.example/y https://a.example/y#\n")
-P, T, S = "https://example.com/polygon#", "https://example.com/tree#", "https://example.com/strict-tree#"
-TARGETS = {
-    "polygon": [f"{P}/items", f"{P}/$defs/point", f"{P}/$defs/point/additionalProperties", f"{P}/$defs/point/properties/x",
-                f"{P}/$defs/point/properties/y", f"{P}/$defs/point"],
-    "strict_tree": [T, f"{T}/properties/children/items", T, f"{T}/properties/data", T, f"{S}/unevaluatedProperties"],
-}
 
 
-@dataclass
-class Call:
-    """A call, what it answers, and what stands after it found no memory. A quiet one takes none."""
-
-    words: list
-    own: str
-    after: str = ""
-    is_quiet: bool = False
-
-
-def compact(value):
-    return json.dumps(value, separators=(",", ":"), sort_keys=True, ensure_ascii=False)
-
-
-def shown(format_, row, entry=None, more=()):
-    """What the reference writes, without its line feed. It reads files, so they are written first."""
-    own_entry, documents, instance = ROWS[row]
-    words = ["check", format_, "instance.json", entry or own_entry]
-    for i, (uri, text) in enumerate([*documents.items(), *more]):
-        with open(f"document_{i}.json", "w") as file:
-            file.write(text)
-        words += [uri, f"document_{i}.json"]
-    with open("instance.json", "w") as file:
-        file.write(instance)
-    return answer(words)[0].decode().removesuffix("\n")
-
-
-def below(node):
-    return node.get("errors", []) + node.get("annotations", [])
-
-
-def with_below(node, nodes):
-    """The node over other children."""
-    alone = {name: it for name, it in node.items() if name not in ("errors", "annotations")}
-    return {**alone, "annotations" if node["valid"] else "errors": nodes} if nodes else alone
-
-
-def pruned(node):
-    return with_below(node, [pruned(it) for it in below(node) if it["valid"] == node["valid"]])
-
-
-def noted(node):
-    """The keyword locations of the nodes that have a note, in preorder."""
-    yield from [node["keywordLocation"]] * ("error" in node or "annotation" in node)
-    for it in below(node):
-        yield from noted(it)
-
-
-def is_normal(node):
-    return all(("error" in it or "annotation" in it or len(below(it)) > 1) and is_normal(it) for it in below(node))
-
-
-def alike(node, other):
-    """Equal once every keyword location is ignored."""
-    return ({**node, "keywordLocation": "", "errors": [], "annotations": []}
-            == {**other, "keywordLocation": "", "errors": [], "annotations": []}
-            and len(below(node)) == len(below(other)) and all(map(alike, below(node), below(other))))
-
-
-def is_merged(node):
-    nodes = below(node)
-    return is_normal(node) and all(map(is_merged, nodes)) and not any(alike(it, nodes[i]) for n, it in enumerate(nodes) for i in range(n))
-
-
-def lines(texts):
-    return "".join(f"{it}\n" for it in texts)
-
-
-def calls():
-    yield from of_values()
+def tables():
+    yield Table("values", list(of_values()))
     yield from of_bundles()
-    for row in ROWS:
-        yield from of_results(row)
+    for row, (_, documents, _) in ROWS.items():
+        yield Table(f"the result of {row}", list(of_result(row)), documents)
+    yield from of_runs()
+
+
+# A text, and the compact text of what it is read as.
+READ = (
+    ("null", "null"), (" true ", "true"), ("false", "false"), ("0", "0"), ("18446744073709551615", "18446744073709551615"),
+    ("-9223372036854775808", "-9223372036854775808"), (r'"a\"\n\u0001\u00e9\/"', '"a\\"\\n\\u0001\u00e9/"'), ("[ ]", "[]"),
+    ("[1, [2], {}]", "[1,[2],{}]"), ('{"b": 1, "a": {"d": [], "c": ""}}', '{"a":{"c":"","d":[]},"b":1}'),
+    ('{"a":1,"a":2}', '{"a":2}'), ('{"a":1.5,"a":2}', '{"a":2}'))
+# The text of a pointer, and its fragment.
+POINTERS = (
+    ("", ""), ("/a~1b %//m~0n\u00e9", "/a~1b%20%25//m~0n%C3%A9"), ("/-._~0!$&'()*+,;=:@~1?", "/-._~0!$&'()*+,;=:@~1?"),
+    ('/"#<>[\\]^`{|}\x7f\n', "/%22%23%3C%3E%5B%5C%5D%5E%60%7B%7C%7D%7F%0A"))
+# A token, as a pointer and as a fragment have it, and as JSON has it as a text.
+TOKENS = (
+    ("", "/", "/", '""'), ("a/b~", "/a~1b~0", "/a~1b~0", '"a/b~"'),
+    ('~1 %"\u00e9\n', '/~01 %"\u00e9\n', "/~01%20%25%22%C3%A9%0A", '"~1 %\\"\u00e9\\n"'))
 
 
 def of_values():
-    polygon = compact(json.loads(cases.POLYGON))
+    """js_doc's and js_assert's calls."""
+    polygon = text(read(cases.POLYGON.encode()))
     for call in ("read", "from_value", "copy", "text"):
-        yield Call([call], polygon)
-    yield Call(["put"], '{"b":true}', "{}")
-    yield Call(["push"], "/a~1b/0/1/2/c d", "/a~1b/0/1/2")
-    yield Call(["copy_pointer"], "/a~1b")
-    yield Call(["further"], "/a~1b/c d")
-    yield Call(["parse"], "/a~1b/c d/~0/0")
-    yield Call(["pointer"], "/a~1b/c d")
-    yield Call(["fragment"], "/a~1b/c%20d")
-    yield Call(["from_fragment"], "/a~1b/c d")
-    for call in ("pattern", "holds"):
-        yield Call([call], "a match")
-    for call in ("assertion", "check"):
-        yield Call([call], 'missing: ["y","z"]')
-    yield Call(["at"], '"y"', is_quiet=True)
-    yield Call(["equal"], "yes", is_quiet=True)
+        yield in_turn("value", call, cases.POLYGON, answer=polygon)
+    for source, compact in READ:
+        yield Question(("value", "read", source), compact)
+        yield Question(("value", "copy", source), compact)
+        yield quiet("value", "put_text", source, answer=compact)
+        yield quiet("value", "equal", source, compact, answer="true")
+    for source in ("[1,", "", "\ufeff0", "1e400", "nul", '"\\ud800"'):
+        yield Question(("value", "read", source), "NotJson")
+    yield quiet("value", "put_text", cases.POLYGON, answer=polygon)
+    yield quiet("value", "equal", cases.POLYGON, polygon, answer="true")
+    yield quiet("value", "equal", cases.POLYGON, cases.POINTS, answer="false")
+    yield quiet("value", "equal", "1", "true", answer="false")
+    yield in_turn("value", "put", "{}", "b", answer='Ok(()) {"b":true}', refused="Err(Memory) {}")
+    yield Question(("value", "put", '{"a":1,"c":2}', "b"), 'Ok(()) {"a":1,"b":true,"c":2}')
+    yield Question(("value", "put", '{"a":1,"c":2}', "c"), 'Ok(()) {"a":1,"c":true}')
+    for name, found in (("a", "1"), ("b", "none"), ("c", "2")):
+        yield quiet("value", "get", '{"c":2,"a":1}', name, answer=f"{found} c")
+    for pointer, found in (("", polygon), ("/$defs/point/required/1", '"y"'), ("/$defs/point/required/01", "none"), ("/minItems/0", "none")):
+        yield quiet("value", "at", cases.POLYGON, pointer, answer=found)
+    yield from of_pointers()
+    yield from of_assertions()
+
+
+def of_pointers():
+    for pointer, escaped in POINTERS:
+        for call, given, answer in (("parse", pointer, pointer), ("from_fragment", escaped, pointer), ("pointer", pointer, pointer),
+                                    ("fragment", pointer, escaped), ("copy_pointer", pointer, pointer)):
+            yield Question(("value", call, given), answer)
+    for given in ("a", "a/b", "/~", "/~2", "/a~", "~0"):
+        for call in ("parse", "from_fragment"):
+            yield Question(("value", call, given), "BadPointer")
+    for call, given, answer in (
+            ("parse", "/a~1b/c d/~0/0", "/a~1b/c d/~0/0"), ("from_fragment", "/a~1b/c%20d", "/a~1b/c d"),
+            ("pointer", "/a~1b/c d", "/a~1b/c d"), ("fragment", "/a~1b/c d", "/a~1b/c%20d"), ("copy_pointer", "/a~1b", "/a~1b")):
+        yield in_turn("value", call, given, answer=answer)
+    yield in_turn("value", "further", "/a~1b", "c d", answer="/a~1b/c d")
+    yield in_turn("value", "push", "/a~1b/0/1/2", "c d", answer="Ok(()) /a~1b/0/1/2/c d", refused="Err(Memory) /a~1b/0/1/2")
+    for token, *told in TOKENS:
+        for call, answer in zip(("push_token", "push_fragment_token", "push_string"), told):
+            yield in_turn("value", call, token, answer=answer)
+
+
+def of_assertions():
+    yield in_turn("value", "pattern", "a+b", "xaaby", answer="Ok(true) true")
+    yield in_turn("value", "matches", "a+b", "xaaby", answer="Ok(true) true", refused="Err(Memory) true")
+    yield in_turn("value", "searcher", "a+b", "xaaby", answer="Ok(true) true")
+    yield quiet("value", "search", "a+b", "xaaby", answer="Ok(true) true")
+    yield quiet("value", "search", "a+b", "ba", answer="Ok(false) false")
+    yield Question(("value", "pattern", "(", ""), "NotAPattern")
+    missing = 'missing: ["y","z"]'
+    for call in ("assertion", "check", "error"):
+        yield in_turn("value", call, "required", '["y","z"]', "{}", answer=missing)
+    yield in_turn("value", "holds", "pattern", '"a+b"', '"xaaby"', answer="Ok(true)", refused="Err(Memory)")
+    yield in_turn("value", "holds", "uniqueItems", "true", "[[1],[2],[1]]", answer="Ok(false)", refused="Err(Memory)")
 
 
 def of_bundles():
-    second = shown("verbose", "polygon", SECOND, [(SECOND, '{"type":"integer"}')])
-    for call in ("add", "add_doc"):
-        yield Call([call], second, second)
-    polygon = shown("verbose", "polygon")
-    yield Call(["finish"], polygon, polygon)
-    yield Call(["entry"], "https://a.example/y#/not")
-    yield Call(["places"], LOCATIONS)
-    yield Call(["resources"], RESOURCES)
-    yield Call(["absolute"], "https://a.example/y#/a%20b~1c")
-    for row, targets in TARGETS.items():
-        yield Call(["targets", row], lines(targets), is_quiet=True)
+    """Bundles whose own calls are refused: `add` and `add_doc` of each document, and `finish`."""
+    for marked, more in (("add", {SECOND: '{"type":"integer"}'}), ("add_doc", {SECOND: '{"type":"integer"}'}), ("finish", {})):
+        entry, documents, instance = ROWS["polygon"]
+        entries = [entry, *more]
+        documents = {**documents, **more}
+        questions = [Question(("result", it, instance, "walk"), text(forms.tree(result_of(documents, it, instance)))) for it in entries]
+        yield Table(f"{marked} of the polygon", questions, documents, marked)
 
 
-def of_results(row):
-    text = {it: shown(it, row) for it in cases.FORMATS}
-    whole = json.loads(text["verbose"])
-    verdict = "valid" if whole["valid"] else "invalid"
-    for call in ("walk", "walk_into_boxed", "walk_into_flat", "tree_doc"):
-        yield Call([call, row], text["verbose"])
-    for call in ("walk_into_verdict", "verdict"):
-        yield Call([call, row], verdict)
+def result_of(documents, entry, instance):
+    bundle = Bundle()
+    for uri, source in documents.items():
+        bundle.add(uri, source.encode())
+    bundle.finish()
+    return result(bundle, bundle.entry(entry), read(instance.encode()))
+
+
+def is_normal(node):
+    return all((it.note is not None or len(it.children) > 1) and is_normal(it) for it in node.children)
+
+
+def is_merged(node):
+    nodes = node.children
+    return is_normal(node) and all(map(is_merged, nodes)) and not any(forms.alike(it, nodes[i]) for n, it in enumerate(nodes) for i in range(n))
+
+
+def of_result(row):
+    """The calls on a row's result, and the walks that make it."""
+    entry, documents, instance = ROWS[row]
+    node = result_of(documents, entry, instance)
+    yield from of_tree(node, ("result", entry, instance))
+    yield from of_moves(node, ("result", entry, instance))
+    whole = text(forms.tree(node))
+    for call in ("walk", "walk_into_boxed", "walk_into_flat"):
+        yield in_turn("result", entry, instance, call, answer=whole)
+    for call in ("verdict", "walk_into_verdict"):
+        yield in_turn("result", entry, instance, call, answer="true" if node.valid else "false")
+    # (a node is two calls of a collector)
+    calls = 2 * moves.size(node)
+    for given in range(calls + 2):
+        yield Question(("result", entry, instance, "refusing", str(given)), "Memory" if given < calls else f"{given - calls} left")
+
+
+def of_tree(node, words):
+    """The calls on a tree and on its rows. The words tell how it is made."""
+    whole = text(forms.tree(node))
+    pruned, condensed = text(forms.tree(forms.pruned(node))), text(forms.tree(forms.condensed(node)))
+    noted = lines(it.keyword for it in forms.units(node))
+    yield in_turn(*words, "tree_doc", answer=whole)
+    yield in_turn(*words, "units", answer=noted)
+    yield in_turn(*words, "flat_units", answer=noted)
+    for it in cases.FORMATS:
+        yield in_turn(*words, "form", it, answer=text(forms.form(node, it)))
     for it in cases.STANDARD_FORMATS:
-        yield Call([f"form_{it}", row], text[it])
-        yield Call([f"flat_{it}", row], text[it])
-    yield Call(["form_merged", row], text["merged"])
-    for call in ("units", "flat_units"):
-        yield Call([call, row], lines(noted(whole)))
-    for call in ("prune", "flat_prune"):
-        yield Call([call, row], compact(pruned(whole)), is_quiet=True)
-    for call in ("condense", "flat_condense"):
-        yield Call([call, row], text["detailed"], is_quiet=True)
-    yield Call(["merge_condense", row], text["merged"], is_quiet=True)
+        yield in_turn(*words, "flat_doc", it, answer=text(forms.form(node, it)))
+        yield quiet(*words, "put_flat", it, answer=text(forms.form(node, it)))
+    yield quiet(*words, "put_tree", answer=whole)
+    for call, answer in (("prune", pruned), ("flat_prune", pruned), ("condense", condensed), ("flat_condense", condensed),
+                         ("merge_condense", text(forms.tree(forms.merged(node))))):
+        yield quiet(*words, call, answer=answer)
     for call, holds in (("is_normal", is_normal), ("is_merged", is_merged)):
-        yield Call([call, row], "yes" if holds(whole) else "no", is_quiet=True)
+        yield quiet(*words, call, answer="true" if holds(node) else "false")
+
+
+def of_moves(node, words):
+    """Each first move that is possible, the run of the last ones until none is, and moves that aren't possible."""
     for call in ("apply", "replay"):
-        yield Call([call, row], text["verbose"], is_quiet=True)
-    for call in ("put_tree", "flat_put"):
-        yield Call([call, row], text["verbose"], is_quiet=True)
-    yield Call(["events", row], "yes", is_quiet=True)
+        yield quiet(*words, call, "drop 0", answer=f"0 {text(forms.tree(node))}")
+    for rule, position in moves.moves(node):
+        left = text(forms.tree(moves.apply(node, rule, position)))
+        yield quiet(*words, "apply", f"{rule} {position}", answer=f"done {left}")
+    run = []
+    while possible := moves.moves(node):
+        rule, position = possible[-1]
+        run.append(f"{rule} {position}")
+        node = moves.apply(node, rule, position)
+    if run:
+        yield quiet(*words, "replay", " ".join(run), answer=f"done {text(forms.tree(node))}")
+        yield quiet(*words, "replay", " ".join([*run, "drop 0"]), answer=f"{len(run)} {text(forms.tree(node))}")
 
 
-def stopped(row):
-    """What is told of outputs that stop after each byte of a text in turn."""
-    for it in cases.STANDARD_FORMATS:
-        yield f"flat_stopped_{it}", stopped_text(shown(it, row))
-    yield "stopped_tree", stopped_text(shown("verbose", row))
-
-
-def stopped_text(text):
-    return f"{text}\nstopped {len(text.encode())} times\n"
-
-
-def refusals():
-    """What comes of walks into a collector that refuses its Nth call, until one refuses none: a node is two calls."""
-    for row in ROWS:
-        yield row, "memory\n" * (2 * count(json.loads(shown("verbose", row)))) + "all were taken\n"
-
-
-def count(node):
-    return 1 + sum(map(count, below(node)))
-
-
-def jobs():
-    """What `devices` runs by itself: the text that is written, and how many reads and writes matter."""
-    pair, suite = b"true\nnull", small_suite()
-    yield "pair", '{"valid":true}\n', len(pair) + 1
-    for it in cases.STANDARD_FORMATS:
-        yield f"polygon_{it}", shown(it, "polygon") + "\n", len(cases.POINTS) + 1
-    yield "suite", 'pass 0.0 "i"\nfail 0.1 "s"\nskip 0.2 "f"\npassed 1, failed 1, skipped 1\n', len(suite) + 1
-    yield "places", LOCATIONS, 0
+SUITE = ('[{"description":"g","schema":{"type":"integer"},"tests":[{"description":"i","data":1,"valid":true},'
+         '{"description":"s","data":"x","valid":true},{"description":"f","data":1.5,"valid":true}]}]')
+SUITE_LINES = 'pass 0.0 "i"\nfail 0.1 "s"\nskip 0.2 "f"\npassed 1, failed 1, skipped 1\n'
+LOCATIONS = "https://a.example/x#\nhttps://a.example/y#\nhttps://a.example/y#/not\nhttps://a.example/x#/allOf/0\n"
 
 
 def small_suite():
-    return ('[{"description":"g","schema":{"type":"integer"},"tests":[{"description":"i","data":1,"valid":true},'
-            '{"description":"s","data":"x","valid":true},{"description":"f","data":1.5,"valid":true}]}]')
+    return SUITE
+
+
+def of_runs():
+    """Whole runs over devices in memory: their name, documents, entry and input; what they answer and write."""
+    yield run_table("pair", {}, "", "true\nnull", "true", '{"valid":true}\n')
+    yield run_table("suite", {}, "", SUITE, "Counts { passed: 1, failed: 1, skipped: 1 }", SUITE_LINES)
+    yield run_table("places", {cases.U: EMBEDDED}, "", "", "4", LOCATIONS)
+    entry, documents, instance = ROWS["polygon"]
+    node = result_of(documents, entry, instance)
+    for it in cases.FORMATS:
+        yield run_table(it, documents, entry, instance, "false", text(forms.form(node, it)) + "\n")
+
+
+def run_table(what, documents, entry, given, answer, written):
+    """A run over devices that are slow, and that fail at each call in turn."""
+    words = ("devices", what, entry, given)
+    reads, writes = 0 if what == "places" else len(given) + 1, len(written.encode())
+
+    def asked(fails_read=0, how="", step=1, fails_write=0):
+        return *words, str(fails_read), how, str(step), str(fails_write)
+
+    def told(made, calls, more, calls_then, failed, text):
+        return f"{made}, {calls[0]}, {calls[1]}; {more}, {calls_then}, {failed}; {text}"
+
+    done, end = (reads, writes), "Ok([])"
+    no_read, no_write = "Err(Read)", "Err(Write)"
+    # (the end is read once more)
+    then = reads + 1
+    table = [
+        quiet(*asked(), answer=told(answer, done, f"{end}, Ok(())", (then, writes + 1), "(false, false)", written)),
+        # the flush fails by itself
+        Question(asked(fails_write=writes + 1), told(answer, done, f"{end}, {no_write}", (then, writes + 1), "(false, true)", written)),
+        # a writer that takes nothing is called once
+        Question(asked(step=0), told("failed: Write", (reads, 1), f"{end}, {no_write}", (then, 1), "(false, true)", ""))]
+    for how in ("", "interrupted"):
+        for k in range(1, reads + 1):
+            table.append(Question(asked(k, how), told("failed: Read", (k, 0), f"{no_read}, Ok(())", (k, 1), "(true, false)", "")))
+    for k in range(1, writes + 1):
+        begun = written.encode()[:k - 1].decode()
+        table.append(Question(asked(fails_write=k), told("failed: Write", (reads, k), f"{end}, {no_write}", (then, k), "(false, true)", begun)))
+    return Table(f"a run of {what}: {reads} reads and {writes} writes, each failed in turn", table, documents)

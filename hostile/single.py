@@ -1,54 +1,62 @@
 """Single calls, made by a test, with each growth refused in turn: the part `single`."""
-import collections
 import os
 
 import answers
 import asked
+import hand_made
+import questions
 from programs import HOME
 from room import in_turn, preloaded, short
 
-TESTS = os.path.join(HOME, "crates", "js_output", "out", "js_output_tests")
-ONE_CALL = "tests::calls::by_itself"
+TESTS = os.path.join(HOME, "crates", "js_tests", "out", "js_tests_tests")
+ONE_CALL = "calls::by_itself"
 PASSED = b"\ntest result: ok\n"
 
 
 def single(room):
-    """Single calls, on rows whose answers are known: each growth refused in turn, or all where the call takes none."""
-    growths = collections.Counter()
-    for call in answers.calls():
-        name, own = " ".join(call.words), call.own.encode()
-        if call.is_quiet:
-            got, told = one_call(room, call.words, REFUSE_NTH=1, REFUSE_ALL=1, REFUSE_MARKED=1)
-            room.tell(name, judge_call(own, None, got, b"") or told and "it asked for memory")
-            continue
-        after = b"Memory\n" + call.after.encode()
-        growths[name] = in_turn(room, name, lambda number: one_call(room, call.words, REFUSE_NTH=number, REFUSE_MARKED=1),
-                                lambda got, told: judge_call(own, after, got, told))
-    for job, text, reads in answers.jobs():
-        wanted = f"{text}{reads} reads, {len(text)} writes\n".encode()
-        room.judge(f"{job}, by its call", (wanted, b"", 0), one_call(room, ["devices", job])[0])
-        print(f"{job}, by its call: {reads} reads and {len(text)} writes, each failed in turn", flush=True)
-    for name, document, questions in asked.bundles():
-        given = "\n".join([document, *(question for question, _ in questions)]).encode()
-        wanted = "".join(f"{answer}\n" for _, answer in questions).encode()
-        room.judge(f"every call on a {name} bundle", (wanted, b"", 0), one_call(room, ["ask"], given)[0])
-        print(f"a {name} bundle: {len(questions)} questions", flush=True)
-    for row, text in answers.refusals():
-        room.judge(f"a collector that refuses a call, {row}", (text.encode(), b"", 0), one_call(room, ["refusing", row])[0])
-    for row in answers.ROWS:
-        for words, text in answers.stopped(row):
-            room.judge(f"{words}, {row}", (text.encode(), b"", 0), one_call(room, [words, row])[0])
-    print("growths, each refused in turn: " + ", ".join(f"{name} {count}" for name, count in growths.items()), flush=True)
+    """Questions to a test: those of a table at once; those whose calls take no memory with all of it refused; and the
+    others one by one, with each growth refused in turn."""
+    for table in (*answers.tables(), *asked.tables(), *hand_made.tables()):
+        quiet = [it for it in table.questions if it.is_quiet]
+        ask(room, f"{table.name}, at once", table, table.questions)
+        if quiet:
+            ask(room, f"{table.name}, without memory", table, quiet, REFUSE_NTH=1, REFUSE_ALL=1, REFUSE_MARKED=1)
+        growths = [refuse_in_turn(room, table, [it], it.refused) for it in table.questions if it.in_turn]
+        if table.marked != "none":
+            refused = "Memory" + questions.RECORD + questions.answers(table.questions)
+            growths.append(refuse_in_turn(room, table, table.questions, refused))
+        told = f"; {sum(growths)} growths of {len(growths)} calls, each refused in turn" * bool(growths)
+        print(f"{table.name}: {len(table.questions)} questions, {len(quiet)} of them without memory{told}", flush=True)
 
 
-def one_call(room, words, given=b"", **env):
-    """What the test prints of the call, without the line with which each test ends that passes."""
-    (out, marks, status), told = preloaded(room, room.tests, [ONE_CALL, *words], given, **env)
-    return (out.removesuffix(PASSED), marks, status if out.endswith(PASSED) else status or 1), told
+def ask(room, name, table, asked_now, **refusals):
+    """Asks questions of a table at once. None may be refused a growth."""
+    got, told = one_run(room, table, asked_now, **refusals)
+    wrong = judge_answer(questions.answers(asked_now), None, got, told)
+    if wrong and not got[2]:
+        pairs = zip(asked_now, got[0].split(questions.RECORD))
+        wrong = next((f"{short(it.words)}: wanted {short(it.answer)}, got {short(answer)}"
+                      for it, answer in pairs if it.answer != answer), wrong)
+    room.tell(name, wrong or told and "it asked for memory")
 
 
-def judge_call(own, after, got, told):
+def refuse_in_turn(room, table, asked_now, refused):
+    """Asks with each growth of the marked calls refused in turn; answers how many there are."""
+    name = f"{table.name}, {short(asked_now[0].words)}"
+    own = questions.answers(asked_now)
+    refused += questions.RECORD * (len(asked_now) == 1)
+    return in_turn(room, name, lambda number: one_run(room, table, asked_now, REFUSE_NTH=number, REFUSE_MARKED=1),
+                   lambda got, told: judge_answer(own, refused, got, told))
+
+
+def one_run(room, table, asked_now, **env):
+    """What the test answers, without the line with which each test ends that passes."""
+    (out, marks, status), told = preloaded(room, room.tests, [ONE_CALL, table.marked], table.given(asked_now), **env)
+    return (out.removesuffix(PASSED).decode(), marks, status if out.endswith(PASSED) else status or 1), told
+
+
+def judge_answer(own, refused, got, told):
     out, marks, status = got
-    if status or marks.strip(b"<>") or out != own and (not told or out != after):
-        return f"wanted {short(own)}{f' or {short(after)}' * bool(told)}, got {short(got)}"
+    if status or marks.strip(b"<>") or out != own and (not told or out != refused):
+        return f"wanted {short(own)}{f' or {short(refused)}' * bool(told)}, got {short(got)}"
     return None

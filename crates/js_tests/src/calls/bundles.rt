@@ -1,0 +1,110 @@
+//! A bundle made of documents: after a refusal it takes the same document, and is finished, once more.
+use super::telling::{begin, end};
+use super::words_of;
+use crate::word_at;
+use js_bundle::{Bundle, Refusal, RefusalKind, Schemas};
+use js_doc::{Doc, read};
+use std::test::Fail;
+
+/// The schemas of the documents. Where a marked call finds no memory, `Memory` is told first, and it is made again.
+pub fn finished(
+    rt: &HostRuntime,
+    marked: &str,
+    documents: &str,
+    told: &mut String,
+) -> Result<Schemas, Fail> {
+    let bundle = bundle_of(rt, marked, documents, told)?;
+    if marked == "finish" {
+        begin(rt);
+    }
+    let made = bundle.finish(rt.alloc());
+    end(rt);
+    match made {
+        Ok(schemas) => Ok(schemas),
+        Err((refusal, bundle)) => {
+            tell_memory(told, refusal)?;
+            match bundle.finish(rt.alloc()) {
+                Ok(schemas) => Ok(schemas),
+                Err((refusal, _)) => Err(Fail::from(refusal)),
+            }
+        }
+    }
+}
+
+fn bundle_of(
+    rt: &HostRuntime,
+    marked: &str,
+    documents: &str,
+    told: &mut String,
+) -> Result<Bundle, Fail> {
+    let mut bundle = Bundle::new(rt.alloc());
+    for document in documents.split('\u{1e}') {
+        let words = words_of(rt.alloc(), document)?;
+        let uri = word_at(words.as_slice(), 0);
+        let text = word_at(words.as_slice(), 1);
+        match marked {
+            _ if document.is_empty() => {}
+            "add_doc" => add_value(
+                rt,
+                &mut bundle,
+                uri,
+                read(rt.alloc(), text.as_bytes())?,
+                told,
+            )?,
+            _ => add_bytes(rt, marked, &mut bundle, uri, text, told)?,
+        }
+    }
+    Ok(bundle)
+}
+
+fn add_bytes(
+    rt: &HostRuntime,
+    marked: &str,
+    bundle: &mut Bundle,
+    uri: &str,
+    text: &str,
+    told: &mut String,
+) -> Result<(), Fail> {
+    if marked == "add" {
+        begin(rt);
+    }
+    let made = bundle.add(uri, text.as_bytes());
+    end(rt);
+    if let Err(refusal) = made {
+        tell_memory(told, refusal)?;
+        bundle.add(uri, text.as_bytes())?;
+    }
+    Ok(())
+}
+
+// The same of a value: what comes back is handed in again.
+fn add_value(
+    rt: &HostRuntime,
+    bundle: &mut Bundle,
+    uri: &str,
+    value: Doc,
+    told: &mut String,
+) -> Result<(), Fail> {
+    begin(rt);
+    let made = bundle.add_doc(uri, value);
+    end(rt);
+    match made {
+        Ok(()) => Ok(()),
+        Err((refusal, value)) => {
+            tell_memory(told, refusal)?;
+            match bundle.add_doc(uri, value) {
+                Ok(()) => Ok(()),
+                Err((refusal, _)) => Err(Fail::from(refusal)),
+            }
+        }
+    }
+}
+
+// Another refusal ends the test.
+fn tell_memory(told: &mut String, refusal: Refusal) -> Result<(), Fail> {
+    if refusal.kind != RefusalKind::Memory {
+        return Err(Fail::from(refusal));
+    }
+    told.push_str("Memory\u{1e}")?;
+    Ok(())
+}

@@ -1,0 +1,87 @@
+//! Calls on a result's flat list.
+ghost use Rattle.std.specs.Prelude.{IfOk};
+ghost use Rattle.js_tree.specs.FlatState.{IsWholeTree, flat_state};
+
+use super::telling::{begin, end, told_value};
+use super::trees::{format_of, told_units};
+use super::values::ROOM;
+use js_doc::text;
+use js_tree::{Flat, Format, flat_condense, flat_doc, flat_prune, flat_units, put_flat};
+use std::alloc::Global;
+use std::test::Fail;
+
+/// What the call answers on the rows, for a format of what that format shows.
+pub fn answer(rt: &HostRuntime, call: &str, format: &str, flat: Flat) -> Result<String, Fail> {
+    let flat = whole(flat)?;
+    match call {
+        "flat_units" => {
+            begin(rt);
+            let found = flat_units(rt.alloc(), &flat);
+            end(rt);
+            told_units(rt.alloc(), found)
+        }
+        "flat_doc" | "put_flat" => formatted(rt, call, format_of(format), flat),
+        "flat_prune" | "flat_condense" => changed(rt, call, flat),
+        _ => shown(rt.alloc(), &flat),
+    }
+}
+
+// The rows, if they are a whole tree's.
+fn whole<'a>(rows: Flat<'a>) -> Result<Flat<'a>, Fail>
+    ensures { IfOk result (λ found. IsWholeTree (flat_state found)) }
+{
+    if rows.whole() {
+        return Ok(rows);
+    }
+    Err(Fail::from("the rows are a whole tree's"))
+}
+
+// The text of the rows' tree.
+fn shown(alloc: Global, flat: &Flat) -> Result<String, Fail>
+    requires { IsWholeTree (flat_state flat.now) }
+{
+    Ok(text(alloc, &flat_doc(alloc, flat, Format::Verbose)?)?)
+}
+
+// The rows of what the format shows.
+fn trimmed<'a>(rows: Flat<'a>, format: Format) -> Result<Flat<'a>, Fail>
+    requires { IsWholeTree (flat_state rows) }
+    ensures { IfOk result (λ found. IsWholeTree (flat_state found)) }
+{
+    match format {
+        Format::Basic => whole(flat_prune(rows)),
+        Format::Detailed => whole(flat_condense(whole(flat_prune(rows))?)),
+        _ => Ok(rows),
+    }
+}
+
+// (a text has its room before it is put out)
+fn formatted(rt: &HostRuntime, call: &str, format: Format, flat: Flat) -> Result<String, Fail>
+    requires { IsWholeTree (flat_state flat) }
+{
+    let flat = trimmed(flat, format)?;
+    if call == "put_flat" {
+        let mut out = String::with_capacity(rt.alloc(), ROOM)?;
+        begin(rt);
+        let put = put_flat(&flat, format, &mut out);
+        end(rt);
+        put?;
+        return Ok(out);
+    }
+    begin(rt);
+    let made = flat_doc(rt.alloc(), &flat, format);
+    end(rt);
+    told_value(rt.alloc(), made)
+}
+
+fn changed(rt: &HostRuntime, call: &str, flat: Flat) -> Result<String, Fail>
+    requires { IsWholeTree (flat_state flat) }
+{
+    begin(rt);
+    let made = match call {
+        "flat_prune" => flat_prune(flat),
+        _ => flat_condense(flat),
+    };
+    end(rt);
+    shown(rt.alloc(), &whole(made)?)
+}

@@ -1,0 +1,95 @@
+//! Result trees by hand. The words of a question: the value of a note, the events of a tree, the call, and with what.
+use super::telling::{begin, end};
+use super::{flat_lists, trees};
+use crate::word_at;
+use js_doc::{Doc, Text, read};
+use js_tree::{Boxed, Collector, Flat, Head, Indexes, Names, Note, Verdict};
+use std::alloc::Global;
+use std::test::Fail;
+
+pub fn answer(rt: &HostRuntime, words: &[&str]) -> Result<String, Fail> {
+    let alloc = rt.alloc();
+    let value = read(alloc, word_at(words, 0).as_bytes())?;
+    let events = word_at(words, 1);
+    let call = word_at(words, 2);
+    let more = word_at(words, 3);
+    if call == "enter_and_leave" {
+        return told_by_events(rt);
+    }
+    if call == "verdict" {
+        let mut verdict = Verdict::new();
+        tell(alloc, events, &value, &mut verdict)?;
+        let valid = verdict.valid();
+        return Ok(format!(in alloc; "{valid:?}")?);
+    }
+    if call.contains("flat") {
+        let mut flat = Flat::new(alloc);
+        tell(alloc, events, &value, &mut flat)?;
+        return flat_lists::answer(rt, call, more, flat);
+    }
+    let mut boxed = Boxed::new(alloc);
+    tell(alloc, events, &value, &mut boxed)?;
+    match boxed.tree() {
+        Some(tree) => trees::answer(rt, call, more, tree),
+        None => Err(Fail::from("the root has closed")),
+    }
+}
+
+// A letter opens a node of that name, and another sign closes one, `-` and `!` one that fails.
+fn tell<'a, C: Collector<'a>>(
+    alloc: Global,
+    events: &str,
+    value: &'a Doc,
+    into: &mut C,
+) -> Result<(), Fail> {
+    for sign in events.chars() {
+        match sign {
+            'a'..='z' => into.enter(head(alloc, sign)?)?,
+            '-' | '!' => into.leave(false, note_of(alloc, sign, value)?)?,
+            _ => into.leave(true, note_of(alloc, sign, value)?)?,
+        }
+    }
+    Ok(())
+}
+
+fn head(alloc: Global, name: char) -> Result<Head, Fail> {
+    let mut keyword = String::new(alloc);
+    keyword.push(name)?;
+    Ok(Head {
+        keyword: Text::new(keyword),
+        absolute: Text::new(String::from_str(alloc, "s#")?),
+        instance: Text::new(String::new(alloc)),
+    })
+}
+
+// The note of a node that closes by this sign, `)` and `-` for none.
+fn note_of<'a>(alloc: Global, sign: char, value: &'a Doc) -> Result<Note<'a>, Fail> {
+    Ok(match sign {
+        '!' => Note::Error(Text::new(String::from_str(alloc, "no \"x\"\u{1}")?)),
+        '+' => Note::Truth,
+        '=' => Note::Value(value),
+        '@' => Note::Names(Names::new(vec![in alloc; "b", "a\n\u{1f333}"]?)),
+        '0' => Note::Names(Names::new(Vec::new(alloc))),
+        '#' => Note::Index(18446744073709551615),
+        '*' => Note::Indexes(Indexes::new(vec![in alloc; 0, 2]?)),
+        '1' => Note::Indexes(Indexes::new(Vec::new(alloc))),
+        _ => Note::Silent,
+    })
+}
+
+// What a verdict holds of a failing root over a passing node, told of texts that are made before.
+fn told_by_events(rt: &HostRuntime) -> Result<String, Fail> {
+    let root = head(rt.alloc(), 'r')?;
+    let node = head(rt.alloc(), 'a')?;
+    let mut verdict = Verdict::new();
+    begin(rt);
+    let entered = verdict.enter(root).and(verdict.enter(node));
+    let left = verdict
+        .leave(true, Note::Truth)
+        .and(verdict.leave(false, Note::Silent));
+    let valid = verdict.valid();
+    end(rt);
+    entered?;
+    left?;
+    Ok(format!(in rt.alloc(); "{valid:?}")?)
+}

@@ -1,0 +1,152 @@
+//! Walks of a value at an entry, and calls on the result. The words of a question: the URI of the entry, the value's text, the call,
+//! and with what.
+ghost use Rattle.std.specs.Prelude.{◌≡◌, true};
+ghost use Rattle.js_bundle.specs.Schemas.{is_place};
+
+use super::telling::{begin, end};
+use super::{flat_lists, trees};
+use crate::word_at;
+use js_bundle::{Place, Schemas};
+use js_doc::{Doc, Memory, read};
+use js_eval::{verdict, walk, walk_into};
+use js_tree::{Boxed, Collector, Flat, Head, Note, Verdict};
+use std::test::Fail;
+
+pub fn answer(rt: &HostRuntime, schemas: &Schemas, words: &[&str]) -> Result<String, Fail> {
+    let place = schemas.entry(rt.alloc(), word_at(words, 0))?;
+    let value = read(rt.alloc(), word_at(words, 1).as_bytes())?;
+    let call = word_at(words, 2);
+    if !schemas.has(place) {
+        return Err(Fail::from("an entry is a place"));
+    }
+    match call {
+        "verdict" | "walk_into_verdict" => judged(rt, schemas, place, &value, call),
+        "refusing" => refused(rt, schemas, place, &value, word_at(words, 3)),
+        _ if call.contains("flat") => on_rows(rt, schemas, place, &value, words),
+        _ => on_tree(rt, schemas, place, &value, words),
+    }
+}
+
+fn judged<'a>(
+    rt: &HostRuntime,
+    schemas: &'a Schemas,
+    place: Place,
+    value: &'a Doc,
+    call: &str,
+) -> Result<String, Fail>
+    requires { is_place schemas.now place ≡ true }
+{
+    let alloc = rt.alloc();
+    begin(rt);
+    let made = match call {
+        "verdict" => verdict(alloc, schemas, place, value),
+        _ => match walk_into(alloc, schemas, place, value, Verdict::new()) {
+            Ok(verdict) => Ok(verdict.valid() == Some(true)),
+            Err((fault, _)) => Err(fault),
+        },
+    };
+    end(rt);
+    match made {
+        Ok(valid) => Ok(format!(in alloc; "{valid}")?),
+        Err(fault) => Ok(format!(in alloc; "{fault:?}")?),
+    }
+}
+
+// The walk itself is asked by `walk` and `walk_into_boxed`.
+fn on_tree<'a>(
+    rt: &HostRuntime,
+    schemas: &'a Schemas,
+    place: Place,
+    value: &'a Doc,
+    words: &[&str],
+) -> Result<String, Fail>
+    requires { is_place schemas.now place ≡ true }
+{
+    let alloc = rt.alloc();
+    let call = word_at(words, 2);
+    if call.starts_with("walk") {
+        begin(rt);
+    }
+    let made = match call {
+        "walk_into_boxed" => match walk_into(alloc, schemas, place, value, Boxed::new(alloc)) {
+            Ok(boxed) => Ok(boxed.tree()),
+            Err((fault, _)) => Err(fault),
+        },
+        _ => match walk(alloc, schemas, place, value) {
+            Ok(tree) => Ok(Some(tree)),
+            Err(fault) => Err(fault),
+        },
+    };
+    end(rt);
+    match made {
+        Ok(Some(tree)) => trees::answer(rt, call, word_at(words, 3), tree),
+        Ok(None) => Err(Fail::from("the root has closed")),
+        Err(fault) => Ok(format!(in alloc; "{fault:?}")?),
+    }
+}
+
+// The walk itself is asked by `walk_into_flat`.
+fn on_rows<'a>(
+    rt: &HostRuntime,
+    schemas: &'a Schemas,
+    place: Place,
+    value: &'a Doc,
+    words: &[&str],
+) -> Result<String, Fail>
+    requires { is_place schemas.now place ≡ true }
+{
+    let alloc = rt.alloc();
+    let call = word_at(words, 2);
+    if call == "walk_into_flat" {
+        begin(rt);
+    }
+    let made = walk_into(alloc, schemas, place, value, Flat::new(alloc));
+    end(rt);
+    match made {
+        Ok(flat) => flat_lists::answer(rt, call, word_at(words, 3), flat),
+        Err((fault, _)) => Ok(format!(in alloc; "{fault:?}")?),
+    }
+}
+
+/// Takes as many calls as are left, and refuses the next.
+#[derive(Drop)]
+struct Refusing {
+    left: usize,
+}
+
+impl<'a> Collector<'a> for Refusing {
+    ghost takes = { λ _ _ _. Unit {0} };
+
+    fn enter(&mut self, head: Head) -> Result<(), Memory> {
+        drop(head);
+        self.left = self.left.checked_sub(1).ok_or(Memory)?;
+        Ok(())
+    }
+
+    fn leave(&mut self, _valid: bool, note: Note<'a>) -> Result<(), Memory> {
+        drop(note);
+        self.left = self.left.checked_sub(1).ok_or(Memory)?;
+        Ok(())
+    }
+}
+
+// How many calls are left of so many, or the fault.
+fn refused<'a>(
+    rt: &HostRuntime,
+    schemas: &'a Schemas,
+    place: Place,
+    value: &'a Doc,
+    calls: &str,
+) -> Result<String, Fail>
+    requires { is_place schemas.now place ≡ true }
+{
+    let left = calls.parse::<usize>()?;
+    let answer = match walk_into(rt.alloc(), schemas, place, value, Refusing { left }) {
+        Ok(refusing) => {
+            let left = refusing.left;
+            format!(in rt.alloc(); "{left} left")?
+        }
+        Err((fault, _)) => format!(in rt.alloc(); "{fault:?}")?,
+    };
+    Ok(answer)
+}
