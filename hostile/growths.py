@@ -11,6 +11,7 @@ MISUSED = b"", f"{USAGE}\n".encode(), 2
 
 def growth(room):
     """Each growth refused, alone and with all later ones: the answer is `Memory`, or the one with ample memory."""
+    before_command = {}
     for case in room.chosen(series.growths()):
         own = case.wanted()
         got = []
@@ -20,7 +21,7 @@ def growth(room):
             return judge(answer, told, own, may_begin=is_suite(case), line=OUT_OF_MEMORY)
 
         count = in_turn(room, f"{case.name}, growth", refusing(room, case), judge_alone)
-        room.tell(f"{case.name}, growths before the command", judge_silent(got))
+        room.tell(f"{case.name}, growths before the command", judge_silent(got, len(case.words), before_command))
         in_turn(room, f"{case.name}, growth and all later", refusing(room, case, REFUSE_ALL=1),
                 lambda answer, told: judge(answer, told, own, may_begin=is_suite(case), line=SILENT))
         print(f"{case.name}: {count} growths, each refused in turn", flush=True)
@@ -50,14 +51,16 @@ def judge(got, told, own, may_begin, line):
     return f"wanted {short(own)} or out of memory, got {short(got)}"
 
 
-def judge_silent(got):
-    """A growth refused alone comes to a line, but for the first ones, which `main` makes before its command."""
+def judge_silent(got, arguments, before_command):
+    """A growth refused alone comes to a line, but for the first ones, which `main` makes before its command. How many
+    they are depends on the number of arguments; `before_command` keeps it."""
     silent = [number for number, it in enumerate(got, 1) if it == SILENT]
     if not silent:
         return "a line was written for each growth, also for those of the arguments"
     if silent[-1] != len(silent):
         return f"no line was written for growths {silent}"
-    return None
+    other = before_command.setdefault(arguments, len(silent))
+    return None if other == len(silent) else f"{len(silent)} growths, and {other} with as many arguments"
 
 
 def arguments(room):
