@@ -8,8 +8,8 @@ use Rattle.js_tree.specs.MergedResult.{merged}
 use Rattle.js_tree.specs.Result.{pruned, kept}
 use Rattle.js_tree.specs.declared.forms.Format.{Format}
 use Rattle.js_tree.specs.declared.forms.Format.TheVariants.{Flag, Basic, Detailed, Merged, Verbose}
-use Rattle.js_tree.proofs.KeptTree.{kept_is_reached, kept_is_normal, run-normal}
-use Rattle.js_tree.proofs.MergedLaws.{merged_is_reached, merged_is_normal, normal_end_of_three}
+use Rattle.js_tree.proofs.KeptTree.{kept_is_reached, kept_is_normal, run-kept, run-normal}
+use Rattle.js_tree.proofs.MergedLaws.{merged_is_reached, merged_is_normal, run_of_three-merged, normal_end_of_three}
 use Rattle.js_bundle.specs.Resource.{Site}
 use Rattle.js_eval.specs.Result.{ResultTree, IsWithinLimits}
 use Rattle.js_output.specs.Cause.{IsFirstFault}
@@ -29,11 +29,17 @@ shows Flag t = refl
 shows Basic t = refl
 shows Verbose t = refl
 shows Detailed t =
-    let p = pruned t in
-    ((kept p, (refl, kept_is_reached noted p.below), kept_is_normal noted p.below, refl), λ end r n. ap verbose (sym (run-normal noted p end r n)))
+    let p = pruned t in (
+      (kept p, (refl, kept_is_reached noted p.below), kept_is_normal noted p.below, refl),
+      λ end r n. ap verbose (sym (run-normal noted p end r n)),
+      λ met r. (kept met, (refl, kept_is_reached noted met.below), kept_is_normal noted met.below, ap verbose (sym (run-kept noted p met r))),
+    )
 shows Merged t =
-    let p = pruned t in
-    ((merged p, merged_is_reached p, merged_is_normal p, refl), λ end r n. ap verbose (sym (normal_end_of_three p end r n)))
+    let p = pruned t in (
+      (merged p, merged_is_reached p, merged_is_normal p, refl),
+      λ end r n. ap verbose (sym (normal_end_of_three p end r n)),
+      λ met r. (merged met, merged_is_reached met, merged_is_normal met, ap verbose (sym (run_of_three-merged p met r))),
+    )
 
 -- ---- of an accepted instance, what comes of its value is the outcome
 

@@ -25,17 +25,21 @@ use Rattle.js_output.specs.declared.fault.Fault.TheVariants as fault
 
 -- What a format shows of a result (JSON Schema Core, section 12.4): flag its verdict, basic the units with a note of the
 -- pruned tree, verbose the whole tree. Detailed shows the one tree in which every run of the two condensing rules from the
--- pruned tree ends. Merged, this project's own, shows the one in which every run of these and of the third rule ends: a node
--- goes, with all below it, where an earlier sibling is equal once keyword locations are ignored.
+-- pruned tree ends: a run leads to it, each run that can't be continued ends in it, and each run can be continued to it.
+-- Merged, this project's own, shows the one in which every run of these and of the third rule ends: a node goes, with all
+-- below it, where an earlier sibling is equal once keyword locations are ignored.
 abbrev pub Shows : Format → ResultTree → Value → Type 0
 Shows Flag t shown = shown ≡ flag t.root.valid
 Shows Basic t shown = shown ≡ unit_list (pruned t)
 Shows Detailed t shown =
     ((end : ResultTree) × Run (pruned t) end × Normal end × (shown ≡ verbose end))
     × ((end : ResultTree) → Run (pruned t) end → Normal end → shown ≡ verbose end)
+    × ((met : ResultTree) → Run (pruned t) met → (end : ResultTree) × Run met end × Normal end × (shown ≡ verbose end))
 Shows Merged t shown =
     ((end : ResultTree) × RunOfThree (pruned t) end × NormalOfThree end × (shown ≡ verbose end))
     × ((end : ResultTree) → RunOfThree (pruned t) end → NormalOfThree end → shown ≡ verbose end)
+    × ((met : ResultTree) → RunOfThree (pruned t) met
+    → (end : ResultTree) × RunOfThree met end × NormalOfThree end × (shown ≡ verbose end))
 Shows Verbose t shown = shown ≡ verbose t
 
 -- The documents and the entry, which is this place, are accepted: at most given causes stand against them, which may be

@@ -11,6 +11,7 @@ ghost use Rattle.js_output.specs.Headline.{Headline};
 /// flag shows the verdict, verbose the whole tree, basic the units with a note of the pruned tree,
 /// detailed the one tree in which every run of the two condensing rules from the pruned tree ends,
 /// merged the one in which every run of these and of the rule that merges alike siblings ends.
+/// A run leads to that tree, each that can't be continued ends in it, and each can be continued to it.
 /// Or `TooLarge` is answered, exactly where no result stands within the limits.
 pub fn headline<Device>()
     ensures { (taken : Device → Option (List ℕ)) (old new : Tracked Device)

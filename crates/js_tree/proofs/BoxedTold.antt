@@ -39,6 +39,10 @@ told t =
 pub boxed_held : (t : ResultTree) (c d : Boxed) → boxed_state c ≡ boxed_start → Passes (λ a e b. boxed_state b ≡ boxed_after (boxed_state a) e) (events t) c d → (boxed_state d).found ≡ Some t
 boxed_held t c d h p = ap (λ s. s.found) (passes-after_all boxed_state boxed_after (events t) c d p ∙ (ap (λ s. after_all boxed_after s (events t)) h ∙ told t))
 
+-- after the events of a tree no node is open
+pub boxed_closes_all : (t : ResultTree) (c d : Boxed) → boxed_state c ≡ boxed_start → Passes (λ a e b. boxed_state b ≡ boxed_after (boxed_state a) e) (events t) c d → (boxed_state d).frames ≡ []
+boxed_closes_all t c d h p = ap (λ s. s.frames) (passes-after_all boxed_state boxed_after (events t) c d p ∙ (ap (λ s. after_all boxed_after s (events t)) h ∙ told t))
+
 -- ---- the code's list of open nodes
 
 frames_of-append : (os : List OpenNode) (o : OpenNode) (frames : List Frame) → frames_of (os ++ o ∷ []) frames ≡ frame_of o ∷ frames_of os frames
@@ -81,3 +85,8 @@ put_back found old rest o p q e f g =
     ap (λ w. record { keyword = w.keyword; absolute = w.absolute; instance = w.instance; below = forest_of q.children.items }) f
     ∙ ap (λ xs. record { keyword = p.head.keyword; absolute = p.head.absolute; instance = p.head.instance; below = forest_of xs }) g in
     ap (holding found) (a q ∙ (ap (λ w. frame_of o ∷ w ∷ frames_of rest []) b ∙ (sym (a p) ∙ ap (λ xs. frames_of xs []) (sym e))))
+
+-- a node is open
+pub one_open : (os rest : List OpenNode) (o : OpenNode) → os ≡ rest ++ o ∷ [] → frames_of os [] ≡ [] → ⊥
+one_open os rest o e f =
+    let k : frame_of o ∷ frames_of rest [] ≡ [] = sym (ap (λ xs. frames_of xs []) e ∙ frames_of-append rest o []) ∙ f in cc

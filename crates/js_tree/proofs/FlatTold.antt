@@ -1,5 +1,5 @@
 -- A collector of the flat form, and the events of a tree.
-use Rattle.std.specs.Prelude.{◌≡◌, ℕ, zero, suc, ◌-◌, ◌<◌, ◌≤◌, Bool, List, [], ◌∷◌, ◌++◌, length, map, slice_set, slice_index_or, refl}
+use Rattle.std.specs.Prelude.{◌≡◌, ◌≢◌, ℕ, zero, suc, ◌-◌, ◌<◌, ◌≤◌, Bool, List, [], ◌∷◌, ◌++◌, length, map, slice_set, slice_index_or, refl}
 use Rattle.std.proofs.Common.{arith, ap, sym, ◌∙◌, append-nil}
 use Rattle.std.proofs.lemmas.List.{append_assoc, length-append, length-map, map-append}
 use Rattle.js_tree.specs.Events.{closing, events, events_of, Passes, after_all}
@@ -114,3 +114,8 @@ opens rows new (x ∷ xs) ms r row n h f e d l =
 pub none_open : (ns : List ℕ) → open_numbers ns [] ≡ [] → ns ≡ []
 none_open [] e = refl
 none_open (n ∷ ns) e = let w = open_numbers-there ns n [] in let k = w.2 in absurd cc
+
+-- a row is made only where a node is open or there is no row
+pub made_in_time : (rows : List Row) (ns : List ℕ) → (length ns ≡ 0 → length rows ≡ 0) → map row_of rows ≢ [] → open_numbers ns [] ≡ [] → ⊥
+made_in_time [] ns h there none = there refl
+made_in_time (r ∷ rows) ns h there none = let l : suc (length rows) ≡ 0 = h (ap length (none_open ns none)) in absurd (omega (arith, l))

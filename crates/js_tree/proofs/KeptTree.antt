@@ -153,6 +153,9 @@ module _ {A : Type 0} (noted : A → Bool) where
   pub normal-kept : (t : Rose A) → NormalForest noted t.below → kept_by noted t ≡ t
   normal-kept t n = ap (λ f. record { root = t.root; below = f }) (normal-kept_below t.below n)
 
+  pub run-kept : (t u : Rose A) → RunBelow noted t u → kept_by noted u ≡ kept_by noted t
+  run-kept t u r = same_tree (kept_by noted t) (kept_by noted u) r.0 (sym (run-kept_below r.1))
+
   pub run-normal : (t u : Rose A) → RunBelow noted t u → NormalForest noted u.below → u ≡ kept_by noted t
   run-normal t u r n = same_tree (kept_by noted t) u r.0 (sym (run-kept_below r.1 ∙ normal-kept_below u.below n))
 

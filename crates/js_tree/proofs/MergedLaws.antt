@@ -17,6 +17,10 @@ pub step_of_three-merged : (t u : ResultTree) → StepOfThree t u → merged u �
 step_of_three-merged t u s =
     same_tree (merged t) (merged u) s.0 (sym (merge_step-merged_below noted same_but_keyword same_but_keyword_equiv same_notes s.1))
 
+pub run_of_three-merged : (t u : ResultTree) → RunOfThree t u → merged u ≡ merged t
+run_of_three-merged t u r =
+    same_tree (merged t) (merged u) r.0 (sym (merge_run-merged_below noted same_but_keyword same_but_keyword_equiv same_notes r.1))
+
 pub normal_of_three-merged : (t : ResultTree) → NormalOfThree t → merged t ≡ t
 normal_of_three-merged t n = ap (λ f. record { root = t.root; below = f }) (normal-merged_below noted same_but_keyword same_but_keyword_equiv same_notes t.below n)
 

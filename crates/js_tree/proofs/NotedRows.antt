@@ -1,13 +1,14 @@
 -- The units with a note, of a tree and of its rows.
-use Rattle.std.proofs.Common.{◌≡◌, Bool, true, false, if◌then◌else◌, List, [], ◌∷◌, ◌++◌, ℕ, ◌+◌, ◌<◌, ◌≤◌, length, drop, get_or, map, refl, ap, ◌∙◌}
+use Rattle.std.proofs.Common.{◌≡◌, Bool, true, false, if◌then◌else◌, List, [], ◌∷◌, ◌++◌, ℕ, ◌+◌, ◌<◌, ◌≤◌, length, drop, get_or, map, refl, ap, sym, ◌∙◌}
 use Rattle.js_tree.specs.Flat.{flat, flat_of}
 use Rattle.js_tree.specs.FlatState.{FlatRow, noted_of, row_of}
 use Rattle.js_tree.specs.Form.{node_value}
 use Rattle.js_tree.specs.Forest.{Forest, empty, tree}
 use Rattle.js_tree.specs.OutputUnit.{OutputUnit, noted}
-use Rattle.js_tree.specs.Result.{ResultTree, units}
+use Rattle.js_tree.specs.Result.{ResultTree, kept, units}
 use Rattle.js_tree.specs.Units.{units_below}
 use Rattle.js_tree.specs.declared.flat.Row.{Row}
+use Rattle.js_tree.proofs.KeptTree.{units-kept}
 use Rattle.js_tree.proofs.Pieces.{seen_next, seen_all}
 
 first : (b : Bool) (u : OutputUnit) (us vs : List OutputUnit) → (if b then u ∷ (us ++ vs) else (us ++ vs)) ≡ (if b then u ∷ us else us) ++ vs
@@ -25,6 +26,11 @@ noted_of-flat_of (tree u below after) =
 
 pub noted_of-flat : (t : ResultTree) → noted_of (flat t) ≡ units t
 noted_of-flat t = rw (noted_of-flat_of t.below) refl
+
+-- condensing leaves the units
+pub noted_of-condensed : (old new : List FlatRow) (t : ResultTree) → old ≡ flat t → new ≡ flat (kept t) → noted_of new ≡ noted_of old
+noted_of-condensed old new t is condensed =
+    ap noted_of condensed ∙ (noted_of-flat (kept t) ∙ (units-kept noted t ∙ sym (ap noted_of is ∙ noted_of-flat t)))
 
 -- ---- the units of the rows that are left, as nodes without children
 

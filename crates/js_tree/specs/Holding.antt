@@ -1,5 +1,5 @@
 -- What each collector holds after the events of a tree.
-use Rattle.std.specs.Prelude.{◌≡◌, suc, ◌<◌, ◌^◌, Some}
+use Rattle.std.specs.Prelude.{◌≡◌, suc, ◌<◌, ◌^◌, [], Some}
 use Rattle.js_tree.specs.BoxedState.{boxed_after, boxed_start, boxed_state}
 use Rattle.js_tree.specs.Events.{events, Passes}
 use Rattle.js_tree.specs.FlatState.{flat_after, flat_start, flat_state, whole_tree}
@@ -19,6 +19,12 @@ abbrev pub BoxedHolds : Type 0
 BoxedHolds =
     (t : ResultTree) (c d : Boxed) → boxed_state c ≡ boxed_start
     → Passes (λ a e b. boxed_state b ≡ boxed_after (boxed_state a) e) (events t) c d → (boxed_state d).found ≡ Some t
+
+-- no node is open
+abbrev pub BoxedClosesAll : Type 0
+BoxedClosesAll =
+    (t : ResultTree) (c d : Boxed) → boxed_state c ≡ boxed_start
+    → Passes (λ a e b. boxed_state b ≡ boxed_after (boxed_state a) e) (events t) c d → (boxed_state d).frames ≡ []
 
 abbrev pub FlatHolds : Type 0
 FlatHolds =

@@ -17,7 +17,8 @@ struct OpenNode<'a> {
     children: Vec<Tree<'a>>,
 }
 
-/// Collects the whole tree. A call that is refused leaves what is held as it was.
+/// Collects the whole tree. A call that is refused leaves what is held as it was. Opening a node after the root has
+/// closed, or closing one where none is open, changes nothing and answers Ok.
 #[derive(Drop)]
 pub struct Boxed<'a> {
     alloc: Global,
@@ -54,7 +55,7 @@ impl<'a> Boxed<'a> {
 }
 
 impl<'a> Collector<'a> for Boxed<'a> {
-    ghost use Rattle.std.specs.Prelude.{◌≡◌, IfOk, IfErr};
+    ghost use Rattle.std.specs.Prelude.{◌≡◌, IfOk, IfErr, IsOk, IsSome, []};
     ghost use Rattle.js_tree.specs.BoxedState.{boxed_after, boxed_state};
     ghost use Rattle.js_tree.specs.Events.{opening, closing};
     ghost use Rattle.js_tree.specs.Seen.{note_of};
@@ -64,6 +65,7 @@ impl<'a> Collector<'a> for Boxed<'a> {
     fn enter(&mut self, head: Head) -> Result<(), Memory>
         ensures takes { IfOk result (λ _. boxed_state self.new ≡ boxed_after (boxed_state self.old) (opening head.keyword head.absolute head.instance)) }
         ensures kept { IfErr result (λ _. boxed_state self.new ≡ boxed_state self.old) }
+        ensures ok { IsSome (boxed_state self.old).found → IsOk result }
     {
         if self.found.is_none() {
             let node = OpenNode {
@@ -78,6 +80,7 @@ impl<'a> Collector<'a> for Boxed<'a> {
     fn leave(&mut self, valid: bool, note: Note<'a>) -> Result<(), Memory>
         ensures takes { IfOk result (λ _. boxed_state self.new ≡ boxed_after (boxed_state self.old) (closing valid (note_of note.entry))) }
         ensures kept { IfErr result (λ _. boxed_state self.new ≡ boxed_state self.old) }
+        ensures ok { (boxed_state self.old).frames ≡ [] → IsOk result }
     {
         match self.nodes.pop() {
             None => Ok(()),

@@ -2,7 +2,7 @@
 ghost use Rattle.std.specs.Prelude.{◌≡◌, ◌<◌, ◌≤◌, ◌+◌, ◌^◌, ◌++◌, List, drop, take, length, map, suc};
 ghost use Rattle.js_tree.specs.code.Compacting.{AreMarkedTrees, gathered, left, left_of, left_trees, marked, gone_with, room, stays};
 ghost use Rattle.js_tree.specs.Flat.{flat, flat_of};
-ghost use Rattle.js_tree.specs.FlatState.{IsWholeTree, row_of, flat_state, whole_tree};
+ghost use Rattle.js_tree.specs.FlatState.{IsWholeTree, noted_of, row_of, flat_state, whole_tree};
 ghost use Rattle.js_tree.specs.Forest.{Forest, node_count};
 ghost use Rattle.js_tree.specs.OutputUnit.{OutputUnit};
 ghost use Rattle.js_tree.specs.Result.{ResultTree, kept, pruned};
@@ -77,7 +77,8 @@ pub fn flat_prune(flat: Flat) -> Flat
 /// in the rows.
 pub fn flat_condense(flat: Flat) -> Flat
     requires { IsWholeTree (flat_state flat) }
-    ensures { (t : ResultTree) → flat_state flat.entry ≡ whole_tree t → flat_state result ≡ whole_tree (kept t) }
+    ensures kept { (t : ResultTree) → flat_state flat.entry ≡ whole_tree t → flat_state result ≡ whole_tree (kept t) }
+    ensures units { noted_of (flat_state result).rows ≡ noted_of (flat_state flat.entry).rows }
 {
     let mut flat = flat;
     keep_rows(&mut flat.rows, Keep::Noted);

@@ -21,7 +21,9 @@ pub struct Row<'a> {
     pub(crate) stays: bool,
 }
 
-/// Collects the flat form of a tree: its nodes in preorder. A call that is refused leaves what is held as it was.
+/// Collects the flat form of a tree: its nodes in preorder. A call that is refused leaves what is held as it was. Opening
+/// a node after the root has closed, or closing one where none is open, changes nothing and answers Ok. `leave` always
+/// answers Ok, and takes no memory.
 #[derive(Debug, Drop)]
 pub struct Flat<'a> {
     pub(crate) rows: Vec<Row<'a>>,
@@ -58,7 +60,7 @@ impl<'a> Flat<'a> {
 }
 
 impl<'a> Collector<'a> for Flat<'a> {
-    ghost use Rattle.std.specs.Prelude.{◌≡◌, IfOk, IfErr};
+    ghost use Rattle.std.specs.Prelude.{◌≡◌, ◌≢◌, IfOk, IfErr, IsOk, []};
     ghost use Rattle.js_tree.specs.Events.{opening, closing};
     ghost use Rattle.js_tree.specs.FlatState.{flat_after, flat_state};
     ghost use Rattle.js_tree.specs.Seen.{note_of};
@@ -68,6 +70,7 @@ impl<'a> Collector<'a> for Flat<'a> {
     fn enter(&mut self, head: Head) -> Result<(), Memory>
         ensures takes { IfOk result (λ _. flat_state self.new ≡ flat_after (flat_state self.old) (opening head.keyword head.absolute head.instance)) }
         ensures kept { IfErr result (λ _. flat_state self.new ≡ flat_state self.old) }
+        ensures ok { (flat_state self.old).rows ≢ [] → (flat_state self.old).numbers ≡ [] → IsOk result }
     {
         // Without an open node there is either no row yet, or the root has closed.
         if !self.numbers.is_empty() || self.rows.is_empty() {
@@ -94,6 +97,7 @@ impl<'a> Collector<'a> for Flat<'a> {
     fn leave(&mut self, valid: bool, note: Note<'a>) -> Result<(), Memory>
         ensures takes { IfOk result (λ _. flat_state self.new ≡ flat_after (flat_state self.old) (closing valid (note_of note.entry))) }
         ensures kept { IfErr result (λ _. flat_state self.new ≡ flat_state self.old) }
+        ensures ok { IsOk result }
     {
         if let Some(number) = self.numbers.pop() {
             let count = self.rows.len();

@@ -2,8 +2,8 @@
 ghost use Rattle.std.specs.Prelude.{◌≡◌, ◌+◌, ◌<◌, ◌↔◌, IsTrue, Some, false, true};
 ghost use Rattle.js_tree.specs.Alike.{same_but_keyword};
 ghost use Rattle.js_tree.specs.Forest.{Forest, ◌⊹◌, node_count, tree};
-ghost use Rattle.js_tree.specs.Holding.{BoxedHolds, FlatHolds, VerdictHolds};
-ghost use Rattle.js_tree.specs.Result.{ResultTree, Normal, Run, Step, kept, moved};
+ghost use Rattle.js_tree.specs.Holding.{BoxedClosesAll, BoxedHolds, FlatHolds, VerdictHolds};
+ghost use Rattle.js_tree.specs.Result.{ResultTree, Normal, Run, Step, kept, moved, units};
 ghost use Rattle.js_tree.specs.declared.moves.Move.{Move};
 ghost use Rattle.js_tree.specs.Merged.{alike, firsts, has_alike};
 ghost use Rattle.js_tree.specs.MergedResult.{merged, without_keywords, NormalOfThree, RunOfThree, StepOfThree};
@@ -41,6 +41,11 @@ pub fn the_kept_tree_is_reached()
 /// Every run that ends in a normal tree ends in the kept tree.
 pub fn normal_ends_are_the_kept_tree()
     ensures { (t u : ResultTree) → Run t u → Normal u → u ≡ kept t }
+{}
+
+/// The kept tree has the units of the tree, one by one and in their order.
+pub fn the_kept_tree_has_the_same_units()
+    ensures { (t : ResultTree) → units (kept t) ≡ units t }
 {}
 
 /// A step of the three rules anywhere leaves the merged tree as it was.
@@ -93,6 +98,11 @@ pub fn a_verdict_is_the_roots()
 /// After the events of a tree `Boxed` holds the tree.
 pub fn a_boxed_tree_is_the_tree()
     ensures { BoxedHolds }
+{}
+
+/// After the events of a tree no node is open in `Boxed`, so any further call changes nothing and answers Ok.
+pub fn a_boxed_tree_is_closed()
+    ensures { BoxedClosesAll }
 {}
 
 /// After the events of a tree `Flat` holds its flat form, and no node is open.

@@ -1,4 +1,4 @@
-//! Result trees of JSON Schema: pruning, condensing to one normal form, and the four output forms.
+//! Result trees of JSON Schema: pruning, condensing to one normal form, merging, and the five output formats.
 #![tactic(auto)]
 
 mod boxed;

@@ -1,6 +1,6 @@
 use Rattle.std.proofs.Common.{arith, [], ◌∷◌, ◌++◌, ap, refl, ◌∙◌}
 use Rattle.js_tree.specs.Seen.{note_of}
-use Rattle.js_tree.proofs.BoxedTold.{closes, put_back}
+use Rattle.js_tree.proofs.BoxedTold.{closes, one_open, put_back}
 use Rattle.js_tree.proofs.boxed.BoxedCollector.leave.Goals as goal
 
 pub returns-in-Ok-clause-takes : goal.returns-in-Ok-clause-takes
@@ -29,3 +29,7 @@ returns-in-Err-clause-kept c =
     rw (c.push-in-Err-2.ensures.items, t, c.push-in-Err.ensures.items, s)
     (put_back c.args.self.now.found c.args.self.now.nodes.items c.pop-in-Some.new.self.items c.in-Some.node c.in-Some-pop.parent (record { head = c.in-Some-pop.parent.head; children = c.reserve.new.self })
     (c.in-Some.ensures.items ∙ ap (λ xs. xs ++ c.in-Some.node ∷ []) c.in-Some-pop.ensures.items) refl c.in-Err.ensures.items)
+
+pub returns-in-Err-clause-ok : goal.returns-in-Err-clause-ok
+returns-in-Err-clause-ok c =
+    λ none. absurd (one_open c.args.self.now.nodes.items _ c.in-Some.node c.in-Some.ensures.items none)
