@@ -1,5 +1,5 @@
 -- After a walk into one of the collectors it holds what its events give.
-use Rattle.std.specs.Prelude.{◌≡◌, ℕ, suc, ◌+◌, ◌<◌, ◌≤◌, ◌^◌, max, refl}
+use Rattle.std.specs.Prelude.{ℕ, suc, ◌<◌, ◌≤◌, ◌^◌, refl}
 use Rattle.std.proofs.Common.{arith, lit<}
 use Rattle.js_bundle.specs.Document.{Documents}
 use Rattle.js_doc.specs.Value.{Value}
