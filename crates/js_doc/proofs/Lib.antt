@@ -1,4 +1,5 @@
 pub mod BytesGone
+pub mod Extending
 pub mod QuotedRuns
 pub mod Entries
 pub mod CompactPieces

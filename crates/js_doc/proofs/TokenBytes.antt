@@ -35,8 +35,8 @@ escape_fragment (b ∷ bs) =
     ∙ ap (λ x. flat_map fragment_byte (escape (b ∷ [])) ++ x) (escape_fragment bs) ∙ sym (flat_map-append fragment_byte (escape (b ∷ [])) (escape bs))
     ∙ ap (flat_map fragment_byte) (sym (escape-append (b ∷ []) bs))
 
-pub escaped_token : (token : List ℕ) → 47 ∷ escape (percent_encode ESCAPED token) ≡ fragment_token token
-escaped_token token = ap (λ x. 47 ∷ x) (ap escape (fragment_is token) ∙ escape_fragment token)
+pub escaped_token : (token : List ℕ) → escape (percent_encode ESCAPED token) ≡ flat_map fragment_byte (escape token)
+escaped_token token = ap escape (fragment_is token) ∙ escape_fragment token
 
 -- ---- one token more
 

@@ -18,3 +18,4 @@ pub mod BytesOut
 pub mod Escapes
 pub mod WholeNumbers
 pub mod Reading
+pub mod code

@@ -1,5 +1,5 @@
 //! Texts as JSON strings (RFC 8259, section 7): the escapes are those that `serde_json` writes.
-ghost use Rattle.std.specs.Prelude.{◌≡◌, ◌<◌, ◌≤◌, ◌++◌, take, OnOk, string_bytes};
+ghost use Rattle.std.specs.Prelude.{◌≡◌, ◌<◌, ◌≤◌, ◌++◌, take, OnErr, OnOk, string_bytes};
 ghost use Rattle.std.specs.Char.{digit_char};
 ghost use Rattle.json.specs.Print.{escape_byte, escape_letter};
 ghost use Rattle.js_doc.specs.BytesOut.{Puts};
@@ -20,14 +20,20 @@ pub fn put_string<O: Out>(text: &str, out: &mut O) -> Result<(), Stopped>
     put_quoted(text.as_bytes(), out)
 }
 
-/// Puts the text at another's end, between quotation marks, with its escapes.
+/// Puts the text at the end of another, between quotation marks, with its escapes.
 ///
 /// # Errors
-/// `Memory`; then a beginning of it may stand there.
+/// `Memory`; the other text is then as it was.
 pub fn push_string(out: &mut String, text: &str) -> Result<(), Memory>
-    ensures { OnOk result (string_bytes out.new ≡ string_bytes out.old ++ quoted text.now) }
+    ensures ok { OnOk result (string_bytes out.new ≡ string_bytes out.old ++ quoted text.now) }
+    ensures stays { OnErr result (string_bytes out.new ≡ string_bytes out.old) }
 {
-    put_string(text, out)?;
+    let len = out.len();
+    let put = put_string(text, out);
+    if put.is_err() {
+        out.truncate(len);
+    }
+    put?;
     Ok(())
 }
 

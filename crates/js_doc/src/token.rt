@@ -1,7 +1,8 @@
 //! A pointer's tokens, and how they stand in its text and in a fragment, one at a time.
-ghost use Rattle.std.specs.Prelude.{◌≡◌, ◌++◌, IfOk, IsTrue, OnOk, string_bytes};
+ghost use Rattle.std.specs.Prelude.{◌≡◌, ◌++◌, IfOk, IsTrue, OnErr, OnOk, flat_map, string_bytes};
 ghost use Rattle.js_doc.specs.Pointer.{escape, token_text};
-ghost use Rattle.js_doc.specs.Fragment.{fragment_token};
+ghost use Rattle.js_doc.specs.Fragment.{fragment_byte, fragment_token};
+ghost use Rattle.js_doc.specs.code.Extends.{Extends};
 
 use crate::fragment::ESCAPED;
 use crate::memory::Memory;
@@ -83,27 +84,48 @@ impl Eq for Token {
     ghost laws = { nat_list_eq_equiv };
 }
 
-/// Puts a `/` and the token at the text's end, with `~` written `~0` and `/` written `~1` (RFC 6901, section 3): so a
+/// Puts a `/` and the token at the end of the text, with `~` written `~0` and `/` written `~1` (RFC 6901, section 3): a
 /// pointer's text goes one token further.
 ///
 /// # Errors
-/// `Memory`; then a beginning of it may stand there.
+/// `Memory`; the text is then as it was.
 pub fn push_token(out: &mut String, token: &str) -> Result<(), Memory>
-    ensures { OnOk result (string_bytes out.new ≡ string_bytes out.old ++ token_text token.now) }
+    ensures ok { OnOk result (string_bytes out.new ≡ string_bytes out.old ++ token_text token.now) }
+    ensures stays { OnErr result (string_bytes out.new ≡ string_bytes out.old) }
 {
+    let len = out.len();
     out.push('/')?;
-    push_escaped(out, token)
+    let pushed = push_escaped(out, token);
+    if pushed.is_err() {
+        out.truncate(len);
+    }
+    pushed
 }
 
 /// The same in a fragment of a URI: each byte of it but ASCII letters, digits and ``-._~!$&'()*+,;=:@/?`` is a `%`
 /// and two upper-case hexadecimal digits (RFC 6901, section 6).
 ///
 /// # Errors
-/// `Memory`; then a beginning of it may stand there.
+/// `Memory`; the text is then as it was.
 pub fn push_fragment_token(out: &mut String, token: &str) -> Result<(), Memory>
-    ensures { OnOk result (string_bytes out.new ≡ string_bytes out.old ++ fragment_token token.now) }
+    ensures ok { OnOk result (string_bytes out.new ≡ string_bytes out.old ++ fragment_token token.now) }
+    ensures stays { OnErr result (string_bytes out.new ≡ string_bytes out.old) }
 {
+    let len = out.len();
     out.push('/')?;
+    let pushed = push_pieces(out, token);
+    if pushed.is_err() {
+        out.truncate(len);
+    }
+    pushed
+}
+
+// The token's escapes in a pointer, each in turn percent-encoded. What stood there stays at the front.
+fn push_pieces(out: &mut String, token: &str) -> Result<(), Memory>
+    ensures ok { OnOk result (string_bytes out.new
+        ≡ string_bytes out.old ++ flat_map fragment_byte (escape token.now)) }
+    ensures grows { Extends (string_bytes out.old) (string_bytes out.new) }
+{
     for piece in utf8_percent_encode(token, ESCAPED) {
         push_escaped(out, piece)?;
     }
@@ -111,7 +133,8 @@ pub fn push_fragment_token(out: &mut String, token: &str) -> Result<(), Memory>
 }
 
 fn push_escaped(out: &mut String, token: &str) -> Result<(), Memory>
-    ensures { OnOk result (string_bytes out.new ≡ string_bytes out.old ++ escape token.now) }
+    ensures ok { OnOk result (string_bytes out.new ≡ string_bytes out.old ++ escape token.now) }
+    ensures grows { Extends (string_bytes out.old) (string_bytes out.new) }
 {
     if has_no_escape(token.as_bytes()) {
         out.push_str(token)?;
@@ -128,7 +151,8 @@ fn has_no_escape(token: &[u8]) -> bool
 }
 
 fn push_characters(out: &mut String, token: &str) -> Result<(), Memory>
-    ensures { OnOk result (string_bytes out.new ≡ string_bytes out.old ++ escape token.now) }
+    ensures ok { OnOk result (string_bytes out.new ≡ string_bytes out.old ++ escape token.now) }
+    ensures grows { Extends (string_bytes out.old) (string_bytes out.new) }
 {
     for c in token.chars() {
         match c {

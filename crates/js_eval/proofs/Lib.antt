@@ -23,5 +23,6 @@ pub mod Counts
 pub mod AssertionThere
 pub mod Standard
 pub mod Held
+pub mod Collected
 pub mod SaysThere
 pub mod ResultExamples

@@ -15,6 +15,7 @@ pub mod Laws
 pub mod Examples
 pub mod Seen
 pub mod Walked
+pub mod Collected
 pub mod Walk
 pub mod ResultExamples
 pub mod code

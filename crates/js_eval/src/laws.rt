@@ -1,6 +1,8 @@
 //! Laws of the definitions. Each is the contract of a function that does nothing.
 ghost use Rattle.std.specs.Prelude.{ℕ, Bool, List, Option};
 ghost use Rattle.js_doc.specs.Value.{Named, Value as JsonValue};
+ghost use Rattle.js_bundle.specs.Document.{Documents};
+ghost use Rattle.js_eval.specs.Collected.{RowsAreCollected, TreeIsCollected, VerdictIsCollected};
 ghost use Rattle.js_eval.specs.Examples.{Shown};
 ghost use Rattle.js_eval.specs.Laws.{AtMostOneResult, DepthIsLeast, LimitsAreExact, NoCircle, ResultExactlyIfSettled, SizeIsTotal, StaysSettled, TellsEveryItem};
 ghost use Rattle.js_eval.specs.Keywords.{Keyword};
@@ -36,6 +38,14 @@ pub fn no_circle<Place>()
 pub fn every_item<Place>()
     ensures { (S : SchemaSet Place) (path : List Place) (place : Place) (v : JsonValue) (siblings : Named) (condition : Option Bool) (names : List Text) (indexes : List ℕ) (k : Keyword)
         → TellsEveryItem S path place v siblings condition names indexes k }
+{}
+
+/// After a walk into a new collector of js_tree that answers Ok, `Verdict` holds the result's verdict, `Boxed` the result, and
+/// `Flat` its rows.
+pub fn walks_are_collected()
+    ensures verdict { (documents : Documents) (place : ℕ) (v : JsonValue) → VerdictIsCollected documents place v }
+    ensures tree { (documents : Documents) (place : ℕ) (v : JsonValue) → TreeIsCollected documents place v }
+    ensures rows { (documents : Documents) (place : ℕ) (v : JsonValue) → RowsAreCollected documents place v }
 {}
 
 /// The definitions say of some schemas and instances what the standard says of them.
