@@ -71,9 +71,11 @@ class Program:
     def outcomes(self, groups, documents):
         """What it says of each test of each group; the documents are files by their URIs."""
         done = self.run("suite", self.file(groups), *words_of(documents))
+        if done.returncode == 3 and len(groups) > 1:
+            # A value that isn't read refuses the suite whole: each group by itself.
+            return [self.outcomes([group], documents)[0] for group in groups]
         if done.returncode == 3:
-            refused = refusal(done.stderr, documents)
-            return [[refused for _ in group["tests"]] for group in groups]
+            return [[refusal(done.stderr, documents)] * len(group["tests"]) for group in groups]
         if done.returncode > 1:
             raise ProgramFailed(f"suite ended with {done.returncode}: {done.stderr.strip()}")
         said = {(int(g), int(t)): status for status, g, t in LINE.findall(done.stdout)}
