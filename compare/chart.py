@@ -6,12 +6,16 @@ COLOURS = ("#1b6ca8", "#c0562f", "#8a8a8a", "#3f8f4f", "#b59b00", "#7b4fa3")
 LEFT, WIDTH, BAR, GAP, TOP = 150, 560, 9, 10, 60
 
 
+def bars_of(tools, measured):
+    """The number of each validator that has a figure, and its milliseconds."""
+    return [(number, measured[tool.name].further() * 1000) for number, tool in enumerate(tools)
+            if tool.name in measured and not measured[tool.name].fault]
+
+
 def chart(tools, results):
     """Milliseconds for each further instance in one process, reading included."""
-    groups = [(case.name, [(number, tool.name, measured[tool.name].further() * 1000) for number, tool in enumerate(tools)
-                           if tool.name in measured and not measured[tool.name].fault])
-              for case, measured, _ in results]
-    values = [max(value, 0.001) for _, bars in groups for _, _, value in bars]
+    groups = [(case.name, bars_of(tools, measured)) for case, measured, _ in results]
+    values = [max(value, 0.001) for _, bars in groups for _, value in bars]
     low, high = math.floor(math.log10(min(values))), math.ceil(math.log10(max(values)))
     height = TOP + sum(len(bars) * BAR + GAP for _, bars in groups) + 20
 
@@ -32,8 +36,9 @@ def chart(tools, results):
                      f'<text x="{x:.1f}" y="{height - 6}" text-anchor="middle">{10**power:g}</text>')
     y = TOP
     for name, bars in groups:
-        parts.append(f'<text x="{LEFT - 8}" y="{y + len(bars) * BAR / 2 + 4:.1f}" text-anchor="end">{escape(name)}</text>')
-        for number, _, value in bars:
+        middle = y + len(bars) * BAR / 2 + 4
+        parts.append(f'<text x="{LEFT - 8}" y="{middle:.1f}" text-anchor="end">{escape(name)}</text>')
+        for number, value in bars:
             parts.append(f'<rect x="{LEFT}" y="{y}" width="{across(value) - LEFT:.1f}" height="{BAR - 1}" '
                          f'fill="{COLOURS[number]}"/><text x="{across(value) + 4:.1f}" y="{y + BAR - 1}" '
                          f'font-size="9">{value:.3g}</text>')

@@ -3,8 +3,10 @@
 
 def records(count):
     """Objects with eight members each."""
-    members = {f"m{i}": {"type": "integer", "minimum": i} if i % 2 else {"type": "string", "maxLength": 20} for i in range(8)}
-    schema = {"items": {"type": "object", "properties": members, "required": list(members), "additionalProperties": False}}
+    text, number = {"type": "string", "maxLength": 20}, {"type": "integer", "minimum": 1}
+    members = {f"m{i}": number if i % 2 else text for i in range(8)}
+    record = {"type": "object", "properties": members, "required": list(members), "additionalProperties": False}
+    schema = {"items": record}
     return schema, [{f"m{i}": k + i if i % 2 else f"text {k}" for i in range(8)} for k in range(count)]
 
 
@@ -37,8 +39,8 @@ def unevaluated(count):
 
 def dynamic(count):
     """A tree of objects that a schema extends, by dynamic references."""
-    tree_schema = {"$id": "https://a.example/tree", "$dynamicAnchor": "node", "type": "object",
-                   "properties": {"name": True, "children": {"type": "array", "items": {"$dynamicRef": "#node"}}}}
+    members = {"name": {"type": "string"}, "children": {"type": "array", "items": {"$dynamicRef": "#node"}}}
+    tree_schema = {"$id": "https://a.example/tree", "$dynamicAnchor": "node", "type": "object", "properties": members}
     schema = {"$id": "https://a.example/strict", "$dynamicAnchor": "node", "$ref": "tree",
               "unevaluatedProperties": False, "$defs": {"tree": tree_schema}}
     return schema, references(count)[1]

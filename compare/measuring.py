@@ -63,6 +63,10 @@ class Bounded:
     megabytes: float | None
 
 
+def limit_memory():
+    resource.setrlimit(resource.RLIMIT_DATA, (DATA_BYTES, DATA_BYTES))
+
+
 def run_bounded(command, environment, seconds):
     """Runs a process for so many seconds at most, with DATA_BYTES at most.
 
@@ -71,9 +75,9 @@ def run_bounded(command, environment, seconds):
     with tempfile.NamedTemporaryFile("r") as told:
         timed = [TIME, "-q", "-f", "%M", "-o", told.name, *command] if TIME else command
         begin = time.perf_counter()
-        process = subprocess.Popen(timed, stdin=subprocess.DEVNULL, stdout=subprocess.PIPE, stderr=subprocess.PIPE, text=True,
-                                   errors="replace", env=os.environ | environment, start_new_session=True,
-                                   preexec_fn=lambda: resource.setrlimit(resource.RLIMIT_DATA, (DATA_BYTES, DATA_BYTES)))
+        process = subprocess.Popen(timed, stdin=subprocess.DEVNULL, stdout=subprocess.PIPE, stderr=subprocess.PIPE,
+                                   text=True, errors="replace", env=os.environ | environment,
+                                   start_new_session=True, preexec_fn=limit_memory)
         try:
             out, faults = process.communicate(timeout=seconds)
             status = process.returncode
@@ -109,8 +113,9 @@ class Case:
         self.name, self.draft = entry["name"], entry["draft"]
         self.sizes = len(schema.encode()), len(instance.encode())
         self.many = max(MANY_LEAST, min(MANY_MOST, MANY_BYTES // self.sizes[1]))
-        variants = {"one": (schema, [instance]), "many": (schema, [instance] * self.many), "one_open": ("{}", [instance]),
-                    "many_open": ("{}", [instance] * self.many), "errors": (schema, [spoiled])}
+        many = [instance] * self.many
+        variants = {"one": (schema, [instance]), "many": (schema, many), "one_open": ("{}", [instance]),
+                    "many_open": ("{}", many), "errors": (schema, [spoiled])}
         self.files = {variant: write_files(folder, f"{self.name}.{variant}", *it) for variant, it in variants.items()}
 
 

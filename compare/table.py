@@ -31,7 +31,8 @@ def processor():
 
 
 def asked(tools, missing):
-    lines = ["| validator | version | newest draft | asked for a verdict | asked for all errors |", "|---|---|---|---|---|"]
+    lines = ["| validator | version | newest draft | asked for a verdict | asked for all errors |",
+             "|---|---|---|---|---|"]
     drafts = {7: "draft-07", 2020: "2020-12"}
     lines += [f"| {it.name} | {plain_version(it.version)} | {drafts[it.draft]} | {it.asked['verdict']} | "
               f"{it.asked.get('errors', 'not asked: it has none')} |" for it in tools]

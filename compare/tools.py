@@ -101,7 +101,8 @@ def package_version(name):
 
 def jschema(program):
     version = output_of("git", "-C", HOME, "log", "-1", "--format=%h") or "unknown"
-    asked = {"verdict": "`suite`: the verdict, by a whole walk", "errors": "`check basic`: each error with its locations"}
+    asked = {"verdict": "`suite`: the verdict, by a whole walk",
+             "errors": "`check basic`: each error with its locations"}
     return Jschema("jschema", version, 2020, (os.path.abspath(program),), asked)
 
 
