@@ -173,7 +173,8 @@ def without_formats(value):
         return list(map(without_formats, value))
     if not isinstance(value, dict):
         return value
-    return {name: without_formats(it) for name, it in value.items() if name != "format" or not isinstance(it, str)}
+    kept = {name: without_formats(it) for name, it in value.items() if name != "format" or not isinstance(it, str)}
+    return True if value and not kept else kept
 
 
 def spoiled(instance):

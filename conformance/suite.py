@@ -55,7 +55,7 @@ class Suite:
 
 
 def find_meta_schemas(folder=None):
-    """The documents of the meta-schema of 2020-12 by their URIs, in a folder or in pip's `jsonschema_specifications`."""
+    """The documents of the meta-schema of 2020-12 by their URIs: a folder's, or pip's `jsonschema_specifications`."""
     if folder is None:
         package = importlib.util.find_spec("jsonschema_specifications")
         if package is None:
