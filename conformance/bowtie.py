@@ -1,0 +1,95 @@
+#!/usr/bin/env python3
+"""Speaks the protocol of Bowtie, the harness of the JSON Schema community, over the built program.
+
+    conformance/bowtie.py --home URL [--version TEXT] [--meta-schemas FOLDER] [--program FILE]
+
+Requests are lines of JSON on standard input, `start`, `dialect`, `run` and `stop`; each but the last is answered by a
+line on standard output. A test that the program gives no verdict on is skipped, with the name of the refusal. URL is
+where this repository stands: Bowtie wants to know it.
+"""
+import argparse
+import json
+import platform
+import sys
+import tempfile
+
+from program import Program, ProgramFailed, default_program, parse_json
+from suite import META_SCHEMA, find_meta_schemas, needed
+
+PROTOCOL = 1
+
+
+class Session:
+    """A conversation with Bowtie: a method for each request."""
+
+    def __init__(self, program, meta_schemas, given):
+        self.program, self.meta_schemas, self.given = program, meta_schemas, given
+
+    def start(self, request):
+        if request["version"] != PROTOCOL:
+            raise ValueError(f"the version of the protocol is {PROTOCOL}")
+        implementation = {
+            "name": "jschema",
+            "language": "rattle",
+            "homepage": self.given.home,
+            "source": self.given.home,
+            "issues": self.given.home.rstrip("/") + "/issues",
+            "dialects": [META_SCHEMA],
+            "os": platform.system(),
+            "os_version": platform.release(),
+        }
+        if self.given.version:
+            implementation["version"] = self.given.version
+        return {"version": PROTOCOL, "implementation": implementation}
+
+    def dialect(self, request):
+        return {"ok": request["dialect"] == META_SCHEMA}
+
+    def run(self, request):
+        """One schema and its tests; what fails with an exception is told of the whole case."""
+        try:
+            return {"seq": request["seq"], "results": self.results(request["case"])}
+        except (ProgramFailed, ValueError) as fault:
+            return {"seq": request["seq"], "errored": True, "context": {"message": str(fault)}}
+
+    def results(self, case):
+        registry = {uri: self.program.file(schema) for uri, schema in case.get("registry", {}).items()}
+        tests = [{"description": "", "data": it["instance"], "valid": True} for it in case["tests"]]
+        group = {"description": "", "schema": case["schema"], "tests": tests}
+        documents = needed(case["schema"], self.meta_schemas | registry)
+        return [result(outcome) for outcome in self.program.outcomes([group], documents)[0]]
+
+    def answer(self, request):
+        handlers = {"start": self.start, "dialect": self.dialect, "run": self.run}
+        return handlers[request["cmd"]](request)
+
+
+def result(outcome):
+    """The tests are named as valid ones, so the program's `fail` says that the instance is invalid."""
+    if outcome.status == "skip":
+        return {"skipped": True, "message": f"{outcome.reason} ({outcome.detail})"}
+    return {"valid": outcome.status == "pass"}
+
+
+def main():
+    parser = argparse.ArgumentParser(description="Speaks the protocol of Bowtie over the built program.")
+    parser.add_argument("--home", required=True, metavar="URL", help="where this repository stands")
+    parser.add_argument("--version", metavar="TEXT", help="the version that Bowtie is told")
+    parser.add_argument("--meta-schemas", metavar="FOLDER", help="the documents of the meta-schema")
+    parser.add_argument("--program", default=default_program(), help="the program, in place of the built one")
+    given = parser.parse_args()
+    if given.program is None:
+        print("bowtie: no program is built: ./jschema builds it, and ./test", file=sys.stderr)
+        return 1
+    with tempfile.TemporaryDirectory(prefix="jschema-bowtie-") as folder:
+        session = Session(Program(given.program, folder), find_meta_schemas(given.meta_schemas), given)
+        for line in sys.stdin:
+            request = parse_json(line)
+            if request["cmd"] == "stop":
+                break
+            print(json.dumps(session.answer(request)), flush=True)
+    return 0
+
+
+if __name__ == "__main__":
+    sys.exit(main())

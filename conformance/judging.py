@@ -1,0 +1,76 @@
+"""What the program says of each test of a suite, and of each output test."""
+import json
+import os
+from dataclasses import dataclass
+
+from program import Outcome, Program, ProgramFailed, read_json, refusal
+from suite import Suite, needed
+
+
+@dataclass(frozen=True)
+class Judged:
+    """A test, what came of it, and the arguments that show it where it failed."""
+
+    file: str
+    group: str
+    test: str
+    number: str
+    outcome: Outcome
+    shown_by: tuple[str, ...] = ()
+
+    def name(self):
+        return f"{self.file} {self.number}: {self.group} / {self.test}"
+
+
+def judge_file(program: Program, suite: Suite, name):
+    """Each test of a file: one process for the groups that refer to the same documents, most often to none."""
+    groups = read_json(os.path.join(suite.tests(), name))
+    referred = [needed(group["schema"], suite.documents) for group in groups]
+    outcomes = {}
+    for documents in {tuple(it): it for it in referred}.values():
+        numbers = [g for g, it in enumerate(referred) if it == documents]
+        outcomes |= zip(numbers, program.outcomes([groups[g] for g in numbers], documents))
+    return [judged_test(program, name, g, t, group, referred[g], outcomes[g][t])
+            for g, group in enumerate(groups) for t in range(len(group["tests"]))]
+
+
+def judged_test(program, name, g, t, group, documents, outcome):
+    test = group["tests"][t]
+    shown_by = ()
+    if outcome.status == "fail":
+        shown_by = (program.path, *program.check_words("basic", group["schema"], test["data"], documents))
+    return Judged(name, group["description"], test["description"], f"{g}.{t}", outcome, shown_by)
+
+
+def judge_output_file(program: Program, suite: Suite, name):
+    """Each format that each output test of a file asks for."""
+    groups = read_json(os.path.join(suite.outputs(), "content", name))
+    return [judge_output(program, suite, name, (g, t), group, format_)
+            for g, group in enumerate(groups) for t, test in enumerate(group["tests"]) for format_ in test["output"]]
+
+
+def judge_output(program, suite, name, number, group, format_):
+    """The output of a format has to be valid by the schema that the test names, which the program itself judges."""
+    g, t = number
+    test = group["tests"][t]
+    uri = group["schema"].get("$id", "https://suite.example/0")
+    documents = needed(group["schema"], suite.documents)
+    words = program.check_words(format_, group["schema"], test["data"], documents, uri)
+    done = program.run(*words)
+    shown_by = ()
+    if done.returncode > 1:
+        outcome = refusal(done.stderr, documents)
+    else:
+        meant = program.check_words("basic", test["output"][format_], json.loads(done.stdout), output_schema(suite))
+        status = program.run(*meant).returncode
+        if status > 1:
+            raise ProgramFailed(f"the schema for the output isn't accepted: {meant}")
+        outcome = Outcome("fail" if status else "pass")
+        shown_by = (program.path, *meant) if status else ()
+    title = f"{test['description']} ({format_})"
+    return Judged(os.path.join("output-tests", name), group["description"], title, f"{g}.{t}", outcome, shown_by)
+
+
+def output_schema(suite):
+    path = os.path.join(suite.outputs(), "output-schema.json")
+    return {read_json(path)["$id"]: path}

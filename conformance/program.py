@@ -1,0 +1,110 @@
+"""The program under test: what it says of each test of a suite's groups, and why it skips one."""
+import itertools
+import json
+import os
+import re
+import subprocess
+from dataclasses import dataclass
+
+HOME = os.path.join(os.path.dirname(os.path.abspath(__file__)), "..")
+# ./jschema copies the first to the second.
+BUILDS = [os.path.join(HOME, "crates", "js_cli", "out", "js_cli"), os.path.join(HOME, "out", "jschema")]
+LINE = re.compile(r"(pass|fail|skip) (\d+)\.(\d+) ")
+REFUSED = re.compile(r"refused: (document (\d+)|entry|input|instance|suite|walk)\b.*: (\w+)\n", re.S)
+SECONDS = 600
+# The reason where a document that the schema refers to is refused.
+REFUSED_REFERENCE = "RefusedReference"
+
+
+class ProgramFailed(Exception):
+    """The program did something that it must not do on these arguments."""
+
+
+@dataclass(frozen=True)
+class Outcome:
+    """What the program says of a test: `pass`, `fail` or `skip`, and why it skips."""
+
+    status: str
+    reason: str | None = None
+    detail: str = ""
+
+
+def default_program():
+    """The program as the gate, or `./jschema`, built it; none where it isn't built."""
+    return next((os.path.normpath(it) for it in BUILDS if os.path.isfile(it)), None)
+
+
+def parse_json(text):
+    """A value of JSON, in which a number that isn't whole stays so: `-0` is one of them."""
+    return json.loads(text, parse_int=lambda digits: -0.0 if digits == "-0" else int(digits))
+
+
+def read_json(path):
+    with open(path, encoding="utf-8") as file:
+        return parse_json(file.read())
+
+
+def write_json(path, value):
+    with open(path, "w", encoding="utf-8") as file:
+        json.dump(value, file, allow_nan=False)
+
+
+def words_of(documents):
+    return [word for pair in documents.items() for word in pair]
+
+
+class Program:
+    """A built program, and a folder for the files that it is handed."""
+
+    def __init__(self, path, folder):
+        self.path, self.folder, self.numbers = os.path.abspath(path), folder, itertools.count()
+
+    def run(self, *words):
+        return subprocess.run([self.path, *words], capture_output=True, text=True, encoding="utf-8", timeout=SECONDS)
+
+    def file(self, value):
+        """A new file of the folder that holds a value."""
+        path = os.path.join(self.folder, f"{next(self.numbers)}.json")
+        write_json(path, value)
+        return path
+
+    def outcomes(self, groups, documents):
+        """What it says of each test of each group; the documents are files by their URIs."""
+        done = self.run("suite", self.file(groups), *words_of(documents))
+        if done.returncode == 3 and len(groups) > 1:
+            # A value that isn't read refuses the suite whole: each group by itself.
+            return [self.outcomes([group], documents)[0] for group in groups]
+        if done.returncode == 3:
+            return [[refusal(done.stderr, documents)] * len(group["tests"]) for group in groups]
+        if done.returncode > 1:
+            raise ProgramFailed(f"suite ended with {done.returncode}: {done.stderr.strip()}")
+        said = {(int(g), int(t)): status for status, g, t in LINE.findall(done.stdout)}
+        return [self.of_group(group, documents, [said[g, t] for t in range(len(group["tests"]))])
+                for g, group in enumerate(groups)]
+
+    def of_group(self, group, documents, said):
+        return [self.skipped(group["schema"], test["data"], documents) if status == "skip" else Outcome(status)
+                for status, test in zip(said, group["tests"])]
+
+    def skipped(self, schema, instance, documents):
+        """Why a test is skipped: a suite's line doesn't say so, and the refusal of `check` does."""
+        words = self.check_words("flag", schema, instance, documents)
+        done = self.run(*words)
+        if done.returncode != 3:
+            raise ProgramFailed(f"suite skips what check answers with {done.returncode}: {words}")
+        return refusal(done.stderr, documents)
+
+    def check_words(self, format_, schema, instance, documents, uri="https://suite.example/0"):
+        """The arguments that judge one instance by one schema, whose files stay in the folder."""
+        return ["check", format_, self.file(instance), uri, *words_of(documents), uri, self.file(schema)]
+
+
+def refusal(line, documents):
+    """A skip, by the line on standard error: the documents that are referred to come before the schema."""
+    found = REFUSED.fullmatch(line)
+    if not found:
+        raise ProgramFailed(f"status 3 with {line!r}")
+    where, number, name = found.groups()
+    if number is not None and int(number) < len(documents):
+        return Outcome("skip", REFUSED_REFERENCE, f"{name}: {list(documents)[int(number)]}")
+    return Outcome("skip", name, where)
