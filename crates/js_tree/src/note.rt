@@ -21,7 +21,7 @@ pub enum Note<'a> {
     Index(u64),
     /// The indexes of the items that match.
     Indexes(Indexes),
-    /// A schema was applied to at least one item.
+    /// A schema was applied to every item.
     Truth,
 }
 

@@ -1,0 +1,44 @@
+//! The example of docs/USING.md: check the schemas once, then ask for a verdict per instance.
+use js_bundle::{Bundle, Schemas};
+use js_doc::read;
+use js_eval::verdict;
+use std::alloc::Global;
+use std::test::Fail;
+
+fn person_schemas(alloc: Global, document: &str) -> Result<Schemas, Fail> {
+    let mut bundle = Bundle::new(alloc);
+    bundle.add("file:///person.schema.json", document.as_bytes())?;
+    match bundle.finish(alloc) {
+        Ok(schemas) => Ok(schemas),
+        Err((refusal, _bundle)) => Err(Fail::from(refusal)),
+    }
+}
+
+fn is_person(alloc: Global, schemas: &Schemas, instance: &str) -> Result<bool, Fail> {
+    let place = schemas.entry(alloc, "https://example.com/person")?;
+    // Shows the prover that it is a place of these schemas, as `verdict` requires.
+    if !schemas.has(place) {
+        return Err(Fail::from("no such schema"));
+    }
+    let value = read(alloc, instance.as_bytes())?;
+    Ok(verdict(alloc, schemas, place, &value)?)
+}
+
+const PERSON: &str = r#"{
+  "$schema": "https://json-schema.org/draft/2020-12/schema",
+  "$id": "https://example.com/person",
+  "type": "object",
+  "properties": {
+    "name": {"type": "string"},
+    "age": {"type": "integer", "minimum": 0}
+  },
+  "required": ["name"]
+}"#;
+
+#[test]
+fn validates_instances(rt: HostRuntime) -> Result<(), Fail> {
+    let schemas = person_schemas(rt.alloc(), PERSON)?;
+    assert!(rt; is_person(rt.alloc(), &schemas, r#"{"name": "Ada", "age": 36}"#)?);
+    assert!(rt; !is_person(rt.alloc(), &schemas, r#"{"name": "Ada", "age": -1}"#)?);
+    Ok(())
+}
