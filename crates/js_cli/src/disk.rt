@@ -1,5 +1,5 @@
 //! The machine's files.
-use crate::command::Files;
+use js_command::Files;
 use js_output::{Fault, Source, read_all};
 use std::fs;
 

@@ -1,0 +1,82 @@
+-- What the program answers: what comes of that which its words ask for, by what the files and the input hold.
+use Rattle.std.specs.Prelude.{◌≡◌, ℕ, ◌==◌, List, [], ◌∷◌, Option, Result, Ok, Err, Bool, true, ◌&&◌, ⊤}
+use Rattle.std.specs.Io.KnownBytes.{Appends}
+use Rattle.js_output.specs.Cause.{MayGoOn, IsFirstFault}
+use Rattle.js_output.specs.Device.{Tracked, IsLeft, AppendsBeginning, Sends, SendsBeginning}
+use Rattle.js_output.specs.Documents.{DocumentTexts, documents_causes}
+use Rattle.js_output.specs.Outcome.{Output, Outcome, PairOutcome}
+use Rattle.js_output.specs.Places.{places_text}
+use Rattle.js_output.specs.Suite.{SuiteOutcome}
+use Rattle.js_output.specs.SuiteLines.{counts_of, lines_text}
+use Rattle.js_output.specs.declared.suite_lines.Counts.{Counts}
+use Rattle.js_output.specs.declared.fault.Fault.{Fault}
+use Rattle.js_output.specs.declared.fault.Fault.TheVariants as fault
+use Rattle.js_command.specs.Words.{Pairs, Request, pair, check, suite, places, request_of}
+
+-- what a file holds, by its path, where that is known
+abbrev pub HeldByPath : Type 0
+HeldByPath = List ℕ → Option (List ℕ)
+
+-- each document stands under its URI, and is what its file holds
+abbrev pub AreHeld : HeldByPath → Pairs → DocumentTexts → Type 0
+AreHeld held [] [] = ⊤
+AreHeld held (p ∷ ps) (d ∷ ds) = (d.0 ≡ p.0) × IsLeft (held p.1) d.1 × AreHeld held ps ds
+AreHeld held _ _ = ⊥
+
+-- what comes of documents whose places are told
+abbrev pub PlacesOutcome : DocumentTexts → Result Output Fault → Type 0
+PlacesOutcome documents (Ok output) = MayGoOn (documents_causes documents) × (output ≡ record { valid = true; text = places_text documents })
+PlacesOutcome documents (Err f) = IsFirstFault (documents_causes documents) f
+
+-- no test of a suite failed, and none was skipped
+abbrev pub all_passed : Counts → Bool
+all_passed counts = (counts.failed == 0) && (counts.skipped == 0)
+
+abbrev pub suite_output : Counts → List ℕ → Output
+suite_output counts text = record { valid = all_passed counts; text = text }
+
+-- what comes of a suite
+abbrev pub SuiteTold : DocumentTexts → List ℕ → Result Output Fault → Type 0
+SuiteTold documents bytes (Ok output) = (lines : _) × SuiteOutcome documents bytes (Ok lines) × (output ≡ suite_output (counts_of lines) (lines_text lines))
+SuiteTold documents bytes (Err f) = SuiteOutcome documents bytes (Err f)
+
+-- what comes of a request that names files: any of them may also be too large
+abbrev pub OverFiles : (Result Output Fault → Type 0) → Result Output Fault → Type 0
+OverFiles Expected (Err fault.InputTooLarge) = ⊤
+OverFiles Expected answer = Expected answer
+
+-- what comes of a request
+abbrev pub RequestOutcome : HeldByPath → Option (List ℕ) → Request → Result Output Fault → Type 0
+RequestOutcome held input pair answer = (bytes : List ℕ) × IsLeft input bytes × PairOutcome bytes answer
+RequestOutcome held input (check format instance entry pairs) answer =
+    OverFiles (λ told. (documents : DocumentTexts) × AreHeld held pairs documents × ((bytes : List ℕ) × IsLeft (held instance) bytes × Outcome documents entry format bytes told)) answer
+RequestOutcome held input (suite file pairs) answer =
+    OverFiles (λ told. (documents : DocumentTexts) × AreHeld held pairs documents × ((bytes : List ℕ) × IsLeft (held file) bytes × SuiteTold documents bytes told)) answer
+RequestOutcome held input (places pairs) answer = OverFiles (λ told. (documents : DocumentTexts) × AreHeld held pairs documents × PlacesOutcome documents told) answer
+
+-- The verdict is answered where the output's text went out, and `Write` where a beginning of it did; a refusal where it comes.
+abbrev pub Performs : {D : Type 0} → (Result Output Fault → Type 0) → (D → Option (List ℕ)) → Tracked D → Tracked D → Result Bool Fault → Type 0
+Performs Expected taken old new (Ok valid) = (output : Output) × Expected (Ok output) × (output.valid ≡ valid) × Sends taken old new output.text
+Performs Expected taken old new (Err fault.Memory) = ⊤
+Performs Expected taken old new (Err fault.Read) = ⊤
+Performs Expected taken old new (Err fault.Write) = (output : Output) × Expected (Ok output) × SendsBeginning taken old new output.text
+Performs Expected taken old new (Err f) = Expected (Err f)
+
+-- it comes to this verdict, and its text went out
+abbrev pub IsTold : (Result Output Fault → Type 0) → Bool → Option (List ℕ) → Option (List ℕ) → Type 0
+IsTold Expected valid old new = (output : Output) × Expected (Ok output) × (output.valid ≡ valid) × Appends old new output.text
+
+-- it comes to an output, and a beginning of its text went out
+abbrev pub IsPartlyTold : (Result Output Fault → Type 0) → Option (List ℕ) → Option (List ℕ) → Type 0
+IsPartlyTold Expected old new = (output : Output) × Expected (Ok output) × AppendsBeginning old new output.text
+
+-- why nothing is told: memory or a read failed; a write did, and a beginning of an output went out; or this refusal comes
+abbrev pub IsReason : (Result Output Fault → Type 0) → Option (List ℕ) → Option (List ℕ) → Fault → Type 0
+IsReason Expected old new fault.Memory = ⊤
+IsReason Expected old new fault.Read = ⊤
+IsReason Expected old new fault.Write = IsPartlyTold Expected old new
+IsReason Expected old new f = Expected (Err f)
+
+-- what comes of the request that the words make
+abbrev pub WordsOutcome : List (List ℕ) → HeldByPath → Option (List ℕ) → Result Output Fault → Type 0
+WordsOutcome words held input answer = (request : Request) × (request_of words ≡ Ok request) × RequestOutcome held input request answer

@@ -1,0 +1,28 @@
+-- Tasks, as the requests that they are, and why there is none.
+use Rattle.std.specs.Prelude.{◌≡◌, List, map, Option, None, Result, Err, ⊤}
+use Rattle.js_command.specs.Words.{Pairs, Request, pair, check, suite, places}
+use Rattle.js_command.specs.declared.words.DocumentFile.{DocumentFile}
+use Rattle.js_command.specs.declared.words.Misuse.{Misuse}
+use Rattle.js_command.specs.declared.words.Misuse.TheVariants as misuse
+use Rattle.js_command.specs.declared.words.Task.{Task}
+use Rattle.js_command.specs.declared.words.Task.TheVariants as task
+
+abbrev pub pairs_seen : List DocumentFile → Pairs
+pairs_seen ds = map (λ d. (d.uri.now, d.file.now)) ds
+
+abbrev pub request_seen : Task → Request
+request_seen task.Pair = pair
+request_seen (task.Check c) = check c.format c.instance.now c.entry.now (pairs_seen c.documents.items)
+request_seen (task.Suite s) = suite s.file.now (pairs_seen s.documents.items)
+request_seen (task.Places ds) = places (pairs_seen ds.items)
+
+-- why the words ask for nothing; want of memory may come at any time
+abbrev pub IsMisuse : Result Request Misuse → Misuse → Type 0
+IsMisuse asked misuse.Memory = ⊤
+IsMisuse asked m = asked ≡ Err m
+
+-- why they have no pairs
+abbrev pub IsNoPairs : Option Pairs → Misuse → Type 0
+IsNoPairs found misuse.Memory = ⊤
+IsNoPairs found misuse.OddPairs = found ≡ None
+IsNoPairs found misuse.OtherForm = ⊥

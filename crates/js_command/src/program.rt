@@ -1,0 +1,117 @@
+//! The program, from its arguments to its exit status.
+ghost use Rattle.std.specs.Prelude.{◌≡◌, ◌≢◌, ◌≤◌, ◌<◌, ◌⊎◌, ◌==◌, ◌++◌, ◌∷◌, [], false, IfOk, IfErr, OnOk, OnErr};
+ghost use Rattle.std.specs.Io.KnownBytes.{Keeps};
+ghost use Rattle.js_output.specs.Device.{AppendsBeginning};
+ghost use Rattle.js_output.specs.Line.{fault_line};
+ghost use Rattle.js_output.specs.declared.fault.Fault.{Fault};
+ghost use Rattle.js_command.specs.Words.{request_of, usage_line, words_of};
+ghost use Rattle.js_command.specs.declared.words.Misuse.{Misuse};
+ghost use Rattle.js_command.specs.Answer.{RequestOutcome, WordsOutcome, IsTold, IsPartlyTold, IsReason};
+ghost use Rattle.js_command.specs.Status.{fault_status};
+ghost use Rattle.js_command.specs.code.Tasks.{request_seen};
+
+use crate::files::Files;
+use crate::messages::{tell, tell_misuse};
+use crate::status::{INVALID, VALID, status_of};
+use crate::tasks::perform;
+use crate::words::{Task, task_of};
+use js_output::{Fault, Sink, Source};
+use std::alloc::Global;
+use std::io::{Read, Write};
+
+/// Does what the words ask for, and answers the program's status.
+///
+/// Without words it runs the pair on the input. Else all files are read in the order given, then
+/// INSTANCE; `check` checks it against the schema documents, and `places` tells their places. What
+/// comes of it goes to `out`, which is flushed once, at the end; a fault there counts only where
+/// none came before. A usage text, or the line of a fault and a line feed, goes to `faults`, whose
+/// own failure changes no status.
+pub fn command<'a, F: Files, R: Read, W: Write, V: Write>(
+    alloc: Global,
+    words: &'a [&'a str],
+    files: &mut F,
+    input: &mut Source<R>,
+    out: &mut Sink<W>,
+    faults: &mut Sink<V>,
+) -> u8
+    ensures named { result ≤ 4 }
+
+    // 0 tells that what the words ask for, by what the files and the input hold, comes to a valid
+    // instance, and 1 that it comes to an invalid one, as the output's text does, which went out.
+    ensures verdict { result < 2 → IsTold
+        (WordsOutcome (words_of words.entry.now) (F.held files.old)
+        (R.remaining input.old.device))
+        (result == 0) (W.contents out.old.device) (W.contents out.new.device) }
+    ensures whole { result < 2 → out.new.failed ≡ false }
+    ensures nothing { (result ≡ 2) ⊎ (result ≡ 3)
+        → Keeps (W.contents out.old.device) (W.contents out.new.device) }
+
+    // Where something failed, nothing went out, or a beginning of such a text.
+    ensures beginning { result ≡ 4
+        → Keeps (W.contents out.old.device) (W.contents out.new.device)
+        ⊎ IsPartlyTold
+        (WordsOutcome (words_of words.entry.now) (F.held files.old)
+        (R.remaining input.old.device))
+        (W.contents out.old.device) (W.contents out.new.device) }
+
+    // What is told of anything else, or a beginning of it, and why: with 3 a refusal that comes of
+    // what the words ask for, by what the files and the input hold; with 4 memory or a read that
+    // failed, or a write, the last flush included, after a beginning of an output.
+    ensures quiet { result < 2 → faults.new ≡ faults.old }
+    ensures misused { OnErr (request_of (words_of words.entry.now)) ((result ≡ 2) ⊎ ((result ≡ 4)
+        × AppendsBeginning (V.contents faults.old.device) (V.contents faults.new.device)
+        (fault_line Fault.Memory ++ 10 ∷ []))) }
+    ensures usage { result ≡ 2 → (m : Misuse) × (request_of (words_of words.entry.now) ≡ Err m)
+        × AppendsBeginning (V.contents faults.old.device) (V.contents faults.new.device)
+        (usage_line m) }
+    ensures told { 2 < result → (fault : Fault) × (fault_status fault ≡ result)
+        × IsReason (WordsOutcome (words_of words.entry.now) (F.held files.old)
+        (R.remaining input.old.device))
+        (W.contents out.old.device) (W.contents out.new.device) fault
+        × AppendsBeginning (V.contents faults.old.device) (V.contents faults.new.device)
+        (fault_line fault ++ 10 ∷ []) }
+{
+    let task = match task_of(alloc, words) {
+        Ok(task) => task,
+        Err(misuse) => {
+            let status = tell_misuse(alloc, misuse, faults);
+            let _ = out.flush();
+            return status;
+        }
+    };
+    match perform_whole(alloc, task, files, input, out) {
+        Ok(true) => VALID,
+        Ok(false) => INVALID,
+        Err(fault) => {
+            tell(alloc, &fault, faults);
+            status_of(&fault)
+        }
+    }
+}
+
+// Flushes the output at the end; a fault there counts only where none came before.
+fn perform_whole<F: Files, R: Read, W: Write>(
+    alloc: Global,
+    task: Task,
+    files: &mut F,
+    input: &mut Source<R>,
+    out: &mut Sink<W>,
+) -> Result<bool, Fault>
+    ensures told { IfOk result (λ valid. IsTold
+        (RequestOutcome (F.held files.old) (R.remaining input.old.device)
+        (request_seen task.entry)) valid
+        (W.contents out.old.device) (W.contents out.new.device)) }
+    ensures whole { OnOk result (out.new.failed ≡ false) }
+    ensures nothing { IfErr result (λ e. e ≢ Fault.Write
+        → Keeps (W.contents out.old.device) (W.contents out.new.device)) }
+    ensures reason { IfErr result (IsReason
+        (RequestOutcome (F.held files.old) (R.remaining input.old.device)
+        (request_seen task.entry))
+        (W.contents out.old.device) (W.contents out.new.device)) }
+{
+    let answer = perform(alloc, task, files, input, out);
+    let flushed = out.flush();
+    let valid = answer?;
+    flushed?;
+    Ok(valid)
+}
