@@ -1,6 +1,6 @@
 use Rattle.std.proofs.Common.{◌≡◌, ◌++◌, ◌+◌, ◌-◌, ◌^◌, ◌≤◌, ◌<◌, min, ℕ, List, false, length}
 use Rattle.std.specs.Io.KnownBytes.{Appends}
-use Rattle.js_output.proofs.sink.Sink.write_all.Given as goal
+use Rattle.js_output.proofs.sink.Writing.write_all.Given as goal
 
 -- what has gone out is a beginning of the bytes, and the rest is still to go
 abbrev pub invariant-loop-rest : goal.invariant-loop-rest
