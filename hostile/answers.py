@@ -1,4 +1,4 @@
-"""The calls that a test of js_output makes by themselves, on rows whose answers are known."""
+"""The calls that a test of js_tests makes by themselves, on rows whose answers are known."""
 import json
 from dataclasses import dataclass
 

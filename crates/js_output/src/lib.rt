@@ -34,6 +34,3 @@ pub use sink::Sink;
 pub use source::Source;
 pub use suite::run_suite;
 pub use suite_lines::Counts;
-
-#[cfg(test)]
-mod tests;

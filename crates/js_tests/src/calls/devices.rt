@@ -2,8 +2,8 @@
 use super::fakes::{SlowReader, SlowWriter};
 use super::rows::{EMBEDDED, Row, URI, row_named};
 use super::told::{Told, done, other};
-use crate::{Fault, Format, Sink, Source, read_all, run, run_pair, run_places, run_suite};
 use js_doc::Memory;
+use js_output::{Fault, Format, Sink, Source, read_all, run, run_pair, run_places, run_suite};
 use std::alloc::Global;
 use std::io::{ErrorKind, Read, Write};
 

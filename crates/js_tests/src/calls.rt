@@ -17,7 +17,7 @@ mod told;
 mod trees;
 mod values;
 
-use super::bundles::asked;
+use crate::bundles::asked;
 use js_doc::Memory;
 use std::env;
 use std::io::Write;
