@@ -5,4 +5,5 @@ pub mod GrammarFacts
 pub mod Asked
 pub mod Pairs
 pub mod Holding
+pub mod FileFaults
 pub mod Telling

@@ -13,6 +13,10 @@ use Rattle.js_command.specs.declared.words.Misuse.TheVariants as misuse
 abbrev pub Pairs : Type 0
 Pairs = List (Text × Text)
 
+-- the files of the documents
+abbrev pub files_of : Pairs → List Text
+files_of pairs = map (λ p. p.1) pairs
+
 pub data Request : Type 0 where
   pair : Request
   check : Format → Text → Text → Pairs → Request

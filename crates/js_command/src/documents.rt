@@ -1,8 +1,9 @@
 //! The schema documents that the words name, as their files hold them.
-ghost use Rattle.std.specs.Prelude.{◌≡◌, ◌∷◌, ◌++◌, [], IfOk, IfErr, OnOk};
+ghost use Rattle.std.specs.Prelude.{◌≡◌, ◌≢◌, ◌∷◌, ◌++◌, [], IfOk, IfErr, OnOk};
 ghost use Rattle.js_output.specs.Documents.{documents_of};
-ghost use Rattle.js_output.specs.Input.{IsInputFault};
 ghost use Rattle.js_command.specs.Answer.{AreHeld};
+ghost use Rattle.js_command.specs.Files.{IsFirstFileFault};
+ghost use Rattle.js_command.specs.Words.{files_of};
 ghost use Rattle.js_command.specs.code.Tasks.{pairs_seen};
 ghost use Rattle.js_command.specs.code.Taken.{documents_taken};
 
@@ -18,7 +19,8 @@ pub(crate) struct Taken<'a> {
     pub(crate) text: Vec<u8>,
 }
 
-/// Takes the documents' files, one after another.
+/// Takes the files of the documents, one after another. Answers the fault of the first that isn't
+/// taken.
 pub(crate) fn take_all<'a, F: Files>(
     alloc: Global,
     documents: &[DocumentFile<'a>],
@@ -26,12 +28,13 @@ pub(crate) fn take_all<'a, F: Files>(
 ) -> Result<Vec<Taken<'a>>, Fault>
     ensures held { IfOk result (λ ds.
         AreHeld (F.held files.old) (pairs_seen documents.now) (documents_taken ds.items)) }
-    ensures faults { IfErr result IsInputFault }
+    ensures fault { IfErr result (λ e. e ≢ Fault.Memory → IsFirstFileFault (F.held files.old)
+        (files_of (pairs_seen documents.now)) e) }
     ensures stays { F.held files.new ≡ F.held files.old }
 {
     let mut all = Vec::new(alloc);
     for document in documents {
-        let text = files.take(document.file)?;
+        let text = files.take(alloc, document.file)?;
         let uri = document.uri;
         append(&mut all, Taken { uri, text })?;
     }

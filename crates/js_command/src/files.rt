@@ -1,21 +1,25 @@
 //! Files, as the program reaches them.
-ghost use Rattle.std.specs.Prelude.{◌≡◌, ℕ, List, Option, None, IfOk, IfErr};
-ghost use Rattle.js_output.specs.Device.{IsLeft};
-ghost use Rattle.js_output.specs.Input.{IsInputFault};
+ghost use Rattle.std.specs.Prelude.{◌≡◌, ◌≤◌, ℕ, List, Option, None, IfOk, IfErr, length};
+ghost use Rattle.js_output.specs.Device.{IsLeft, input_limit};
+ghost use Rattle.js_command.specs.Files.{IsFileFault};
 
 use js_output::Fault;
+use std::alloc::Global;
 
 /// Files by their paths.
 pub trait Files {
-    // What a file holds, by its path, where that is known. Of a disk nothing is.
+    // What a file holds, by its path, where that is known. Such a file can be read. On a disk
+    // nothing is known.
     ghost held: { Self → List ℕ → Option (List ℕ) } = { λ _ _. None };
 
     /// All bytes of a file.
     ///
     /// # Errors
-    /// `Memory`; `Read`, also where the file isn't opened; `InputTooLarge`.
-    fn take(&mut self, path: &str) -> Result<Vec<u8>, Fault>
+    /// `Memory`; `Read` where the file can't be opened or read; `InputTooLarge` where it holds more
+    /// than 16,777,216 bytes. After an error the files hold what they held.
+    fn take(&mut self, alloc: Global, path: &str) -> Result<Vec<u8>, Fault>
         ensures bytes { IfOk result (λ bytes. IsLeft (held self.old path.now) bytes.items) }
-        ensures faults { IfErr result IsInputFault }
+        ensures fits { IfOk result (λ bytes. length bytes.items ≤ input_limit) }
+        ensures fault { IfErr result (IsFileFault (held self.old path.now)) }
         ensures stays { held self.new ≡ held self.old };
 }

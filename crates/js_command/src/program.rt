@@ -1,7 +1,7 @@
 //! The program, from its arguments to its exit status.
 ghost use Rattle.std.specs.Prelude.{◌≡◌, ◌≢◌, ◌≤◌, ◌<◌, ◌⊎◌, ◌==◌, ◌++◌, ◌∷◌, [], false, IfOk, IfErr, OnOk, OnErr};
 ghost use Rattle.std.specs.Io.KnownBytes.{Keeps};
-ghost use Rattle.js_output.specs.Device.{AppendsBeginning};
+ghost use Rattle.js_output.specs.Device.{AppendsBeginning, FlushedOnce};
 ghost use Rattle.js_output.specs.Line.{fault_line};
 ghost use Rattle.js_output.specs.declared.fault.Fault.{Fault};
 ghost use Rattle.js_command.specs.Words.{request_of, usage_line, words_of};
@@ -40,9 +40,14 @@ pub fn command<'a, F: Files, R: Read, W: Write, V: Write>(
     // instance, and 1 that it comes to an invalid one, as the output's text does, which went out.
     ensures verdict { result < 2 → IsTold
         (WordsOutcome (words_of words.entry.now) (F.held files.old)
-        (R.remaining input.old.device))
+        (R.remaining input.old.device) input.new.failed)
         (result == 0) (W.contents out.old.device) (W.contents out.new.device) }
     ensures whole { result < 2 → out.new.failed ≡ false }
+
+    // The output was flushed once, as the last call of its device, whatever the status; only a
+    // device that had failed before wasn't called again.
+    ensures flushed { FlushedOnce out.old out.new }
+
     ensures nothing { (result ≡ 2) ⊎ (result ≡ 3)
         → Keeps (W.contents out.old.device) (W.contents out.new.device) }
 
@@ -51,7 +56,7 @@ pub fn command<'a, F: Files, R: Read, W: Write, V: Write>(
         → Keeps (W.contents out.old.device) (W.contents out.new.device)
         ⊎ IsPartlyTold
         (WordsOutcome (words_of words.entry.now) (F.held files.old)
-        (R.remaining input.old.device))
+        (R.remaining input.old.device) input.new.failed)
         (W.contents out.old.device) (W.contents out.new.device) }
 
     // What is told of anything else, or a beginning of it, and why: with 3 a refusal that comes of
@@ -66,8 +71,8 @@ pub fn command<'a, F: Files, R: Read, W: Write, V: Write>(
         (usage_line m) }
     ensures told { 2 < result → (fault : Fault) × (fault_status fault ≡ result)
         × IsReason (WordsOutcome (words_of words.entry.now) (F.held files.old)
-        (R.remaining input.old.device))
-        (W.contents out.old.device) (W.contents out.new.device) fault
+        (R.remaining input.old.device) input.new.failed)
+        (W.contents out.old.device) (W.contents out.new.device) out.new.failed fault
         × AppendsBeginning (V.contents faults.old.device) (V.contents faults.new.device)
         (fault_line fault ++ 10 ∷ []) }
 {
@@ -98,16 +103,17 @@ fn perform_whole<F: Files, R: Read, W: Write>(
     out: &mut Sink<W>,
 ) -> Result<bool, Fault>
     ensures told { IfOk result (λ valid. IsTold
-        (RequestOutcome (F.held files.old) (R.remaining input.old.device)
+        (RequestOutcome (F.held files.old) (R.remaining input.old.device) input.new.failed
         (request_seen task.entry)) valid
         (W.contents out.old.device) (W.contents out.new.device)) }
     ensures whole { OnOk result (out.new.failed ≡ false) }
     ensures nothing { IfErr result (λ e. e ≢ Fault.Write
         → Keeps (W.contents out.old.device) (W.contents out.new.device)) }
     ensures reason { IfErr result (IsReason
-        (RequestOutcome (F.held files.old) (R.remaining input.old.device)
+        (RequestOutcome (F.held files.old) (R.remaining input.old.device) input.new.failed
         (request_seen task.entry))
-        (W.contents out.old.device) (W.contents out.new.device)) }
+        (W.contents out.old.device) (W.contents out.new.device) out.new.failed) }
+    ensures flushed { FlushedOnce out.old out.new }
 {
     let answer = perform(alloc, task, files, input, out);
     let flushed = out.flush();

@@ -1,6 +1,6 @@
 //! The tasks, each over its files.
-ghost use Rattle.std.specs.Prelude.{◌≡◌, ◌≢◌, None, IfErr};
-ghost use Rattle.js_output.specs.declared.fault.Fault.{Fault};
+ghost use Rattle.std.specs.Prelude.{◌≡◌, ◌≢◌, None, false, IfErr};
+ghost use Rattle.js_output.specs.Device.{Unflushed};
 ghost use Rattle.js_command.specs.Words.{places};
 ghost use Rattle.js_command.specs.declared.words.Task.{Task};
 ghost use Rattle.js_command.specs.Answer.{RequestOutcome, Performs, all_passed};
@@ -22,9 +22,10 @@ pub(crate) fn perform<F: Files, R: Read, W: Write>(
     out: &mut Sink<W>,
 ) -> Result<bool, Fault>
     ensures answer { Performs
-        (RequestOutcome (F.held files.old) (R.remaining input.old.device)
+        (RequestOutcome (F.held files.old) (R.remaining input.old.device) input.new.failed
         (request_seen task.entry)) W.contents out.old out.new result }
     ensures nothing { IfErr result (λ e. e ≢ Fault.Write → out.new ≡ out.old) }
+    ensures unflushed { Unflushed out.old out.new }
 {
     match task {
         Task::Pair => run_pair(alloc, input, out),
@@ -41,13 +42,14 @@ fn perform_check<F: Files, W: Write>(
     out: &mut Sink<W>,
 ) -> Result<bool, Fault>
     ensures answer { Performs
-        (RequestOutcome (F.held files.old) None (request_seen (Task.Check check.now)))
+        (RequestOutcome (F.held files.old) None false (request_seen (Task.Check check.now)))
         W.contents out.old out.new result }
     ensures nothing { IfErr result (λ e. e ≢ Fault.Write → out.new ≡ out.old) }
+    ensures unflushed { Unflushed out.old out.new }
 {
     let held = take_all(alloc, check.documents.as_slice(), files)?;
     let docs = handed_in(alloc, held.as_slice())?;
-    let instance = files.take(check.instance)?;
+    let instance = files.take(alloc, check.instance)?;
     let mut instance = Source::new(instance.as_slice());
     run(
         alloc,
@@ -66,13 +68,14 @@ fn perform_suite<F: Files, W: Write>(
     out: &mut Sink<W>,
 ) -> Result<bool, Fault>
     ensures answer { Performs
-        (RequestOutcome (F.held files.old) None (request_seen (Task.Suite suite.now)))
+        (RequestOutcome (F.held files.old) None false (request_seen (Task.Suite suite.now)))
         W.contents out.old out.new result }
     ensures nothing { IfErr result (λ e. e ≢ Fault.Write → out.new ≡ out.old) }
+    ensures unflushed { Unflushed out.old out.new }
 {
     let held = take_all(alloc, suite.documents.as_slice(), files)?;
     let docs = handed_in(alloc, held.as_slice())?;
-    let text = files.take(suite.file)?;
+    let text = files.take(alloc, suite.file)?;
     let mut text = Source::new(text.as_slice());
     let counts = run_suite(alloc, docs.as_slice(), &mut text, out)?;
     Ok(all_passed(&counts))
@@ -92,9 +95,10 @@ fn perform_places<F: Files, W: Write>(
     out: &mut Sink<W>,
 ) -> Result<bool, Fault>
     ensures answer { Performs
-        (RequestOutcome (F.held files.old) None (places (pairs_seen documents.now)))
+        (RequestOutcome (F.held files.old) None false (places (pairs_seen documents.now)))
         W.contents out.old out.new result }
     ensures nothing { IfErr result (λ e. e ≢ Fault.Write → out.new ≡ out.old) }
+    ensures unflushed { Unflushed out.old out.new }
 {
     let held = take_all(alloc, documents, files)?;
     let docs = handed_in(alloc, held.as_slice())?;

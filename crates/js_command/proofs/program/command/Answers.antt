@@ -1,8 +1,8 @@
-use Rattle.std.proofs.Common.{sym}
+use Rattle.std.proofs.Common.{refl, sym}
 use Rattle.js_output.specs.declared.fault.Fault.TheVariants as fault
 use Rattle.js_command.specs.Words.{request_of, words_of}
 use Rattle.js_command.specs.code.Tasks.{request_seen}
-use Rattle.js_command.proofs.Telling.{begun_or_kept, words_reason, misuse_ends, misuse_told}
+use Rattle.js_command.proofs.Telling.{begun_or_kept, flushed_at_last, words_reason, misuse_ends, misuse_told}
 use Rattle.js_command.proofs.program.command.Goals as goal
 
 pub returns-in-Err-clause-misused : goal.returns-in-Err-clause-misused
@@ -14,16 +14,21 @@ returns-in-Err-clause-told g c above =
     let failed = misuse_told c.in-Err.misuse c.tell_misuse-status.result c.tell_misuse-status.ensures.status above in
     (fault.Memory, sym failed, tt, c.tell_misuse-status.ensures.told failed)
 
+-- nothing was written before the flush
+pub returns-in-Err-clause-flushed : goal.returns-in-Err-clause-flushed
+returns-in-Err-clause-flushed g c =
+    flushed_at_last c.args.out.now.failed c.args.out.now c.args.out.now c.flush.new.out refl (refl, refl) c.flush.ensures.flushes c.flush.ensures.last c.flush.ensures.stays
+
 pub returns-in-Err-perform_whole-clause-beginning : goal.returns-in-Err-perform_whole-clause-beginning
 returns-in-Err-perform_whole-clause-beginning g c failed =
-    begun_or_kept (words_of c.args.words.now) (g.F.Files.held c.args.files.now) (g.R.Read.remaining c.args.input.now.device) (request_seen c.in-Ok.task)
-    (g.W.Write.contents c.args.out.now.device) (g.W.Write.contents c.perform_whole.new.out.device)
+    begun_or_kept (words_of c.args.words.now) (g.F.Files.held c.args.files.now) (g.R.Read.remaining c.args.input.now.device) c.perform_whole.new.input.failed
+    (request_seen c.in-Ok.task) (g.W.Write.contents c.args.out.now.device) (g.W.Write.contents c.perform_whole.new.out.device) c.perform_whole.new.out.failed
     c.in-Err-perform_whole.fault c.in-Ok.ensures.ok c.in-Err-perform_whole.ensures.nothing c.in-Err-perform_whole.ensures.reason
 
 pub returns-in-Err-perform_whole-clause-told : goal.returns-in-Err-perform_whole-clause-told
 returns-in-Err-perform_whole-clause-told g c above =
     let fault = c.in-Err-perform_whole.fault in
-    let reason = words_reason (words_of c.args.words.now) (g.F.Files.held c.args.files.now) (g.R.Read.remaining c.args.input.now.device) (request_seen c.in-Ok.task)
-    (g.W.Write.contents c.args.out.now.device) (g.W.Write.contents c.perform_whole.new.out.device)
+    let reason = words_reason (words_of c.args.words.now) (g.F.Files.held c.args.files.now) (g.R.Read.remaining c.args.input.now.device) c.perform_whole.new.input.failed
+    (request_seen c.in-Ok.task) (g.W.Write.contents c.args.out.now.device) (g.W.Write.contents c.perform_whole.new.out.device) c.perform_whole.new.out.failed
     fault c.in-Ok.ensures.ok c.in-Err-perform_whole.ensures.reason in
     (fault, sym c.status_of.ensures, reason, c.tell.ensures)
