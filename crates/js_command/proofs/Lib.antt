@@ -6,4 +6,5 @@ pub mod Asked
 pub mod Pairs
 pub mod Holding
 pub mod FileFaults
+pub mod LastFlush
 pub mod Telling

@@ -1,10 +1,8 @@
 -- What the program answers, by where it stops.
-use Rattle.std.proofs.Common.{◌≡◌, ◌≢◌, ◌∙◌, ℕ, ◌+◌, ◌-◌, ◌^◌, min, List, [], Option, Some, None, Result, Ok, Err, OnErr, IsErrOf, Bool, true, false, ◌⊎◌, inl, inr, refl, sym, ap, subst, arith, ◌<◌}
-use Rattle.std.proofs.KnownBytes.{Appends-kept}
-use Rattle.std.proofs.lemmas.List.{append-nil}
-use Rattle.std.specs.Io.KnownBytes.{Appends, Keeps}
+use Rattle.std.proofs.Common.{◌≡◌, ◌≢◌, ℕ, List, [], Option, Some, None, Result, Ok, Err, OnErr, IsErrOf, Bool, true, ◌⊎◌, inl, inr, refl, sym, ap, subst, arith, ◌<◌}
+use Rattle.std.specs.Io.KnownBytes.{Keeps}
 use Rattle.js_output.specs.Cause.{MayGoOn}
-use Rattle.js_output.specs.Device.{Tracked, IsLeft, AppendsBeginning, Sends, SendsBeginning, Unflushed, FlushedOnce}
+use Rattle.js_output.specs.Device.{Tracked, IsLeft, AppendsBeginning, Sends, SendsBeginning}
 use Rattle.js_output.specs.Documents.{DocumentTexts, documents_causes}
 use Rattle.js_output.specs.Outcome.{Output, Outcome, PairOutcome, telling_output, beginning_causes}
 use Rattle.js_output.specs.Places.{TellsPlaces, places_text}
@@ -31,37 +29,6 @@ performs-fault held paths Unread P taken old new fault.Read h = inl (h (λ e. cc
 performs-fault held paths Unread P taken old new fault.InputTooLarge h = inl (h (λ e. cc))
 performs-fault held paths Unread P taken old new fault.Write h = absurd (input_fault held paths fault.Write (h (λ e. cc)))
 performs-fault held paths Unread P taken old new f h = absurd (input_fault held paths f (h (λ e. cc)))
-
--- a text that went out whole is a beginning of itself
-pub whole_begins : (old between new : Option (List ℕ)) (text : List ℕ) → Appends old between text → Keeps between new → AppendsBeginning old new text
-whole_begins old between new text sent kept = (text, [], sym (append-nil text), Appends-kept old between new text sent kept)
-
--- what was answered is the reason, also after a flush
-pub reason_of : {D : Type 0} (P : Result Output Fault → Type 0) (taken : D → Option (List ℕ)) (old between new : Tracked D) (e : Fault)
-    → Performs P taken old between (Err e) → Keeps (taken between.device) (taken new.device) → (between.failed ≡ true → new ≡ between)
-    → IsReason P (taken old.device) (taken new.device) new.failed e
-reason_of P taken old between new fault.Memory h kept stays = tt
-reason_of P taken old between new fault.Write (output, h, begun) kept stays =
-    let (sent, unsent, is, went) = begun.0 in
-    let stands : new.failed ≡ true = ap (λ s. s.failed) (stays begun.1.0) ∙ begun.1.0 in
-    (stands, (output, h, (sent, unsent, is, Appends-kept (taken old.device) (taken between.device) (taken new.device) sent went kept)))
-reason_of P taken old between new _ h kept stays = h
-
--- all went out, and then the flush failed
-pub reason_of_flush : {D : Type 0} (P : Result Output Fault → Type 0) (taken : D → Option (List ℕ)) (old between new : Tracked D) (valid : Bool) (e : Fault)
-    → Performs P taken old between (Ok valid) → Keeps (taken between.device) (taken new.device) → new.failed ≡ true → e ≡ fault.Write
-    → IsReason P (taken old.device) (taken new.device) new.failed e
-reason_of_flush P taken old between new valid e (output, h, is, sent) kept stands write =
-    subst (IsReason P (taken old.device) (taken new.device) new.failed) (sym write)
-    (stands, (output, h, whole_begins (taken old.device) (taken between.device) (taken new.device) output.text sent.0 kept))
-
--- the device was flushed as the last thing, unless it had failed
-pub flushed_at_last : {D : Type 0} (was : Bool) (old between new : Tracked D) → between.failed ≡ was → Unflushed old between
-    → (between.failed ≡ false → new.flushes ≡ min (between.flushes + 1) (2 ^ 64 - 1)) → (between.failed ≡ false → new.last_flush ≡ new.calls)
-    → (between.failed ≡ true → new ≡ between) → FlushedOnce old new
-flushed_at_last false old between new is none counts last stays = inl (counts is ∙ ap (λ n. min (n + 1) (2 ^ 64 - 1)) none.0, last is)
-flushed_at_last true old between new is none counts last stays =
-    inr (ap (λ s. s.failed) (stays is) ∙ is, (ap (λ s. s.flushes) (stays is) ∙ none.0, ap (λ s. s.last_flush) (stays is) ∙ none.1))
 
 module _ (words : List (List ℕ)) (held : HeldByPath) (input : Option (List ℕ)) (unread : Bool) (request : Request) (old new : Option (List ℕ)) (failed : Bool) where
   -- where something failed

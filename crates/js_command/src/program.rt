@@ -8,7 +8,7 @@ ghost use Rattle.js_command.specs.Words.{request_of, usage_line, words_of};
 ghost use Rattle.js_command.specs.declared.words.Misuse.{Misuse};
 ghost use Rattle.js_command.specs.Answer.{RequestOutcome, WordsOutcome, IsTold, IsPartlyTold, IsReason};
 ghost use Rattle.js_command.specs.Status.{fault_status};
-ghost use Rattle.js_command.specs.code.Tasks.{request_seen};
+ghost use Rattle.js_command.specs.code.Tasks.{first_fault, request_seen};
 
 use crate::files::Files;
 use crate::messages::{tell, tell_misuse};
@@ -94,7 +94,7 @@ pub fn command<'a, F: Files, R: Read, W: Write, V: Write>(
     }
 }
 
-// Flushes the output at the end; a fault there counts only where none came before.
+// Does the task, and then flushes the output.
 fn perform_whole<F: Files, R: Read, W: Write>(
     alloc: Global,
     task: Task,
@@ -117,6 +117,13 @@ fn perform_whole<F: Files, R: Read, W: Write>(
 {
     let answer = perform(alloc, task, files, input, out);
     let flushed = out.flush();
+    first_fault(answer, flushed)
+}
+
+// A fault of the last flush counts only where none came before.
+fn first_fault(answer: Result<bool, Fault>, flushed: Result<(), Fault>) -> Result<bool, Fault>
+    ensures { result ≡ first_fault answer flushed }
+{
     let valid = answer?;
     flushed?;
     Ok(valid)

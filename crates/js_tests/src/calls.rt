@@ -7,7 +7,7 @@
 //! `ask` answers what standard input asks of a document's places.
 mod bundles;
 mod devices;
-mod fakes;
+pub(crate) mod fakes;
 mod judged;
 mod quiet;
 mod refusing;

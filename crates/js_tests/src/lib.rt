@@ -10,6 +10,8 @@ mod bundles;
 #[cfg(test)]
 mod calls;
 #[cfg(test)]
+mod commands;
+#[cfg(test)]
 mod trees;
 #[cfg(test)]
 mod values;

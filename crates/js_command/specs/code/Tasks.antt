@@ -1,5 +1,6 @@
 -- Tasks, as the requests that they are, and why there is none.
-use Rattle.std.specs.Prelude.{◌≡◌, List, map, Option, None, Result, Err, ⊤}
+use Rattle.std.specs.Prelude.{◌≡◌, List, map, Option, None, Result, Ok, Err, ⊤}
+use Rattle.js_output.specs.declared.fault.Fault.{Fault}
 use Rattle.js_command.specs.Words.{Pairs, Request, pair, check, suite, places}
 use Rattle.js_command.specs.declared.words.DocumentFile.{DocumentFile}
 use Rattle.js_command.specs.declared.words.Misuse.{Misuse}
@@ -26,3 +27,9 @@ abbrev pub IsNoPairs : Option Pairs → Misuse → Type 0
 IsNoPairs found misuse.Memory = ⊤
 IsNoPairs found misuse.OddPairs = found ≡ None
 IsNoPairs found misuse.OtherForm = ⊥
+
+-- the first fault of an answer and of what comes after it
+abbrev pub first_fault : {A B : Type 0} → Result A Fault → Result B Fault → Result A Fault
+first_fault (Err f) after = Err f
+first_fault (Ok a) (Err f) = Err f
+first_fault (Ok a) (Ok b) = Ok a

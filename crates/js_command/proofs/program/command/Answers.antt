@@ -1,8 +1,9 @@
-use Rattle.std.proofs.Common.{refl, sym}
+use Rattle.std.proofs.Common.{refl, rules, sym}
 use Rattle.js_output.specs.declared.fault.Fault.TheVariants as fault
 use Rattle.js_command.specs.Words.{request_of, words_of}
 use Rattle.js_command.specs.code.Tasks.{request_seen}
-use Rattle.js_command.proofs.Telling.{begun_or_kept, flushed_at_last, words_reason, misuse_ends, misuse_told}
+use Rattle.js_command.proofs.LastFlush.{flushed_at_last}
+use Rattle.js_command.proofs.Telling.{begun_or_kept, words_reason, misuse_ends, misuse_told}
 use Rattle.js_command.proofs.program.command.Goals as goal
 
 pub returns-in-Err-clause-misused : goal.returns-in-Err-clause-misused
@@ -17,7 +18,7 @@ returns-in-Err-clause-told g c above =
 -- nothing was written before the flush
 pub returns-in-Err-clause-flushed : goal.returns-in-Err-clause-flushed
 returns-in-Err-clause-flushed g c =
-    flushed_at_last c.args.out.now.failed c.args.out.now c.args.out.now c.flush.new.out refl (refl, refl) c.flush.ensures.flushes c.flush.ensures.last c.flush.ensures.stays
+    flushed_at_last c.args.out.now.failed c.args.out.now c.args.out.now _ refl (refl, refl) (search rules) (search rules) (search rules)
 
 pub returns-in-Err-perform_whole-clause-beginning : goal.returns-in-Err-perform_whole-clause-beginning
 returns-in-Err-perform_whole-clause-beginning g c failed =

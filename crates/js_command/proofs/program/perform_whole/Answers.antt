@@ -1,13 +1,27 @@
-use Rattle.std.proofs.lemmas.Result.{err_from_is_err_and}
+use Rattle.std.proofs.Common.{refl, rules}
 use Rattle.js_command.specs.Answer.{RequestOutcome}
 use Rattle.js_command.specs.code.Tasks.{request_seen}
-use Rattle.js_command.proofs.Telling.{reason_of_flush}
+use Rattle.js_command.proofs.LastFlush.{told_after, whole_after, nothing_after, reason_after, flushed_at_last}
 use Rattle.js_command.proofs.program.perform_whole.Goals as goal
 
--- all went out, and then the flush failed
-pub returns-in_err-flushed-clause-reason : goal.returns-in_err-flushed-clause-reason
-returns-in_err-flushed-clause-reason g c =
-    let p = err_from_is_err_and c.from_residual-in_err-flushed.result c.from_residual-in_err-flushed.ensures.1 in
-    rw (p.1, p.2) (reason_of_flush (RequestOutcome (g.F.Files.held c.args.files.now) (g.R.Read.remaining c.args.input.now.device) c.perform-answer.new.input.failed (request_seen c.args.task)) g.W.Write.contents
-    c.args.out.now c.perform-answer.new.out c.flush-flushed.new.self c.in_ok-valid.valid c.in_err-flushed.field-0.0
-    c.in_ok-valid.ensures.answer c.in_err-flushed.ensures.bytes c.in_err-flushed.ensures.failed c.in_err-flushed.ensures.fault)
+-- What the flush has to promise is searched for, so that another call in its place is refused by what it does.
+pub returns-clause-told : goal.returns-clause-told
+returns-clause-told g c =
+    rw c.first_fault.ensures (told_after (RequestOutcome (g.F.Files.held c.args.files.now) (g.R.Read.remaining c.args.input.now.device) c.perform-answer.new.input.failed (request_seen c.args.task))
+    g.W.Write.contents c.args.out.now c.perform-answer.new.out _ c.perform-answer.result _ c.perform-answer.ensures.answer (search rules))
+
+pub returns-clause-whole : goal.returns-clause-whole
+returns-clause-whole g c = rw c.first_fault.ensures (whole_after c.perform-answer.result _ _ (search rules))
+
+pub returns-clause-nothing : goal.returns-clause-nothing
+returns-clause-nothing g c =
+    rw c.first_fault.ensures (nothing_after g.W.Write.contents c.args.out.now c.perform-answer.new.out _ c.perform-answer.result _ c.perform-answer.ensures.nothing (search rules) (search rules))
+
+pub returns-clause-reason : goal.returns-clause-reason
+returns-clause-reason g c =
+    rw c.first_fault.ensures (reason_after (RequestOutcome (g.F.Files.held c.args.files.now) (g.R.Read.remaining c.args.input.now.device) c.perform-answer.new.input.failed (request_seen c.args.task))
+    g.W.Write.contents c.args.out.now c.perform-answer.new.out _ c.perform-answer.result _ c.perform-answer.ensures.answer (search rules) (search rules) (search rules) (search rules))
+
+pub returns-clause-flushed : goal.returns-clause-flushed
+returns-clause-flushed g c =
+    flushed_at_last c.perform-answer.new.out.failed c.args.out.now c.perform-answer.new.out _ refl c.perform-answer.ensures.unflushed (search rules) (search rules) (search rules)
