@@ -19,13 +19,23 @@ use js_output::{Fault, Sink, Source};
 use std::alloc::Global;
 use std::io::{Read, Write};
 
-/// Does what the words ask for, and answers the program's status.
+/// Runs the program on its arguments (`words`, without the program's name) and returns the exit
+/// status: [`crate::VALID`], [`crate::INVALID`], [`crate::MISUSED`], [`crate::REFUSED`] or
+/// [`crate::FAILED`].
 ///
-/// Without words it runs the pair on the input. Else all files are read in the order given, then
-/// INSTANCE; `check` checks it against the schema documents, and `places` tells their places. What
-/// comes of it goes to `out`, which is flushed once, at the end; a fault there counts only where
-/// none came before. A usage text, or the line of a fault and a line feed, goes to `faults`, whose
-/// own failure changes no status.
+/// | words | task |
+/// |---|---|
+/// | none | `js_output::run_pair` on `input` |
+/// | `check FORMAT INSTANCE ENTRY [URI FILE]...` | `js_output::run` on the instance |
+/// | `suite SUITE [URI FILE]...` | `js_output::run_suite` on the suite |
+/// | `places [URI FILE]...` | `js_output::run_places` on the documents |
+///
+/// The files of the documents are taken in the order given, then INSTANCE or SUITE. FORMAT is
+/// `flag`, `basic`, `detailed`, `merged` or `verbose`.
+///
+/// The output goes to `out`, which is flushed once, as the last thing. A fault of this flush counts
+/// only if there was no other. `faults` gets a usage text, or the line of a fault and a line feed
+/// (nothing if memory for the line runs out); its own failure changes no status.
 pub fn command<'a, F: Files, R: Read, W: Write, V: Write>(
     alloc: Global,
     words: &'a [&'a str],
@@ -36,22 +46,23 @@ pub fn command<'a, F: Files, R: Read, W: Write, V: Write>(
 ) -> u8
     ensures named { result ≤ 4 }
 
-    // 0 tells that what the words ask for, by what the files and the input hold, comes to a valid
-    // instance, and 1 that it comes to an invalid one, as the output's text does, which went out.
+    // With 0 what comes of the words, by what the files and the input hold, is valid, and with 1
+    // invalid; the text that says so was written.
     ensures verdict { result < 2 → IsTold
         (WordsOutcome (words_of words.entry.now) (F.held files.old)
         (R.remaining input.old.device) input.new.failed)
         (result == 0) (W.contents out.old.device) (W.contents out.new.device) }
     ensures whole { result < 2 → out.new.failed ≡ false }
 
-    // The output was flushed once, as the last call of its device, whatever the status; only a
+    // Whatever the status, the output was flushed once, as the last call of its device; only a
     // device that had failed before wasn't called again.
     ensures flushed { FlushedOnce out.old out.new }
 
+    // Nothing was written to the output.
     ensures nothing { (result ≡ 2) ⊎ (result ≡ 3)
         → Keeps (W.contents out.old.device) (W.contents out.new.device) }
 
-    // Where something failed, nothing went out, or a beginning of such a text.
+    // Nothing was written, or a beginning of such a text.
     ensures beginning { result ≡ 4
         → Keeps (W.contents out.old.device) (W.contents out.new.device)
         ⊎ IsPartlyTold
@@ -59,9 +70,7 @@ pub fn command<'a, F: Files, R: Read, W: Write, V: Write>(
         (R.remaining input.old.device) input.new.failed)
         (W.contents out.old.device) (W.contents out.new.device) }
 
-    // What is told of anything else, or a beginning of it, and why: with 3 a refusal that comes of
-    // what the words ask for, by what the files and the input hold; with 4 memory or a read that
-    // failed, or a write, the last flush included, after a beginning of an output.
+    // What went to standard error, or a beginning of it, and its reason.
     ensures quiet { result < 2 → faults.new ≡ faults.old }
     ensures misused { OnErr (request_of (words_of words.entry.now)) ((result ≡ 2) ⊎ ((result ≡ 4)
         × AppendsBeginning (V.contents faults.old.device) (V.contents faults.new.device)

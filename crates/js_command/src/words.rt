@@ -1,4 +1,4 @@
-//! What the program's words ask for.
+//! The program's arguments, and the task that they name.
 ghost use Rattle.std.specs.Prelude.{◌≡◌, Ok, Some, IfOk, IfErr, ◌<◌, length, option_map, codes};
 ghost use Rattle.clap.specs.Words.{found_of, first_of, all_of, rows_of, subcommand_rows_of};
 ghost use Rattle.js_command.specs.Words.{request_of, words_of, pairs_in, format_of, places_by};
@@ -12,16 +12,16 @@ use clap::error::ErrorKind;
 use js_output::Format;
 use std::alloc::{AllocError, AllocFailed, Global};
 
-/// What is written where the words are of another form.
+/// The usage text: what is written where the words have none of the four forms.
 pub const USAGE: &[u8] =
     b"usage: jschema (check FORMAT INSTANCE ENTRY | suite SUITE | places) [URI FILE]...\n";
 
-/// What is written where a URI stands without a file.
-pub const PAIRS_USAGE: &[u8] = b"usage: URI and FILE come in pairs\n";
+/// The usage text where a URI has no file.
+pub(crate) const PAIRS_USAGE: &[u8] = b"usage: URI and FILE come in pairs\n";
 
-/// What is asked for.
+/// What the words ask for.
 #[derive(Drop)]
-pub enum Task<'a> {
+pub(crate) enum Task<'a> {
     /// To run the pair on standard input.
     Pair,
     /// To check an instance.
@@ -34,36 +34,36 @@ pub enum Task<'a> {
 
 /// The words of a check.
 #[derive(Drop)]
-pub struct Check<'a> {
-    pub format: Format,
+pub(crate) struct Check<'a> {
+    pub(crate) format: Format,
     /// The instance's file.
-    pub instance: &'a str,
-    pub entry: &'a str,
-    pub documents: Vec<DocumentFile<'a>>,
+    pub(crate) instance: &'a str,
+    pub(crate) entry: &'a str,
+    pub(crate) documents: Vec<DocumentFile<'a>>,
 }
 
 /// The words of a suite.
 #[derive(Drop)]
-pub struct Suite<'a> {
-    pub file: &'a str,
-    pub documents: Vec<DocumentFile<'a>>,
+pub(crate) struct Suite<'a> {
+    pub(crate) file: &'a str,
+    pub(crate) documents: Vec<DocumentFile<'a>>,
 }
 
 /// A schema document: its URI, and its file.
 #[derive(Clone, Copy, Drop)]
-pub struct DocumentFile<'a> {
-    pub uri: &'a str,
-    pub file: &'a str,
+pub(crate) struct DocumentFile<'a> {
+    pub(crate) uri: &'a str,
+    pub(crate) file: &'a str,
 }
 
-/// Why the words ask for nothing.
+/// Why the words name no task.
 #[derive(Clone, Copy, Debug, Drop, PartialEq, Eq)]
 pub enum Misuse {
-    /// There was no memory.
+    /// Memory ran out.
     Memory,
-    /// They are of another form.
+    /// They have none of the four forms.
     OtherForm,
-    /// A URI stands without a file.
+    /// A URI has no file.
     OddPairs,
 }
 
@@ -105,7 +105,7 @@ impl From<clap::Error> for Misuse {
 ///
 /// # Errors
 /// See [`Misuse`]. A wrong format comes before an odd number of words.
-pub fn task_of<'a>(alloc: Global, words: &'a [&'a str]) -> Result<Task<'a>, Misuse>
+pub(crate) fn task_of<'a>(alloc: Global, words: &'a [&'a str]) -> Result<Task<'a>, Misuse>
     ensures ok { IfOk result (λ t. request_of (words_of words.now) ≡ Ok (request_seen t)) }
     ensures err { IfErr result (IsMisuse (request_of (words_of words.now))) }
 {
