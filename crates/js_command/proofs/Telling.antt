@@ -28,7 +28,7 @@ performs-fault held paths Unread P taken old new fault.Memory h = tt
 performs-fault held paths Unread P taken old new fault.Read h = inl (h (λ e. cc))
 performs-fault held paths Unread P taken old new fault.InputTooLarge h = inl (h (λ e. cc))
 performs-fault held paths Unread P taken old new fault.Write h = absurd (input_fault held paths fault.Write (h (λ e. cc)))
-performs-fault held paths Unread P taken old new f h = absurd (input_fault held paths f (h (λ e. cc)))
+performs-fault held paths Unread P taken old new _ h = absurd (input_fault held paths _ (h (λ e. cc)))
 
 module _ (words : List (List ℕ)) (held : HeldByPath) (input : Option (List ℕ)) (unread : Bool) (request : Request) (old new : Option (List ℕ)) (failed : Bool) where
   -- where something failed

@@ -1,4 +1,4 @@
-use Rattle.std.proofs.Common.{◌∙◌, Some, None, Ok, Err, ap, sym, subst}
+use Rattle.std.proofs.Common.{◌∙◌, Some, None, false, Ok, Err, ap, sym, subst}
 use Rattle.std.proofs.lemmas.Result.{err_from_is_err_and}
 use Rattle.js_output.specs.Device.{IsLeft}
 use Rattle.js_output.specs.Documents.{documents_of, documents_causes}
@@ -36,7 +36,7 @@ returns-clause-answer g c =
     (subst (λ ds. AreHeld held (pairs_seen ds) (documents_taken c.in_ok-held.held.items)) c.as_slice.ensures.value c.in_ok-held.ensures.held) in
     let here : IsLeft (held asked.file.now) c.as_slice-3.result.now = subst (IsLeft (held asked.file.now)) (sym c.as_slice-3.ensures.value)
     (subst (λ h. IsLeft (h asked.file.now) c.in_ok-text.text.items) c.in_ok-held.ensures.stays c.in_ok-text.ensures.bytes) in
-    subst (λ v. Performs (RequestOutcome held None (suite asked.file.now (pairs_seen asked.documents.items))) g.W.Write.contents c.args.out.now c.run_suite.new.out (Ok v)) (sym c.all_passed.ensures)
+    subst (λ v. Performs (RequestOutcome held None false (suite asked.file.now (pairs_seen asked.documents.items))) g.W.Write.contents c.args.out.now c.run_suite.new.out (Ok v)) (sym c.all_passed.ensures)
     (suite_told held (pairs_seen asked.documents.items) documents g.W.Write.contents c.args.out.now c.run_suite.new.out
     asked.file.now c.as_slice-3.result.now c.in_ok-counts.counts holds here
     (subst (λ d. Answers telling_lines (SuiteOutcome documents) (documents_causes documents) (Some d.now) g.W.Write.contents c.args.out.now c.run_suite.new.out (Ok c.in_ok-counts.counts)) c.new-text.ensures.device c.in_ok-counts.ensures.answer))
