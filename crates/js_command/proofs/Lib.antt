@@ -7,4 +7,5 @@ pub mod Pairs
 pub mod Holding
 pub mod FileFaults
 pub mod LastFlush
+pub mod InputUse
 pub mod Telling

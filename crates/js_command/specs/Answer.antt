@@ -13,6 +13,7 @@ use Rattle.js_output.specs.declared.fault.Fault.{Fault}
 use Rattle.js_output.specs.declared.fault.Fault.TheVariants as fault
 use Rattle.js_command.specs.Files.{HeldByPath, IsFirstFileFault}
 use Rattle.js_command.specs.Words.{Pairs, files_of, Request, pair, check, suite, places, request_of}
+use Rattle.js_command.specs.declared.words.Misuse.{Misuse}
 
 -- each document stands under its URI, and is what its file holds, within the limit
 abbrev pub AreHeld : HeldByPath → Pairs → DocumentTexts → Type 0
@@ -90,3 +91,8 @@ IsReason Expected old new failed f = Expected (Err f)
 -- what comes of the request that the words make
 abbrev pub WordsOutcome : List (List ℕ) → HeldByPath → Option (List ℕ) → Bool → Result Output Fault → Type 0
 WordsOutcome words held input failed answer = (request : Request) × (request_of words ≡ Ok request) × RequestOutcome held input failed request answer
+
+-- Standard input is read for a pair alone. Where it then stands failed, the status is 4.
+abbrev pub UsesInput : {D : Type 0} → Result Request Misuse → Tracked D → Tracked D → ℕ → Type 0
+UsesInput (Ok pair) old new status = new.failed ≡ true → status ≡ 4
+UsesInput asked old new status = new ≡ old

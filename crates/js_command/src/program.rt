@@ -6,9 +6,9 @@ ghost use Rattle.js_output.specs.Line.{fault_line};
 ghost use Rattle.js_output.specs.declared.fault.Fault.{Fault};
 ghost use Rattle.js_command.specs.Words.{request_of, usage_line, words_of};
 ghost use Rattle.js_command.specs.declared.words.Misuse.{Misuse};
-ghost use Rattle.js_command.specs.Answer.{RequestOutcome, WordsOutcome, IsTold, IsPartlyTold, IsReason};
+ghost use Rattle.js_command.specs.Answer.{RequestOutcome, WordsOutcome, IsTold, IsPartlyTold, IsReason, UsesInput};
 ghost use Rattle.js_command.specs.Status.{fault_status};
-ghost use Rattle.js_command.specs.code.Tasks.{first_fault, request_seen};
+ghost use Rattle.js_command.specs.code.Tasks.{ReadsInput, first_fault, request_seen};
 
 use crate::files::Files;
 use crate::messages::{tell, tell_misuse};
@@ -57,6 +57,9 @@ pub fn command<'a, F: Files, R: Read, W: Write, V: Write>(
     // Whatever the status, the output was flushed once, as the last call of its device; only a
     // device that had failed before wasn't called again.
     ensures flushed { FlushedOnce out.old out.new }
+
+    // Only a task without words reads the input.
+    ensures input { UsesInput (request_of (words_of words.entry.now)) input.old input.new result }
 
     // Nothing was written to the output.
     ensures nothing { (result ≡ 2) ⊎ (result ≡ 3)
@@ -123,6 +126,7 @@ fn perform_whole<F: Files, R: Read, W: Write>(
         (request_seen task.entry))
         (W.contents out.old.device) (W.contents out.new.device) out.new.failed) }
     ensures flushed { FlushedOnce out.old out.new }
+    ensures input { ReadsInput (request_seen task.entry) input.old input.new result }
 {
     let answer = perform(alloc, task, files, input, out);
     let flushed = out.flush();

@@ -4,7 +4,7 @@ ghost use Rattle.js_output.specs.Device.{Unflushed};
 ghost use Rattle.js_command.specs.Words.{places};
 ghost use Rattle.js_command.specs.declared.words.Task.{Task};
 ghost use Rattle.js_command.specs.Answer.{RequestOutcome, Performs, all_passed};
-ghost use Rattle.js_command.specs.code.Tasks.{pairs_seen, request_seen};
+ghost use Rattle.js_command.specs.code.Tasks.{ReadsInput, pairs_seen, request_seen};
 
 use crate::documents::{handed_in, take_all};
 use crate::files::Files;
@@ -24,6 +24,7 @@ pub(crate) fn perform<F: Files, R: Read, W: Write>(
     ensures answer { Performs
         (RequestOutcome (F.held files.old) (R.remaining input.old.device) input.new.failed
         (request_seen task.entry)) W.contents out.old out.new result }
+    ensures input { ReadsInput (request_seen task.entry) input.old input.new result }
     ensures nothing { IfErr result (λ e. e ≢ Fault.Write → out.new ≡ out.old) }
     ensures unflushed { Unflushed out.old out.new }
 {

@@ -1,6 +1,8 @@
 -- Tasks, as the requests that they are, and why there is none.
-use Rattle.std.specs.Prelude.{◌≡◌, List, map, Option, None, Result, Ok, Err, ⊤}
+use Rattle.std.specs.Prelude.{◌≡◌, Bool, true, List, map, Option, None, Result, Ok, Err, ⊤}
+use Rattle.js_output.specs.Device.{Tracked}
 use Rattle.js_output.specs.declared.fault.Fault.{Fault}
+use Rattle.js_output.specs.declared.fault.Fault.TheVariants as fault
 use Rattle.js_command.specs.Words.{Pairs, Request, pair, check, suite, places}
 use Rattle.js_command.specs.declared.words.DocumentFile.{DocumentFile}
 use Rattle.js_command.specs.declared.words.Misuse.{Misuse}
@@ -33,3 +35,14 @@ abbrev pub first_fault : {A B : Type 0} → Result A Fault → Result B Fault �
 first_fault (Err f) after = Err f
 first_fault (Ok a) (Err f) = Err f
 first_fault (Ok a) (Ok b) = Ok a
+
+-- what a task answers where the input stands failed
+abbrev pub IsReadOrMemory : Result Bool Fault → Type 0
+IsReadOrMemory (Err fault.Memory) = ⊤
+IsReadOrMemory (Err fault.Read) = ⊤
+IsReadOrMemory _ = ⊥
+
+-- the input is read for a pair alone
+abbrev pub ReadsInput : {D : Type 0} → Request → Tracked D → Tracked D → Result Bool Fault → Type 0
+ReadsInput pair old new answer = new.failed ≡ true → IsReadOrMemory answer
+ReadsInput request old new answer = new ≡ old

@@ -1,6 +1,7 @@
 use Rattle.std.proofs.Common.{refl, rules}
 use Rattle.js_command.specs.Answer.{RequestOutcome}
 use Rattle.js_command.specs.code.Tasks.{request_seen}
+use Rattle.js_command.proofs.InputUse.{input_after}
 use Rattle.js_command.proofs.LastFlush.{told_after, whole_after, nothing_after, reason_after, flushed_at_last}
 use Rattle.js_command.proofs.program.perform_whole.Goals as goal
 
@@ -25,3 +26,7 @@ returns-clause-reason g c =
 pub returns-clause-flushed : goal.returns-clause-flushed
 returns-clause-flushed g c =
     flushed_at_last c.perform-answer.new.out.failed c.args.out.now c.perform-answer.new.out _ refl c.perform-answer.ensures.unflushed (search rules) (search rules) (search rules)
+
+pub returns-clause-input : goal.returns-clause-input
+returns-clause-input g c =
+    rw c.first_fault.ensures (input_after (request_seen c.args.task) c.args.input.now c.perform-answer.new.input c.perform-answer.result _ c.perform-answer.ensures.input)
