@@ -21,7 +21,7 @@ pub reason_of : {D : Type 0} (P : Result Output Fault → Type 0) (taken : D →
 reason_of P taken old between new fault.Memory h kept stays = tt
 reason_of P taken old between new fault.Write (output, h, begun) kept stays =
     let (sent, unsent, is, went) = begun.0 in
-    let stands : new.failed ≡ true = ap (λ s. s.failed) (stays begun.1.0) ∙ begun.1.0 in
+    let stands : new.failed ≡ true = ap (λ s. s.failed) (stays begun.1) ∙ begun.1 in
     (stands, (output, h, (sent, unsent, is, Appends-kept (taken old.device) (taken between.device) (taken new.device) sent went kept)))
 reason_of P taken old between new _ h kept stays = h
 

@@ -1,5 +1,5 @@
 -- What the program answers, by where it stops.
-use Rattle.std.proofs.Common.{◌≡◌, ◌≢◌, ℕ, List, [], Option, Some, None, Result, Ok, Err, OnErr, IsErrOf, Bool, true, ◌⊎◌, inl, inr, refl, sym, ap, subst, arith, ◌<◌}
+use Rattle.std.proofs.Common.{◌≡◌, ◌≢◌, ℕ, List, [], ◌∷◌, ◌++◌, Option, Some, None, Result, Ok, Err, OnErr, IsErrOf, Bool, true, false, ◌⊎◌, inl, inr, refl, sym, ap, subst, arith, ◌<◌}
 use Rattle.std.specs.Io.KnownBytes.{Keeps}
 use Rattle.js_output.specs.Cause.{MayGoOn}
 use Rattle.js_output.specs.Device.{Tracked, IsLeft, AppendsBeginning, Sends, SendsBeginning}
@@ -13,12 +13,12 @@ use Rattle.js_output.specs.declared.suite_lines.Counts.{Counts}
 use Rattle.js_output.specs.declared.fault.Fault.{Fault}
 use Rattle.js_output.specs.declared.fault.Fault.TheVariants as fault
 use Rattle.js_tree.specs.declared.forms.Format.{Format}
-use Rattle.js_command.specs.Answer.{AreHeld, OverFiles, RequestOutcome, all_passed, suite_output, WordsOutcome, Performs, IsPartlyTold, IsReason}
+use Rattle.js_command.specs.Answer.{AreHeld, MayReadAgain, OverFiles, PlacesOutcome, RequestOutcome, SuiteTold, all_passed, suite_output, WordsOutcome, Performs, IsPartlyTold, IsReason}
 use Rattle.js_command.specs.Files.{HeldByPath, IsFirstFileFault}
 use Rattle.js_command.specs.Status.{misuse_status}
 use Rattle.js_command.specs.declared.words.Misuse.{Misuse}
 use Rattle.js_command.specs.declared.words.Misuse.TheVariants as misuse
-use Rattle.js_command.specs.Words.{Pairs, Request, pair, check, suite, places, request_of}
+use Rattle.js_command.specs.Words.{Pairs, files_of, Request, pair, check, suite, places, request_of}
 use Rattle.js_command.proofs.FileFaults.{input_fault}
 
 -- a file isn't taken
@@ -86,6 +86,25 @@ module _ {D : Type 0} (held : HeldByPath) (pairs : Pairs) (documents : DocumentT
   suite_fault file bytes fault.Read holds here clear = inr (documents, holds, clear)
   suite_fault file bytes fault.InputTooLarge holds here (read, is, h) = inr (documents, holds, (read, subst (IsLeft (held file)) is here, h))
   suite_fault file bytes _ holds here (read, is, h) = (documents, holds, (read, subst (IsLeft (held file)) is here, h))
+
+-- ---- a file isn't taken
+
+module _ {D : Type 0} (held : HeldByPath) (pairs : Pairs) (taken : D → Option (List ℕ)) (old new : Tracked D) where
+  pub check_untaken : (format : Format) (instance entry : List ℕ) (e : Fault) → (¬ (e ≡ fault.Memory) → IsFirstFileFault held (files_of pairs ++ instance ∷ []) e)
+      → Performs (RequestOutcome held None false (check format instance entry pairs)) taken old new (Err e)
+  check_untaken format instance entry e h =
+      performs-fault held (files_of pairs ++ instance ∷ []) (MayReadAgain held pairs (λ documents. beginning_causes documents entry))
+      (λ told. (documents : DocumentTexts) × AreHeld held pairs documents × ((bytes : List ℕ) × IsLeft (held instance) bytes × Outcome documents entry format bytes told)) taken old new e h
+
+  pub suite_untaken : (file : List ℕ) (e : Fault) → (¬ (e ≡ fault.Memory) → IsFirstFileFault held (files_of pairs ++ file ∷ []) e)
+      → Performs (RequestOutcome held None false (suite file pairs)) taken old new (Err e)
+  suite_untaken file e h =
+      performs-fault held (files_of pairs ++ file ∷ []) (MayReadAgain held pairs documents_causes)
+      (λ told. (documents : DocumentTexts) × AreHeld held pairs documents × ((bytes : List ℕ) × IsLeft (held file) bytes × SuiteTold documents bytes told)) taken old new e h
+
+  pub places_untaken : (e : Fault) → (¬ (e ≡ fault.Memory) → IsFirstFileFault held (files_of pairs) e) → Performs (RequestOutcome held None false (places pairs)) taken old new (Err e)
+  places_untaken e h =
+      performs-fault held (files_of pairs) ⊥ (λ told. (documents : DocumentTexts) × AreHeld held pairs documents × PlacesOutcome documents told) taken old new e h
 
 -- ---- a pair
 

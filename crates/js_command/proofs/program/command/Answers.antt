@@ -19,7 +19,7 @@ returns-in-Err-clause-told g c above =
 -- nothing was written before the flush
 pub returns-in-Err-clause-flushed : goal.returns-in-Err-clause-flushed
 returns-in-Err-clause-flushed g c =
-    flushed_at_last c.args.out.now.failed c.args.out.now c.args.out.now _ refl (refl, refl) (search rules) (search rules) (search rules)
+    flushed_at_last c.args.out.now.failed c.args.out.now c.args.out.now c.flush.new.self refl (refl, refl) (search rules) (search rules) (search rules)
 
 pub returns-in-Err-perform_whole-clause-beginning : goal.returns-in-Err-perform_whole-clause-beginning
 returns-in-Err-perform_whole-clause-beginning g c failed =
