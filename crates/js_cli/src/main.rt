@@ -1,14 +1,10 @@
 //! The program `jschema`: a schema and an instance in, the verdict out.
 #![tactic(auto)]
 
-mod command;
 mod disk;
-mod documents;
-mod grammar;
-mod words;
 
-use command::command;
 use disk::Disk;
+use js_command::{FAILED, MISUSED, USAGE, command};
 use js_output::{Sink, Source};
 use std::env;
 use std::io::{BufWriter, ErrorKind};
@@ -22,22 +18,22 @@ fn status(rt: &HostRuntime) -> u8 {
     let mut faults = Sink::new(rt.stderr());
     let words = match words_given(rt) {
         Ok(words) => words,
-        Err(NoWords::Memory) => return command::FAILED,
-        Err(NoWords::NoText) => {
-            let _ = faults.put(words::USAGE);
-            return command::MISUSED;
+        Err(NoWords::Memory) => return FAILED,
+        Err(NoWords::NotUtf8) => {
+            let _ = faults.put(USAGE);
+            return MISUSED;
         }
     };
     let mut lent = Vec::new(rt.alloc());
     for word in &words {
         if lent.push(word.as_str()).is_err() {
-            return command::FAILED;
+            return FAILED;
         }
     }
     let mut files = Disk::new(rt);
     let mut input = Source::new(rt.stdin());
     let Ok(mut buffered) = BufWriter::new(rt.alloc(), rt.stdout()) else {
-        return command::FAILED;
+        return FAILED;
     };
     let mut out = Sink::new(&mut buffered);
     let status = command(
@@ -49,24 +45,24 @@ fn status(rt: &HostRuntime) -> u8 {
         &mut faults,
     );
     drop(out);
-    // Else what a failed write left would be written once more.
+    // Dropping the buffer would write once more what a failed write left in it.
     drop(buffered.into_parts());
     status
 }
 
-// Why the words can't be had: there was no memory, or one isn't UTF-8.
+// Why there are no arguments: memory ran out, or one isn't UTF-8.
 #[derive(Drop)]
 enum NoWords {
     Memory,
-    NoText,
+    NotUtf8,
 }
 
-// The words after the program's name.
+// The arguments after the program's name.
 fn words_given(rt: &HostRuntime) -> Result<Vec<String>, NoWords> {
     let all = match env::args(rt) {
         Ok(all) => all,
         Err(error) if error.kind() == ErrorKind::OutOfMemory => return Err(NoWords::Memory),
-        Err(_) => return Err(NoWords::NoText),
+        Err(_) => return Err(NoWords::NotUtf8),
     };
     let mut words = Vec::new(rt.alloc());
     for word in all.skip(1) {

@@ -1,20 +1,25 @@
 -- A reader or a writer, with what is known of its calls.
-use Rattle.std.specs.Prelude.{◌≡◌, ℕ, ◌+◌, ◌≤◌, Bool, true, false, List, ◌++◌, length, ⊤, refl, Option, Some, None, Result, Ok, Err}
+use Rattle.std.specs.Prelude.{◌≡◌, ℕ, ◌+◌, ◌-◌, ◌^◌, ◌≤◌, ◌⊎◌, min, Bool, true, false, List, ◌++◌, length, ⊤, refl, Option, Some, None, Result, Ok, Err}
 use Rattle.std.specs.Coded.{Coded, code_by, coded×, coded_ℕ, coded_bool}
 use Rattle.std.specs.Io.KnownBytes.{Appends}
 use Rattle.js_doc.specs.BytesOut.{Progress}
 use Rattle.js_output.specs.declared.fault.Fault.{Fault}
 use Rattle.js_output.specs.declared.fault.Fault.TheVariants as fault
 
--- `failed` once a call has failed, and how many calls were made
+-- `failed` once a call has failed; how many calls were made, how many of them were flushes, and which of them was the last
+-- flush, counted from 1 (0 where none was). A reader is never flushed.
 pub record Tracked (D : Type 0) : Type 0 where
   pub device : D
   pub failed : Bool
   pub calls : ℕ
+  pub flushes : ℕ
+  pub last_flush : ℕ
 
 abbrev pub tracked_code : {D : Type 0} → Coded D → Coded (Tracked D)
 tracked_code {D} d =
-    code_by (D × (Bool × ℕ)) (coded× d (coded× coded_bool coded_ℕ)) (λ t. (t.device, (t.failed, t.calls))) (λ p. record { device = p.0; failed = p.1.0; calls = p.1.1 }) (λ _. refl)
+    code_by (D × (Bool × (ℕ × (ℕ × ℕ)))) (coded× d (coded× coded_bool (coded× coded_ℕ (coded× coded_ℕ coded_ℕ))))
+    (λ t. (t.device, (t.failed, (t.calls, (t.flushes, t.last_flush)))))
+    (λ p. record { device = p.0; failed = p.1.0; calls = p.1.1.0; flushes = p.1.1.1.0; last_flush = p.1.1.1.1 }) (λ _. refl)
 
 -- the most bytes that are read of an input
 abbrev pub input_limit : ℕ
@@ -43,6 +48,16 @@ SendsBeginning taken old new text = AppendsBeginning (taken old.device) (taken n
 abbrev pub SendsOrFails : {D T : Type 0} → (D → Option (List ℕ)) → Tracked D → Tracked D → List ℕ → Result T Fault → Type 0
 SendsOrFails taken old new text (Ok _) = Sends taken old new text
 SendsOrFails taken old new text (Err f) = (f ≡ fault.Write) × SendsBeginning taken old new text
+
+-- ---- flushes
+
+-- not flushed, whatever else was done
+abbrev pub Unflushed : {D : Type 0} → Tracked D → Tracked D → Type 0
+Unflushed old new = (new.flushes ≡ old.flushes) × (new.last_flush ≡ old.last_flush)
+
+-- flushed once, as the last call; or a call had failed before, so that no flush was made
+abbrev pub FlushedOnce : {D : Type 0} → Tracked D → Tracked D → Type 0
+FlushedOnce old new = ((new.flushes ≡ min (old.flushes + 1) (2 ^ 64 - 1)) × (new.last_flush ≡ new.calls)) ⊎ ((new.failed ≡ true) × Unflushed old new)
 
 -- how far the bytes have come that were put into it piece by piece
 abbrev pub progress_of : {D : Type 0} → (D → Option (List ℕ)) → Tracked D → Progress

@@ -1,6 +1,6 @@
 //! A document and an instance in one input.
 ghost use Rattle.std.specs.Prelude.{◌≡◌, ◌≢◌, ◌≤◌, ◌+◌, ◌↔◌, [], true, Err, length, ◌<◌, IfSome, IfErr, IsErrOf};
-ghost use Rattle.js_output.specs.Device.{input_limit};
+ghost use Rattle.js_output.specs.Device.{input_limit, Unflushed};
 ghost use Rattle.js_output.specs.Outcome.{OutcomeOfTexts, PairOutcome, first_line_feed, text_before, text_after, telling_output};
 ghost use Rattle.js_output.specs.Telling.{Answers, Tells};
 
@@ -38,6 +38,7 @@ pub fn run_pair<R: Read, W: Write>(
 
     // Nothing goes out where there is no output.
     ensures nothing { IfErr result (λ e. e ≢ Fault.Write → out.new ≡ out.old) }
+    ensures unflushed { Unflushed out.old out.new }
     ensures sink_stays { out.old.failed ≡ true → out.new ≡ out.old }
 {
     let bytes = read_all(alloc, input)?;
@@ -74,6 +75,7 @@ fn tell_texts<W: Write>(
     ensures answer { Tells telling_output (OutcomeOfTexts document.now instance.now) W.contents
         out.old out.new result }
     ensures nothing { IfErr result (λ e. e ≢ Fault.Write → out.new ≡ out.old) }
+    ensures unflushed { Unflushed out.old out.new }
     ensures sink_stays { out.old.failed ≡ true → out.new ≡ out.old }
 {
     let docs = [(PAIR_URI, document)];

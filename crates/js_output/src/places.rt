@@ -3,7 +3,7 @@ ghost use Rattle.std.specs.Prelude.{◌≡◌, ◌≢◌, ◌≤◌, ◌+◌, tr
 ghost use Rattle.std.specs.Io.KnownBytes.{Appends};
 ghost use Rattle.js_bundle.specs.Resource.{sites};
 ghost use Rattle.js_output.specs.Cause.{MayGoOn, FailsBy};
-ghost use Rattle.js_output.specs.Device.{AppendsBeginning};
+ghost use Rattle.js_output.specs.Device.{AppendsBeginning, Unflushed};
 ghost use Rattle.js_output.specs.Documents.{documents_of, documents_causes};
 ghost use Rattle.js_output.specs.Outcome.{IsEarlyOrMemory};
 ghost use Rattle.js_output.specs.Places.{lines_of, places_of, places_text, TellsPlaces};
@@ -43,6 +43,7 @@ pub fn run_places<W: Write>(
     ensures nothing { IfErr result (λ e. e ≢ Fault.Write → out.new ≡ out.old) }
     ensures writes { out.new.calls
         ≤ out.old.calls + length (places_text (documents_of docs.now)) }
+    ensures unflushed { Unflushed out.old out.new }
     ensures sink_stays { out.old.failed ≡ true → out.new ≡ out.old }
 {
     let told = told_places(alloc, docs)?;

@@ -1,7 +1,7 @@
 //! From documents and an instance to the output's text.
 ghost use Rattle.std.specs.Prelude.{◌≡◌, ◌≢◌, ◌≤◌, ◌+◌, [], true, ◌-◌, IfErr, IsErrOf};
 ghost use Rattle.js_bundle.specs.Schemas.{is_place, place_at};
-ghost use Rattle.js_output.specs.Device.{input_limit};
+ghost use Rattle.js_output.specs.Device.{input_limit, Unflushed};
 ghost use Rattle.js_output.specs.Documents.{documents_of};
 ghost use Rattle.js_output.specs.Outcome.{beginning_causes, Outcome, InstanceOutcome, telling_output, IsEarly, IsReadOrEarly};
 ghost use Rattle.js_output.specs.Telling.{Answers};
@@ -49,6 +49,7 @@ pub fn run<R: Read, W: Write>(
 
     // Nothing goes out where there is no output.
     ensures nothing { IfErr result (λ e. e ≢ Fault.Write → out.new ≡ out.old) }
+    ensures unflushed { Unflushed out.old out.new }
     ensures sink_stays { out.old.failed ≡ true → out.new ≡ out.old }
 {
     let entry = entry_of(alloc, docs, entry)?;
@@ -73,6 +74,7 @@ fn tell_instance<R: Read, W: Write>(
     ensures reads { instance.new.calls ≤ instance.old.calls + (input_limit + 1) }
     ensures source_stays { instance.old.failed ≡ true → instance.new ≡ instance.old }
     ensures nothing { IfErr result (λ e. e ≢ Fault.Write → out.new ≡ out.old) }
+    ensures unflushed { Unflushed out.old out.new }
     ensures sink_stays { out.old.failed ≡ true → out.new ≡ out.old }
 {
     let bytes = read_all(alloc, instance)?;

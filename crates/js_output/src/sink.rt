@@ -1,7 +1,7 @@
 // Writers that are asked no more once they have failed.
 ghost use Rattle.std.specs.Prelude.{◌≡◌, ◌≤◌, ◌<◌, ◌+◌, true, false, min, ◌^◌, ◌-◌, take, length, is_err, OnOk, OnErr, IfOk, IfErr};
 ghost use Rattle.std.specs.Io.KnownBytes.{Appends, Keeps};
-ghost use Rattle.js_output.specs.Device.{AppendsBeginning};
+ghost use Rattle.js_output.specs.Device.{AppendsBeginning, Unflushed};
 
 use crate::Fault;
 use js_doc::{Out, Stopped};
@@ -12,6 +12,15 @@ use std::marker::Model;
 /// some, or the first flush that answers an error, it stands failed, and is called no more.
 #[derive(Drop)]
 pub struct Sink<W: Write> {
+    pub(crate) writing: Writing<W>,
+    flushes: u64,
+    // Which call was the last flush, counted from 1; 0 before the first.
+    last_flush: u64,
+}
+
+/// The part of a sink that bytes are written to. Whoever borrows it can't flush.
+#[derive(Drop)]
+pub(crate) struct Writing<W: Write> {
     device: W,
     failed: bool,
     calls: u64,
@@ -24,7 +33,13 @@ impl<W: Write> Model for Sink<W> {
 
     ghost coded = { tracked_code W.code };
 
-    ghost view = { λ s. record { device = s.device; failed = s.failed; calls = s.calls } };
+    ghost view = { λ s. record {
+      device = s.writing.device;
+      failed = s.writing.failed;
+      calls = s.writing.calls;
+      flushes = s.flushes;
+      last_flush = s.last_flush;
+    } };
 }
 
 impl<W: Write> Sink<W> {
@@ -33,11 +48,17 @@ impl<W: Write> Sink<W> {
         ensures device { result.device ≡ device }
         ensures failed { result.failed ≡ false }
         ensures calls { result.calls ≡ 0 }
+        ensures flushes { result.flushes ≡ 0 }
+        ensures last_flush { result.last_flush ≡ 0 }
     {
         Sink {
-            device,
-            failed: false,
-            calls: 0,
+            writing: Writing {
+                device,
+                failed: false,
+                calls: 0,
+            },
+            flushes: 0,
+            last_flush: 0,
         }
     }
 
@@ -45,14 +66,21 @@ impl<W: Write> Sink<W> {
     pub fn failed(&self) -> bool
         ensures { result ≡ self.now.failed }
     {
-        self.failed
+        self.writing.failed
     }
 
     /// How often the device was called. The count stays at the greatest `u64`.
     pub fn calls(&self) -> u64
         ensures { result ≡ self.now.calls }
     {
-        self.calls
+        self.writing.calls
+    }
+
+    /// How many of the calls were flushes. The count stays at the greatest `u64`.
+    pub fn flushes(&self) -> u64
+        ensures { result ≡ self.now.flushes }
+    {
+        self.flushes
     }
 
     /// Writes all of the bytes, one write after another, and stops at the first that fails. After
@@ -67,12 +95,41 @@ impl<W: Write> Sink<W> {
         ensures calls { self.new.calls ≤ self.old.calls + length bytes.now }
         ensures called { self.old.failed ≡ false → 0 < length bytes.now
             → min (self.old.calls + 1) (2 ^ 64 - 1) ≤ self.new.calls }
+        ensures unflushed { Unflushed self.old self.new }
         ensures stays { self.old.failed ≡ true → self.new ≡ self.old }
     {
-        self.write_all(bytes)?;
+        self.writing.write_all(bytes)?;
         Ok(())
     }
 
+    /// Has the device pass on what it holds back: one call of it, unless the sink stands failed
+    /// already. Answers `Fault::Write` exactly where the sink then stands failed.
+    pub fn flush(&mut self) -> Result<(), Fault>
+        ensures bytes { Keeps (W.contents self.old.device) (W.contents self.new.device) }
+        ensures fault { IfErr result (λ e. e ≡ Fault.Write) }
+        ensures failed { self.new.failed ≡ is_err result }
+        ensures called { self.old.failed ≡ false
+            → self.new.calls ≡ min (self.old.calls + 1) (2 ^ 64 - 1) }
+        ensures flushes { self.old.failed ≡ false
+            → self.new.flushes ≡ min (self.old.flushes + 1) (2 ^ 64 - 1) }
+        ensures last { self.old.failed ≡ false → self.new.last_flush ≡ self.new.calls }
+        ensures stays { self.old.failed ≡ true → self.new ≡ self.old }
+    {
+        if !self.writing.failed {
+            self.writing.calls = self.writing.calls.saturating_add(1);
+            self.flushes = self.flushes.saturating_add(1);
+            self.last_flush = self.writing.calls;
+            self.writing.failed = self.writing.device.flush().is_err();
+        }
+        if self.failed() {
+            Err(Fault::Write)
+        } else {
+            Ok(())
+        }
+    }
+}
+
+impl<W: Write> Writing<W> {
     fn write_all(&mut self, bytes: &[u8]) -> Result<(), Stopped>
         ensures ok { OnOk result
             (Appends (W.contents self.old.device) (W.contents self.new.device) bytes.now) }
@@ -120,26 +177,18 @@ impl<W: Write> Sink<W> {
             Ok(count) => Ok(count),
         }
     }
+}
 
-    /// Has the device pass on what it holds back: one call of it, unless the sink stands failed
-    /// already. Answers `Fault::Write` exactly where the sink then stands failed.
-    pub fn flush(&mut self) -> Result<(), Fault>
-        ensures bytes { Keeps (W.contents self.old.device) (W.contents self.new.device) }
-        ensures fault { IfErr result (λ e. e ≡ Fault.Write) }
-        ensures failed { self.new.failed ≡ is_err result }
-        ensures called { self.old.failed ≡ false
-            → self.new.calls ≡ min (self.old.calls + 1) (2 ^ 64 - 1) }
-        ensures stays { self.old.failed ≡ true → self.new ≡ self.old }
-    {
-        if !self.failed {
-            self.calls = self.calls.saturating_add(1);
-            self.failed = self.device.flush().is_err();
-        }
-        if self.failed() {
-            Err(Fault::Write)
-        } else {
-            Ok(())
-        }
+/// It stops where it stands failed.
+impl<W: Write> Out for Writing<W> {
+    ghost progress = { λ w. record {
+      gone = W.contents w.device;
+      calls = w.calls;
+      stopped = w.failed;
+    } };
+
+    fn put(&mut self, bytes: &[u8]) -> Result<(), Stopped> {
+        self.write_all(bytes)
     }
 }
 
@@ -150,6 +199,6 @@ impl<W: Write> Out for Sink<W> {
     ghost progress = { λ s. progress_of W.contents s };
 
     fn put(&mut self, bytes: &[u8]) -> Result<(), Stopped> {
-        self.write_all(bytes)
+        self.writing.put(bytes)
     }
 }

@@ -23,7 +23,13 @@ impl<R: Read> Model for Source<R> {
 
     ghost coded = { tracked_code R.code };
 
-    ghost view = { λ s. record { device = s.device; failed = s.failed; calls = s.calls } };
+    ghost view = { λ s. record {
+      device = s.device;
+      failed = s.failed;
+      calls = s.calls;
+      flushes = 0;
+      last_flush = 0;
+    } };
 }
 
 impl<R: Read> Source<R> {

@@ -1,6 +1,6 @@
 //! A suite of tests, run over documents.
 ghost use Rattle.std.specs.Prelude.{◌≡◌, ◌≢◌, ◌≤◌, ◌+◌, true, ◌-◌, IfErr, IsErrOf};
-ghost use Rattle.js_output.specs.Device.{input_limit};
+ghost use Rattle.js_output.specs.Device.{input_limit, Unflushed};
 ghost use Rattle.js_output.specs.Documents.{documents_of, documents_causes};
 ghost use Rattle.js_output.specs.Outcome.{IsEarly, IsReadOrEarly};
 ghost use Rattle.js_output.specs.Suite.{ReadLines, SuiteOutcome, telling_lines, SendsLines, IsSuiteLate};
@@ -56,6 +56,7 @@ pub fn run_suite<R: Read, W: Write>(
 
     // Nothing goes out where there are no lines.
     ensures nothing { IfErr result (λ e. e ≢ Fault.Write → out.new ≡ out.old) }
+    ensures unflushed { Unflushed out.old out.new }
     ensures sink_stays { out.old.failed ≡ true → out.new ≡ out.old }
 {
     finished(alloc, docs)?;
@@ -75,6 +76,7 @@ fn tell_suite<W: Write>(
         out.old out.new result }
     ensures late { IfErr result IsSuiteLate }
     ensures nothing { IfErr result (λ e. e ≢ Fault.Write → out.new ≡ out.old) }
+    ensures unflushed { Unflushed out.old out.new }
     ensures sink_stays { out.old.failed ≡ true → out.new ≡ out.old }
 {
     let groups = suite_from(alloc, bytes)?;
@@ -86,6 +88,7 @@ fn tell_suite<W: Write>(
 fn tell_lines<W: Write>(alloc: Global, lines: &[Line], out: &mut Sink<W>) -> Result<Counts, Fault>
     ensures answer { SendsLines W.contents out.old out.new lines.now result }
     ensures nothing { IfErr result (λ e. e ≢ Fault.Write → out.new ≡ out.old) }
+    ensures unflushed { Unflushed out.old out.new }
     ensures sink_stays { out.old.failed ≡ true → out.new ≡ out.old }
 {
     let counts = counts_of(lines);

@@ -3,6 +3,7 @@ ghost use Rattle.std.specs.Prelude.{◌≡◌, ◌≢◌, true, IfErr, IfOk};
 ghost use Rattle.js_doc.specs.Seen.{value_of};
 ghost use Rattle.js_tree.specs.declared.forms.Format.TheVariants.{Flag, Merged};
 ghost use Rattle.js_bundle.specs.Schemas.{is_place, place_at};
+ghost use Rattle.js_output.specs.Device.{Unflushed};
 ghost use Rattle.js_output.specs.Outcome.{ValueOutcome, TextOutcome, telling_output, IsLateOrMemory, IsJudged, IsWalkFault};
 ghost use Rattle.js_output.specs.Telling.{Tells};
 
@@ -34,6 +35,7 @@ pub(crate) fn tell_text<W: Write>(
         W.contents out.old out.new result }
     ensures late { IfErr result IsLateOrMemory }
     ensures nothing { IfErr result (λ e. e ≢ Fault.Write → out.new ≡ out.old) }
+    ensures unflushed { Unflushed out.old out.new }
     ensures sink_stays { out.old.failed ≡ true → out.new ≡ out.old }
 {
     match value_from(alloc, bytes) {
@@ -56,6 +58,7 @@ fn tell_value<W: Write>(
         W.contents out.old out.new result }
     ensures late { IfErr result IsLateOrMemory }
     ensures nothing { IfErr result (λ e. e ≢ Fault.Write → out.new ≡ out.old) }
+    ensures unflushed { Unflushed out.old out.new }
     ensures sink_stays { out.old.failed ≡ true → out.new ≡ out.old }
 {
     match format {
@@ -80,6 +83,7 @@ fn tell_verdict<W: Write>(
         W.contents out.old out.new result }
     ensures late { IfErr result IsLateOrMemory }
     ensures nothing { IfErr result (λ e. e ≢ Fault.Write → out.new ≡ out.old) }
+    ensures unflushed { Unflushed out.old out.new }
     ensures sink_stays { out.old.failed ≡ true → out.new ≡ out.old }
 {
     let valid = verdict_of(alloc, entry, instance)?;
@@ -102,6 +106,7 @@ fn tell_form<W: Write>(
         W.contents out.old out.new result }
     ensures late { IfErr result IsLateOrMemory }
     ensures nothing { IfErr result (λ e. e ≢ Fault.Write → out.new ≡ out.old) }
+    ensures unflushed { Unflushed out.old out.new }
     ensures sink_stays { out.old.failed ≡ true → out.new ≡ out.old }
 {
     let flat = rows_of(alloc, entry, format, instance)?;
@@ -123,6 +128,7 @@ fn tell_merged<W: Write>(
         W.contents out.old out.new result }
     ensures late { IfErr result IsLateOrMemory }
     ensures nothing { IfErr result (λ e. e ≢ Fault.Write → out.new ≡ out.old) }
+    ensures unflushed { Unflushed out.old out.new }
     ensures sink_stays { out.old.failed ≡ true → out.new ≡ out.old }
 {
     let tree = merged_of(alloc, entry, instance)?;

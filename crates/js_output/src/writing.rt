@@ -5,7 +5,7 @@ ghost use Rattle.js_doc.specs.Compact.{compact};
 ghost use Rattle.js_tree.specs.FlatState.{IsWholeTree, flat_state, whole_tree};
 ghost use Rattle.js_tree.specs.Form.{flag, shown, verbose};
 ghost use Rattle.js_tree.specs.Result.{ResultTree};
-ghost use Rattle.js_output.specs.Device.{SendsOrFails};
+ghost use Rattle.js_output.specs.Device.{SendsOrFails, Unflushed};
 
 use crate::fault::Fault;
 use crate::sink::Sink;
@@ -18,12 +18,13 @@ use std::io::Write;
 pub(crate) fn write_flag<W: Write>(valid: bool, out: &mut Sink<W>) -> Result<(), Fault>
     ensures sent { SendsOrFails W.contents out.old out.new (compact (flag valid) ++ 10 ∷ [])
         result }
+    ensures unflushed { Unflushed out.old out.new }
     ensures stays { out.old.failed ≡ true → out.new ≡ out.old }
 {
     if out.failed() {
         return Err(Fault::Write);
     }
-    put_flag_line(valid, out)?;
+    put_flag_line(valid, &mut out.writing)?;
     Ok(())
 }
 
@@ -37,12 +38,13 @@ pub(crate) fn write_rows<W: Write>(
     requires { IsWholeTree (flat_state flat.now) }
     ensures sent { (t : ResultTree) → flat_state flat.now ≡ whole_tree t
         → SendsOrFails W.contents out.old out.new (compact (shown format t) ++ 10 ∷ []) result }
+    ensures unflushed { Unflushed out.old out.new }
     ensures stays { out.old.failed ≡ true → out.new ≡ out.old }
 {
     if out.failed() {
         return Err(Fault::Write);
     }
-    put_rows_line(flat, format, out)?;
+    put_rows_line(flat, format, &mut out.writing)?;
     Ok(())
 }
 
@@ -50,12 +52,13 @@ pub(crate) fn write_rows<W: Write>(
 pub(crate) fn write_tree<W: Write>(tree: &Tree, out: &mut Sink<W>) -> Result<(), Fault>
     ensures sent { SendsOrFails W.contents out.old out.new (compact (verbose tree.now) ++ 10 ∷ [])
         result }
+    ensures unflushed { Unflushed out.old out.new }
     ensures stays { out.old.failed ≡ true → out.new ≡ out.old }
 {
     if out.failed() {
         return Err(Fault::Write);
     }
-    put_tree_line(tree, out)?;
+    put_tree_line(tree, &mut out.writing)?;
     Ok(())
 }
 

@@ -1,7 +1,7 @@
 //! Tests of the library crates' calls, and nothing else: each crate that they call is proved once, without tests.
 //!
 //! `hostile/run single` asks one test, `calls::by_itself`, call after call, and compares the answers with worked examples and
-//! with the reference.
+//! with the reference. `commands` runs the program's work over devices in memory; `usage` is the example of `docs/USING.md`.
 #![tactic(auto)]
 
 mod words;
@@ -10,3 +10,7 @@ pub use words::word_at;
 
 #[cfg(test)]
 mod calls;
+#[cfg(test)]
+mod commands;
+#[cfg(test)]
+mod usage;

@@ -1,9 +1,0 @@
-use Rattle.std.proofs.Common.{◌≡◌}
-use Rattle.js_cli.specs.code.Taken.{documents_taken}
-use Rattle.js_cli.proofs.Holding.{HoldsSoFar}
-use Rattle.js_cli.proofs.documents.take_all.Given as goal
-
-abbrev pub invariant-loop-document : goal.invariant-loop-document
-invariant-loop-document g l =
-    HoldsSoFar (g.F.Files.held l.initial.files) l.documents l.document-index (documents_taken l.all.items)
-    × (g.F.Files.held l.files ≡ g.F.Files.held l.initial.files)

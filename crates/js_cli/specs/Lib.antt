@@ -1,7 +1,0 @@
-pub mod Grammar
-pub mod Plain
-pub mod Words
-pub mod Found
-pub mod Answer
-pub mod Status
-pub mod code

@@ -1,2 +1,0 @@
--- What only private functions speak of: no public clause cites it.
-pub mod Taken

@@ -1,0 +1,11 @@
+pub mod PlainWords
+pub mod Walking
+pub mod Levels
+pub mod GrammarFacts
+pub mod Asked
+pub mod Pairs
+pub mod Holding
+pub mod FileFaults
+pub mod LastFlush
+pub mod InputUse
+pub mod Telling

@@ -1,0 +1,132 @@
+-- What the program answers, by where it stops.
+use Rattle.std.proofs.Common.{◌≡◌, ◌≢◌, ℕ, List, [], ◌∷◌, ◌++◌, Option, Some, None, Result, Ok, Err, OnErr, IsErrOf, Bool, true, false, ◌⊎◌, inl, inr, refl, sym, ap, subst, arith, ◌<◌}
+use Rattle.std.specs.Io.KnownBytes.{Keeps}
+use Rattle.js_output.specs.Cause.{MayGoOn}
+use Rattle.js_output.specs.Device.{Tracked, IsLeft, AppendsBeginning, Sends, SendsBeginning}
+use Rattle.js_output.specs.Documents.{DocumentTexts, documents_causes}
+use Rattle.js_output.specs.Outcome.{Output, Outcome, PairOutcome, telling_output, beginning_causes}
+use Rattle.js_output.specs.Places.{TellsPlaces, places_text}
+use Rattle.js_output.specs.Suite.{SuiteOutcome, telling_lines}
+use Rattle.js_output.specs.SuiteLines.{counts_of, lines_text}
+use Rattle.js_output.specs.Telling.{Answers}
+use Rattle.js_output.specs.declared.suite_lines.Counts.{Counts}
+use Rattle.js_output.specs.declared.fault.Fault.{Fault}
+use Rattle.js_output.specs.declared.fault.Fault.TheVariants as fault
+use Rattle.js_tree.specs.declared.forms.Format.{Format}
+use Rattle.js_command.specs.Answer.{AreHeld, MayReadAgain, OverFiles, PlacesOutcome, RequestOutcome, SuiteTold, all_passed, suite_output, WordsOutcome, Performs, IsPartlyTold, IsReason}
+use Rattle.js_command.specs.Files.{HeldByPath, IsFirstFileFault}
+use Rattle.js_command.specs.Status.{misuse_status}
+use Rattle.js_command.specs.declared.words.Misuse.{Misuse}
+use Rattle.js_command.specs.declared.words.Misuse.TheVariants as misuse
+use Rattle.js_command.specs.Words.{Pairs, files_of, Request, pair, check, suite, places, request_of}
+use Rattle.js_command.proofs.FileFaults.{input_fault}
+
+-- a file isn't taken
+pub performs-fault : {D : Type 0} (held : HeldByPath) (paths : List (List ℕ)) (Unread : Type 0) (P : Result Output Fault → Type 0) (taken : D → Option (List ℕ)) (old new : Tracked D) (e : Fault)
+    → (¬ (e ≡ fault.Memory) → IsFirstFileFault held paths e) → Performs (OverFiles held paths Unread P) taken old new (Err e)
+performs-fault held paths Unread P taken old new fault.Memory h = tt
+performs-fault held paths Unread P taken old new fault.Read h = inl (h (λ e. cc))
+performs-fault held paths Unread P taken old new fault.InputTooLarge h = inl (h (λ e. cc))
+performs-fault held paths Unread P taken old new fault.Write h = absurd (input_fault held paths fault.Write (h (λ e. cc)))
+performs-fault held paths Unread P taken old new _ h = absurd (input_fault held paths _ (h (λ e. cc)))
+
+module _ (words : List (List ℕ)) (held : HeldByPath) (input : Option (List ℕ)) (unread : Bool) (request : Request) (old new : Option (List ℕ)) (failed : Bool) where
+  -- where something failed
+  pub begun_or_kept : (e : Fault) → request_of words ≡ Ok request → (¬ (e ≡ fault.Write) → Keeps old new) → IsReason (RequestOutcome held input unread request) old new failed e
+      → Keeps old new ⊎ IsPartlyTold (WordsOutcome words held input unread) old new
+  begun_or_kept fault.Write asks kept (stands, (output, h, out)) = inr (output, (request, asks, h), out)
+  begun_or_kept _ asks kept reason = inl (kept (λ e. cc))
+
+  -- the reason is one by the words
+  pub words_reason : (e : Fault) → request_of words ≡ Ok request → IsReason (RequestOutcome held input unread request) old new failed e → IsReason (WordsOutcome words held input unread) old new failed e
+  words_reason fault.Memory asks reason = tt
+  words_reason fault.Write asks (stands, (output, h, out)) = (stands, (output, (request, asks, h), out))
+  words_reason _ asks reason = (request, asks, reason)
+
+-- ---- a check, and places
+
+module _ {D : Type 0} (held : HeldByPath) (pairs : Pairs) (documents : DocumentTexts) (taken : D → Option (List ℕ)) (old new : Tracked D) where
+  pub check_told : (format : Format) (instance entry bytes : List ℕ) (answer : Result Bool Fault) → AreHeld held pairs documents → IsLeft (held instance) bytes
+      → Answers telling_output (Outcome documents entry format) (beginning_causes documents entry) (Some bytes) taken old new answer
+      → Performs (RequestOutcome held None false (check format instance entry pairs)) taken old new answer
+  check_told format instance entry bytes (Ok valid) holds here (read, is, (output, h, same, sent)) =
+      (output, (documents, holds, (read, subst (IsLeft (held instance)) is here, h)), same, sent)
+  check_told format instance entry bytes (Err fault.Write) holds here (read, is, (output, h, begun)) =
+      (output, (documents, holds, (read, subst (IsLeft (held instance)) is here, h)), begun)
+  check_told format instance entry bytes (Err fault.Memory) holds here h = tt
+  check_told format instance entry bytes (Err fault.Read) holds here clear = inr (documents, holds, clear)
+  check_told format instance entry bytes (Err fault.InputTooLarge) holds here (read, is, h) = inr (documents, holds, (read, subst (IsLeft (held instance)) is here, h))
+  check_told format instance entry bytes (Err _) holds here (read, is, h) = (documents, holds, (read, subst (IsLeft (held instance)) is here, h))
+
+  pub places_told : AreHeld held pairs documents → MayGoOn (documents_causes documents) → Sends taken old new (places_text documents)
+      → Performs (RequestOutcome held None false (places pairs)) taken old new (Ok true)
+  places_told holds clear sent = (record { valid = true; text = places_text documents }, (documents, holds, (clear, refl)), refl, sent)
+
+  pub places_fault : (e : Fault) → AreHeld held pairs documents → TellsPlaces documents (Err e)
+      → (◌≡◌ {A = Result ℕ Fault} (Err e) (Err fault.Write) → SendsBeginning taken old new (places_text documents))
+      → Performs (RequestOutcome held None false (places pairs)) taken old new (Err e)
+  places_fault fault.Write holds tells begun = (record { valid = true; text = places_text documents }, (documents, holds, (tells, refl)), begun refl)
+  places_fault fault.Memory holds tells begun = tt
+  places_fault fault.Read holds tells begun = absurd tells
+  places_fault fault.InputTooLarge holds tells begun = inr (documents, holds, tells)
+  places_fault _ holds tells begun = (documents, holds, tells)
+
+  pub suite_told : (file bytes : List ℕ) (counts : Counts) → AreHeld held pairs documents → IsLeft (held file) bytes
+      → Answers telling_lines (SuiteOutcome documents) (documents_causes documents) (Some bytes) taken old new (Ok counts)
+      → Performs (RequestOutcome held None false (suite file pairs)) taken old new (Ok (all_passed counts))
+  suite_told file bytes counts holds here (read, is, (lines, h, same, sent)) =
+      (suite_output (counts_of lines) (lines_text lines), (documents, holds, (read, subst (IsLeft (held file)) is here, (lines, h, refl))), ap all_passed same, sent)
+
+  pub suite_fault : (file bytes : List ℕ) (e : Fault) → AreHeld held pairs documents → IsLeft (held file) bytes
+      → Answers telling_lines (SuiteOutcome documents) (documents_causes documents) (Some bytes) taken old new (Err e)
+      → Performs (RequestOutcome held None false (suite file pairs)) taken old new (Err e)
+  suite_fault file bytes fault.Write holds here (read, is, (lines, h, begun)) =
+      (suite_output (counts_of lines) (lines_text lines), (documents, holds, (read, subst (IsLeft (held file)) is here, (lines, h, refl))), begun)
+  suite_fault file bytes fault.Memory holds here h = tt
+  suite_fault file bytes fault.Read holds here clear = inr (documents, holds, clear)
+  suite_fault file bytes fault.InputTooLarge holds here (read, is, h) = inr (documents, holds, (read, subst (IsLeft (held file)) is here, h))
+  suite_fault file bytes _ holds here (read, is, h) = (documents, holds, (read, subst (IsLeft (held file)) is here, h))
+
+-- ---- a file isn't taken
+
+module _ {D : Type 0} (held : HeldByPath) (pairs : Pairs) (taken : D → Option (List ℕ)) (old new : Tracked D) where
+  pub check_untaken : (format : Format) (instance entry : List ℕ) (e : Fault) → (¬ (e ≡ fault.Memory) → IsFirstFileFault held (files_of pairs ++ instance ∷ []) e)
+      → Performs (RequestOutcome held None false (check format instance entry pairs)) taken old new (Err e)
+  check_untaken format instance entry e h =
+      performs-fault held (files_of pairs ++ instance ∷ []) (MayReadAgain held pairs (λ documents. beginning_causes documents entry))
+      (λ told. (documents : DocumentTexts) × AreHeld held pairs documents × ((bytes : List ℕ) × IsLeft (held instance) bytes × Outcome documents entry format bytes told)) taken old new e h
+
+  pub suite_untaken : (file : List ℕ) (e : Fault) → (¬ (e ≡ fault.Memory) → IsFirstFileFault held (files_of pairs ++ file ∷ []) e)
+      → Performs (RequestOutcome held None false (suite file pairs)) taken old new (Err e)
+  suite_untaken file e h =
+      performs-fault held (files_of pairs ++ file ∷ []) (MayReadAgain held pairs documents_causes)
+      (λ told. (documents : DocumentTexts) × AreHeld held pairs documents × ((bytes : List ℕ) × IsLeft (held file) bytes × SuiteTold documents bytes told)) taken old new e h
+
+  pub places_untaken : (e : Fault) → (¬ (e ≡ fault.Memory) → IsFirstFileFault held (files_of pairs) e) → Performs (RequestOutcome held None false (places pairs)) taken old new (Err e)
+  places_untaken e h =
+      performs-fault held (files_of pairs) ⊥ (λ told. (documents : DocumentTexts) × AreHeld held pairs documents × PlacesOutcome documents told) taken old new e h
+
+-- ---- a pair
+
+pub pair_told : {D : Type 0} (held : HeldByPath) (left : Option (List ℕ)) (failed : Bool) (taken : D → Option (List ℕ)) (old new : Tracked D) (answer : Result Bool Fault)
+    → Answers telling_output PairOutcome [] left taken old new answer → (answer ≢ Err fault.Memory → IsErrOf answer fault.Read → failed ≡ true)
+    → Performs (RequestOutcome held left failed pair) taken old new answer
+pair_told held left failed taken old new (Ok valid) (read, is, (output, h, same, sent)) fails = (output, (read, is, h), same, sent)
+pair_told held left failed taken old new (Err fault.Memory) h fails = tt
+pair_told held left failed taken old new (Err fault.Read) h fails = fails (λ e. cc) refl
+pair_told held left failed taken old new (Err fault.Write) (read, is, (output, h, begun)) fails = (output, (read, is, h), begun)
+pair_told held left failed taken old new (Err _) (read, is, h) fails = (read, is, h)
+
+-- words that aren't read are told by a status above 2 only where memory is wanting
+pub misuse_told : (m : Misuse) (status : ℕ) → status ≡ misuse_status m → 2 < status → status ≡ 4
+misuse_told misuse.Memory status e above = e
+misuse_told misuse.OtherForm status e above = absurd (omega (arith, e, above))
+misuse_told misuse.OddPairs status e above = absurd (omega (arith, e, above))
+
+-- such words end so
+pub misuse_ends : {A E : Type 0} (asked : Result A E) (m : Misuse) (status : ℕ) (Told : Type 0) → status ≡ misuse_status m → (status ≡ 4 → Told)
+    → OnErr asked ((status ≡ 2) ⊎ ((status ≡ 4) × Told))
+misuse_ends (Ok a) m status Told e told = tt
+misuse_ends (Err f) misuse.Memory status Told e told = inr (e, told e)
+misuse_ends (Err f) misuse.OtherForm status Told e told = inl e
+misuse_ends (Err f) misuse.OddPairs status Told e told = inl e

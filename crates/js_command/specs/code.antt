@@ -1,0 +1,3 @@
+-- What only private functions speak of: no public clause cites it.
+pub mod Taken
+pub mod Tasks

@@ -1,0 +1,48 @@
+-- Tasks, as the requests that they are, and why there is none.
+use Rattle.std.specs.Prelude.{◌≡◌, Bool, true, List, map, Option, None, Result, Ok, Err, ⊤}
+use Rattle.js_output.specs.Device.{Tracked}
+use Rattle.js_output.specs.declared.fault.Fault.{Fault}
+use Rattle.js_output.specs.declared.fault.Fault.TheVariants as fault
+use Rattle.js_command.specs.Words.{Pairs, Request, pair, check, suite, places}
+use Rattle.js_command.specs.declared.words.DocumentFile.{DocumentFile}
+use Rattle.js_command.specs.declared.words.Misuse.{Misuse}
+use Rattle.js_command.specs.declared.words.Misuse.TheVariants as misuse
+use Rattle.js_command.specs.declared.words.Task.{Task}
+use Rattle.js_command.specs.declared.words.Task.TheVariants as task
+
+abbrev pub pairs_seen : List DocumentFile → Pairs
+pairs_seen ds = map (λ d. (d.uri.now, d.file.now)) ds
+
+abbrev pub request_seen : Task → Request
+request_seen task.Pair = pair
+request_seen (task.Check c) = check c.format c.instance.now c.entry.now (pairs_seen c.documents.items)
+request_seen (task.Suite s) = suite s.file.now (pairs_seen s.documents.items)
+request_seen (task.Places ds) = places (pairs_seen ds.items)
+
+-- why the words ask for nothing; want of memory may come at any time
+abbrev pub IsMisuse : Result Request Misuse → Misuse → Type 0
+IsMisuse asked misuse.Memory = ⊤
+IsMisuse asked m = asked ≡ Err m
+
+-- why they have no pairs
+abbrev pub IsNoPairs : Option Pairs → Misuse → Type 0
+IsNoPairs found misuse.Memory = ⊤
+IsNoPairs found misuse.OddPairs = found ≡ None
+IsNoPairs found misuse.OtherForm = ⊥
+
+-- the first fault of an answer and of what comes after it
+abbrev pub first_fault : {A B : Type 0} → Result A Fault → Result B Fault → Result A Fault
+first_fault (Err f) after = Err f
+first_fault (Ok a) (Err f) = Err f
+first_fault (Ok a) (Ok b) = Ok a
+
+-- what a task answers where the input stands failed
+abbrev pub IsReadOrMemory : Result Bool Fault → Type 0
+IsReadOrMemory (Err fault.Memory) = ⊤
+IsReadOrMemory (Err fault.Read) = ⊤
+IsReadOrMemory _ = ⊥
+
+-- the input is read for a pair alone
+abbrev pub ReadsInput : {D : Type 0} → Request → Tracked D → Tracked D → Result Bool Fault → Type 0
+ReadsInput pair old new answer = new.failed ≡ true → IsReadOrMemory answer
+ReadsInput request old new answer = new ≡ old

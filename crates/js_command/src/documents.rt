@@ -1,0 +1,64 @@
+//! The schema documents that the words name, as their files hold them.
+ghost use Rattle.std.specs.Prelude.{◌≡◌, ◌≢◌, ◌∷◌, ◌++◌, [], IfOk, IfErr, OnOk};
+ghost use Rattle.js_output.specs.Documents.{documents_of};
+ghost use Rattle.js_command.specs.Answer.{AreHeld};
+ghost use Rattle.js_command.specs.Files.{IsFirstFileFault};
+ghost use Rattle.js_command.specs.Words.{files_of};
+ghost use Rattle.js_command.specs.code.Tasks.{pairs_seen};
+ghost use Rattle.js_command.specs.code.Taken.{documents_taken};
+
+use crate::files::Files;
+use crate::words::DocumentFile;
+use js_output::Fault;
+use std::alloc::{AllocFailed, Global};
+
+/// A schema document: its URI, and what its file holds.
+#[derive(Drop)]
+pub(crate) struct Taken<'a> {
+    pub(crate) uri: &'a str,
+    pub(crate) text: Vec<u8>,
+}
+
+/// Takes the files of the documents, one after another. Answers the fault of the first that isn't
+/// taken.
+pub(crate) fn take_all<'a, F: Files>(
+    alloc: Global,
+    documents: &[DocumentFile<'a>],
+    files: &mut F,
+) -> Result<Vec<Taken<'a>>, Fault>
+    ensures held { IfOk result (λ ds.
+        AreHeld (F.held files.old) (pairs_seen documents.now) (documents_taken ds.items)) }
+    ensures fault { IfErr result (λ e. e ≢ Fault.Memory → IsFirstFileFault (F.held files.old)
+        (files_of (pairs_seen documents.now)) e) }
+    ensures stays { F.held files.new ≡ F.held files.old }
+{
+    let mut all = Vec::new(alloc);
+    for document in documents {
+        let text = files.take(alloc, document.file)?;
+        let uri = document.uri;
+        append(&mut all, Taken { uri, text })?;
+    }
+    Ok(all)
+}
+
+/// The documents as a run takes them.
+pub(crate) fn handed_in<'t>(
+    alloc: Global,
+    taken: &'t [Taken<'t>],
+) -> Result<Vec<(&'t str, &'t [u8])>, Fault>
+    ensures docs { IfOk result (λ docs. documents_of docs.items ≡ documents_taken taken.entry.now) }
+    ensures faults { IfErr result (λ e. e ≡ Fault.Memory) }
+{
+    let mut docs = Vec::new(alloc);
+    for document in taken {
+        append(&mut docs, (document.uri, document.text.as_slice()))?;
+    }
+    Ok(docs)
+}
+
+/// Puts one more at the end.
+pub(crate) fn append<T: Drop>(list: &mut Vec<T>, item: T) -> Result<(), AllocFailed<T>>
+    ensures { OnOk result (list.new.items ≡ list.old.items ++ item ∷ []) }
+{
+    list.push(item)
+}

@@ -1,0 +1,25 @@
+//! Files, as the program reaches them.
+ghost use Rattle.std.specs.Prelude.{◌≡◌, ◌≤◌, ℕ, List, Option, None, IfOk, IfErr, length};
+ghost use Rattle.js_output.specs.Device.{IsLeft, input_limit};
+ghost use Rattle.js_command.specs.Files.{IsFileFault};
+
+use js_output::Fault;
+use std::alloc::Global;
+
+/// Files by their paths.
+pub trait Files {
+    // What a file holds, by its path, where that is known. Such a file can be read. On a disk
+    // nothing is known.
+    ghost held: { Self → List ℕ → Option (List ℕ) } = { λ _ _. None };
+
+    /// All bytes of a file.
+    ///
+    /// # Errors
+    /// `Memory`; `Read` where the file can't be opened or read; `InputTooLarge` where it holds more
+    /// than 16,777,216 bytes. After an error the files hold what they held.
+    fn take(&mut self, alloc: Global, path: &str) -> Result<Vec<u8>, Fault>
+        ensures bytes { IfOk result (λ bytes. IsLeft (held self.old path.now) bytes.items) }
+        ensures fits { IfOk result (λ bytes. length bytes.items ≤ input_limit) }
+        ensures fault { IfErr result (IsFileFault (held self.old path.now)) }
+        ensures stays { held self.new ≡ held self.old };
+}

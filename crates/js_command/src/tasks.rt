@@ -1,0 +1,108 @@
+//! The tasks, each over its files.
+ghost use Rattle.std.specs.Prelude.{◌≡◌, ◌≢◌, None, false, IfErr};
+ghost use Rattle.js_output.specs.Device.{Unflushed};
+ghost use Rattle.js_command.specs.Words.{places};
+ghost use Rattle.js_command.specs.declared.words.Task.{Task};
+ghost use Rattle.js_command.specs.Answer.{RequestOutcome, Performs, all_passed};
+ghost use Rattle.js_command.specs.code.Tasks.{ReadsInput, pairs_seen, request_seen};
+
+use crate::documents::{handed_in, take_all};
+use crate::files::Files;
+use crate::words::{Check, DocumentFile, Suite, Task};
+use js_output::{Counts, Fault, Sink, Source, run, run_pair, run_places, run_suite};
+use std::alloc::Global;
+use std::io::{Read, Write};
+
+/// Does a task: whether what comes of it is valid, passed or told, and its text goes to `out`.
+pub(crate) fn perform<F: Files, R: Read, W: Write>(
+    alloc: Global,
+    task: Task,
+    files: &mut F,
+    input: &mut Source<R>,
+    out: &mut Sink<W>,
+) -> Result<bool, Fault>
+    ensures answer { Performs
+        (RequestOutcome (F.held files.old) (R.remaining input.old.device) input.new.failed
+        (request_seen task.entry)) W.contents out.old out.new result }
+    ensures input { ReadsInput (request_seen task.entry) input.old input.new result }
+    ensures nothing { IfErr result (λ e. e ≢ Fault.Write → out.new ≡ out.old) }
+    ensures unflushed { Unflushed out.old out.new }
+{
+    match task {
+        Task::Pair => run_pair(alloc, input, out),
+        Task::Check(check) => perform_check(alloc, &check, files, out),
+        Task::Suite(suite) => perform_suite(alloc, &suite, files, out),
+        Task::Places(documents) => perform_places(alloc, documents.as_slice(), files, out),
+    }
+}
+
+fn perform_check<F: Files, W: Write>(
+    alloc: Global,
+    check: &Check,
+    files: &mut F,
+    out: &mut Sink<W>,
+) -> Result<bool, Fault>
+    ensures answer { Performs
+        (RequestOutcome (F.held files.old) None false (request_seen (Task.Check check.now)))
+        W.contents out.old out.new result }
+    ensures nothing { IfErr result (λ e. e ≢ Fault.Write → out.new ≡ out.old) }
+    ensures unflushed { Unflushed out.old out.new }
+{
+    let held = take_all(alloc, check.documents.as_slice(), files)?;
+    let docs = handed_in(alloc, held.as_slice())?;
+    let instance = files.take(alloc, check.instance)?;
+    let mut instance = Source::new(instance.as_slice());
+    run(
+        alloc,
+        docs.as_slice(),
+        check.entry,
+        &mut instance,
+        check.format,
+        out,
+    )
+}
+
+fn perform_suite<F: Files, W: Write>(
+    alloc: Global,
+    suite: &Suite,
+    files: &mut F,
+    out: &mut Sink<W>,
+) -> Result<bool, Fault>
+    ensures answer { Performs
+        (RequestOutcome (F.held files.old) None false (request_seen (Task.Suite suite.now)))
+        W.contents out.old out.new result }
+    ensures nothing { IfErr result (λ e. e ≢ Fault.Write → out.new ≡ out.old) }
+    ensures unflushed { Unflushed out.old out.new }
+{
+    let held = take_all(alloc, suite.documents.as_slice(), files)?;
+    let docs = handed_in(alloc, held.as_slice())?;
+    let text = files.take(alloc, suite.file)?;
+    let mut text = Source::new(text.as_slice());
+    let counts = run_suite(alloc, docs.as_slice(), &mut text, out)?;
+    Ok(all_passed(&counts))
+}
+
+// No test of a suite failed, and none was skipped.
+fn all_passed(counts: &Counts) -> bool
+    ensures { result ≡ all_passed counts.now }
+{
+    counts.failed == 0 && counts.skipped == 0
+}
+
+fn perform_places<F: Files, W: Write>(
+    alloc: Global,
+    documents: &[DocumentFile],
+    files: &mut F,
+    out: &mut Sink<W>,
+) -> Result<bool, Fault>
+    ensures answer { Performs
+        (RequestOutcome (F.held files.old) None false (places (pairs_seen documents.now)))
+        W.contents out.old out.new result }
+    ensures nothing { IfErr result (λ e. e ≢ Fault.Write → out.new ≡ out.old) }
+    ensures unflushed { Unflushed out.old out.new }
+{
+    let held = take_all(alloc, documents, files)?;
+    let docs = handed_in(alloc, held.as_slice())?;
+    run_places(alloc, docs.as_slice(), out)?;
+    Ok(true)
+}
