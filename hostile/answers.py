@@ -67,8 +67,8 @@ def of_values():
     yield in_turn("value", "put", "{}", "b", answer='Ok(()) {"b":true}', refused="Err(Memory) {}")
     yield Question(("value", "put", '{"a":1,"c":2}', "b"), 'Ok(()) {"a":1,"b":true,"c":2}')
     yield Question(("value", "put", '{"a":1,"c":2}', "c"), 'Ok(()) {"a":1,"c":true}')
-    for name, found in (("a", "1"), ("b", "none"), ("c", "2")):
-        yield quiet("value", "get", '{"c":2,"a":1}', name, answer=f"{found} c")
+    for name, found in (("a", "1 a"), ("b", "none"), ("c", "2 a")):
+        yield quiet("value", "get", '{"c":2,"a":1}', name, answer=found)
     for pointer, found in (("", polygon), ("/$defs/point/required/1", '"y"'), ("/$defs/point/required/01", "none"), ("/minItems/0", "none")):
         yield quiet("value", "at", cases.POLYGON, pointer, answer=found)
     yield from of_pointers()

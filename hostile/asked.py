@@ -66,7 +66,7 @@ def worked_examples():
         (URI, "^y", "y", "no pattern"), (URI, "a", "a", "no pattern"), (f"{URI}#/patternProperties/a+b", "^x", "x1", "no pattern"))],
         {URI: '{"properties":{"a":true},"patternProperties":{"^x":true,"a+b":{}},"additionalProperties":false}'})
     standing = '{"$comment":"","$dynamicAnchor":"a","contains":true,"minContains":2,"not":{},"title":"t","unevaluatedItems":true}'
-    yield Table("names of keywords", [quiet("place", URI, "standing", answer=f"document 0 at , resource 0 of 1, {URI}: {standing} "
+    yield Table("names of keywords", [quiet("place", URI, "standing", answer=f"true {URI}#, document 0 at , resource 0 of 1, {URI}: {standing} "
                 "[Comment, DynamicAnchor, Contains, AssertionBehindIf, Not, OtherBehindIf, UnevaluatedItems]")], {URI: standing})
 
 
@@ -105,11 +105,11 @@ def side_by_side():
     yield Question(("place", T, "resources"), lines([f"{URI}: {X}#", f"{X}: {X}#", f"{Y}: {Y}#", f"{T}: {T}#"]))
     itself = '{"$defs":{"p":{"$id":"y","not":true}},"$id":"x","allOf":[{"$anchor":"q"}]}'
     for uri, answer in (
-            (X, f"document 0 at , resource 0 of 3, {X}: {itself} [Defs, Id, AllOf]"),
-            (Y, f'document 0 at /$defs/p, resource 1 of 3, {Y}: {{"$id":"y","not":true}} [Id, Not]'),
-            (f"{Y}#/not", f"document 0 at /$defs/p/not, resource 1 of 3, {Y}: true []"),
-            (f"{X}#q", f'document 0 at /allOf/0, resource 0 of 3, {X}: {{"$anchor":"q"}} [Anchor]'),
-            (f"{T}#/items", f"document 1 at /items, resource 2 of 3, {T}: {{}} []")):
+            (X, f"true {X}#, document 0 at , resource 0 of 3, {X}: {itself} [Defs, Id, AllOf]"),
+            (Y, f'true {Y}#, document 0 at /$defs/p, resource 1 of 3, {Y}: {{"$id":"y","not":true}} [Id, Not]'),
+            (f"{Y}#/not", f"true {Y}#/not, document 0 at /$defs/p/not, resource 1 of 3, {Y}: true []"),
+            (f"{X}#q", f'true {X}#/allOf/0, document 0 at /allOf/0, resource 0 of 3, {X}: {{"$anchor":"q"}} [Anchor]'),
+            (f"{T}#/items", f"true {T}#/items, document 1 at /items, resource 2 of 3, {T}: {{}} []")):
         yield quiet("place", uri, "standing", answer=answer)
 
 
@@ -180,7 +180,7 @@ def of_place(place, number):
     """The words of each question, and the answer."""
     schema = place.schema if isinstance(place.schema, dict) else {}
     keywords = ", ".join(map(word, schema))
-    yield ("standing",), (f"document {place.document} at {pointer_text(place.pointer)}, resource {number}, {place.base.text()}: "
+    yield ("standing",), (f"true {place.absolute()}, document {place.document} at {pointer_text(place.pointer)}, resource {number}, {place.base.text()}: "
                           f"{text(place.schema)} [{keywords}]")
     yield ("target",), place.target.absolute() if place.target else "dynamic" if place.dynamic else "none"
     for (keyword, step), below in place.below.items():

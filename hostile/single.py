@@ -21,7 +21,8 @@ def single(room):
         ask(room, f"{table.name}, at once", table, table.questions)
         if quiet:
             ask(room, f"{table.name}, without memory", table, quiet, REFUSE_NTH=1, REFUSE_ALL=1, REFUSE_MARKED=1)
-        growths = [refuse_in_turn(room, table, [it], it.refused) for it in table.questions if it.in_turn]
+        growths = [refuse_in_turn(room, table, [it], it.refused + questions.RECORD)
+                   for it in table.questions if it.in_turn]
         if table.marked != "none":
             refused = "Memory" + questions.RECORD + questions.answers(table.questions)
             growths.append(refuse_in_turn(room, table, table.questions, refused))
@@ -44,7 +45,6 @@ def refuse_in_turn(room, table, asked_now, refused):
     """Asks with each growth of the marked calls refused in turn; answers how many there are."""
     name = f"{table.name}, {short(asked_now[0].words)}"
     own = questions.answers(asked_now)
-    refused += questions.RECORD * (len(asked_now) == 1)
     return in_turn(room, name, lambda number: one_run(room, table, asked_now, REFUSE_NTH=number, REFUSE_MARKED=1),
                    lambda got, told: judge_answer(own, refused, got, told))
 

@@ -25,7 +25,7 @@ pub fn finished(
             tell_memory(told, refusal)?;
             match bundle.finish(rt.alloc()) {
                 Ok(schemas) => Ok(schemas),
-                Err((refusal, _)) => Err(Fail::from(refusal)),
+                Err((refusal, _bundle)) => Err(Fail::from(refusal)),
             }
         }
     }
@@ -94,7 +94,7 @@ fn add_value(
             tell_memory(told, refusal)?;
             match bundle.add_doc(uri, value) {
                 Ok(()) => Ok(()),
-                Err((refusal, _)) => Err(Fail::from(refusal)),
+                Err((refusal, _value)) => Err(Fail::from(refusal)),
             }
         }
     }

@@ -82,6 +82,10 @@ fn changed(rt: &HostRuntime, call: &str, flat: Flat) -> Result<String, Fail>
         "flat_prune" => flat_prune(flat),
         _ => flat_condense(flat),
     };
+    let is_whole = made.whole();
     end(rt);
-    shown(rt.alloc(), &whole(made)?)
+    if !is_whole {
+        return Err(Fail::from("the rows are a whole tree's"));
+    }
+    shown(rt.alloc(), &made)
 }

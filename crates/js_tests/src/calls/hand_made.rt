@@ -29,7 +29,10 @@ pub fn answer(rt: &HostRuntime, words: &[&str]) -> Result<String, Fail> {
     }
     let mut boxed = Boxed::new(alloc);
     tell(alloc, events, &value, &mut boxed)?;
-    match boxed.tree() {
+    begin(rt);
+    let tree = boxed.tree();
+    end(rt);
+    match tree {
         Some(tree) => trees::answer(rt, call, more, tree),
         None => Err(Fail::from("the root has closed")),
     }

@@ -79,6 +79,8 @@ fn standing(rt: &HostRuntime, schemas: &Schemas, place: Place) -> Result<String,
     requires { is_place schemas.now place ≡ true }
 {
     begin(rt);
+    let is_place = schemas.has(place);
+    let location = schemas.absolute_of(place);
     let document = schemas.document(place);
     let pointer = schemas.pointer(place);
     let schema = schemas.schema(place);
@@ -91,7 +93,7 @@ fn standing(rt: &HostRuntime, schemas: &Schemas, place: Place) -> Result<String,
     let pointer = pointer.text(alloc)?;
     let schema = text(alloc, schema)?;
     Ok(format!(in alloc;
-        "document {document} at {pointer}, resource {number} of {count}, {resource}: {schema} {keywords:?}"
+        "{is_place} {location}, document {document} at {pointer}, resource {number} of {count}, {resource}: {schema} {keywords:?}"
     )?)
 }
 

@@ -42,7 +42,7 @@ fn judged<'a>(
         "verdict" => verdict(alloc, schemas, place, value),
         _ => match walk_into(alloc, schemas, place, value, Verdict::new()) {
             Ok(verdict) => Ok(verdict.valid() == Some(true)),
-            Err((fault, _)) => Err(fault),
+            Err((fault, _verdict)) => Err(fault),
         },
     };
     end(rt);
@@ -70,7 +70,7 @@ fn on_tree<'a>(
     let made = match call {
         "walk_into_boxed" => match walk_into(alloc, schemas, place, value, Boxed::new(alloc)) {
             Ok(boxed) => Ok(boxed.tree()),
-            Err((fault, _)) => Err(fault),
+            Err((fault, _boxed)) => Err(fault),
         },
         _ => match walk(alloc, schemas, place, value) {
             Ok(tree) => Ok(Some(tree)),
@@ -104,7 +104,7 @@ fn on_rows<'a>(
     end(rt);
     match made {
         Ok(flat) => flat_lists::answer(rt, call, word_at(words, 3), flat),
-        Err((fault, _)) => Ok(format!(in alloc; "{fault:?}")?),
+        Err((fault, _flat)) => Ok(format!(in alloc; "{fault:?}")?),
     }
 }
 
@@ -146,7 +146,7 @@ fn refused<'a>(
             let left = refusing.left;
             format!(in rt.alloc(); "{left} left")?
         }
-        Err((fault, _)) => format!(in rt.alloc(); "{fault:?}")?,
+        Err((fault, _refusing)) => format!(in rt.alloc(); "{fault:?}")?,
     };
     Ok(answer)
 }

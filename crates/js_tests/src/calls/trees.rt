@@ -104,7 +104,7 @@ fn moved(rt: &HostRuntime, call: &str, moves: &str, tree: Tree) -> Result<String
     let made = match (call, moves.first()) {
         ("apply", Some(first)) => match apply(tree, first) {
             Ok(left) => Ok(left),
-            Err((_, left)) => Err((0, left)),
+            Err((_refused, left)) => Err((0, left)),
         },
         _ => replay(tree, moves.as_slice()),
     };

@@ -96,7 +96,7 @@ fn value_seen(rt: &HostRuntime, call: &str, source: &str, more: &str) -> Result<
     }
 }
 
-// An object into which `true` is put under a name; or the value of a name, and the last name of all.
+// An object into which `true` is put under a name; or the value of a name, and the first name of all.
 fn members_called(rt: &HostRuntime, call: &str, object: &str, name: &str) -> Result<String, Fail> {
     let alloc = rt.alloc();
     let Doc::Members(mut members) = read(alloc, object.as_bytes())? else {
@@ -110,19 +110,17 @@ fn members_called(rt: &HostRuntime, call: &str, object: &str, name: &str) -> Res
         let stands = text(alloc, &Doc::Members(members))?;
         return Ok(format!(in alloc; "{made:?} {stands}")?);
     }
-    let mut last = "";
     begin(rt);
     let found = members.get(name);
-    for (name, _) in members.pairs() {
-        last = name.as_str();
-    }
+    let first = members.pairs().next();
     end(rt);
-    match found {
-        Some(found) => {
+    match (found, first) {
+        (Some(found), Some((first, _))) => {
+            let first = first.as_str();
             let found = text(alloc, found)?;
-            Ok(format!(in alloc; "{found} {last}")?)
+            Ok(format!(in alloc; "{found} {first}")?)
         }
-        None => Ok(format!(in alloc; "none {last}")?),
+        _ => Ok(String::from_str(alloc, "none")?),
     }
 }
 
