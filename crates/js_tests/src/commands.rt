@@ -9,6 +9,7 @@ use js_output::{Fault, Sink, Source, read_all};
 use std::alloc::Global;
 use std::io;
 use std::io::{ErrorKind, Write};
+use std::test::Fail;
 
 const URI: &str = "https://a.example/s";
 
