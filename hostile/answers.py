@@ -98,14 +98,17 @@ def of_assertions():
     yield in_turn("value", "pattern", "a+b", "xaaby", answer="Ok(true) true")
     yield in_turn("value", "matches", "a+b", "xaaby", answer="Ok(true) true", refused="Err(Memory) true")
     yield in_turn("value", "searcher", "a+b", "xaaby", answer="Ok(true) true")
-    yield quiet("value", "search", "a+b", "xaaby", answer="Ok(true) true")
+    # where a searcher may match it asks for memory, and answers without it too
+    yield in_turn("value", "search", "a+b", "xaaby", answer="Ok(true) true", refused="Ok(true) true")
     yield quiet("value", "search", "a+b", "ba", answer="Ok(false) false")
     yield Question(("value", "pattern", "(", ""), "NotAPattern")
     missing = 'missing: ["y","z"]'
     for call in ("assertion", "check", "error"):
         yield in_turn("value", call, "required", '["y","z"]', "{}", answer=missing)
     yield in_turn("value", "holds", "pattern", '"a+b"', '"xaaby"', answer="Ok(true)", refused="Err(Memory)")
-    yield in_turn("value", "holds", "uniqueItems", "true", "[[1],[2],[1]]", answer="Ok(false)", refused="Err(Memory)")
+    # (a short array takes none)
+    items = text([[it] for it in range(1_000)] + [[7]])
+    yield in_turn("value", "holds", "uniqueItems", "true", items, answer="Ok(false)", refused="Err(Memory)")
 
 
 def of_bundles():
@@ -114,7 +117,7 @@ def of_bundles():
         entry, documents, instance = ROWS["polygon"]
         entries = [entry, *more]
         documents = {**documents, **more}
-        questions = [Question(("result", it, instance, "walk"), text(forms.tree(result_of(documents, it, instance)))) for it in entries]
+        questions = [Question(("result", it, instance, "tree"), text(forms.tree(result_of(documents, it, instance)))) for it in entries]
         yield Table(f"{marked} of the polygon", questions, documents, marked)
 
 
