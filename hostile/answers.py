@@ -34,9 +34,10 @@ def tables():
 
 # A text, and the compact text of what it is read as.
 READ = (
-    ("null", "null"), (" true ", "true"), ("false", "false"), ("0", "0"), ("18446744073709551615", "18446744073709551615"),
-    ("-9223372036854775808", "-9223372036854775808"), (r'"a\"\n\u0001\u00e9\/"', '"a\\"\\n\\u0001\u00e9/"'), ("[ ]", "[]"),
-    ("[1, [2], {}]", "[1,[2],{}]"), ('{"b": 1, "a": {"d": [], "c": ""}}', '{"a":{"c":"","d":[]},"b":1}'),
+    ("null", "null"), (" true ", "true"), ("false", "false"), ("0", "0"),
+    ("18446744073709551615", "18446744073709551615"), ("-9223372036854775808", "-9223372036854775808"),
+    (r'"a\"\n\u0001\u00e9\/"', '"a\\"\\n\\u0001\u00e9/"'), ("[ ]", "[]"), ("[1, [2], {}]", "[1,[2],{}]"),
+    ('{"b": 1, "a": {"d": [], "c": ""}}', '{"a":{"c":"","d":[]},"b":1}'),
     ('{"a":1,"a":2}', '{"a":2}'), ('{"a":1.5,"a":2}', '{"a":2}'))
 # The text of a pointer, and its fragment.
 POINTERS = (
@@ -69,7 +70,8 @@ def of_values():
     yield Question(("value", "put", '{"a":1,"c":2}', "c"), 'Ok(()) {"a":1,"c":true}')
     for name, found in (("a", "1 a"), ("b", "none"), ("c", "2 a")):
         yield quiet("value", "get", '{"c":2,"a":1}', name, answer=found)
-    for pointer, found in (("", polygon), ("/$defs/point/required/1", '"y"'), ("/$defs/point/required/01", "none"), ("/minItems/0", "none")):
+    for pointer, found in (("", polygon), ("/$defs/point/required/1", '"y"'), ("/$defs/point/required/01", "none"),
+                           ("/minItems/0", "none")):
         yield quiet("value", "at", cases.POLYGON, pointer, answer=found)
     yield from of_pointers()
     yield from of_assertions()
@@ -77,18 +79,21 @@ def of_values():
 
 def of_pointers():
     for pointer, escaped in POINTERS:
-        for call, given, answer in (("parse", pointer, pointer), ("from_fragment", escaped, pointer), ("pointer", pointer, pointer),
-                                    ("fragment", pointer, escaped), ("copy_pointer", pointer, pointer)):
+        for call, given, answer in (
+                ("parse", pointer, pointer), ("from_fragment", escaped, pointer), ("pointer", pointer, pointer),
+                ("fragment", pointer, escaped), ("copy_pointer", pointer, pointer)):
             yield Question(("value", call, given), answer)
     for given in ("a", "a/b", "/~", "/~2", "/a~", "~0"):
         for call in ("parse", "from_fragment"):
             yield Question(("value", call, given), "BadPointer")
     for call, given, answer in (
             ("parse", "/a~1b/c d/~0/0", "/a~1b/c d/~0/0"), ("from_fragment", "/a~1b/c%20d", "/a~1b/c d"),
-            ("pointer", "/a~1b/c d", "/a~1b/c d"), ("fragment", "/a~1b/c d", "/a~1b/c%20d"), ("copy_pointer", "/a~1b", "/a~1b")):
+            ("pointer", "/a~1b/c d", "/a~1b/c d"), ("fragment", "/a~1b/c d", "/a~1b/c%20d"),
+            ("copy_pointer", "/a~1b", "/a~1b")):
         yield in_turn("value", call, given, answer=answer)
     yield in_turn("value", "further", "/a~1b", "c d", answer="/a~1b/c d")
-    yield in_turn("value", "push", "/a~1b/0/1/2", "c d", answer="Ok(()) /a~1b/0/1/2/c d", refused="Err(Memory) /a~1b/0/1/2")
+    yield in_turn("value", "push", "/a~1b/0/1/2", "c d",
+                  answer="Ok(()) /a~1b/0/1/2/c d", refused="Err(Memory) /a~1b/0/1/2")
     for token, *told in TOKENS:
         for call, answer in zip(("push_token", "push_fragment_token", "push_string"), told):
             yield in_turn("value", call, token, answer=answer)
@@ -113,11 +118,12 @@ def of_assertions():
 
 def of_bundles():
     """Bundles whose own calls are refused: `add` and `add_doc` of each document, and `finish`."""
-    for marked, more in (("add", {SECOND: '{"type":"integer"}'}), ("add_doc", {SECOND: '{"type":"integer"}'}), ("finish", {})):
+    second = {SECOND: '{"type":"integer"}'}
+    for marked, more in (("add", second), ("add_doc", second), ("finish", {})):
         entry, documents, instance = ROWS["polygon"]
-        entries = [entry, *more]
         documents = {**documents, **more}
-        questions = [Question(("result", it, instance, "tree"), text(forms.tree(result_of(documents, it, instance)))) for it in entries]
+        questions = [Question(("result", it, instance, "tree"), text(forms.tree(result_of(documents, it, instance))))
+                     for it in (entry, *more)]
         yield Table(f"{marked} of the polygon", questions, documents, marked)
 
 
@@ -135,7 +141,8 @@ def is_normal(node):
 
 def is_merged(node):
     nodes = node.children
-    return is_normal(node) and all(map(is_merged, nodes)) and not any(forms.alike(it, nodes[i]) for n, it in enumerate(nodes) for i in range(n))
+    return is_normal(node) and all(map(is_merged, nodes)) and not any(
+        forms.alike(it, nodes[i]) for n, it in enumerate(nodes) for i in range(n))
 
 
 def of_result(row):
@@ -152,7 +159,8 @@ def of_result(row):
     # (a node is two calls of a collector)
     calls = 2 * moves.size(node)
     for given in range(calls + 2):
-        yield Question(("result", entry, instance, "refusing", str(given)), "Memory" if given < calls else f"{given - calls} left")
+        answer = "Memory" if given < calls else f"{given - calls} left"
+        yield Question(("result", entry, instance, "refusing", str(given)), answer)
 
 
 def of_tree(node, words):
@@ -169,8 +177,9 @@ def of_tree(node, words):
         yield in_turn(*words, "flat_doc", it, answer=text(forms.form(node, it)))
         yield quiet(*words, "put_flat", it, answer=text(forms.form(node, it)))
     yield quiet(*words, "put_tree", answer=whole)
-    for call, answer in (("prune", pruned), ("flat_prune", pruned), ("condense", condensed), ("flat_condense", condensed),
-                         ("merge_condense", text(forms.tree(forms.merged(node))))):
+    for call, answer in (
+            ("prune", pruned), ("flat_prune", pruned), ("condense", condensed), ("flat_condense", condensed),
+            ("merge_condense", text(forms.tree(forms.merged(node))))):
         yield quiet(*words, call, answer=answer)
     for call, holds in (("is_normal", is_normal), ("is_merged", is_merged)):
         yield quiet(*words, call, answer="true" if holds(node) else "false")
@@ -197,10 +206,6 @@ SUITE = ('[{"description":"g","schema":{"type":"integer"},"tests":[{"description
          '{"description":"s","data":"x","valid":true},{"description":"f","data":1.5,"valid":true}]}]')
 SUITE_LINES = 'pass 0.0 "i"\nfail 0.1 "s"\nskip 0.2 "f"\npassed 1, failed 1, skipped 1\n'
 LOCATIONS = "https://a.example/x#\nhttps://a.example/y#\nhttps://a.example/y#/not\nhttps://a.example/x#/allOf/0\n"
-
-
-def small_suite():
-    return SUITE
 
 
 def of_runs():
@@ -232,13 +237,18 @@ def run_table(what, documents, entry, given, answer, written):
     table = [
         quiet(*asked(), answer=told(answer, done, f"{end}, Ok(())", (then, writes + 1), "(false, false)", written)),
         # the flush fails by itself
-        Question(asked(fails_write=writes + 1), told(answer, done, f"{end}, {no_write}", (then, writes + 1), "(false, true)", written)),
+        Question(asked(fails_write=writes + 1),
+                 told(answer, done, f"{end}, {no_write}", (then, writes + 1), "(false, true)", written)),
         # a writer that takes nothing is called once
-        Question(asked(step=0), told("failed: Write", (reads, 1), f"{end}, {no_write}", (then, 1), "(false, true)", ""))]
+        Question(asked(step=0),
+                 told("failed: Write", (reads, 1), f"{end}, {no_write}", (then, 1), "(false, true)", ""))]
     for how in ("", "interrupted"):
         for k in range(1, reads + 1):
-            table.append(Question(asked(k, how), told("failed: Read", (k, 0), f"{no_read}, Ok(())", (k, 1), "(true, false)", "")))
+            table.append(Question(asked(k, how),
+                                  told("failed: Read", (k, 0), f"{no_read}, Ok(())", (k, 1), "(true, false)", "")))
     for k in range(1, writes + 1):
         begun = written.encode()[:k - 1].decode()
-        table.append(Question(asked(fails_write=k), told("failed: Write", (reads, k), f"{end}, {no_write}", (then, k), "(false, true)", begun)))
+        table.append(Question(
+            asked(fails_write=k),
+            told("failed: Write", (reads, k), f"{end}, {no_write}", (then, k), "(false, true)", begun)))
     return Table(f"a run of {what}: {reads} reads and {writes} writes, each failed in turn", table, documents)

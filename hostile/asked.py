@@ -1,5 +1,7 @@
-"""What finished schemas are asked of their places: worked examples, and each place of a wide bundle and of a deep one, for which the
-reference answers."""
+"""What finished schemas are asked of their places.
+
+There are worked examples, and each place of a wide bundle and of a deep one, for which the reference answers.
+"""
 import cases
 from assertions import FORMS, compiled, error
 from bundle import ALONE, LISTS, OBJECTS, TEXTS, Bundle
@@ -34,7 +36,8 @@ def worked_examples():
     """Answers by hand, from the standard."""
     polygon = "https://example.com/polygon"
     point = f"{polygon}#/$defs/point"
-    places = [f"{polygon}#", point, f"{point}/additionalProperties", f"{point}/properties/x", f"{point}/properties/y", f"{polygon}#/items"]
+    places = [f"{polygon}#", point, f"{point}/additionalProperties", f"{point}/properties/x", f"{point}/properties/y",
+              f"{polygon}#/items"]
     yield Table("places of the polygon", [
         in_turn("place", polygon, "entry", answer=f"{polygon}#"),
         in_turn("place", polygon, "places", answer=lines(places)),
@@ -42,7 +45,8 @@ def worked_examples():
         in_turn("place", f"{polygon}#/$defs/point", "absolute", "a b/c", answer=f"{point}/a%20b~1c"),
         *of_bundle({URI: cases.POLYGON})], {URI: cases.POLYGON})
     yield Table("an embedded resource", list(embedded()), {URI: EMBEDDED})
-    yield Table("documents side by side", list(side_by_side()), {URI: EMBEDDED, T: '{"$id":"https://a.example/t","items":{}}'})
+    yield Table("documents side by side", list(side_by_side()),
+                {URI: EMBEDDED, T: '{"$id":"https://a.example/t","items":{}}'})
     yield Table("places of a strict tree", list(of_trees()), TREES)
     yield Table("a dynamic scope over documents", list(of_scopes()), SCOPES)
     for schema, target in TARGETS:
@@ -55,19 +59,26 @@ def worked_examples():
         quiet("place", f"{uri}", "target", answer=target) for uri, target in (
             ("https://a.example/y/", "https://a.example/y/#"), ("https://a.example/z/", "https://a.example/y/#"))],
         {URI: '{"$anchor":"q","allOf":[{"$id":"y/","$ref":"#q","$anchor":"q"},{"$id":"z/","$ref":"../y/"}]}'})
-    yield Table("assertions of places", [quiet("place", uri, "assertion", keyword, value, answer=answer) for uri, keyword, value, answer in (
-        (URI, "maxLength", '"a"', "holds"), (URI, "maxLength", '"ab"', "2 characters, at most 1"),
-        (URI, "minContains", "[1]", "1 matching items, at least 2"), (URI, "contains", "[1]", "no assertion"),
-        (URI, "title", "1", "no assertion"), (URI, "minimum", "1", "no assertion"), (f"{URI}#/not", "minimum", "3", "less than 5"),
-        (f"{URI}#/not", "maxLength", '"ab"', "no assertion"), (T, "minContains", "[1]", "holds"))],
-        {URI: '{"contains":true,"maxLength":1,"minContains":2,"not":{"minimum":5},"title":"t"}', T: '{"minContains":2}'})
-    yield Table("patterns of places", [quiet("place", uri, "pattern", name, value, answer=answer) for uri, name, value, answer in (
-        (URI, "^x", "x1", "holds"), (URI, "^x", "b", "fails"), (URI, "a+b", "xaaby", "holds"), (URI, "a+b", "ba", "fails"),
-        (URI, "^y", "y", "no pattern"), (URI, "a", "a", "no pattern"), (f"{URI}#/patternProperties/a+b", "^x", "x1", "no pattern"))],
+    yield Table("assertions of places", [
+        quiet("place", uri, "assertion", keyword, value, answer=answer) for uri, keyword, value, answer in (
+            (URI, "maxLength", '"a"', "holds"), (URI, "maxLength", '"ab"', "2 characters, at most 1"),
+            (URI, "minContains", "[1]", "1 matching items, at least 2"), (URI, "contains", "[1]", "no assertion"),
+            (URI, "title", "1", "no assertion"), (URI, "minimum", "1", "no assertion"),
+            (f"{URI}#/not", "minimum", "3", "less than 5"), (f"{URI}#/not", "maxLength", '"ab"', "no assertion"),
+            (T, "minContains", "[1]", "holds"))],
+        {URI: '{"contains":true,"maxLength":1,"minContains":2,"not":{"minimum":5},"title":"t"}',
+         T: '{"minContains":2}'})
+    yield Table("patterns of places", [
+        quiet("place", uri, "pattern", name, value, answer=answer) for uri, name, value, answer in (
+            (URI, "^x", "x1", "holds"), (URI, "^x", "b", "fails"), (URI, "a+b", "xaaby", "holds"),
+            (URI, "a+b", "ba", "fails"), (URI, "^y", "y", "no pattern"), (URI, "a", "a", "no pattern"),
+            (f"{URI}#/patternProperties/a+b", "^x", "x1", "no pattern"))],
         {URI: '{"properties":{"a":true},"patternProperties":{"^x":true,"a+b":{}},"additionalProperties":false}'})
-    standing = '{"$comment":"","$dynamicAnchor":"a","contains":true,"minContains":2,"not":{},"title":"t","unevaluatedItems":true}'
-    yield Table("names of keywords", [quiet("place", URI, "standing", answer=f"true {URI}#, document 0 at , resource 0 of 1, {URI}: {standing} "
-                "[Comment, DynamicAnchor, Contains, AssertionBehindIf, Not, OtherBehindIf, UnevaluatedItems]")], {URI: standing})
+    standing = ('{"$comment":"","$dynamicAnchor":"a","contains":true,"minContains":2,"not":{},"title":"t",'
+                '"unevaluatedItems":true}')
+    names = "[Comment, DynamicAnchor, Contains, AssertionBehindIf, Not, OtherBehindIf, UnevaluatedItems]"
+    answer = f"true {URI}#, document 0 at , resource 0 of 1, {URI}: {standing} {names}"
+    yield Table("names of keywords", [quiet("place", URI, "standing", answer=answer)], {URI: standing})
 
 
 def lines(texts):
@@ -77,31 +88,39 @@ def lines(texts):
 def embedded():
     """A resource within a resource: its names, and what stands below its places."""
     for uri, answer in (
-            (URI, f"{X}#"), (X, f"{X}#"), (f"{X}#", f"{X}#"), (f"{URI}#/$defs/p", f"{Y}#"), (f"{URI}#/%24defs/%70", f"{Y}#"),
-            (f"{X}#/$defs/p", f"{Y}#"), (Y, f"{Y}#"), (f"{Y}#/not", f"{Y}#/not"), (f"{URI}#/$defs/p/not", f"{Y}#/not"),
-            (f"{URI}#q", f"{X}#/allOf/0"), (f"{X}#%71", f"{X}#/allOf/0"), (" HTTPS://A.example/./s#\tq\n", f"{X}#/allOf/0"),
-            (f"{Y}#q", "Unresolved"), (f"{Y}#/$defs/p", "Unresolved"), (f"{URI}#/$defs", "Unresolved"), (f"{URI}#r", "Unresolved"),
-            (T, "Unresolved"), ("x y", "BadUri"), ("", "BadUri"), (f"{URI}#/~2", "BadUri"), (f"{URI}#%FF", "BadUri"), (f"{T}#/~2", "BadUri")):
+            (URI, f"{X}#"), (X, f"{X}#"), (f"{X}#", f"{X}#"), (f"{URI}#/$defs/p", f"{Y}#"),
+            (f"{URI}#/%24defs/%70", f"{Y}#"), (f"{X}#/$defs/p", f"{Y}#"), (Y, f"{Y}#"), (f"{Y}#/not", f"{Y}#/not"),
+            (f"{URI}#/$defs/p/not", f"{Y}#/not"), (f"{URI}#q", f"{X}#/allOf/0"), (f"{X}#%71", f"{X}#/allOf/0"),
+            (" HTTPS://A.example/./s#\tq\n", f"{X}#/allOf/0"),
+            (f"{Y}#q", "Unresolved"), (f"{Y}#/$defs/p", "Unresolved"), (f"{URI}#/$defs", "Unresolved"),
+            (f"{URI}#r", "Unresolved"), (T, "Unresolved"),
+            ("x y", "BadUri"), ("", "BadUri"), (f"{URI}#/~2", "BadUri"), (f"{URI}#%FF", "BadUri"),
+            (f"{T}#/~2", "BadUri")):
         yield Question(("place", uri, "entry"), answer)
     yield in_turn("place", f"{URI}#/$defs/p/not", "entry", answer=f"{Y}#/not")
     yield in_turn("place", Y, "absolute", "a b/c", answer=f"{Y}#/a%20b~1c")
     yield in_turn("place", URI, "places", answer=lines([f"{X}#", f"{Y}#", f"{Y}#/not", f"{X}#/allOf/0"]))
     yield in_turn("place", URI, "resources", answer=lines([f"{URI}: {X}#", f"{X}: {X}#", f"{Y}: {Y}#"]))
-    for uri, keyword, answer in ((URI, "allOf", f"{X}#/allOf"), (Y, "not", f"{Y}#/not"), (f"{URI}#q", "$anchor", f"{X}#/allOf/0/$anchor"),
-                                 (Y, "a~", f"{Y}#/a~0")):
+    for uri, keyword, answer in (
+            (URI, "allOf", f"{X}#/allOf"), (Y, "not", f"{Y}#/not"),
+            (f"{URI}#q", "$anchor", f"{X}#/allOf/0/$anchor"), (Y, "a~", f"{Y}#/a~0")):
         yield Question(("place", uri, "absolute", keyword), answer)
     p = '{"$id":"y","not":true}'
     for uri, step, answer in (
-            (URI, ("name", "$defs", "p"), f"{Y}# {Y}#: {p}"), (URI, ("index", "allOf", "0"), f'{X}#/allOf/0 {X}#/allOf/0: {{"$anchor":"q"}}'),
-            (Y, ("alone", "not"), f"{Y}#/not {Y}#/not: true"), (URI, ("name", "$defs", "q"), "none"), (URI, ("index", "$defs", "0"), "none"),
-            (URI, ("alone", "$defs"), "none"), (URI, ("index", "allOf", "1"), "none"), (URI, ("name", "allOf", "0"), "none"),
-            (URI, ("alone", "allOf"), "none"), (URI, ("alone", "not"), "none"), (URI, ("alone", "$id"), "none"),
-            (Y, ("index", "not", "0"), "none"), (Y, ("name", "not", ""), "none"), (f"{Y}#/not", ("alone", "not"), "none")):
+            (URI, ("name", "$defs", "p"), f"{Y}# {Y}#: {p}"),
+            (URI, ("index", "allOf", "0"), f'{X}#/allOf/0 {X}#/allOf/0: {{"$anchor":"q"}}'),
+            (Y, ("alone", "not"), f"{Y}#/not {Y}#/not: true"),
+            (URI, ("name", "$defs", "q"), "none"), (URI, ("index", "$defs", "0"), "none"),
+            (URI, ("alone", "$defs"), "none"), (URI, ("index", "allOf", "1"), "none"),
+            (URI, ("name", "allOf", "0"), "none"), (URI, ("alone", "allOf"), "none"), (URI, ("alone", "not"), "none"),
+            (URI, ("alone", "$id"), "none"), (Y, ("index", "not", "0"), "none"), (Y, ("name", "not", ""), "none"),
+            (f"{Y}#/not", ("alone", "not"), "none")):
         yield quiet("place", uri, *step, answer=answer)
 
 
 def side_by_side():
-    yield Question(("place", T, "places"), lines([f"{X}#", f"{Y}#", f"{Y}#/not", f"{X}#/allOf/0", f"{T}#", f"{T}#/items"]))
+    places = [f"{X}#", f"{Y}#", f"{Y}#/not", f"{X}#/allOf/0", f"{T}#", f"{T}#/items"]
+    yield Question(("place", T, "places"), lines(places))
     yield Question(("place", T, "resources"), lines([f"{URI}: {X}#", f"{X}: {X}#", f"{Y}: {Y}#", f"{T}: {T}#"]))
     itself = '{"$defs":{"p":{"$id":"y","not":true}},"$id":"x","allOf":[{"$anchor":"q"}]}'
     for uri, answer in (
@@ -137,19 +156,22 @@ TARGETS = (
     ('{"$ref":"#q","$defs":{"x":{"$anchor":"q","const":1}}}', f"{URI}#/$defs/x"),
     ('{"$ref":"#/$defs/%61","$defs":{"a":{"const":1}}}', f"{URI}#/$defs/a"),
     ('{"$ref":"#"}', f"{URI}#"), ('{"$ref":""}', f"{URI}#"), ('{"$id":"x","$ref":"s"}', f"{X}#"),
-    ('{"$ref":"y","$defs":{"p":{"$id":"y"}}}', f"{Y}#"), ('{"$ref":"y#/not","$defs":{"p":{"$id":"y","not":true}}}', f"{Y}#/not"),
+    ('{"$ref":"y","$defs":{"p":{"$id":"y"}}}', f"{Y}#"),
+    ('{"$ref":"y#/not","$defs":{"p":{"$id":"y","not":true}}}', f"{Y}#/not"),
     ('{"$dynamicRef":""}', "dynamic"), ("true", "none"))
 INNER = '"y":{"$id":"y","$dynamicAnchor":"n"}'
 DYNAMIC_TARGETS = (
     # a pointer is never dynamic, nor is an empty fragment, nor a name by `$anchor` alone
-    ('{"$dynamicRef":"y#/$defs/x","$defs":{"o":{"$dynamicAnchor":"n","const":2},"y":{"$id":"y","$defs":{"x":{"$dynamicAnchor":"n","const":1}}}}}',
-     f"{Y}#/$defs/x"),
+    ('{"$dynamicRef":"y#/$defs/x","$defs":{"o":{"$dynamicAnchor":"n","const":2},'
+     '"y":{"$id":"y","$defs":{"x":{"$dynamicAnchor":"n","const":1}}}}}', f"{Y}#/$defs/x"),
     (f'{{"$dynamicRef":"y","$defs":{{"o":{{"$dynamicAnchor":"n"}},{INNER}}}}}', f"{Y}#"),
-    ('{"$dynamicRef":"y#n","$defs":{"o":{"$dynamicAnchor":"n"},"y":{"$id":"y","$defs":{"x":{"$anchor":"n"}}}}}', f"{Y}#/$defs/x"),
+    ('{"$dynamicRef":"y#n","$defs":{"o":{"$dynamicAnchor":"n"},"y":{"$id":"y","$defs":{"x":{"$anchor":"n"}}}}}',
+     f"{Y}#/$defs/x"),
     # the entry's resource counts; the name may be escaped; the first target may have it by both keywords
     (f'{{"$dynamicRef":"y#n","$defs":{{"o":{{"$dynamicAnchor":"n"}},{INNER}}}}}', f"{URI}#/$defs/o"),
     (f'{{"$dynamicRef":"y#%6E","$defs":{{"o":{{"$dynamicAnchor":"n"}},{INNER}}}}}', f"{URI}#/$defs/o"),
-    ('{"$dynamicRef":"y#n","$defs":{"o":{"$dynamicAnchor":"n"},"y":{"$id":"y","$anchor":"n","$dynamicAnchor":"n"}}}', f"{URI}#/$defs/o"),
+    ('{"$dynamicRef":"y#n","$defs":{"o":{"$dynamicAnchor":"n"},"y":{"$id":"y","$anchor":"n","$dynamicAnchor":"n"}}}',
+     f"{URI}#/$defs/o"),
     # another name is another anchor; a resource within is another resource
     (f'{{"$dynamicRef":"y#n","$defs":{{"o":{{"$dynamicAnchor":"N"}},{INNER}}}}}', f"{Y}#"),
     (f'{{"$dynamicRef":"y#n","$defs":{{"o":{{"$id":"o","$dynamicAnchor":"n"}},{INNER}}}}}', f"{Y}#"))
@@ -164,7 +186,8 @@ def of_bundle(documents):
     roots = [place for place in bundle.places if place.resource is place]
     numbers = {id(root): number for number, root in enumerate(roots)}
     yield Question(("place", URI, "places"), lines(place.absolute() for place in bundle.places))
-    yield Question(("place", URI, "resources"), lines(f"{uri}: {root.absolute()}" for uri, root in bundle.known.items()))
+    resources = lines(f"{uri}: {root.absolute()}" for uri, root in bundle.known.items())
+    yield Question(("place", URI, "resources"), resources)
     for place in bundle.places:
         uri = place.absolute()
         yield Question(("place", uri, "entry"), uri)
@@ -180,13 +203,13 @@ def of_place(place, number):
     """The words of each question, and the answer."""
     schema = place.schema if isinstance(place.schema, dict) else {}
     keywords = ", ".join(map(word, schema))
-    yield ("standing",), (f"true {place.absolute()}, document {place.document} at {pointer_text(place.pointer)}, resource {number}, {place.base.text()}: "
-                          f"{text(place.schema)} [{keywords}]")
+    yield ("standing",), (f"true {place.absolute()}, document {place.document} at {pointer_text(place.pointer)}, "
+                          f"resource {number}, {place.base.text()}: {text(place.schema)} [{keywords}]")
     yield ("target",), place.target.absolute() if place.target else "dynamic" if place.dynamic else "none"
     for (keyword, step), below in place.below.items():
         yield step_asked(keyword, step), f"{below.absolute()} {below.absolute()}: {text(below.schema)}"
-    for missed in (("alone", "items"), ("name", "properties", "none"), ("name", "allOf", "0"), ("index", "oneOf", "300"),
-                   ("index", "$defs", "0")):
+    for missed in (("alone", "items"), ("name", "properties", "none"), ("name", "allOf", "0"),
+                   ("index", "oneOf", "300"), ("index", "$defs", "0")):
         if (missed[1], *missed[2:]) not in place.below and (missed[1], None) not in place.below:
             yield missed, "none"
     for keyword, value in JUDGED:

@@ -1,7 +1,7 @@
 """Result trees by hand: worked examples, each kind of note, all small trees, and deep and wide ones.
 
-A tree is told by events: a letter opens a node of that name, and another sign closes one, `-` and `!` one that fails. `)` and
-`-` leave no note.
+A tree is written as events: a letter opens a node of that name, and any other sign closes one. `-` and `!` close a node
+that fails; `)` and `-` leave no note.
 """
 import functools
 from dataclasses import replace
@@ -13,9 +13,11 @@ from result import Node
 
 # A title with what JSON escapes, what it needn't, and a character outside the basic plane.
 VALUE = r'{"b": [1, null], "a": "\"\n\u0001\u00e9\ud83c\udf33"}'
-NOTES = {"!": ("error", 'no "x"\x01'), "+": ("annotation", True), "=": ("annotation", {"a": '"\n\x01\u00e9\U0001f333', "b": [1, None]}),
-         "@": ("annotation", ["b", "a\n\U0001f333"]), "0": ("annotation", []), "#": ("annotation", 2**64 - 1),
-         "*": ("annotation", [0, 2]), "1": ("annotation", [])}
+NOTES = {
+    "!": ("error", 'no "x"\x01'), "+": ("annotation", True),
+    "=": ("annotation", {"a": '"\n\x01\u00e9\U0001f333', "b": [1, None]}),
+    "@": ("annotation", ["b", "a\n\U0001f333"]), "0": ("annotation", []), "#": ("annotation", 2**64 - 1),
+    "*": ("annotation", [0, 2]), "1": ("annotation", [])}
 
 
 def tree_of(events):
@@ -44,7 +46,8 @@ def asked(events, *words, answer):
 
 def tables():
     yield Table("each note in each format", [
-        replace(it, in_turn=False) for close in "!+=@0#*1)" for it in of_events(f"ra{close}{'-' if close == '!' else ')'}")])
+        replace(it, in_turn=False) for close in "!+=@0#*1)"
+        for it in of_events(f"ra{close}{'-' if close == '!' else ')'}")])
     yield Table("worked examples of moves", list(examples()))
     yield Table("all trees of up to five nodes", list(small()))
     yield Table("deep and wide trees", list(large()))
@@ -57,24 +60,27 @@ def of_events(events):
     yield Question((*words, "verdict"), f"Some({'true' if node.valid else 'false'})")
 
 
-# `CHAIN` is a root over a silent chain; `LEAVES` one over a silent node over a silent leaf and a leaf with an error; `ALIKE` one
-# over a silent node over two leaves that are alike.
+# Roots over a chain without notes; over a node without a note, with a leaf without one and a leaf with an error; and
+# over a node without a note, with two leaves that are alike.
 CHAIN, LEAVES, ALIKE = "rabcd)))))", "rab-c!--", "rax!y!--"
 # A tree, what is made of it, the number of the first move that isn't possible, and what is left.
 EXAMPLES = (
     (CHAIN, "replay", "drop 4 3 2 1", "done", "r)"), (CHAIN, "replay", "lift 1 1 1 drop 1", "done", "r)"),
-    (CHAIN, "apply", "lift 2", "done", "racd))))"), (CHAIN, "apply", "lift 4", 0, CHAIN), (CHAIN, "apply", "lift 5", 0, CHAIN),
-    (LEAVES, "replay", "drop 2 lift 1", "done", "rc!-"), (LEAVES, "replay", "lift 1", 0, LEAVES), (LEAVES, "replay", "drop 2 1", 1, "rac!--"),
+    (CHAIN, "apply", "lift 2", "done", "racd))))"), (CHAIN, "apply", "lift 4", 0, CHAIN),
+    (CHAIN, "apply", "lift 5", 0, CHAIN), (LEAVES, "replay", "drop 2 lift 1", "done", "rc!-"),
+    (LEAVES, "replay", "lift 1", 0, LEAVES), (LEAVES, "replay", "drop 2 1", 1, "rac!--"),
     # the root stays, and what has a note
-    ("ra+)", "replay", "lift 0", 0, "ra+)"), ("ra+)", "replay", "drop 0", 0, "ra+)"), ("ra+)", "replay", "drop 1", 0, "ra+)"),
-    ("ra+)", "replay", "drop 2", 0, "ra+)"),
+    ("ra+)", "replay", "lift 0", 0, "ra+)"), ("ra+)", "replay", "drop 0", 0, "ra+)"),
+    ("ra+)", "replay", "drop 1", 0, "ra+)"), ("ra+)", "replay", "drop 2", 0, "ra+)"),
     # the later of two that are alike goes
     (ALIKE, "replay", "merge 3 lift 1", "done", "rx!-"), (ALIKE, "apply", "merge 3", "done", "rax!--"),
-    (ALIKE, "replay", "merge 2", 0, ALIKE), (ALIKE, "replay", "lift 1", 0, ALIKE), ("rx!y+z!-", "apply", "merge 3", "done", "rx!y+-"))
+    (ALIKE, "replay", "merge 2", 0, ALIKE), (ALIKE, "replay", "lift 1", 0, ALIKE),
+    ("rx!y+z!-", "apply", "merge 3", "done", "rx!y+-"))
 # What is left by a call without moves.
 LEFT = (
-    (CHAIN, "condense", "r)"), (LEAVES, "condense", "rc!-"), ("ra+)", "condense", "ra+)"), ("rabc+)def+))))", "condense", "rac+f+))"),
-    ("rabc!d+-ed+)))", "prune", "raed+)))"), (ALIKE, "merge_condense", "rx!-"), ("rx!y+z!-", "merge_condense", "rx!y+-"))
+    (CHAIN, "condense", "r)"), (LEAVES, "condense", "rc!-"), ("ra+)", "condense", "ra+)"),
+    ("rabc+)def+))))", "condense", "rac+f+))"), ("rabc!d+-ed+)))", "prune", "raed+)))"),
+    (ALIKE, "merge_condense", "rx!-"), ("rx!y+z!-", "merge_condense", "rx!y+-"))
 
 
 def examples():
@@ -89,9 +95,10 @@ def examples():
         yield from (replace(it, in_turn=False) for it in of_events(events))
 
 
-SHAPES = ("a)", "ab))", "ab)c))", "abc)))", "ab)c)d))", "ab)cd)))", "abc))d))", "abc)d)))", "abcd))))", "ab)c)d)e))", "ab)c)de)))",
-          "ab)cd))e))", "ab)cd)e)))", "ab)cde))))", "abc))d)e))", "abc))de)))", "abc)d))e))", "abcd)))e))", "abc)d)e)))", "abc)de))))",
-          "abcd))e)))", "abcd)e))))", "abcde)))))")
+SHAPES = (
+    "a)", "ab))", "ab)c))", "abc)))", "ab)c)d))", "ab)cd)))", "abc))d))", "abc)d)))", "abcd))))", "ab)c)d)e))",
+    "ab)c)de)))", "ab)cd))e))", "ab)cd)e)))", "ab)cde))))", "abc))d)e))", "abc))de)))", "abc)d))e))", "abcd)))e))",
+    "abc)d)e)))", "abc)de))))", "abcd))e)))", "abcd)e))))", "abcde)))))")
 
 
 def small():

@@ -6,8 +6,11 @@ GROUP, RECORD, WORD = "\x1d", "\x1e", "\x1f"
 
 @dataclass
 class Question:
-    """The words of a question, and its answer. A call that takes memory answers `refused` where it finds none; the growths of
-    one that is `in_turn` are refused one after the other. A quiet call takes no memory."""
+    """The words of a question, and its answer.
+
+    A call that takes memory answers `refused` where it finds none; the growths of one that is `in_turn` are refused one
+    after the other. A quiet call takes no memory.
+    """
 
     words: tuple
     answer: str
@@ -18,8 +21,11 @@ class Question:
 
 @dataclass
 class Table:
-    """Questions over the documents of one bundle. Where a call on the bundle is marked, its growths are refused in turn; what
-    comes back is then finished, and the questions are answered all the same."""
+    """Questions over the documents of one bundle.
+
+    Where a call on the bundle is marked, its growths are refused in turn; what comes back is then finished, and the
+    questions are answered all the same.
+    """
 
     name: str
     questions: list
@@ -33,6 +39,7 @@ class Table:
 
 
 def answers(questions):
+    """What the test writes for these questions."""
     return "".join(it.answer + RECORD for it in questions)
 
 

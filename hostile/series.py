@@ -1,11 +1,11 @@
 """Runs whose growths are refused, and whose reads and writes fail, in turn. The reference gives their answers."""
 import answers
 import cases
+from asked import EMBEDDED
 from cases import Case, U
 
 BRANCHES = U, {U: '{"oneOf":[true,true,false]}'}, "0"
 ROWS = {**answers.ROWS, "two_branches_hold": BRANCHES}
-EMBEDDED = '{"$id":"x","$defs":{"p":{"$id":"y","not":true}},"allOf":[{"$anchor":"q"}]}'
 ASSERTIONS = ('{"type":["object","null"],"minProperties":1,"required":["a"],"pattern":"a+b",'
               '"enum":[{"a":[1,2]},3]}')
 
@@ -19,7 +19,7 @@ def runs():
         for format_ in cases.FORMATS:
             yield Case(f"{row}, {format_}", ["check", format_, "instance.json", entry, *pairs], files, out=None)
     yield Case("places", ["places", U, "schema.json"], {"schema.json": EMBEDDED}, out=None)
-    yield Case("a suite", ["suite", "suite.json"], {"suite.json": answers.small_suite()}, out=None)
+    yield Case("a suite", ["suite", "suite.json"], {"suite.json": answers.SUITE}, out=None)
 
 
 def growths():
