@@ -78,6 +78,7 @@ def of_values():
 
 
 def of_pointers():
+    """Pointers, fragments and tokens."""
     for pointer, escaped in POINTERS:
         for call, given, answer in (
                 ("parse", pointer, pointer), ("from_fragment", escaped, pointer), ("pointer", pointer, pointer),
@@ -100,6 +101,7 @@ def of_pointers():
 
 
 def of_assertions():
+    """Patterns and assertions."""
     yield in_turn("value", "pattern", "a+b", "xaaby", answer="Ok(true) true")
     yield in_turn("value", "matches", "a+b", "xaaby", answer="Ok(true) true", refused="Err(Memory) true")
     yield in_turn("value", "searcher", "a+b", "xaaby", answer="Ok(true) true")
@@ -128,6 +130,7 @@ def of_bundles():
 
 
 def result_of(documents, entry, instance):
+    """The reference's result tree."""
     bundle = Bundle()
     for uri, source in documents.items():
         bundle.add(uri, source.encode())

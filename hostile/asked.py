@@ -82,6 +82,7 @@ def worked_examples():
 
 
 def lines(texts):
+    """Each text with a line feed."""
     return "".join(f"{it}\n" for it in texts)
 
 
@@ -133,6 +134,7 @@ def side_by_side():
 
 
 def dynamic(uri, path, target):
+    """The dynamic target of a place, which is asked for twice: by places, and by numbers of resources."""
     return quiet("place", uri, "dynamic target", *path, answer=f"{target} {target}")
 
 
@@ -219,6 +221,7 @@ def of_place(place, number):
 
 
 def word(keyword):
+    """The variant of `KeywordName` of this keyword."""
     if keyword in STANDARD:
         name = keyword.removeprefix("$")
         return name[0].upper() + name[1:]
@@ -226,16 +229,19 @@ def word(keyword):
 
 
 def step_asked(keyword, step):
+    """The words that ask for the place below a place."""
     return ("alone", keyword) if step is None else ("index" if isinstance(step, int) else "name", keyword, str(step))
 
 
 def said(keyword, schema, value):
+    """What an assertion says of a value."""
     if keyword not in schema or keyword not in FORMS:
         return "no assertion"
     return error(keyword, schema[keyword], schema, value, 1) or "holds"
 
 
 def matched(name, schema):
+    """What a pattern of `patternProperties` says of the name `p0`."""
     if name not in schema.get("patternProperties", ()):
         return "no pattern"
     return "holds" if compiled(name).search("p0") else "fails"

@@ -49,7 +49,7 @@ def refused(name, line, schema, instance="0", **how):
 
 
 def error(name, schema, instance, keyword, text):
-    """One assertion that doesn't hold, told by basic."""
+    """One assertion that doesn't hold, in the format basic."""
     unit = {"absoluteKeywordLocation": f"{U}#/{keyword}", "error": text, "instanceLocation": "",
             "keywordLocation": f"/{keyword}", "valid": False}
     out = compact({"errors": [unit], "valid": False}).encode() + b"\n"
@@ -111,7 +111,7 @@ def no_children():
 
 
 def widest_text(format_, count=999_998):
-    """The text of ITEMS on so many numbers."""
+    """The text of ITEMS on an array of `count` numbers."""
     items = ("/items", "/items", "", "true")
     if format_ == "flag":
         yield VALID
@@ -153,7 +153,7 @@ def limits():
     """What stands just within each limit, and just past it."""
     yield valid("999,998 items", ITEMS, compact([0] * 999_998))
     yield from too_large("999,999 items", ITEMS, compact([0] * 999_999))
-    yield valid("379 schemas on a way", DEEP, nested(127))
+    yield valid("379 nested applications", DEEP, nested(127))
     yield valid("a chain of 510 references", chain(510), "0")
     yield from too_large("a chain of 511 references", chain(511))
     yield valid("917,500 nodes", doubling(17), "0")
@@ -286,7 +286,7 @@ def refused_patterns():
 def at_the_limit():
     """What goes deepest and what is largest, to be run with little stack and with a bound on memory."""
     for it in FORMATS:
-        yield check(f"512 schemas on a way, {it}", chain(510), "0", it, out=None)
+        yield check(f"512 nested applications, {it}", chain(510), "0", it, out=None)
         yield check(f"127 nested arrays, {it}", DEEP, nested(127), it, out=None)
         yield check(f"1,000,000 nodes, {it}", ITEMS, compact([0] * 999_998), it, out=lambda it=it: widest_text(it))
         yield check(f"917,500 nodes, {it}", doubling(17), "0", it, out=lambda it=it: doubled_text(17, it))

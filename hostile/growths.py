@@ -18,32 +18,27 @@ def growth(room):
 
         def judge_alone(answer, told):
             got.append(answer)
-            return judge(answer, told, own, may_begin=is_suite(case), line=OUT_OF_MEMORY)
+            return judge(answer, told, own, OUT_OF_MEMORY)
 
         count = in_turn(room, f"{case.name}, growth", refusing(room, case), judge_alone)
         room.tell(f"{case.name}, growths before the command", judge_silent(got, len(case.words), before_command))
         in_turn(room, f"{case.name}, growth and all later", refusing(room, case, REFUSE_ALL=1),
-                lambda answer, told: judge(answer, told, own, may_begin=is_suite(case), line=SILENT))
+                lambda answer, told: judge(answer, told, own, SILENT))
         print(f"{case.name}: {count} growths, each refused in turn", flush=True)
 
 
-def is_suite(case):
-    """A suite's lines go out one by one, so some may be out before memory fails."""
-    return case.words[:1] == ["suite"]
-
-
 def refusing(room, case, **how):
+    """Runs the case with the growth of a number refused."""
     return lambda number: preloaded(room, room.program, case.words, case.given, REFUSE_NTH=number, **how)
 
 
-def judge(got, told, own, may_begin, line):
-    """Judges the answer of a run of which a growth was refused. Out of memory it writes `line`, or nothing."""
-    out, errors, status = got
+def judge(got, told, own, without_memory):
+    """Judges the answer of a run of which a growth was refused: it may be this one, without its line too."""
     if got == own:
         return None
     if not told:
         return f"nothing was refused; wanted {short(own)}, got {short(got)}"
-    if status == 4 and errors in (line[1], b"") and (out == b"" or may_begin and own[0].startswith(out)):
+    if got in (without_memory, SILENT):
         return None
     # The line of a refusal takes memory; a usage text doesn't.
     if own[2] == 3 and got == (b"", b"", 3):
@@ -77,7 +72,7 @@ def arguments(room):
 
 
 def judge_misused(got, told):
-    """Out of memory before the arguments are read no line comes."""
+    """Judges such a run of which a growth was refused. Before the arguments are read, that leaves no line."""
     if got == MISUSED or told and got == SILENT:
         return None
     return f"wanted {short(MISUSED)}{' or out of memory' * bool(told)}, got {short(got)}"

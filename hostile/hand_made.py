@@ -21,6 +21,7 @@ NOTES = {
 
 
 def tree_of(events):
+    """The tree that these events make."""
     root, opened = None, []
     for sign in events:
         if sign.isalpha():
@@ -37,10 +38,12 @@ def tree_of(events):
 
 @functools.cache
 def shown(events):
+    """The text of a tree in the format verbose."""
     return forms.text(forms.tree(tree_of(events)))
 
 
 def asked(events, *words, answer):
+    """A call on such a tree, which takes no memory."""
     return quiet("hand-made", VALUE, events, *words, answer=answer)
 
 
@@ -54,6 +57,7 @@ def tables():
 
 
 def of_events(events):
+    """All calls on such a tree."""
     node, words = tree_of(events), ("hand-made", VALUE, events)
     yield from of_tree(node, words)
     yield from of_moves(node, words)
@@ -84,6 +88,7 @@ LEFT = (
 
 
 def examples():
+    """Worked examples: runs of moves, and what each call leaves."""
     for events, call, moves, number, left in EXAMPLES:
         yield asked(events, call, moves, answer=f"{number} {shown(left)}")
     for events, call, left in LEFT:

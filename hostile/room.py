@@ -85,6 +85,7 @@ class Room:
 
 
 def short(text):
+    """A text as a message shows it."""
     said = repr(text)
     return said if len(said) < 300 else said[:200] + ".." + said[-80:]
 
@@ -101,11 +102,12 @@ def read(name):
 
 
 def kit():
+    """The folder of the Rattle kit."""
     return os.path.dirname(subprocess.run(["rt", "doc"], capture_output=True, text=True, check=True).stdout.strip())
 
 
 def preloaded(room, program, words, given=b"", executable=None, **env):
-    """What the program answers with the library loaded before it, and what that reports: see preload.c."""
+    """What the program answers with the library of preload.c loaded before it, and what that reports."""
     if not os.path.exists("preload.so"):
         subprocess.run([f"{kit()}/toolchain/bin/clang", "-O1", "-fPIC", "-shared", "-nostdlib", "-o", "preload.so",
                         os.path.join(HERE, "preload.c")], check=True)
@@ -130,7 +132,7 @@ def in_turn(room, name, run, judge):
         if not told:
             break
         if number == MOST_CALLS:
-            room.tell(name, f"there is no end of it after {number} runs")
+            room.tell(name, f"no end after {number} runs")
             break
     if number == 1:
         room.tell(name, "nothing was refused")
