@@ -21,7 +21,8 @@ def add_options(parser):
 def measured(words, given, seconds):
     """What a process writes on standard output, and its greatest memory in bytes; its standard input is a file.
 
-    Ends the script where the process fails, or takes longer than `seconds`."""
+    Ends the script where the process fails, or takes longer than `seconds`.
+    """
     job = subprocess.Popen(words, stdin=given, stdout=subprocess.PIPE, start_new_session=True)
     has_ended = threading.Event()
     was_killed = threading.Event()
@@ -46,8 +47,10 @@ def measured(words, given, seconds):
 
 
 def build(folder, name, crates, used, begin, seconds, answer=None):
-    """Proves and builds `bench/NAME.rt.txt` in the folder, over the crates, some of which it uses itself. To the input
-    `begin` it has to give the answer, where one is named. Ends the script where nothing is built."""
+    """Proves and builds `bench/NAME.rt.txt` in the folder, over copies of `crates`, of which it uses `used` itself.
+
+    To the input `begin` it must give the answer, if one is named. Ends the script where nothing is built.
+    """
     if not shutil.which("rt"):
         sys.exit(f"bench/{name}: needs the Rattle kit's command rt on the PATH, and finds none")
     source = os.path.join(folder, "crates", "measure", "src")

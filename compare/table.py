@@ -1,9 +1,20 @@
-"""The tables of a run, as Markdown."""
+"""The tables of a run, as Markdown, and their place on the page."""
 import datetime
 import os
 import platform
 
 from tools import plain_version
+
+README = os.path.join(os.path.dirname(os.path.abspath(__file__)), "README.md")
+
+
+def write_part(script, text):
+    """Puts what a script prints between its marks in compare/README.md."""
+    begin, end = f"<!-- {script}: begin -->\n", f"<!-- {script}: end -->\n"
+    with open(README, encoding="utf-8") as file:
+        before, _, rest = file.read().partition(begin)
+    with open(README, "w", encoding="utf-8") as file:
+        file.write(before + begin + text + end + rest.partition(end)[2])
 
 
 def page(tools, missing, results, given):
@@ -16,6 +27,7 @@ def page(tools, missing, results, given):
 
 
 def heading(results, given):
+    """When and where was measured, and by which command."""
     names = " ".join(f"--only {it}" for it in given.only or [])
     command = " ".join(it for it in ("compare/run FOLDER", names, f"--rounds {given.rounds}") if it)
     return (f"Measured on {datetime.date.today()} by `{command}` on {processor()}, {os.cpu_count()} processors, "
@@ -23,6 +35,7 @@ def heading(results, given):
 
 
 def processor():
+    """The name of the machine's processor."""
     try:
         with open("/proc/cpuinfo", encoding="utf-8") as file:
             return next(line.split(":", 1)[1].strip() for line in file if line.startswith("model name"))
@@ -31,6 +44,7 @@ def processor():
 
 
 def asked(tools, missing):
+    """The table of the validators, and those that aren't installed."""
     lines = ["| validator | version | newest draft | asked for a verdict | asked for all errors |",
              "|---|---|---|---|---|"]
     drafts = {7: "draft-07", 2020: "2020-12"}
@@ -40,19 +54,21 @@ def asked(tools, missing):
 
 
 def sizes(results):
+    """The table of the cases."""
     lines = ["| case | schema, bytes | instance, bytes | instances in one process |", "|---|---:|---:|---:|"]
     lines += [f"| {case.name} | {case.sizes[0]:,} | {case.sizes[1]:,} | {case.many} |" for case, _, _ in results]
     return "\n".join(lines) + "\n"
 
 
 def rows(tools, results, cell):
+    """A table with a row for each case and a column for each validator."""
     lines = ["| case | " + " | ".join(it.name for it in tools) + " |", "|---|" + "---:|" * len(tools)]
     for case, measured, _ in results:
-        lines.append(f"| {case.name} | " + " | ".join(told(measured.get(it.name), cell) for it in tools) + " |")
+        lines.append(f"| {case.name} | " + " | ".join(figure(measured.get(it.name), cell) for it in tools) + " |")
     return "\n".join(lines) + "\n"
 
 
-def told(measured, cell):
+def figure(measured, cell):
     """A figure; a dash where the validator doesn't know the draft, or has no such call."""
     if measured is None:
         return "–"
@@ -70,6 +86,7 @@ def milliseconds(seconds):
 
 
 def faults(results):
+    """The verdicts that differ, and those that are missing."""
     found = [f"- {case.name}, {name}: {it.fault}" for case, measured, _ in results
              for name, it in measured.items() if it.fault]
     if not found:
@@ -84,8 +101,8 @@ TABLES = (
      lambda it: milliseconds(it.further())),
     ("Each further instance, reading not included", "The same less what it takes with the schema `{}`.",
      lambda it: milliseconds(it.judged())),
-    ("All errors", "Milliseconds of a whole process that tells all errors of one spoiled instance.",
+    ("All errors", "Milliseconds of a whole process that reports all errors of one spoiled instance.",
      lambda it: milliseconds(it.seconds["errors"])),
-    ("Memory", "Peak memory of a whole process on one instance, in MB, as GNU time tells it.",
+    ("Memory", "Peak memory of a whole process on one instance, in MB, as GNU time reports it.",
      lambda it: "–" if it.megabytes is None else f"{it.megabytes:.1f}"),
 )

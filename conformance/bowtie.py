@@ -46,7 +46,7 @@ class Session:
         return {"ok": request["dialect"] == META_SCHEMA}
 
     def run(self, request):
-        """One schema and its tests; what fails with an exception is told of the whole case."""
+        """One schema and its tests; an exception is reported for the whole case."""
         try:
             return {"seq": request["seq"], "results": self.results(request["case"])}
         except (ProgramFailed, ValueError) as fault:
@@ -74,7 +74,7 @@ def result(outcome):
 def main():
     parser = argparse.ArgumentParser(description="Speaks the protocol of Bowtie over the built program.")
     parser.add_argument("--home", required=True, metavar="URL", help="where this repository stands")
-    parser.add_argument("--version", metavar="TEXT", help="the version that Bowtie is told")
+    parser.add_argument("--version", metavar="TEXT", help="the version to report to Bowtie")
     parser.add_argument("--meta-schemas", metavar="FOLDER", help="the documents of the meta-schema")
     parser.add_argument("--program", default=default_program(), help="the program, in place of the built one")
     given = parser.parse_args()

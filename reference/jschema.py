@@ -22,7 +22,7 @@ PAIRS = "usage: URI and FILE come in pairs"
 
 
 class Fault(Exception):
-    """What is told on standard error, and the status."""
+    """What goes to standard error, and the status."""
 
     def __init__(self, status, line):
         super().__init__(status, line)
