@@ -2,7 +2,7 @@
 import math
 from xml.sax.saxutils import escape
 
-COLOURS = ("#1b6ca8", "#c0562f", "#8a8a8a", "#3f8f4f", "#b59b00", "#7b4fa3")
+COLORS = ("#1b6ca8", "#c0562f", "#8a8a8a", "#3f8f4f", "#b59b00", "#7b4fa3")
 LEFT, WIDTH, BAR, GAP, TOP = 150, 560, 9, 10, 60
 
 
@@ -28,7 +28,7 @@ def chart(tools, results):
              '<text x="10" y="18" font-size="13">Milliseconds for each further instance, reading included</text>']
     for number, tool in enumerate(tools):
         x = 10 + 105 * number
-        parts.append(f'<rect x="{x}" y="28" width="10" height="10" fill="{COLOURS[number]}"/>'
+        parts.append(f'<rect x="{x}" y="28" width="10" height="10" fill="{COLORS[number]}"/>'
                      f'<text x="{x + 14}" y="37">{escape(tool.name)}</text>')
     for power in range(low, high + 1):
         x = across(10**power)
@@ -40,7 +40,7 @@ def chart(tools, results):
         parts.append(f'<text x="{LEFT - 8}" y="{middle:.1f}" text-anchor="end">{escape(name)}</text>')
         for number, value in bars:
             parts.append(f'<rect x="{LEFT}" y="{y}" width="{across(value) - LEFT:.1f}" height="{BAR - 1}" '
-                         f'fill="{COLOURS[number]}"/><text x="{across(value) + 4:.1f}" y="{y + BAR - 1}" '
+                         f'fill="{COLORS[number]}"/><text x="{across(value) + 4:.1f}" y="{y + BAR - 1}" '
                          f'font-size="9">{value:.3g}</text>')
             y += BAR
         y += GAP
