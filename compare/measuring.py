@@ -29,6 +29,7 @@ class Measured:
     fault: str | None = None
 
     def take(self, variant, seconds):
+        """Keeps the time of a process if it is the least so far."""
         self.seconds[variant] = min(seconds, self.seconds.get(variant, seconds))
 
     def further(self, one="one", many="many"):
@@ -64,16 +65,17 @@ class Bounded:
 
 
 def limit_memory():
+    """Gives this process DATA_BYTES at most."""
     resource.setrlimit(resource.RLIMIT_DATA, (DATA_BYTES, DATA_BYTES))
 
 
 def run_bounded(command, environment, seconds):
-    """Runs a process for so many seconds at most, with DATA_BYTES at most.
+    """Runs a process with a limit in seconds, and with DATA_BYTES at most.
 
-    GNU time tells its peak of memory, which for a child of Python would be that of Python at least.
+    GNU time measures its peak memory, which for a child of Python would be that of Python at least.
     """
-    with tempfile.NamedTemporaryFile("r") as told:
-        timed = [TIME, "-q", "-f", "%M", "-o", told.name, *command] if TIME else command
+    with tempfile.NamedTemporaryFile("r") as report:
+        timed = [TIME, "-q", "-f", "%M", "-o", report.name, *command] if TIME else command
         begin = time.perf_counter()
         process = subprocess.Popen(timed, stdin=subprocess.DEVNULL, stdout=subprocess.PIPE, stderr=subprocess.PIPE,
                                    text=True, errors="replace", env=os.environ | environment,
@@ -86,7 +88,7 @@ def run_bounded(command, environment, seconds):
             out, faults = process.communicate()
             status = None
         took = time.perf_counter() - begin
-        peak = told.read().split()
+        peak = report.read().split()
     return Bounded(status, out, faults, took, int(peak[-1]) / 1000 if peak and status is not None else None)
 
 
@@ -120,6 +122,7 @@ class Case:
 
 
 def mode_of(variant):
+    """The mode of a driver for a variant."""
     return "errors" if variant == "errors" else "verdict"
 
 
@@ -135,8 +138,9 @@ def verdicts(tool, case, variant):
 
 
 def fault_of(done):
+    """Why a process gave no verdict: its status and the last line of its standard error."""
     lines = done.stderr.strip().splitlines()
-    return f"status {done.returncode}: {lines[-1][:160] if lines else 'nothing is said'}"
+    return f"status {done.returncode}: {lines[-1][:160] if lines else 'no message'}"
 
 
 def measure_case(tools, case, rounds, seconds):
@@ -164,6 +168,7 @@ def measure_case(tools, case, rounds, seconds):
 
 
 def disagreement(tool, case, wanted):
+    """How a validator's verdicts differ from the program's; none where they agree."""
     for variant, verdict in wanted.items():
         got = verdicts(tool, case, variant)
         if isinstance(got, str):

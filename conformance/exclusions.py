@@ -26,6 +26,7 @@ class Exclusion:
 
 
 def read_exclusions(path):
+    """The lines of a profile, without comments."""
     with open(path, encoding="utf-8") as file:
         lines = [it for it in (line.strip() for line in file) if it and not it.startswith("#")]
     return [Exclusion(*(it.strip() for it in line.split(" | "))) for line in lines]
@@ -33,7 +34,7 @@ def read_exclusions(path):
 
 @dataclass
 class Report:
-    """The tests, told apart by what came of them and by what the profile says of them."""
+    """The tests, sorted by what came of them and by what the profile says of them."""
 
     passed: int = 0
     failed: list = field(default_factory=list)
@@ -48,6 +49,7 @@ class Report:
 
 
 def report_of(all_judged, exclusions):
+    """Sorts the tests by what came of them and by what the profile says of them."""
     report, used = Report(), set()
     for judged in all_judged:
         lines = [it for it in exclusions if it.matches(judged)]

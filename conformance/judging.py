@@ -35,6 +35,7 @@ def judge_file(program: Program, suite: Suite, name):
 
 
 def judged_test(program, name, g, t, group, documents, outcome):
+    """A test with its outcome, and the arguments that show it if it failed."""
     test = group["tests"][t]
     shown_by = ()
     if outcome.status == "fail":
@@ -72,5 +73,6 @@ def judge_output(program, suite, name, number, group, format_):
 
 
 def output_schema(suite):
+    """The schema of output, which output tests refer to: its file by its URI."""
     path = os.path.join(suite.outputs(), "output-schema.json")
     return {read_json(path)["$id"]: path}

@@ -39,6 +39,7 @@ def schemas_of(suite: Suite, more):
 
 
 def readable(name, path):
+    """A schema with its name, unless the file isn't JSON: rows have such files too."""
     try:
         yield name, read_json(path)
     except (ValueError, RecursionError):

@@ -50,16 +50,18 @@ def write_json(path, value):
 
 
 def words_of(documents):
+    """The arguments for documents: each URI and its file."""
     return [word for pair in documents.items() for word in pair]
 
 
 class Program:
-    """A built program, and a folder for the files that it is handed."""
+    """A built program, and a folder for its input files."""
 
     def __init__(self, path, folder):
         self.path, self.folder, self.numbers = os.path.abspath(path), folder, itertools.count()
 
     def run(self, *words):
+        """Runs it with these arguments."""
         return subprocess.run([self.path, *words], capture_output=True, text=True, encoding="utf-8", timeout=SECONDS)
 
     def file(self, value):
@@ -83,6 +85,7 @@ class Program:
                 for g, group in enumerate(groups)]
 
     def of_group(self, group, documents, said):
+        """The outcomes of a group's tests, by the words that their lines begin with."""
         return [self.skipped(group["schema"], test["data"], documents) if status == "skip" else Outcome(status)
                 for status, test in zip(said, group["tests"])]
 

@@ -68,6 +68,7 @@ def find_meta_schemas(folder=None):
 
 @functools.cache
 def references_of_file(uri, path):
+    """The references of a file that stands at this URI."""
     return frozenset(references(read_json(path), uri))
 
 
