@@ -1,4 +1,4 @@
-"""Each growth of memory refused in turn, over whole runs of the program: the parts `growth` and `arguments`."""
+"""Each allocation refused in turn, over whole runs of the program: the parts `growth` and `arguments`."""
 import series
 from jschema import USAGE
 from room import in_turn, preloaded, short
@@ -10,7 +10,7 @@ MISUSED = b"", f"{USAGE}\n".encode(), 2
 
 
 def growth(room):
-    """Each growth refused, alone and with all later ones: the answer is `Memory`, or the one with ample memory."""
+    """Each allocation refused, alone and with all later ones: the answer is `Memory`, or the one with ample memory."""
     before_command = {}
     for case in room.chosen(series.growths()):
         own = case.wanted()
@@ -20,42 +20,44 @@ def growth(room):
             got.append(answer)
             return judge(answer, told, own, OUT_OF_MEMORY)
 
-        count = in_turn(room, f"{case.name}, growth", refusing(room, case), judge_alone)
-        room.tell(f"{case.name}, growths before the command", judge_silent(got, len(case.words), before_command))
-        in_turn(room, f"{case.name}, growth and all later", refusing(room, case, REFUSE_ALL=1),
+        count = in_turn(room, f"{case.name}, allocation", refusing(room, case), judge_alone)
+        room.tell(f"{case.name}, allocations before the command", judge_silent(got, len(case.words), before_command))
+        in_turn(room, f"{case.name}, allocation and all later", refusing(room, case, REFUSE_ALL=1),
                 lambda answer, told: judge(answer, told, own, SILENT))
-        print(f"{case.name}: {count} growths, each refused in turn", flush=True)
+        print(f"{case.name}: {count} allocations, each refused in turn", flush=True)
 
 
 def refusing(room, case, **how):
-    """Runs the case with the growth of a number refused."""
+    """Runs the case with the allocation of a number refused."""
     return lambda number: preloaded(room, room.program, case.words, case.given, REFUSE_NTH=number, **how)
 
 
 def judge(got, told, own, without_memory):
-    """Judges the answer of a run of which a growth was refused: it may be this one, without its line too."""
+    """Judges a run that was refused an allocation. `own` is its answer with ample memory; `without_memory` may come in
+    its place, with or without the line."""
     if got == own:
         return None
     if not told:
         return f"nothing was refused; wanted {short(own)}, got {short(got)}"
     if got in (without_memory, SILENT):
         return None
-    # The line of a refusal takes memory; a usage text doesn't.
+    # The line of a refusal is allocated; a usage text isn't.
     if own[2] == 3 and got == (b"", b"", 3):
         return None
     return f"wanted {short(own)} or out of memory, got {short(got)}"
 
 
 def judge_silent(got, arguments, before_command):
-    """A growth refused alone comes to a line, but for the first ones, which `main` makes before its command. How many
-    they are depends on the number of arguments; `before_command` keeps it."""
+    """Judges the runs that were refused one allocation alone: each must write a line, except for the first ones, which
+    `main` makes before its command. How many these are depends on the number of arguments; `before_command` keeps it.
+    """
     silent = [number for number, it in enumerate(got, 1) if it == SILENT]
     if not silent:
-        return "a line was written for each growth, also for those of the arguments"
+        return "a line was written for each allocation, also for those of the arguments"
     if silent[-1] != len(silent):
-        return f"no line was written for growths {silent}"
+        return f"no line was written for allocations {silent}"
     other = before_command.setdefault(arguments, len(silent))
-    return None if other == len(silent) else f"{len(silent)} growths, and {other} with as many arguments"
+    return None if other == len(silent) else f"{len(silent)} allocations, and {other} with as many arguments"
 
 
 def arguments(room):
@@ -63,7 +65,7 @@ def arguments(room):
     for case in room.chosen(series.not_utf_8()):
         answer, _ = preloaded(room, room.program, case.words)
         room.judge(case.name, MISUSED, answer)
-        for what, how in (("growth", {}), ("growth and all later", {"REFUSE_ALL": 1})):
+        for what, how in (("allocation", {}), ("allocation and all later", {"REFUSE_ALL": 1})):
             in_turn(room, f"{case.name}, {what}", refusing(room, case, **how), judge_misused)
     answer, _ = preloaded(room, b"\xff", [], executable=room.program)
     room.judge("the program's name isn't UTF-8", MISUSED, answer)
@@ -72,7 +74,7 @@ def arguments(room):
 
 
 def judge_misused(got, told):
-    """Judges such a run of which a growth was refused. Before the arguments are read, that leaves no line."""
+    """Judges such a run that was refused an allocation. Before the arguments are read, that leaves no line."""
     if got == MISUSED or told and got == SILENT:
         return None
     return f"wanted {short(MISUSED)}{' or out of memory' * bool(told)}, got {short(got)}"

@@ -43,7 +43,7 @@ def shown(events):
 
 
 def asked(events, *words, answer):
-    """A call on such a tree, which takes no memory."""
+    """A call on such a tree, which doesn't allocate."""
     return quiet("hand-made", VALUE, events, *words, answer=answer)
 
 

@@ -8,8 +8,8 @@ GROUP, RECORD, WORD = "\x1d", "\x1e", "\x1f"
 class Question:
     """The words of a question, and its answer.
 
-    A call that takes memory answers `refused` where it finds none; the growths of one that is `in_turn` are refused one
-    after the other. A quiet call takes no memory.
+    A call that allocates answers `refused` where it finds no memory; the allocations of one that is `in_turn` are
+    refused one after the other. A quiet call doesn't allocate.
     """
 
     words: tuple
@@ -23,7 +23,7 @@ class Question:
 class Table:
     """Questions over the documents of one bundle.
 
-    Where a call on the bundle is marked, its growths are refused in turn; what comes back is then finished, and the
+    Where a call on the bundle is marked, its allocations are refused in turn; what comes back is then finished, and the
     questions are answered all the same.
     """
 
@@ -44,10 +44,10 @@ def answers(questions):
 
 
 def in_turn(*words, answer, refused="Memory"):
-    """A call that takes memory, each of whose growths is refused in turn."""
+    """A call that allocates, each of whose allocations is refused in turn."""
     return Question(words, answer, refused, in_turn=True)
 
 
 def quiet(*words, answer):
-    """A call that takes no memory."""
+    """A call that doesn't allocate."""
     return Question(words, answer, is_quiet=True)

@@ -1,4 +1,4 @@
-"""Runs whose growths are refused, and whose reads and writes fail, in turn. The reference gives their answers."""
+"""Runs whose allocations are refused, and whose reads and writes fail, in turn. The reference gives their answers."""
 import answers
 import cases
 from asked import EMBEDDED
@@ -23,7 +23,7 @@ def runs():
 
 
 def growths():
-    """The runs whose growths are refused: those, all kinds of assertions, and what the program refuses."""
+    """The runs whose allocations are refused: those, all kinds of assertions, and what the program refuses."""
     yield from runs()
     yield cases.check("assertions", ASSERTIONS, '{"a":[1,2]}', out=None)
     yield Case("arguments that ask for nothing", ["chec"], out=None)

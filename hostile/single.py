@@ -1,4 +1,4 @@
-"""Single calls, made by a test, with each growth refused in turn: the part `single`."""
+"""Single calls, made by a test, with each allocation refused in turn: the part `single`."""
 import os
 
 import answers
@@ -14,24 +14,24 @@ PASSED = b"\ntest result: ok\n"
 
 
 def single(room):
-    """Questions to a test: those of a table at once; those whose calls take no memory with all of it refused; and the
-    others one by one, with each growth refused in turn."""
+    """Questions to a test: those of a table at once; those whose calls don't allocate with all memory refused; and the
+    others one by one, with each allocation refused in turn."""
     for table in (*answers.tables(), *asked.tables(), *hand_made.tables()):
         quiet = [it for it in table.questions if it.is_quiet]
         ask(room, f"{table.name}, at once", table, table.questions)
         if quiet:
             ask(room, f"{table.name}, without memory", table, quiet, REFUSE_NTH=1, REFUSE_ALL=1, REFUSE_MARKED=1)
-        growths = [refuse_in_turn(room, table, [it], it.refused + questions.RECORD)
+        refusals = [refuse_in_turn(room, table, [it], it.refused + questions.RECORD)
                    for it in table.questions if it.in_turn]
         if table.marked != "none":
             refused = "Memory" + questions.RECORD + questions.answers(table.questions)
-            growths.append(refuse_in_turn(room, table, table.questions, refused))
-        told = f"; {sum(growths)} growths of {len(growths)} calls, each refused in turn" * bool(growths)
+            refusals.append(refuse_in_turn(room, table, table.questions, refused))
+        told = f"; {sum(refusals)} allocations of {len(refusals)} calls, each refused in turn" * bool(refusals)
         print(f"{table.name}: {len(table.questions)} questions, {len(quiet)} of them without memory{told}", flush=True)
 
 
 def ask(room, name, table, asked_now, **refusals):
-    """Asks questions of a table at once. None may be refused a growth."""
+    """Asks questions of a table at once. None may be refused an allocation."""
     got, told = one_run(room, table, asked_now, **refusals)
     wrong = judge_answer(questions.answers(asked_now), None, got, told)
     if wrong and not got[2]:
@@ -42,7 +42,7 @@ def ask(room, name, table, asked_now, **refusals):
 
 
 def refuse_in_turn(room, table, asked_now, refused):
-    """Asks with each growth of the marked calls refused in turn; answers how many there are."""
+    """Asks with each allocation of the marked calls refused in turn; answers how many there are."""
     name = f"{table.name}, {short(asked_now[0].words)}"
     own = questions.answers(asked_now)
     return in_turn(room, name, lambda number: one_run(room, table, asked_now, REFUSE_NTH=number, REFUSE_MARKED=1),
@@ -56,6 +56,7 @@ def one_run(room, table, asked_now, **env):
 
 
 def judge_answer(own, refused, got, told):
+    """Why an answer is wrong: it must be this one, or where an allocation was refused, the refused one."""
     out, marks, status = got
     if status or marks.strip(b"<>") or out != own and (not told or out != refused):
         return f"wanted {short(own)}{f' or {short(refused)}' * bool(told)}, got {short(got)}"
