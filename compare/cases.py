@@ -10,50 +10,20 @@ then, and 7 else. Sources that aren't there are named, and so are cases whose nu
 families of a tenth of their size.
 """
 import argparse
-import copy
 import glob
-import gzip
-import importlib.util
 import json
 import os
 import sys
 
 from families import FAMILIES
 
-ISO_CODES = "/usr/share/iso-codes/json"
+HERE = os.path.dirname(os.path.abspath(__file__))
+sys.path.insert(0, os.path.join(HERE, "..", "tools"))
+from sources import (Missing, compound_meta_schema, draft_2020, is_whole, iso, load, modern, moved,  # noqa: E402
+                     openapi_document, openapi_schema, package, service, whole, without)
+
 CMAKE = "/usr/share/cmake*/Help/manual/presets"
 DRAFT_4 = "http://json-schema.org/draft-04/schema"
-
-
-class Missing(Exception):
-    """A source that isn't installed, or a case that is left out."""
-
-
-def package(name, *path):
-    """A file of a Python package."""
-    found = importlib.util.find_spec(name)
-    if found is None:
-        raise Missing(f"the Python package {name} isn't installed")
-    return os.path.join(os.path.dirname(found.origin), *path)
-
-
-def load(path):
-    opened = gzip.open if path.endswith(".gz") else open
-    try:
-        with opened(path, "rt", encoding="utf-8") as file:
-            return json.load(file)
-    except OSError as fault:
-        raise Missing(f"{path}: {fault.strerror}") from None
-
-
-def without(schema, *names):
-    return {name: it for name, it in schema.items() if name not in names}
-
-
-def iso(number):
-    """A list of codes by its schema, of Debian's iso-codes."""
-    schema = load(os.path.join(ISO_CODES, f"schema-{number}.json"))
-    return without(schema, "$schema"), load(os.path.join(ISO_CODES, f"iso_{number}.json")), 7
 
 
 def cmake_presets():
@@ -78,39 +48,6 @@ def swagger():
     return moved(schema, DRAFT_4 + "#", "#/definitions/draft4"), whole(group["tests"][0]["data"]), 7
 
 
-def whole(value):
-    if isinstance(value, dict):
-        return {name: whole(it) for name, it in value.items()}
-    if isinstance(value, list):
-        return list(map(whole, value))
-    return int(value) if isinstance(value, float) and value.is_integer() else value
-
-
-def modern(value):
-    """Draft 4's `exclusiveMinimum: true` beside a limit is the limit itself in later drafts."""
-    if isinstance(value, list):
-        return [modern(it) for it in value]
-    if not isinstance(value, dict):
-        return value
-    value = {name: modern(it) for name, it in value.items()}
-    for limit, exclusive in (("minimum", "exclusiveMinimum"), ("maximum", "exclusiveMaximum")):
-        if value.get(exclusive) is True:
-            value[exclusive] = value.pop(limit)
-    return value
-
-
-def moved(value, begin, new_begin):
-    """The value, with another beginning of the references that begin so."""
-    if isinstance(value, list):
-        return [moved(it, begin, new_begin) for it in value]
-    if not isinstance(value, dict):
-        return value
-    value = {name: moved(it, begin, new_begin) for name, it in value.items()}
-    if isinstance(value.get("$ref"), str) and value["$ref"].startswith(begin):
-        value["$ref"] = new_begin + value["$ref"].removeprefix(begin)
-    return value
-
-
 def cloudformation():
     """A resource's schema, of cfn-lint, by the meta-schema of draft 7: the largest one whose numbers are whole."""
     schema = load(package("jsonschema_specifications", "schemas", "draft7", "metaschema.json"))
@@ -123,48 +60,13 @@ def cloudformation():
 
 
 def openapi():
-    """A service of AWS, of botocore, as an OpenAPI document, by the schema of OpenAPI 3.1."""
-    schema = load(package("openapi_spec_validator", "resources", "schemas", "v3.1", "schema.json"))
-    services = glob.glob(package("botocore", "data", "dynamodb", "*", "service-2.json.gz"))
-    if not services:
-        raise Missing("botocore has no dynamodb")
-    return schema, openapi_document(load(services[-1])), 2020
-
-
-def openapi_document(service):
-    """An operation is a path, its input the body, its errors the responses; a shape is a schema."""
-    shapes = {name: {"type": "object", "properties": {it: {"$ref": f"#/components/schemas/{member['shape']}"}
-                                                      for it, member in shape.get("members", {}).items()}}
-              for name, shape in service["shapes"].items()}
-    paths = {}
-    for name, operation in service["operations"].items():
-        body = {"$ref": f"#/components/schemas/{operation['input']['shape']}"} if "input" in operation else {}
-        responses = {"200": {"description": "done"}}
-        for number, error in enumerate(operation.get("errors", [])):
-            responses[str(400 + number)] = {"description": error["shape"]}
-        paths[f"/{name}"] = {"post": {"operationId": name, "responses": responses,
-                                      "requestBody": {"content": {"application/json": {"schema": body}}}}}
-    info = {"title": service["metadata"]["serviceFullName"], "version": service["metadata"]["apiVersion"]}
-    return {"openapi": "3.1.0", "info": info, "paths": paths, "components": {"schemas": shapes}}
+    """A service of AWS, as an OpenAPI document, by the schema of OpenAPI 3.1."""
+    return openapi_schema(), openapi_document(service("dynamodb")), 2020
 
 
 def meta_schema():
     """The meta-schema of 2020-12 on itself, its vocabularies in one compound document."""
-    folder = package("jsonschema_specifications", "schemas", "draft202012")
-    schema = load(os.path.join(folder, "metaschema.json"))
-    instance = copy.deepcopy(schema)
-    for path in sorted(glob.glob(os.path.join(folder, "vocabularies", "*"))):
-        schema.setdefault("$defs", {})[os.path.basename(path)] = load(path)
-    return schema, instance, 2020
-
-
-def is_whole(value):
-    """Whether each number is whole and has 64 bits: the profile has no others."""
-    if isinstance(value, dict):
-        return all(map(is_whole, value.values()))
-    if isinstance(value, list):
-        return all(map(is_whole, value))
-    return not isinstance(value, float) and (not isinstance(value, int) or -2**63 <= value < 2**64)
+    return compound_meta_schema(), load(draft_2020("metaschema.json")), 2020
 
 
 def without_formats(value):
@@ -194,8 +96,8 @@ def spoiled(instance):
 
 
 REAL = {
-    "iso-3166-2": lambda: iso("3166-2"),
-    "iso-639-3": lambda: iso("639-3"),
+    "iso-3166-2": lambda: (*iso("3166-2"), 7),
+    "iso-639-3": lambda: (*iso("639-3"), 7),
     "cmake-presets": cmake_presets,
     "swagger-petstore": swagger,
     "cloudformation": cloudformation,
