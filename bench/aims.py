@@ -49,6 +49,7 @@ COLUMNS = {
 
 
 def line(cells):
+    """A row of Markdown."""
     return "| " + " | ".join(cells) + " |"
 
 
@@ -73,6 +74,7 @@ def of_column(rows, column):
 
 
 def average(rows, column):
+    """The average of a column; none where it has no figure."""
     figures = of_column(rows, column).values()
     return statistics.mean(figures) if figures else None
 

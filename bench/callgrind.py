@@ -31,6 +31,7 @@ class Counted:
 
 
 def needs_valgrind():
+    """Raises `NotCounted` where valgrind isn't installed."""
     if not shutil.which("valgrind"):
         raise NotCounted("needs valgrind, and finds none on the PATH")
 

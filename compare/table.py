@@ -1,20 +1,9 @@
-"""The tables of a run, as Markdown, and their place on the page."""
+"""The tables of a run, as Markdown."""
 import datetime
 import os
 import platform
 
 from tools import plain_version
-
-README = os.path.join(os.path.dirname(os.path.abspath(__file__)), "README.md")
-
-
-def write_part(script, text):
-    """Puts what a script prints between its marks in compare/README.md."""
-    begin, end = f"<!-- {script}: begin -->\n", f"<!-- {script}: end -->\n"
-    with open(README, encoding="utf-8") as file:
-        before, _, rest = file.read().partition(begin)
-    with open(README, "w", encoding="utf-8") as file:
-        file.write(before + begin + text + end + rest.partition(end)[2])
 
 
 def page(tools, missing, results, given):

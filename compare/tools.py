@@ -83,6 +83,7 @@ class Jschema(Tool):
 
 
 def default_program():
+    """The program as the gate, or `./jschema`, built it; none where it isn't built."""
     return next((os.path.normpath(it) for it in BUILDS if os.path.isfile(it)), None)
 
 

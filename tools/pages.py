@@ -1,0 +1,17 @@
+"""What scripts write into pages."""
+import sys
+
+
+def write_part(page, name, text):
+    """Puts a text between the marks `<!-- NAME: begin -->` and `<!-- NAME: end -->` of a page.
+
+    Ends the script where the page hasn't both.
+    """
+    begin, end = f"<!-- {name}: begin -->\n", f"<!-- {name}: end -->\n"
+    with open(page, encoding="utf-8") as file:
+        before, has_begin, rest = file.read().partition(begin)
+    _, has_end, after = rest.partition(end)
+    if not has_begin or not has_end:
+        sys.exit(f"{page} has no marks for {name}")
+    with open(page, "w", encoding="utf-8") as file:
+        file.write(before + begin + text + end + after)
