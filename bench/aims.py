@@ -5,31 +5,31 @@ from dataclasses import dataclass
 
 @dataclass(frozen=True)
 class Aim:
-    """What a figure has to be: `wanted`, and what is enough, in each case and on average of the cases."""
+    """What a figure should be (`wanted`), and the most that it may be, in each case and on average of the cases."""
 
     wanted: int
-    enough: int | None = None
-    enough_on_average: int | None = None
+    most: int | None = None
+    most_on_average: int | None = None
 
     def shown(self):
-        """The cell of what is enough."""
-        if self.enough_on_average is None:
-            return f"{self.enough:,}" if self.enough else "–"
-        return f"{self.enough_on_average:,}, each {self.enough:,}"
+        """The cell of the most that it may be."""
+        if self.most_on_average is None:
+            return f"{self.most:,}" if self.most else "–"
+        return f"{self.most_on_average:,}, each {self.most:,}"
 
     def missed(self, figures):
         """What is too much of these figures, by case; empty where nothing is."""
         faults = []
         average = statistics.mean(figures.values())
-        if self.enough_on_average is not None and average > self.enough_on_average:
+        if self.most_on_average is not None and average > self.most_on_average:
             faults.append(f"{average:,.0f} on average")
         case = max(figures, key=figures.get)
-        if self.enough is not None and figures[case] > self.enough:
+        if self.most is not None and figures[case] > self.most:
             faults.append(f"{figures[case]:,.0f} in {case}")
         return ", ".join(faults)
 
 
-# Each figure with its column's head and its aim. All but the first are per node, and `reading` per byte of the instance.
+# Each figure with its column's head and its aim. All but the first are per node, `reading` per byte of the instance.
 FLAG = "flag"
 BEYOND_FLAG = ("basic", "detailed", "merged", "verbose")
 COLUMNS = {
@@ -61,10 +61,10 @@ def table(rows):
     """A row a case, whose figures are a dict by column, then the averages that have an aim, and the aims."""
     lines = [line(["case", *(head for head, _ in COLUMNS.values())]), "|---|" + "---:|" * len(COLUMNS)]
     lines += [line([f"`{name}`", *(number(figures.get(it)) for it in COLUMNS)]) for name, figures in rows.items()]
-    lines.append(line(["average", *(number(average(rows, it)) if aim and aim.enough_on_average else ""
+    lines.append(line(["average", *(number(average(rows, it)) if aim and aim.most_on_average else ""
                                     for it, (_, aim) in COLUMNS.items())]))
     lines.append(line(["aim", *(number(aim.wanted) if aim else "" for _, aim in COLUMNS.values())]))
-    lines.append(line(["done at", *(aim.shown() if aim else "" for _, aim in COLUMNS.values())]))
+    lines.append(line(["at most", *(aim.shown() if aim else "" for _, aim in COLUMNS.values())]))
     return "\n".join(lines) + "\n"
 
 
@@ -80,18 +80,18 @@ def average(rows, column):
 
 
 def verdict(rows):
-    """Whether what is enough is reached, and where it isn't."""
+    """Whether all figures are within their limits, and which aren't."""
     faults, unknown = [], []
     for column, (_, aim) in COLUMNS.items():
         figures = of_column(rows, column) if aim else {}
-        if aim and aim.enough is not None and len(figures) < len(rows):
+        if aim and aim.most is not None and len(figures) < len(rows):
             unknown.append(column)
         missed = aim.missed(figures) if figures else ""
         if missed:
             faults.append(f"{column} {missed}")
     cases = "one case" if len(rows) == 1 else f"{len(rows)} cases"
     if faults:
-        return f"Done at: not met on {cases}: {'; '.join(faults)}."
+        return f"Limits: not met on {cases}: {'; '.join(faults)}."
     if unknown or not rows:
-        return f"Done at: not known on {cases}: not measured: {', '.join(unknown)}."
-    return f"Done at: met on {cases}."
+        return f"Limits: not known on {cases}: not measured: {', '.join(unknown)}."
+    return f"Limits: met on {cases}."
