@@ -59,6 +59,11 @@ def worked_examples():
         quiet("place", f"{uri}", "target", answer=target) for uri, target in (
             ("https://a.example/y/", "https://a.example/y/#"), ("https://a.example/z/", "https://a.example/y/#"))],
         {URI: '{"$anchor":"q","allOf":[{"$id":"y/","$ref":"#q","$anchor":"q"},{"$id":"z/","$ref":"../y/"}]}'})
+    yield from of_keywords()
+
+
+def of_keywords():
+    """Assertions, patterns, and which keyword of the standard a name is."""
     yield Table("assertions of places", [
         quiet("place", uri, "assertion", keyword, value, answer=answer) for uri, keyword, value, answer in (
             (URI, "maxLength", '"a"', "holds"), (URI, "maxLength", '"ab"', "2 characters, at most 1"),
