@@ -1,0 +1,171 @@
+"""How results are written: for people, for GitHub Actions, as JSON, or as the validator's output."""
+from __future__ import annotations
+
+import json
+import re
+import sys
+from collections import Counter
+from typing import Any, TextIO
+
+from ..engine import FORMATS
+from ..errors import MEANINGS, Refused, ValidationError
+from ..positions import Position
+from .results import Problem, Result
+from .terminal import has_colours, painted
+
+_CONTROL = re.compile(r"[\x00-\x1f\x7f-\x9f\u2028\u2029]")
+
+
+class Report:
+    """The validator's output in a format, a line for each instance. Refusals and failures go to standard error."""
+
+    def __init__(self, format: str, out: TextIO) -> None:
+        #: The format to ask the engine for.
+        self.engine_format = format
+        self.out = out
+        self.statuses: Counter[int] = Counter()
+        self.errors = 0
+
+    def begin(self) -> None:
+        """Before the first result."""
+
+    def result(self, result: Result) -> None:
+        """Writes a result."""
+        self.statuses[result.status] += 1
+        if result.answer is None:
+            complain(result)
+        else:
+            self.errors += len(result.problems)
+            self.answered(result)
+
+    def answered(self, result: Result) -> None:
+        """Writes the result of an instance that has a verdict."""
+        assert result.answer is not None
+        self.out.write(result.answer.text.decode())
+
+    def end(self) -> None:
+        """After the last result."""
+        self.out.flush()
+
+
+class PeopleReport(Report):
+    """A line for each error, and a summary on standard error."""
+
+    def __init__(self, out: TextIO) -> None:
+        super().__init__("basic", out)
+        self.colours = has_colours(out)
+
+    def answered(self, result: Result) -> None:
+        for problem in result.problems:
+            self.out.write(self.line(result.input.file, problem) + "\n")
+        self.out.flush()
+
+    def line(self, file: str, problem: Problem) -> str:
+        error = problem.fault
+        assert isinstance(error, ValidationError)
+        where = painted(f"{printable(file)}:{problem.position.line}:{problem.position.column}:", "bold", self.colours)
+        message = painted(printable(error.message), "red", self.colours)
+        at = printable(error.instance_location) or "root"
+        details = f"({at}; {printable(error.keyword)}, {printable(error.absolute_keyword_location)})"
+        return f"{where} {message} {painted(details, 'dim', self.colours)}"
+
+    def end(self) -> None:
+        super().end()
+        print(self.summary(), file=sys.stderr)
+
+    def summary(self) -> str:
+        """How many instances came to what."""
+        invalid = f"{self.statuses[1]} invalid ({self.errors} error{'' if self.errors == 1 else 's'})"
+        parts = [f"{self.statuses[0]} valid", invalid if self.statuses[1] else "0 invalid"]
+        parts += [f"{self.statuses[status]} {word}" for status, word in ((3, "refused"), (4, "failed"))
+                  if self.statuses[status]]
+        return ", ".join(parts)
+
+
+class GithubReport(PeopleReport):
+    """Workflow commands, which GitHub Actions shows beside the lines of a change."""
+
+    def result(self, result: Result) -> None:
+        super().result(result)
+        if result.answer is None:
+            text = result.failure or str(result.problems[0].fault)
+            position = result.problems[0].position if result.problems else Position(0, result.input.line, 1)
+            self.out.write(command(result.input.file, position, text))
+
+    def line(self, file: str, problem: Problem) -> str:
+        error = problem.fault
+        assert isinstance(error, ValidationError)
+        text = f"{error.message} ({error.instance_location or 'root'}; {error.absolute_keyword_location})"
+        return command(file, problem.position, text).rstrip("\n")
+
+
+class JsonReport(Report):
+    """One array, with an object for each instance."""
+
+    def __init__(self, out: TextIO) -> None:
+        super().__init__("basic", out)
+        self.separator = "[\n"
+
+    def result(self, result: Result) -> None:
+        self.statuses[result.status] += 1
+        self.out.write(self.separator + json.dumps(as_json(result)))
+        self.separator = ",\n"
+
+    def end(self) -> None:
+        self.out.write("\n]\n" if self.statuses else "[]\n")
+        super().end()
+
+
+def report_for(format: str, out: TextIO) -> Report:
+    """The report of a format."""
+    if format in FORMATS:
+        return Report(format, out)
+    return {"text": PeopleReport, "github": GithubReport, "json": JsonReport}[format](out)
+
+
+def complain(result: Result) -> None:
+    """Says on standard error why an instance has no verdict."""
+    if result.failure is not None:
+        print(f"{printable(result.input.file)}: failed: {result.failure}", file=sys.stderr)
+    for problem in result.problems:
+        assert isinstance(problem.fault, Refused)
+        print(refusal_line(result.input.file, problem.position, problem.fault), file=sys.stderr)
+
+
+def refusal_line(file: str, position: Position, refused: Refused) -> str:
+    """The line that says why a file is refused."""
+    meaning = MEANINGS.get(refused.kind, "see docs/REFUSALS.md")
+    return f"{printable(file)}:{position.line}:{position.column}: refused: {meaning} " \
+           f"({printable(refused.place or '') or 'root'}; {refused.kind})"
+
+
+def as_json(result: Result) -> dict[str, Any]:
+    """A result as the report in JSON has it."""
+    about: dict[str, Any] = {"file": result.input.file, "line": result.input.line,
+                             "valid": None if result.answer is None else result.answer.valid}
+    if result.failure is not None:
+        return {**about, "failed": result.failure}
+    problems = [{"line": it.position.line, "column": it.position.column, **_fields(it.fault)} for it in result.problems]
+    return {**about, "refused": problems[0]} if result.answer is None else {**about, "errors": problems}
+
+
+def _fields(fault: ValidationError | Refused) -> dict[str, Any]:
+    if isinstance(fault, Refused):
+        return {"kind": fault.kind, "place": fault.place}
+    return {"error": fault.message, "instanceLocation": fault.instance_location,
+            "keywordLocation": fault.keyword_location, "absoluteKeywordLocation": fault.absolute_keyword_location}
+
+
+def command(file: str, position: Position, text: str) -> str:
+    """A workflow command `error`."""
+    name = _escaped(file).replace(":", "%3A").replace(",", "%2C")
+    return f"::error file={name},line={position.line},col={position.column}::{_escaped(text)}\n"
+
+
+def _escaped(text: str) -> str:
+    return text.replace("%", "%25").replace("\r", "%0D").replace("\n", "%0A")
+
+
+def printable(text: str) -> str:
+    """A text without control characters, which a terminal would obey."""
+    return _CONTROL.sub(lambda found: f"\\u{ord(found[0]):04x}", text)
