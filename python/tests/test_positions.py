@@ -8,6 +8,8 @@ from jschema import NotJson, Text
 from jschema.locations import pointer
 from rows import texts
 
+# Of the rows, two arrays of a million numbers are larger.
+LARGE = 100_000
 SAMPLE = '{"a\\u00e9" : [1, -20.5e+1,\n "\\ud83d\\ude00é", {}], "b/~": {"": null}, "b/~": [true,\r\n\t[], false]}\n'.encode()
 
 
@@ -78,13 +80,18 @@ class Positions(unittest.TestCase):
 
     def test_rows(self):
         for name, data in texts():
-            with self.subTest(name):
-                if len(data) < 3000:
-                    self.judge(data)
-                elif len(data) < 100000:
-                    self.assertEqual(self.is_scanned(data), is_json(data))
-                else:  # These are JSON; the reference takes long on them.
-                    self.assertEqual(len(Text(data).root.children), len(json.loads(data)))
+            if len(data) < LARGE:
+                with self.subTest(name):
+                    if len(data) < 3000:
+                        self.judge(data)
+                    else:
+                        self.assertEqual(self.is_scanned(data), is_json(data))
+
+    def test_large_row(self):
+        """The largest row, by Python's reader: the reference takes long."""
+        data = max((data for _, data in texts()), key=len)
+        self.assertGreater(len(data), LARGE)
+        self.assertEqual(len(Text(data).root.children), len(json.loads(data)))
 
     def is_scanned(self, data):
         try:
