@@ -11,7 +11,9 @@ import zipfile
 from pathlib import Path
 
 HOME = Path(__file__).resolve().parent
-PROJECT = dict(re.findall(r'^([\w-]+) = "(.*)"$', (HOME / "pyproject.toml").read_text("utf-8").split("[project]")[1], re.M))
+# (Python 3.9 has no reader of TOML.)
+SECTION = (HOME / "pyproject.toml").read_text("utf-8").split("[project]")[1]
+PROJECT = dict(re.findall(r'^([\w-]+) = "(.*)"$', SECTION, re.M))
 STEM = f"{PROJECT['name']}-{PROJECT['version']}"
 WHEEL = "Wheel-Version: 1.0\nGenerator: jschema\nRoot-Is-Purelib: true\nTag: py3-none-any\n"
 

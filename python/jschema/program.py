@@ -68,6 +68,8 @@ class ProgramEngine:
             done = subprocess.run(words, input=instance, stdout=subprocess.PIPE, stderr=subprocess.PIPE, check=False)
         except OSError as error:
             raise EngineError(f"{self._program} can't be run: {error.strerror}") from error
+        except ValueError as error:
+            raise EngineError("a URI with a zero byte or a lone surrogate can't be passed to the program") from error
         if done.returncode in (0, 1):
             return Answer(done.returncode == 0, done.stdout)
         self._raise(done.returncode, done.stderr.decode(errors="replace"))

@@ -23,7 +23,7 @@ class Schemas:
     `entry` is the URI of the schema to apply: a document's, an `$id`, or one of these with a fragment (`places` lists
     all). An `instance` is a JSON text (bytes or str) or a value (see `jschema.values`).
 
-    Each call raises `Refused` for an input that has no verdict, `MemoryError`, and `EngineError` where the engine fails.
+    Each call raises `Refused` for an input that has no verdict, `MemoryError`, and `EngineError` if the engine fails.
     """
 
     def __init__(self, documents: Documents, *, engine: Optional[Engine] = None) -> None:

@@ -17,8 +17,8 @@ LEAST, GREATEST = -2**63, 2**64 - 1
 def text_of(instance: Instance) -> bytes:
     """The JSON text of an instance. A str is a text, not a string.
 
-    Raises `Refused` for a value that can't be written within the profile (a float, a large number, a lone surrogate, more
-    than 127 levels), and `TypeError` for one that JSON doesn't have.
+    Raises `Refused` for a value that can't be written within the profile (a float, a large number, a lone surrogate,
+    more than 127 levels), and `TypeError` for one that JSON doesn't have.
     """
     if isinstance(instance, (bytes, bytearray, memoryview)):
         return bytes(instance)

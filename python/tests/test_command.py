@@ -36,6 +36,19 @@ FILES = {
     "a=b.json": '{"type": "string"}',
     "empty/x": "",
 }
+SOME = ["validate", "--schema", "schema.json"]
+MISUSES = (
+    ([], "name the command: validate\n"),
+    (["check"], "no command 'check': the only one is validate\n"),
+    (["validate", "two.json"], "the following arguments are required: --schema\n"),
+    (SOME, "the following arguments are required: INSTANCE\n"),
+    ([*SOME, "--format", "xml", "two.json"], "argument --format: invalid choice: 'xml' (choose from "),
+    ([*SOME, "--jobs", "0", "two.json"], "argument --jobs: '0' isn't a number from 1 to 256\n"),
+    (["validate", "--schema", "data", "two.json"], "data is a folder: name the file of one schema"),
+    (["validate", "--schema", "https://example.com/s.json", "two.json"], "nothing is fetched: save "),
+    ([*SOME, "empty"], "empty has no file .json: name its files one by one\n"),
+    ([*SOME, "-", "-"], "- is named 2 times: standard input"),
+)
 
 
 class Case(unittest.TestCase):
@@ -82,7 +95,8 @@ class Files(Case):
                    "0 valid, 1 invalid (1 error)\n", 1, schema="no_names.json")
 
     def test_references(self):
-        self.judge(["--ref", "urn:name=string.json", "-"], "<stdin>:1:1: type is integer (root; type, urn:name#/type)\n",
+        self.judge(["--ref", "urn:name=string.json", "-"],
+                   "<stdin>:1:1: type is integer (root; type, urn:name#/type)\n",
                    "0 valid, 1 invalid (1 error)\n", 1, given="1", schema="other.json")
         self.judge(["-", "--ref", "schema.json", "--ref", "urn:name=string.json"], "", "1 valid, 0 invalid\n", 0,
                    given='"A"', schema="other.json")
@@ -194,18 +208,7 @@ class Formats(Case):
 
 class Misuse(Case):
     def test_misuse(self):
-        for words, said in (([], "name the command: validate\n"),
-                            (["check"], "no command 'check': the only one is validate\n"),
-                            (["validate", "two.json"], "the following arguments are required: --schema\n"),
-                            (["validate", "--schema", "schema.json"], "the following arguments are required: INSTANCE\n"),
-                            (["validate", "--schema", "schema.json", "--format", "xml", "two.json"],
-                             "argument --format: invalid choice: 'xml' (choose from "),
-                            (["validate", "--schema", "schema.json", "--jobs", "0", "two.json"],
-                             "argument --jobs: '0' isn't a number from 1 to 256\n"),
-                            (["validate", "--schema", "data", "two.json"], "data is a folder: name the file of one schema"),
-                            (["validate", "--schema", "https://example.com/s.json", "two.json"], "nothing is fetched: save "),
-                            (["validate", "--schema", "schema.json", "empty"],
-                             "empty has no file .json: name the files one by one")):
+        for words, said in MISUSES:
             with self.subTest(words):
                 out, errors, status = self.run_command(*words)
                 self.assertEqual((out, status), ("", 2))
@@ -234,7 +237,8 @@ class Terminal(Case):
         return found.decode()
 
     def test_colours(self):
-        line = f"\x1b[1mdata/sub/bob.json:2:2:\x1b[0m \x1b[31mtype is integer\x1b[0m \x1b[2m(/name; type, {NAME})\x1b[0m"
+        line = "\x1b[1mdata/sub/bob.json:2:2:\x1b[0m \x1b[31mtype is integer\x1b[0m " \
+               f"\x1b[2m(/name; type, {NAME})\x1b[0m"
         self.assertEqual(self.shown("data/sub/bob.json", TERM="xterm", NO_COLOR=""),
                          f"{line}\r\n0 valid, 1 invalid (1 error)\r\n")
         for environment in ({"TERM": "xterm", "NO_COLOR": "1"}, {"TERM": "dumb", "NO_COLOR": ""}):

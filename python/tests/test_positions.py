@@ -10,7 +10,18 @@ from rows import texts
 
 # Of the rows, two arrays of a million numbers are larger.
 LARGE = 100_000
-SAMPLE = '{"a\\u00e9" : [1, -20.5e+1,\n "\\ud83d\\ude00é", {}], "b/~": {"": null}, "b/~": [true,\r\n\t[], false]}\n'.encode()
+SAMPLE = ('{"a\\u00e9" : [1, -20.5e+1,\n "\\ud83d\\ude00é", {}], "b/~": {"": null}, '
+          '"b/~": [true,\r\n\t[], false]}\n').encode()
+JSON = (
+    b"-0", b"1E-5", b"1e308", b'"\\u0000"', b"\r\n1\r\n", b"[[], {}]", b'"\\/\\b"', b'{"": 1, "": 2}',
+    b"123456789012345678901234567890", b"-1.5e-999", b'"\x7f"', b"\t\n[]", b'{"a":{"a":{}}}',
+)
+NOT_JSON = (
+    b"", b" ", b"01", b"-", b"1.", b"1e", b"+1", b".5", b"1e400", b"1" * 400, b"\xef\xbb\xbf1", b"NaN", b"-Infinity",
+    b'"\\ud800"', b'"\t"', b'"\\udc00\\ud800"', b'"\\ud800\\u0041"', b'"\\x41"', b'"\\u12g4"', b'"a', b"'a'",
+    b"[1,]", b'{"a":1,}', b"[,1]", b"[1 2]", b'{"a" 1}', b"{1:1}", b"[}", b"{]", b"[1]]", b"nul", b"True", b"1 1",
+    b"\x0b1",
+)
 
 
 def naive(data, offset):
@@ -114,11 +125,9 @@ class Positions(unittest.TestCase):
                 self.assertEqual(self.is_scanned(data), is_json(data), data)
 
     def test_texts(self):
-        for data in (b"", b" ", b"01", b"-", b"1.", b"1e", b"1e400", b"1" * 400, b"\xef\xbb\xbf1", b'"\\ud800"', b'"\t"',
-                     b'"\\udc00\\ud800"', b'"\\ud800\\u0041"', b"[1,]", b'{"a":1,}', b"[,1]", b"[1 2]", b'{"a" 1}',
-                     b"[}", b"{]", b"nul", b"1 1", b"\x0b1", b"'a'", b"NaN", b"-Infinity", b'{1:1}', b"[1]]", b'"a',
-                     b"-0", b"1E-5", b"1e308", b'"\\u0000"', b"\r\n1\r\n", b"[[], {}]", b'"\\/\\b"'):
+        for data in (*JSON, *NOT_JSON):
             with self.subTest(data):
+                self.assertEqual(is_json(data), data in JSON)
                 self.judge(data)
 
     def test_last_of_a_name_counts(self):

@@ -143,7 +143,8 @@ class Refusals(unittest.TestCase):
     def test_message(self):
         with self.assertRaises(jschema.Refused) as raised:
             jschema.Schemas({URI: '{"type": 1}'})
-        self.assertEqual(str(raised.exception), f"document {URI} at /type: BadKeyword: the keyword's value has the wrong form")
+        self.assertEqual(str(raised.exception),
+                         f"document {URI} at /type: BadKeyword: the keyword's value has the wrong form")
         again = pickle.loads(pickle.dumps(raised.exception))
         self.assertEqual((str(again), again.place), (str(raised.exception), "/type"))
 
@@ -196,6 +197,10 @@ class Programs(unittest.TestCase):
             with self.subTest(script), tempfile.TemporaryDirectory() as folder, \
                     self.assertRaisesRegex(error, message):
                 jschema.Schemas({URI: "true"}, engine=jschema.ProgramEngine(self.write(folder, script)))
+
+    def test_zero_byte(self):
+        with self.assertRaisesRegex(jschema.EngineError, "a URI with a zero byte"):
+            jschema.Schemas({"a:\0": "true"})
 
     def test_no_program(self):
         with self.assertRaisesRegex(jschema.EngineError, "can't be run: No such file"):

@@ -58,9 +58,8 @@ def validate(arguments: Arguments, files: list[str]) -> int:
 def reported(report: Report, progress: Progress, found: Iterator[Result]) -> int:
     """Reports each result as it comes. The worst of them makes the exit status."""
     status = VALID
-    report.begin()
     for count, result in enumerate(found, 1):
-        if not result.is_silent:
+        if report.writes(result):
             progress.clear()
         report.result(result)
         progress.show(count)

@@ -8,7 +8,8 @@ from typing import NoReturn
 from ..engine import FORMATS
 from .inputs import Misuse
 
-USAGE = "python -m jschema validate --schema SCHEMA [--ref [URI=]FILE]... [--format FORMAT] [--lines] [--jobs N] INSTANCE..."
+USAGE = ("python -m jschema validate --schema SCHEMA [--ref [URI=]FILE]... [--format FORMAT] [--lines] [--jobs N] "
+         "INSTANCE...")
 EXAMPLE = "python -m jschema validate --schema person.schema.json ada.json"
 STATUSES = """exit status: 0 all are valid, 1 some are invalid, 2 the arguments are wrong, 3 an input is refused,
 4 out of memory, or a read or write failed; the highest of these"""

@@ -69,7 +69,12 @@ def own_uri(text: bytes) -> Optional[str]:
 
 
 def files_of(arguments: list[str], lines: bool) -> list[str]:
-    """The files that arguments name, with those of each folder by name. Raises `Misuse` for a folder without any."""
+    """The files that arguments name, with those of each folder by name.
+
+    Raises `Misuse` for a folder without any, and for standard input that is named twice.
+    """
+    if arguments.count(STDIN) > 1:
+        raise Misuse(f"{STDIN} is named {arguments.count(STDIN)} times: standard input can be read once")
     files = []
     for argument in arguments:
         if argument == STDIN or not Path(argument).is_dir():
@@ -82,8 +87,7 @@ def files_of(arguments: list[str], lines: bool) -> list[str]:
 def _files_in(folder: str, suffixes: tuple[str, ...]) -> list[str]:
     found = sorted(path for path in Path(folder).rglob("*") if path.suffix in suffixes and path.is_file())
     if not found:
-        raise Misuse(f"{folder} has no file {' or '.join(suffixes)}: name the files one by one, "
-                     f"as in {folder}/*")
+        raise Misuse(f"{folder} has no file {' or '.join(suffixes)}: name its files one by one")
     return [str(path) for path in found]
 
 

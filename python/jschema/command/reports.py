@@ -26,8 +26,9 @@ class Report:
         self.statuses: Counter[int] = Counter()
         self.errors = 0
 
-    def begin(self) -> None:
-        """Before the first result."""
+    def writes(self, result: Result) -> bool:
+        """Whether there is anything to write of a result."""
+        return True
 
     def result(self, result: Result) -> None:
         """Writes a result."""
@@ -54,6 +55,9 @@ class PeopleReport(Report):
     def __init__(self, out: TextIO) -> None:
         super().__init__("basic", out)
         self.colours = has_colours(out)
+
+    def writes(self, result: Result) -> bool:
+        return result.status != 0
 
     def answered(self, result: Result) -> None:
         for problem in result.problems:

@@ -38,11 +38,6 @@ class Result:
             return 0 if self.answer.valid else 1
         return 3 if self.failure is None else 4
 
-    @property
-    def is_silent(self) -> bool:
-        """Whether a report for people has nothing to say of it."""
-        return self.status == 0
-
 
 def result(schemas: Schemas, entry: str, format: str, given: Input) -> Result:
     """Checks an instance. The errors are found where the format is `basic`, the best first."""
