@@ -43,12 +43,12 @@ class Schemas:
 
     def is_valid(self, entry: str, instance: Instance) -> bool:
         """Whether an instance is valid."""
-        return self._check(entry, text_of(instance), "flag").valid
+        return self.check(entry, text_of(instance), "flag").valid
 
     def errors(self, entry: str, instance: Instance) -> list[ValidationError]:
         """The errors of the `basic` output, in its order; none for a valid instance."""
         text = text_of(instance)
-        answer = self._check(entry, text, "basic")
+        answer = self.check(entry, text, "basic")
         return [] if answer.valid else errors_of(answer, Text(text))
 
     def iter_errors(self, entry: str, instance: Instance) -> Iterator[ValidationError]:
@@ -67,11 +67,13 @@ class Schemas:
 
     def output_text(self, entry: str, instance: Instance, *, format: str = "basic") -> bytes:
         """The output in a format: a JSON text in UTF-8, with a line feed at its end."""
-        return self._check(entry, text_of(instance), format).text
+        return self.check(entry, text_of(instance), format).text
 
     def check(self, entry: str, text: bytes, format: str) -> Answer:
-        """The verdict and the output for a JSON text, by one check."""
-        return self._check(entry, text, format)
+        """The verdict and the output in a format for a JSON text, by one check."""
+        if format not in FORMATS:
+            raise ValueError(f"no format {format!r}: it is one of {', '.join(FORMATS)}")
+        return self._open().check(entry, text, format)
 
     def close(self) -> None:
         """Gives back what the schemas hold. Only `close` may be called afterwards."""
@@ -93,11 +95,6 @@ class Schemas:
         if self._engine is None:
             raise ValueError("these Schemas are closed")
         return self._engine
-
-    def _check(self, entry: str, text: bytes, format: str) -> Answer:
-        if format not in FORMATS:
-            raise ValueError(f"no format {format!r}: it is one of {', '.join(FORMATS)}")
-        return self._open().check(entry, text, format)
 
 
 def errors_of(answer: Answer, text: Text) -> list[ValidationError]:

@@ -10,32 +10,29 @@ from ..schemas import Schemas
 from .arguments import Arguments, parse
 from .inputs import Document, Misuse, document, files_of, inputs
 from .reports import Report, refusal_line, report_for
-from .results import Result, results
+from .results import Result, Status, results
 from .terminal import Progress
-
-#: The exit statuses, as the program `jschema` has them.
-VALID, INVALID, MISUSE, REFUSED, FAILED = range(5)
 
 
 def main(words: list[str]) -> int:
-    """Runs the command with these arguments, and returns its exit status."""
+    """Runs the command with these arguments, and returns its exit status (see `Status`)."""
     sys.stdout.reconfigure(errors="backslashreplace")  # type: ignore[union-attr]
     try:
         arguments = parse(words)
         return validate(arguments, files_of(arguments.instances, arguments.lines))
     except Misuse as misuse:
         print(f"jschema: {misuse}", file=sys.stderr)
-        return MISUSE
+        return Status.MISUSE
     except BrokenPipeError:
         # Nothing more can be written, not even what Python flushes at its end.
         os.dup2(os.open(os.devnull, os.O_WRONLY), sys.stdout.fileno())
-        return FAILED
+        return Status.FAILED
     except OSError as error:
         print(f"jschema: {error.filename or 'standard output'}: {error.strerror}", file=sys.stderr)
-        return FAILED
+        return Status.FAILED
     except (EngineError, MemoryError) as error:
         print(f"jschema: {error}", file=sys.stderr)
-        return FAILED
+        return Status.FAILED
     except KeyboardInterrupt:
         return 130
 
@@ -47,7 +44,7 @@ def validate(arguments: Arguments, files: list[str]) -> int:
         schemas = Schemas((it.uri, it.text) for it in documents)
     except Refused as refused:
         refused_document(documents, refused)
-        return REFUSED
+        return Status.REFUSED
     report = report_for(arguments.format, sys.stdout)
     progress = Progress(None if arguments.lines else len(files))
     with schemas:
@@ -57,7 +54,7 @@ def validate(arguments: Arguments, files: list[str]) -> int:
 
 def reported(report: Report, progress: Progress, found: Iterator[Result]) -> int:
     """Reports each result as it comes. The worst of them makes the exit status."""
-    status = VALID
+    status = Status.VALID
     for count, result in enumerate(found, 1):
         if report.writes(result):
             progress.clear()

@@ -8,9 +8,9 @@ from collections import Counter
 from typing import Any, TextIO
 
 from ..engine import FORMATS
-from ..errors import MEANINGS, Refused, ValidationError
+from ..errors import MEANINGS, Refused
 from ..positions import Position
-from .results import Problem, Result
+from .results import FoundError, Result, Status
 from .terminal import has_colours, painted
 
 _CONTROL = re.compile(r"[\x00-\x1f\x7f-\x9f\u2028\u2029]")
@@ -23,7 +23,7 @@ class Report:
         #: The format to ask the engine for.
         self.engine_format = format
         self.out = out
-        self.statuses: Counter[int] = Counter()
+        self.statuses: Counter[Status] = Counter()
         self.errors = 0
 
     def writes(self, result: Result) -> bool:
@@ -36,7 +36,7 @@ class Report:
         if result.answer is None:
             complain(result)
         else:
-            self.errors += len(result.problems)
+            self.errors += len(result.errors)
             self.answered(result)
 
     def answered(self, result: Result) -> None:
@@ -57,21 +57,21 @@ class PeopleReport(Report):
         self.colours = has_colours(out)
 
     def writes(self, result: Result) -> bool:
-        return result.status != 0
+        return result.status != Status.VALID
 
     def answered(self, result: Result) -> None:
-        for problem in result.problems:
-            self.out.write(self.line(result.input.file, problem) + "\n")
+        for found in result.errors:
+            self.out.write(self.line(result.input.file, found))
         self.out.flush()
 
-    def line(self, file: str, problem: Problem) -> str:
-        error = problem.fault
-        assert isinstance(error, ValidationError)
-        where = painted(f"{printable(file)}:{problem.position.line}:{problem.position.column}:", "bold", self.colours)
+    def line(self, file: str, found: FoundError) -> str:
+        """The line for an error."""
+        position, error = found
+        where = painted(f"{printable(file)}:{position.line}:{position.column}:", "bold", self.colours)
         message = painted(printable(error.message), "red", self.colours)
         at = printable(error.instance_location) or "root"
         details = f"({at}; {printable(error.keyword)}, {printable(error.absolute_keyword_location)})"
-        return f"{where} {message} {painted(details, 'dim', self.colours)}"
+        return f"{where} {message} {painted(details, 'dim', self.colours)}\n"
 
     def end(self) -> None:
         super().end()
@@ -79,9 +79,9 @@ class PeopleReport(Report):
 
     def summary(self) -> str:
         """How many instances came to what."""
-        invalid = f"{self.statuses[1]} invalid ({self.errors} error{'' if self.errors == 1 else 's'})"
-        parts = [f"{self.statuses[0]} valid", invalid if self.statuses[1] else "0 invalid"]
-        parts += [f"{self.statuses[status]} {word}" for status, word in ((3, "refused"), (4, "failed"))
+        errors = f" ({self.errors} error{'' if self.errors == 1 else 's'})" if self.errors else ""
+        parts = [f"{self.statuses[Status.VALID]} valid", f"{self.statuses[Status.INVALID]} invalid{errors}"]
+        parts += [f"{self.statuses[status]} {word}" for status, word in ((Status.REFUSED, "refused"), (Status.FAILED, "failed"))
                   if self.statuses[status]]
         return ", ".join(parts)
 
@@ -91,16 +91,15 @@ class GithubReport(PeopleReport):
 
     def result(self, result: Result) -> None:
         super().result(result)
-        if result.answer is None:
-            text = result.failure or str(result.problems[0].fault)
-            position = result.problems[0].position if result.problems else Position(0, result.input.line, 1)
-            self.out.write(command(result.input.file, position, text))
+        if result.refusal is not None:
+            self.out.write(command(result.input.file, result.refusal.position, str(result.refusal.refused)))
+        if result.failure is not None:
+            self.out.write(command(result.input.file, Position(0, result.input.line, 1), result.failure))
 
-    def line(self, file: str, problem: Problem) -> str:
-        error = problem.fault
-        assert isinstance(error, ValidationError)
+    def line(self, file: str, found: FoundError) -> str:
+        position, error = found
         text = f"{error.message} ({error.instance_location or 'root'}; {error.absolute_keyword_location})"
-        return command(file, problem.position, text).rstrip("\n")
+        return command(file, position, text)
 
 
 class JsonReport(Report):
@@ -131,9 +130,8 @@ def complain(result: Result) -> None:
     """Says on standard error why an instance has no verdict."""
     if result.failure is not None:
         print(f"{printable(result.input.file)}: failed: {result.failure}", file=sys.stderr)
-    for problem in result.problems:
-        assert isinstance(problem.fault, Refused)
-        print(refusal_line(result.input.file, problem.position, problem.fault), file=sys.stderr)
+    if result.refusal is not None:
+        print(refusal_line(result.input.file, *result.refusal), file=sys.stderr)
 
 
 def refusal_line(file: str, position: Position, refused: Refused) -> str:
@@ -149,19 +147,18 @@ def as_json(result: Result) -> dict[str, Any]:
                              "valid": None if result.answer is None else result.answer.valid}
     if result.failure is not None:
         return {**about, "failed": result.failure}
-    problems = [{"line": it.position.line, "column": it.position.column, **_fields(it.fault)} for it in result.problems]
-    return {**about, "refused": problems[0]} if result.answer is None else {**about, "errors": problems}
-
-
-def _fields(fault: ValidationError | Refused) -> dict[str, Any]:
-    if isinstance(fault, Refused):
-        return {"kind": fault.kind, "place": fault.place}
-    return {"error": fault.message, "instanceLocation": fault.instance_location,
-            "keywordLocation": fault.keyword_location, "absoluteKeywordLocation": fault.absolute_keyword_location}
+    if result.refusal is not None:
+        position, refused = result.refusal
+        return {**about, "refused": {"line": position.line, "column": position.column,
+                                     "kind": refused.kind, "place": refused.place}}
+    return {**about, "errors": [{
+        "line": position.line, "column": position.column, "error": error.message,
+        "instanceLocation": error.instance_location, "keywordLocation": error.keyword_location,
+        "absoluteKeywordLocation": error.absolute_keyword_location} for position, error in result.errors]}
 
 
 def command(file: str, position: Position, text: str) -> str:
-    """A workflow command `error`."""
+    """The workflow command for an error."""
     name = _escaped(file).replace(":", "%3A").replace(",", "%2C")
     return f"::error file={name},line={position.line},col={position.column}::{_escaped(text)}\n"
 

@@ -5,7 +5,8 @@ from collections import deque
 from collections.abc import Iterable, Iterator
 from concurrent.futures import Future, ThreadPoolExecutor
 from dataclasses import dataclass, field
-from typing import Optional, Union
+from enum import IntEnum
+from typing import NamedTuple, Optional
 
 from ..engine import Answer
 from ..errors import EngineError, Refused, ValidationError, best_first
@@ -14,29 +15,46 @@ from ..schemas import Schemas, errors_of
 from .inputs import Input, refusal_position
 
 
-@dataclass(frozen=True)
-class Problem:
-    """Something that is wrong with an instance, and where it is in the file."""
+class Status(IntEnum):
+    """The exit statuses, as the program `jschema` has them."""
+
+    VALID = 0
+    INVALID = 1
+    MISUSE = 2
+    REFUSED = 3
+    FAILED = 4
+
+
+class FoundError(NamedTuple):
+    """An error, and where it is in the file."""
 
     position: Position
-    fault: Union[ValidationError, Refused]
+    error: ValidationError
+
+
+class Refusal(NamedTuple):
+    """Why an instance is refused, and where in the file."""
+
+    position: Position
+    refused: Refused
 
 
 @dataclass(frozen=True)
 class Result:
-    """An instance with its answer, or with the refusal or failure that came instead."""
+    """An instance with its answer and errors, or with the refusal or failure that came instead."""
 
     input: Input
     answer: Optional[Answer] = None
-    problems: list[Problem] = field(default_factory=list)
+    errors: list[FoundError] = field(default_factory=list)
+    refusal: Optional[Refusal] = None
     failure: Optional[str] = None
 
     @property
-    def status(self) -> int:
+    def status(self) -> Status:
         """The exit status that this result asks for."""
         if self.answer is not None:
-            return 0 if self.answer.valid else 1
-        return 3 if self.failure is None else 4
+            return Status.VALID if self.answer.valid else Status.INVALID
+        return Status.REFUSED if self.failure is None else Status.FAILED
 
 
 def result(schemas: Schemas, entry: str, format: str, given: Input) -> Result:
@@ -47,13 +65,13 @@ def result(schemas: Schemas, entry: str, format: str, given: Input) -> Result:
     try:
         answer = schemas.check(entry, given.text, format)
     except Refused as refused:
-        return Result(given, problems=[Problem(_in_file(given, refusal_position(text, refused)), refused)])
+        return Result(given, refusal=Refusal(_in_file(given, refusal_position(text, refused)), refused))
     except (EngineError, MemoryError) as error:
         return Result(given, failure=str(error))
     if answer.valid or format != "basic":
         return Result(given, answer)
     errors = best_first(errors_of(answer, text))
-    return Result(given, answer, [Problem(_in_file(given, error.position), error) for error in errors])
+    return Result(given, answer, [FoundError(_in_file(given, error.position), error) for error in errors])
 
 
 def results(schemas: Schemas, entry: str, format: str, given: Iterable[Input], jobs: int) -> Iterator[Result]:
