@@ -47,20 +47,23 @@ class Node:
         self.children: Union[dict[str, Node], list[Node], None] = None
 
 
-def scan(text: bytes) -> Node:
-    """The value of a text. Of members with the same name the last counts. Raises `NotJson`."""
+def scan(text: bytes, deepest: Optional[int] = DEEPEST) -> Node:
+    """The value of a text. Of members with the same name the last counts. Raises `NotJson`.
+
+    `deepest` limits how many arrays and objects are in one another; None doesn't.
+    """
     try:
         text.decode()
     except UnicodeDecodeError as error:
         raise NotJson(error.start) from None
-    return _Scanner(text).run()
+    return _Scanner(text, deepest).run()
 
 
 class _Scanner:
     """A pass over a text: `at` is the next byte, `holders` are the arrays and objects that are open."""
 
-    def __init__(self, text: bytes) -> None:
-        self.text, self.at = text, 0
+    def __init__(self, text: bytes, deepest: Optional[int]) -> None:
+        self.text, self.at, self.deepest = text, 0, deepest
         self.holders: list[Node] = []
 
     def run(self) -> Node:
@@ -98,7 +101,7 @@ class _Scanner:
         first = self.token()
         node = Node(self.begin, self.at, name)
         if first in (_ARRAY, _OBJECT):
-            if len(self.holders) == DEEPEST:
+            if len(self.holders) == self.deepest:
                 raise NotJson(self.begin)
             node.children = [] if first == _ARRAY else {}
             self.holders.append(node)

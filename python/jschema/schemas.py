@@ -1,13 +1,13 @@
 """Schema documents, and what can be asked of them."""
 from __future__ import annotations
 
-import json
 from collections.abc import Iterable, Iterator, Mapping
 from types import TracebackType
 from typing import Any, NoReturn, Optional, Union
 
 from .engine import FORMATS, Answer, Engine
 from .errors import ValidationError, best_first
+from .outputs import parse
 from .positions import Text
 from .program import ProgramEngine
 from .values import Instance, text_of
@@ -62,7 +62,7 @@ class Schemas:
 
     def output(self, entry: str, instance: Instance, *, format: str = "basic") -> dict[str, Any]:
         """The output in a format, parsed."""
-        parsed: dict[str, Any] = json.loads(self.output_text(entry, instance, format=format))
+        parsed: dict[str, Any] = parse(self.output_text(entry, instance, format=format))
         return parsed
 
     def output_text(self, entry: str, instance: Instance, *, format: str = "basic") -> bytes:
@@ -101,4 +101,4 @@ def errors_of(answer: Answer, text: Text) -> list[ValidationError]:
     """The errors in a `basic` output of an invalid instance."""
     return [ValidationError(unit["error"], unit["instanceLocation"], unit["keywordLocation"],
                             unit["absoluteKeywordLocation"], text)
-            for unit in json.loads(answer.text)["errors"]]
+            for unit in parse(answer.text)["errors"]]

@@ -1,4 +1,5 @@
 """What `Schemas` promises beside the rows: instances, errors, refusals, engines."""
+import json
 import math
 import os
 import pickle
@@ -9,6 +10,7 @@ from concurrent.futures import ThreadPoolExecutor
 from unittest import mock
 
 import jschema
+from jschema.outputs import without_recursion
 from jschema.program import find_program
 
 URI = "https://example.com/s"
@@ -109,6 +111,23 @@ class Answers(unittest.TestCase):
                              "absoluteKeywordLocation": f"{URI}#/properties/0/minimum"}]})
         with self.assertRaisesRegex(ValueError, "no format 'json': it is one of flag, basic,"):
             self.schemas.output(URI, 1, format="json")
+
+    def test_deep_output(self):
+        """The verbose output of many nested schemas, which is deeper than Python's reader goes."""
+        depth = 250
+        names = {f"s{number}": {"not": {"$ref": f"#/$defs/s{number + 1}"}} for number in range(depth)}
+        document = {"$ref": "#/$defs/s0", "$defs": {**names, f"s{depth}": {"type": "null"}}}
+        with jschema.Schemas({URI: json.dumps(document)}) as schemas:
+            node = schemas.output(URI, 1, format="verbose")
+        count = 0
+        while children := node.get("errors", node.get("annotations")):
+            [node] = children
+            count += 1
+        self.assertEqual((node["error"], count), ("type is integer", 4 * depth + 3))
+
+    def test_reader_without_recursion(self):
+        text = self.schemas.output_text(URI, {"0": 0, "a/b~c": ["", 1]}, format="verbose")
+        self.assertEqual(without_recursion(text), json.loads(text))
 
     def test_places(self):
         self.assertIn(f"{URI}#/properties/a~1b~0c/items", self.schemas.places())
