@@ -10,6 +10,7 @@ from pathlib import Path
 
 SCHEMA = """{
   "$id": "https://example.com/person",
+  "not": {"const": 1},
   "properties": {"name": {"type": "string"}, "age": {"minimum": 0}, "friends": {"items": {"$ref": "person"}}},
   "required": ["name"]
 }"""
@@ -117,6 +118,12 @@ class Lines(Case):
                    "<stdin>:3:6: refused: not a JSON text, or nested deeper than 127 (root; NotJson)\n"
                    "1 valid, 1 invalid (1 error), 1 refused\n",
                    3, given='{"name": "A"}\n\n{"x" \n{"name": "B", "age": -1}')
+
+    def test_order(self):
+        """The results stay in the order of the lines, also when more wait than run."""
+        out, _, status = self.run_command(*SOME, "--lines", "--jobs", "2", "-", given="1\n" * 20)
+        self.assertEqual(status, 1)
+        self.assertEqual([int(line.split(":")[1]) for line in out.splitlines()], list(range(1, 21)))
 
     def test_folder(self):
         self.judge(["--lines", "--jobs", "2", "data"], f"data/rows.jsonl:3:22: less than 0 (/age; minimum, {AGE})\n",
