@@ -1,0 +1,94 @@
+"""What comes of each instance."""
+from __future__ import annotations
+
+from collections import deque
+from collections.abc import Iterable, Iterator
+from concurrent.futures import Future, ThreadPoolExecutor
+from dataclasses import dataclass, field
+from enum import IntEnum
+from typing import NamedTuple, Optional
+
+from ..engine import Answer
+from ..errors import EngineError, Refused, ValidationError, best_first
+from ..positions import Position, Text
+from ..schemas import Schemas, errors_of
+from .inputs import Input, refusal_position
+
+
+class Status(IntEnum):
+    """The exit statuses, as the program `jschema` has them."""
+
+    VALID = 0
+    INVALID = 1
+    MISUSE = 2
+    REFUSED = 3
+    FAILED = 4
+
+
+class FoundError(NamedTuple):
+    """An error, and where it is in the file."""
+
+    position: Position
+    error: ValidationError
+
+
+class Refusal(NamedTuple):
+    """Why an instance is refused, and where in the file."""
+
+    position: Position
+    refused: Refused
+
+
+@dataclass(frozen=True)
+class Result:
+    """An instance with its answer and errors, or with the refusal or failure that came instead."""
+
+    input: Input
+    answer: Optional[Answer] = None
+    errors: list[FoundError] = field(default_factory=list)
+    refusal: Optional[Refusal] = None
+    failure: Optional[str] = None
+
+    @property
+    def status(self) -> Status:
+        """The exit status that this result asks for."""
+        if self.answer is not None:
+            return Status.VALID if self.answer.valid else Status.INVALID
+        return Status.REFUSED if self.failure is None else Status.FAILED
+
+
+def result(schemas: Schemas, entry: str, format: str, given: Input) -> Result:
+    """Checks an instance. The errors are found where the format is `basic`, the best first."""
+    if given.fault is not None:
+        return Result(given, failure=given.fault.strerror or str(given.fault))
+    text = Text(given.text)
+    try:
+        answer = schemas.check(entry, given.text, format)
+    except Refused as refused:
+        return Result(given, refusal=Refusal(_in_file(given, refusal_position(text, refused)), refused))
+    except (EngineError, MemoryError) as error:
+        return Result(given, failure=str(error))
+    if answer.valid or format != "basic":
+        return Result(given, answer)
+    errors = best_first(errors_of(answer, text))
+    return Result(given, answer, [FoundError(_in_file(given, error.position), error) for error in errors])
+
+
+def results(schemas: Schemas, entry: str, format: str, given: Iterable[Input], jobs: int) -> Iterator[Result]:
+    """The results in the order of the instances. Up to `jobs` checks run at once."""
+    if jobs == 1:
+        yield from (result(schemas, entry, format, it) for it in given)
+        return
+    waiting: deque[Future[Result]] = deque()
+    with ThreadPoolExecutor(jobs) as pool:
+        for it in given:
+            waiting.append(pool.submit(result, schemas, entry, format, it))
+            # A few wait for their turn, so that memory stays bounded.
+            if len(waiting) == 4 * jobs:
+                yield waiting.popleft().result()
+        while waiting:
+            yield waiting.popleft().result()
+
+
+def _in_file(given: Input, position: Position) -> Position:
+    return position._replace(line=position.line + given.line - 1)

@@ -1,0 +1,104 @@
+"""Schema documents, and what can be asked of them."""
+from __future__ import annotations
+
+from collections.abc import Iterable, Iterator, Mapping
+from types import TracebackType
+from typing import Any, NoReturn, Optional, Union
+
+from .engine import FORMATS, Answer, Engine
+from .errors import ValidationError, best_first
+from .outputs import parse
+from .positions import Text
+from .program import ProgramEngine
+from .values import Instance, text_of
+
+#: Each document's absolute URI with its text.
+Documents = Union[Mapping[str, Union[bytes, str]], Iterable[tuple[str, Union[bytes, str]]]]
+
+
+class Schemas:
+    """Schema documents that were read and checked, for as many instances as you like, from any thread.
+
+    Documents refer to one another by the URIs that they are registered under, or by their `$id`. Nothing is fetched. An
+    `entry` is the URI of the schema to apply: a document's, an `$id`, or one of these with a fragment (`places` lists
+    all). An `instance` is a JSON text (bytes or str) or a value (see `jschema.values`).
+
+    Each call raises `Refused` for an input that has no verdict, `MemoryError`, and `EngineError` if the engine fails.
+    """
+
+    def __init__(self, documents: Documents, *, engine: Optional[Engine] = None) -> None:
+        self._engine: Optional[Engine] = ProgramEngine() if engine is None else engine
+        pairs = documents.items() if isinstance(documents, Mapping) else documents
+        try:
+            for uri, document in pairs:
+                self._engine.add(uri, document.encode() if isinstance(document, str) else bytes(document))
+            self._engine.finish()
+        except BaseException:
+            self.close()
+            raise
+
+    def places(self) -> list[str]:
+        """The absolute location of every schema: what can be an entry, or be referred to."""
+        return list(self._open().places())
+
+    def is_valid(self, entry: str, instance: Instance) -> bool:
+        """Whether an instance is valid."""
+        return self.check(entry, text_of(instance), "flag").valid
+
+    def errors(self, entry: str, instance: Instance) -> list[ValidationError]:
+        """The errors of the `basic` output, in its order; none for a valid instance."""
+        text = text_of(instance)
+        answer = self.check(entry, text, "basic")
+        return [] if answer.valid else errors_of(answer, Text(text))
+
+    def iter_errors(self, entry: str, instance: Instance) -> Iterator[ValidationError]:
+        """The same, one by one."""
+        return iter(self.errors(entry, instance))
+
+    def validate(self, entry: str, instance: Instance) -> None:
+        """Raises the best `ValidationError` (the first of the deepest) unless the instance is valid."""
+        for error in best_first(self.errors(entry, instance)):
+            raise error
+
+    def output(self, entry: str, instance: Instance, *, format: str = "basic") -> dict[str, Any]:
+        """The output in a format, parsed."""
+        parsed: dict[str, Any] = parse(self.output_text(entry, instance, format=format))
+        return parsed
+
+    def output_text(self, entry: str, instance: Instance, *, format: str = "basic") -> bytes:
+        """The output in a format: a JSON text in UTF-8, with a line feed at its end."""
+        return self.check(entry, text_of(instance), format).text
+
+    def check(self, entry: str, text: bytes, format: str) -> Answer:
+        """The verdict and the output in a format for a JSON text, by one check."""
+        if format not in FORMATS:
+            raise ValueError(f"no format {format!r}: it is one of {', '.join(FORMATS)}")
+        return self._open().check(entry, text, format)
+
+    def close(self) -> None:
+        """Gives back what the schemas hold. Only `close` may be called afterwards."""
+        if self._engine is not None:
+            self._engine.close()
+            self._engine = None
+
+    def __enter__(self) -> Schemas:
+        return self
+
+    def __exit__(self, kind: Optional[type[BaseException]], error: Optional[BaseException],
+                 trace: Optional[TracebackType]) -> None:
+        self.close()
+
+    def __reduce__(self) -> NoReturn:
+        raise TypeError("Schemas can't be pickled: send the documents, and make one Schemas in each process")
+
+    def _open(self) -> Engine:
+        if self._engine is None:
+            raise ValueError("these Schemas are closed")
+        return self._engine
+
+
+def errors_of(answer: Answer, text: Text) -> list[ValidationError]:
+    """The errors in a `basic` output of an invalid instance."""
+    return [ValidationError(unit["error"], unit["instanceLocation"], unit["keywordLocation"],
+                            unit["absoluteKeywordLocation"], text)
+            for unit in parse(answer.text)["errors"]]
