@@ -46,7 +46,7 @@ fn answers(rt: &HostRuntime, marked: &str, input: &str) -> Result<String, Fail> 
     let mut groups = input.split('\u{1d}');
     let documents = groups.next().unwrap_or("");
     let mut answers = String::new(rt.alloc());
-    let schemas = bundles::finished(rt, marked, documents, &mut answers)?;
+    let schemas = bundles::finished_schemas(rt, marked, documents, &mut answers)?;
     for question in groups.next().unwrap_or("").split('\u{1e}') {
         let words = words_of(rt.alloc(), question)?;
         let answer = answer(rt, documents, &schemas, words.as_slice())?;

@@ -19,7 +19,7 @@ const INVALID_PAIR: &str = "{\"type\":\"integer\"}\n\"x\"";
 
 /// What is asked for, and what comes of it: the status, then the output with a `|` for each flush, then the bytes on
 /// standard error.
-struct Case {
+struct Run {
     words: &'static [&'static str],
     input: &'static str,
     read_fails: bool,
@@ -28,129 +28,117 @@ struct Case {
     flush_failed: &'static str,
 }
 
-const USAGE: Case = Case {
-    words: &["check"],
-    input: "",
-    read_fails: false,
-    writes_fail: false,
-    flushed: "2|usage: jschema (check FORMAT INSTANCE ENTRY | suite SUITE | places) [URI FILE]...\n",
-    flush_failed: "2|usage: jschema (check FORMAT INSTANCE ENTRY | suite SUITE | places) [URI FILE]...\n",
-};
-
-const ODD_PAIRS: Case = Case {
-    words: &["places", URI],
-    input: "",
-    read_fails: false,
-    writes_fail: false,
-    flushed: "2|usage: URI and FILE come in pairs\n",
-    flush_failed: "2|usage: URI and FILE come in pairs\n",
-};
-
-const REFUSED: Case = Case {
-    words: &["check", "flag", "instance", URI, URI, "refused"],
-    input: "",
-    read_fails: false,
-    writes_fail: false,
-    flushed: "3|refused: document 0 at \"/type\": BadKeyword\n",
-    flush_failed: "3|refused: document 0 at \"/type\": BadKeyword\n",
-};
-
-const TOO_LARGE: Case = Case {
-    words: &["check", "flag", "large", URI, URI, "refused"],
-    input: "",
-    read_fails: false,
-    writes_fail: false,
-    flushed: "3|refused: input: InputTooLarge\n",
-    flush_failed: "3|refused: input: InputTooLarge\n",
-};
-
-const FILE_UNREAD: Case = Case {
-    words: &["suite", "missing", URI, "refused"],
-    input: "",
-    read_fails: false,
-    writes_fail: false,
-    flushed: "4|failed: Read\n",
-    flush_failed: "4|failed: Read\n",
-};
-
-const INPUT_UNREAD: Case = Case {
-    words: &[],
-    input: VALID_PAIR,
-    read_fails: true,
-    writes_fail: false,
-    flushed: "4|failed: Read\n",
-    flush_failed: "4|failed: Read\n",
-};
-
-const WRITE_FAILED: Case = Case {
-    words: &[],
-    input: VALID_PAIR,
-    read_fails: false,
-    writes_fail: true,
-    flushed: "4failed: Write\n",
-    flush_failed: "4failed: Write\n",
-};
-
-// The write would fail, but nothing is written.
-const REFUSED_BEFORE_THE_WRITE: Case = Case {
-    words: &[],
-    input: "{\"type\":[]}\n3",
-    read_fails: false,
-    writes_fail: true,
-    flushed: "3|refused: document 0 at \"/type\": BadKeyword\n",
-    flush_failed: "3|refused: document 0 at \"/type\": BadKeyword\n",
-};
-
-const VALID: Case = Case {
-    words: &[],
-    input: VALID_PAIR,
-    read_fails: false,
-    writes_fail: false,
-    flushed: "0{\"valid\":true}\n|",
-    flush_failed: "4{\"valid\":true}\n|failed: Write\n",
-};
-
-const INVALID: Case = Case {
-    words: &[],
-    input: INVALID_PAIR,
-    read_fails: false,
-    writes_fail: false,
-    flushed: "1{\"valid\":false}\n|",
-    flush_failed: "4{\"valid\":false}\n|failed: Write\n",
-};
-
-const PLACES: Case = Case {
-    words: &["places", URI, "schema"],
-    input: "",
-    read_fails: false,
-    writes_fail: false,
-    flushed: "0https://a.example/s#\n|",
-    flush_failed: "4https://a.example/s#\n|failed: Write\n",
-};
-
-const CASES: [Case; 11] = [
-    USAGE,
-    ODD_PAIRS,
-    REFUSED,
-    TOO_LARGE,
-    FILE_UNREAD,
-    INPUT_UNREAD,
-    WRITE_FAILED,
-    REFUSED_BEFORE_THE_WRITE,
-    VALID,
-    INVALID,
-    PLACES,
+const RUNS: [Run; 11] = [
+    // A usage text.
+    Run {
+        words: &["check"],
+        input: "",
+        read_fails: false,
+        writes_fail: false,
+        flushed: "2|usage: jschema (check FORMAT INSTANCE ENTRY | suite SUITE | places) [URI FILE]...\n",
+        flush_failed: "2|usage: jschema (check FORMAT INSTANCE ENTRY | suite SUITE | places) [URI FILE]...\n",
+    },
+    // The usage text for a URI without a file.
+    Run {
+        words: &["places", URI],
+        input: "",
+        read_fails: false,
+        writes_fail: false,
+        flushed: "2|usage: URI and FILE come in pairs\n",
+        flush_failed: "2|usage: URI and FILE come in pairs\n",
+    },
+    // A refused document.
+    Run {
+        words: &["check", "flag", "instance", URI, URI, "refused"],
+        input: "",
+        read_fails: false,
+        writes_fail: false,
+        flushed: "3|refused: document 0 at \"/type\": BadKeyword\n",
+        flush_failed: "3|refused: document 0 at \"/type\": BadKeyword\n",
+    },
+    // A file that is too large.
+    Run {
+        words: &["check", "flag", "large", URI, URI, "refused"],
+        input: "",
+        read_fails: false,
+        writes_fail: false,
+        flushed: "3|refused: input: InputTooLarge\n",
+        flush_failed: "3|refused: input: InputTooLarge\n",
+    },
+    // A file that can't be read.
+    Run {
+        words: &["suite", "missing", URI, "refused"],
+        input: "",
+        read_fails: false,
+        writes_fail: false,
+        flushed: "4|failed: Read\n",
+        flush_failed: "4|failed: Read\n",
+    },
+    // Standard input that can't be read.
+    Run {
+        words: &[],
+        input: VALID_PAIR,
+        read_fails: true,
+        writes_fail: false,
+        flushed: "4|failed: Read\n",
+        flush_failed: "4|failed: Read\n",
+    },
+    // A write that fails.
+    Run {
+        words: &[],
+        input: VALID_PAIR,
+        read_fails: false,
+        writes_fail: true,
+        flushed: "4failed: Write\n",
+        flush_failed: "4failed: Write\n",
+    },
+    // A refusal where a write would fail.
+    Run {
+        words: &[],
+        input: "{\"type\":[]}\n3",
+        read_fails: false,
+        writes_fail: true,
+        flushed: "3|refused: document 0 at \"/type\": BadKeyword\n",
+        flush_failed: "3|refused: document 0 at \"/type\": BadKeyword\n",
+    },
+    // A valid instance.
+    Run {
+        words: &[],
+        input: VALID_PAIR,
+        read_fails: false,
+        writes_fail: false,
+        flushed: "0{\"valid\":true}\n|",
+        flush_failed: "4{\"valid\":true}\n|failed: Write\n",
+    },
+    // An invalid instance.
+    Run {
+        words: &[],
+        input: INVALID_PAIR,
+        read_fails: false,
+        writes_fail: false,
+        flushed: "1{\"valid\":false}\n|",
+        flush_failed: "4{\"valid\":false}\n|failed: Write\n",
+    },
+    // A list of places.
+    Run {
+        words: &["places", URI, "schema"],
+        input: "",
+        read_fails: false,
+        writes_fail: false,
+        flushed: "0https://a.example/s#\n|",
+        flush_failed: "4https://a.example/s#\n|failed: Write\n",
+    },
 ];
 
 /// Takes all bytes of a write at once, and `|` for a flush. Its writes may fail, and its flushes.
 #[derive(Drop)]
-struct Output {
+struct Recorder {
     taken: Vec<u8>,
     writes_fail: bool,
     flush_fails: bool,
 }
 
-impl Write for Output {
+impl Write for Recorder {
     fn write(&mut self, bytes: &[u8]) -> io::Result<usize> {
         if self.writes_fail {
             return Err(io::Error::from(ErrorKind::BrokenPipe));
@@ -185,29 +173,29 @@ impl Files for InMemory {
     }
 }
 
-fn told(alloc: Global, case: &Case, flush_fails: bool) -> Result<Vec<u8>, Memory> {
-    let mut output = Output {
+fn written(alloc: Global, run: &Run, flush_fails: bool) -> Result<Vec<u8>, Memory> {
+    let mut output = Recorder {
         taken: Vec::new(alloc),
-        writes_fail: case.writes_fail,
+        writes_fail: run.writes_fail,
         flush_fails,
     };
     let mut line = Vec::new(alloc);
-    let status = status(alloc, case, &mut output, &mut line);
-    let mut told = Vec::new(alloc);
-    told.push(b'0' + status)?;
-    told.extend_from_slice(output.taken.as_slice())?;
-    told.extend_from_slice(line.as_slice())?;
-    Ok(told)
+    let status = status(alloc, run, &mut output, &mut line);
+    let mut written = Vec::new(alloc);
+    written.push(b'0' + status)?;
+    written.extend_from_slice(output.taken.as_slice())?;
+    written.extend_from_slice(line.as_slice())?;
+    Ok(written)
 }
 
-fn status(alloc: Global, case: &Case, output: &mut Output, line: &mut Vec<u8>) -> u8
+fn status(alloc: Global, run: &Run, output: &mut Recorder, line: &mut Vec<u8>) -> u8
     ensures { result ≤ 4 }
 {
-    let fails_at = if case.read_fails { 1 } else { 0 };
-    let reader = SlowReader::new(case.input.as_bytes(), fails_at, ErrorKind::Other);
+    let fails_at = if run.read_fails { 1 } else { 0 };
+    let reader = SlowReader::new(run.input.as_bytes(), fails_at, ErrorKind::Other);
     command(
         alloc,
-        case.words,
+        run.words,
         &mut InMemory {},
         &mut Source::new(reader),
         &mut Sink::new(output),
@@ -217,11 +205,11 @@ fn status(alloc: Global, case: &Case, output: &mut Output, line: &mut Vec<u8>) -
 
 #[test]
 fn the_last_flush_counts_only_after_a_success(rt: HostRuntime) -> Result<(), Fail> {
-    for case in &CASES {
-        let flushed = told(rt.alloc(), case, false)?;
-        assert_eq!(rt; flushed.as_slice(), case.flushed.as_bytes());
-        let flush_failed = told(rt.alloc(), case, true)?;
-        assert_eq!(rt; flush_failed.as_slice(), case.flush_failed.as_bytes());
+    for run in &RUNS {
+        let flushed = written(rt.alloc(), run, false)?;
+        assert_eq!(rt; flushed.as_slice(), run.flushed.as_bytes());
+        let flush_failed = written(rt.alloc(), run, true)?;
+        assert_eq!(rt; flush_failed.as_slice(), run.flush_failed.as_bytes());
     }
     Ok(())
 }

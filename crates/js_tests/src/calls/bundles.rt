@@ -1,5 +1,5 @@
 //! A bundle made of documents: after a refusal it takes the same document, and is finished, once more.
-use super::telling::{begin, end};
+use super::telling::{mark_begin, mark_end};
 use super::words_of;
 use crate::word_at;
 use js_bundle::{Bundle, Refusal, RefusalKind, Schemas};
@@ -7,7 +7,7 @@ use js_doc::{Doc, read};
 use std::test::Fail;
 
 /// The schemas of the documents. Where a marked call finds no memory, `Memory` is told first, and it is made again.
-pub fn finished(
+pub fn finished_schemas(
     rt: &HostRuntime,
     marked: &str,
     documents: &str,
@@ -15,10 +15,10 @@ pub fn finished(
 ) -> Result<Schemas, Fail> {
     let bundle = bundle_of(rt, marked, documents, told)?;
     if marked == "finish" {
-        begin(rt);
+        mark_begin(rt);
     }
     let made = bundle.finish(rt.alloc());
-    end(rt);
+    mark_end(rt);
     match made {
         Ok(schemas) => Ok(schemas),
         Err((refusal, bundle)) => {
@@ -66,10 +66,10 @@ fn add_bytes(
     told: &mut String,
 ) -> Result<(), Fail> {
     if marked == "add" {
-        begin(rt);
+        mark_begin(rt);
     }
     let made = bundle.add(uri, text.as_bytes());
-    end(rt);
+    mark_end(rt);
     if let Err(refusal) = made {
         tell_memory(told, refusal)?;
         bundle.add(uri, text.as_bytes())?;
@@ -85,9 +85,9 @@ fn add_value(
     value: Doc,
     told: &mut String,
 ) -> Result<(), Fail> {
-    begin(rt);
+    mark_begin(rt);
     let made = bundle.add_doc(uri, value);
-    end(rt);
+    mark_end(rt);
     match made {
         Ok(()) => Ok(()),
         Err((refusal, value)) => {

@@ -1,8 +1,8 @@
 //! Whole runs over devices in memory. The words of a question: what is run, its entry, its input; the read that fails, and
 //! `interrupted` where it says so; how many bytes the writer takes a call, and the write or flush that fails.
 use super::fakes::{SlowReader, SlowWriter};
-use super::telling::{begin, end};
-use super::trees::format_of;
+use super::telling::{mark_begin, mark_end};
+use super::trees::format_named;
 use super::words_of;
 use crate::word_at;
 use js_output::{
@@ -34,11 +34,11 @@ pub fn answer(rt: &HostRuntime, documents: &str, words: &[&str]) -> Result<Strin
     };
     let (reads, writes) = (source.calls(), out.calls());
     let read_again = read_all(alloc, &mut source);
-    begin(rt);
+    mark_begin(rt);
     let flushed = out.flush();
     let calls = (source.calls(), out.calls());
     let failed = (source.failed(), out.failed());
-    end(rt);
+    mark_end(rt);
     drop(out);
     let written = String::from_utf8(writer.got)?;
     Ok(format!(in alloc;
@@ -81,7 +81,7 @@ fn performed<R: Read, W: Write>(
             Ok(format!(in alloc; "{count}")?)
         }
         format => {
-            let format = format_of(format);
+            let format = format_named(format);
             let valid = run(alloc, documents, word_at(words, 1), source, format, out)?;
             Ok(format!(in alloc; "{valid}")?)
         }

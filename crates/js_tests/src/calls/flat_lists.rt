@@ -2,8 +2,8 @@
 ghost use Rattle.std.specs.Prelude.{IfOk};
 ghost use Rattle.js_tree.specs.FlatState.{IsWholeTree, flat_state};
 
-use super::telling::{begin, end, told_value};
-use super::trees::{format_of, told_units};
+use super::telling::{mark_begin, mark_end, told_value};
+use super::trees::{format_named, told_units};
 use super::values::ROOM;
 use js_doc::text;
 use js_tree::{Flat, Format, flat_condense, flat_doc, flat_prune, flat_units, put_flat};
@@ -15,12 +15,12 @@ pub fn answer(rt: &HostRuntime, call: &str, format: &str, flat: Flat) -> Result<
     let flat = whole(flat)?;
     match call {
         "flat_units" => {
-            begin(rt);
+            mark_begin(rt);
             let found = flat_units(rt.alloc(), &flat);
-            end(rt);
+            mark_end(rt);
             told_units(rt.alloc(), found)
         }
-        "flat_doc" | "put_flat" => formatted(rt, call, format_of(format), flat),
+        "flat_doc" | "put_flat" => formatted(rt, call, format_named(format), flat),
         "flat_prune" | "flat_condense" => changed(rt, call, flat),
         _ => shown(rt.alloc(), &flat),
     }
@@ -62,28 +62,28 @@ fn formatted(rt: &HostRuntime, call: &str, format: Format, flat: Flat) -> Result
     let flat = trimmed(flat, format)?;
     if call == "put_flat" {
         let mut out = String::with_capacity(rt.alloc(), ROOM)?;
-        begin(rt);
+        mark_begin(rt);
         let put = put_flat(&flat, format, &mut out);
-        end(rt);
+        mark_end(rt);
         put?;
         return Ok(out);
     }
-    begin(rt);
+    mark_begin(rt);
     let made = flat_doc(rt.alloc(), &flat, format);
-    end(rt);
+    mark_end(rt);
     told_value(rt.alloc(), made)
 }
 
 fn changed(rt: &HostRuntime, call: &str, flat: Flat) -> Result<String, Fail>
     requires { IsWholeTree (flat_state flat) }
 {
-    begin(rt);
+    mark_begin(rt);
     let made = match call {
         "flat_prune" => flat_prune(flat),
         _ => flat_condense(flat),
     };
     let is_whole = made.whole();
-    end(rt);
+    mark_end(rt);
     if !is_whole {
         return Err(Fail::from("the rows are a whole tree's"));
     }

@@ -1,5 +1,5 @@
 //! Result trees by hand. The words of a question: the value of a note, the events of a tree, the call, and with what.
-use super::telling::{begin, end};
+use super::telling::{mark_begin, mark_end};
 use super::{flat_lists, trees};
 use crate::word_at;
 use js_doc::{Doc, Text, read};
@@ -29,9 +29,9 @@ pub fn answer(rt: &HostRuntime, words: &[&str]) -> Result<String, Fail> {
     }
     let mut boxed = Boxed::new(alloc);
     tell(alloc, events, &value, &mut boxed)?;
-    begin(rt);
+    mark_begin(rt);
     let tree = boxed.tree();
-    end(rt);
+    mark_end(rt);
     match tree {
         Some(tree) => trees::answer(rt, call, more, tree),
         None => Err(Fail::from("the root has closed")),
@@ -85,13 +85,13 @@ fn told_by_events(rt: &HostRuntime) -> Result<String, Fail> {
     let root = head(rt.alloc(), 'r')?;
     let node = head(rt.alloc(), 'a')?;
     let mut verdict = Verdict::new();
-    begin(rt);
+    mark_begin(rt);
     let entered = verdict.enter(root).and(verdict.enter(node));
     let left = verdict
         .leave(true, Note::Truth)
         .and(verdict.leave(false, Note::Silent));
     let valid = verdict.valid();
-    end(rt);
+    mark_end(rt);
     entered?;
     left?;
     Ok(format!(in rt.alloc(); "{valid:?}")?)

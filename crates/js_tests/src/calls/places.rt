@@ -3,7 +3,7 @@
 ghost use Rattle.std.specs.Prelude.{◌≡◌, true};
 ghost use Rattle.js_bundle.specs.Schemas.{is_place};
 
-use super::telling::{begin, end, told_text};
+use super::telling::{mark_begin, mark_end, told_text};
 use crate::word_at;
 use js_bundle::{Place, Schemas, Step};
 use js_doc::{read, text};
@@ -13,10 +13,10 @@ use std::test::Fail;
 pub fn answer(rt: &HostRuntime, schemas: &Schemas, words: &[&str]) -> Result<String, Fail> {
     let question = word_at(words, 1);
     if question == "entry" {
-        begin(rt);
+        mark_begin(rt);
     }
     let found = schemas.entry(rt.alloc(), word_at(words, 0));
-    end(rt);
+    mark_end(rt);
     match found {
         Ok(place) if schemas.has(place) => asked(rt, schemas, place, question, words),
         Ok(_) => Err(Fail::from("an entry is a place")),
@@ -38,9 +38,9 @@ fn asked(
     match question {
         "entry" => location(rt.alloc(), schemas, Some(place)),
         "absolute" => {
-            begin(rt);
+            mark_begin(rt);
             let made = schemas.absolute(rt.alloc(), place, Some(first));
-            end(rt);
+            mark_end(rt);
             told_text(rt.alloc(), made)
         }
         "standing" => standing(rt, schemas, place),
@@ -78,7 +78,7 @@ fn location(alloc: Global, schemas: &Schemas, place: Option<Place>) -> Result<St
 fn standing(rt: &HostRuntime, schemas: &Schemas, place: Place) -> Result<String, Fail>
     requires { is_place schemas.now place ≡ true }
 {
-    begin(rt);
+    mark_begin(rt);
     let is_place = schemas.has(place);
     let location = schemas.absolute_of(place);
     let document = schemas.document(place);
@@ -88,7 +88,7 @@ fn standing(rt: &HostRuntime, schemas: &Schemas, place: Place) -> Result<String,
     let resource = schemas.resource(place);
     let number = schemas.resource_number(place);
     let count = schemas.resource_count();
-    end(rt);
+    mark_end(rt);
     let alloc = rt.alloc();
     let pointer = pointer.text(alloc)?;
     let schema = text(alloc, schema)?;
@@ -107,10 +107,10 @@ fn below(
 ) -> Result<String, Fail>
     requires { is_place schemas.now place ≡ true }
 {
-    begin(rt);
+    mark_begin(rt);
     let next = schemas.below(place, keyword, step);
     let with_schema = schemas.schema_below(place, schemas.schema(place), keyword, step);
-    end(rt);
+    mark_end(rt);
     let next = location(rt.alloc(), schemas, next)?;
     match with_schema {
         Some((next_again, schema)) => {
@@ -133,9 +133,9 @@ fn said(
     requires { is_place schemas.now place ≡ true }
 {
     let value = read(rt.alloc(), value.as_bytes())?;
-    begin(rt);
+    mark_begin(rt);
     let assertion = schemas.assertion(place, keyword);
-    end(rt);
+    mark_end(rt);
     match assertion {
         Some(assertion) => match assertion.check(rt.alloc(), &value, 1)? {
             Some(error) => Ok(error),
@@ -155,9 +155,9 @@ fn matched(
 ) -> Result<String, Fail>
     requires { is_place schemas.now place ≡ true }
 {
-    begin(rt);
+    mark_begin(rt);
     let pattern = schemas.pattern(place, name);
-    end(rt);
+    mark_end(rt);
     let answer = match pattern {
         Some(pattern) if pattern.holds(rt.alloc(), text)? => "holds",
         Some(_) => "fails",
@@ -170,14 +170,14 @@ fn matched(
 fn target(rt: &HostRuntime, schemas: &Schemas, place: Place) -> Result<String, Fail>
     requires { is_place schemas.now place ≡ true }
 {
-    begin(rt);
+    mark_begin(rt);
     let is_dynamic = schemas.has_dynamic_ref(place);
     let led_to = if schemas.has_ref(place) {
         Some(schemas.target(place))
     } else {
         None
     };
-    end(rt);
+    mark_end(rt);
     if is_dynamic && led_to.is_none() {
         return Ok(String::from_str(rt.alloc(), "dynamic")?);
     }
@@ -211,10 +211,10 @@ fn dynamic_target(
     if !schemas.has_dynamic_ref(place) {
         return Err(Fail::from("it has no dynamic reference"));
     }
-    begin(rt);
+    mark_begin(rt);
     let by_path = schemas.dynamic_target(place, path.as_slice());
     let by_numbers = schemas.dynamic_target_in(place, numbers.as_slice());
-    end(rt);
+    mark_end(rt);
     let by_path = location(alloc, schemas, Some(by_path))?;
     let by_numbers = location(alloc, schemas, Some(by_numbers))?;
     Ok(format!(in alloc; "{by_path} {by_numbers}")?)
@@ -222,9 +222,9 @@ fn dynamic_target(
 
 // The absolute locations of all places, a line each.
 fn places(rt: &HostRuntime, schemas: &Schemas) -> Result<String, Fail> {
-    begin(rt);
+    mark_begin(rt);
     let made = schemas.places(rt.alloc());
-    end(rt);
+    mark_end(rt);
     let mut lines = String::new(rt.alloc());
     match made {
         Ok(places) => {
@@ -240,9 +240,9 @@ fn places(rt: &HostRuntime, schemas: &Schemas) -> Result<String, Fail> {
 
 // The URI of each resource and the location of its root, a line each.
 fn resources(rt: &HostRuntime, schemas: &Schemas) -> Result<String, Fail> {
-    begin(rt);
+    mark_begin(rt);
     let made = schemas.resources(rt.alloc());
-    end(rt);
+    mark_end(rt);
     let mut lines = String::new(rt.alloc());
     match made {
         Ok(resources) => {

@@ -3,7 +3,7 @@
 ghost use Rattle.std.specs.Prelude.{◌≡◌, true};
 ghost use Rattle.js_bundle.specs.Schemas.{is_place};
 
-use super::telling::{begin, end};
+use super::telling::{mark_begin, mark_end};
 use super::{flat_lists, trees};
 use crate::word_at;
 use js_bundle::{Place, Schemas};
@@ -37,7 +37,7 @@ fn judged<'a>(
     requires { is_place schemas.now place ≡ true }
 {
     let alloc = rt.alloc();
-    begin(rt);
+    mark_begin(rt);
     let made = match call {
         "verdict" => verdict(alloc, schemas, place, value),
         _ => match walk_into(alloc, schemas, place, value, Verdict::new()) {
@@ -45,7 +45,7 @@ fn judged<'a>(
             Err((fault, _verdict)) => Err(fault),
         },
     };
-    end(rt);
+    mark_end(rt);
     match made {
         Ok(valid) => Ok(format!(in alloc; "{valid}")?),
         Err(fault) => Ok(format!(in alloc; "{fault:?}")?),
@@ -65,7 +65,7 @@ fn on_tree<'a>(
     let alloc = rt.alloc();
     let call = word_at(words, 2);
     if call.starts_with("walk") {
-        begin(rt);
+        mark_begin(rt);
     }
     let made = match call {
         "walk_into_boxed" => match walk_into(alloc, schemas, place, value, Boxed::new(alloc)) {
@@ -77,7 +77,7 @@ fn on_tree<'a>(
             Err(fault) => Err(fault),
         },
     };
-    end(rt);
+    mark_end(rt);
     match made {
         Ok(Some(tree)) => trees::answer(rt, call, word_at(words, 3), tree),
         Ok(None) => Err(Fail::from("the root has closed")),
@@ -98,10 +98,10 @@ fn on_rows<'a>(
     let alloc = rt.alloc();
     let call = word_at(words, 2);
     if call == "walk_into_flat" {
-        begin(rt);
+        mark_begin(rt);
     }
     let made = walk_into(alloc, schemas, place, value, Flat::new(alloc));
-    end(rt);
+    mark_end(rt);
     match made {
         Ok(flat) => flat_lists::answer(rt, call, word_at(words, 3), flat),
         Err((fault, _flat)) => Ok(format!(in alloc; "{fault:?}")?),

@@ -6,12 +6,12 @@ use std::io::Write;
 use std::test::Fail;
 
 /// The call comes next: from here on growths are refused.
-pub fn begin(rt: &HostRuntime) {
+pub fn mark_begin(rt: &HostRuntime) {
     let _ = rt.stderr().write(b"<");
 }
 
 /// The call has ended.
-pub fn end(rt: &HostRuntime) {
+pub fn mark_end(rt: &HostRuntime) {
     let _ = rt.stderr().write(b">");
 }
 

@@ -1,5 +1,5 @@
 //! Calls on a result tree.
-use super::telling::{begin, end, told_value};
+use super::telling::{mark_begin, mark_end, told_value};
 use super::values::ROOM;
 use js_doc::{Memory, text};
 use js_tree::{
@@ -13,9 +13,9 @@ use std::test::Fail;
 pub fn answer(rt: &HostRuntime, call: &str, more: &str, tree: Tree) -> Result<String, Fail> {
     match call {
         "units" => {
-            begin(rt);
+            mark_begin(rt);
             let found = units(rt.alloc(), &tree);
-            end(rt);
+            mark_end(rt);
             told_units(rt.alloc(), found)
         }
         "tree_doc" | "form" | "put_tree" => formatted(rt, call, more, tree),
@@ -30,7 +30,7 @@ fn shown(alloc: Global, tree: &Tree) -> Result<String, Fail> {
     Ok(text(alloc, &tree_doc(alloc, tree)?)?)
 }
 
-pub fn format_of(name: &str) -> Format {
+pub fn format_named(name: &str) -> Format {
     match name {
         "flag" => Format::Flag,
         "basic" => Format::Basic,
@@ -60,39 +60,39 @@ fn formatted(rt: &HostRuntime, call: &str, format: &str, tree: Tree) -> Result<S
     let alloc = rt.alloc();
     if call == "put_tree" {
         let mut out = String::with_capacity(alloc, ROOM)?;
-        begin(rt);
+        mark_begin(rt);
         let put = put_tree(&tree, &mut out);
-        end(rt);
+        mark_end(rt);
         put?;
         return Ok(out);
     }
-    begin(rt);
+    mark_begin(rt);
     let made = match call {
         "tree_doc" => tree_doc(alloc, &tree),
-        _ => form(alloc, tree, format_of(format)),
+        _ => form(alloc, tree, format_named(format)),
     };
-    end(rt);
+    mark_end(rt);
     told_value(alloc, made)
 }
 
 fn changed(rt: &HostRuntime, call: &str, tree: Tree) -> Result<String, Fail> {
-    begin(rt);
+    mark_begin(rt);
     let made = match call {
         "prune" => prune(tree),
         "condense" => condense(tree),
         _ => merge_condense(tree),
     };
-    end(rt);
+    mark_end(rt);
     shown(rt.alloc(), &made)
 }
 
 fn looked_at(rt: &HostRuntime, call: &str, tree: &Tree) -> Result<String, Fail> {
-    begin(rt);
+    mark_begin(rt);
     let holds = match call {
         "is_normal" => is_normal(tree),
         _ => is_merged(tree),
     };
-    end(rt);
+    mark_end(rt);
     Ok(format!(in rt.alloc(); "{holds}")?)
 }
 
@@ -100,7 +100,7 @@ fn looked_at(rt: &HostRuntime, call: &str, tree: &Tree) -> Result<String, Fail> 
 fn moved(rt: &HostRuntime, call: &str, moves: &str, tree: Tree) -> Result<String, Fail> {
     let alloc = rt.alloc();
     let moves = moves_of(alloc, moves)?;
-    begin(rt);
+    mark_begin(rt);
     let made = match (call, moves.first()) {
         ("apply", Some(first)) => match apply(tree, first) {
             Ok(left) => Ok(left),
@@ -108,7 +108,7 @@ fn moved(rt: &HostRuntime, call: &str, moves: &str, tree: Tree) -> Result<String
         },
         _ => replay(tree, moves.as_slice()),
     };
-    end(rt);
+    mark_end(rt);
     match made {
         Ok(left) => {
             let left = shown(alloc, &left)?;

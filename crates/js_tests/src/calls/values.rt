@@ -1,5 +1,5 @@
 //! js_doc's and js_assert's calls. The words of a question: the call, and the texts that it is made on.
-use super::telling::{begin, end, told_text, told_value};
+use super::telling::{mark_begin, mark_end, told_text, told_value};
 use crate::word_at;
 use js_assert::{Assertion, Pattern};
 use js_doc::{
@@ -34,30 +34,30 @@ fn value_made(rt: &HostRuntime, call: &str, source: &str) -> Result<String, Fail
     let alloc = rt.alloc();
     match call {
         "read" => {
-            begin(rt);
+            mark_begin(rt);
             let made = read(alloc, source.as_bytes());
-            end(rt);
+            mark_end(rt);
             told_value(alloc, made)
         }
         "from_value" => {
             let value = Value::from_slice(alloc, source.as_bytes())?;
-            begin(rt);
+            mark_begin(rt);
             let made = from_value(alloc, &value);
-            end(rt);
+            mark_end(rt);
             told_value(alloc, made)
         }
         "copy" => {
             let doc = read(alloc, source.as_bytes())?;
-            begin(rt);
+            mark_begin(rt);
             let made = doc.copy(alloc);
-            end(rt);
+            mark_end(rt);
             told_value(alloc, made)
         }
         _ => {
             let doc = read(alloc, source.as_bytes())?;
-            begin(rt);
+            mark_begin(rt);
             let made = text(alloc, &doc);
-            end(rt);
+            mark_end(rt);
             told_text(alloc, made)
         }
     }
@@ -70,24 +70,24 @@ fn value_seen(rt: &HostRuntime, call: &str, source: &str, more: &str) -> Result<
     match call {
         "put_text" => {
             let mut out = String::with_capacity(alloc, ROOM)?;
-            begin(rt);
+            mark_begin(rt);
             let put = put_text(&doc, &mut out);
-            end(rt);
+            mark_end(rt);
             put?;
             Ok(out)
         }
         "equal" => {
             let other = read(alloc, more.as_bytes())?;
-            begin(rt);
+            mark_begin(rt);
             let is_equal = doc == other;
-            end(rt);
+            mark_end(rt);
             Ok(format!(in alloc; "{is_equal}")?)
         }
         _ => {
             let pointer = Pointer::parse(alloc, more)?;
-            begin(rt);
+            mark_begin(rt);
             let found = doc.at(&pointer);
-            end(rt);
+            mark_end(rt);
             match found {
                 Some(found) => Ok(text(alloc, found)?),
                 None => Ok(String::from_str(alloc, "none")?),
@@ -104,16 +104,16 @@ fn members_called(rt: &HostRuntime, call: &str, object: &str, name: &str) -> Res
     };
     if call == "put" {
         let name = String::from_str(alloc, name)?;
-        begin(rt);
+        mark_begin(rt);
         let made = members.put(name, Doc::Truth(true));
-        end(rt);
+        mark_end(rt);
         let stands = text(alloc, &Doc::Members(members))?;
         return Ok(format!(in alloc; "{made:?} {stands}")?);
     }
-    begin(rt);
+    mark_begin(rt);
     let found = members.get(name);
     let first = members.pairs().next();
-    end(rt);
+    mark_end(rt);
     match (found, first) {
         (Some(found), Some((first, _))) => {
             let first = first.as_str();
@@ -131,14 +131,14 @@ fn pointer_made(rt: &HostRuntime, call: &str, source: &str, token: &str) -> Resu
         "copy_pointer" | "further" => Pointer::parse(alloc, source)?,
         _ => Pointer::new(alloc),
     };
-    begin(rt);
+    mark_begin(rt);
     let made = match call {
         "parse" => Pointer::parse(alloc, source),
         "from_fragment" => Pointer::from_fragment(alloc, source),
         "further" => known.further(alloc, token).map_err(PointerFault::from),
         _ => known.copy(alloc).map_err(PointerFault::from),
     };
-    end(rt);
+    mark_end(rt);
     match made {
         Ok(pointer) => Ok(pointer.text(alloc)?),
         Err(fault) => Ok(format!(in alloc; "{fault:?}")?),
@@ -149,31 +149,31 @@ fn pointer_called(rt: &HostRuntime, call: &str, source: &str, token: &str) -> Re
     let alloc = rt.alloc();
     let mut pointer = Pointer::parse(alloc, source)?;
     if call == "push" {
-        begin(rt);
+        mark_begin(rt);
         let made = pointer.push(token);
-        end(rt);
+        mark_end(rt);
         let stands = pointer.text(alloc)?;
         return Ok(format!(in alloc; "{made:?} {stands}")?);
     }
-    begin(rt);
+    mark_begin(rt);
     let made = match call {
         "pointer" => pointer.text(alloc),
         _ => pointer.fragment(alloc),
     };
-    end(rt);
+    mark_end(rt);
     told_text(alloc, made)
 }
 
 // A token as pointers and fragments have it, or a text as JSON has it.
 fn text_pushed(rt: &HostRuntime, call: &str, text: &str) -> Result<String, Fail> {
     let mut out = String::new(rt.alloc());
-    begin(rt);
+    mark_begin(rt);
     let made = match call {
         "push_token" => push_token(&mut out, text),
         "push_fragment_token" => push_fragment_token(&mut out, text),
         _ => push_string(&mut out, text),
     };
-    end(rt);
+    mark_end(rt);
     match made {
         Ok(()) => Ok(out),
         Err(fault) => Ok(format!(in rt.alloc(); "{fault:?}")?),
@@ -184,32 +184,32 @@ fn text_pushed(rt: &HostRuntime, call: &str, text: &str) -> Result<String, Fail>
 fn pattern_called(rt: &HostRuntime, call: &str, pattern: &str, text: &str) -> Result<String, Fail> {
     let alloc = rt.alloc();
     if call == "pattern" {
-        begin(rt);
+        mark_begin(rt);
     }
     let made = Pattern::new(alloc, pattern);
-    end(rt);
+    mark_end(rt);
     let pattern = match made {
         Ok(pattern) => pattern,
         Err(fault) => return Ok(format!(in alloc; "{fault:?}")?),
     };
     if call == "matches" {
-        begin(rt);
+        mark_begin(rt);
     }
     let made = pattern.holds(alloc, text);
-    end(rt);
+    mark_end(rt);
     if call == "searcher" {
-        begin(rt);
+        mark_begin(rt);
     }
     let searcher = pattern.searcher(alloc);
-    end(rt);
+    mark_end(rt);
     let Ok(mut searcher) = searcher else {
         return Ok(String::from_str(alloc, "Memory")?);
     };
     if call == "search" {
-        begin(rt);
+        mark_begin(rt);
     }
     let is_found = searcher.holds(text);
-    end(rt);
+    mark_end(rt);
     Ok(format!(in alloc; "{made:?} {is_found}")?)
 }
 
@@ -225,10 +225,10 @@ fn assertion_called(
     let argument = read(alloc, argument.as_bytes())?;
     let value = read(alloc, value.as_bytes())?;
     if call == "assertion" {
-        begin(rt);
+        mark_begin(rt);
     }
     let made = Assertion::read(alloc, keyword, &argument, &Members::new(alloc));
-    end(rt);
+    mark_end(rt);
     match made {
         Ok(Some(assertion)) => assertion_asked(rt, call, &assertion, &value),
         Ok(None) => Ok(String::from_str(alloc, "no assertion")?),
@@ -245,21 +245,21 @@ fn assertion_asked(
     let alloc = rt.alloc();
     match call {
         "holds" => {
-            begin(rt);
+            mark_begin(rt);
             let made = assertion.holds(alloc, value, 0);
-            end(rt);
+            mark_end(rt);
             Ok(format!(in alloc; "{made:?}")?)
         }
         "error" => {
-            begin(rt);
+            mark_begin(rt);
             let made = assertion.error(alloc, value, 0);
-            end(rt);
+            mark_end(rt);
             told_text(alloc, made)
         }
         _ => {
-            begin(rt);
+            mark_begin(rt);
             let made = assertion.check(alloc, value, 0);
-            end(rt);
+            mark_end(rt);
             match made {
                 Ok(Some(error)) => Ok(error),
                 Ok(None) => Ok(String::from_str(alloc, "holds")?),
