@@ -1,5 +1,6 @@
 pub mod BytesGone
 pub mod Extending
+pub mod EscapeMasks
 pub mod QuotedRuns
 pub mod Entries
 pub mod CompactPieces

@@ -17,6 +17,7 @@ mod pointer_reading;
 mod printing;
 mod quoting;
 mod reading;
+mod runs;
 mod string;
 mod token;
 mod whole;
