@@ -6,6 +6,8 @@ pub mod Entries
 pub mod CompactPieces
 pub mod PartLists
 pub mod Alike
+pub mod Ordered
+pub mod KindsOrdered
 pub mod Escapes
 pub mod Finding
 pub mod Ascending

@@ -12,6 +12,7 @@ pub mod laws;
 mod lookup;
 mod members;
 mod memory;
+mod order;
 mod pointer;
 mod pointer_reading;
 mod printing;
