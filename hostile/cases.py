@@ -251,6 +251,10 @@ def large():
     for last, pair in ((0, "0 and 1000000"), (many - 1, "999999 and 1000000")):
         yield error(f"items {pair} of a long array", '{"uniqueItems":true}', compact([*range(many), last]),
                     "uniqueItems", f"items {pair} are equal")
+    listed = [f"v{i}" for i in range(200_000)]
+    choices = compact({"items": {"enum": listed}})
+    yield valid("200,000 values, each one of 200,000 listed", choices, compact(listed[::-1]))
+    yield check("200,000 values, one of them not listed", choices, compact([*listed[1:], "v"]), out=INVALID, status=1)
     names = [f"n{i}" for i in range(300_000)]
     required = compact({"required": names})
     yield valid("300,000 required names", required, compact({it: 0 for it in names}))

@@ -7,5 +7,6 @@ pub mod EqualPairs
 pub mod Compiled
 pub mod Dependent
 pub mod Listed
+pub mod Halves
 pub mod Counting
 pub mod Telling

@@ -9,3 +9,4 @@ pub mod Types
 pub mod Dependences
 pub mod Seen
 pub mod Laws
+pub mod code

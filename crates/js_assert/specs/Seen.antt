@@ -14,7 +14,7 @@ use Rattle.js_assert.specs.Types.{types_value}
 
 abbrev pub keyword_tested : Test → Keyword
 keyword_tested (test.Type types) = keyword.Type
-keyword_tested (test.Enum docs) = keyword.Enum
+keyword_tested (test.Enum choices) = keyword.Enum
 keyword_tested (test.Const doc) = keyword.Const
 keyword_tested (test.MultipleOf divisor) = keyword.MultipleOf
 keyword_tested (test.Maximum limit) = keyword.Maximum
@@ -36,7 +36,7 @@ keyword_tested (test.DependentRequired dependences) = keyword.DependentRequired
 
 abbrev pub argument_tested : Test → Value
 argument_tested (test.Type types) = types_value types
-argument_tested (test.Enum docs) = list (items (map value_of docs.items))
+argument_tested (test.Enum choices) = list (items choices.value)
 argument_tested (test.Const doc) = value_of doc.value
 argument_tested (test.MultipleOf divisor) = whole (pos (non_zero_u64_get divisor))
 argument_tested (test.Maximum limit) = whole limit.value

@@ -1,5 +1,6 @@
 ghost use Rattle.std.specs.Prelude.{◌≡◌, ℕ, IfOk, IfErr, MatchOption, true, codes, option_map, string_bytes};
 
+use crate::choices::Choices;
 use crate::error_text::error_text;
 use crate::fault::KeywordFault;
 use crate::instance_type::Types;
@@ -17,8 +18,8 @@ use std::num::NonZeroU64;
 #[derive(Debug, Drop)]
 pub(crate) enum Test {
     Type(Types),
-    Enum(Vec<Doc>),
     // What is larger than a list's head, or aligned as a number of 128 bits, is boxed: most keywords hold less.
+    Enum(Box<Choices>),
     Const(Box<Doc>),
     MultipleOf(NonZeroU64),
     Maximum(Box<Whole>),
@@ -157,7 +158,7 @@ impl Assertion {
         let beside = self.beside_contains;
         match &self.test {
             Test::Type(types) => Ok(types.take(value)),
-            Test::Enum(docs) => Ok(any_type::enumeration(docs.as_slice(), value)),
+            Test::Enum(choices) => Ok(any_type::enumeration(choices, value)),
             Test::Const(doc) => Ok(**doc == *value),
             Test::MultipleOf(divisor) => Ok(numbers::multiple_of(*divisor, value)),
             Test::Maximum(limit) => Ok(numbers::maximum(**limit, value)),

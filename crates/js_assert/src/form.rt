@@ -10,12 +10,13 @@ ghost use Rattle.js_assert.specs.Types.{type_name, types_value};
 ghost use Rattle.std.specs.List.{list_all};
 ghost use Rattle.js_assert.specs.Pattern.{is_pattern};
 
+use crate::choices::Choices;
 use crate::fault::KeywordFault;
 use crate::instance_type::{InstanceType, Types};
 use crate::keyword::Keyword;
 use crate::objects::Dependence;
 use crate::pattern::{Pattern, PatternFault};
-use js_doc::{Doc, Members, Text, Whole};
+use js_doc::{Doc, Members, Memory, Text, Whole};
 use std::alloc::Global;
 use std::collections::BTreeSet;
 use std::num::NonZeroU64;
@@ -72,19 +73,21 @@ pub(crate) fn divisor(argument: &Doc) -> Result<NonZeroU64, KeywordFault>
     }
 }
 
-pub(crate) fn documents(alloc: Global, argument: &Doc) -> Result<Vec<Doc>, KeywordFault>
-    ensures ok { IfOk result (λ v. value_of argument.now ≡ list (items (map value_of v.items))) }
+pub(crate) fn choices(alloc: Global, argument: &Doc) -> Result<Box<Choices>, KeywordFault>
+    ensures ok { IfOk result (λ c. value_of argument.now ≡ list (items c.value)) }
     ensures refused { IfErr result (IsBadUnless (is_list (value_of argument.now))) }
 {
     match argument {
-        Doc::List(items) => copies(alloc, items.as_slice()),
+        Doc::List(items) => {
+            let docs = copies(alloc, items.as_slice())?;
+            Ok(Box::new(alloc, Choices::new(alloc, docs)?)?)
+        }
         _ => Err(KeywordFault::BadKeyword),
     }
 }
 
-fn copies(alloc: Global, docs: &[Doc]) -> Result<Vec<Doc>, KeywordFault>
-    ensures ok { IfOk result (λ v. map value_of v.items ≡ map value_of docs.now) }
-    ensures refused { IfErr result (λ e. e ≡ KeywordFault.Memory) }
+fn copies(alloc: Global, docs: &[Doc]) -> Result<Vec<Doc>, Memory>
+    ensures { IfOk result (λ v. map value_of v.items ≡ map value_of docs.now) }
 {
     let mut copies = Vec::with_capacity(alloc, docs.len())?;
     for doc in docs {

@@ -4,6 +4,7 @@
 mod any_type;
 mod arrays;
 mod assertion;
+mod choices;
 mod error_text;
 mod fault;
 mod form;

@@ -17,7 +17,7 @@ pub(crate) fn test_of(alloc: Global, keyword: Keyword, argument: &Doc) -> Result
 {
     match keyword {
         Keyword::Type => Ok(Test::Type(form::types(alloc, argument)?)),
-        Keyword::Enum => Ok(Test::Enum(form::documents(alloc, argument)?)),
+        Keyword::Enum => Ok(Test::Enum(form::choices(alloc, argument)?)),
         Keyword::Const => Ok(Test::Const(Box::new(alloc, form::constant(alloc, argument)?)?)),
         Keyword::MultipleOf => Ok(Test::MultipleOf(form::divisor(argument)?)),
         Keyword::Maximum => Ok(Test::Maximum(form::limit(alloc, argument)?)),

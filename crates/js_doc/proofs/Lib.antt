@@ -1,10 +1,13 @@
 pub mod BytesGone
 pub mod Extending
+pub mod EscapeMasks
 pub mod QuotedRuns
 pub mod Entries
 pub mod CompactPieces
 pub mod PartLists
 pub mod Alike
+pub mod Ordered
+pub mod KindsOrdered
 pub mod Escapes
 pub mod Finding
 pub mod Ascending

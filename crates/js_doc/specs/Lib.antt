@@ -9,6 +9,7 @@ pub mod Lawful
 pub mod Seen
 pub mod Falls
 pub mod Equality
+pub mod Order
 pub mod Pointer
 pub mod PointerReading
 pub mod Fragment

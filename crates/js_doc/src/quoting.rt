@@ -4,10 +4,10 @@ ghost use Rattle.std.specs.Char.{digit_char};
 ghost use Rattle.json.specs.Print.{escape_byte, escape_letter};
 ghost use Rattle.js_doc.specs.BytesOut.{Puts};
 ghost use Rattle.js_doc.specs.Compact.{quoted};
-ghost use Rattle.js_doc.specs.Escapes.{needs_escape};
 
 use crate::bytes_out::{Out, Stopped};
 use crate::memory::Memory;
+use crate::runs::run_end;
 
 /// Puts the text between quotation marks, with its escapes. Bytes that stand as they are go out in runs. It takes
 /// no memory.
@@ -42,23 +42,15 @@ fn put_quoted<O: Out>(bytes: &[u8], out: &mut O) -> Result<(), Stopped>
 {
     out.put(b"\"")?;
     let mut start = 0;
-    for i in 0..bytes.len() {
-        let byte = bytes[i];
-        if !is_escaped(byte) {
-            continue;
+    loop {
+        let end = run_end(bytes, start);
+        out.put(&bytes[start..end])?;
+        if end == bytes.len() {
+            return out.put(b"\"");
         }
-        out.put(&bytes[start..i])?;
-        put_escape(byte, out)?;
-        start = i + 1;
+        put_escape(bytes[end], out)?;
+        start = end + 1;
     }
-    out.put(&bytes[start..])?;
-    out.put(b"\"")
-}
-
-fn is_escaped(byte: u8) -> bool
-    ensures { result ≡ needs_escape byte }
-{
-    byte == b'"' || byte == b'\\' || byte < 0x20
 }
 
 fn put_escape<O: Out>(byte: u8, out: &mut O) -> Result<(), Stopped>

@@ -1,0 +1,75 @@
+//! Runs of bytes that stand in a JSON string as they are (RFC 8259, section 7).
+ghost use Rattle.std.specs.Prelude.{◌≡◌, ◌+◌, ◌≤◌, drop, length, map};
+ghost use Rattle.std.specs.List.{prefix_len};
+ghost use Rattle.std.specs.Simd.Lanes.{mask_l};
+ghost use Rattle.js_doc.specs.Escapes.{needs_escape, stands};
+
+use std::simd::prelude::*;
+
+/// Where the run from `start` on ends: the place of the first byte that has to be escaped, or the length.
+pub(crate) fn run_end(bytes: &[u8], start: usize) -> usize
+    requires { start ≤ length bytes.now }
+    ensures value { result ≡ start + prefix_len stands (drop start bytes.now) }
+    ensures bound { result ≤ length bytes.now }
+{
+    let mut end = start;
+    while bytes.len() - end >= 16 {
+        let escapes = escapes_of_16(u8x16::from_slice(&bytes[end..]));
+        if escapes != 0 {
+            return end + escapes.trailing_zeros() as usize;
+        }
+        end += 16;
+    }
+    run_end_among_few(bytes, end)
+}
+
+// The same where fewer than 16 bytes are left.
+fn run_end_among_few(bytes: &[u8], start: usize) -> usize
+    requires { start ≤ length bytes.now }
+    ensures { result ≡ start + prefix_len stands (drop start bytes.now) }
+{
+    if bytes.len() - start < 8 {
+        return run_end_by_bytes(bytes, start);
+    }
+    let escapes = escapes_of_8(u8x8::from_slice(&bytes[start..]));
+    if escapes != 0 {
+        return start + escapes.trailing_zeros() as usize;
+    }
+    run_end_by_bytes(bytes, start + 8)
+}
+
+fn run_end_by_bytes(bytes: &[u8], start: usize) -> usize
+    requires { start ≤ length bytes.now }
+    ensures { result ≡ start + prefix_len stands (drop start bytes.now) }
+{
+    let mut end = start;
+    while end < bytes.len() && !is_escaped(bytes[end]) {
+        end += 1;
+    }
+    end
+}
+
+fn is_escaped(byte: u8) -> bool
+    ensures { result ≡ needs_escape byte }
+{
+    byte == b'"' || byte == b'\\' || byte < 0x20
+}
+
+// A bit for each byte that has to be escaped, the first byte's lowest.
+fn escapes_of_16(bytes: u8x16) -> u64
+    ensures { result ≡ mask_l (map needs_escape bytes) }
+{
+    let quotes = bytes.simd_eq(u8x16::splat(b'"'));
+    let backslashes = bytes.simd_eq(u8x16::splat(b'\\'));
+    let controls = bytes.simd_lt(u8x16::splat(0x20));
+    (quotes | backslashes | controls).to_bitmask()
+}
+
+fn escapes_of_8(bytes: u8x8) -> u64
+    ensures { result ≡ mask_l (map needs_escape bytes) }
+{
+    let quotes = bytes.simd_eq(u8x8::splat(b'"'));
+    let backslashes = bytes.simd_eq(u8x8::splat(b'\\'));
+    let controls = bytes.simd_lt(u8x8::splat(0x20));
+    (quotes | backslashes | controls).to_bitmask()
+}
