@@ -3,17 +3,17 @@ ghost use Rattle.std.specs.Prelude.{◌≡◌, [], ◌∷◌, ◌++◌, IfOk};
 
 use js_doc::{Memory, Pointer};
 use std::alloc::Global;
-use std::rc::Rc;
+use std::sync::Arc;
 
 /// The pointer with one token more, to be shared.
 pub(crate) fn shared_further(
     alloc: Global,
     pointer: &Pointer,
     token: &str,
-) -> Result<Rc<Pointer>, Memory>
+) -> Result<Arc<Pointer>, Memory>
     ensures { IfOk result (λ p. p.value ≡ pointer.now ++ token.now ∷ []) }
 {
-    Ok(Rc::new(alloc, pointer.further(alloc, token)?)?)
+    Ok(Arc::new(alloc, pointer.further(alloc, token)?)?)
 }
 
 /// The pointer, gone on by another one.

@@ -13,7 +13,7 @@ use crate::pointers::shared_further;
 use crate::scope::{Scope, Scopes, scopes_at};
 use js_doc::{Doc, Members, Memory, Pointer};
 use std::alloc::Global;
-use std::rc::Rc;
+use std::sync::Arc;
 
 /// The scan lists no more places: one more than a bundle may have.
 const MOST_SITES: usize = 100_001;
@@ -22,11 +22,11 @@ const MOST_SITES: usize = 100_001;
 #[derive(Drop)]
 pub(crate) struct Site<'a> {
     pub(crate) document: usize,
-    pub(crate) pointer: Rc<Pointer>,
+    pub(crate) pointer: Arc<Pointer>,
     /// The scope that the place is in.
-    pub(crate) above: Rc<Scope>,
+    pub(crate) above: Arc<Scope>,
     /// Its own.
-    pub(crate) own: Rc<Scope>,
+    pub(crate) own: Arc<Scope>,
     /// Whether its `$id` makes a base.
     pub(crate) identifies: bool,
     pub(crate) schema: &'a Doc,
@@ -61,10 +61,10 @@ fn add_site<'a>(
     alloc: Global,
     out: &mut Vec<Site<'a>>,
     document: usize,
-    above: &Rc<Scope>,
-    pointer: &Rc<Pointer>,
+    above: &Arc<Scope>,
+    pointer: &Arc<Pointer>,
     schema: &'a Doc,
-) -> Result<Rc<Scope>, Memory>
+) -> Result<Arc<Scope>, Memory>
     ensures added { OnOk result (map site_of out.new.items ≡ map site_of out.old.items
         ++ site_scanned document above.now.value pointer.now.value (value_of schema.now) ∷ []) }
     ensures below { IfOk result
@@ -91,8 +91,8 @@ fn scan_schema<'a>(
     alloc: Global,
     out: &mut Vec<Site<'a>>,
     document: usize,
-    above: &Rc<Scope>,
-    pointer: &Rc<Pointer>,
+    above: &Arc<Scope>,
+    pointer: &Arc<Pointer>,
     schema: &'a Doc,
 ) -> Result<(), Memory>
     ensures { OnOk result (SameFront (map site_of out.new.items) (map site_of out.old.items
@@ -113,7 +113,7 @@ fn scan_keywords<'a>(
     alloc: Global,
     out: &mut Vec<Site<'a>>,
     document: usize,
-    above: &Rc<Scope>,
+    above: &Arc<Scope>,
     pointer: &Pointer,
     members: &'a Members,
 ) -> Result<(), Memory>
@@ -139,7 +139,7 @@ fn scan_keyword<'a>(
     alloc: Global,
     out: &mut Vec<Site<'a>>,
     document: usize,
-    above: &Rc<Scope>,
+    above: &Arc<Scope>,
     pointer: &Pointer,
     keyword: &str,
     argument: &'a Doc,
@@ -161,8 +161,8 @@ fn scan_held<'a>(
     alloc: Global,
     out: &mut Vec<Site<'a>>,
     document: usize,
-    above: &Rc<Scope>,
-    pointer: &Rc<Pointer>,
+    above: &Arc<Scope>,
+    pointer: &Arc<Pointer>,
     held: Holding,
     argument: &'a Doc,
 ) -> Result<(), Memory>
@@ -190,7 +190,7 @@ fn scan_items<'a>(
     alloc: Global,
     out: &mut Vec<Site<'a>>,
     document: usize,
-    above: &Rc<Scope>,
+    above: &Arc<Scope>,
     pointer: &Pointer,
     schemas: &'a [Doc],
 ) -> Result<(), Memory>
@@ -211,7 +211,7 @@ fn scan_members<'a>(
     alloc: Global,
     out: &mut Vec<Site<'a>>,
     document: usize,
-    above: &Rc<Scope>,
+    above: &Arc<Scope>,
     pointer: &Pointer,
     members: &'a Members,
 ) -> Result<(), Memory>
@@ -235,7 +235,7 @@ fn scan_document<'a>(
         ++ sites_at number (root_scope document.now.uri) [] (value_of document.now.root))) }
 {
     let above = Scope::root(alloc, &document.uri)?;
-    let at = Rc::new(alloc, Pointer::new(alloc))?;
+    let at = Arc::new(alloc, Pointer::new(alloc))?;
     scan_schema(alloc, out, number, &above, &at, &document.root)
 }
 

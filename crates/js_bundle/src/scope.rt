@@ -9,7 +9,7 @@ use crate::keyword::{argument, as_text};
 use crate::uri::{LONGEST, without_fragment};
 use js_doc::{Doc, Memory, Pointer};
 use std::alloc::Global;
-use std::rc::Rc;
+use std::sync::Arc;
 use url::{ParseError, Url};
 
 /// The resource that a schema stands in: the pointer of its root, and its base (JSON Schema Core, section 8.2.1).
@@ -22,24 +22,24 @@ pub(crate) struct Scope {
 /// The scope of a place itself, and of what stands below it.
 #[derive(Drop)]
 pub(crate) struct Scopes {
-    pub(crate) own: Rc<Scope>,
-    pub(crate) below: Rc<Scope>,
+    pub(crate) own: Arc<Scope>,
+    pub(crate) below: Arc<Scope>,
     /// Whether the `$id` makes a base.
     pub(crate) identifies: bool,
 }
 
 impl Scope {
     /// The scope of a document's root.
-    pub(crate) fn root(alloc: Global, uri: &Url) -> Result<Rc<Scope>, Memory>
+    pub(crate) fn root(alloc: Global, uri: &Url) -> Result<Arc<Scope>, Memory>
         ensures { IfOk result (λ s. s.value ≡ root_scope uri.now) }
     {
         Scope::new(Pointer::new(alloc), uri.clone()?, alloc)
     }
 
-    fn new(resource: Pointer, base: Url, alloc: Global) -> Result<Rc<Scope>, Memory>
+    fn new(resource: Pointer, base: Url, alloc: Global) -> Result<Arc<Scope>, Memory>
         ensures { IfOk result (λ s. s.value ≡ record { resource = resource; base = base }) }
     {
-        Ok(Rc::new(alloc, Scope { resource, base })?)
+        Ok(Arc::new(alloc, Scope { resource, base })?)
     }
 }
 
@@ -88,7 +88,7 @@ fn identified_by(base: &Url, id: &Doc) -> Result<Option<Url>, Memory>
 // The scopes at a place whose `$id` makes this base, or none.
 fn scopes_by(
     alloc: Global,
-    above: &Rc<Scope>,
+    above: &Arc<Scope>,
     pointer: &Pointer,
     base: Option<Url>,
 ) -> Result<Scopes, Memory>
@@ -121,7 +121,7 @@ fn scopes_by(
 /// The scopes at a schema that stands in the scope `above`.
 pub(crate) fn scopes_at(
     alloc: Global,
-    above: &Rc<Scope>,
+    above: &Arc<Scope>,
     pointer: &Pointer,
     schema: &Doc,
 ) -> Result<Scopes, Memory>

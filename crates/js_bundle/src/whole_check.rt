@@ -31,17 +31,17 @@ use crate::scan::{Site, scan};
 use crate::scope::Scope;
 use js_doc::{Memory, Pointer, Text};
 use std::alloc::Global;
-use std::rc::Rc;
+use std::sync::Arc;
 
 /// Where a place stands. Its schema is in its document.
 #[derive(Drop)]
 pub(crate) struct Spot {
     pub(crate) document: usize,
-    pub(crate) pointer: Rc<Pointer>,
+    pub(crate) pointer: Arc<Pointer>,
     /// The scope that the place is in.
-    pub(crate) above: Rc<Scope>,
+    pub(crate) above: Arc<Scope>,
     /// Its own.
-    pub(crate) own: Rc<Scope>,
+    pub(crate) own: Arc<Scope>,
     /// Whether its `$id` makes a base.
     pub(crate) identifies: bool,
 }

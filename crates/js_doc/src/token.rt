@@ -9,21 +9,21 @@ use crate::memory::Memory;
 use percent_encoding::utf8_percent_encode;
 use std::alloc::Global;
 use std::marker::Model;
-use std::rc::RcStr;
+use std::sync::ArcStr;
 
 /// A token of a pointer, which the pointers that are copied from it share. Contracts see it as the bytes of its UTF-8.
 #[derive(Debug, Drop)]
 pub struct Token {
-    text: RcStr,
+    text: ArcStr,
 }
 
 impl Model for Token {
     ghost use Rattle.std.specs.Prelude.{ℕ, List};
-    ghost use Rattle.std.specs.Rc.{rc_str_bytes};
+    ghost use Rattle.std.specs.Arc.{arc_str_bytes};
 
     ghost Value = { List ℕ };
 
-    ghost view = { λ t. rc_str_bytes t.text };
+    ghost view = { λ t. arc_str_bytes t.text };
 }
 
 impl Token {
@@ -35,7 +35,7 @@ impl Token {
         ensures { IfOk result (λ t. t ≡ text.now) }
     {
         Ok(Token {
-            text: RcStr::from_str(alloc, text)?,
+            text: ArcStr::from_str(alloc, text)?,
         })
     }
 
@@ -43,7 +43,7 @@ impl Token {
         ensures { IfOk result (λ t. t ≡ string_bytes text) }
     {
         Ok(Token {
-            text: RcStr::from_string(text)?,
+            text: ArcStr::from_string(text)?,
         })
     }
 
