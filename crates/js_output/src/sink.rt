@@ -62,6 +62,13 @@ impl<W: Write> Sink<W> {
         }
     }
 
+    /// The device, with what it has taken.
+    pub fn into_device(self) -> W
+        ensures { result ≡ self.device }
+    {
+        self.writing.device
+    }
+
     /// Whether a call has failed.
     pub fn failed(&self) -> bool
         ensures { result ≡ self.now.failed }
