@@ -33,8 +33,8 @@ performs-fault held paths Unread P taken old new _ h = absurd (input_fault held 
 module _ (words : List (List ℕ)) (held : HeldByPath) (input : Option (List ℕ)) (unread : Bool) (request : Request) (old new : Option (List ℕ)) (failed : Bool) where
   -- where something failed
   pub begun_or_kept : (e : Fault) → request_of words ≡ Ok request → (¬ (e ≡ fault.Write) → Keeps old new) → IsReason (RequestOutcome held input unread request) old new failed e
-      → Keeps old new ⊎ IsPartlyTold (WordsOutcome words held input unread) old new
-  begun_or_kept fault.Write asks kept (stands, (output, h, out)) = inr (output, (request, asks, h), out)
+      → Keeps old new ⊎ ((failed ≡ true) × IsPartlyTold (WordsOutcome words held input unread) old new)
+  begun_or_kept fault.Write asks kept (stands, (output, h, out)) = inr (stands, (output, (request, asks, h), out))
   begun_or_kept _ asks kept reason = inl (kept (λ e. cc))
 
   -- the reason is one by the words
