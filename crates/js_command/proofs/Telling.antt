@@ -1,8 +1,8 @@
 -- What the program answers, by where it stops.
-use Rattle.std.proofs.Common.{◌≡◌, ◌≢◌, ℕ, List, [], ◌∷◌, ◌++◌, Option, Some, None, Result, Ok, Err, OnErr, IsErrOf, Bool, true, false, ◌⊎◌, inl, inr, refl, sym, ap, subst, arith, ◌<◌}
+use Rattle.std.proofs.Common.{◌≡◌, ◌≢◌, ℕ, List, [], ◌∷◌, ◌++◌, Option, Some, None, Result, Ok, Err, OnErr, IsErrOf, Bool, true, false, ◌⊎◌, inl, inr, refl, ap, subst, arith, ◌<◌}
 use Rattle.std.specs.Io.KnownBytes.{Keeps}
 use Rattle.js_output.specs.Cause.{MayGoOn}
-use Rattle.js_output.specs.Device.{Tracked, IsLeft, AppendsBeginning, Sends, SendsBeginning}
+use Rattle.js_output.specs.Device.{Tracked, IsLeft, Sends, SendsBeginning}
 use Rattle.js_output.specs.Documents.{DocumentTexts, documents_causes}
 use Rattle.js_output.specs.Outcome.{Output, Outcome, PairOutcome, telling_output, beginning_causes}
 use Rattle.js_output.specs.Places.{TellsPlaces, places_text}

@@ -1,5 +1,5 @@
 -- What comes of an instance over finished schemas is an outcome of a run over their documents.
-use Rattle.std.proofs.Common.{◌≡◌, ◌≤◌, ℕ, ◌+◌, List, [], ◌∷◌, ◌++◌, length, Result, refl, ◌∙◌, sym, subst}
+use Rattle.std.proofs.Common.{◌≡◌, ℕ, ◌+◌, List, [], ◌∷◌, ◌++◌, length, Result, refl, ◌∙◌, sym, subst}
 use Rattle.std.proofs.lemmas.List.{append-nil}
 use Rattle.js_bundle.specs.Document as bundle
 use Rattle.js_tree.specs.declared.forms.Format.{Format}

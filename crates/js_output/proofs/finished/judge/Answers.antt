@@ -1,6 +1,6 @@
 use Rattle.js_bundle.specs.Schemas.{place_at}
 use Rattle.js_output.specs.Outcome.{InstanceOutcome, TextOutcome, telling_output}
-use Rattle.js_output.proofs.Answering.{input-over, input-within, tells-map}
+use Rattle.js_output.proofs.Answering.{input-within, tells-map}
 use Rattle.js_output.proofs.finished.judge.Goals as goal
 
 pub returns-clause-answer : goal.returns-clause-answer
