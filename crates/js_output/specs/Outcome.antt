@@ -90,6 +90,11 @@ abbrev pub Outcome : DocumentTexts → List ℕ → Format → List ℕ → Resu
 Outcome documents entry format instance =
     After (beginning_causes documents entry) (InstanceOutcome (bundle_of documents) (entry_place (bundle_of documents) entry) format instance)
 
+-- over finished schemas: what comes of the entry, and then of the instance
+abbrev pub FinishedOutcome : bundle.Documents → List ℕ → Format → List ℕ → Result Output Fault → Type 0
+FinishedOutcome schemas entry format instance =
+    After (entry_causes schemas entry) (InstanceOutcome schemas (entry_place schemas entry) format instance)
+
 -- ---- the outcome of a pair: a document, a line feed, and the instance
 
 abbrev pub first_line_feed : List ℕ → Option ℕ
@@ -135,6 +140,11 @@ IsLateOrMemory (fault.Instance e) = ⊤
 IsLateOrMemory fault.TooLarge = ⊤
 IsLateOrMemory fault.Write = ⊤
 IsLateOrMemory _ = ⊥
+
+-- the faults from the instance's bytes on, or want of memory
+abbrev pub IsInstanceFault : Fault → Type 0
+IsInstanceFault fault.InputTooLarge = ⊤
+IsInstanceFault f = IsLateOrMemory f
 
 -- ---- words for the parts
 

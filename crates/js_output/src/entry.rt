@@ -2,11 +2,9 @@
 ghost use Rattle.std.specs.Prelude.{◌≡◌, true, OnOk, IfOk, IfErr};
 ghost use Rattle.js_bundle.specs.Schemas.{is_place, place_at};
 ghost use Rattle.js_output.specs.Cause.{MayGoOn, FailsBy};
-ghost use Rattle.js_output.specs.Documents.{documents_of, bundle_of};
-ghost use Rattle.js_output.specs.Entry.{entry_causes, entry_place, IsEntry};
-ghost use Rattle.js_output.specs.Outcome.{beginning_causes, IsEarlyOrMemory};
+ghost use Rattle.js_output.specs.Entry.{entry_causes, entry_place};
+ghost use Rattle.js_output.specs.Outcome.{IsEarlyOrMemory};
 
-use crate::documents::finished;
 use crate::fault::Fault;
 use js_bundle::{Place, Schemas};
 use std::alloc::Global;
@@ -16,19 +14,6 @@ use std::alloc::Global;
 pub(crate) struct Entry {
     pub(crate) schemas: Schemas,
     pub(crate) place: Place,
-}
-
-/// The entry of the documents that the URI names, or the first fault that stands before the
-/// instance is read.
-pub(crate) fn entry_of(alloc: Global, docs: &[(&str, &[u8])], uri: &str) -> Result<Entry, Fault>
-    ensures ok { IfOk result (IsEntry (bundle_of (documents_of docs.now)) uri.now) }
-    ensures clear { OnOk result (MayGoOn (beginning_causes (documents_of docs.now) uri.now)) }
-    ensures err { IfErr result (FailsBy (beginning_causes (documents_of docs.now) uri.now)) }
-    ensures early { IfErr result IsEarlyOrMemory }
-{
-    let schemas = finished(alloc, docs)?;
-    let place = entry_place(alloc, &schemas, uri)?;
-    Ok(Entry { schemas, place })
 }
 
 /// The place that the URI names.

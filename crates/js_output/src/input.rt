@@ -9,7 +9,7 @@ use std::alloc::Global;
 use std::io::Read;
 
 /// The most bytes that are read of an input.
-const LIMIT: usize = 16_777_216;
+pub(crate) const LIMIT: usize = 16_777_216;
 
 /// All bytes up to the source's end, at most 16,777,216 of them.
 ///

@@ -4,6 +4,7 @@
 mod documents;
 mod entry;
 mod fault;
+mod finished;
 mod input;
 pub mod laws;
 mod line;
@@ -23,6 +24,7 @@ mod text;
 mod writing;
 
 pub use fault::{Fault, SuiteFault};
+pub use finished::{judge, run_finished};
 pub use input::read_all;
 pub use js_bundle::{EntryFault, Refusal, RefusalKind};
 pub use js_tree::Format;

@@ -5,26 +5,27 @@ ghost use Rattle.js_tree.specs.declared.forms.Format.TheVariants.{Merged};
 ghost use Rattle.js_bundle.specs.Schemas.{is_place, place_at};
 ghost use Rattle.js_output.specs.Outcome.{IsTrimmed, IsWalkFault};
 
-use crate::entry::Entry;
 use crate::fault::Fault;
+use js_bundle::{Place, Schemas};
 use js_doc::Doc;
 use js_eval::walk;
 use js_tree::{Tree, merge_condense, prune};
 use std::alloc::Global;
 
-/// Judges the instance at the entry. What the format doesn't show is taken out in place.
+/// Judges the instance at the place. What the format doesn't show is taken out in place.
 pub(crate) fn merged_of<'a>(
     alloc: Global,
-    entry: &'a Entry,
+    schemas: &'a Schemas,
+    place: Place,
     instance: &'a Doc,
 ) -> Result<Tree<'a>, Fault>
-    requires { is_place entry.now.schemas entry.now.place ≡ true }
-    ensures tree { IfOk result (IsTrimmed entry.now.schemas
-        (place_at entry.now.schemas entry.now.place) (value_of instance.now) Merged) }
-    ensures fault { IfErr result (IsWalkFault entry.now.schemas
-        (place_at entry.now.schemas entry.now.place) (value_of instance.now)) }
+    requires { is_place schemas.now place ≡ true }
+    ensures tree { IfOk result (IsTrimmed schemas.now
+        (place_at schemas.now place) (value_of instance.now) Merged) }
+    ensures fault { IfErr result (IsWalkFault schemas.now
+        (place_at schemas.now place) (value_of instance.now)) }
 {
-    match walk(alloc, &entry.schemas, entry.place, instance) {
+    match walk(alloc, schemas, place, instance) {
         Ok(tree) => Ok(merge_condense(prune(tree))),
         Err(fault) => Err(Fault::from(fault)),
     }

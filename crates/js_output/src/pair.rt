@@ -4,12 +4,12 @@ ghost use Rattle.js_output.specs.Device.{input_limit, Unflushed};
 ghost use Rattle.js_output.specs.Outcome.{OutcomeOfTexts, PairOutcome, first_line_feed, text_before, text_after, telling_output};
 ghost use Rattle.js_output.specs.Telling.{Answers, Tells};
 
-use crate::entry::entry_of;
+use crate::documents::finished;
 use crate::fault::Fault;
+use crate::finished::run_finished;
 use crate::input::read_all;
 use crate::sink::Sink;
 use crate::source::Source;
-use crate::telling::tell_text;
 use js_tree::Format;
 use std::alloc::Global;
 use std::io::{Read, Write};
@@ -50,7 +50,6 @@ pub fn run_pair<R: Read, W: Write>(
 fn texts_of(bytes: &[u8]) -> (&[u8], &[u8])
     ensures before { result.0.now ≡ text_before (first_line_feed bytes.now) bytes.now }
     ensures after { result.1.now ≡ text_after (first_line_feed bytes.now) bytes.now }
-    ensures fits { length result.1.now ≤ length bytes.now }
 {
     match first_line_feed(bytes) {
         Some(at) => (&bytes[..at], &bytes[at + 1..]),
@@ -71,7 +70,6 @@ fn tell_texts<W: Write>(
     instance: &[u8],
     out: &mut Sink<W>,
 ) -> Result<bool, Fault>
-    requires { length instance.now ≤ input_limit }
     ensures answer { Tells telling_output (OutcomeOfTexts document.now instance.now) W.contents
         out.old out.new result }
     ensures nothing { IfErr result (λ e. e ≢ Fault.Write → out.new ≡ out.old) }
@@ -79,6 +77,6 @@ fn tell_texts<W: Write>(
     ensures sink_stays { out.old.failed ≡ true → out.new ≡ out.old }
 {
     let docs = [(PAIR_URI, document)];
-    let entry = entry_of(alloc, &docs, PAIR_URI)?;
-    tell_text(alloc, &entry, Format::Flag, instance, out)
+    let schemas = finished(alloc, &docs)?;
+    run_finished(alloc, &schemas, PAIR_URI, instance, Format::Flag, out)
 }

@@ -7,45 +7,45 @@ ghost use Rattle.js_tree.specs.declared.forms.Format.TheVariants.{Merged, Verbos
 ghost use Rattle.js_bundle.specs.Schemas.{is_place, place_at};
 ghost use Rattle.js_output.specs.Outcome.{AreRows, IsWalkFault, trimmed};
 
-use crate::entry::Entry;
 use crate::fault::Fault;
+use js_bundle::{Place, Schemas};
 use js_doc::Doc;
 use js_eval::walk_into;
 use js_tree::{Flat, Format, flat_condense, flat_prune};
 use std::alloc::Global;
 
-/// Judges the instance at the entry. The rows that the format doesn't show are taken out in place.
+/// Judges the instance at the place. The rows that the format doesn't show are taken out in place.
 pub(crate) fn rows_of<'a>(
     alloc: Global,
-    entry: &'a Entry,
+    schemas: &'a Schemas,
+    place: Place,
     format: Format,
     instance: &'a Doc,
 ) -> Result<Flat<'a>, Fault>
-    requires place { is_place entry.now.schemas entry.now.place ≡ true }
+    requires place { is_place schemas.now place ≡ true }
     requires rows { format ≢ Merged }
-    ensures rows { IfOk result (AreRows entry.now.schemas
-        (place_at entry.now.schemas entry.now.place) (value_of instance.now) format) }
-    ensures fault { IfErr result (IsWalkFault entry.now.schemas
-        (place_at entry.now.schemas entry.now.place) (value_of instance.now)) }
+    ensures rows { IfOk result (AreRows schemas.now
+        (place_at schemas.now place) (value_of instance.now) format) }
+    ensures fault { IfErr result (IsWalkFault schemas.now
+        (place_at schemas.now place) (value_of instance.now)) }
 {
-    let flat = walked(alloc, entry, instance)?;
+    let flat = walked(alloc, schemas, place, instance)?;
     Ok(trimmed(flat, format))
 }
 
-fn walked<'a>(alloc: Global, entry: &'a Entry, instance: &'a Doc) -> Result<Flat<'a>, Fault>
-    requires { is_place entry.now.schemas entry.now.place ≡ true }
-    ensures rows { IfOk result (AreRows entry.now.schemas
-        (place_at entry.now.schemas entry.now.place) (value_of instance.now) Verbose) }
-    ensures fault { IfErr result (IsWalkFault entry.now.schemas
-        (place_at entry.now.schemas entry.now.place) (value_of instance.now)) }
+fn walked<'a>(
+    alloc: Global,
+    schemas: &'a Schemas,
+    place: Place,
+    instance: &'a Doc,
+) -> Result<Flat<'a>, Fault>
+    requires { is_place schemas.now place ≡ true }
+    ensures rows { IfOk result (AreRows schemas.now
+        (place_at schemas.now place) (value_of instance.now) Verbose) }
+    ensures fault { IfErr result (IsWalkFault schemas.now
+        (place_at schemas.now place) (value_of instance.now)) }
 {
-    match walk_into(
-        alloc,
-        &entry.schemas,
-        entry.place,
-        instance,
-        Flat::new(alloc),
-    ) {
+    match walk_into(alloc, schemas, place, instance, Flat::new(alloc)) {
         Ok(flat) => Ok(flat),
         Err((fault, _flat)) => Err(Fault::from(fault)),
     }

@@ -3,15 +3,18 @@ ghost use Rattle.std.specs.Prelude.{◌≡◌, ◌≢◌, ◌≤◌, ◌+◌, []
 ghost use Rattle.js_bundle.specs.Schemas.{is_place, place_at};
 ghost use Rattle.js_output.specs.Device.{input_limit, Unflushed};
 ghost use Rattle.js_output.specs.Documents.{documents_of};
-ghost use Rattle.js_output.specs.Outcome.{beginning_causes, Outcome, InstanceOutcome, telling_output, IsEarly, IsReadOrEarly};
+ghost use Rattle.js_output.specs.Entry.{entry_causes};
+ghost use Rattle.js_output.specs.Outcome.{beginning_causes, Outcome, FinishedOutcome, InstanceOutcome, telling_output, IsEarly, IsReadOrEarly};
 ghost use Rattle.js_output.specs.Telling.{Answers};
 
-use crate::entry::{Entry, entry_of};
+use crate::documents::finished;
+use crate::entry::entry_place;
 use crate::fault::Fault;
+use crate::finished::judge;
 use crate::input::read_all;
 use crate::sink::Sink;
 use crate::source::Source;
-use crate::telling::tell_text;
+use js_bundle::{Place, Schemas};
 use js_tree::Format;
 use std::alloc::Global;
 use std::io::{Read, Write};
@@ -52,21 +55,47 @@ pub fn run<R: Read, W: Write>(
     ensures unflushed { Unflushed out.old out.new }
     ensures sink_stays { out.old.failed ≡ true → out.new ≡ out.old }
 {
-    let entry = entry_of(alloc, docs, entry)?;
-    tell_instance(alloc, &entry, format, instance, out)
+    let schemas = finished(alloc, docs)?;
+    run_read(alloc, &schemas, entry, instance, format, out)
 }
 
-// What comes of the instance that the source gives.
-fn tell_instance<R: Read, W: Write>(
+// Over finished schemas: what comes of the entry, and then of the instance that the source gives.
+fn run_read<R: Read, W: Write>(
     alloc: Global,
-    entry: &Entry,
-    format: Format,
+    schemas: &Schemas,
+    entry: &str,
     instance: &mut Source<R>,
+    format: Format,
     out: &mut Sink<W>,
 ) -> Result<bool, Fault>
-    requires { is_place entry.now.schemas entry.now.place ≡ true }
+    ensures answer { Answers telling_output (FinishedOutcome schemas.now entry.now format)
+        (entry_causes schemas.now entry.now)
+        (R.remaining instance.old.device) W.contents out.old out.new result }
+    ensures unread { IfErr result (λ e. IsEarly e → instance.new ≡ instance.old) }
+    ensures read { IsErrOf result Fault.Read → instance.new.failed ≡ true }
+    ensures failed { instance.new.failed ≡ true → IsReadOrEarly result }
+    ensures reads { instance.new.calls ≤ instance.old.calls + (input_limit + 1) }
+    ensures source_stays { instance.old.failed ≡ true → instance.new ≡ instance.old }
+    ensures nothing { IfErr result (λ e. e ≢ Fault.Write → out.new ≡ out.old) }
+    ensures unflushed { Unflushed out.old out.new }
+    ensures sink_stays { out.old.failed ≡ true → out.new ≡ out.old }
+{
+    let place = entry_place(alloc, schemas, entry)?;
+    judge_read(alloc, schemas, place, instance, format, out)
+}
+
+// What comes of the instance that the source gives, at the place.
+fn judge_read<R: Read, W: Write>(
+    alloc: Global,
+    schemas: &Schemas,
+    place: Place,
+    instance: &mut Source<R>,
+    format: Format,
+    out: &mut Sink<W>,
+) -> Result<bool, Fault>
+    requires { is_place schemas.now place ≡ true }
     ensures answer { Answers telling_output
-        (InstanceOutcome entry.now.schemas (place_at entry.now.schemas entry.now.place) format) []
+        (InstanceOutcome schemas.now (place_at schemas.now place) format) []
         (R.remaining instance.old.device) W.contents out.old out.new result }
     ensures late { IfErr result (λ e. IsEarly e → ⊥) }
     ensures read { IsErrOf result Fault.Read → instance.new.failed ≡ true }
@@ -78,5 +107,5 @@ fn tell_instance<R: Read, W: Write>(
     ensures sink_stays { out.old.failed ≡ true → out.new ≡ out.old }
 {
     let bytes = read_all(alloc, instance)?;
-    tell_text(alloc, entry, format, bytes.as_slice(), out)
+    judge(alloc, schemas, place, bytes.as_slice(), format, out)
 }

@@ -62,6 +62,14 @@ impl<W: Write> Sink<W> {
         }
     }
 
+    /// The device, with what it has taken.
+    pub fn into_device(self) -> W
+        ensures { result ≡ self.device }
+    {
+        let Sink { writing, .. } = self;
+        writing.device
+    }
+
     /// Whether a call has failed.
     pub fn failed(&self) -> bool
         ensures { result ≡ self.now.failed }

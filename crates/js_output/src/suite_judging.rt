@@ -15,9 +15,9 @@ use crate::entry::{Entry, entry_place};
 use crate::fault::Fault;
 use crate::suite_lines::{Line, Status};
 use crate::suite_text::{SuiteGroup, SuiteTest};
+use crate::telling::verdict_of;
 use js_bundle::Bundle;
 use js_doc::{Doc, Memory};
-use js_eval::{WalkFault, verdict};
 use std::alloc::{AllocError, Global};
 
 /// A line for each test of the groups, in order. Each group has the documents anew, with its schema
@@ -215,10 +215,10 @@ fn judged(alloc: Global, entry: &Entry, instance: &Doc, valid: bool) -> Result<S
     ensures { IfOk result (IsStatusOn entry.now.schemas
         (place_at entry.now.schemas entry.now.place) (value_of instance.now) valid) }
 {
-    match verdict(alloc, &entry.schemas, entry.place, instance) {
+    match verdict_of(alloc, &entry.schemas, entry.place, instance) {
         Ok(found) => Ok(compared(found, valid)),
-        Err(WalkFault::TooLarge) => Ok(Status::Skip),
-        Err(WalkFault::Memory) => Err(Memory),
+        Err(Fault::TooLarge) => Ok(Status::Skip),
+        Err(_) => Err(Memory),
     }
 }
 

@@ -7,31 +7,32 @@ ghost use Rattle.js_output.specs.Device.{Unflushed};
 ghost use Rattle.js_output.specs.Outcome.{ValueOutcome, TextOutcome, telling_output, IsLateOrMemory, IsJudged, IsWalkFault};
 ghost use Rattle.js_output.specs.Telling.{Tells};
 
-use crate::entry::Entry;
 use crate::fault::Fault;
 use crate::merged::{merged_of, root_is_valid};
 use crate::rows::{is_valid, rows_of};
 use crate::sink::Sink;
 use crate::text::value_from;
 use crate::writing::{write_flag, write_rows, write_tree};
+use js_bundle::{Place, Schemas};
 use js_doc::{Doc, ReadFault};
 use js_eval::verdict;
 use js_tree::Format;
 use std::alloc::Global;
 use std::io::Write;
 
-/// Judges the instance whose text these bytes are by the schema at the entry, and writes what the
+/// Judges the instance whose text these bytes are by the schema at the place, and writes what the
 /// format tells of it.
 pub(crate) fn tell_text<W: Write>(
     alloc: Global,
-    entry: &Entry,
+    schemas: &Schemas,
+    place: Place,
     format: Format,
     bytes: &[u8],
     out: &mut Sink<W>,
 ) -> Result<bool, Fault>
-    requires { is_place entry.now.schemas entry.now.place ≡ true }
-    ensures answer { Tells telling_output (TextOutcome entry.now.schemas
-        (place_at entry.now.schemas entry.now.place) format bytes.now)
+    requires { is_place schemas.now place ≡ true }
+    ensures answer { Tells telling_output (TextOutcome schemas.now
+        (place_at schemas.now place) format bytes.now)
         W.contents out.old out.new result }
     ensures late { IfErr result IsLateOrMemory }
     ensures nothing { IfErr result (λ e. e ≢ Fault.Write → out.new ≡ out.old) }
@@ -39,7 +40,7 @@ pub(crate) fn tell_text<W: Write>(
     ensures sink_stays { out.old.failed ≡ true → out.new ≡ out.old }
 {
     match value_from(alloc, bytes) {
-        Ok(instance) => tell_value(alloc, entry, format, &instance, out),
+        Ok(instance) => tell_value(alloc, schemas, place, format, &instance, out),
         Err(ReadFault::Memory) => Err(Fault::Memory),
         Err(fault) => Err(Fault::Instance(fault)),
     }
@@ -47,14 +48,15 @@ pub(crate) fn tell_text<W: Write>(
 
 fn tell_value<W: Write>(
     alloc: Global,
-    entry: &Entry,
+    schemas: &Schemas,
+    place: Place,
     format: Format,
     instance: &Doc,
     out: &mut Sink<W>,
 ) -> Result<bool, Fault>
-    requires { is_place entry.now.schemas entry.now.place ≡ true }
-    ensures answer { Tells telling_output (ValueOutcome entry.now.schemas
-        (place_at entry.now.schemas entry.now.place) (value_of instance.now) format)
+    requires { is_place schemas.now place ≡ true }
+    ensures answer { Tells telling_output (ValueOutcome schemas.now
+        (place_at schemas.now place) (value_of instance.now) format)
         W.contents out.old out.new result }
     ensures late { IfErr result IsLateOrMemory }
     ensures nothing { IfErr result (λ e. e ≢ Fault.Write → out.new ≡ out.old) }
@@ -62,31 +64,32 @@ fn tell_value<W: Write>(
     ensures sink_stays { out.old.failed ≡ true → out.new ≡ out.old }
 {
     match format {
-        Format::Flag => tell_verdict(alloc, entry, instance, out),
-        Format::Basic => tell_form(alloc, entry, Format::Basic, instance, out),
-        Format::Detailed => tell_form(alloc, entry, Format::Detailed, instance, out),
-        Format::Merged => tell_merged(alloc, entry, instance, out),
-        Format::Verbose => tell_form(alloc, entry, Format::Verbose, instance, out),
+        Format::Flag => tell_verdict(alloc, schemas, place, instance, out),
+        Format::Basic => tell_form(alloc, schemas, place, Format::Basic, instance, out),
+        Format::Detailed => tell_form(alloc, schemas, place, Format::Detailed, instance, out),
+        Format::Merged => tell_merged(alloc, schemas, place, instance, out),
+        Format::Verbose => tell_form(alloc, schemas, place, Format::Verbose, instance, out),
     }
 }
 
 // The verdict is known before a byte goes out, and no tree is made.
 fn tell_verdict<W: Write>(
     alloc: Global,
-    entry: &Entry,
+    schemas: &Schemas,
+    place: Place,
     instance: &Doc,
     out: &mut Sink<W>,
 ) -> Result<bool, Fault>
-    requires { is_place entry.now.schemas entry.now.place ≡ true }
-    ensures answer { Tells telling_output (ValueOutcome entry.now.schemas
-        (place_at entry.now.schemas entry.now.place) (value_of instance.now) Flag)
+    requires { is_place schemas.now place ≡ true }
+    ensures answer { Tells telling_output (ValueOutcome schemas.now
+        (place_at schemas.now place) (value_of instance.now) Flag)
         W.contents out.old out.new result }
     ensures late { IfErr result IsLateOrMemory }
     ensures nothing { IfErr result (λ e. e ≢ Fault.Write → out.new ≡ out.old) }
     ensures unflushed { Unflushed out.old out.new }
     ensures sink_stays { out.old.failed ≡ true → out.new ≡ out.old }
 {
-    let valid = verdict_of(alloc, entry, instance)?;
+    let valid = verdict_of(alloc, schemas, place, instance)?;
     write_flag(valid, out)?;
     Ok(valid)
 }
@@ -94,22 +97,23 @@ fn tell_verdict<W: Write>(
 // All that takes memory is done before a byte goes out.
 fn tell_form<W: Write>(
     alloc: Global,
-    entry: &Entry,
+    schemas: &Schemas,
+    place: Place,
     format: Format,
     instance: &Doc,
     out: &mut Sink<W>,
 ) -> Result<bool, Fault>
-    requires place { is_place entry.now.schemas entry.now.place ≡ true }
+    requires place { is_place schemas.now place ≡ true }
     requires rows { format ≢ Merged }
-    ensures answer { Tells telling_output (ValueOutcome entry.now.schemas
-        (place_at entry.now.schemas entry.now.place) (value_of instance.now) format)
+    ensures answer { Tells telling_output (ValueOutcome schemas.now
+        (place_at schemas.now place) (value_of instance.now) format)
         W.contents out.old out.new result }
     ensures late { IfErr result IsLateOrMemory }
     ensures nothing { IfErr result (λ e. e ≢ Fault.Write → out.new ≡ out.old) }
     ensures unflushed { Unflushed out.old out.new }
     ensures sink_stays { out.old.failed ≡ true → out.new ≡ out.old }
 {
-    let flat = rows_of(alloc, entry, format, instance)?;
+    let flat = rows_of(alloc, schemas, place, format, instance)?;
     let valid = is_valid(&flat);
     write_rows(&flat, format, out)?;
     Ok(valid)
@@ -118,31 +122,38 @@ fn tell_form<W: Write>(
 // Siblings are compared in the tree, which is made whole before a byte goes out.
 fn tell_merged<W: Write>(
     alloc: Global,
-    entry: &Entry,
+    schemas: &Schemas,
+    place: Place,
     instance: &Doc,
     out: &mut Sink<W>,
 ) -> Result<bool, Fault>
-    requires { is_place entry.now.schemas entry.now.place ≡ true }
-    ensures answer { Tells telling_output (ValueOutcome entry.now.schemas
-        (place_at entry.now.schemas entry.now.place) (value_of instance.now) Merged)
+    requires { is_place schemas.now place ≡ true }
+    ensures answer { Tells telling_output (ValueOutcome schemas.now
+        (place_at schemas.now place) (value_of instance.now) Merged)
         W.contents out.old out.new result }
     ensures late { IfErr result IsLateOrMemory }
     ensures nothing { IfErr result (λ e. e ≢ Fault.Write → out.new ≡ out.old) }
     ensures unflushed { Unflushed out.old out.new }
     ensures sink_stays { out.old.failed ≡ true → out.new ≡ out.old }
 {
-    let tree = merged_of(alloc, entry, instance)?;
+    let tree = merged_of(alloc, schemas, place, instance)?;
     let valid = root_is_valid(&tree);
     write_tree(&tree, out)?;
     Ok(valid)
 }
 
-fn verdict_of(alloc: Global, entry: &Entry, instance: &Doc) -> Result<bool, Fault>
-    requires { is_place entry.now.schemas entry.now.place ≡ true }
-    ensures judged { IfOk result (IsJudged entry.now.schemas
-        (place_at entry.now.schemas entry.now.place) (value_of instance.now)) }
-    ensures fault { IfErr result (IsWalkFault entry.now.schemas
-        (place_at entry.now.schemas entry.now.place) (value_of instance.now)) }
+/// The verdict alone.
+pub(crate) fn verdict_of(
+    alloc: Global,
+    schemas: &Schemas,
+    place: Place,
+    instance: &Doc,
+) -> Result<bool, Fault>
+    requires { is_place schemas.now place ≡ true }
+    ensures judged { IfOk result (IsJudged schemas.now
+        (place_at schemas.now place) (value_of instance.now)) }
+    ensures fault { IfErr result (IsWalkFault schemas.now
+        (place_at schemas.now place) (value_of instance.now)) }
 {
-    Ok(verdict(alloc, &entry.schemas, entry.place, instance)?)
+    Ok(verdict(alloc, schemas, place, instance)?)
 }

@@ -7,4 +7,4 @@ use Rattle.js_output.proofs.merged.merged_of.Goals as goal
 pub returns-in-Ok-clause-tree : goal.returns-in-Ok-clause-tree
 returns-in-Ok-clause-tree c =
     let h = c.in-Ok.ensures.ok in
-    (c.in-Ok.tree, result-there c.args.entry.now.schemas c.args.entry.now.place (value_of c.args.instance.now) c.requires c.in-Ok.tree h.is, h.stands, c.merge_condense.ensures.merged ∙ ap merged c.prune.ensures)
+    (c.in-Ok.tree, result-there c.args.schemas.now c.args.place (value_of c.args.instance.now) c.requires c.in-Ok.tree h.is, h.stands, c.merge_condense.ensures.merged ∙ ap merged c.prune.ensures)

@@ -17,8 +17,8 @@ write_rows-requires g c = let (t, is, stands, e) = c.in_ok-flat.ensures.rows in 
 pub returns-in_err-write_rows-clause-answer : goal.returns-in_err-write_rows-clause-answer
 returns-in_err-write_rows-clause-answer g c =
     let p = err_from_is_err_and c.from_residual-in_err-write_rows.result c.from_residual-in_err-write_rows.ensures.1 in
-    let docs = c.args.entry.now.schemas in
-    let entry = place_at docs c.args.entry.now.place in
+    let docs = c.args.schemas.now in
+    let entry = place_at docs c.args.place in
     let taken = g.W.Write.contents in
     let (t, is, stands, e) = c.in_ok-flat.ensures.rows in
     let (write, begun) = c.in_err-write_rows.ensures.sent (trimmed c.args.format t) e in
@@ -27,8 +27,8 @@ returns-in_err-write_rows-clause-answer g c =
 
 pub returns-clause-answer : goal.returns-clause-answer
 returns-clause-answer g c =
-    let docs = c.args.entry.now.schemas in
-    let entry = place_at docs c.args.entry.now.place in
+    let docs = c.args.schemas.now in
+    let entry = place_at docs c.args.place in
     let taken = g.W.Write.contents in
     let (t, is, stands, e) = c.in_ok-flat.ensures.rows in
     tells-sent docs entry (value_of c.args.instance.now) c.args.format t is stands taken c.args.out.now c.write_rows.new.out c.is_valid-valid.result (c.is_valid-valid.ensures (trimmed c.args.format t) e ∙ ap (λ u. u.valid) (root-trimmed c.args.format t))

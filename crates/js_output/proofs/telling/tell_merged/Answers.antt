@@ -12,8 +12,8 @@ use Rattle.js_output.proofs.telling.tell_merged.Goals as goal
 pub returns-in_err-write_tree-clause-answer : goal.returns-in_err-write_tree-clause-answer
 returns-in_err-write_tree-clause-answer g c =
     let p = err_from_is_err_and c.from_residual-in_err-write_tree.result c.from_residual-in_err-write_tree.ensures.1 in
-    let docs = c.args.entry.now.schemas in
-    let entry = place_at docs c.args.entry.now.place in
+    let docs = c.args.schemas.now in
+    let entry = place_at docs c.args.place in
     let taken = g.W.Write.contents in
     let (t, is, stands, e) = c.in_ok-tree.ensures.tree in
     let (write, begun) = c.in_err-write_tree.ensures.sent in
@@ -22,8 +22,8 @@ returns-in_err-write_tree-clause-answer g c =
 
 pub returns-clause-answer : goal.returns-clause-answer
 returns-clause-answer g c =
-    let docs = c.args.entry.now.schemas in
-    let entry = place_at docs c.args.entry.now.place in
+    let docs = c.args.schemas.now in
+    let entry = place_at docs c.args.place in
     let taken = g.W.Write.contents in
     let (t, is, stands, e) = c.in_ok-tree.ensures.tree in
     tells-sent docs entry (value_of c.args.instance.now) Merged t is stands taken c.args.out.now c.write_tree.new.out c.root_is_valid-valid.result (c.root_is_valid-valid.ensures ∙ ap (λ u. u.root.valid) e)

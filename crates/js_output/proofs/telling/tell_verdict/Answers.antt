@@ -12,8 +12,8 @@ use Rattle.js_output.proofs.telling.tell_verdict.Goals as goal
 pub returns-in_err-write_flag-clause-answer : goal.returns-in_err-write_flag-clause-answer
 returns-in_err-write_flag-clause-answer g c =
     let p = err_from_is_err_and c.from_residual-in_err-write_flag.result c.from_residual-in_err-write_flag.ensures.1 in
-    let docs = c.args.entry.now.schemas in
-    let entry = place_at docs c.args.entry.now.place in
+    let docs = c.args.schemas.now in
+    let entry = place_at docs c.args.place in
     let taken = g.W.Write.contents in
     let (t, is, stands, e) = c.in_ok-valid.ensures.judged in
     let (write, begun) = c.in_err-write_flag.ensures.sent in
@@ -22,8 +22,8 @@ returns-in_err-write_flag-clause-answer g c =
 
 pub returns-clause-answer : goal.returns-clause-answer
 returns-clause-answer g c =
-    let docs = c.args.entry.now.schemas in
-    let entry = place_at docs c.args.entry.now.place in
+    let docs = c.args.schemas.now in
+    let entry = place_at docs c.args.place in
     let taken = g.W.Write.contents in
     let (t, is, stands, e) = c.in_ok-valid.ensures.judged in
     tells-sent docs entry (value_of c.args.instance.now) Flag t is stands taken c.args.out.now c.write_flag.new.out c.in_ok-valid.valid e

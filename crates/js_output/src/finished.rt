@@ -1,0 +1,84 @@
+//! From finished schemas and an instance's bytes to the output's text.
+ghost use Rattle.std.specs.Prelude.{◌≡◌, ◌≢◌, true, IfErr};
+ghost use Rattle.js_bundle.specs.Schemas.{is_place, place_at};
+ghost use Rattle.js_output.specs.Device.{Unflushed};
+ghost use Rattle.js_output.specs.Outcome.{FinishedOutcome, InstanceOutcome, telling_output, IsInstanceFault};
+ghost use Rattle.js_output.specs.Telling.{Tells};
+
+use crate::entry::entry_place;
+use crate::fault::Fault;
+use crate::input::LIMIT;
+use crate::sink::Sink;
+use crate::telling::tell_text;
+use js_bundle::{Place, Schemas};
+use js_tree::Format;
+use std::alloc::Global;
+use std::io::Write;
+
+/// Whether the schema that the entry names accepts the instance whose text the bytes are. Writes what
+/// the format tells of it, and a line feed (JSON Schema Core, section 12.4).
+///
+/// Of documents that were added to a `Bundle` and finished, this is what [`crate::run`] answers and
+/// writes. The schemas can be asked again. For many instances, look the entry up once with
+/// [`Schemas::entry`] and call [`judge`].
+///
+/// # Errors
+/// The first that applies, of: `Entry`, where the entry is refused; `InputTooLarge`, where the
+/// instance has more than 16,777,216 bytes; `Instance`, where its text is refused; `TooLarge`, where
+/// no result stands within the limits of `js_eval`; `Write`, where the sink stands failed. `Memory`
+/// may come at any point before the first write. After `Write` a beginning of the text is out, and
+/// after any other fault nothing is. `Read`, `Refused` and `Suite` never come.
+pub fn run_finished<W: Write>(
+    alloc: Global,
+    schemas: &Schemas,
+    entry: &str,
+    instance: &[u8],
+    format: Format,
+    out: &mut Sink<W>,
+) -> Result<bool, Fault>
+    // This is the outcome of the entry and the instance over these schemas, and its text went out.
+    ensures answer { Tells telling_output
+        (FinishedOutcome schemas.now entry.now format instance.now) W.contents
+        out.old out.new result }
+
+    // Nothing goes out where there is no output.
+    ensures nothing { IfErr result (λ e. e ≢ Fault.Write → out.new ≡ out.old) }
+    ensures unflushed { Unflushed out.old out.new }
+    ensures sink_stays { out.old.failed ≡ true → out.new ≡ out.old }
+{
+    let place = entry_place(alloc, schemas, entry)?;
+    judge(alloc, schemas, place, instance, format, out)
+}
+
+/// Whether the schema at the place accepts the instance whose text the bytes are. Writes what the
+/// format tells of it, and a line feed. This is [`run_finished`] with an entry that was looked up
+/// before.
+///
+/// # Errors
+/// As of [`run_finished`], without `Entry`.
+pub fn judge<W: Write>(
+    alloc: Global,
+    schemas: &Schemas,
+    place: Place,
+    instance: &[u8],
+    format: Format,
+    out: &mut Sink<W>,
+) -> Result<bool, Fault>
+    requires { is_place schemas.now place ≡ true }
+
+    // This is the outcome of the instance at the place, and its text went out.
+    ensures answer { Tells telling_output
+        (InstanceOutcome schemas.now (place_at schemas.now place) format instance.now) W.contents
+        out.old out.new result }
+    ensures faults { IfErr result IsInstanceFault }
+
+    // Nothing goes out where there is no output.
+    ensures nothing { IfErr result (λ e. e ≢ Fault.Write → out.new ≡ out.old) }
+    ensures unflushed { Unflushed out.old out.new }
+    ensures sink_stays { out.old.failed ≡ true → out.new ≡ out.old }
+{
+    if LIMIT < instance.len() {
+        return Err(Fault::InputTooLarge);
+    }
+    tell_text(alloc, schemas, place, format, instance, out)
+}
