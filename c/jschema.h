@@ -15,8 +15,8 @@
    Texts (URIs, documents, instances, output) are bytes with a length; no zero ends them. The library reads a text that
    you pass during the call only, so it stays yours. No pointer that you pass may be null, not even with the length 0.
 
-   After each call except jschema_text the handle has the text of that call: the output of a check; for JSCHEMA_REFUSED
-   the line that says what is refused; otherwise none. jschema_text copies it out.
+   After each call except jschema_text the handle has the text of that call: the output of a check, the list of
+   jschema_places; for JSCHEMA_REFUSED the line that says what is refused; otherwise none. jschema_text copies it out.
 
    Threads: give a handle to one call at a time, on one thread. Threads that work side by side need a handle each. */
 #ifndef JSCHEMA_H
@@ -73,6 +73,10 @@ uint32_t jschema_add(jschema *handle, const uint8_t *uri, size_t uri_length,
    JSCHEMA_REFUSED: a document is refused, as for a reference that leads nowhere. Documents can still be added.
    After anything but JSCHEMA_DONE the documents are as before. */
 uint32_t jschema_finish(jschema *handle);
+
+/* Lists the absolute locations of all schemas, as the text: a line each. Each can be an entry.
+   JSCHEMA_MISUSED: the handle is empty or not finished. */
+uint32_t jschema_places(jschema *handle);
 
 /* Looks up the schema that a URI names, and puts its number into *entry: 0 for the first that is looked up in this
    handle, then 1, and so on. The URI is that of a document, an `$id`, or one of these with a fragment. The handle keeps

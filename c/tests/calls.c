@@ -35,6 +35,7 @@ static void expect_only_new(const char *state, jschema *handle) {
     uint8_t out[1] = {'x'};
     expect(state, handle, jschema_add(handle, URI, TEXT("true")), JSCHEMA_MISUSED, "");
     expect(state, handle, jschema_finish(handle), JSCHEMA_MISUSED, "");
+    expect(state, handle, jschema_places(handle), JSCHEMA_MISUSED, "");
     expect(state, handle, jschema_entry(handle, URI, &entry), JSCHEMA_MISUSED, "");
     expect(state, handle, jschema_check(handle, 0, TEXT("1"), JSCHEMA_FLAG), JSCHEMA_MISUSED, "");
     expect_that("an entry that isn't found has no number", entry == 7);
@@ -67,6 +68,7 @@ static void test_adding(void) {
     expect("an entry before the end", &handle, jschema_entry(&handle, URI, &entry), JSCHEMA_MISUSED, "");
     expect_that("no number", entry == 7);
     expect("bad text", &handle, jschema_add(&handle, URI, TEXT("{")), JSCHEMA_REFUSED, not_json);
+    expect("places before the end", &handle, jschema_places(&handle), JSCHEMA_MISUSED, "");
     expect("no UTF-8", &handle, jschema_add(&handle, TEXT("a:\xff"), TEXT("true")), JSCHEMA_MISUSED, "");
     expect("bad URI", &handle, jschema_add(&handle, TEXT("s"), TEXT("true")), JSCHEMA_REFUSED,
            "refused: document 0 at \"\": BadUri");
@@ -84,6 +86,7 @@ static void test_adding(void) {
     expect("new over it", &handle, jschema_new(&handle), JSCHEMA_DONE, "");
     expect("nothing is left", &handle, jschema_check(&handle, 0, TEXT("1"), JSCHEMA_FLAG), JSCHEMA_MISUSED, "");
     expect("no documents", &handle, jschema_finish(&handle), JSCHEMA_DONE, "");
+    expect("no places", &handle, jschema_places(&handle), JSCHEMA_DONE, "");
     expect("no schema", &handle, jschema_entry(&handle, URI, &entry), JSCHEMA_REFUSED, "refused: entry: Unresolved");
     jschema_free(&handle);
 }
@@ -94,6 +97,8 @@ static void test_finished(void) {
     jschema_new(&handle);
     jschema_add(&handle, URI, TEXT("{\"properties\": {\"age\": {\"minimum\": 0}}}"));
     jschema_finish(&handle);
+    expect("places", &handle, jschema_places(&handle), JSCHEMA_DONE,
+           "https://example.com/s#\nhttps://example.com/s#/properties/age\n");
     expect("no entry yet", &handle, jschema_check(&handle, 0, TEXT("1"), JSCHEMA_FLAG), JSCHEMA_MISUSED, "");
     expect("entry", &handle, jschema_entry(&handle, URI, &entry), JSCHEMA_DONE, "");
     expect("other entry", &handle, jschema_entry(&handle, TEXT("https://example.com/s#/properties/age"), &other),

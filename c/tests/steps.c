@@ -28,6 +28,7 @@ int main(void) {
     STEP("refused documents", jschema_finish(&handle));
     STEP("add", jschema_add(&handle, TEXT("https://example.com/t"), TEXT("{\"maxLength\": 2}")));
     STEP("finish", jschema_finish(&handle));
+    STEP("places", jschema_places(&handle));
     STEP("refused entry", jschema_entry(&handle, TEXT("https://example.com/u"), &entry));
     STEP("entry", jschema_entry(&handle, URI, &entry));
     STEP("refused instance", jschema_check(&handle, entry, TEXT("{\"a\": 0.5}"), JSCHEMA_FLAG));

@@ -4,7 +4,7 @@ use Rattle.jschema_c.specs.declared.session.Phase.TheVariants as phase
 use Rattle.jschema_c.specs.declared.session.Session.{Session}
 use Rattle.jschema_c.specs.declared.status.Status.{Status}
 use Rattle.jschema_c.specs.declared.status.Status.TheVariants as status
-use Rattle.jschema_c.specs.Session.{AddCall, FinishCall, EntryCall, CheckCall}
+use Rattle.jschema_c.specs.Session.{AddCall, FinishCall, ListCall, EntryCall, CheckCall}
 use Rattle.jschema_c.specs.Status.{code}
 
 -- no document, no entry, no text
@@ -28,6 +28,10 @@ SessionAdds uri document before after s = AddCall uri document before.phase afte
 
 abbrev pub SessionFinishes : Session → Session → Status → Type 0
 SessionFinishes before after s = FinishCall before.phase after.phase s after.text.items × (after.entries.items ≡ before.entries.items)
+
+abbrev pub SessionLists : Session → Session → Status → Type 0
+SessionLists before after s =
+    ListCall before.phase s after.text.items × ((after.phase ≡ before.phase) × (after.entries.items ≡ before.entries.items))
 
 abbrev pub SessionEnters : List ℕ → ℕ → ℕ → Session → Session → Status → Type 0
 SessionEnters uri old new before after s =

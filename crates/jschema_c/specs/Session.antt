@@ -1,18 +1,19 @@
 -- What a session answers to each call, what it holds afterwards, and which text stands.
 use Rattle.std.specs.Prelude.{◌≡◌, ℕ, ◌<◌, List, [], ◌∷◌, ◌++◌, length, slice_get, Option, Some, None, Result, Ok, Err, Bool, true, false, ⊤}
 use Rattle.std.specs.Str.{IsUtf8}
-use Rattle.url.specs.Parser.{parse_url}
 use Rattle.js_tree.specs.declared.forms.Format.{Format}
 use Rattle.js_bundle.specs.Adding.{IsAdded, IsRefusedBy}
 use Rattle.js_bundle.specs.Document.{Documents}
 use Rattle.js_bundle.specs.Refusals.{refusals, IsRefusalOf}
-use Rattle.js_bundle.specs.Schemas.{entry, is_place, place_at, StandsFor, IsEntryFault}
+use Rattle.js_bundle.specs.Resource.{sites}
+use Rattle.js_bundle.specs.Schemas.{is_place, place_at, StandsFor, IsEntryFault}
 use Rattle.js_bundle.specs.declared.refusal.Refusal.{Refusal}
 use Rattle.js_bundle.specs.declared.refusal.EntryFault.{EntryFault}
 use Rattle.js_output.specs.Documents.{fault_by}
-use Rattle.js_output.specs.Entry.{entry_fault_of}
+use Rattle.js_output.specs.Entry.{entry_fault_of, entry_place}
 use Rattle.js_output.specs.Line.{fault_line}
 use Rattle.js_output.specs.Outcome.{Output, InstanceOutcome}
+use Rattle.js_output.specs.Places.{lines_of}
 use Rattle.js_output.specs.declared.fault.Fault.{Fault}
 use Rattle.js_output.specs.declared.fault.Fault.TheVariants as fault
 use Rattle.jschema_c.specs.declared.session.Phase.{Phase}
@@ -90,13 +91,33 @@ Finishes old new (Err f) = (new ≡ old) × RefusesDocuments old f
 abbrev pub FinishCall : Phase → Phase → Status → List ℕ → Type 0
 FinishCall old new answered text = (came : Result Status Fault) × Finishes old new came × Says [] came answered text
 
+-- ---- the list of places
+
+abbrev pub Listed : Phase → List ℕ → Type 0
+Listed (phase.Adding documents) text = ⊥
+Listed (phase.Finished documents) text = text ≡ lines_of (sites documents)
+
+abbrev pub CannotList : Phase → Type 0
+CannotList (phase.Adding documents) = ⊤
+CannotList (phase.Finished documents) = ⊥
+
+-- the text has a line for each place
+abbrev pub Lists : Phase → List ℕ → Result Status Fault → Type 0
+Lists held text (Ok status.Done) = Listed held text
+Lists held text (Ok status.Misused) = CannotList held × (text ≡ [])
+Lists held text (Ok _) = ⊥
+Lists held text (Err f) = f ≡ fault.Memory
+
+abbrev pub ListCall : Phase → Status → List ℕ → Type 0
+ListCall held answered text = (given : List ℕ) × (came : Result Status Fault) × Lists held given came × Says given came answered text
+
 -- ---- entries
 
 -- one more entry is kept, the place that the URI names, and its number is how many there were
 abbrev pub Entered : Phase → List ℕ → List ℕ → List ℕ → ℕ → Type 0
 Entered (phase.Adding documents) uri old new number = ⊥
 Entered (phase.Finished documents) uri old new number =
-    (place : ℕ) × StandsFor documents place (entry documents (parse_url None uri)) × (new ≡ old ++ place ∷ []) × (number ≡ length old)
+    (place : ℕ) × StandsFor documents place (entry_place documents uri) × (new ≡ old ++ place ∷ []) × (number ≡ length old)
 
 -- documents aren't finished yet, or the URI isn't UTF-8
 abbrev pub CannotEnter : Phase → List ℕ → Type 0
@@ -121,10 +142,10 @@ EntryCall schemas uri old new answered text = (came : Result Status Fault) × En
 
 -- what is asked: the place of finished documents that an entry has, and the format of a number
 pub record Asked (held : Phase) (entries : List ℕ) (entry number : ℕ) (documents : Documents) (place : ℕ) (format : Format) : Type 0 where
-  pub schemas : held ≡ phase.Finished documents
-  pub place : slice_get entries entry ≡ Some place
+  pub finished : held ≡ phase.Finished documents
+  pub kept : slice_get entries entry ≡ Some place
   pub there : is_place documents place ≡ true
-  pub format : number ≡ format_number format
+  pub numbered : number ≡ format_number format
 
 -- nothing is asked: documents aren't finished, or there is no such entry of them, or no such format
 abbrev pub NotAsked : Phase → List ℕ → ℕ → ℕ → Type 0

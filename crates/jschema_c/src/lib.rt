@@ -2,7 +2,7 @@
 #![tactic(auto)]
 
 ghost use Rattle.std.specs.Prelude.{◌≡◌, ◌≢◌, None, IfSome, length};
-ghost use Rattle.jschema_c.specs.Exports.{IsNew, OnHandle, SessionAdds, SessionFinishes, SessionEnters, SessionChecks, copied};
+ghost use Rattle.jschema_c.specs.Exports.{IsNew, OnHandle, SessionAdds, SessionFinishes, SessionLists, SessionEnters, SessionChecks, copied};
 ghost use Rattle.jschema_c.specs.Status.{code};
 ghost use Rattle.jschema_c.specs.declared.status.Status.TheVariants as Status;
 
@@ -60,6 +60,19 @@ pub extern "C" fn jschema_finish(alloc: Global, handle: &mut Handle) -> u32
         return Status::Misused.code();
     };
     let status = session.finish(alloc);
+    handle.put(session);
+    status.code()
+}
+
+/// Lists the absolute locations of all schemas: a line each, as the text.
+#[unsafe(no_mangle)]
+pub extern "C" fn jschema_places(alloc: Global, handle: &mut Handle) -> u32
+    ensures { OnHandle SessionLists handle.old.value handle.new.value result }
+{
+    let Some(mut session) = handle.take(alloc) else {
+        return Status::Misused.code();
+    };
+    let status = session.list(alloc);
     handle.put(session);
     status.code()
 }

@@ -1,13 +1,13 @@
 //! What a handle holds: documents or schemas, the entries that were looked up, and a text.
 ghost use Rattle.std.specs.Prelude.{◌≡◌, [], true};
-ghost use Rattle.jschema_c.specs.Exports.{IsNew, SessionAdds, SessionFinishes, SessionEnters, SessionChecks};
-ghost use Rattle.jschema_c.specs.Session.{Adds, Finishes, Enters, Checks, Judges, Says, SaysFault};
+ghost use Rattle.jschema_c.specs.Exports.{IsNew, SessionAdds, SessionFinishes, SessionLists, SessionEnters, SessionChecks};
+ghost use Rattle.jschema_c.specs.Session.{Adds, Finishes, Lists, Enters, Checks, Judges, Says, SaysFault};
 ghost use Rattle.js_bundle.specs.Schemas.{is_place, place_at};
 ghost use Rattle.js_output.specs.Outcome.{InstanceOutcome};
 
 use crate::status::{Status, format_of};
 use js_bundle::{Bundle, Place, Schemas};
-use js_output::{Fault, Sink, judge, refusal_line};
+use js_output::{Fault, Sink, judge, list_places, refusal_line};
 use js_tree::Format;
 use std::alloc::Global;
 use std::mem::replace;
@@ -55,6 +55,16 @@ impl Session {
     {
         let came = finished(alloc, &mut self.phase);
         answered(alloc, came, &mut self.text)
+    }
+
+    /// Lists the locations of all schemas as the text.
+    pub(crate) fn list(&mut self, alloc: Global) -> Status
+        ensures { SessionLists self.old self.new result }
+    {
+        match listed(alloc, &self.phase, &mut self.text) {
+            Ok(status) => status,
+            Err(fault) => say(alloc, &fault, &mut self.text),
+        }
     }
 
     /// Looks an entry up, and numbers it.
@@ -124,6 +134,22 @@ fn finished(alloc: Global, phase: &mut Phase) -> Result<Status, Fault>
             *phase = Phase::Finished(schemas);
             Ok(Status::Misused)
         }
+    }
+}
+
+fn listed(alloc: Global, phase: &Phase, text: &mut Vec<u8, Global>) -> Result<Status, Fault>
+    ensures { Lists phase.now text.new.items result }
+{
+    text.clear();
+    let Phase::Finished(schemas) = phase else {
+        return Ok(Status::Misused);
+    };
+    match list_places(alloc, schemas) {
+        Ok(list) => {
+            *text = list.into_bytes();
+            Ok(Status::Done)
+        }
+        Err(fault) => Err(fault),
     }
 }
 
