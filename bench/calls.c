@@ -1,5 +1,5 @@
-/* calls FORMAT COUNT INSTANCE ENTRY [URI FILE]...: nanoseconds of a check in this process, over schemas that are finished
-   once and an entry that is looked up once. The output is copied out, as a caller would.
+/* calls FORMAT COUNT INSTANCE ENTRY [URI FILE]...: nanoseconds of a check in this process, over schemas that are
+   finished once and an entry that is looked up once. The output is copied out, as a caller would.
 
    Prints the status, the bytes of output, the nanoseconds of finishing, and of a check the least and the median. */
 #include "common.h"

@@ -18,7 +18,8 @@
    After each call except jschema_text the handle has the text of that call: the output of a check, the list of
    jschema_places; for JSCHEMA_REFUSED the line that says what is refused; otherwise none. jschema_text copies it out.
 
-   Threads: give a handle to one call at a time, on one thread. Threads that work side by side need a handle each. */
+   Threads: give a handle to one call at a time. Between calls it may go to another thread, if a lock, or a thread's
+   start or end, orders the calls. Threads that work side by side need a handle each. */
 #ifndef JSCHEMA_H
 #define JSCHEMA_H
 

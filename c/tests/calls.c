@@ -104,15 +104,18 @@ static void test_finished(void) {
     expect("other entry", &handle, jschema_entry(&handle, TEXT("https://example.com/s#/properties/age"), &other),
            JSCHEMA_DONE, "");
     expect_that("the numbers", entry == 0 && other == 1);
-    expect("a bad entry", &handle, jschema_entry(&handle, TEXT("s"), &entry), JSCHEMA_REFUSED, "refused: entry: BadUri");
+    expect("a bad entry", &handle, jschema_entry(&handle, TEXT("s"), &entry), JSCHEMA_REFUSED,
+           "refused: entry: BadUri");
     expect("an entry that isn't UTF-8", &handle, jschema_entry(&handle, TEXT("a:\xff"), &entry), JSCHEMA_MISUSED, "");
     expect_that("the number stays", entry == 0);
     expect("valid", &handle, jschema_check(&handle, 0, TEXT("{\"age\": 1}"), JSCHEMA_FLAG), JSCHEMA_DONE, VALID);
     expect("no such number", &handle, jschema_check(&handle, 2, TEXT("1"), JSCHEMA_FLAG), JSCHEMA_MISUSED, "");
-    expect("invalid", &handle, jschema_check(&handle, 0, TEXT("{\"age\": -1}"), JSCHEMA_FLAG), JSCHEMA_INVALID, INVALID);
+    expect("invalid", &handle, jschema_check(&handle, 0, TEXT("{\"age\": -1}"), JSCHEMA_FLAG), JSCHEMA_INVALID,
+           INVALID);
     expect("no such format", &handle, jschema_check(&handle, 0, TEXT("1"), 5), JSCHEMA_MISUSED, "");
     expect("the greatest", &handle, jschema_check(&handle, SIZE_MAX, TEXT("1"), UINT32_MAX), JSCHEMA_MISUSED, "");
-    expect("by the other entry", &handle, jschema_check(&handle, 1, TEXT("-1"), JSCHEMA_FLAG), JSCHEMA_INVALID, INVALID);
+    expect("by the other entry", &handle, jschema_check(&handle, 1, TEXT("-1"), JSCHEMA_FLAG), JSCHEMA_INVALID,
+           INVALID);
     expect("add", &handle, jschema_add(&handle, OTHER, TEXT("true")), JSCHEMA_MISUSED, "");
     expect("valid again", &handle, jschema_check(&handle, 0, TEXT("1"), JSCHEMA_FLAG), JSCHEMA_DONE, VALID);
     expect("finish again", &handle, jschema_finish(&handle), JSCHEMA_MISUSED, "");

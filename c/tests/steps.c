@@ -3,7 +3,9 @@
 #include "common.h"
 
 #define URI TEXT("https://example.com/s")
-#define SCHEMA "{\"properties\": {\"age\": {\"minimum\": 0, \"type\": \"integer\"}}, \"patternProperties\": {\"^x\": {\"$ref\": \"t\"}}}"
+#define SCHEMA                                                                      \
+    "{\"properties\": {\"age\": {\"minimum\": 0, \"type\": \"integer\"}},"             \
+    " \"patternProperties\": {\"^x\": {\"$ref\": \"t\"}}}"
 
 static char printed[1 << 16];
 static uint8_t said[1 << 14];

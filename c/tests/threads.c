@@ -6,7 +6,8 @@ enum { THREADS = 8, CHECKS = 400 };
 
 #define SCHEMA "{\"properties\": {\"age\": {\"minimum\": 0}}, \"additionalProperties\": {\"pattern\": \"^a+$\"}}"
 
-static const char *const INSTANCES[] = {"{\"age\": 1}", "{\"age\": -1}", "{\"name\": \"aaa\"}", "{\"name\": \"b\"}", "1.5"};
+static const char *const INSTANCES[] = {"{\"age\": 1}", "{\"age\": -1}", "{\"name\": \"aaa\"}", "{\"name\": \"b\"}",
+                                        "1.5"};
 
 /* A sum over all statuses and texts. */
 static uint64_t sum_of_checks(void) {
