@@ -1,5 +1,5 @@
 -- The fault of the first file that isn't taken.
-use Rattle.std.proofs.Common.{◌≡◌, ℕ, ◌+◌, ◌<◌, ◌≤◌, ◌⊎◌, inl, inr, List, [], ◌∷◌, ◌++◌, length, get_or, drop, Option, Some, None, sym, subst}
+use Rattle.std.proofs.Common.{ℕ, ◌+◌, ◌<◌, ◌≤◌, inl, inr, List, [], ◌∷◌, ◌++◌, length, get_or, drop, Option, Some, None, sym, subst}
 use Rattle.std.proofs.lemmas.List.{drop_more}
 use Rattle.js_output.specs.Device.{IsLeft, input_limit}
 use Rattle.js_output.specs.Documents.{DocumentTexts}

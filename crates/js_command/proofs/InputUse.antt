@@ -39,9 +39,6 @@ module _ {D : Type 0} (asked : Result Request Misuse) (request : Request) (asks 
   uses_by answer status (suite file pairs) h ends = h
   uses_by answer status (places pairs) h ends = h
 
-  pub uses_ok : (valid : Bool) (status : ℕ) → ReadsInput request old new (Ok valid) → UsesInput asked old new status
-  uses_ok valid status h = subst (λ a. UsesInput a old new status) (sym asks) (uses_by (Ok valid) status request h (λ e. absurd e))
-
   pub uses_err : (f : Fault) → ReadsInput request old new (Err f) → UsesInput asked old new (fault_status f)
   uses_err f h = subst (λ a. UsesInput a old new (fault_status f)) (sym asks) (uses_by (Err f) (fault_status f) request h (read_status f))
 

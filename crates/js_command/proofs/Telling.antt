@@ -1,8 +1,8 @@
 -- What the program answers, by where it stops.
-use Rattle.std.proofs.Common.{◌≡◌, ◌≢◌, ℕ, List, [], ◌∷◌, ◌++◌, Option, Some, None, Result, Ok, Err, OnErr, IsErrOf, Bool, true, false, ◌⊎◌, inl, inr, refl, sym, ap, subst, arith, ◌<◌}
+use Rattle.std.proofs.Common.{◌≡◌, ◌≢◌, ℕ, List, [], ◌∷◌, ◌++◌, Option, Some, None, Result, Ok, Err, OnErr, IsErrOf, Bool, true, false, ◌⊎◌, inl, inr, refl, ap, subst, arith, ◌<◌}
 use Rattle.std.specs.Io.KnownBytes.{Keeps}
 use Rattle.js_output.specs.Cause.{MayGoOn}
-use Rattle.js_output.specs.Device.{Tracked, IsLeft, AppendsBeginning, Sends, SendsBeginning}
+use Rattle.js_output.specs.Device.{Tracked, IsLeft, Sends, SendsBeginning}
 use Rattle.js_output.specs.Documents.{DocumentTexts, documents_causes}
 use Rattle.js_output.specs.Outcome.{Output, Outcome, PairOutcome, telling_output, beginning_causes}
 use Rattle.js_output.specs.Places.{TellsPlaces, places_text}
@@ -33,8 +33,8 @@ performs-fault held paths Unread P taken old new _ h = absurd (input_fault held 
 module _ (words : List (List ℕ)) (held : HeldByPath) (input : Option (List ℕ)) (unread : Bool) (request : Request) (old new : Option (List ℕ)) (failed : Bool) where
   -- where something failed
   pub begun_or_kept : (e : Fault) → request_of words ≡ Ok request → (¬ (e ≡ fault.Write) → Keeps old new) → IsReason (RequestOutcome held input unread request) old new failed e
-      → Keeps old new ⊎ IsPartlyTold (WordsOutcome words held input unread) old new
-  begun_or_kept fault.Write asks kept (stands, (output, h, out)) = inr (output, (request, asks, h), out)
+      → Keeps old new ⊎ ((failed ≡ true) × IsPartlyTold (WordsOutcome words held input unread) old new)
+  begun_or_kept fault.Write asks kept (stands, (output, h, out)) = inr (stands, (output, (request, asks, h), out))
   begun_or_kept _ asks kept reason = inl (kept (λ e. cc))
 
   -- the reason is one by the words

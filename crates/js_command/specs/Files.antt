@@ -1,5 +1,5 @@
 -- Files by their paths, and why one can't be taken.
-use Rattle.std.specs.Prelude.{◌≡◌, ◌≤◌, ◌<◌, ◌⊎◌, ℕ, List, [], ◌∷◌, length, Option, Some, None, ⊤}
+use Rattle.std.specs.Prelude.{◌≤◌, ◌<◌, ◌⊎◌, ℕ, List, [], ◌∷◌, length, Option, Some, None, ⊤}
 use Rattle.js_output.specs.Device.{input_limit}
 use Rattle.js_output.specs.Input.{IsInputFault}
 use Rattle.js_output.specs.declared.fault.Fault.{Fault}

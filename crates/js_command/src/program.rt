@@ -1,5 +1,5 @@
 //! The program, from its arguments to its exit status.
-ghost use Rattle.std.specs.Prelude.{◌≡◌, ◌≢◌, ◌≤◌, ◌<◌, ◌⊎◌, ◌==◌, ◌++◌, ◌∷◌, [], false, IfOk, IfErr, OnOk, OnErr};
+ghost use Rattle.std.specs.Prelude.{◌≡◌, ◌≢◌, ◌≤◌, ◌<◌, ◌⊎◌, ◌==◌, ◌++◌, ◌∷◌, [], false, true, IfOk, IfErr, OnOk, OnErr};
 ghost use Rattle.std.specs.Io.KnownBytes.{Keeps};
 ghost use Rattle.js_output.specs.Device.{AppendsBeginning, FlushedOnce};
 ghost use Rattle.js_output.specs.Line.{fault_line};
@@ -65,15 +65,16 @@ pub fn command<'a, F: Files, R: Read, W: Write, V: Write>(
     ensures nothing { (result ≡ 2) ⊎ (result ≡ 3)
         → Keeps (W.contents out.old.device) (W.contents out.new.device) }
 
-    // Nothing was written, or a beginning of such a text.
+    // Nothing was written; or a beginning of such a text, where the output has failed.
     ensures beginning { result ≡ 4
         → Keeps (W.contents out.old.device) (W.contents out.new.device)
-        ⊎ IsPartlyTold
+        ⊎ ((out.new.failed ≡ true) × IsPartlyTold
         (WordsOutcome (words_of words.entry.now) (F.held files.old)
         (R.remaining input.old.device) input.new.failed)
-        (W.contents out.old.device) (W.contents out.new.device) }
+        (W.contents out.old.device) (W.contents out.new.device)) }
 
-    // What went to standard error, or a beginning of it, and its reason.
+    // What went to standard error, or a beginning of it, and its reason. After any fault but `Write`
+    // nothing was written to the output.
     ensures quiet { result < 2 → faults.new ≡ faults.old }
     ensures misused { OnErr (request_of (words_of words.entry.now)) ((result ≡ 2) ⊎ ((result ≡ 4)
         × AppendsBeginning (V.contents faults.old.device) (V.contents faults.new.device)
@@ -85,6 +86,7 @@ pub fn command<'a, F: Files, R: Read, W: Write, V: Write>(
         × IsReason (WordsOutcome (words_of words.entry.now) (F.held files.old)
         (R.remaining input.old.device) input.new.failed)
         (W.contents out.old.device) (W.contents out.new.device) out.new.failed fault
+        × (fault ≢ Fault.Write → Keeps (W.contents out.old.device) (W.contents out.new.device))
         × AppendsBeginning (V.contents faults.old.device) (V.contents faults.new.device)
         (fault_line fault ++ 10 ∷ []) }
 {

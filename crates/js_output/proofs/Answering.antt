@@ -1,5 +1,5 @@
 -- What a run answers, by where it stops.
-use Rattle.std.proofs.Common.{◌≡◌, ℕ, ◌<◌, ◌≤◌, List, [], ◌∷◌, ◌++◌, length, Option, Some, None, Result, Ok, Err, Bool, MatchBool, inl, inr, refl, sym, ap, ◌∙◌, subst, arith, length-append}
+use Rattle.std.proofs.Common.{◌≡◌, ℕ, ◌<◌, ◌≤◌, List, [], ◌∷◌, ◌++◌, length, Option, Some, None, Result, Ok, Err, Bool, MatchBool, ◌⊎◌, inl, inr, refl, sym, ap, ◌∙◌, subst, arith, length-append}
 use Rattle.std.proofs.lemmas.Bool.{lt-ltb, le-ltb}
 use Rattle.std.specs.Io.KnownBytes.{Consumes, IsAtEnd}
 use Rattle.js_doc.specs.Value.{Value}
@@ -8,13 +8,12 @@ use Rattle.js_tree.specs.declared.forms.Format.TheVariants.{Flag, Basic, Detaile
 use Rattle.js_eval.specs.Result.{ResultTree, IsWithinLimits}
 use Rattle.js_bundle.specs.Document as bundle
 use Rattle.js_bundle.specs.Resource.{Site}
-use Rattle.js_output.specs.Documents.{DocumentTexts, bundle_of}
-use Rattle.js_output.specs.Entry.{entry_place}
-use Rattle.js_output.specs.Cause.{Causes, MayGoOn, FailsBy}
+use Rattle.js_output.specs.Cause.{Causes, MayGoOn, IsFirstFault, FailsBy}
 use Rattle.js_output.specs.Device.{Tracked, input_limit, IsLeft, Sends, SendsBeginning}
 use Rattle.js_output.specs.Input.{IsInputFault}
-use Rattle.js_output.specs.Outcome.{beginning_causes, Output, output_of, ValueOutcome, TextOutcome, InstanceOutcome, Outcome, telling_output, IsLateOrMemory, IsResultOf, IsWalkFault, trimmed}
+use Rattle.js_output.specs.Outcome.{output_of, ValueOutcome, telling_output, IsLateOrMemory, IsResultOf, IsWalkFault, trimmed}
 use Rattle.js_output.specs.Telling.{Telling, Tells, Answers, After, OfInput}
+use Rattle.js_output.proofs.CauseLists.{clear-append, clear-apart, first-append, first-apart, first-later}
 use Rattle.js_output.specs.declared.fault.Fault.{Fault}
 use Rattle.js_output.specs.declared.fault.Fault.TheVariants as fault
 use Rattle.js_tree.specs.declared.forms.Format.{Format}
@@ -112,6 +111,36 @@ module _ {O A D : Type 0} (telling : Telling O A) (P : List ℕ → Result O Fau
     answers-after clear (Err fault.Write) (bytes, all, h) = (bytes, all, tells-map telling taken old new (P bytes) (After causes (P bytes)) (Err fault.Write) (after-clear causes (P bytes) clear) h)
     answers-after clear (Err f) (bytes, all, h) = (bytes, all, after-clear causes (P bytes) clear (Err f) h)
 
+-- ---- two parts of the causes, one after another
+
+module _ {O : Type 0} (xs ys : Causes) (Then : Result O Fault → Type 0) where
+  pub after-apart : (outcome : Result O Fault) → After (xs ++ ys) Then outcome → After xs (After ys Then) outcome
+  after-apart (Ok output) (clear, h) = let (p, q) = clear-apart xs ys clear in (p, (q, h))
+  after-apart (Err e) (inl h) = early (first-apart xs ys e h) where
+    early : IsFirstFault xs e ⊎ (MayGoOn xs × IsFirstFault ys e) → After xs (After ys Then) (Err e)
+    early (inl f) = inl f
+    early (inr f) = inr (f.0, inl f.1)
+  after-apart (Err e) (inr (clear, h)) = let (p, q) = clear-apart xs ys clear in inr (p, inr (q, h))
+
+  pub after-together : (outcome : Result O Fault) → After xs (After ys Then) outcome → After (xs ++ ys) Then outcome
+  after-together (Ok output) (p, (q, h)) = (clear-append xs ys p q, h)
+  after-together (Err e) (inl h) = inl (first-append xs ys e h)
+  after-together (Err e) (inr (p, inl h)) = inl (first-later xs ys e p h)
+  after-together (Err e) (inr (p, inr (q, h))) = inr (clear-append xs ys p q, h)
+
+  -- the first part has none
+  pub after-onto : MayGoOn xs → (outcome : Result O Fault) → After ys Then outcome → After (xs ++ ys) Then outcome
+  after-onto clear outcome h = after-together outcome (after-clear xs (After ys Then) clear outcome h)
+
+module _ {O A D : Type 0} (telling : Telling O A) (P : List ℕ → Result O Fault → Type 0) (taken : D → Option (List ℕ)) (old new : Tracked D) (xs ys : Causes) (left : Option (List ℕ)) where
+  pub answers-onto : MayGoOn xs → (answer : Result A Fault) → Answers telling (λ bytes. After ys (P bytes)) ys left taken old new answer
+      → Answers telling (λ bytes. After (xs ++ ys) (P bytes)) (xs ++ ys) left taken old new answer
+  answers-onto clear (Err fault.Memory) h = tt
+  answers-onto clear (Err fault.Read) h = clear-append xs ys clear h
+  answers-onto clear (Ok answer) (bytes, all, h) = (bytes, all, tells-map telling taken old new (After ys (P bytes)) (After (xs ++ ys) (P bytes)) (Ok answer) (after-onto xs ys (P bytes) clear) h)
+  answers-onto clear (Err fault.Write) (bytes, all, h) = (bytes, all, tells-map telling taken old new (After ys (P bytes)) (After (xs ++ ys) (P bytes)) (Err fault.Write) (after-onto xs ys (P bytes) clear) h)
+  answers-onto clear (Err f) (bytes, all, h) = (bytes, all, after-onto xs ys (P bytes) clear (Err f) h)
+
 -- ---- what is told of a value
 
 module _ (docs : bundle.Documents) (entry : Option Site) (v : Value) (format : Format) where
@@ -151,30 +180,3 @@ pub walk-late : (docs : bundle.Documents) (entry : Option Site) (v : Value) (e :
 walk-late docs entry v fault.Memory h = tt
 walk-late docs entry v fault.TooLarge h = tt
 walk-late docs entry v _ h = absurd h
-
--- ---- what is kept of the entry: the documents, and the place
-
-pub record IsKept (docs : DocumentTexts) (uri : List ℕ) (kept : bundle.Documents) (entry : Option Site) : Type 0 where
-  pub clear : MayGoOn (beginning_causes docs uri)
-  pub of : kept ≡ bundle_of docs
-  pub named : entry ≡ entry_place (bundle_of docs) uri
-
-module _ (docs : DocumentTexts) (uri : List ℕ) (format : Format) (kept : bundle.Documents) (entry : Option Site) (is : IsKept docs uri kept entry) where
-  -- what comes of the entry is the outcome
-  pub answers-late : {D : Type 0} (left : Option (List ℕ)) (taken : D → Option (List ℕ)) (old new : Tracked D) (answer : Result Bool Fault)
-      → Answers telling_output (InstanceOutcome kept entry format) [] left taken old new answer → Answers telling_output (Outcome docs uri format) (beginning_causes docs uri) left taken old new answer
-  answers-late left taken old new answer h =
-      answers-after telling_output (InstanceOutcome (bundle_of docs) (entry_place (bundle_of docs) uri) format) taken old new (beginning_causes docs uri) left is.clear answer
-      (subst (λ p. Answers telling_output (InstanceOutcome (bundle_of docs) p format) [] left taken old new answer) is.named
-      (subst (λ d. Answers telling_output (InstanceOutcome d entry format) [] left taken old new answer) is.of h))
-
-  outcome-late : (bytes : List ℕ) (outcome : Result Output Fault) → InstanceOutcome kept entry format bytes outcome → Outcome docs uri format bytes outcome
-  outcome-late bytes outcome h =
-      let g = subst (λ d. InstanceOutcome d entry format bytes outcome) is.of h in
-      after-clear (beginning_causes docs uri) (InstanceOutcome (bundle_of docs) (entry_place (bundle_of docs) uri) format bytes) is.clear outcome (subst (λ p. InstanceOutcome (bundle_of docs) p format bytes outcome) is.named g)
-
-  pub texts-late : {D : Type 0} (instance : List ℕ) (taken : D → Option (List ℕ)) (old new : Tracked D) (answer : Result Bool Fault)
-      → length instance ≤ input_limit → Tells telling_output (TextOutcome kept entry format instance) taken old new answer → Tells telling_output (Outcome docs uri format instance) taken old new answer
-  texts-late instance taken old new answer few h =
-      tells-map telling_output taken old new (TextOutcome kept entry format instance) (Outcome docs uri format instance) answer
-      (λ outcome told. outcome-late instance outcome (input-within instance (TextOutcome kept entry format instance) few outcome told)) h

@@ -122,16 +122,16 @@ add_doc_fails held uri r (number, is) =
 abbrev Lent : Type 0
 Lent = List (Bor (List ℕ) × Bor (List ℕ))
 
-taken_more : (old new : bundle.Documents) (uri bytes : List ℕ) (more : DocumentTexts) (all : bundle.Documents) → IsAdded old uri bytes new
+pub taken_more : (old new : bundle.Documents) (uri bytes : List ℕ) (more : DocumentTexts) (all : bundle.Documents) → IsAdded old uri bytes new
     → old ++ bundle_of ((uri, bytes) ∷ more) ≡ all → new ++ bundle_of more ≡ all
 taken_more old new uri bytes more all (d, t, is) e =
     ap (λ ds. ds ++ bundle_of more) is ∙ append_assoc old (d ∷ []) (bundle_of more)
     ∙ ap (λ o. old ++ (option_to_list o ++ bundle_of more)) (sym (taken_is (length old) uri bytes d t)) ∙ e
 
-held_more : (old new : bundle.Documents) (uri bytes : List ℕ) (n : ℕ) → IsAdded old uri bytes new → length old ≡ n → length new ≡ n + 1
+pub held_more : (old new : bundle.Documents) (uri bytes : List ℕ) (n : ℕ) → IsAdded old uri bytes new → length old ≡ n → length new ≡ n + 1
 held_more old new uri bytes n (d, t, is) e = omega (arith, e, ap length is, length-append old (d ∷ []))
 
-added_clear : (old new : bundle.Documents) (uri bytes : List ℕ) (n : ℕ) → IsAdded old uri bytes new → length old ≡ n → MayGoOn (document_causes n (uri, bytes))
+pub added_clear : (old new : bundle.Documents) (uri bytes : List ℕ) (n : ℕ) → IsAdded old uri bytes new → length old ≡ n → MayGoOn (document_causes n (uri, bytes))
 added_clear old new uri bytes n (d, t, is) e = subst (λ m. MayGoOn (document_causes m (uri, bytes))) e (taken_clear (length old) uri bytes d t)
 
 -- what the loop knows after so many documents

@@ -1,6 +1,6 @@
 -- Lists of causes: one part after another.
-use Rattle.std.proofs.Common.{◌≡◌, [], ◌∷◌, ◌++◌, Bool, true, false, inl, inr, refl, sym, subst}
-use Rattle.js_output.specs.Cause.{Causes, cause, MayGoOn, IsFirstFault, FailsBy, DecidedBy}
+use Rattle.std.proofs.Common.{◌≡◌, ◌⊎◌, [], ◌∷◌, ◌++◌, Bool, true, false, inl, inr, refl, sym, subst}
+use Rattle.js_output.specs.Cause.{Cause, Causes, cause, MayGoOn, IsFirstFault, FailsBy, DecidedBy}
 use Rattle.js_output.specs.declared.fault.Fault.{Fault}
 use Rattle.js_output.specs.declared.fault.Fault.TheVariants as fault
 
@@ -28,6 +28,22 @@ fails-later xs ys fault.Memory p h = tt
 fails-later xs ys fault.Read p h = absurd h
 fails-later xs ys fault.Write p h = absurd h
 fails-later xs ys f p h = first-later xs ys f p h
+
+-- ---- one part after another, taken apart
+
+pub clear-apart : (xs ys : Causes) → MayGoOn (xs ++ ys) → MayGoOn xs × MayGoOn ys
+clear-apart [] ys h = (tt, h)
+clear-apart (c ∷ xs) ys h = let (p, q) = clear-apart xs ys h.1 in ((h.0, p), q)
+
+later_past : (c : Cause) (xs ys : Causes) (f : Fault) → c.given ≡ true → IsFirstFault xs f ⊎ (MayGoOn xs × IsFirstFault ys f)
+    → IsFirstFault (c ∷ xs) f ⊎ (MayGoOn (c ∷ xs) × IsFirstFault ys f)
+later_past c xs ys f given (inl h) = inl (inr (given, h))
+later_past c xs ys f given (inr h) = inr ((given, h.0), h.1)
+
+pub first-apart : (xs ys : Causes) (f : Fault) → IsFirstFault (xs ++ ys) f → IsFirstFault xs f ⊎ (MayGoOn xs × IsFirstFault ys f)
+first-apart [] ys f h = inr (tt, h)
+first-apart (c ∷ xs) ys f (inl e) = inl (inl e)
+first-apart (c ∷ xs) ys f (inr h) = later_past c xs ys f h.0 (first-apart xs ys f h.1)
 
 -- ---- a loop over parts: the rest decides about the whole
 

@@ -3,6 +3,7 @@ pub mod BundleCauses
 pub mod Sites
 pub mod Sending
 pub mod Answering
+pub mod FinishedSchemas
 pub mod SuiteLists
 pub mod SuiteTold
 pub mod Told

@@ -10,15 +10,19 @@ use Rattle.js_tree.specs.declared.forms.Format.{Format}
 use Rattle.js_tree.specs.declared.forms.Format.TheVariants.{Flag, Basic, Detailed, Merged, Verbose}
 use Rattle.js_tree.proofs.KeptTree.{kept_is_reached, kept_is_normal, run-kept, run-normal}
 use Rattle.js_tree.proofs.MergedLaws.{merged_is_reached, merged_is_normal, run_of_three-merged, normal_end_of_three}
+use Rattle.js_bundle.specs.Document as bundle
 use Rattle.js_bundle.specs.Resource.{Site}
 use Rattle.js_eval.specs.Result.{ResultTree, IsWithinLimits}
-use Rattle.js_output.specs.Cause.{IsFirstFault}
+use Rattle.js_output.specs.Cause.{Causes, IsFirstFault}
 use Rattle.js_output.specs.Device.{Tracked, input_limit, Sends, SendsBeginning}
 use Rattle.js_output.specs.Documents.{DocumentTexts, bundle_of}
 use Rattle.js_output.specs.Entry.{entry_place}
+use Rattle.js_output.specs.Finished.{AreFinished}
 use Rattle.js_output.specs.Headline.{Shows, IsAccepted, IsStandardResult, TellsResult}
-use Rattle.js_output.specs.Outcome.{beginning_causes, Output, output_of, ValueOutcome, ReadOutcome, TextOutcome, InstanceOutcome, Outcome, telling_output}
-use Rattle.js_output.specs.Telling.{Answers}
+use Rattle.js_output.specs.Outcome.{beginning_causes, Output, output_of, ValueOutcome, ReadOutcome, TextOutcome, InstanceOutcome, FinishedOutcome, Outcome, telling_output}
+use Rattle.js_output.specs.Telling.{Telling, Answers, Tells}
+use Rattle.js_output.proofs.Answering.{tells-map}
+use Rattle.js_output.proofs.FinishedSchemas.{finished_are, outcome_over}
 use Rattle.js_output.specs.declared.fault.Fault.{Fault}
 use Rattle.js_output.specs.declared.fault.Fault.TheVariants as fault
 
@@ -85,3 +89,23 @@ module _ (documents : DocumentTexts) (entry instance : List ℕ) (format : Forma
 pub told : {D : Type 0} (taken : D → Option (List ℕ)) (old new : Tracked D) (documents : DocumentTexts) (entry instance : List ℕ) (format : Format) (place : Site) (v : Value) (answer : Result Bool Fault)
     → IsAccepted documents entry instance place v → Answers telling_output (Outcome documents entry format) (beginning_causes documents entry) (Some instance) taken old new answer → TellsResult taken old new documents entry format place v answer
 told taken old new documents entry instance format place v answer is h = told_within documents entry instance format place v is taken old new answer h
+
+-- ---- over finished schemas
+
+-- an outcome that is told comes of an instance that is known
+answers_of : {O A D : Type 0} (telling : Telling O A) (P : List ℕ → Result O Fault → Type 0) (before : Causes) (instance : List ℕ) (taken : D → Option (List ℕ)) (old new : Tracked D) (answer : Result A Fault)
+    → Tells telling (P instance) taken old new answer → Answers telling P before (Some instance) taken old new answer
+answers_of telling P before instance taken old new (Ok answer) h = (instance, refl, h)
+answers_of telling P before instance taken old new (Err fault.Memory) h = tt
+answers_of telling P before instance taken old new (Err fault.Read) h = absurd h
+answers_of telling P before instance taken old new (Err fault.Write) h = (instance, refl, h)
+answers_of telling P before instance taken old new (Err f) h = (instance, refl, h)
+
+pub finished_told : {D : Type 0} (taken : D → Option (List ℕ)) (old new : Tracked D) (documents : DocumentTexts) (schemas : bundle.Documents) (entry instance : List ℕ) (format : Format) (place : Site) (v : Value) (answer : Result Bool Fault)
+    → AreFinished documents schemas → IsAccepted documents entry instance place v → Tells telling_output (FinishedOutcome schemas entry format instance) taken old new answer
+    → TellsResult taken old new documents entry format place v answer
+finished_told taken old new documents schemas entry instance format place v answer finished is h =
+    let (of, clear) = finished_are documents schemas finished in
+    told taken old new documents entry instance format place v answer is
+    (answers_of telling_output (Outcome documents entry format) (beginning_causes documents entry) instance taken old new answer
+    (tells-map telling_output taken old new (FinishedOutcome schemas entry format instance) (Outcome documents entry format instance) answer (λ outcome. outcome_over documents entry format instance outcome schemas of clear) h))

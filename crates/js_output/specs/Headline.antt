@@ -1,6 +1,6 @@
 -- The headline: for every accepted bundle and entry, and each instance text that is read and isn't too large, the bytes
 -- written are the requested form of the standard's result; or `TooLarge` is answered, exactly where none stands within the
--- limits. It follows from the clause `answer` of `run` alone.
+-- limits. It follows from the clause `answer` of `run` alone; over finished schemas, from that of `run_finished`.
 use Rattle.std.specs.Prelude.{◌≡◌, ◌≤◌, ℕ, List, [], ◌∷◌, ◌++◌, length, Option, Some, Result, Ok, Err, Bool, ◌⊎◌, ⊤}
 use Rattle.js_doc.specs.Compact.{compact}
 use Rattle.js_doc.specs.Value.{Value}
@@ -9,6 +9,7 @@ use Rattle.js_tree.specs.MergedResult.{RunOfThree, NormalOfThree}
 use Rattle.js_tree.specs.Result.{Run, Normal, pruned}
 use Rattle.js_tree.specs.declared.forms.Format.{Format}
 use Rattle.js_tree.specs.declared.forms.Format.TheVariants.{Flag, Basic, Detailed, Merged, Verbose}
+use Rattle.js_bundle.specs.Document as bundle
 use Rattle.js_bundle.specs.Resource.{Site}
 use Rattle.js_eval.specs.Bundle.{schemas_of}
 use Rattle.js_eval.specs.Location.{at_root}
@@ -17,8 +18,9 @@ use Rattle.js_output.specs.Cause.{MayGoOn, IsFirstFault}
 use Rattle.js_output.specs.Device.{Tracked, input_limit, Sends, SendsBeginning}
 use Rattle.js_output.specs.Documents.{DocumentTexts, bundle_of}
 use Rattle.js_output.specs.Entry.{entry_place}
-use Rattle.js_output.specs.Outcome.{beginning_causes, Outcome, telling_output}
-use Rattle.js_output.specs.Telling.{Answers}
+use Rattle.js_output.specs.Finished.{AreFinished}
+use Rattle.js_output.specs.Outcome.{beginning_causes, FinishedOutcome, Outcome, telling_output}
+use Rattle.js_output.specs.Telling.{Answers, Tells}
 use Rattle.js_output.specs.Reading.{reading}
 use Rattle.js_output.specs.declared.fault.Fault.{Fault}
 use Rattle.js_output.specs.declared.fault.Fault.TheVariants as fault
@@ -75,4 +77,13 @@ module _ {D : Type 0} (taken : D → Option (List ℕ)) (old new : Tracked D) wh
       (documents : DocumentTexts) (entry instance : List ℕ) (format : Format) (place : Site) (v : Value) (answer : Result Bool Fault)
       → IsAccepted documents entry instance place v
       → Answers telling_output (Outcome documents entry format) (beginning_causes documents entry) (Some instance) taken old new answer
+      → TellsResult documents entry format place v answer
+
+  -- the same over schemas that are kept
+  abbrev pub FinishedHeadline : Type 0
+  FinishedHeadline =
+      (documents : DocumentTexts) (schemas : bundle.Documents) (entry instance : List ℕ) (format : Format) (place : Site) (v : Value) (answer : Result Bool Fault)
+      → AreFinished documents schemas
+      → IsAccepted documents entry instance place v
+      → Tells telling_output (FinishedOutcome schemas entry format instance) taken old new answer
       → TellsResult documents entry format place v answer

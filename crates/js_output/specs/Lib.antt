@@ -7,6 +7,7 @@ pub mod Telling
 pub mod Documents
 pub mod Entry
 pub mod Outcome
+pub mod Finished
 pub mod Places
 pub mod SuiteText
 pub mod SuiteLines

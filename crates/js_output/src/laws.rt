@@ -1,7 +1,14 @@
 //! Laws of the definitions that this crate's contracts speak of. Calling one does nothing.
-ghost use Rattle.std.specs.Prelude.{List, ℕ, Option};
+ghost use Rattle.std.specs.Prelude.{List, ℕ, Option, Result, ◌↔◌};
+ghost use Rattle.js_bundle.specs.Document.{Documents};
+ghost use Rattle.js_tree.specs.declared.forms.Format.{Format};
 ghost use Rattle.js_output.specs.Device.{Tracked};
-ghost use Rattle.js_output.specs.Headline.{Headline};
+ghost use Rattle.js_output.specs.Documents.{DocumentTexts, bundle_of, documents_causes};
+ghost use Rattle.js_output.specs.Finished.{AreFinished};
+ghost use Rattle.js_output.specs.Headline.{FinishedHeadline, Headline};
+ghost use Rattle.js_output.specs.Outcome.{FinishedOutcome, Outcome, Output};
+ghost use Rattle.js_output.specs.Telling.{After};
+ghost use Rattle.js_output.specs.declared.fault.Fault.{Fault};
 
 /// What the clause `answer` of [`crate::run`] says, in the standard's terms (JSON Schema Core,
 /// sections 12.3 and 12.4).
@@ -16,4 +23,32 @@ ghost use Rattle.js_output.specs.Headline.{Headline};
 pub fn headline<Device>()
     ensures { (taken : Device → Option (List ℕ)) (old new : Tracked Device)
         → Headline taken old new }
+{}
+
+/// Adding documents to a bundle, finishing it, and then [`crate::run_finished`] is [`crate::run`]:
+/// what comes over the schemas is an outcome of the run over these documents, for the same entry,
+/// format and instance.
+pub fn finished_outcome()
+    ensures { (documents : DocumentTexts) (schemas : Documents)
+        → AreFinished documents schemas
+        → (entry : List ℕ) (format : Format) (instance : List ℕ) (outcome : Result Output Fault)
+        → FinishedOutcome schemas entry format instance outcome
+        → Outcome documents entry format instance outcome }
+{}
+
+/// The outcome of a run is the first refusal of its documents, or what comes over their schemas. So
+/// [`crate::run_finished`] says no less than [`crate::run`].
+pub fn outcome_in_parts()
+    ensures { (documents : DocumentTexts) (entry : List ℕ) (format : Format) (instance : List ℕ)
+        (outcome : Result Output Fault)
+        → Outcome documents entry format instance outcome
+        ↔ After (documents_causes documents)
+        (FinishedOutcome (bundle_of documents) entry format instance) outcome }
+{}
+
+/// [`headline`] of schemas that are kept: it follows from the clause `answer` of
+/// [`crate::run_finished`], for each entry and instance that they are asked.
+pub fn finished_headline<Device>()
+    ensures { (taken : Device → Option (List ℕ)) (old new : Tracked Device)
+        → FinishedHeadline taken old new }
 {}

@@ -66,7 +66,8 @@ impl<W: Write> Sink<W> {
     pub fn into_device(self) -> W
         ensures { result ≡ self.device }
     {
-        self.writing.device
+        let Sink { writing, .. } = self;
+        writing.device
     }
 
     /// Whether a call has failed.

@@ -2,7 +2,7 @@ use Rattle.std.proofs.Common.{refl, rules, sym}
 use Rattle.js_output.specs.declared.fault.Fault.TheVariants as fault
 use Rattle.js_command.specs.Words.{request_of, words_of}
 use Rattle.js_command.specs.code.Tasks.{request_seen}
-use Rattle.js_command.proofs.InputUse.{uses_none, uses_ok, uses_err}
+use Rattle.js_command.proofs.InputUse.{uses_none, uses_err}
 use Rattle.js_command.proofs.LastFlush.{flushed_at_last}
 use Rattle.js_command.proofs.Telling.{begun_or_kept, words_reason, misuse_ends, misuse_told}
 use Rattle.js_command.proofs.program.command.Goals as goal
@@ -14,7 +14,7 @@ returns-in-Err-clause-misused g c =
 pub returns-in-Err-clause-told : goal.returns-in-Err-clause-told
 returns-in-Err-clause-told g c above =
     let failed = misuse_told c.in-Err.misuse c.tell_misuse-status.result c.tell_misuse-status.ensures.status above in
-    (fault.Memory, sym failed, tt, c.tell_misuse-status.ensures.told failed)
+    (fault.Memory, sym failed, tt, λ other. search rules, c.tell_misuse-status.ensures.told failed)
 
 -- nothing was written before the flush
 pub returns-in-Err-clause-flushed : goal.returns-in-Err-clause-flushed
@@ -33,7 +33,7 @@ returns-in-Err-perform_whole-clause-told g c above =
     let reason = words_reason (words_of c.args.words.now) (g.F.Files.held c.args.files.now) (g.R.Read.remaining c.args.input.now.device) c.perform_whole.new.input.failed
     (request_seen c.in-Ok.task) (g.W.Write.contents c.args.out.now.device) (g.W.Write.contents c.perform_whole.new.out.device) c.perform_whole.new.out.failed
     fault c.in-Ok.ensures.ok c.in-Err-perform_whole.ensures.reason in
-    (fault, sym c.status_of.ensures, reason, c.tell.ensures)
+    (fault, sym c.status_of.ensures, reason, c.in-Err-perform_whole.ensures.nothing, c.tell.ensures)
 
 -- ---- what the input is used for
 

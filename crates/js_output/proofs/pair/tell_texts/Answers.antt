@@ -1,23 +1,26 @@
 use Rattle.std.proofs.Common.{[], ◌∷◌}
 use Rattle.std.proofs.lemmas.Result.{err_from_is_err_and}
-use Rattle.js_bundle.specs.Schemas.{place_at}
-use Rattle.js_output.specs.Documents.{bundle_of}
-use Rattle.js_output.specs.Entry.{entry_place}
-use Rattle.js_output.specs.Outcome.{beginning_causes, InstanceOutcome, pair_uri, telling_output}
+use Rattle.js_output.specs.Documents.{bundle_of, documents_causes}
+use Rattle.js_output.specs.Entry.{entry_causes, entry_place}
+use Rattle.js_output.specs.Outcome.{beginning_causes, InstanceOutcome, FinishedOutcome, OutcomeOfTexts, pair_uri, telling_output}
 use Rattle.js_tree.specs.declared.forms.Format.TheVariants.{Flag}
-use Rattle.js_output.proofs.Answering.{IsKept, tells-early, texts-late}
+use Rattle.js_output.proofs.Answering.{tells-early, tells-map}
+use Rattle.js_output.proofs.CauseLists.{fails-append}
+use Rattle.js_output.proofs.FinishedSchemas.{outcome_over}
 use Rattle.js_output.proofs.pair.tell_texts.Goals as goal
 
-pub returns-in_err-entry-clause-answer : goal.returns-in_err-entry-clause-answer
-returns-in_err-entry-clause-answer g c =
+pub returns-in_err-schemas-clause-answer : goal.returns-in_err-schemas-clause-answer
+returns-in_err-schemas-clause-answer g c =
     let p = err_from_is_err_and c.from_residual.result c.from_residual.ensures.1 in
     let docs = (pair_uri, c.args.document.now) ∷ [] in
     rw (p.1, p.2) (tells-early telling_output g.W.Write.contents c.args.out.now c.args.out.now (beginning_causes docs pair_uri)
-    (InstanceOutcome (bundle_of docs) (entry_place (bundle_of docs) pair_uri) Flag c.args.instance.now) c.in_err-entry.field-0.0 c.in_err-entry.ensures.err)
+    (InstanceOutcome (bundle_of docs) (entry_place (bundle_of docs) pair_uri) Flag c.args.instance.now) c.in_err-schemas.field-0.0
+    (fails-append (documents_causes docs) (entry_causes (bundle_of docs) pair_uri) c.in_err-schemas.field-0.0 c.in_err-schemas.ensures.err))
 
 pub returns-clause-answer : goal.returns-clause-answer
 returns-clause-answer g c =
     let docs = (pair_uri, c.args.document.now) ∷ [] in
-    let e = c.in_ok-entry.entry in
-    let is : IsKept docs pair_uri e.schemas (place_at e.schemas e.place) = record { clear = c.in_ok-entry.ensures.clear; of = c.in_ok-entry.ensures.ok.of; named = c.in_ok-entry.ensures.ok.named } in
-    texts-late docs pair_uri Flag e.schemas (place_at e.schemas e.place) is c.args.instance.now g.W.Write.contents c.args.out.now c.tell_text.new.out c.tell_text.result c.requires c.tell_text.ensures.answer
+    let schemas = c.in_ok-schemas.schemas in
+    let instance = c.args.instance.now in
+    tells-map telling_output g.W.Write.contents c.args.out.now c.run_finished.new.out (FinishedOutcome schemas pair_uri Flag instance) (OutcomeOfTexts c.args.document.now instance) c.run_finished.result
+    (λ outcome. outcome_over docs pair_uri Flag instance outcome schemas c.in_ok-schemas.ensures.ok c.in_ok-schemas.ensures.clear) c.run_finished.ensures.answer

@@ -1,22 +1,28 @@
+use Rattle.std.proofs.Common.{subst}
 use Rattle.std.proofs.lemmas.Result.{err_from_is_err_and}
-use Rattle.js_bundle.specs.Schemas.{place_at}
-use Rattle.js_output.specs.Documents.{documents_of, bundle_of}
-use Rattle.js_output.specs.Entry.{entry_place}
-use Rattle.js_output.specs.Outcome.{InstanceOutcome, beginning_causes, telling_output}
-use Rattle.js_output.proofs.Answering.{IsKept, answers-early, answers-late}
+use Rattle.js_output.specs.Documents.{documents_of, bundle_of, documents_causes}
+use Rattle.js_output.specs.Entry.{entry_causes, entry_place}
+use Rattle.js_output.specs.Outcome.{InstanceOutcome, FinishedOutcome, beginning_causes, telling_output}
+use Rattle.js_output.specs.Telling.{Answers}
+use Rattle.js_output.proofs.Answering.{answers-early, answers-onto}
+use Rattle.js_output.proofs.CauseLists.{fails-append}
 use Rattle.js_output.proofs.running.run.Goals as goal
 
-pub returns-in_err-entry-clause-answer : goal.returns-in_err-entry-clause-answer
-returns-in_err-entry-clause-answer g c =
+pub returns-in_err-schemas-clause-answer : goal.returns-in_err-schemas-clause-answer
+returns-in_err-schemas-clause-answer g c =
     let p = err_from_is_err_and c.from_residual.result c.from_residual.ensures.1 in
     let left = g.R.Read.remaining c.args.instance.now.device in
     let docs = documents_of c.args.docs.now in
-    rw (p.1, p.2) (answers-early telling_output (InstanceOutcome (bundle_of docs) (entry_place (bundle_of docs) c.args.entry.now) c.args.format) g.W.Write.contents c.args.out.now c.args.out.now
-    (beginning_causes docs c.args.entry.now) left c.in_err-entry.field-0.0 c.in_err-entry.ensures.err)
+    let entry = c.args.entry.now in
+    rw (p.1, p.2) (answers-early telling_output (InstanceOutcome (bundle_of docs) (entry_place (bundle_of docs) entry) c.args.format) g.W.Write.contents c.args.out.now c.args.out.now
+    (beginning_causes docs entry) left c.in_err-schemas.field-0.0 (fails-append (documents_causes docs) (entry_causes (bundle_of docs) entry) c.in_err-schemas.field-0.0 c.in_err-schemas.ensures.err))
 
 pub returns-clause-answer : goal.returns-clause-answer
 returns-clause-answer g c =
     let left = g.R.Read.remaining c.args.instance.now.device in
-    let e = c.in_ok-entry.entry in
-    let is : IsKept (documents_of c.args.docs.now) c.args.entry.now e.schemas (place_at e.schemas e.place) = record { clear = c.in_ok-entry.ensures.clear; of = c.in_ok-entry.ensures.ok.of; named = c.in_ok-entry.ensures.ok.named } in
-    answers-late (documents_of c.args.docs.now) c.args.entry.now c.args.format e.schemas (place_at e.schemas e.place) is left g.W.Write.contents c.args.out.now c.tell_instance.new.out c.tell_instance.result c.tell_instance.ensures.answer
+    let docs = documents_of c.args.docs.now in
+    let entry = c.args.entry.now in
+    let taken = g.W.Write.contents in
+    let told = subst (λ d. Answers telling_output (FinishedOutcome d entry c.args.format) (entry_causes d entry) left taken c.args.out.now c.run_read.new.out c.run_read.result) c.in_ok-schemas.ensures.ok c.run_read.ensures.answer in
+    answers-onto telling_output (InstanceOutcome (bundle_of docs) (entry_place (bundle_of docs) entry) c.args.format) taken c.args.out.now c.run_read.new.out (documents_causes docs) (entry_causes (bundle_of docs) entry) left
+    c.in_ok-schemas.ensures.clear c.run_read.result told

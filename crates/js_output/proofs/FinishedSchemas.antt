@@ -1,0 +1,51 @@
+-- What comes of an instance over finished schemas is an outcome of a run over their documents.
+use Rattle.std.proofs.Common.{◌≡◌, ℕ, ◌+◌, List, [], ◌∷◌, ◌++◌, length, Result, refl, ◌∙◌, sym, subst}
+use Rattle.std.proofs.lemmas.List.{append-nil}
+use Rattle.js_bundle.specs.Document as bundle
+use Rattle.js_tree.specs.declared.forms.Format.{Format}
+use Rattle.js_output.specs.Cause.{MayGoOn}
+use Rattle.js_output.specs.Documents.{DocumentTexts, bundle_of, adding_causes, bundle_causes, documents_causes}
+use Rattle.js_output.specs.Entry.{entry_causes, entry_place}
+use Rattle.js_output.specs.Finished.{AreAdded, AreFinished}
+use Rattle.js_output.specs.Outcome.{Output, InstanceOutcome, FinishedOutcome, Outcome}
+use Rattle.js_output.specs.Telling.{After}
+use Rattle.js_output.specs.declared.fault.Fault.{Fault}
+use Rattle.js_output.proofs.Answering.{after-apart, after-together, after-onto}
+use Rattle.js_output.proofs.BundleCauses.{added_clear, held_more, taken_more, finish_clear}
+use Rattle.js_output.proofs.CauseLists.{clear-append}
+
+-- ---- the outcome, in two parts: the documents', and what comes over their schemas
+
+module _ (documents : DocumentTexts) (entry : List ℕ) (format : Format) (instance : List ℕ) (outcome : Result Output Fault) where
+  Over : Result Output Fault → Type 0
+  Over = InstanceOutcome (bundle_of documents) (entry_place (bundle_of documents) entry) format instance
+
+  pub outcome_apart : Outcome documents entry format instance outcome → After (documents_causes documents) (FinishedOutcome (bundle_of documents) entry format instance) outcome
+  outcome_apart = after-apart (documents_causes documents) (entry_causes (bundle_of documents) entry) Over outcome
+
+  pub outcome_together : After (documents_causes documents) (FinishedOutcome (bundle_of documents) entry format instance) outcome → Outcome documents entry format instance outcome
+  outcome_together = after-together (documents_causes documents) (entry_causes (bundle_of documents) entry) Over outcome
+
+  -- nothing stands against the documents
+  pub outcome_over : (schemas : bundle.Documents) → schemas ≡ bundle_of documents → MayGoOn (documents_causes documents)
+      → FinishedOutcome schemas entry format instance outcome → Outcome documents entry format instance outcome
+  outcome_over schemas of clear h =
+      after-onto (documents_causes documents) (entry_causes (bundle_of documents) entry) Over clear outcome (subst (λ d. FinishedOutcome d entry format instance outcome) of h)
+
+-- ---- documents that were added and finished
+
+are_added : (held : bundle.Documents) (n : ℕ) (documents : DocumentTexts) (all : bundle.Documents) → length held ≡ n → AreAdded held documents all
+    → (all ≡ held ++ bundle_of documents) × MayGoOn (adding_causes n documents)
+are_added held n [] all many is = (is ∙ sym (append-nil held), tt)
+are_added held n (d ∷ ds) all many (more, added, later) =
+    let (is, clear) = are_added more (n + 1) ds all (held_more held more d.0 d.1 n added many) later in (
+      is ∙ taken_more held more d.0 d.1 ds (held ++ bundle_of (d ∷ ds)) added refl,
+      clear-append _ (adding_causes (n + 1) ds) (added_clear held more d.0 d.1 n added many) clear,
+    )
+
+pub finished_are : (documents : DocumentTexts) (schemas : bundle.Documents) → AreFinished documents schemas → (schemas ≡ bundle_of documents) × MayGoOn (documents_causes documents)
+finished_are documents schemas is =
+    let (of, clear) = are_added [] 0 documents schemas refl is.added in (
+      of,
+      clear-append (adding_causes 0 documents) (bundle_causes (bundle_of documents)) clear (subst (λ d. MayGoOn (bundle_causes d)) of (finish_clear schemas is.clear)),
+    )

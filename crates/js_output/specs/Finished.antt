@@ -1,0 +1,18 @@
+-- Schemas that are kept: documents were added to a bundle one after another, and the bundle was finished. What `js_bundle`
+-- promises of these calls.
+use Rattle.std.specs.Prelude.{◌≡◌, [], ◌∷◌}
+use Rattle.js_bundle.specs.Adding.{IsAdded}
+use Rattle.js_bundle.specs.Candidate.{IsClear}
+use Rattle.js_bundle.specs.Document as bundle
+use Rattle.js_bundle.specs.Refusals.{candidates}
+use Rattle.js_output.specs.Documents.{DocumentTexts}
+
+-- all are held after these were added, one after another, to what was held
+abbrev pub AreAdded : bundle.Documents → DocumentTexts → bundle.Documents → Type 0
+AreAdded held [] all = all ≡ held
+AreAdded held (d ∷ ds) all = (more : bundle.Documents) × IsAdded held d.0 d.1 more × AreAdded more ds all
+
+-- they were added to nothing, and finished
+pub record AreFinished (documents : DocumentTexts) (schemas : bundle.Documents) : Type 0 where
+  pub added : AreAdded [] documents schemas
+  pub clear : IsClear (candidates schemas)
