@@ -1,6 +1,7 @@
 """A wheel that is built, and installed into a fresh virtual environment, without a network."""
 import importlib.util
 import os
+import re
 import subprocess
 import sys
 import tempfile
@@ -27,12 +28,13 @@ class Wheel(unittest.TestCase):
     def test_installation(self):
         environment = {**os.environ, "PIP_NO_INDEX": "1", "PIP_DISABLE_PIP_VERSION_CHECK": "1"}
         del environment["PYTHONPATH"]
-        # A library in the wheel is found without being named.
-        if environment.get("JSCHEMA_LIBRARY") != "off" and backend.LIBRARY.is_file():
-            del environment["JSCHEMA_LIBRARY"]
+        named = environment.pop("JSCHEMA_LIBRARY", "off")
+        if named != "off" and backend.LIBRARY.is_file():
+            # The library in the wheel is found without being named.
             found = r"/.*/site-packages/jschema/libjschema\.so\.0"
         else:
-            found = "None"
+            environment["JSCHEMA_LIBRARY"] = named
+            found = "None" if named == "off" else re.escape(named)
         with tempfile.TemporaryDirectory() as folder:
             python = Path(folder, "venv", "bin", "python")
             venv.create(python.parent.parent, symlinks=True)
