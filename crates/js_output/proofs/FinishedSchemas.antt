@@ -17,20 +17,17 @@ use Rattle.js_output.proofs.CauseLists.{clear-append}
 -- ---- the outcome, in two parts: the documents', and what comes over their schemas
 
 module _ (documents : DocumentTexts) (entry : List ℕ) (format : Format) (instance : List ℕ) (outcome : Result Output Fault) where
-  Over : Result Output Fault → Type 0
-  Over = InstanceOutcome (bundle_of documents) (entry_place (bundle_of documents) entry) format instance
-
   pub outcome_apart : Outcome documents entry format instance outcome → After (documents_causes documents) (FinishedOutcome (bundle_of documents) entry format instance) outcome
-  outcome_apart = after-apart (documents_causes documents) (entry_causes (bundle_of documents) entry) Over outcome
+  outcome_apart = after-apart (documents_causes documents) (entry_causes (bundle_of documents) entry) (InstanceOutcome (bundle_of documents) (entry_place (bundle_of documents) entry) format instance) outcome
 
   pub outcome_together : After (documents_causes documents) (FinishedOutcome (bundle_of documents) entry format instance) outcome → Outcome documents entry format instance outcome
-  outcome_together = after-together (documents_causes documents) (entry_causes (bundle_of documents) entry) Over outcome
+  outcome_together = after-together (documents_causes documents) (entry_causes (bundle_of documents) entry) (InstanceOutcome (bundle_of documents) (entry_place (bundle_of documents) entry) format instance) outcome
 
   -- nothing stands against the documents
   pub outcome_over : (schemas : bundle.Documents) → schemas ≡ bundle_of documents → MayGoOn (documents_causes documents)
       → FinishedOutcome schemas entry format instance outcome → Outcome documents entry format instance outcome
   outcome_over schemas of clear h =
-      after-onto (documents_causes documents) (entry_causes (bundle_of documents) entry) Over clear outcome (subst (λ d. FinishedOutcome d entry format instance outcome) of h)
+      after-onto (documents_causes documents) (entry_causes (bundle_of documents) entry) (InstanceOutcome (bundle_of documents) (entry_place (bundle_of documents) entry) format instance) clear outcome (subst (λ d. FinishedOutcome d entry format instance outcome) of h)
 
 -- ---- documents that were added and finished
 
