@@ -1,4 +1,6 @@
-"""Builds the distributions (PEP 517). It needs nothing but Python, so an installation needs no network."""
+"""Builds the distributions (PEP 517). It needs nothing but Python, so an installation needs no network.
+
+A wheel has the C library if tools/build-library made it before; without it the package runs the program."""
 from __future__ import annotations
 
 import base64
@@ -6,6 +8,7 @@ import csv
 import hashlib
 import io
 import re
+import sysconfig
 import tarfile
 import zipfile
 from pathlib import Path
@@ -15,16 +18,20 @@ HOME = Path(__file__).resolve().parent
 SECTION = (HOME / "pyproject.toml").read_text("utf-8").split("[project]")[1]
 PROJECT = dict(re.findall(r'^([\w-]+) = "(.*)"$', SECTION, re.M))
 STEM = f"{PROJECT['name']}-{PROJECT['version']}"
-WHEEL = "Wheel-Version: 1.0\nGenerator: jschema\nRoot-Is-Purelib: true\nTag: py3-none-any\n"
+LIBRARY = HOME.parent / "out" / "lib" / "libjschema.so.0"
 
 
 def build_wheel(wheel_directory, config_settings=None, metadata_directory=None):
     """Writes the wheel, and returns its name."""
     files = {path.relative_to(HOME).as_posix(): path.read_bytes() for path in package()}
+    platform = "any"
+    if LIBRARY.is_file():
+        files[f"jschema/{LIBRARY.name}"] = LIBRARY.read_bytes()
+        platform = re.sub(r"[-.]", "_", sysconfig.get_platform())
     files[f"{STEM}.dist-info/METADATA"] = metadata().encode()
-    files[f"{STEM}.dist-info/WHEEL"] = WHEEL.encode()
+    files[f"{STEM}.dist-info/WHEEL"] = about_wheel(f"py3-none-{platform}", platform == "any").encode()
     files[f"{STEM}.dist-info/RECORD"] = record(files).encode()
-    name = f"{STEM}-py3-none-any.whl"
+    name = f"{STEM}-py3-none-{platform}.whl"
     with zipfile.ZipFile(Path(wheel_directory, name), "w", zipfile.ZIP_DEFLATED) as wheel:
         for path, data in files.items():
             wheel.writestr(zipfile.ZipInfo(path, (1980, 1, 1, 0, 0, 0)), data, zipfile.ZIP_DEFLATED)
@@ -47,6 +54,10 @@ def build_sdist(sdist_directory, config_settings=None):
 def package():
     """The files of the package."""
     return sorted(path for path in (HOME / "jschema").rglob("*") if path.suffix == ".py" or path.name == "py.typed")
+
+
+def about_wheel(tag, is_pure):
+    return f"Wheel-Version: 1.0\nGenerator: jschema\nRoot-Is-Purelib: {str(is_pure).lower()}\nTag: {tag}\n"
 
 
 def metadata():

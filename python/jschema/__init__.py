@@ -6,10 +6,11 @@
 """
 from .engine import FORMATS, Answer, Engine
 from .errors import EngineError, Refused, ValidationError, best_first
+from .library import LibraryEngine
 from .positions import Position, Text
 from .program import ProgramEngine
 from .scanner import NotJson
 from .schemas import Schemas
 
-__all__ = ["FORMATS", "Answer", "Engine", "EngineError", "NotJson", "Position", "ProgramEngine", "Refused", "Schemas",
-           "Text", "ValidationError", "best_first"]
+__all__ = ["FORMATS", "Answer", "Engine", "EngineError", "LibraryEngine", "NotJson", "Position", "ProgramEngine",
+           "Refused", "Schemas", "Text", "ValidationError", "best_first"]

@@ -1,9 +1,7 @@
 """An engine that runs the program `jschema`, once for each check."""
 from __future__ import annotations
 
-import json
 import os
-import re
 import shutil
 import subprocess
 import tempfile
@@ -11,11 +9,9 @@ from pathlib import Path
 from typing import NoReturn, Optional
 
 from .engine import Answer
-from .errors import EngineError, Refused
+from .errors import EngineError
+from .lines import fault_of
 
-# The line on standard error of a run without a verdict: docs/REFUSALS.md.
-_LINE = re.compile(r'(?P<ending>refused|failed): (?:(?P<subject>\w+)(?: (?P<index>\d+))?'
-                   r'(?: at (?P<place>".*"))?: )?(?P<kind>\w+)\n', re.DOTALL)
 _BUILDS = ("out/jschema", "crates/js_cli/out/js_cli")
 
 
@@ -76,11 +72,5 @@ class ProgramEngine:
 
     def _raise(self, status: int, line: str) -> NoReturn:
         """Raises what a run without a verdict says."""
-        said = _LINE.fullmatch(line)
-        if said is None:
-            raise EngineError(f"{self._program} ended with status {status}: {line.strip() or 'no message'}")
-        if said["ending"] == "failed":
-            raise MemoryError(line.strip()) if said["kind"] == "Memory" else EngineError(line.strip())
-        index = int(said["index"]) if said["index"] else None
-        raise Refused(said["subject"], said["kind"], json.loads(said["place"]) if said["place"] else None,
-                      index, None if index is None else self._uris[index])
+        raise fault_of(line, self._uris) or EngineError(
+            f"{self._program} ended with status {status}: {line.strip() or 'no message'}")

@@ -7,6 +7,7 @@ from typing import Any, NoReturn, Optional, Union
 
 from .engine import FORMATS, Answer, Engine
 from .errors import ValidationError, best_first
+from .library import LibraryEngine, find_library
 from .outputs import parse
 from .positions import Text
 from .program import ProgramEngine
@@ -27,7 +28,7 @@ class Schemas:
     """
 
     def __init__(self, documents: Documents, *, engine: Optional[Engine] = None) -> None:
-        self._engine: Optional[Engine] = ProgramEngine() if engine is None else engine
+        self._engine: Optional[Engine] = _default_engine() if engine is None else engine
         pairs = documents.items() if isinstance(documents, Mapping) else documents
         try:
             for uri, document in pairs:
@@ -95,6 +96,12 @@ class Schemas:
         if self._engine is None:
             raise ValueError("these Schemas are closed")
         return self._engine
+
+
+def _default_engine() -> Engine:
+    """The library's engine, or that of the program where there is no library."""
+    library = find_library()
+    return ProgramEngine() if library is None else LibraryEngine(library)
 
 
 def errors_of(answer: Answer, text: Text) -> list[ValidationError]:

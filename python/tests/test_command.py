@@ -149,8 +149,8 @@ class Refusals(Case):
 
     def test_program_is_missing(self):
         done = subprocess.run([sys.executable, "-m", "jschema", "validate", "--schema", "schema.json", "two.json"],
-                              cwd=self.folder, env={**os.environ, "JSCHEMA": "/nowhere"}, check=False,
-                              stderr=subprocess.PIPE, text=True)
+                              cwd=self.folder, check=False, stderr=subprocess.PIPE, text=True,
+                              env={**os.environ, "JSCHEMA": "/nowhere", "JSCHEMA_LIBRARY": "off"})
         self.assertEqual((done.stderr, done.returncode),
                          ("jschema: JSCHEMA names /nowhere, which is no program\n", 4))
 

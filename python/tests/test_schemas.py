@@ -10,6 +10,7 @@ from concurrent.futures import ThreadPoolExecutor
 from unittest import mock
 
 import jschema
+from jschema.library import find_library
 from jschema.outputs import without_recursion
 from jschema.program import find_program
 
@@ -219,7 +220,7 @@ class Programs(unittest.TestCase):
 
     def test_zero_byte(self):
         with self.assertRaisesRegex(jschema.EngineError, "a URI with a zero byte"):
-            jschema.Schemas({"a:\0": "true"})
+            jschema.Schemas({"a:\0": "true"}, engine=jschema.ProgramEngine())
 
     def test_no_program(self):
         with self.assertRaisesRegex(jschema.EngineError, "can't be run: No such file"):
@@ -231,3 +232,47 @@ class Programs(unittest.TestCase):
             file.write(f"#!/bin/sh\n{script}\n")
         os.chmod(path, stat.S_IRWXU)
         return path
+
+
+class Libraries(unittest.TestCase):
+    def test_named_library_is_missing(self):
+        with mock.patch.dict(os.environ, JSCHEMA_LIBRARY="/nowhere"), \
+                self.assertRaisesRegex(jschema.EngineError, "/nowhere is no library of jschema"):
+            jschema.Schemas({})
+
+    def test_library_of_others(self):
+        with self.assertRaisesRegex(jschema.EngineError, "libc.so.6 is no library of jschema: .*jschema_version"):
+            jschema.LibraryEngine("libc.so.6")
+
+    def test_no_library(self):
+        with mock.patch.dict(os.environ, JSCHEMA_LIBRARY="off"):
+            self.assertIsNone(find_library())
+            with self.assertRaisesRegex(jschema.EngineError, "tools/build-library in its repository makes it"):
+                jschema.LibraryEngine()
+
+
+@unittest.skipUnless(find_library(), "no library")
+class InTheLibrary(unittest.TestCase):
+    def test_surrogates(self):
+        with self.assertRaisesRegex(jschema.EngineError, "a URI with a lone surrogate"):
+            jschema.Schemas({"a:\ud800": "true"}, engine=jschema.LibraryEngine())
+
+    def test_refusal_leaves_the_others(self):
+        engine = jschema.LibraryEngine()
+        engine.add(URI, b'{"$ref": "t"}')
+        for document in (b"1", b"{"):
+            with self.assertRaises(jschema.Refused):
+                engine.add("t", document)
+        with self.assertRaises(jschema.Refused) as raised:
+            engine.finish()
+        self.assertEqual((raised.exception.kind, raised.exception.document), ("Unresolved", URI))
+        engine.add("https://example.com/t", b"false")
+        engine.finish()
+        self.assertEqual(engine.check(URI, b"1", "flag"), (False, b'{"valid":false}\n'))
+        engine.close()
+
+    def test_long_output(self):
+        """An output of many times the room that a handle has at first."""
+        with jschema.Schemas({URI: '{"items": {"minimum": 1}}'}, engine=jschema.LibraryEngine()) as schemas:
+            self.assertEqual([it.path for it in schemas.errors(URI, [0] * 2000)], [[it] for it in range(2000)])
+            self.assertTrue(schemas.is_valid(URI, [1]))

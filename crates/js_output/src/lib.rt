@@ -30,7 +30,7 @@ pub use js_bundle::{EntryFault, Refusal, RefusalKind};
 pub use js_tree::Format;
 pub use line::refusal_line;
 pub use pair::run_pair;
-pub use places::run_places;
+pub use places::{list_places, run_places};
 pub use running::run;
 pub use sink::Sink;
 pub use source::Source;

@@ -51,6 +51,21 @@ pub fn run_places<W: Write>(
     Ok(told.count)
 }
 
+/// The absolute location of each place of finished schemas and a line feed, in scan order: the text
+/// that [`run_places`] writes of their documents.
+///
+/// # Errors
+/// `Memory`.
+pub fn list_places(alloc: Global, schemas: &Schemas) -> Result<String, Fault>
+    ensures text { IfOk result (λ text. string_bytes text ≡ lines_of (sites schemas.now)) }
+    ensures memory { IfErr result (λ e. e ≡ Fault.Memory) }
+{
+    match told_of(alloc, schemas) {
+        Ok(told) => Ok(told.text),
+        Err(Memory) => Err(Fault::Memory),
+    }
+}
+
 // What is told of places, and of how many.
 #[derive(Drop)]
 struct Told {

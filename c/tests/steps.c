@@ -1,0 +1,43 @@
+/* Steps that allocate: prints `STEP: STATUS [TEXT]` for each. A step that is out of memory is tried once more, since
+   the handle is as it was. This program itself allocates nothing. */
+#include "common.h"
+
+#define URI TEXT("https://example.com/s")
+#define SCHEMA                                                                      \
+    "{\"properties\": {\"age\": {\"minimum\": 0, \"type\": \"integer\"}},"             \
+    " \"patternProperties\": {\"^x\": {\"$ref\": \"t\"}}}"
+
+static char printed[1 << 16];
+static uint8_t said[1 << 14];
+
+/* One step, once or twice: `call` is made anew each time. */
+#define STEP(name, call)                                                                                               \
+    for (int again = 0; again < 2; again++) {                                                                          \
+        uint32_t status = (call);                                                                                      \
+        size_t length = jschema_text(&handle, said, sizeof said);                                                      \
+        if (length > sizeof said) give_up("the text is too long");                                                     \
+        printf("%s: %u [%.*s]\n", name, status, (int)(length - (length && said[length - 1] == '\n')), said);           \
+        if (status != JSCHEMA_FAILED) break;                                                                           \
+    }
+
+int main(void) {
+    jschema handle = JSCHEMA_EMPTY;
+    size_t entry = 0;
+    setvbuf(stdout, printed, _IOFBF, sizeof printed);
+    STEP("new", jschema_new(&handle));
+    STEP("refused document", jschema_add(&handle, URI, TEXT("[1, {\"a\": 0.5}]")));
+    STEP("add", jschema_add(&handle, URI, TEXT(SCHEMA)));
+    STEP("refused documents", jschema_finish(&handle));
+    STEP("add", jschema_add(&handle, TEXT("https://example.com/t"), TEXT("{\"maxLength\": 2}")));
+    STEP("finish", jschema_finish(&handle));
+    STEP("places", jschema_places(&handle));
+    STEP("refused entry", jschema_entry(&handle, TEXT("https://example.com/u"), &entry));
+    STEP("entry", jschema_entry(&handle, URI, &entry));
+    STEP("refused instance", jschema_check(&handle, entry, TEXT("{\"a\": 0.5}"), JSCHEMA_FLAG));
+    for (uint32_t format = JSCHEMA_FLAG; format <= JSCHEMA_MERGED; format++) {
+        STEP("check", jschema_check(&handle, entry, TEXT("{\"age\": -1, \"x\": \"yyy\"}"), format));
+        STEP("check", jschema_check(&handle, entry, TEXT("{\"age\": 1, \"x\": \"y\"}"), format));
+    }
+    jschema_free(&handle);
+    return 0;
+}

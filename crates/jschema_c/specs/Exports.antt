@@ -1,0 +1,47 @@
+-- What C sees of each call, by what the handle held before and after.
+use Rattle.std.specs.Prelude.{◌≡◌, ℕ, List, [], ◌++◌, length, take, drop, Option, Some, None}
+use Rattle.jschema_c.specs.declared.session.Phase.TheVariants as phase
+use Rattle.jschema_c.specs.declared.session.Session.{Session}
+use Rattle.jschema_c.specs.declared.status.Status.{Status}
+use Rattle.jschema_c.specs.declared.status.Status.TheVariants as status
+use Rattle.jschema_c.specs.Session.{AddCall, FinishCall, ListCall, EntryCall, CheckCall}
+use Rattle.jschema_c.specs.Status.{code}
+
+-- no document, no entry, no text
+pub record IsNew (s : Session) : Type 0 where
+  pub none : s.phase ≡ phase.Adding []
+  pub entries : s.entries.items ≡ []
+  pub text : s.text.items ≡ []
+
+-- the number is that of a status, which the call answers
+abbrev pub Answers : ℕ → (Status → Type 0) → Type 0
+Answers number Call = (s : Status) × (number ≡ code s) × Call s
+
+-- a call on an empty handle is misused and leaves it empty
+abbrev pub OnHandle : (Session → Session → Status → Type 0) → Option Session → Option Session → ℕ → Type 0
+OnHandle Call (Some before) (Some after) number = Answers number (Call before after)
+OnHandle Call (Some before) None number = ⊥
+OnHandle Call None after number = (number ≡ code status.Misused) × (after ≡ None)
+
+abbrev pub SessionAdds : List ℕ → List ℕ → Session → Session → Status → Type 0
+SessionAdds uri document before after s = AddCall uri document before.phase after.phase s after.text.items × (after.entries.items ≡ before.entries.items)
+
+abbrev pub SessionFinishes : Session → Session → Status → Type 0
+SessionFinishes before after s = FinishCall before.phase after.phase s after.text.items × (after.entries.items ≡ before.entries.items)
+
+abbrev pub SessionLists : Session → Session → Status → Type 0
+SessionLists before after s =
+    ListCall before.phase s after.text.items × ((after.phase ≡ before.phase) × (after.entries.items ≡ before.entries.items))
+
+abbrev pub SessionEnters : List ℕ → ℕ → ℕ → Session → Session → Status → Type 0
+SessionEnters uri old new before after s =
+    EntryCall before.phase uri (before.entries.items, old) (after.entries.items, new) s after.text.items × (after.phase ≡ before.phase)
+
+abbrev pub SessionChecks : ℕ → List ℕ → ℕ → Session → Session → Status → Type 0
+SessionChecks entry instance format before after s =
+    CheckCall before.phase before.entries.items entry instance format s after.text.items
+    × ((after.phase ≡ before.phase) × (after.entries.items ≡ before.entries.items))
+
+-- as much of the text as fits is copied, and the rest stays
+abbrev pub copied : List ℕ → List ℕ → List ℕ
+copied text out = take (length out) text ++ drop (length text) out

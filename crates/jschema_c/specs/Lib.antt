@@ -1,0 +1,4 @@
+pub mod Held
+pub mod Status
+pub mod Session
+pub mod Exports

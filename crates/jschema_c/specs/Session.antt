@@ -1,0 +1,173 @@
+-- What a session answers to each call, what it holds afterwards, and which text stands.
+use Rattle.std.specs.Prelude.{◌≡◌, ℕ, ◌<◌, List, [], ◌∷◌, ◌++◌, length, slice_get, Option, Some, None, Result, Ok, Err, Bool, true, false, ⊤}
+use Rattle.std.specs.Str.{IsUtf8}
+use Rattle.js_tree.specs.declared.forms.Format.{Format}
+use Rattle.js_bundle.specs.Adding.{IsAdded, IsRefusedBy}
+use Rattle.js_bundle.specs.Document.{Documents}
+use Rattle.js_bundle.specs.Refusals.{refusals, IsRefusalOf}
+use Rattle.js_bundle.specs.Resource.{sites}
+use Rattle.js_bundle.specs.Schemas.{is_place, place_at, StandsFor, IsEntryFault}
+use Rattle.js_bundle.specs.declared.refusal.Refusal.{Refusal}
+use Rattle.js_bundle.specs.declared.refusal.EntryFault.{EntryFault}
+use Rattle.js_output.specs.Documents.{fault_by}
+use Rattle.js_output.specs.Entry.{entry_fault_of, entry_place}
+use Rattle.js_output.specs.Line.{fault_line}
+use Rattle.js_output.specs.Outcome.{Output, InstanceOutcome}
+use Rattle.js_output.specs.Places.{lines_of}
+use Rattle.js_output.specs.declared.fault.Fault.{Fault}
+use Rattle.js_output.specs.declared.fault.Fault.TheVariants as fault
+use Rattle.jschema_c.specs.declared.session.Phase.{Phase}
+use Rattle.jschema_c.specs.declared.session.Phase.TheVariants as phase
+use Rattle.jschema_c.specs.declared.status.Status.{Status}
+use Rattle.jschema_c.specs.declared.status.Status.TheVariants as status
+use Rattle.jschema_c.specs.Status.{format_number, last_format}
+
+-- ---- what is answered, and the text
+
+-- a fault of an input, and not of memory or a device
+abbrev pub IsRefusal : Fault → Type 0
+IsRefusal fault.Memory = ⊥
+IsRefusal fault.Read = ⊥
+IsRefusal fault.Write = ⊥
+IsRefusal _ = ⊤
+
+-- a refusal is answered with its line as the text, out of memory with none
+abbrev pub SaysFault : Fault → Status → List ℕ → Type 0
+SaysFault f status.Refused text = IsRefusal f × (text ≡ fault_line f)
+SaysFault f status.Failed text = text ≡ []
+SaysFault f _ text = ⊥
+
+-- of what a call comes to: its own status with the text that it gave, or its fault
+abbrev pub Says : List ℕ → Result Status Fault → Status → List ℕ → Type 0
+Says given (Ok s) answered text = (answered ≡ s) × (text ≡ given)
+Says given (Err f) answered text = SaysFault f answered text
+
+-- ---- adding
+
+abbrev pub AddedTo : Phase → List ℕ → List ℕ → Phase → Type 0
+AddedTo (phase.Adding before) uri text (phase.Adding after) = IsUtf8 uri × IsAdded before uri text after
+AddedTo _ uri text _ = ⊥
+
+-- documents were finished before, or the URI isn't UTF-8
+abbrev pub CannotAdd : Phase → List ℕ → Type 0
+CannotAdd (phase.Adding documents) uri = ¬ (IsUtf8 uri)
+CannotAdd (phase.Finished documents) uri = ⊤
+
+abbrev pub RefusesText : Phase → List ℕ → List ℕ → Fault → Type 0
+RefusesText (phase.Adding documents) uri text f = (r : Refusal) × IsRefusedBy (length documents) uri text r × (f ≡ fault_by r.kind r)
+RefusesText (phase.Finished documents) uri text f = ⊥
+
+-- the document is added, or all is as it was
+abbrev pub Adds : List ℕ → List ℕ → Phase → Phase → Result Status Fault → Type 0
+Adds uri text old new (Ok status.Done) = AddedTo old uri text new
+Adds uri text old new (Ok status.Misused) = (new ≡ old) × CannotAdd old uri
+Adds uri text old new (Ok _) = ⊥
+Adds uri text old new (Err f) = (new ≡ old) × RefusesText old uri text f
+
+abbrev pub AddCall : List ℕ → List ℕ → Phase → Phase → Status → List ℕ → Type 0
+AddCall uri document old new answered text = (came : Result Status Fault) × Adds uri document old new came × Says [] came answered text
+
+-- ---- finishing
+
+abbrev pub FinishedAs : Phase → Phase → Type 0
+FinishedAs (phase.Adding documents) new = (new ≡ phase.Finished documents) × (refusals documents ≡ [])
+FinishedAs (phase.Finished documents) new = ⊥
+
+abbrev pub IsFinished : Phase → Type 0
+IsFinished (phase.Adding documents) = ⊥
+IsFinished (phase.Finished documents) = ⊤
+
+abbrev pub RefusesDocuments : Phase → Fault → Type 0
+RefusesDocuments (phase.Adding documents) f = (r : Refusal) × IsRefusalOf documents r × (f ≡ fault_by r.kind r)
+RefusesDocuments (phase.Finished documents) f = ⊥
+
+-- the documents are finished and nothing of them is refused, or all is as it was
+abbrev pub Finishes : Phase → Phase → Result Status Fault → Type 0
+Finishes old new (Ok status.Done) = FinishedAs old new
+Finishes old new (Ok status.Misused) = (new ≡ old) × IsFinished old
+Finishes old new (Ok _) = ⊥
+Finishes old new (Err f) = (new ≡ old) × RefusesDocuments old f
+
+abbrev pub FinishCall : Phase → Phase → Status → List ℕ → Type 0
+FinishCall old new answered text = (came : Result Status Fault) × Finishes old new came × Says [] came answered text
+
+-- ---- the list of places
+
+abbrev pub Listed : Phase → List ℕ → Type 0
+Listed (phase.Adding documents) text = ⊥
+Listed (phase.Finished documents) text = text ≡ lines_of (sites documents)
+
+abbrev pub CannotList : Phase → Type 0
+CannotList (phase.Adding documents) = ⊤
+CannotList (phase.Finished documents) = ⊥
+
+-- the text has a line for each place
+abbrev pub Lists : Phase → List ℕ → Result Status Fault → Type 0
+Lists held text (Ok status.Done) = Listed held text
+Lists held text (Ok status.Misused) = CannotList held × (text ≡ [])
+Lists held text (Ok _) = ⊥
+Lists held text (Err f) = f ≡ fault.Memory
+
+abbrev pub ListCall : Phase → Status → List ℕ → Type 0
+ListCall held answered text = (given : List ℕ) × (came : Result Status Fault) × Lists held given came × Says given came answered text
+
+-- ---- entries
+
+-- one more entry is kept, the place that the URI names, and its number is how many there were
+abbrev pub Entered : Phase → List ℕ → List ℕ → List ℕ → ℕ → Type 0
+Entered (phase.Adding documents) uri old new number = ⊥
+Entered (phase.Finished documents) uri old new number =
+    (place : ℕ) × StandsFor documents place (entry_place documents uri) × (new ≡ old ++ place ∷ []) × (number ≡ length old)
+
+-- documents aren't finished yet, or the URI isn't UTF-8
+abbrev pub CannotEnter : Phase → List ℕ → Type 0
+CannotEnter (phase.Adding documents) uri = ⊤
+CannotEnter (phase.Finished documents) uri = ¬ (IsUtf8 uri)
+
+abbrev pub RefusesEntry : Phase → List ℕ → Fault → Type 0
+RefusesEntry (phase.Adding documents) uri f = ⊥
+RefusesEntry (phase.Finished documents) uri f = (e : EntryFault) × IsEntryFault documents uri e × (f ≡ entry_fault_of e)
+
+-- of the entries and the number, before and after
+abbrev pub Enters : Phase → List ℕ → List ℕ × ℕ → List ℕ × ℕ → Result Status Fault → Type 0
+Enters schemas uri old new (Ok status.Done) = Entered schemas uri old.0 new.0 new.1
+Enters schemas uri old new (Ok status.Misused) = (new ≡ old) × CannotEnter schemas uri
+Enters schemas uri old new (Ok _) = ⊥
+Enters schemas uri old new (Err f) = (new ≡ old) × RefusesEntry schemas uri f
+
+abbrev pub EntryCall : Phase → List ℕ → List ℕ × ℕ → List ℕ × ℕ → Status → List ℕ → Type 0
+EntryCall schemas uri old new answered text = (came : Result Status Fault) × Enters schemas uri old new came × Says [] came answered text
+
+-- ---- checks
+
+-- what is asked: the place of finished documents that an entry has, and the format of a number
+pub record Asked (held : Phase) (entries : List ℕ) (entry number : ℕ) (documents : Documents) (place : ℕ) (format : Format) : Type 0 where
+  pub finished : held ≡ phase.Finished documents
+  pub kept : slice_get entries entry ≡ Some place
+  pub there : is_place documents place ≡ true
+  pub numbered : number ≡ format_number format
+
+-- nothing is asked: documents aren't finished, or there is no such entry of them, or no such format
+abbrev pub NotAsked : Phase → List ℕ → ℕ → ℕ → Type 0
+NotAsked held entries entry number = (documents : Documents) (place : ℕ) (format : Format) → Asked held entries entry number documents place format → ⊥
+
+-- the outcome has this verdict and this text
+abbrev pub IsOutput : (Result Output Fault → Type 0) → Bool → List ℕ → Type 0
+IsOutput Expected valid text = (output : Output) × Expected (Ok output) × (output.valid ≡ valid) × (text ≡ output.text)
+
+abbrev pub Judges : (Result Output Fault → Type 0) → List ℕ → Result Status Fault → Type 0
+Judges Expected text (Ok status.Done) = IsOutput Expected true text
+Judges Expected text (Ok status.Invalid) = IsOutput Expected false text
+Judges Expected text (Ok _) = ⊥
+Judges Expected text (Err f) = IsRefusal f → Expected (Err f)
+
+-- the outcome at the place, or nothing is asked
+abbrev pub Checks : Phase → List ℕ → ℕ → List ℕ → ℕ → List ℕ → Result Status Fault → Type 0
+Checks held entries entry instance number text (Ok status.Misused) = NotAsked held entries entry number × (text ≡ [])
+Checks held entries entry instance number text came =
+    (documents : Documents) × (place : ℕ) × (format : Format) × Asked held entries entry number documents place format
+    × Judges (InstanceOutcome documents (place_at documents place) format instance) text came
+
+abbrev pub CheckCall : Phase → List ℕ → ℕ → List ℕ → ℕ → Status → List ℕ → Type 0
+CheckCall held entries entry instance number answered text =
+    (given : List ℕ) × (came : Result Status Fault) × Checks held entries entry instance number given came × Says given came answered text

@@ -1,0 +1,152 @@
+//! jschema for C: schema documents are added and finished once, then instances are checked. The header is `c/jschema.h`.
+#![tactic(auto)]
+
+ghost use Rattle.std.specs.Prelude.{◌≡◌, ◌≢◌, None, IfSome, length};
+ghost use Rattle.jschema_c.specs.Exports.{IsNew, OnHandle, SessionAdds, SessionFinishes, SessionLists, SessionEnters, SessionChecks, copied};
+ghost use Rattle.jschema_c.specs.Status.{code};
+ghost use Rattle.jschema_c.specs.declared.status.Status.TheVariants as Status;
+
+mod handle;
+mod loose;
+mod session;
+mod status;
+
+use handle::Handle;
+use session::Session;
+use status::Status;
+use std::alloc::Global;
+
+/// Begins anew: no documents, in place of what the handle held.
+#[unsafe(no_mangle)]
+pub extern "C" fn jschema_new(alloc: Global, handle: &mut Handle) -> u32
+    ensures made { result ≡ code Status.Done → IfSome handle.new.value IsNew }
+    ensures refused { result ≢ code Status.Done
+        → (result ≡ code Status.Failed) × (handle.new.value ≡ None) }
+{
+    jschema_free(alloc, handle);
+    match Box::new(alloc, Session::new(alloc)) {
+        Ok(made) => {
+            handle.put(made);
+            Status::Done.code()
+        }
+        Err(_) => Status::Failed.code(),
+    }
+}
+
+/// Adds a document under a URI.
+#[unsafe(no_mangle)]
+pub extern "C" fn jschema_add(
+    alloc: Global,
+    handle: &mut Handle,
+    uri: &[u8],
+    document: &[u8],
+) -> u32
+    ensures { OnHandle (SessionAdds uri.now document.now) handle.old.value handle.new.value result }
+{
+    let Some(mut session) = handle.take(alloc) else {
+        return Status::Misused.code();
+    };
+    let status = session.add(alloc, uri, document);
+    handle.put(session);
+    status.code()
+}
+
+/// Finishes the documents. If one is refused, all are as they were.
+#[unsafe(no_mangle)]
+pub extern "C" fn jschema_finish(alloc: Global, handle: &mut Handle) -> u32
+    ensures { OnHandle SessionFinishes handle.old.value handle.new.value result }
+{
+    let Some(mut session) = handle.take(alloc) else {
+        return Status::Misused.code();
+    };
+    let status = session.finish(alloc);
+    handle.put(session);
+    status.code()
+}
+
+/// Lists the absolute locations of all schemas: a line each, as the text.
+#[unsafe(no_mangle)]
+pub extern "C" fn jschema_places(alloc: Global, handle: &mut Handle) -> u32
+    ensures { OnHandle SessionLists handle.old.value handle.new.value result }
+{
+    let Some(mut session) = handle.take(alloc) else {
+        return Status::Misused.code();
+    };
+    let status = session.list(alloc);
+    handle.put(session);
+    status.code()
+}
+
+/// Looks up the schema that a URI names, and gives it a number.
+#[unsafe(no_mangle)]
+pub extern "C" fn jschema_entry(
+    alloc: Global,
+    handle: &mut Handle,
+    uri: &[u8],
+    number: &mut usize,
+) -> u32
+    ensures { OnHandle (SessionEnters uri.now number.old number.new) handle.old.value
+        handle.new.value result }
+{
+    let Some(mut session) = handle.take(alloc) else {
+        return Status::Misused.code();
+    };
+    let status = session.enter(alloc, uri, number);
+    handle.put(session);
+    status.code()
+}
+
+/// Checks an instance against the schema that an entry's number names.
+#[unsafe(no_mangle)]
+pub extern "C" fn jschema_check(
+    alloc: Global,
+    handle: &mut Handle,
+    entry: usize,
+    instance: &[u8],
+    format: u32,
+) -> u32
+    ensures { OnHandle (SessionChecks entry instance.now format) handle.old.value
+        handle.new.value result }
+{
+    let Some(mut session) = handle.take(alloc) else {
+        return Status::Misused.code();
+    };
+    let status = session.check(alloc, entry, instance, format);
+    handle.put(session);
+    status.code()
+}
+
+/// The length of the text that the last call left. As many of its bytes as fit are copied.
+#[unsafe(no_mangle)]
+pub extern "C" fn jschema_text(alloc: Global, handle: &mut Handle, out: &mut [u8]) -> usize
+    ensures none { handle.old.value ≡ None → (result ≡ 0) × (out.new ≡ out.old) }
+    ensures text { IfSome handle.old.value (λ s. (result ≡ length s.text.items)
+        × (out.new ≡ copied s.text.items out.old)) }
+    ensures stays { handle.new.value ≡ handle.old.value }
+{
+    let Some(session) = handle.take(alloc) else {
+        return 0;
+    };
+    let text = session.text.as_slice();
+    let whole = text.len();
+    let fits = whole.min(out.len());
+    out[..fits].copy_from_slice(&text[..fits]);
+    handle.put(session);
+    whole
+}
+
+/// Frees what the handle holds.
+#[unsafe(no_mangle)]
+pub extern "C" fn jschema_free(alloc: Global, handle: &mut Handle)
+    ensures { handle.new.value ≡ None }
+{
+    drop(handle.take(alloc));
+}
+
+/// The library's version: 10,000 for each major one, 100 for each minor one, and the patch.
+#[unsafe(no_mangle)]
+pub extern "C" fn jschema_version() -> u32
+    ensures { result ≡ 100 }
+{
+    100
+}

@@ -1,0 +1,262 @@
+//! What a handle holds: documents or schemas, the entries that were looked up, and a text.
+ghost use Rattle.std.specs.Prelude.{◌≡◌, [], true};
+ghost use Rattle.jschema_c.specs.Exports.{IsNew, SessionAdds, SessionFinishes, SessionLists, SessionEnters, SessionChecks};
+ghost use Rattle.jschema_c.specs.Session.{Adds, Finishes, Lists, Enters, Checks, Judges, Says, SaysFault};
+ghost use Rattle.js_bundle.specs.Schemas.{is_place, place_at};
+ghost use Rattle.js_output.specs.Outcome.{InstanceOutcome};
+
+use crate::status::{Status, format_of};
+use js_bundle::{Bundle, Place, Schemas};
+use js_output::{Fault, Sink, judge, list_places, refusal_line};
+use js_tree::Format;
+use std::alloc::Global;
+use std::mem::replace;
+
+/// Documents that are added, or the schemas of finished ones.
+#[derive(Drop)]
+pub enum Phase {
+    /// Documents are added.
+    Adding(Bundle),
+    /// Instances are checked.
+    Finished(Schemas),
+}
+
+/// A phase, the entries that were looked up in it, and the text of the last call.
+#[derive(Drop)]
+pub struct Session {
+    pub phase: Phase,
+    pub entries: Vec<Place, Global>,
+    pub text: Vec<u8, Global>,
+}
+
+impl Session {
+    /// No document yet.
+    pub(crate) fn new(alloc: Global) -> Session
+        ensures { IsNew result }
+    {
+        Session {
+            phase: Phase::Adding(Bundle::new(alloc)),
+            entries: Vec::new(alloc),
+            text: Vec::new(alloc),
+        }
+    }
+
+    /// Adds a document.
+    pub(crate) fn add(&mut self, alloc: Global, uri: &[u8], document: &[u8]) -> Status
+        ensures { SessionAdds uri.now document.now self.old self.new result }
+    {
+        let came = added(&mut self.phase, uri, document);
+        answered(alloc, came, &mut self.text)
+    }
+
+    /// Finishes the documents.
+    pub(crate) fn finish(&mut self, alloc: Global) -> Status
+        ensures { SessionFinishes self.old self.new result }
+    {
+        let came = finished(alloc, &mut self.phase);
+        answered(alloc, came, &mut self.text)
+    }
+
+    /// Lists the locations of all schemas as the text.
+    pub(crate) fn list(&mut self, alloc: Global) -> Status
+        ensures { SessionLists self.old self.new result }
+    {
+        match listed(alloc, &self.phase, &mut self.text) {
+            Ok(status) => status,
+            Err(fault) => say(alloc, &fault, &mut self.text),
+        }
+    }
+
+    /// Looks an entry up, and numbers it.
+    pub(crate) fn enter(&mut self, alloc: Global, uri: &[u8], number: &mut usize) -> Status
+        ensures { SessionEnters uri.now number.old number.new self.old self.new result }
+    {
+        let came = entered(alloc, &self.phase, uri, &mut self.entries, number);
+        answered(alloc, came, &mut self.text)
+    }
+
+    /// Checks an instance.
+    pub(crate) fn check(
+        &mut self,
+        alloc: Global,
+        entry: usize,
+        instance: &[u8],
+        format: u32,
+    ) -> Status
+        ensures { SessionChecks entry instance.now format self.old self.new result }
+    {
+        let entries = self.entries.as_slice();
+        match checked(
+            alloc,
+            &self.phase,
+            entries,
+            entry,
+            instance,
+            format,
+            &mut self.text,
+        ) {
+            Ok(status) => status,
+            Err(fault) => say(alloc, &fault, &mut self.text),
+        }
+    }
+}
+
+fn added(phase: &mut Phase, uri: &[u8], document: &[u8]) -> Result<Status, Fault>
+    ensures { Adds uri.now document.now phase.old phase.new result }
+{
+    let Phase::Adding(bundle) = phase else {
+        return Ok(Status::Misused);
+    };
+    let Ok(uri) = str::from_utf8(uri) else {
+        return Ok(Status::Misused);
+    };
+    match bundle.add(uri, document) {
+        Ok(()) => Ok(Status::Done),
+        Err(refusal) => Err(Fault::from(refusal)),
+    }
+}
+
+fn finished(alloc: Global, phase: &mut Phase) -> Result<Status, Fault>
+    ensures { Finishes phase.old phase.new result }
+{
+    match replace(phase, Phase::Adding(Bundle::new(alloc))) {
+        Phase::Adding(bundle) => match bundle.finish(alloc) {
+            Ok(schemas) => {
+                *phase = Phase::Finished(schemas);
+                Ok(Status::Done)
+            }
+            Err((refusal, bundle)) => {
+                *phase = Phase::Adding(bundle);
+                Err(Fault::from(refusal))
+            }
+        },
+        Phase::Finished(schemas) => {
+            *phase = Phase::Finished(schemas);
+            Ok(Status::Misused)
+        }
+    }
+}
+
+fn listed(alloc: Global, phase: &Phase, text: &mut Vec<u8, Global>) -> Result<Status, Fault>
+    ensures { Lists phase.now text.new.items result }
+{
+    text.clear();
+    let Phase::Finished(schemas) = phase else {
+        return Ok(Status::Misused);
+    };
+    match list_places(alloc, schemas) {
+        Ok(list) => {
+            *text = list.into_bytes();
+            Ok(Status::Done)
+        }
+        Err(fault) => Err(fault),
+    }
+}
+
+fn entered(
+    alloc: Global,
+    phase: &Phase,
+    uri: &[u8],
+    entries: &mut Vec<Place, Global>,
+    number: &mut usize,
+) -> Result<Status, Fault>
+    ensures { Enters phase.now uri.now (entries.old.items, number.old)
+        (entries.new.items, number.new) result }
+{
+    let Phase::Finished(schemas) = phase else {
+        return Ok(Status::Misused);
+    };
+    let Ok(uri) = str::from_utf8(uri) else {
+        return Ok(Status::Misused);
+    };
+    let place = match schemas.entry(alloc, uri) {
+        Ok(place) => place,
+        Err(fault) => return Err(Fault::from(fault)),
+    };
+    let next = entries.len();
+    match entries.push(place) {
+        Ok(()) => {
+            *number = next;
+            Ok(Status::Done)
+        }
+        Err(_) => Err(Fault::Memory),
+    }
+}
+
+fn checked(
+    alloc: Global,
+    phase: &Phase,
+    entries: &[Place],
+    entry: usize,
+    instance: &[u8],
+    format: u32,
+    text: &mut Vec<u8, Global>,
+) -> Result<Status, Fault>
+    ensures { Checks phase.now entries.now entry instance.now format text.new.items result }
+{
+    text.clear();
+    let Phase::Finished(schemas) = phase else {
+        return Ok(Status::Misused);
+    };
+    let Some(place) = entries.get(entry) else {
+        return Ok(Status::Misused);
+    };
+    let Some(format) = format_of(format) else {
+        return Ok(Status::Misused);
+    };
+    if !schemas.has(*place) {
+        return Ok(Status::Misused);
+    }
+    judged(alloc, schemas, *place, instance, format, text)
+}
+
+fn judged(
+    alloc: Global,
+    schemas: &Schemas,
+    place: Place,
+    instance: &[u8],
+    format: Format,
+    text: &mut Vec<u8, Global>,
+) -> Result<Status, Fault>
+    requires place { is_place schemas.now place ≡ true }
+    requires empty { text.old.items ≡ [] }
+    ensures { Judges (InstanceOutcome schemas.now (place_at schemas.now place) format instance.now)
+        text.new.items result }
+{
+    let mut out = Sink::new(replace(text, Vec::new(alloc)));
+    let answer = judge(alloc, schemas, place, instance, format, &mut out);
+    *text = out.into_device();
+    match answer {
+        Ok(true) => Ok(Status::Done),
+        Ok(false) => Ok(Status::Invalid),
+        Err(fault) => Err(fault),
+    }
+}
+
+// The status of what a call came to. The text is the line of its fault, or none.
+fn answered(alloc: Global, came: Result<Status, Fault>, text: &mut Vec<u8, Global>) -> Status
+    ensures { Says [] came result text.new.items }
+{
+    text.clear();
+    match came {
+        Ok(status) => status,
+        Err(fault) => say(alloc, &fault, text),
+    }
+}
+
+// Says the fault by its line.
+fn say(alloc: Global, fault: &Fault, text: &mut Vec<u8, Global>) -> Status
+    ensures { SaysFault fault.now result text.new.items }
+{
+    text.clear();
+    match fault {
+        Fault::Memory | Fault::Read | Fault::Write => Status::Failed,
+        _ => match refusal_line(alloc, fault) {
+            Ok(line) => {
+                *text = line.into_bytes();
+                Status::Refused
+            }
+            Err(_) => Status::Failed,
+        },
+    }
+}

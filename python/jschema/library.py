@@ -1,0 +1,185 @@
+"""An engine in this process, which keeps the schemas: the C library, by ctypes."""
+from __future__ import annotations
+
+import ctypes
+import ctypes.util
+import os
+from ctypes import POINTER, byref, c_bool, c_char_p, c_size_t, c_uint32, c_void_p
+from pathlib import Path
+from typing import Any, Optional
+
+from .engine import Answer
+from .errors import EngineError
+from .lines import fault_of
+
+# c/jschema.h
+_DONE, _INVALID, _MISUSED, _REFUSED, _FAILED = range(5)
+_FORMATS = {"flag": 0, "basic": 1, "detailed": 2, "verbose": 3, "merged": 4}
+_VERSIONS = range(100, 200)
+_FILE = "libjschema.so.0"
+
+# How much of an output is copied without asking for its length first.
+_ROOM = 4096
+
+
+class _Handle(ctypes.Structure):
+    _fields_ = (("at", c_void_p), ("full", c_bool))
+
+
+def find_library() -> Optional[str]:
+    """The library: named by JSCHEMA_LIBRARY (`off` is none), or in the package, or installed, or built in the
+    repository that this file is part of. None if there is none."""
+    if named := os.environ.get("JSCHEMA_LIBRARY"):
+        return None if named == "off" else named
+    here = Path(__file__).resolve().parent
+    for path in (here / _FILE, here.parents[1] / "out" / "lib" / _FILE):
+        if path.is_file():
+            return str(path)
+    return ctypes.util.find_library("jschema")
+
+
+def _load(path: str) -> ctypes.CDLL:
+    handle = POINTER(_Handle)
+    try:
+        library = ctypes.CDLL(path)
+        for name, result, arguments in (
+                ("version", c_uint32, ()),
+                ("new", c_uint32, (handle,)),
+                ("add", c_uint32, (handle, c_char_p, c_size_t, c_char_p, c_size_t)),
+                ("finish", c_uint32, (handle,)),
+                ("places", c_uint32, (handle,)),
+                ("entry", c_uint32, (handle, c_char_p, c_size_t, POINTER(c_size_t))),
+                ("check", c_uint32, (handle, c_size_t, c_char_p, c_size_t, c_uint32)),
+                ("text", c_size_t, (handle, c_char_p, c_size_t)),
+                ("free", None, (handle,))):
+            call = getattr(library, f"jschema_{name}")
+            call.restype, call.argtypes = result, arguments
+    except (OSError, AttributeError) as error:
+        raise EngineError(f"{path} is no library of jschema: {error}") from error
+    if library.jschema_version() not in _VERSIONS:
+        raise EngineError(f"{path} has version {library.jschema_version()}, and this package needs 0.1")
+    return library
+
+
+class _Schemas:
+    """A handle of the library. One call at a time."""
+
+    def __init__(self, library: ctypes.CDLL) -> None:
+        self._library = library
+        self._handle = _Handle()
+        self._at = byref(self._handle)
+        self._room = ctypes.create_string_buffer(_ROOM)
+        self._entries: dict[str, int] = {}
+        self.uris: list[str] = []
+        self._done(library.jschema_new(self._at))
+
+    def add(self, uri: str, document: bytes) -> None:
+        name = _encoded(uri)
+        self.uris.append(uri)
+        try:
+            self._done(self._library.jschema_add(self._at, name, len(name), document, len(document)))
+        except BaseException:
+            self.uris.pop()
+            raise
+
+    def finish(self) -> None:
+        self._done(self._library.jschema_finish(self._at))
+
+    def places(self) -> list[str]:
+        self._done(self._library.jschema_places(self._at))
+        return self._text().decode().splitlines()
+
+    def check(self, entry: str, instance: bytes, format: str) -> Answer:
+        number = self._entries.get(entry)
+        if number is None:
+            number = self._entries[entry] = self._look_up(entry)
+        status = self._library.jschema_check(self._at, number, instance, len(instance), _FORMATS[format])
+        if status != _INVALID:
+            self._done(status)
+        return Answer(status == _DONE, self._text())
+
+    def _look_up(self, entry: str) -> int:
+        name, number = _encoded(entry), c_size_t()
+        self._done(self._library.jschema_entry(self._at, name, len(name), byref(number)))
+        return number.value
+
+    def _text(self) -> bytes:
+        """The text of the last call."""
+        length = self._library.jschema_text(self._at, self._room, len(self._room))
+        if length <= len(self._room):
+            return ctypes.string_at(self._room, length)
+        large = ctypes.create_string_buffer(length)
+        self._library.jschema_text(self._at, large, length)
+        return ctypes.string_at(large, length)
+
+    def _done(self, status: int) -> None:
+        """Raises what a status other than _DONE says."""
+        if status == _DONE:
+            return
+        if status == _FAILED:
+            raise MemoryError("failed: Memory")
+        line = self._text().decode()
+        raise fault_of(line, self.uris) or EngineError(f"the library answered status {status}: {line}")
+
+    def __del__(self) -> None:
+        if hasattr(self, "_at"):
+            self._library.jschema_free(self._at)
+
+
+class LibraryEngine:
+    """The engine. Each thread that checks at the same time as others has schemas of its own, which are made when they
+    are needed and kept."""
+
+    def __init__(self, library: Optional[str] = None) -> None:
+        path = library or find_library()
+        if path is None:
+            raise EngineError("no library libjschema.so: tools/build-library in its repository makes it")
+        self._library = _load(path)
+        self._documents: list[tuple[str, bytes]] = []
+        self._first = _Schemas(self._library)
+        # Those that no call uses. (The methods of a list are atomic.)
+        self._free: list[_Schemas] = []
+
+    def add(self, uri: str, document: bytes) -> None:
+        self._first.add(uri, document)
+        self._documents.append((uri, document))
+
+    def finish(self) -> None:
+        self._first.finish()
+        self._free.append(self._first)
+
+    def places(self) -> list[str]:
+        return self._with(lambda schemas: schemas.places())
+
+    def check(self, entry: str, instance: bytes, format: str) -> Answer:
+        answer: Answer = self._with(lambda schemas: schemas.check(entry, instance, format))
+        return answer
+
+    def close(self) -> None:
+        self._free.clear()
+        self._documents.clear()
+
+    def _with(self, call: Any) -> Any:
+        """Makes a call on schemas that no other thread uses."""
+        try:
+            schemas = self._free.pop()
+        except IndexError:
+            schemas = self._copy()
+        try:
+            return call(schemas)
+        finally:
+            self._free.append(schemas)
+
+    def _copy(self) -> _Schemas:
+        schemas = _Schemas(self._library)
+        for uri, document in self._documents:
+            schemas.add(uri, document)
+        schemas.finish()
+        return schemas
+
+
+def _encoded(uri: str) -> bytes:
+    try:
+        return uri.encode()
+    except UnicodeEncodeError as error:
+        raise EngineError("a URI with a lone surrogate can't be passed to the library") from error
