@@ -47,6 +47,7 @@ RUN_BY = {
     "hostile/run growth --only polygon": Step("hostile/run"),
     "hostile/run --times large limits":
         Small("hostile/run --times --only 'a pair' limits slow --program {program}"),
+    "tools/build-library": Step("c/test --build"),
     "tools/install ~/.local": Step("tools/test_install"),
     "pip install ./python": Step("python/test"),
 }
