@@ -27,9 +27,14 @@ pub mod Whole
 pub mod Kept
 pub mod Finds
 pub mod Absent
+pub mod Counted
+pub mod EdgesNext
+pub mod Ranks
+pub mod HeldNumbers
+pub mod EachFound
 pub mod LeadingDown
 pub mod Ways
-pub mod Parents
+pub mod LastPlace
 pub mod Columns
 pub mod Locating
 pub mod NoKeyword

@@ -1,5 +1,5 @@
 -- What stands below a place is what its schema holds.
-use Rattle.std.proofs.Common.{◌≡◌, ℕ, List, [], ◌∷◌, Bool, true, false, if◌then◌else◌, ◌++◌, find, Option, Some, None, option_map, option_and_then, slice_get, Bor, length, map, nat_lt, refl, sym, ap, ◌∙◌}
+use Rattle.std.proofs.Common.{◌≡◌, ℕ, List, [], ◌∷◌, Bool, true, false, if◌then◌else◌, ◌++◌, find, Option, Some, None, MatchOption, option_map, option_and_then, slice_get, Bor, length, map, nat_lt, refl, sym, ap, ◌∙◌}
 use Rattle.std.specs.Option.{IfSome}
 use Rattle.std.specs.Prelude.{get_or, is_some}
 use Rattle.std.proofs.lemmas.Bool.{ltb-false, ltb-true}
@@ -88,3 +88,28 @@ pub stands_with : (documents : Documents) (place n : ℕ) (k : Text) (step : Ste
     → ((s : Site) (u : Value) → place_at documents place ≡ Some s → Holds s.schema k step u → FindsSchema documents (Some n) u)
     → option_map (λ s. s.schema) (place_at documents n) ≡ Some u
 stands_with documents place n k step v u e h found held = at_site documents place n k step v u (place_at documents place) refl e h found held
+
+-- what is found where the schema of a place holds another one
+finds_at : (documents : Documents) (place : ℕ) (k : Text) (step : Step) (v u : Value) (r : Option ℕ) → (o : Option Site) → place_at documents place ≡ o → option_map (λ s. s.schema) o ≡ Some v
+    → fits (holding k) step ≡ true → held_in k step v ≡ Some u
+    → ((s : Site) (w : Value) → place_at documents place ≡ Some s → Holds s.schema k step w → Finds documents r (below documents s k step))
+    → Finds documents r (option_and_then (λ s. below documents s k step) o)
+finds_at documents place k step v u r None is e fit h found = absurd (cc)
+finds_at documents place k step v u r (Some s) is e fit h found =
+    let same : s.schema ≡ v = cc in
+    found s u is (held_so s.schema k step u fit (argument k s.schema) refl (ap (λ w. held_in k step w) same ∙ h))
+
+pub finds_held_by : (documents : Documents) (place : ℕ) (k : Text) (step : Step) (v u : Value) (r : Option ℕ) → option_map (λ s. s.schema) (place_at documents place) ≡ Some v
+    → fits (holding k) step ≡ true → held_in k step v ≡ Some u
+    → ((s : Site) (w : Value) → place_at documents place ≡ Some s → Holds s.schema k step w → Finds documents r (below documents s k step))
+    → Finds documents r (option_and_then (λ s. below documents s k step) (place_at documents place))
+finds_held_by documents place k step v u r e fit h found = finds_at documents place k step v u r (place_at documents place) refl e fit h found
+
+-- and the schema beside it is the one that stands there
+pub schema_with : (documents : Documents) (place : ℕ) (k : Text) (step : Step) (v u : Value) (r : Option (ℕ × Bor Doc)) → option_map (λ s. s.schema) (place_at documents place) ≡ Some v → held_in k step v ≡ Some u
+    → Finds documents (option_map (λ e. e.0) r) (option_and_then (λ s. below documents s k step) (place_at documents place))
+    → ((s : Site) (w : Value) → place_at documents place ≡ Some s → Holds s.schema k step w → FindsSchema documents (option_map (λ e. e.0) r) w)
+    → MatchOption r (Unit {0}) (λ e. value_of e.1.now ≡ u)
+    → MatchOption r (Unit {0}) (λ e. option_map (λ s. s.schema) (place_at documents e.0) ≡ Some (value_of e.1.now))
+schema_with documents place k step v u None e h found held same = tt
+schema_with documents place k step v u (Some r) e h found held same = stands_with documents place r.0 k step v u e h found held ∙ ap Some (sym same)

@@ -1,6 +1,5 @@
 -- The texts that tell where a place stands go on from where those of the place before it are the same.
 use Rattle.std.proofs.Common.{◌≡◌, ℕ, zero, suc, ◌-◌, ◌≤◌, min, List, [], ◌∷◌, ◌++◌, Bool, true, false, ◌&&◌, ◌==◌, bytes_eq, codes, decimal, take, drop, length, string_bytes, if◌then◌else◌, refl, sym, ap, ap₂, ◌∙◌, append_assoc, arith}
-use Rattle.std.proofs.Math.Dec.{eqb-suc-suc, eqb-zero-suc}
 use Rattle.std.proofs.lemmas.Bool.{and_parts, eqb-true}
 use Rattle.std.proofs.lemmas.List.{append-nil, length-drop, take-append-drop, take-take}
 use Rattle.js_doc.specs.Fragment.{fragment_text}
@@ -8,7 +7,6 @@ use Rattle.js_doc.specs.Pointer.{Tokens, pointer_text, token_text}
 use Rattle.js_doc.proofs.Named.{is_text-sound}
 use Rattle.js_bundle.specs.declared.beginning.Beginning.{Beginning}
 use Rattle.js_bundle.specs.code.Beginning.{shared, BeginsKey, BeginsLocation}
-use Rattle.js_bundle.specs.code.Edges.{begins_with}
 use Rattle.js_bundle.specs.code.Index.{place_key}
 use Rattle.js_bundle.specs.Location.{canonical, location, way}
 use Rattle.js_bundle.specs.Resource.{Site}
@@ -16,15 +14,6 @@ use Rattle.js_bundle.specs.Url.{printed}
 use Rattle.js_bundle.proofs.Ways.{fragment_append}
 
 -- ---- pointers that begin alike
-
-pub begins_shared : (q p : Tokens) → begins_with q p ≡ (shared q p == length p)
-begins_shared q [] = refl
-begins_shared [] (k ∷ p) = sym (eqb-zero-suc (length p))
-begins_shared (l ∷ q) (k ∷ p) = by_token (bytes_eq l k) (begins_shared q p)
-  where
-    by_token : (b : Bool) → begins_with q p ≡ (shared q p == length p) → (b && begins_with q p) ≡ ((if b then suc (shared q p) else 0) == suc (length p))
-    by_token true h = h ∙ sym (eqb-suc-suc (shared q p) (length p))
-    by_token false h = sym (eqb-zero-suc (length p))
 
 take_none : {A : Type 0} (n : ℕ) (xs ys : List A) → n ≤ 0 → take n xs ≡ take n ys
 take_none zero xs ys h = refl

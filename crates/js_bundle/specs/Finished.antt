@@ -5,7 +5,7 @@ use Rattle.js_bundle.specs.AssertionsAndPatterns.{assertions_at, patterns_at}
 use Rattle.js_bundle.specs.Candidate.{IsClear}
 use Rattle.js_bundle.specs.Document.{Documents}
 use Rattle.js_bundle.specs.code.Column.{IsColumn}
-use Rattle.js_bundle.specs.code.Edges.{LeadDown}
+use Rattle.js_bundle.specs.code.Edges.{edges_from, edges_of}
 use Rattle.js_bundle.specs.Finding.{dynamic_at, number_of_target}
 use Rattle.js_bundle.specs.code.Grouped.{IsGrouped}
 use Rattle.js_bundle.specs.code.Index.{IsIndex}
@@ -29,4 +29,4 @@ pub record IsFinished (documents : Documents) (kept : Checked) : Type 0 where
   pub locations : kept.locations.items ≡ map location (sites documents)
   pub index : IsIndex kept.index (sites documents)
   pub resources : IsResourceTable kept.resources (sites documents)
-  pub edges : LeadDown kept.edges.items (map spot_of kept.spots.items)
+  pub edges : map edges_of kept.edges.items ≡ edges_from 0 documents

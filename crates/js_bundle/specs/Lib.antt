@@ -21,4 +21,5 @@ pub mod ResourceNumber
 pub mod ResourceTable
 pub mod Finished
 pub mod NameLaws
+pub mod FindingLaws
 pub mod code

@@ -5,7 +5,6 @@ pub mod Index
 pub mod Spot
 pub mod Edges
 pub mod Beginning
-pub mod Descent
 pub mod Located
 pub mod Grouped
 pub mod Patterns

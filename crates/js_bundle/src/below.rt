@@ -1,17 +1,18 @@
 //! What the keywords of a place hold.
-ghost use Rattle.std.specs.Prelude.{◌≡◌, ◌++◌, [], ◌∷◌, true, map, slice_get, option_map, option_and_then, decimal, None, Some, MatchOption, if◌then◌else◌};
-ghost use Rattle.std.specs.List.{list_all, position_from};
+ghost use Rattle.std.specs.Prelude.{◌≡◌, [], true, false, ℕ, map, slice_get, option_map, option_and_then, MatchOption, Some};
+ghost use Rattle.std.specs.Option.{option_map_or};
 ghost use Rattle.js_doc.specs.Seen.{value_of};
-ghost use Rattle.js_bundle.specs.code.Edges.{leads_down, AreAlone};
-ghost use Rattle.js_bundle.specs.code.Held.{held_in, holds, part, IsSmall};
-ghost use Rattle.js_bundle.specs.Names.{same_tokens};
+ghost use Rattle.js_bundle.specs.code.Edges.{edges_of, held_of};
+ghost use Rattle.js_bundle.specs.code.Held.{ends_before, held_in, holds, part, places_of, stands_before, IsNumberAt, IsRankOf, IsSmall};
+ghost use Rattle.js_bundle.specs.KeywordName.{keyword_name};
 ghost use Rattle.js_bundle.specs.Place.{holding, items_in};
-ghost use Rattle.js_bundle.specs.Schemas.{is_place, place_at, below, fits, step_of, step_tokens, Finds, FindsSchema, Holds};
-ghost use Rattle.js_bundle.specs.code.Spot.{spot_of, stands_below};
+ghost use Rattle.js_bundle.specs.Schemas.{is_place, place_at, below, fits, step_of, Finds, FindsSchema, Holds};
+ghost use Rattle.js_bundle.specs.code.Spot.{spot_of};
 
-use crate::edges::{edge_to, edges_under};
+use crate::edges::{Edges, HeldPlaces};
 use crate::holding::Holding;
 use crate::keyword::argument;
+use crate::keyword_name::KeywordName;
 use crate::place::{Place, Step};
 use crate::scan::holding_of;
 use crate::schemas::Schemas;
@@ -33,11 +34,9 @@ impl Schemas {
         ensures held { (s : Site) (u : Value) → place_at self.now place ≡ Some s
             → Holds s.schema keyword.now (step_of step.entry) u → FindsSchema self.now result u }
     {
-        let spots = self.kept.spots.as_slice();
-        let edges = edges_under(self.kept.edges.as_slice(), place.number);
-        match number_led_to(spots, edges, self.spot(place), keyword, step) {
-            Some(number) => Some(Place { number }),
-            None => self.below_without_edge(place, keyword, step),
+        match self.schema_below(place, self.schema(place), keyword, step) {
+            Some((below, _)) => Some(below),
+            None => None,
         }
     }
 
@@ -58,59 +57,43 @@ impl Schemas {
         ensures held { (s : Site) (u : Value) → place_at self.now place ≡ Some s
             → Holds s.schema keyword.now (step_of step.entry) u → FindsSchema self.now (option_map (λ e. e.0) result) u }
     {
-        match self.below(place, keyword, step) {
-            Some(below) => match held(schema, keyword, step) {
-                Some(held) => Some((below, held)),
-                None => Some((below, self.schema(below))), // never: what stands below is held
-            },
-            None => None,
-        }
-    }
-
-    // What stands at a step to which no edge leads: nothing, where the place's own schema holds nothing there.
-    fn below_without_edge(&self, place: Place, keyword: &str, step: Step<'_>) -> Option<Place>
-        requires { is_place self.now place ≡ true }
-        ensures { Finds self.now result
-            (option_and_then (λ s. below self.now s keyword.now (step_of step.entry)) (place_at self.now place)) }
-    {
-        let spots = self.kept.spots.as_slice();
-        if !holds(self.schema(place), keyword, step) {
-            return None;
-        }
-        // never: an edge leads to each schema that is held, though that isn't proved
-        match search_below(spots, self.spot(place), keyword, step) {
-            Some(number) => Some(Place { number }),
+        let edges = self.kept.edges.as_slice();
+        let places = places_under(edges, place.number, KeywordName::of(keyword));
+        match held_by(schema, keyword, step) {
+            Some(held) => place_with(self.kept.spots.as_slice(), places, step, held),
             None => None,
         }
     }
 }
 
-// The number of the place at the step, if one of the edges leads there.
-fn number_led_to(
+// The one of these places to which the step leads, with the schema that is held there.
+fn place_with<'a>(
     spots: &[Spot],
-    edges: &[usize],
-    above: &Spot,
-    keyword: &str,
+    places: &[usize],
     step: Step<'_>,
-) -> Option<usize>
-    requires down { list_all (leads_down (spot_of above.now) (map spot_of spots.now)) edges.now ≡ true }
-    requires alone { AreAlone (map spot_of spots.now) }
-    ensures { MatchOption result (Unit {0}) (λ n. (if fits (holding keyword.now) (step_of step.entry) then position_from
-        (stands_below (spot_of above.now) keyword.now (step_of step.entry)) 0 (map spot_of spots.now) else None) ≡ Some n) }
+    held: &'a Doc,
+) -> Option<(Place, &'a Doc)>
+    ensures found { (n : ℕ) → IsNumberAt (map spot_of spots.now) places.now (step_of step.entry) n → option_map (λ e. e.0) result ≡ Some n }
+    ensures schema { MatchOption result (Unit {0}) (λ e. value_of e.1.now ≡ value_of held.now) }
+{
+    match at_rank(places, rank_in(spots, places, step)) {
+        Some(number) => Some((Place { number }, held)),
+        None => None,
+    }
+}
+
+// The schema that the keyword of a schema holds at the step.
+fn held_by<'a>(schema: &'a Doc, keyword: &str, step: Step<'_>) -> Option<&'a Doc>
+    ensures held { MatchOption result (holds keyword.now (step_of step.entry) (value_of schema.now) ≡ false)
+        (λ d. (fits (holding keyword.now) (step_of step.entry) ≡ true)
+        × (held_in keyword.now (step_of step.entry) (value_of schema.now) ≡ Some (value_of d.now))) }
+    ensures small { IsSmall (step_of step.entry) }
 {
     if fits(holding_of(keyword), step) {
-        edge_to(spots, edges, above, keyword, step)
+        held(schema, keyword, step)
     } else {
         None
     }
-}
-
-// Whether the keyword of the schema holds a schema at the step.
-fn holds(schema: &Doc, keyword: &str, step: Step<'_>) -> bool
-    ensures holds { result ≡ holds keyword.now (step_of step.entry) (value_of schema.now) }
-    ensures small { IsSmall (step_of step.entry) }
-{
-    fits(holding_of(keyword), step) && held(schema, keyword, step).is_some()
 }
 
 // What stands in the keyword's argument at the step, whether or not the keyword holds schemas so.
@@ -154,62 +137,66 @@ fn fits(holding: Holding, step: Step<'_>) -> bool
     }
 }
 
-// The number of the first place that stands at the step through the keyword, of all.
-fn search_below(spots: &[Spot], above: &Spot, keyword: &str, step: Step<'_>) -> Option<usize>
-    ensures { result ≡ position_from (stands_below (spot_of above.now) keyword.now (step_of step.entry)) 0
-        (map spot_of spots.now) }
+// The places that the keyword of the place with this number holds.
+fn places_under(edges: &[Edges], number: usize, keyword: KeywordName) -> &[usize]
+    ensures { result.now ≡ option_map_or (places_of keyword) (slice_get (map edges_of edges.now) number) [] }
 {
-    for i in 0..spots.len() {
-        if stands_below(&spots[i], above, keyword, step) {
-            return Some(i);
+    match edges.get(number) {
+        Some(edges) => places_of(edges.keywords.as_slice(), keyword),
+        None => &[],
+    }
+}
+
+fn places_of(keywords: &[HeldPlaces], keyword: KeywordName) -> &[usize]
+    ensures { result.now ≡ places_of keyword (map held_of keywords.now) }
+{
+    for held in keywords {
+        if held.keyword == keyword {
+            return held.places.as_slice();
         }
     }
-    None
+    &[]
 }
 
-fn stands_below(spot: &Spot, above: &Spot, keyword: &str, step: Step<'_>) -> bool
-    ensures { result ≡ stands_below (spot_of above.now) keyword.now (step_of step.entry) (spot_of spot.now) }
+fn at_rank(places: &[usize], rank: usize) -> Option<usize>
+    ensures { (n : ℕ) → slice_get places.now rank ≡ Some n → result ≡ Some n }
 {
-    spot.document == above.document
-        && goes_on(spot.pointer.tokens(), above.pointer.tokens(), keyword, step)
+    places.get(rank).copied()
 }
 
-// Whether the tokens are those above, the keyword, and the step.
-fn goes_on(tokens: &[Token], above: &[Token], keyword: &str, step: Step<'_>) -> bool
-    ensures { result ≡ same_tokens tokens.now (above.now ++ keyword.now ∷ step_tokens (step_of step.entry)) }
-{
-    let Some((token, more)) = tokens.split_first() else {
-        return false;
-    };
-    match above.split_first() {
-        Some((first, rest)) => token.as_str() == first.as_str()
-            && goes_on(more, rest, keyword, step),
-        None => token.as_str() == keyword && is_step(more, step),
-    }
-}
-
-pub(crate) fn is_step(tokens: &[Token], step: Step<'_>) -> bool
-    ensures { result ≡ same_tokens tokens.now (step_tokens (step_of step.entry)) }
+// The rank of the place to which the step leads, among these that a keyword holds.
+fn rank_in(spots: &[Spot], places: &[usize], step: Step<'_>) -> usize
+    ensures { (n : ℕ) → IsNumberAt (map spot_of spots.now) places.now (step_of step.entry) n → slice_get places.now result ≡ Some n }
 {
     match step {
-        Step::Alone => tokens.is_empty(),
-        Step::Index(index) => is_index(tokens, index),
-        Step::Name(name) => is_token(tokens, name),
+        Step::Alone => 0,
+        Step::Index(index) => index,
+        Step::Name(name) => rank_of(spots, places, name),
     }
 }
 
-fn is_token(tokens: &[Token], name: &str) -> bool
-    ensures { result ≡ same_tokens tokens.now (name.now ∷ []) }
+// How many of the places stand at names that come before this one. Their names ascend.
+fn rank_of(spots: &[Spot], places: &[usize], name: &str) -> usize
+    ensures { (n : ℕ) → IsRankOf (map spot_of spots.now) name.now places.now n → result ≡ n }
 {
-    match tokens.split_first() {
-        Some((token, more)) => token.as_str() == name && more.is_empty(),
+    places.partition_point(|number| stands_before(spots, *number, name))
+}
+
+fn stands_before(spots: &[Spot], number: usize, name: &str) -> bool
+    ensures { result ≡ stands_before (map spot_of spots.now) name.now number }
+{
+    match spots.get(number) {
+        Some(spot) => ends_before(spot.pointer.tokens(), name),
         None => false,
     }
 }
 
-fn is_index(tokens: &[Token], index: usize) -> bool
-    ensures { result ≡ same_tokens tokens.now (decimal index ∷ []) }
+// Whether the last token comes before the name.
+fn ends_before(tokens: &[Token], name: &str) -> bool
+    ensures { result ≡ ends_before name.now tokens.now }
 {
-    let mut digits = itoa::Buffer::new();
-    is_token(tokens, digits.format(index))
+    match tokens.last() {
+        Some(token) => token.as_str() < name,
+        None => false,
+    }
 }

@@ -1,4 +1,5 @@
 //! Laws of the definitions that this crate's contracts speak of. Calling one does nothing.
+ghost use Rattle.js_bundle.specs.FindingLaws.{EachIsFound};
 ghost use Rattle.js_bundle.specs.NameLaws.{NamesOneResource, NamesOnePlace};
 ghost use Rattle.js_bundle.specs.ResourceNumber.{NumbersResources, ScopeByNumbers};
 ghost use Rattle.js_bundle.specs.PlaceLaws.{ListsThePlaces, ListsEachOnce, ListsTheirPlaces, ListsTheirsOnce};
@@ -45,4 +46,10 @@ pub fn a_number_tells_a_resource()
 /// places leads to (JSON Schema Core, sections 7.1 and 8.2.3.2).
 pub fn numbers_tell_the_dynamic_scope()
     ensures { ScopeByNumbers }
+{}
+
+/// In documents that are accepted, what a keyword of a place holds is found below the place, and each reference of a place has
+/// its target (JSON Schema Core, sections 8.2.3, 10 and 11).
+pub fn what_is_held_and_named_is_found()
+    ensures { EachIsFound }
 {}

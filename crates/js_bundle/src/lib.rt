@@ -7,7 +7,6 @@ mod beginning;
 mod below;
 mod bundle;
 mod column;
-mod descent;
 mod document;
 mod dynamic_target;
 mod edges;

@@ -4,8 +4,6 @@ ghost use Rattle.js_bundle.specs.code.Located.{BeginTextsOf, IsLast, IsLocated, 
 ghost use Rattle.js_bundle.specs.code.Scan.{site_of};
 
 use crate::beginning::{Beginning, shared_with};
-use crate::descent::{descends, parent_of};
-use crate::edges::{Edges, link};
 use crate::index::Index;
 use crate::keys::next_key;
 use crate::location::next_location;
@@ -18,14 +16,10 @@ use std::alloc::Global;
 #[derive(Drop)]
 pub(crate) struct Located {
     pub(crate) index: Index,
-    /// The ways from each place to those directly below it. Where the last places have none, it ends before them.
-    pub(crate) edges: Vec<Edges>,
     /// Of each, whether it is the root of its own resource.
     pub(crate) roots: Vec<bool>,
     /// The absolute location of each.
     pub(crate) locations: Vec<Text>,
-    /// The numbers of the last place and of those above it, the lowest last.
-    way: Vec<usize>,
 }
 
 /// How the texts of a place begin, from where those of the next one go on.
@@ -53,10 +47,8 @@ impl Located {
         let index = Index::with_capacity(alloc, places)?;
         Ok(Located {
             index,
-            edges: Vec::new(alloc),
             roots: Vec::with_capacity(alloc, places)?,
             locations: Vec::with_capacity(alloc, places)?,
-            way: Vec::new(alloc),
         })
     }
 
@@ -75,10 +67,6 @@ impl Located {
         ensures located { OnOk result (IsLocatedNext self.old (map site_of earlier.now) (site_of site.now) self.new) }
     {
         let shared = shared_with(before, site);
-        let descends = descends(before, site, shared);
-        let parent = parent_of(&mut self.way, earlier, site, descends);
-        link(alloc, &mut self.edges, parent, earlier.len())?;
-        self.way.push(earlier.len())?;
         self.roots.push(begins_resource(site))?;
         let key = next_key(alloc, &mut beginnings.key, before, site, shared)?;
         self.index.add(alloc, site, earlier.len(), key)?;

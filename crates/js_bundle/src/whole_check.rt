@@ -3,7 +3,7 @@ ghost use Rattle.std.specs.Prelude.{◌≡◌, codes, map, OnOk, IfOk, IfErr};
 ghost use Rattle.js_bundle.specs.AssertionsAndPatterns.{assertions_at, patterns_at};
 ghost use Rattle.js_bundle.specs.Candidate.{IsClear, IsStopped};
 ghost use Rattle.js_bundle.specs.code.Column.{IsColumn};
-ghost use Rattle.js_bundle.specs.code.Edges.{LeadDown};
+ghost use Rattle.js_bundle.specs.code.Edges.{edges_from, edges_of};
 ghost use Rattle.js_bundle.specs.Finding.{dynamic_at, number_of_target};
 ghost use Rattle.js_bundle.specs.code.Grouped.{IsGrouped};
 ghost use Rattle.js_bundle.specs.code.Index.{IsIndex};
@@ -19,7 +19,7 @@ ghost use Rattle.js_bundle.specs.code.Spot.{spot, spot_of};
 
 use crate::assertions_and_patterns::BuiltTable;
 use crate::document::Document;
-use crate::edges::Edges;
+use crate::edges::{Edges, edges_in};
 use crate::fault::Fault;
 use crate::index::Index;
 use crate::keyword_table::KeywordTable;
@@ -57,7 +57,7 @@ pub(crate) struct Checked {
     pub(crate) locations: Vec<Text>,
     pub(crate) index: Index,
     pub(crate) resources: Resources,
-    /// The ways from each place to those directly below it. Where the last places have none, it ends before them.
+    /// What each place holds.
     pub(crate) edges: Vec<Edges>,
 }
 
@@ -140,12 +140,13 @@ pub(crate) fn check_whole(alloc: Global, documents: &[Document]) -> Result<Check
     ensures index { IfOk result (λ c. IsIndex c.index (sites (map document_of documents.now))) }
     ensures resources { IfOk result
         (λ c. IsResourceTable c.resources (sites (map document_of documents.now))) }
-    ensures edges { IfOk result (λ c. LeadDown c.edges.items (map spot_of c.spots.items)) }
+    ensures edges { IfOk result (λ c. map edges_of c.edges.items ≡ edges_from 0 (map document_of documents.now)) }
     ensures err { IfErr result (IsStopped (candidates (map document_of documents.now))) }
 {
     let sites = scan(alloc, documents)?;
     let passed = first_pass(alloc, sites.as_slice())?;
     let found = look_up(alloc, &passed.located, sites.as_slice(), &passed.keywords)?;
+    let edges = edges_in(alloc, documents)?;
     Ok(Checked {
         spots: spots_of(alloc, sites)?,
         built: passed.built,
@@ -154,6 +155,6 @@ pub(crate) fn check_whole(alloc: Global, documents: &[Document]) -> Result<Check
         locations: passed.located.locations,
         index: passed.located.index,
         resources: found.resources,
-        edges: passed.located.edges,
+        edges,
     })
 }

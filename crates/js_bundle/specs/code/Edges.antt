@@ -1,58 +1,133 @@
--- The ways from each place to those below it, by their numbers.
-use Rattle.std.specs.Prelude.{◌≡◌, ℕ, List, [], ◌∷◌, ◌++◌, length, Bool, true, false, ◌&&◌, ◌==◌, bytes_eq, drop, Option, Some, slice_get, if◌then◌else◌}
-use Rattle.std.specs.List.{list_all, position_from}
-use Rattle.std.specs.Option.{option_map_or}
-use Rattle.js_doc.specs.Pointer.{Tokens}
+-- The numbers of the places that each keyword of a place holds, as they follow from the numbers in scan order: the first
+-- place that a place holds comes next, and the next one after all that stand below that.
+use Rattle.std.specs.Prelude.{ℕ, suc, ◌+◌, List, [], ◌∷◌, ◌++◌, map}
+use Rattle.js_doc.specs.Value.{Value, list, object, Items, no_items, item, Members, no_members, member}
 use Rattle.js_bundle.specs.declared.edges.Edges.{Edges}
+use Rattle.js_bundle.specs.declared.edges.HeldPlaces.{HeldPlaces}
+use Rattle.js_bundle.specs.declared.holding.Holding.{Holding}
+use Rattle.js_bundle.specs.declared.holding.Holding.TheVariants.{One, Listed, Named, Nothing}
+use Rattle.js_bundle.specs.declared.keyword_name.KeywordName.{KeywordName}
+use Rattle.js_bundle.specs.Document.{Documents}
 use Rattle.js_bundle.specs.Keyword.{Text}
-use Rattle.js_bundle.specs.Names.{same_tokens}
-use Rattle.js_bundle.specs.Schemas.{Step, step_tokens}
-use Rattle.js_bundle.specs.code.Spot.{Spot}
+use Rattle.js_bundle.specs.KeywordName.{keyword_name}
+use Rattle.js_bundle.specs.Place.{holding}
 
-abbrev pub begins_with : Tokens → Tokens → Bool
-begins_with tokens [] = true
-begins_with [] (k ∷ front) = false
-begins_with (l ∷ tokens) (k ∷ front) = bytes_eq l k && begins_with tokens front
+-- what there is of a keyword, as it holds schemas
+abbrev pub by_holding : {A : Type 0} → A → Holding → A → A → A → A
+by_holding nothing One one listed named = one
+by_holding nothing Listed one listed named = listed
+by_holding nothing Named one listed named = named
+by_holding nothing Nothing one listed named = nothing
 
--- it stands below another one, however deep
-abbrev pub is_below : Spot → Spot → Bool
-is_below above place = place.document == above.document && begins_with place.pointer above.pointer
+-- ---- how many places a schema is, with those below it
 
--- the place of this number does
-abbrev pub leads_down : Spot → List Spot → ℕ → Bool
-leads_down above places n = option_map_or (is_below above) (slice_get places n) false
+abbrev mutual
+  pub count : Value → ℕ
+  count (object ms) = suc (count_of_keywords ms)
+  count _ = 1
 
--- the edges of the place with this number. Where the last places have none, the list ends before them
-abbrev pub edges_under : List Edges → ℕ → List ℕ
-edges_under edges n = option_map_or (λ e. e.places.items) (slice_get edges n) []
+  pub count_of_keywords : Members → ℕ
+  count_of_keywords no_members = 0
+  count_of_keywords (member k v ms) = by_holding 0 (holding k) (count v) (count_in_list v) (count_in_object v) + count_of_keywords ms
 
--- places have the same edges
-pub record HaveAlike (old new : List Edges) : Type 0 where
-  pub alike : (n : ℕ) → edges_under new n ≡ edges_under old n
+  pub count_in_list : Value → ℕ
+  count_in_list (list vs) = count_of_items vs
+  count_in_list _ = 0
 
-pub record LeadDown (edges : List Edges) (places : List Spot) : Type 0 where
-  pub down : (n : ℕ) (above : Spot) → slice_get places n ≡ Some above → list_all (leads_down above places) (edges_under edges n) ≡ true
+  pub count_of_items : Items → ℕ
+  count_of_items no_items = 0
+  count_of_items (item v vs) = count v + count_of_items vs
 
--- the place of the one number has an edge more, to that of the other
-pub record IsLinked (old : List Edges) (above place : ℕ) (new : List Edges) : Type 0 where
-  pub many : length new ≡ length old
-  pub here : (a b : Edges) → slice_get old above ≡ Some a → slice_get new above ≡ Some b → b.places.items ≡ a.places.items ++ place ∷ []
-  pub others : (n : ℕ) → ¬ (n ≡ above) → slice_get new n ≡ slice_get old n
+  pub count_in_object : Value → ℕ
+  count_in_object (object ms) = count_of_members ms
+  count_in_object _ = 0
 
--- the edges from the place of the last number, where the one above a place is known
-abbrev pub edges_to : Option ℕ → ℕ → ℕ → List ℕ
-edges_to above place n = option_map_or (λ a. if n == a then place ∷ [] else []) above []
+  pub count_of_members : Members → ℕ
+  count_of_members no_members = 0
+  count_of_members (member n v ms) = count v + count_of_members ms
 
--- one edge more, to the place from the one above it
-pub record AreLinked (old : List Edges) (above : Option ℕ) (place : ℕ) (new : List Edges) : Type 0 where
-  pub told : (n : ℕ) → edges_under new n ≡ edges_under old n ++ edges_to above place n
+-- of what one keyword holds
+abbrev pub count_of_keyword : Text → Value → ℕ
+count_of_keyword k v = by_holding 0 (holding k) (count v) (count_in_list v) (count_in_object v)
 
--- the place of this number goes on by the step through a keyword, after so many tokens
-abbrev pub goes_by : ℕ → Text → Step → List Spot → ℕ → Bool
-goes_by depth keyword step places n =
-    option_map_or (λ place. same_tokens (drop depth place.pointer) (keyword ∷ step_tokens step)) (slice_get places n) false
+-- ---- the numbers of the schemas that are held, where the first has the number n
 
--- each stands alone where it stands
-pub record AreAlone (places : List Spot) : Type 0 where
-  pub alone : (n : ℕ) (place : Spot) → slice_get places n ≡ Some place
-      → position_from (λ other. other.document == place.document && same_tokens other.pointer place.pointer) 0 places ≡ Some n
+abbrev pub numbers_of_items : ℕ → Items → List ℕ
+numbers_of_items n no_items = []
+numbers_of_items n (item v vs) = n ∷ numbers_of_items (n + count v) vs
+
+abbrev pub numbers_in_list : ℕ → Value → List ℕ
+numbers_in_list n (list vs) = numbers_of_items n vs
+numbers_in_list n _ = []
+
+abbrev pub numbers_of_members : ℕ → Members → List ℕ
+numbers_of_members n no_members = []
+numbers_of_members n (member name v ms) = n ∷ numbers_of_members (n + count v) ms
+
+abbrev pub numbers_in_object : ℕ → Value → List ℕ
+numbers_in_object n (object ms) = numbers_of_members n ms
+numbers_in_object n _ = []
+
+abbrev pub numbers_held : Holding → ℕ → Value → List ℕ
+numbers_held h n v = by_holding [] h (n ∷ []) (numbers_in_list n v) (numbers_in_object n v)
+
+-- a keyword that holds schemas, with their numbers
+abbrev pub Held : Type 0
+Held = KeywordName × List ℕ
+
+-- an entry for a keyword that holds schemas, none for another one
+abbrev pub one_entry : {A : Type 0} → Holding → A → List A
+one_entry h entry = by_holding [] h (entry ∷ []) (entry ∷ []) (entry ∷ [])
+
+abbrev pub held_by_keywords : ℕ → Members → List Held
+held_by_keywords n no_members = []
+held_by_keywords n (member k v ms) = one_entry (holding k) (keyword_name k, numbers_held (holding k) n v) ++ held_by_keywords (n + count_of_keyword k v) ms
+
+-- what the keywords of the place with this number hold
+abbrev pub held_at : ℕ → Value → List Held
+held_at n (object ms) = held_by_keywords (suc n) ms
+held_at n _ = []
+
+-- ---- those of a place and of all below it, in scan order
+
+abbrev mutual
+  pub edges_at : ℕ → Value → List (List Held)
+  edges_at n (object ms) = held_by_keywords (suc n) ms ∷ edges_of_keywords (suc n) ms
+  edges_at n _ = [] ∷ []
+
+  pub edges_of_keywords : ℕ → Members → List (List Held)
+  edges_of_keywords n no_members = []
+  edges_of_keywords n (member k v ms) =
+      by_holding [] (holding k) (edges_at n v) (edges_in_list n v) (edges_in_object n v) ++ edges_of_keywords (n + count_of_keyword k v) ms
+
+  pub edges_in_list : ℕ → Value → List (List Held)
+  edges_in_list n (list vs) = edges_of_items n vs
+  edges_in_list n _ = []
+
+  pub edges_of_items : ℕ → Items → List (List Held)
+  edges_of_items n no_items = []
+  edges_of_items n (item v vs) = edges_at n v ++ edges_of_items (n + count v) vs
+
+  pub edges_in_object : ℕ → Value → List (List Held)
+  edges_in_object n (object ms) = edges_of_members n ms
+  edges_in_object n _ = []
+
+  pub edges_of_members : ℕ → Members → List (List Held)
+  edges_of_members n no_members = []
+  edges_of_members n (member name v ms) = edges_at n v ++ edges_of_members (n + count v) ms
+
+abbrev pub edges_held : Holding → ℕ → Value → List (List Held)
+edges_held h n v = by_holding [] h (edges_at n v) (edges_in_list n v) (edges_in_object n v)
+
+-- of the documents, whose first place has the number n
+abbrev pub edges_from : ℕ → Documents → List (List Held)
+edges_from n [] = []
+edges_from n (d ∷ ds) = edges_at n d.root ++ edges_from (n + count d.root) ds
+
+-- ---- what the code has
+
+abbrev pub held_of : HeldPlaces → Held
+held_of h = (h.keyword, h.places.items)
+
+abbrev pub edges_of : Edges → List Held
+edges_of e = map held_of e.keywords.items

@@ -1,6 +1,15 @@
--- Whether a schema's keyword holds a schema at a step, as a test.
-use Rattle.std.specs.Prelude.{◌<◌, ◌^◌, Bool, ◌&&◌, Option, Some, is_some, option_and_then, slice_get}
+-- Whether a schema's keyword holds a schema at a step, as a test, and which of the numbers that are kept is that place's.
+use Rattle.std.specs.Prelude.{◌≡◌, ℕ, ◌-◌, ◌<◌, ◌≤◌, ◌^◌, List, [], ◌∷◌, length, Bool, true, false, ◌&&◌, Option, Some, is_some, option_and_then, slice_get, if◌then◌else◌}
+use Rattle.std.specs.List.Sorted.{IsPartitionPoint}
+use Rattle.std.specs.Option.{option_map_or}
+use Rattle.std.specs.Ordering.{is_lt}
+use Rattle.js_doc.specs.Members.{name_cmp}
+use Rattle.js_doc.specs.Pointer.{Tokens}
 use Rattle.js_doc.specs.Value.{Value}
+use Rattle.js_bundle.specs.contracts.keyword_name.KeywordNamePartialEq.TheImpl.{ghosts}
+use Rattle.js_bundle.specs.declared.keyword_name.KeywordName.{KeywordName}
+use Rattle.js_bundle.specs.code.Edges.{Held}
+use Rattle.js_bundle.specs.code.Spot.{Spot}
 use Rattle.js_bundle.specs.Keyword.{Text, argument}
 use Rattle.js_bundle.specs.Place.{holding, items_in}
 use Rattle.js_bundle.specs.Schemas.{Step, Alone, Index, Name, fits}
@@ -22,3 +31,29 @@ holds keyword step schema = fits (holding keyword) step && is_some (held_in keyw
 abbrev pub IsSmall : Step → Type 0
 IsSmall (Index i) = i < 2 ^ 64
 IsSmall _ = Unit {0}
+
+-- ---- by number
+
+-- the numbers that a keyword has
+abbrev pub places_of : KeywordName → List Held → List ℕ
+places_of keyword [] = []
+places_of keyword (h ∷ hs) = if ghosts.eq h.0 keyword then h.1 else places_of keyword hs
+
+-- the last token of a pointer comes before a name
+abbrev pub ends_before : Text → Tokens → Bool
+ends_before name tokens = option_map_or (λ t. is_lt (name_cmp t name)) (slice_get tokens (length tokens - 1)) false
+
+-- so does that of the place with this number
+abbrev pub stands_before : List Spot → Text → ℕ → Bool
+stands_before places name n = option_map_or (λ place. ends_before name place.pointer) (slice_get places n) false
+
+-- where the names of the numbers' places ascend, that of the name is the first that doesn't come before it
+abbrev pub IsRankOf : List Spot → Text → List ℕ → ℕ → Type 0
+IsRankOf places name numbers rank =
+    (rank ≤ length numbers) × IsPartitionPoint (λ n. stands_before places name n ≡ true) (λ n. stands_before places name n ≡ false) numbers rank
+
+-- the number has the step's rank among those that the keyword has
+abbrev pub IsNumberAt : List Spot → List ℕ → Step → ℕ → Type 0
+IsNumberAt places numbers Alone n = slice_get numbers 0 ≡ Some n
+IsNumberAt places numbers (Index i) n = slice_get numbers i ≡ Some n
+IsNumberAt places numbers (Name name) n = (rank : ℕ) × (slice_get numbers rank ≡ Some n) × IsRankOf places name numbers rank

@@ -1,5 +1,5 @@
 -- A place without its schema, as finished schemas keep it.
-use Rattle.std.specs.Prelude.{ℕ, List, [], Bool, ◌&&◌, ◌==◌, ◌∷◌, ◌++◌, not, bytes_eq, Option, Some, None, if◌then◌else◌}
+use Rattle.std.specs.Prelude.{ℕ, List, [], Bool, ◌&&◌, ◌∷◌, not, bytes_eq, Option, Some, None, if◌then◌else◌}
 use Rattle.js_doc.specs.Pointer.{Tokens}
 use Rattle.js_doc.specs.Value.{Value, null}
 use Rattle.js_bundle.specs.declared.whole_check.Spot as rust
@@ -8,7 +8,6 @@ use Rattle.js_bundle.specs.Keyword.{Text}
 use Rattle.js_bundle.specs.Location.{location}
 use Rattle.js_bundle.specs.Names.{same_tokens}
 use Rattle.js_bundle.specs.Resource.{Site}
-use Rattle.js_bundle.specs.Schemas.{Step, step_tokens}
 use Rattle.js_bundle.specs.Url.{printed}
 
 pub record Spot : Type 0 where
@@ -31,11 +30,6 @@ site_with schema place = record { document = place.document; pointer = place.poi
 -- its absolute location, whatever stands there
 abbrev pub location_of : Spot → Text
 location_of place = location (site_with null place)
-
--- the place stands at the step through a keyword of another one
-abbrev pub stands_below : Spot → Text → Step → Spot → Bool
-stands_below above keyword step place =
-    place.document == above.document && same_tokens place.pointer (above.pointer ++ keyword ∷ step_tokens step)
 
 -- the document's URI, at its root
 abbrev pub document_uri : Spot → Option Text

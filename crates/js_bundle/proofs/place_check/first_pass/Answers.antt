@@ -6,7 +6,7 @@ use Rattle.js_bundle.specs.Refusals.{at_site, first_pass}
 use Rattle.js_bundle.specs.code.Scan.{site_of}
 use Rattle.js_bundle.proofs.Grouping.{grouped_next}
 use Rattle.js_bundle.proofs.Locating.{located_next, located_whole}
-use Rattle.js_bundle.proofs.Parents.{last_more}
+use Rattle.js_bundle.proofs.LastPlace.{last_more}
 use Rattle.js_bundle.proofs.Passes.{site_next}
 use Rattle.js_bundle.proofs.Stopping.{leads_past, leads_stop}
 use Rattle.js_bundle.proofs.place_check.first_pass.Goals as goal

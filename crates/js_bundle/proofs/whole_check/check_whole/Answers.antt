@@ -8,7 +8,6 @@ use Rattle.js_bundle.specs.Resource.{sites}
 use Rattle.js_bundle.specs.ResourceTable.{AreRooted, IsResourceTable}
 use Rattle.js_bundle.specs.Seen.{document_of}
 use Rattle.js_bundle.specs.code.Column.{IsColumn}
-use Rattle.js_bundle.specs.code.Edges.{LeadDown}
 use Rattle.js_bundle.specs.code.Grouped.{IsGrouped}
 use Rattle.js_bundle.specs.code.Index.{IsIndex}
 use Rattle.js_bundle.specs.code.Located.{IsLocated}
@@ -36,6 +35,11 @@ returns-in_err-found-clause-err c =
 pub returns-in_err-spots_of-clause-err : goal.returns-in_err-spots_of-clause-err
 returns-in_err-spots_of-clause-err c =
     let p = err_from_is_err_and c.from_residual-in_err-spots_of.result c.from_residual-in_err-spots_of.ensures.1 in
+    rw (p.1, p.2) tt
+
+pub returns-in_err-edges-clause-err : goal.returns-in_err-edges-clause-err
+returns-in_err-edges-clause-err c =
+    let p = err_from_is_err_and c.from_residual-in_err-edges.result c.from_residual-in_err-edges.ensures.1 in
     rw (p.1, p.2) tt
 
 pub look_up-requires-clause-located : goal.look_up-requires-clause-located
@@ -135,8 +139,3 @@ returns-clause-resources c =
     lists_all ds (map site_of c.as_slice.result.now) (ap (map site_of) c.as_slice.ensures.value ∙ c.in_ok-sites.ensures) c.in_ok-passed.ensures.clear in
     let second : map site_of c.as_slice-2.result.now ≡ sites ds = ap (map site_of) (c.as_slice-2.ensures.value ∙ sym c.as_slice.ensures.value) ∙ first in
     subst (IsResourceTable c.in_ok-found.found.resources) second c.in_ok-found.ensures.resources
-
-pub returns-clause-edges : goal.returns-clause-edges
-returns-clause-edges c =
-    let edges = c.in_ok-passed.passed.located.edges.items in
-    subst (LeadDown edges) (ap (λ ss. map spot (map site_of ss)) c.as_slice.ensures.value ∙ sym c.in_ok-spots_of.ensures) c.in_ok-passed.ensures.located.edges
