@@ -1,6 +1,7 @@
 """Hostile inputs: endless, doubled, deep, torn, twisted and large ones, each with what it must answer."""
 import json
 from dataclasses import dataclass, field
+from itertools import product
 
 from jschema import answer
 
@@ -123,6 +124,19 @@ def widest_text(format_, count=999_998):
         yield b"\n"
 
 
+def named_alike(pairs):
+    """The names of so many pairs of letters that each sum by powers of 31 is the same for all."""
+    return ["".join(it) for it in product(("Aa", "BB"), repeat=pairs)]
+
+
+def titled_text(names):
+    """The merged text of a title for each member of an object: siblings of which none are alike."""
+    place = "/additionalProperties"
+    titles = [(f"{place}/title", f"{place}/title", f"/{it}", '"a"', no_children) for it in names]
+    yield from pieces(("", "", "", "", lambda: [(place, place, "", compact(names), lambda: titles)]))
+    yield b"\n"
+
+
 def doubled_text(k, format_):
     """The text of `doubling`: nothing has a note, so all but verbose show the root alone."""
 
@@ -236,6 +250,7 @@ def large():
     """Long names, many members, many keywords, wide and deep bundles, many and large patterns."""
     yield from bundles()
     yield from patterns()
+    yield from siblings()
     name = "n" * 1_000_000
     schema, instance = compact({"properties": {name: {"minimum": 3}}}), compact({name: 2})
     for it in FORMATS:
@@ -260,6 +275,15 @@ def large():
     yield valid("300,000 required names", required, compact({it: 0 for it in names}))
     yield error("300,000 required names but one", required, compact({it: 0 for it in names[1:]}),
                 "required", 'missing: ["n0"]')
+
+
+def siblings():
+    """Merging siblings of which none are alike: most of their texts are, and sums of their bytes."""
+    schema = '{"additionalProperties":{"title":"a"}}'
+    for pairs in (14, 17):
+        names = named_alike(pairs)
+        yield check(f"merging {len(names):,} members whose names have one sum", schema, compact({it: 0 for it in names}),
+                    "merged", out=lambda names=names: titled_text(names))
 
 
 def bundles():

@@ -65,7 +65,7 @@ module _ {A : Type 0} (same : A → A → Bool) (e : IsEquivalence same) where
   firsts_last empty c last = refl
   firsts_last (tree a below after) c last = firsts_last_at (alike_trees same a below c last) a below after c last refl (firsts_last after c last)
 
-  firsts_through : (ts : List (Rose A)) (i : ℕ) (d : Rose A) → i < length ts
+  pub firsts_through : (ts : List (Rose A)) (i : ℕ) (d : Rose A) → i < length ts
       → firsts same (forest_of (take (i + 1) ts)) ≡ with_last (has_alike same (firsts same (forest_of (take i ts))) (get_or ts i d).root (get_or ts i d).below) (firsts same (forest_of (take i ts))) (get_or ts i d).root (get_or ts i d).below
   firsts_through ts i d h =
       rw (add-one, take-suc ts i d h, forest_of-append (take i ts) (get_or ts i d ∷ [])) (firsts_last (forest_of (take i ts)) (get_or ts i d).root (get_or ts i d).below)

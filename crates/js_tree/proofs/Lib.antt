@@ -25,5 +25,6 @@ pub mod Siblings
 pub mod Steps
 pub mod Telling
 pub mod VerdictTold
-pub mod Listed
-pub mod Blocks
+pub mod Differing
+pub mod Ordered
+pub mod Places

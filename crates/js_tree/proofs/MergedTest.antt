@@ -8,7 +8,7 @@ use Rattle.js_tree.specs.Merged.{has_alike, none_alike, all_merged, MergeStep, c
 use Rattle.js_tree.proofs.Forests.{forest_of-append}
 use Rattle.js_tree.proofs.Steps.{and_left, and_right, normal-all_stand, all_stand-normal}
 
-not_true : (v : Bool) → v ≡ true → not v ≡ true → ⊥
+pub not_true : (v : Bool) → v ≡ true → not v ≡ true → ⊥
 not_true true h k = cc
 not_true false h k = cc
 

@@ -65,7 +65,7 @@ module _ {A : Type 0} (same : A → A → Bool) where
   found_past_at true f g a x h i = refl
   found_past_at false f g a x h i = i h
 
-  found_past : (f g : Forest A) (a : A) (x : Forest A) → has_alike same f a x ≡ true → has_alike same (f ⊹ g) a x ≡ true
+  pub found_past : (f g : Forest A) (a : A) (x : Forest A) → has_alike same f a x ≡ true → has_alike same (f ⊹ g) a x ≡ true
   found_past empty g a x h = absurd cc
   found_past (tree b under others) g a x h = found_past_at (alike_trees same b under a x) others g a x h (found_past others g a x)
 
@@ -126,11 +126,11 @@ module _ {A : Type 0} (same : A → A → Bool) (e : IsEquivalence same) where
   found_alike_at : (a : A) (x : Forest A) (c : A) (y : Forest A) (b : A) (under : Forest A) → alike_trees same a x c y ≡ true → alike_trees same b under a x ≡ alike_trees same b under c y
   found_alike_at a x c y b under h = alike_trees-symm same e b under a x ∙ alike_trees-congr same e a x c y b under h ∙ alike_trees-symm same e c y b under
 
-  found_alike : (f : Forest A) (a : A) (x : Forest A) (c : A) (y : Forest A) → alike_trees same a x c y ≡ true → has_alike same f a x ≡ has_alike same f c y
+  pub found_alike : (f : Forest A) (a : A) (x : Forest A) (c : A) (y : Forest A) → alike_trees same a x c y ≡ true → has_alike same f a x ≡ has_alike same f c y
   found_alike empty a x c y h = refl
   found_alike (tree b under others) a x c y h = λ i. found_alike_at a x c y b under h i || found_alike others a x c y h i
 
-  found_last : (f : Forest A) (a : A) (x : Forest A) → has_alike same (f ⊹ tree a x empty) a x ≡ true
+  pub found_last : (f : Forest A) (a : A) (x : Forest A) → has_alike same (f ⊹ tree a x empty) a x ≡ true
   found_last empty a x = rw (alike_trees-refl same e a x) refl
   found_last (tree b under others) a x = or-true (alike_trees same b under a x) (has_alike same (others ⊹ tree a x empty) a x) (found_last others a x)
 

@@ -1,7 +1,7 @@
 -- What only private functions speak of: no public clause cites it.
 pub mod Compacting
-pub mod Fingerprint
 pub mod Nesting
 pub mod NodeText
+pub mod Order
 pub mod Put
 pub mod Search

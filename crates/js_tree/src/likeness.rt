@@ -1,5 +1,5 @@
 //! Which trees are alike: equal once every keyword location is ignored.
-ghost use Rattle.std.specs.Prelude.{◌≡◌, ◌≤◌, ◌<◌, length, take, get_or};
+ghost use Rattle.std.specs.Prelude.{◌≡◌, ◌≤◌, ◌<◌, IsTrue, true, length, take, get_or};
 ghost use Rattle.js_tree.specs.Alike.{same_but_keyword, same_note};
 ghost use Rattle.js_tree.specs.Forest.{forest_of};
 ghost use Rattle.js_tree.specs.Merged.{alike, alike_trees, has_alike};
@@ -100,4 +100,14 @@ pub(crate) fn comes_again(trees: &[Tree], count: usize, index: usize) -> bool
     ensures { (d : ResultTree) → result ≡ has_alike same_but_keyword (forest_of (take count trees.now)) (get_or trees.now index d).root (get_or trees.now index d).below }
 {
     has_alike(&trees[..count], &trees[index])
+}
+
+/// The tree at the index is alike to the one that its mark names, of so many first ones as `count` says.
+pub(crate) fn comes_again_at_mark(trees: &[Tree], count: usize, index: usize) -> bool
+    requires { (count ≤ index) × (index < length trees.now) }
+    ensures { (d : ResultTree) → IsTrue result → has_alike same_but_keyword (forest_of (take count trees.now)) (get_or trees.now index d).root (get_or trees.now index d).below ≡ true }
+{
+    let tree = &trees[index];
+    let place = tree.mark();
+    place < count && are_alike(&trees[place], tree)
 }

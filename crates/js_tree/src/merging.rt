@@ -1,23 +1,19 @@
 //! Condensing with a third rule: a node goes where an earlier sibling is alike.
-ghost use Rattle.std.specs.Prelude.{◌≡◌, ◌≤◌, ◌↔◌, ◌&&◌, IsTrue, ◌<◌, if◌then◌else◌, ◌+◌, [], length, take, drop};
+ghost use Rattle.std.specs.Prelude.{◌≡◌, ◌≤◌, ◌↔◌, ◌&&◌, IsTrue, if◌then◌else◌, length, take};
 ghost use Rattle.js_tree.specs.Alike.{same_but_keyword};
-ghost use Rattle.js_tree.specs.code.Fingerprint.{AreListed};
-ghost use Rattle.js_tree.specs.Forest.{◌⊹◌, empty, tree as node, forest_of};
-ghost use Rattle.js_tree.specs.Merged.{all_merged, firsts, given_trees, merged_below, none_alike, none_found, others};
+ghost use Rattle.js_tree.specs.Forest.{empty, tree as node, forest_of};
+ghost use Rattle.js_tree.specs.Merged.{all_merged, firsts, given_trees, merged_below, none_alike};
 ghost use Rattle.js_tree.specs.MergedResult.{merged, NormalOfThree, RunOfThree};
 ghost use Rattle.js_tree.specs.OutputUnit.{noted};
 ghost use Rattle.js_tree.specs.Result.{units};
 ghost use Rattle.js_tree.specs.Sublist.{Sublist, none_lost};
 
-use crate::likeness::comes_again;
-use crate::listing::{is_listed, list};
+use crate::likeness::{comes_again, comes_again_at_mark};
+use crate::sorting::{are_shown_to_differ, differ_by_list, list_in_order, mark_alike};
 use crate::tree::{Tree, Trees};
 
-/// From so many siblings on they are listed by their fingerprints, on the stack.
-const MANY: usize = 512;
-
-/// So many trees are listed at once.
-const BLOCK: usize = 4_096;
+/// From so many siblings on they are listed in order.
+const MANY: usize = 32;
 
 /// The one tree in which every run of the three rules ends that can't be continued. Takes no memory.
 ///
@@ -44,8 +40,7 @@ fn merge_children(children: &mut Trees)
     let trees = &mut children.trees;
     let given = merge_all(trees);
     trees.truncate(given);
-    let count = keep_firsts(trees);
-    trees.truncate(count);
+    keep_firsts(trees);
 }
 
 /// Merges below each tree, moves what is left to the front, and answers how many trees that are.
@@ -84,18 +79,60 @@ fn merge_one(tree: &mut Tree) -> bool
     }
 }
 
-/// Moves the trees that aren't alike to an earlier one to the front, in their order, and answers how many they are.
-fn keep_firsts(trees: &mut [Tree]) -> usize
-    ensures at_most { result ≤ length trees.old }
-    ensures firsts { forest_of (take result trees.new) ≡ firsts same_but_keyword (forest_of trees.old) }
+/// Takes away each tree that is alike to an earlier one.
+fn keep_firsts(trees: &mut Vec<Tree>)
+    ensures { forest_of trees.new.items ≡ firsts same_but_keyword (forest_of trees.old.items) }
 {
     if trees.len() < MANY {
-        return keep_firsts_of_few(trees);
+        keep_few(trees);
+        return;
     }
-    let (first, left) = keep_block(trees);
-    first + keep_firsts(&mut trees[first..left])
+    if keep_firsts_by_list(trees) {
+        return;
+    }
+    keep_few(trees);
 }
 
+fn keep_few(trees: &mut Vec<Tree>)
+    ensures { forest_of trees.new.items ≡ firsts same_but_keyword (forest_of trees.old.items) }
+{
+    let count = keep_firsts_of_few(trees);
+    trees.truncate(count);
+}
+
+/// Takes away trees that are alike to an earlier one. Answers whether all of them are gone for sure.
+fn keep_firsts_by_list(trees: &mut Vec<Tree>) -> bool
+    ensures left { firsts same_but_keyword (forest_of trees.new.items) ≡ firsts same_but_keyword (forest_of trees.old.items) }
+    ensures gone { IsTrue result → firsts same_but_keyword (forest_of trees.new.items) ≡ forest_of trees.new.items }
+{
+    let first = list_in_order(trees, 0, trees.len());
+    if are_shown_to_differ(trees, first) {
+        return true;
+    }
+    mark_alike(trees, first);
+    let count = drop_marked(trees);
+    trees.truncate(count);
+    let first = list_in_order(trees, 0, trees.len());
+    are_shown_to_differ(trees, first)
+}
+
+/// Moves to the front, in their order, the trees that aren't alike to the one that their mark names among these. Answers how
+/// many they are.
+fn drop_marked(trees: &mut [Tree]) -> usize
+    ensures at_most { result ≤ length trees.old }
+    ensures left { firsts same_but_keyword (forest_of (take result trees.new)) ≡ firsts same_but_keyword (forest_of trees.old) }
+{
+    let mut count = 0;
+    for i in 0..trees.len() {
+        if !comes_again_at_mark(trees, count, i) {
+            trees.swap(count, i);
+            count += 1;
+        }
+    }
+    count
+}
+
+/// Moves the trees that aren't alike to an earlier one to the front, in their order, and answers how many they are.
 fn keep_firsts_of_few(trees: &mut [Tree]) -> usize
     ensures at_most { result ≤ length trees.old }
     ensures firsts { forest_of (take result trees.new) ≡ firsts same_but_keyword (forest_of trees.old) }
@@ -103,81 +140,6 @@ fn keep_firsts_of_few(trees: &mut [Tree]) -> usize
     let mut count = 0;
     for i in 0..trees.len() {
         if !comes_again(trees, count, i) {
-            trees.swap(count, i);
-            count += 1;
-        }
-    }
-    count
-}
-
-/// Moves to the front what is left of the first trees, as many as the lists have room for, and behind it what isn't
-/// alike to that. Answers where each of the two ends.
-// Never inlined: else the lists stand on the stack once for each level.
-#[inline(never)]
-fn keep_block(trees: &mut [Tree]) -> (usize, usize)
-    ensures at_most { (result.0 ≤ result.1) × (result.1 ≤ length trees.old) }
-    ensures fewer { 0 < length trees.old → result.1 < result.0 + length trees.old }
-    ensures firsts { firsts same_but_keyword (forest_of trees.old) ≡ (forest_of (take result.0 trees.new) ⊹ firsts same_but_keyword (forest_of (drop result.0 (take result.1 trees.new)))) }
-{
-    let mut heads = [0; BLOCK];
-    let mut links = [0; BLOCK];
-    keep_block_by(trees, &mut heads, &mut links)
-}
-
-fn keep_block_by(trees: &mut [Tree], heads: &mut [usize], links: &mut [usize]) -> (usize, usize)
-    requires room { (0 < length heads.old) × (0 < length links.old) }
-    requires listed { AreListed heads.old links.old [] }
-    ensures at_most { (result.0 ≤ result.1) × (result.1 ≤ length trees.old) }
-    ensures fewer { 0 < length trees.old → result.1 < result.0 + length trees.old }
-    ensures firsts { firsts same_but_keyword (forest_of trees.old) ≡ (forest_of (take result.0 trees.new) ⊹ firsts same_but_keyword (forest_of (drop result.0 (take result.1 trees.new)))) }
-{
-    let looked = trees.len().min(links.len());
-    let first = list_firsts(trees, looked, heads, links);
-    let left = keep_unlisted(trees, first, looked, heads, links);
-    (first, left)
-}
-
-/// Of the first trees, so many as `looked` says, lists those that aren't alike to an earlier one and moves them to the
-/// front. Answers how many they are.
-fn list_firsts(trees: &mut [Tree], looked: usize, heads: &mut [usize], links: &mut [usize]) -> usize
-    requires room { (looked ≤ length trees.old) × ((looked ≤ length links.old) × (0 < length heads.old)) }
-    requires listed { AreListed heads.old links.old [] }
-    ensures at_most { result ≤ looked }
-    ensures firsts { forest_of (take result trees.new) ≡ firsts same_but_keyword (forest_of (take looked trees.old)) }
-    ensures rest { drop looked trees.new ≡ drop looked trees.old }
-    ensures listed { AreListed heads.new links.new (take result trees.new) }
-    ensures room { (length trees.new ≡ length trees.old) × ((length links.new ≡ length links.old) × (length heads.new ≡ length heads.old)) }
-{
-    let mut count = 0;
-    for i in 0..looked {
-        if !is_listed(trees, count, i, heads, links) {
-            list(trees, count, i, heads, links);
-            trees.swap(count, i);
-            count += 1;
-        }
-    }
-    count
-}
-
-/// Behind the first trees, which are listed, moves those from `looked` on that are alike to none of them, and answers
-/// where they end.
-fn keep_unlisted(
-    trees: &mut [Tree],
-    first: usize,
-    looked: usize,
-    heads: &[usize],
-    links: &[usize],
-) -> usize
-    requires place { (first ≤ looked) × (looked ≤ length trees.old) }
-    requires room { (first ≤ length links.now) × (0 < length heads.now) }
-    requires listed { AreListed heads.now links.now (take first trees.old) }
-    ensures at_most { (first ≤ result) × (result + looked ≤ length trees.old + first) }
-    ensures first { take first trees.new ≡ take first trees.old }
-    ensures rest { forest_of (drop first (take result trees.new)) ≡ others same_but_keyword (forest_of (take first trees.old)) (forest_of (drop looked trees.old)) }
-{
-    let mut count = first;
-    for i in looked..trees.len() {
-        if !is_listed(trees, first, i, heads, links) {
             trees.swap(count, i);
             count += 1;
         }
@@ -223,8 +185,11 @@ fn siblings_differ(trees: &[Tree]) -> bool
     if trees.len() < MANY {
         return few_differ(trees);
     }
-    let looked = trees.len().min(BLOCK);
-    block_differs(trees, looked) && siblings_differ(&trees[looked..])
+    let first = list_in_order(trees, 0, trees.len());
+    match differ_by_list(trees, first) {
+        Some(differ) => differ,
+        None => few_differ(trees),
+    }
 }
 
 fn few_differ(trees: &[Tree]) -> bool
@@ -232,60 +197,6 @@ fn few_differ(trees: &[Tree]) -> bool
 {
     for i in 0..trees.len() {
         if comes_again(trees, i, i) {
-            return false;
-        }
-    }
-    true
-}
-
-/// None of the first trees is alike to an earlier one, and none of the others to one of them.
-// Never inlined: else the lists stand on the stack once for each level.
-#[inline(never)]
-fn block_differs(trees: &[Tree], looked: usize) -> bool
-    requires { (looked ≤ length trees.now) × (looked ≤ 4096) }
-    ensures { none_alike same_but_keyword empty (forest_of trees.now) ≡ (result && none_alike same_but_keyword empty (forest_of (drop looked trees.now))) }
-{
-    let mut heads = [0; BLOCK];
-    let mut links = [0; BLOCK];
-    block_differs_by(trees, looked, &mut heads, &mut links)
-}
-
-fn block_differs_by(trees: &[Tree], looked: usize, heads: &mut [usize], links: &mut [usize]) -> bool
-    requires place { looked ≤ length trees.now }
-    requires room { (looked ≤ length links.old) × (0 < length heads.old) }
-    requires listed { AreListed heads.old links.old [] }
-    ensures { none_alike same_but_keyword empty (forest_of trees.now) ≡ (result && none_alike same_but_keyword empty (forest_of (drop looked trees.now))) }
-{
-    listed_differ(trees, looked, heads, links) && none_listed(trees, looked, heads, links)
-}
-
-/// None of the first trees, so many as `looked` says, is alike to an earlier one. Lists them.
-fn listed_differ(trees: &[Tree], looked: usize, heads: &mut [usize], links: &mut [usize]) -> bool
-    requires place { looked ≤ length trees.now }
-    requires room { (looked ≤ length links.old) × (0 < length heads.old) }
-    requires listed { AreListed heads.old links.old [] }
-    ensures differ { result ≡ none_alike same_but_keyword empty (forest_of (take looked trees.now)) }
-    ensures listed { IsTrue result → AreListed heads.new links.new (take looked trees.now) }
-    ensures room { (length links.new ≡ length links.old) × (length heads.new ≡ length heads.old) }
-{
-    for i in 0..looked {
-        if is_listed(trees, i, i, heads, links) {
-            return false;
-        }
-        list(trees, i, i, heads, links);
-    }
-    true
-}
-
-/// None of the trees from `looked` on is alike to one of those before, which are listed.
-fn none_listed(trees: &[Tree], looked: usize, heads: &[usize], links: &[usize]) -> bool
-    requires place { looked ≤ length trees.now }
-    requires room { (looked ≤ length links.now) × (0 < length heads.now) }
-    requires listed { AreListed heads.now links.now (take looked trees.now) }
-    ensures { result ≡ none_found same_but_keyword (forest_of (take looked trees.now)) (forest_of (drop looked trees.now)) }
-{
-    for i in looked..trees.len() {
-        if is_listed(trees, looked, i, heads, links) {
             return false;
         }
     }

@@ -4,6 +4,7 @@ ghost use Rattle.js_tree.specs.OutputUnit.{noted};
 ghost use Rattle.js_tree.specs.Step.{stands};
 
 use crate::unit::Unit;
+use std::cell::Cell;
 use std::marker::Model;
 
 /// A node of a result tree with all that stands below it (Core, section 12.4.4). Contracts see a rose tree of units:
@@ -22,6 +23,8 @@ pub struct Tree<'a> {
 #[derive(Debug, Drop)]
 pub struct Trees<'a> {
     pub(crate) trees: Vec<Tree<'a>>,
+    /// For the tree that these stand below, the place of another of its siblings. Merging notes it; no contract sees it.
+    mark: Cell<usize>,
 }
 
 impl<'a> Model for Tree<'a> {
@@ -67,7 +70,10 @@ impl<'a> Trees<'a> {
     pub fn new(trees: Vec<Tree<'a>>) -> Trees<'a>
         ensures { result ≡ trees.entry.items }
     {
-        Trees { trees }
+        Trees {
+            trees,
+            mark: Cell::new(0),
+        }
     }
 
     /// The trees, in their order.
@@ -112,5 +118,14 @@ impl<'a> Tree<'a> {
         ensures { result ≡ stands noted self.now.root self.now.below }
     {
         self.unit.is_noted() || self.children.len() >= 2
+    }
+    /// The place that was noted last.
+    pub(crate) fn mark(&self) -> usize {
+        self.children.mark.get()
+    }
+
+    /// Notes the place of a sibling.
+    pub(crate) fn set_mark(&self, place: usize) {
+        self.children.mark.set(place);
     }
 }

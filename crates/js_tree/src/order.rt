@@ -1,0 +1,109 @@
+//! An order of trees. Alike trees are those that it doesn't tell apart, since keyword locations don't count.
+ghost use Rattle.std.specs.Prelude.{◌≡◌};
+ghost use Rattle.js_tree.specs.Forest.{forest_of};
+ghost use Rattle.js_tree.specs.Seen.{note_of};
+ghost use Rattle.js_tree.specs.code.Order.{kind, note_order, unit_order, tree_order, forest_order};
+
+use crate::note::Note;
+use crate::tree::Tree;
+use crate::unit::Unit;
+use std::cmp::Ordering;
+
+impl<'a> Note<'a> {
+    /// Where its kind stands among the kinds.
+    fn kind(&self) -> u8
+        ensures { result ≡ kind (note_of self.now) }
+    {
+        match self {
+            Note::Silent => 0,
+            Note::Error(_) => 1,
+            Note::Value(_) => 2,
+            Note::Names(_) => 3,
+            Note::Index(_) => 4,
+            Note::Indexes(_) => 5,
+            Note::Truth => 6,
+        }
+    }
+
+    /// Kind by kind, and of one kind by what they say. Values aren't told apart: at one place of a schema there is one.
+    fn compare(&self, other: &Note) -> Ordering
+        ensures { result ≡ note_order (note_of self.now) (note_of other.now) }
+    {
+        match self {
+            Note::Error(a) => if let Note::Error(b) = other {
+                a.as_str().cmp(b.as_str())
+            } else {
+                self.kind().cmp(&other.kind())
+            },
+            Note::Names(a) => if let Note::Names(b) = other {
+                a.as_slice().cmp(b.as_slice())
+            } else {
+                self.kind().cmp(&other.kind())
+            },
+            Note::Index(a) => if let Note::Index(b) = other {
+                a.cmp(b)
+            } else {
+                self.kind().cmp(&other.kind())
+            },
+            Note::Indexes(a) => if let Note::Indexes(b) = other {
+                a.as_slice().cmp(b.as_slice())
+            } else {
+                self.kind().cmp(&other.kind())
+            },
+            _ => self.kind().cmp(&other.kind()),
+        }
+    }
+}
+
+impl<'a> Unit<'a> {
+    fn compare(&self, other: &Unit) -> Ordering
+        ensures { result ≡ unit_order self.now other.now }
+    {
+        let verdicts = self.valid.cmp(&other.valid);
+        if verdicts.is_ne() {
+            return verdicts;
+        }
+        let instances = self.instance.as_str().cmp(other.instance.as_str());
+        if instances.is_ne() {
+            return instances;
+        }
+        let places = self.absolute.as_str().cmp(other.absolute.as_str());
+        if places.is_ne() {
+            return places;
+        }
+        self.note.compare(&other.note)
+    }
+}
+
+/// Roots first, and then the trees below them, one by one. The first node that differs ends the search.
+#[cycle(compare)]
+pub(crate) fn compare(a: &Tree, b: &Tree) -> Ordering
+    ensures { result ≡ tree_order a.now b.now }
+{
+    let roots = a.unit.compare(&b.unit);
+    if roots.is_ne() {
+        return roots;
+    }
+    compare_all(a.children.as_slice(), b.children.as_slice())
+}
+
+#[cycle(compare)]
+fn compare_all(a: &[Tree], b: &[Tree]) -> Ordering
+    ensures { result ≡ forest_order (forest_of a.now) (forest_of b.now) }
+{
+    let mut others = b.iter();
+    for tree in a {
+        let Some(other) = others.next() else {
+            return Ordering::Greater;
+        };
+        let order = compare(tree, other);
+        if order.is_ne() {
+            return order;
+        }
+    }
+    if others.next().is_some() {
+        Ordering::Less
+    } else {
+        Ordering::Equal
+    }
+}
