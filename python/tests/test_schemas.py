@@ -251,8 +251,11 @@ class Libraries(unittest.TestCase):
                 jschema.LibraryEngine()
 
 
-@unittest.skipUnless(find_library(), "no library")
 class InTheLibrary(unittest.TestCase):
+    def setUp(self):
+        if find_library() is None:
+            self.skipTest("no library")
+
     def test_surrogates(self):
         with self.assertRaisesRegex(jschema.EngineError, "a URI with a lone surrogate"):
             jschema.Schemas({"a:\ud800": "true"}, engine=jschema.LibraryEngine())
