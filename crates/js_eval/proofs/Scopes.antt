@@ -1,8 +1,8 @@
 -- The numbers of a path's resources, of equal neighbours one.
 use Rattle.std.proofs.Common.{◌≡◌, ℕ, suc, ◌-◌, Bool, false, cond, List, [], ◌∷◌, ◌++◌, length, map, get_or, nat_eq, slice_get, Option, Some, option_to_list, option_and_then, unwrap_or, true, take, arith, refl, sym, ap, ◌∙◌}
 use Rattle.std.proofs.lemmas.Bool.{and_parts, eqb-true}
-use Rattle.std.proofs.lemmas.List.{append-nil, length-append}
-use Rattle.std.proofs.Math.Seq.{take-append_seam}
+use Rattle.std.proofs.lemmas.List.{append-nil}
+use Rattle.std.proofs.Math.Seq.{take-append_seam, take-length}
 use Rattle.std.proofs.lemmas.Option.{slice_get-get_or}
 use borrow.Author.Tests.{ltb-true}
 use Rattle.std.specs.List.{dedup, dedup_from, flat_map, list_all}
@@ -13,7 +13,7 @@ use Rattle.js_bundle.specs.ResourceNumber.{resource_number, dynamic_target_in, N
 use Rattle.js_bundle.specs.Schemas.{is_place, place_at, path_at}
 use Rattle.js_bundle.specs.Target.{dynamic_target}
 use Rattle.js_eval.specs.Sited.{nowhere, resource_of}
-use Rattle.js_eval.specs.Walk.Scope.{ends_with}
+use Rattle.js_eval.specs.Walk.Scope.{HasGrown, ends_with}
 
 pub last_is : (xs : List ℕ) (n : ℕ) → option_map_or (λ m. nat_eq n m) (slice_get xs (length xs - 1)) false ≡ ends_with xs n
 last_is [] n = refl
@@ -44,38 +44,47 @@ pub dedup_last : (xs : List ℕ) (n : ℕ) → dedup nat_eq (xs ++ n ∷ []) ≡
 dedup_last [] n = refl
 dedup_last (x ∷ xs) n = from_last x xs n
 
--- one number more, or one less
-pub stays_apart : (apart each each' from : List ℕ) (n : ℕ) (b : Bool) → apart ≡ dedup nat_eq each → each' ≡ each ++ n ∷ [] → from ≡ each → b ≡ ends_with from n → b ≡ true
-    → apart ≡ dedup nat_eq each'
-stays_apart apart each each' from n b i e f g h =
-    let t : ends_with each n ≡ true = ap (λ (xs : List ℕ). ends_with xs n) (sym f) ∙ (sym g ∙ h) in
-    let d : dedup nat_eq (each ++ n ∷ []) ≡ dedup nat_eq each = dedup_last each n ∙ (ap (λ (x : Bool). dedup nat_eq each ++ cond x [] (n ∷ [])) t ∙ append-nil (dedup nat_eq each)) in
-    i ∙ (sym d ∙ ap (dedup nat_eq) (sym e))
+-- of equal neighbours one: the last stays the last
+later : (k x : ℕ) (xs : List ℕ) (n : ℕ) → ends_with (k ∷ dedup_from nat_eq x xs) n ≡ ends_with (dedup_from nat_eq x xs) n
+later k x [] n = refl
+later k x (y ∷ ys) n = later_by (nat_eq y x) k x y ys n (later k x ys n)
+  where
+    later_by : (b : Bool) (k x y : ℕ) (ys : List ℕ) (n : ℕ) → ends_with (k ∷ dedup_from nat_eq x ys) n ≡ ends_with (dedup_from nat_eq x ys) n
+        → ends_with (k ∷ cond b (dedup_from nat_eq x ys) (x ∷ dedup_from nat_eq y ys)) n ≡ ends_with (cond b (dedup_from nat_eq x ys) (x ∷ dedup_from nat_eq y ys)) n
+    later_by true k x y ys n h = h
+    later_by false k x y ys n h = refl
 
-pub grows_apart : (apart apart' each each' from : List ℕ) (n : ℕ) (b : Bool) → apart ≡ dedup nat_eq each → each' ≡ each ++ n ∷ [] → from ≡ each → b ≡ ends_with from n → b ≡ false
-    → apart' ≡ apart ++ n ∷ [] → apart' ≡ dedup nat_eq each'
-grows_apart apart apart' each each' from n b i e f g h a =
-    let t : ends_with each n ≡ false = ap (λ (xs : List ℕ). ends_with xs n) (sym f) ∙ (sym g ∙ h) in
-    let d : dedup nat_eq (each ++ n ∷ []) ≡ dedup nat_eq each ++ n ∷ [] = dedup_last each n ∙ ap (λ (x : Bool). dedup nat_eq each ++ cond x [] (n ∷ [])) t in
-    a ∙ (ap (λ (xs : List ℕ). xs ++ n ∷ []) i ∙ (sym d ∙ ap (dedup nat_eq) (sym e)))
+same_last : (b : Bool) (k x : ℕ) (xs : List ℕ) (n : ℕ) → nat_eq x k ≡ b
+    → ends_with (dedup_from nat_eq k xs) n ≡ ends_with (k ∷ xs) n → ends_with (dedup_from nat_eq x xs) n ≡ ends_with (x ∷ xs) n
+    → ends_with (cond b (dedup_from nat_eq k xs) (k ∷ dedup_from nat_eq x xs)) n ≡ ends_with (x ∷ xs) n
+same_last true k x xs n e h i = h ∙ ap (λ (m : ℕ). ends_with (m ∷ xs) n) (sym (eqb-true x k e))
+same_last false k x xs n e h i = later k x xs n ∙ i
 
-all_but_last : (xs : List ℕ) (n : ℕ) → take (length (xs ++ n ∷ []) - 1) (xs ++ n ∷ []) ≡ xs
-all_but_last xs n =
-    let e : length (xs ++ n ∷ []) - 1 ≡ length xs = let l = length-append xs (n ∷ []) in omega (arith, l) in
-    ap (λ (i : ℕ). take i (xs ++ n ∷ [])) e ∙ take-append_seam xs (n ∷ [])
+ends_from : (k : ℕ) (xs : List ℕ) (n : ℕ) → ends_with (dedup_from nat_eq k xs) n ≡ ends_with (k ∷ xs) n
+ends_from k [] n = refl
+ends_from k (x ∷ xs) n = same_last (nat_eq x k) k x xs n refl (ends_from k xs n) (ends_from x xs n)
 
-pub stays_less : (apart each each' from : List ℕ) (n : ℕ) (b : Bool) → apart ≡ dedup nat_eq each → each ≡ each' ++ n ∷ [] → from ≡ each' → b ≡ ends_with from n → b ≡ true
-    → apart ≡ dedup nat_eq each'
-stays_less apart each each' from n b i e f g h =
-    let t : ends_with each' n ≡ true = ap (λ (xs : List ℕ). ends_with xs n) (sym f) ∙ (sym g ∙ h) in
-    i ∙ (ap (dedup nat_eq) e ∙ (dedup_last each' n ∙ (ap (λ (x : Bool). dedup nat_eq each' ++ cond x [] (n ∷ [])) t ∙ append-nil (dedup nat_eq each'))))
+ends_alike : (xs : List ℕ) (n : ℕ) → ends_with (dedup nat_eq xs) n ≡ ends_with xs n
+ends_alike [] n = refl
+ends_alike (x ∷ xs) n = ends_from x xs n
 
-pub falls_apart : (apart apart' each each' from : List ℕ) (n m : ℕ) (b : Bool) → apart ≡ dedup nat_eq each → each ≡ each' ++ n ∷ [] → from ≡ each' → b ≡ ends_with from n → b ≡ false
-    → m ≡ length apart → apart' ≡ take (m - 1) apart → apart' ≡ dedup nat_eq each'
-falls_apart apart apart' each each' from n m b i e f g h l a =
-    let t : ends_with each' n ≡ false = ap (λ (xs : List ℕ). ends_with xs n) (sym f) ∙ (sym g ∙ h) in
-    let d : apart ≡ dedup nat_eq each' ++ n ∷ [] = i ∙ (ap (dedup nat_eq) e ∙ (dedup_last each' n ∙ ap (λ (x : Bool). dedup nat_eq each' ++ cond x [] (n ∷ [])) t)) in
-    a ∙ (ap (λ (k : ℕ). take (k - 1) apart) l ∙ (ap (λ (xs : List ℕ). take (length xs - 1) xs) d ∙ all_but_last (dedup nat_eq each') n))
+more : (xs : List ℕ) (n : ℕ) (b : Bool) → ends_with (dedup nat_eq xs) n ≡ b → dedup nat_eq (xs ++ n ∷ []) ≡ dedup nat_eq xs ++ cond b [] (n ∷ [])
+more xs n b e = dedup_last xs n ∙ ap (λ (x : Bool). dedup nat_eq xs ++ cond x [] (n ∷ [])) (sym (ends_alike xs n) ∙ e)
+
+-- a place more of the resource that the path ends in, and of another one
+pub stays : (numbers from : List ℕ) (n : ℕ) (b : Bool) → from ≡ numbers → b ≡ ends_with from n → b ≡ true → HasGrown numbers n numbers
+stays numbers from n b f g h = record {
+  scope = λ each e. let t : ends_with (dedup nat_eq each) n ≡ true = ap (λ (xs : List ℕ). ends_with xs n) (sym e ∙ sym f) ∙ (sym g ∙ h) in
+      e ∙ (sym (append-nil (dedup nat_eq each)) ∙ sym (more each n true t));
+  kept = take-length numbers;
+}
+
+pub grows : (numbers numbers' from : List ℕ) (n : ℕ) (b : Bool) → from ≡ numbers → b ≡ ends_with from n → b ≡ false → numbers' ≡ numbers ++ n ∷ [] → HasGrown numbers n numbers'
+grows numbers numbers' from n b f g h a = record {
+  scope = λ each e. let t : ends_with (dedup nat_eq each) n ≡ false = ap (λ (xs : List ℕ). ends_with xs n) (sym e ∙ sym f) ∙ (sym g ∙ h) in
+      a ∙ (ap (λ (xs : List ℕ). xs ++ n ∷ []) e ∙ sym (more each n false t));
+  kept = ap (take (length numbers)) a ∙ take-append_seam numbers (n ∷ []);
+}
 
 -- ---- the numbers of the resources of a path
 

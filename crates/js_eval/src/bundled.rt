@@ -14,6 +14,7 @@ ghost use Rattle.js_eval.specs.code.Standing.{StandsAt};
 ghost use Rattle.js_eval.specs.Seen.{step_of};
 ghost use Rattle.js_eval.specs.Sited.{numbered_site, resource_of};
 
+use crate::walking::Path;
 use js_bundle::laws::{a_number_tells_a_resource, numbers_tell_the_dynamic_scope};
 use js_bundle::{KeywordName, Place, Schemas, Step};
 use js_doc::Doc;
@@ -76,7 +77,7 @@ pub(crate) fn dynamic_target_at<'a>(
     schemas: &'a Schemas,
     place: Place,
     schema: &'a Doc,
-    path: &[Place],
+    path: &Path,
     resources: &[usize],
 ) -> (Place, &'a Doc)
     requires schema { StandsAt schemas.now place (value_of schema.now) }
@@ -95,7 +96,7 @@ pub(crate) fn dynamic_target_at<'a>(
 }
 
 // Where a dynamic scope that is told by the numbers of its resources leads: where its path leads.
-fn led_by_numbers(schemas: &Schemas, place: Place, _path: &[Place], resources: &[usize]) -> Place
+fn led_by_numbers(schemas: &Schemas, place: Place, _path: &Path, resources: &[usize]) -> Place
     requires place { has_keyword (codes "$dynamicRef") schemas.now place ≡ true }
     requires path { list_all (is_place schemas.now) _path.now ≡ true }
     requires resources { resources.now ≡ dedup nat_eq (map (resource_of schemas.now) _path.now) }

@@ -5,7 +5,7 @@ use crate::here::Here;
 use crate::instance::Instance;
 use crate::keyword::Keyword;
 use crate::telling::keyword_note;
-use crate::walking::{Judged, Reporter, Trail};
+use crate::walking::{HeldText, Judged, Reporter, Trail};
 use js_bundle::Place;
 use js_doc::{Doc, Memory, Text};
 use js_tree::{Collector, Head};
@@ -18,7 +18,7 @@ pub(crate) struct Collecting<'a, C> {
     pub notes: PhantomData<&'a Doc>,
 }
 
-impl<'a, C: Collector<'a>> Reporter<Here<'a>> for Collecting<'a, C> {
+impl<'a, C: Collector<'a>> Reporter<Here<'a>, HeldText> for Collecting<'a, C> {
     ghost takes = { λ c e d. C.takes c.collector e d.collector };
 
     fn open_schema(
@@ -26,8 +26,8 @@ impl<'a, C: Collector<'a>> Reporter<Here<'a>> for Collecting<'a, C> {
         alloc: Global,
         world: &Here<'a>,
         place: Place,
-        keyword_location: &Trail,
-        instance_location: &Trail,
+        keyword_location: &Trail<HeldText>,
+        instance_location: &Trail<HeldText>,
     ) -> Result<(), Memory> {
         let absolute = world.absolute(alloc, place)?;
         self.collector
@@ -40,8 +40,8 @@ impl<'a, C: Collector<'a>> Reporter<Here<'a>> for Collecting<'a, C> {
         world: &Here<'a>,
         place: Place,
         keyword: Keyword<'a>,
-        keyword_location: &Trail,
-        instance_location: &Trail,
+        keyword_location: &Trail<HeldText>,
+        instance_location: &Trail<HeldText>,
     ) -> Result<(), Memory> {
         let absolute = world.absolute_keyword(alloc, place, keyword.name)?;
         self.collector
@@ -88,7 +88,11 @@ impl<'a, C: Collector<'a>> Reporter<Here<'a>> for Collecting<'a, C> {
 }
 
 // What tells a node: its keyword location, its absolute location, and its instance location.
-fn head(keyword: &Trail, absolute: Text, instance: &Trail) -> Result<Head, Memory>
+fn head(
+    keyword: &Trail<HeldText>,
+    absolute: Text,
+    instance: &Trail<HeldText>,
+) -> Result<Head, Memory>
     ensures { IfOk result (λ h. h ≡ record { keyword = keyword.now; absolute = absolute; instance = instance.now }) }
 {
     Ok(Head {

@@ -23,7 +23,7 @@ use crate::schema::is_accepting;
 use crate::searchers::Searchers;
 use crate::start::{Facts, Scene, start};
 use crate::telling::schema_note;
-use crate::walking::{Tally, Trail, World};
+use crate::walking::{Path, PointerText, Tally, Trail, World};
 use js_bundle::{Place, Schemas, Step};
 use js_doc::{Doc, Memory, Text, push_fragment_token};
 use js_tree::Note;
@@ -113,10 +113,15 @@ impl<'a> World for Here<'a> {
     }
 
     #[tactic(auto, unfolding(crate::specs::Walk::Told::asked_by))]
+    fn asks(&self, keyword: Keyword<'a>) -> bool {
+        keyword.kind.is_applicator()
+    }
+
+    #[tactic(auto, unfolding(crate::specs::Walk::Told::asked_by))]
     fn asking(
         &self,
         alloc: Global,
-        path: &[Place],
+        path: &Path,
         resources: &[usize],
         place: Place,
         schema: &'a Doc,
@@ -196,15 +201,27 @@ impl<'a> World for Here<'a> {
     }
 
     #[tactic(auto, unfolding(crate::specs::Walk::Told::at_name))]
-    fn go_to_keyword(&self, keyword: Keyword<'a>, trail: &mut Trail) -> Result<(), Memory> {
+    fn go_to_keyword<H: PointerText + Drop>(
+        &self,
+        keyword: Keyword<'a>,
+        trail: &mut Trail<H>,
+    ) -> Result<(), Memory> {
         trail.push_name(keyword.name)
     }
 
-    fn go_to_schema(&self, application: Applied<'a>, trail: &mut Trail) -> Result<(), Memory> {
+    fn go_to_schema<H: PointerText + Drop>(
+        &self,
+        application: Applied<'a>,
+        trail: &mut Trail<H>,
+    ) -> Result<(), Memory> {
         go(application.step, application.value.doc(), trail)
     }
 
-    fn go_to_value(&self, application: Applied<'a>, trail: &mut Trail) -> Result<(), Memory> {
+    fn go_to_value<H: PointerText + Drop>(
+        &self,
+        application: Applied<'a>,
+        trail: &mut Trail<H>,
+    ) -> Result<(), Memory> {
         go(application.at, application.value.doc(), trail)
     }
 }
@@ -252,7 +269,11 @@ fn item_at<'a>(at: Step<'a>, _doc: Option<&'a Doc>) -> Option<usize>
 
 // Goes one step further.
 #[tactic(auto, unfolding(crate::specs::Walk::Told::at_step))]
-fn go<'a>(step: Step<'a>, _doc: Option<&'a Doc>, trail: &mut Trail) -> Result<(), Memory>
+fn go<'a, H: PointerText + Drop>(
+    step: Step<'a>,
+    _doc: Option<&'a Doc>,
+    trail: &mut Trail<H>,
+) -> Result<(), Memory>
     ensures { OnOk result (trail.new ≡ at_step trail.old (step_of step.entry)) }
 {
     match step {

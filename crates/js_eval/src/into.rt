@@ -9,7 +9,7 @@ use crate::collecting::Collecting;
 use crate::here::Here;
 use crate::instance::Instance;
 use crate::searchers::Searchers;
-use crate::walking::{Silent, WalkFault, walk_from};
+use crate::walking::{HeldText, Silent, UnseenText, WalkFault, walk_from};
 use js_bundle::{Place, Schemas};
 use js_doc::Doc;
 use js_tree::{Boxed, Collector, Tree};
@@ -43,7 +43,14 @@ pub fn walk_into<'a, C: Collector<'a>>(
     };
     let schema = schema_at(schemas, place);
     let value = Instance::Doc(value);
-    let done = walk_from(alloc, &here, &mut collecting, place, schema, value);
+    let done = walk_from::<Here<'a>, HeldText, Collecting<'a, C>>(
+        alloc,
+        &here,
+        &mut collecting,
+        place,
+        schema,
+        value,
+    );
     let Collecting {
         collector,
         notes: _,
@@ -94,7 +101,14 @@ pub fn verdict<'a>(
     };
     let schema = schema_at(schemas, place);
     let value = Instance::Doc(value);
-    match walk_from(alloc, &here, &mut Silent, place, schema, value) {
+    match walk_from::<Here<'a>, UnseenText, Silent>(
+        alloc,
+        &here,
+        &mut Silent,
+        place,
+        schema,
+        value,
+    ) {
         Ok(valid) => Ok(valid),
         Err(fault) => Err(fault),
     }

@@ -1,4 +1,10 @@
 //! What a keyword does.
+ghost use Rattle.std.specs.Prelude.{◌≡◌, [], List, Option, Bool, false, ℕ};
+ghost use Rattle.js_doc.specs.Value.{Named, Value as JsonValue};
+ghost use Rattle.js_eval.specs.Applications.{asks_of};
+ghost use Rattle.js_eval.specs.Keywords.{Keyword as Member};
+ghost use Rattle.js_eval.specs.SchemaSet.{SchemaSet, Text};
+ghost use Rattle.js_bundle.specs.Resource.{Site};
 
 /// What a keyword does (Core, sections 8, 10 and 11; Validation, section 6).
 #[derive(Clone, Copy, Debug, PartialEq, Eq)]
@@ -45,4 +51,18 @@ pub enum Kind {
     Assertion,
     /// It only annotates: each other keyword, known or not.
     Annotation,
+}
+
+impl Kind {
+    /// Whether a keyword of this kind applies schemas.
+    pub(crate) fn is_applicator(self) -> bool
+        ensures { (S : SchemaSet Site) (path : List Site) (place : Site) (siblings : Named) (v : JsonValue) (condition : Option Bool) (names : List Text) (indexes : List ℕ) (k : Member)
+            → result ≡ false → asks_of S path place siblings v condition names indexes k self ≡ [] }
+    {
+        match self {
+            Kind::Assertion => false,
+            Kind::Annotation => false,
+            _ => true,
+        }
+    }
 }

@@ -9,8 +9,12 @@ use js_doc::{Members, Memory};
 use std::alloc::Global;
 use std::cell::RefCell;
 
-/// How many searchers are kept at most. What one works with may grow to some megabytes.
-const MOST_KEPT: usize = 32;
+/// How many searchers are kept at most.
+const MOST_KEPT: usize = 2_048;
+
+/// How many bytes are searched at most with those that are kept. What a searcher works with grows with the bytes that it has searched:
+/// so all together stay within some tens of megabytes, but for patterns made to take more.
+const MOST_SEARCHED: usize = 1 << 20;
 
 /// A pattern of finished schemas, and its text.
 #[derive(Clone, Copy)]
@@ -29,11 +33,12 @@ pub(crate) struct Searchers<'p> {
     answers: RefCell<Vec<AllAnswers<'p>>>,
 }
 
-/// The searchers that are kept, and which of them goes when there is room for no more.
+/// The searchers that are kept, in the order of their patterns' texts, and how many bytes they have searched. Where that is too
+/// much, or there are too many, all go.
 #[derive(Drop)]
 struct Kept<'p> {
     all: Vec<Marked<'p>>,
-    next: usize,
+    searched: usize,
 }
 
 /// A searcher, and the text of its pattern.
@@ -60,7 +65,7 @@ impl<'p> Searchers<'p> {
         Searchers {
             kept: RefCell::new(Kept {
                 all: Vec::new(alloc),
-                next: 0,
+                searched: 0,
             }),
             answers: RefCell::new(Vec::new(alloc)),
         }
@@ -164,22 +169,37 @@ fn search<'p>(
     requires { pattern.now ≡ text.now }
     ensures { IfOk result (λ b. b ≡ matches text.now name.now) }
 {
+    count(kept, name.len());
     match search_again(kept.all.as_mut_slice(), text, name) {
         Some(found) => Ok(found),
         None => search_first(alloc, kept, pattern, text, name),
     }
 }
 
+// So many bytes more are searched.
+fn count(kept: &mut Kept<'_>, bytes: usize) {
+    if kept.searched > MOST_SEARCHED {
+        kept.all.clear();
+        kept.searched = 0;
+    }
+    kept.searched = kept.searched.saturating_add(bytes);
+}
+
 // Searches with the searcher that is kept of the pattern with this text, if there is one.
 fn search_again(kept: &mut [Marked<'_>], text: &str, name: &str) -> Option<bool>
     ensures { MatchOption result (Unit {0}) (λ b. b ≡ matches text.now name.now) }
 {
-    for marked in kept.iter_mut() {
-        if marked.text == text {
-            return Some(marked.searcher.holds(name));
-        }
+    let index = place_of(kept, text);
+    let marked = kept.get_mut(index)?;
+    if marked.text == text {
+        return Some(marked.searcher.holds(name));
     }
     None
+}
+
+// Where the searcher of the pattern with this text stands, if it is there.
+fn place_of(kept: &[Marked<'_>], text: &str) -> usize {
+    kept.partition_point(|marked| marked.text < text)
 }
 
 // Searches with a new searcher, and keeps it if there is memory for that. What it works with is large until it is boxed: that takes
@@ -201,13 +221,13 @@ fn search_first<'p>(
     Ok(found)
 }
 
-// Keeps a searcher, if there is memory for it. Where there are as many as may be, the oldest goes.
+// Keeps a searcher, if there is memory for it. Where there are as many as may be, those go.
 fn keep<'p>(kept: &mut Kept<'p>, marked: Marked<'p>) {
-    if kept.all.len() < MOST_KEPT {
-        let _ = kept.all.push(marked);
-        return;
+    if kept.all.len() >= MOST_KEPT {
+        kept.all.clear();
     }
-    let next = kept.next % MOST_KEPT;
-    kept.all[next] = marked;
-    kept.next = next + 1;
+    let index = place_of(kept.all.as_slice(), marked.text);
+    if index <= kept.all.len() {
+        let _ = kept.all.insert(index, marked);
+    }
 }

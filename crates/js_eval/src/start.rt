@@ -17,6 +17,7 @@ use crate::cursor::{Asking, alone};
 use crate::instance::Instance;
 use crate::keyword::Keyword;
 use crate::kind::Kind;
+use crate::walking::Path;
 use crate::{start_items, start_members};
 use js_bundle::{Place, Schemas, Step};
 use js_doc::{Doc, Memory};
@@ -26,7 +27,7 @@ use std::alloc::Global;
 #[derive(Clone, Copy)]
 pub(crate) struct Scene<'s, 'a> {
     /// All places that were applied, the present one being the last.
-    pub path: &'s [Place],
+    pub path: &'s Path,
     /// Their resources, of equal neighbours one.
     pub scope: &'s [usize],
     /// The present place.
@@ -152,7 +153,7 @@ fn referred_dynamically<'a>(
     schemas: &'a Schemas,
     place: Place,
     schema: &'a Doc,
-    path: &[Place],
+    path: &Path,
     resources: &[usize],
     value: Instance<'a>,
 ) -> Asking<'a>

@@ -3,6 +3,8 @@
 mod dynamic_scope;
 mod fault;
 mod keeping;
+mod path;
+mod pointer_text;
 mod recursion;
 mod reporter;
 mod silent;
@@ -10,10 +12,13 @@ mod start;
 mod steps;
 mod tally;
 mod trail;
+mod unseen;
 mod way;
 mod world;
 
 pub use fault::WalkFault;
+pub(crate) use path::Path;
+pub(crate) use pointer_text::{HeldText, PointerText, UnseenText};
 pub(crate) use reporter::Reporter;
 pub(crate) use silent::Silent;
 pub(crate) use start::walk_from;

@@ -12,8 +12,8 @@ use Rattle.js_eval.specs.Walk.Steps.{NodeDone}
 use Rattle.js_eval.specs.Walk.Told.{HasNone}
 use Rattle.js_eval.specs.declared.walking.way.Way.{Way}
 
-module _ {M C P : Type 0} (S : SchemaSet P) (text_of : M → List ℕ) (takes : C → Event → C → Type 0) (place : P) (v : Value) (n most : ℕ) where
-  pub led : (valid : Bool) (path : List P) (w w' : Way M) (c d : C) → path ≡ [] → n ≡ most_levels → w.left ≡ most_nodes → w.keyword ≡ [] → w.instance ≡ [] → NodeDone S text_of takes n path place v valid w w' c d → Reported S place v takes valid c d
+module _ {M H K C P : Type 0} (S : SchemaSet P) (text_of : M → List ℕ) (takes : C → Event → C → Type 0) (place : P) (v : Value) (n : ℕ) where
+  pub led : (valid : Bool) (path : List P) (w w' : Way M H K) (c d : C) → path ≡ [] → n ≡ most_levels → w.left ≡ most_nodes → w.keyword ≡ [] → w.instance ≡ [] → NodeDone S text_of takes n path place v valid w w' c d → Reported S place v takes valid c d
   led valid path w w' c d p e l k i walk =
       let done = rw p at walk in
       let t = done.told at_root (record { schemas = k; value = i }) in
@@ -29,6 +29,7 @@ module _ {M C P : Type 0} (S : SchemaSet P) (text_of : M → List ℕ) (takes : 
         passes = t.passes;
       }
 
+module _ {P : Type 0} (S : SchemaSet P) (place : P) (v : Value) (n : ℕ) where
   pub none_led : (path : List P) (old : ℕ) → path ≡ [] → n ≡ most_levels → old ≡ most_nodes → HasNone S n path place v old → (t : ResultTree) → IsResult S [] place at_root v t → IsWithinLimits t → ⊥
   none_led path old p e l one t is stands =
       let none = rw p at one in

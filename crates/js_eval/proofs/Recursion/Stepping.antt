@@ -16,18 +16,21 @@ use Rattle.js_eval.specs.SchemaSet.{Text, SchemaSet, Step}
 use Rattle.js_eval.specs.declared.kind.Kind.{Kind}
 use Rattle.js_tree.specs.Events.{Event, opening}
 use Rattle.js_eval.specs.Walk.Keeping.{condition_step, matching_step}
-use Rattle.js_eval.specs.Walk.Steps.{MarkOf, SchemaOpened, SchemaClosed, KeywordOpened, KeywordClosed, WentDown, CameBack, NodeDone, KeywordDone, EachDone}
+use Rattle.js_eval.specs.Walk.Steps.{MarkOf, StartOf, SchemaOpened, SchemaClosed, KeywordOpened, KeywordClosed, WentDown, CameBack, NodeDone, KeywordDone, EachDone}
 use Rattle.js_eval.specs.Walk.Told.{IsAt, KeywordWalked, NodeWalked, KeywordHasNone, SomeHasNone, HasNone, asked_by, names_given, indexes_given, at_name, keywords_at, accepts_at, kind_at, says_at, schema_says, at_step}
 use Rattle.js_eval.specs.Walked.{OnTooLarge}
 use Rattle.js_eval.specs.declared.walking.fault.WalkFault.{WalkFault}
 use Rattle.js_eval.specs.declared.walking.fault.WalkFault.TheVariants.{Memory, TooLarge}
+use Rattle.js_eval.specs.Walk.Scope.{HasGrown}
 use Rattle.js_eval.specs.declared.walking.way.Mark.{Mark}
+use Rattle.js_eval.specs.declared.walking.way.Start.{Start}
 use Rattle.js_eval.specs.declared.walking.tally.Judged.{Judged}
 use Rattle.js_eval.specs.declared.walking.tally.Tally.{Tally}
 use Rattle.js_eval.specs.declared.walking.way.Way.{Way}
 use Rattle.js_eval.proofs.Recursion.Before.{CountsLater, is_as_before}
 use Rattle.js_eval.proofs.Recursion.Each.{EachSoFar, each_more, each_none}
 use Rattle.js_eval.proofs.Recursion.KeywordTelling.{keyword_walked, keyword_told}
+use Rattle.js_eval.proofs.Recursion.Sources.{names_of_none, indexes_of_none}
 use Rattle.js_eval.proofs.Recursion.NodeTelling.{KeywordsLoop, keywords_start, keyword_more, keyword_told_more, keyword_is_none, node_walked, node_told}
 
 pub asked_same : {P : Type 0} (S : SchemaSet P) (n : ℕ) (path : List P) (place : P) (v : Value) (k : Keyword) (c : Option Bool) (ns : List Text) (is : List ℕ) → asked_by S 0 path place v k c ns is ≡ asked_by S n path place v k c ns is
@@ -58,16 +61,29 @@ pub on_too_large : (P Q : Type 0) (e : WalkFault) → (P → Q) → OnTooLarge e
 on_too_large P Q Memory f h = tt
 on_too_large P Q TooLarge f h = f h
 
-module _ {M C P : Type 0} (S : SchemaSet P) (text_of : M → Text) (takes : C → Event → C → Type 0) (n : ℕ) where
+module _ {C P : Type 0} (S : SchemaSet P) (takes : C → Event → C → Type 0) (n : ℕ) (above : List P) (place : P) (v : Value) where
+  pub loop_as : (k : Keyword) (rest : List Keyword) (valid b valid' : Bool) (branch branch' : Option Bool) (count count' held : ℕ) (κ : Kind) (names names' : List Text) (indexes indexes' : List ℕ) (old left : ℕ) (keyword instance : Text) (c d : C)
+      → valid' ≡ (valid && b) → branch' ≡ condition_step κ held branch → count' ≡ matching_step κ held count → κ ≡ kind_at k
+      → KeywordsLoop S n above place v takes rest (valid && b) (condition_step (kind k.0) held branch) (matching_step (kind k.0) held count) names names' indexes indexes' old left keyword instance c d
+      → KeywordsLoop S n above place v takes rest valid' branch' count' names names' indexes indexes' old left keyword instance c d
+  unfolding kind_at
+  loop_as k rest valid b valid' branch branch' count count' held κ names names' indexes indexes' old left keyword instance c d e f g h loop =
+      let f' : branch' ≡ condition_step (kind k.0) held branch = f ∙ ap (λ q. condition_step q held branch) h in
+      let g' : count' ≡ matching_step (kind k.0) held count = g ∙ ap (λ q. matching_step q held count) h in
+      subst (λ x. KeywordsLoop S n above place v takes rest x branch' count' names names' indexes indexes' old left keyword instance c d) (sym e)
+      (subst (λ x. KeywordsLoop S n above place v takes rest (valid && b) x count' names names' indexes indexes' old left keyword instance c d) (sym f')
+      (subst (λ x. KeywordsLoop S n above place v takes rest (valid && b) (condition_step (kind k.0) held branch) x names names' indexes indexes' old left keyword instance c d) (sym g') loop))
+
+module _ {M H K C P : Type 0} (S : SchemaSet P) (text_of : M → Text) (takes : C → Event → C → Type 0) (n : ℕ) where
   -- ---- applications
 
   module _ (path : List P) (κ : Kind) (all rest : List (Application P)) (a : Application P) (names : List Text) (indexes : List ℕ) (old : ℕ) (keyword instance : Text) where
-    pub each_step : (tally : Tally) (w w₁ w₂ w₃ : Way M) (mark : Mark) (p : P) (path' : List P) (v : Value) (holds : Bool) (c d e : C)
+    pub each_step : (len : K → ℕ) (tally : Tally) (w w₁ w₂ w₃ : Way M H K) (mark : Mark K) (p : P) (path' : List P) (v : Value) (holds : Bool) (c d e : C)
         → EachSoFar S n path κ takes all (a ∷ rest) tally.asked tally.held names (map text_of w.names.items) indexes w.indexes.items old w.left keyword instance c d
-        → w.keyword ≡ keyword → w.instance ≡ instance → MarkOf w mark → WentDown a w w₁ → path' ≡ path → p ≡ a.place → v ≡ a.value
-        → NodeDone S text_of takes n path' p v holds w₁ w₂ d e → CameBack text_of κ a mark holds w₂ w₃
+        → w.keyword ≡ keyword → w.instance ≡ instance → MarkOf len w mark → WentDown a w w₁ → path' ≡ path → p ≡ a.place → v ≡ a.value
+        → NodeDone S text_of takes n path' p v holds w₁ w₂ d e → CameBack text_of len κ a mark holds w₂ w₃
         → EachSoFar S n path κ takes all rest (tally.asked + 1) (tally.held + cond holds 1 0) names (map text_of w₃.names.items) indexes w₃.indexes.items old w₃.left keyword instance c e
-    each_step tally w w₁ w₂ w₃ mark p path' v holds c d e so wk wi m go ep eq er done back =
+    each_step len tally w w₁ w₂ w₃ mark p path' v holds c d e so wk wi m go ep eq er done back =
         let m1 : mark.names ≡ length (map text_of w.names.items) = m.names ∙ sym (length-map w.names.items text_of) in
         let node = rw (ep, eq, er, go.names, go.indexes, go.left) at done.walked in
         let f = rw m1 at back.names in
@@ -77,7 +93,7 @@ module _ {M C P : Type 0} (S : SchemaSet P) (text_of : M → Text) (takes : C �
         f g in
         subst (λ l. EachSoFar S n path κ takes all rest (tally.asked + 1) (tally.held + cond holds 1 0) names (map text_of w₃.names.items) indexes w₃.indexes.items old l keyword instance c e) (sym back.left) all_of
 
-    pub each_failed : (asked held : ℕ) (names' : List Text) (indexes' : List ℕ) (left : ℕ) (w w₁ : Way M) (p : P) (path' : List P) (v : Value) (c d : C)
+    pub each_failed : (asked held : ℕ) (names' : List Text) (indexes' : List ℕ) (left : ℕ) (w w₁ : Way M H K) (p : P) (path' : List P) (v : Value) (c d : C)
         → EachSoFar S n path κ takes all (a ∷ rest) asked held names names' indexes indexes' old w.left keyword instance c d → WentDown a w w₁ → path' ≡ path → p ≡ a.place → v ≡ a.value
         → HasNone S n path' p v w₁.left → SomeHasNone S n path all old
     each_failed asked held names' indexes' left w w₁ p path' v c d so go ep eq er none =
@@ -86,11 +102,11 @@ module _ {M C P : Type 0} (S : SchemaSet P) (text_of : M → Text) (takes : C �
   -- ---- a keyword
 
   module _ (path : List P) (place : P) (v : Value) (k : Keyword) (matching : ℕ) (apps : List (Application P)) where
-    pub keyword_step : (w w₁ w₂ w₃ : Way M) (here : Mark) (tally : Tally) (passes : Bool) (path' : List P) (κ : Kind) (apps' : List (Application P)) (c c' d' d : C)
-        → MarkOf w here → KeywordOpened S text_of takes place k w w₁ c c' → path' ≡ path → κ ≡ kind_at k → apps' ≡ apps
-        → EachDone S text_of takes n path' κ apps' tally w₁ w₂ c' d' → KeywordClosed S text_of takes place v k matching tally here passes w₂ w₃ d' d
+    pub keyword_step : (len : K → ℕ) (w w₁ w₂ w₃ : Way M H K) (here : Mark K) (tally : Tally) (passes : Bool) (path' : List P) (κ : Kind) (apps' : List (Application P)) (c c' d' d : C)
+        → MarkOf len w here → KeywordOpened S text_of takes place k w w₁ c c' → path' ≡ path → κ ≡ kind_at k → apps' ≡ apps
+        → EachDone S text_of takes n path' κ apps' tally w₁ w₂ c' d' → KeywordClosed S text_of takes len place v k matching tally here passes w₂ w₃ d' d
         → KeywordDone S text_of takes n path place v k matching apps (record { passes = passes; held = tally.held }) w w₃ c d
-    keyword_step w w₁ w₂ w₃ here tally passes path' κ apps' c c' d' d m opened ep ek ea each close =
+    keyword_step len w w₁ w₂ w₃ here tally passes path' κ apps' c c' d' d m opened ep ek ea each close =
         let m1 : here.names ≡ length (map text_of w.names.items) = m.names ∙ sym (length-map w.names.items text_of) in
         let ew = rw (ep, ek, ea, opened.names, opened.indexes) at each.walked in
         let cut : map text_of w₃.names.items ≡ cond passes (map text_of w₂.names.items) (take (length (map text_of w.names.items)) (map text_of w₂.names.items)) =
@@ -111,16 +127,38 @@ module _ {M C P : Type 0} (S : SchemaSet P) (text_of : M → Text) (takes : C �
           back = record {
             path = close.path ∙ (each.back.path ∙ opened.path);
             scope = close.scope ∙ (each.back.scope ∙ opened.scope);
-            keyword = close.keyword ∙ trail_back w.keyword w₂.keyword k here.keyword m.keyword (each.back.keyword ∙ opened.keyword);
+            keyword = close.keyword ∙ trail_back w.keyword w₂.keyword k (len here.keyword) m.keyword (each.back.keyword ∙ opened.keyword);
             instance = close.instance ∙ (each.back.instance ∙ opened.instance);
           };
           falls = omega (arith, close.left, each.falls, opened.left);
         }
 
+  -- a keyword that asks for nothing
+  nothing_done : (path : List P) (κ : Kind) (w : Way M H K) (c : C) → EachDone S text_of takes n path κ [] (record { asked = 0; held = 0 }) w w c c
+  nothing_done path κ w c = record {
+    walked = record {
+      settled = refl;
+      many = refl;
+      holding = refl;
+      of_names = sym (ap (λ l. map text_of w.names.items ++ l) (names_of_none S n path κ) ∙ append-nil (map text_of w.names.items));
+      of_indexes = sym (ap (λ l. w.indexes.items ++ l) (indexes_of_none S n path κ) ∙ append-nil w.indexes.items);
+      spent = omega arith;
+    };
+    told = λ at h. record { forest = empty; nodes = tt; passes = refl };
+    back = record { path = refl; scope = refl; keyword = refl; instance = refl };
+    falls = omega arith;
+  }
+
+  pub childless_step : (path : List P) (place : P) (v : Value) (k : Keyword) (matching : ℕ) (len : K → ℕ) (w w₁ w₃ : Way M H K) (here : Mark K) (passes : Bool) (c c' d : C)
+      → MarkOf len w here → KeywordOpened S text_of takes place k w w₁ c c' → KeywordClosed S text_of takes len place v k matching (record { asked = 0; held = 0 }) here passes w₁ w₃ c' d
+      → KeywordDone S text_of takes n path place v k matching [] (record { passes = passes; held = 0 }) w w₃ c d
+  childless_step path place v k matching len w w₁ w₃ here passes c c' d m opened close =
+      keyword_step path place v k matching [] len w w₁ w₁ w₃ here (record { asked = 0; held = 0 }) passes path (kind_at k) [] c c' c' d m opened refl refl refl (nothing_done path (kind_at k) w₁ c') close
+
   -- ---- a schema
 
   module _ (above : List P) (place : P) (v : Value) where
-    pub node_start : (w w₁ : Way M) (p r : ℕ) (c d : C) (valid : Bool) (listed : List Keyword) → SchemaOpened S text_of takes place p r w w₁ c d → valid ≡ accepts_at S place → listed ≡ keywords_at S place
+    pub node_start : (w w₁ : Way M H K) (p r : ℕ) (c d : C) (valid : Bool) (listed : List Keyword) → SchemaOpened S text_of takes place p r w w₁ c d → valid ≡ accepts_at S place → listed ≡ keywords_at S place
         → KeywordsLoop S n above place v takes listed valid None 0 (map text_of w.names.items) (map text_of w₁.names.items) w.indexes.items w₁.indexes.items w.left w₁.left w.keyword w.instance c d
     unfolding accepts_at keywords_at
     node_start w w₁ p r c d valid listed opened a l =
@@ -130,8 +168,8 @@ module _ {M C P : Type 0} (S : SchemaSet P) (text_of : M → Text) (takes : C �
           told = λ at h. record { forest = empty; nodes = tt; passes = (d, subst (λ x. takes c x d) (let i = h.schemas in let j = h.value in let q : opening w.keyword (S.absolute place None) w.instance ≡ opening (pointer_text at.keyword) (S.absolute place None) (pointer_text at.instance) = cc in q) opened.told, refl) };
         })
 
-    pub node_more : CountsLater → IsAscending (entries (S.schema place)) → (k : Keyword) (rest : List Keyword) (valid : Bool) (branch : Option Bool) (count : ℕ) (w w₁ w₂ : Way M) (start : Mark) (j : Judged) (path' : List P) (c d e : C)
-        → MarkOf w start → path' ≡ above ++ place ∷ [] → w₁.keyword ≡ w.keyword → w₁.instance ≡ w.instance
+    pub node_more : CountsLater → IsAscending (entries (S.schema place)) → (k : Keyword) (rest : List Keyword) (valid : Bool) (branch : Option Bool) (count : ℕ) (w w₁ w₂ : Way M H K) (start : Start) (j : Judged) (path' : List P) (c d e : C)
+        → StartOf w start → path' ≡ above ++ place ∷ [] → w₁.keyword ≡ w.keyword → w₁.instance ≡ w.instance
         → KeywordsLoop S n above place v takes (k ∷ rest) valid branch count (map text_of w.names.items) (map text_of w₁.names.items) w.indexes.items w₁.indexes.items w.left w₁.left w.keyword w.instance c d
         → KeywordDone S text_of takes n path' place v k count (asked_by S n path' place v k branch (map text_of (drop start.names w₁.names.items)) (drop start.indexes w₁.indexes.items)) j w₁ w₂ d e
         → KeywordsLoop S n above place v takes rest (valid && j.passes) (condition_step (kind k.0) j.held branch) (matching_step (kind k.0) j.held count) (map text_of w.names.items) (map text_of w₂.names.items) w.indexes.items w₂.indexes.items w.left w₂.left w.keyword w.instance c e
@@ -148,20 +186,8 @@ module _ {M C P : Type 0} (S : SchemaSet P) (text_of : M → Text) (takes : C �
               (rw (ep, x, y) at (done.told at (record { schemas = ek ∙ h.schemas; value = ei ∙ h.value })));
         }
 
-    pub loop_as : (k : Keyword) (rest : List Keyword) (valid b valid' : Bool) (branch branch' : Option Bool) (count count' held : ℕ) (κ : Kind) (names names' : List Text) (indexes indexes' : List ℕ) (old left : ℕ) (keyword instance : Text) (c d : C)
-        → valid' ≡ (valid && b) → branch' ≡ condition_step κ held branch → count' ≡ matching_step κ held count → κ ≡ kind_at k
-        → KeywordsLoop S n above place v takes rest (valid && b) (condition_step (kind k.0) held branch) (matching_step (kind k.0) held count) names names' indexes indexes' old left keyword instance c d
-        → KeywordsLoop S n above place v takes rest valid' branch' count' names names' indexes indexes' old left keyword instance c d
-    unfolding kind_at
-    loop_as k rest valid b valid' branch branch' count count' held κ names names' indexes indexes' old left keyword instance c d e f g h loop =
-        let f' : branch' ≡ condition_step (kind k.0) held branch = f ∙ ap (λ q. condition_step q held branch) h in
-        let g' : count' ≡ matching_step (kind k.0) held count = g ∙ ap (λ q. matching_step q held count) h in
-        subst (λ x. KeywordsLoop S n above place v takes rest x branch' count' names names' indexes indexes' old left keyword instance c d) (sym e)
-        (subst (λ x. KeywordsLoop S n above place v takes rest (valid && b) x count' names names' indexes indexes' old left keyword instance c d) (sym f')
-        (subst (λ x. KeywordsLoop S n above place v takes rest (valid && b) (condition_step (kind k.0) held branch) x names names' indexes indexes' old left keyword instance c d) (sym g') loop))
-
-    pub node_failed : CountsLater → IsAscending (entries (S.schema place)) → (k : Keyword) (rest : List Keyword) (valid : Bool) (branch : Option Bool) (count : ℕ) (w w₁ : Way M) (start : Mark) (path' : List P) (c d : C)
-        → MarkOf w start → path' ≡ above ++ place ∷ []
+    pub node_failed : CountsLater → IsAscending (entries (S.schema place)) → (k : Keyword) (rest : List Keyword) (valid : Bool) (branch : Option Bool) (count : ℕ) (w w₁ : Way M H K) (start : Start) (path' : List P) (c d : C)
+        → StartOf w start → path' ≡ above ++ place ∷ []
         → KeywordsLoop S n above place v takes (k ∷ rest) valid branch count (map text_of w.names.items) (map text_of w₁.names.items) w.indexes.items w₁.indexes.items w.left w₁.left w.keyword w.instance c d
         → KeywordHasNone S n path' place v k (asked_by S n path' place v k branch (map text_of (drop start.names w₁.names.items)) (drop start.indexes w₁.indexes.items)) w₁.left
         → HasNone S (suc n) above place v w.left
@@ -172,8 +198,8 @@ module _ {M C P : Type 0} (S : SchemaSet P) (text_of : M → Text) (takes : C �
         let y : drop start.indexes w₁.indexes.items ≡ drop (length w.indexes.items) w₁.indexes.items = ap (λ i. drop i w₁.indexes.items) m.indexes in
         keyword_is_none S n above place v k loop.done rest valid branch count (map text_of w.names.items) (map text_of w₁.names.items) w.indexes.items w₁.indexes.items w.left w₁.left loop.so before (rw (ep, x, y) at none)
 
-    pub node_end : (valid : Bool) (branch : Option Bool) (count : ℕ) (w w₁ w₂ : Way M) (start : Mark) (base : List ℕ) (p r : ℕ) (c d e : C)
-        → MarkOf w start → w₁.path.items ≡ w.path.items ++ p ∷ [] → w₁.scope ≡ w.scope ++ r ∷ [] → w₁.keyword ≡ w.keyword → w₁.instance ≡ w.instance → w₁.left < w.left
+    pub node_end : (valid : Bool) (branch : Option Bool) (count : ℕ) (w w₁ w₂ : Way M H K) (start : Start) (base : List ℕ) (p r : ℕ) (c d e : C)
+        → StartOf w start → w₁.path ≡ w.path ++ p ∷ [] → HasGrown w.scope r w₁.scope → w₁.keyword ≡ w.keyword → w₁.instance ≡ w.instance → w₁.left < w.left
         → KeywordsLoop S n above place v takes [] valid branch count (map text_of w.names.items) (map text_of w₁.names.items) w.indexes.items w₁.indexes.items w.left w₁.left w.keyword w.instance c d
         → SchemaClosed S text_of takes place start valid w₁ w₂ d e
         → NodeDone S text_of takes (suc n) above place v valid w w₂ c e
@@ -187,6 +213,6 @@ module _ {M C P : Type 0} (S : SchemaSet P) (text_of : M → Text) (takes : C �
         record {
           walked = subst (λ l. NodeWalked S (suc n) above place v valid (map text_of w.names.items) (map text_of w₂.names.items) w.indexes.items w₂.indexes.items w.left l) (sym close.left) walked;
           told = λ at h. node_told S n above place v takes at valid _ c d e (rw all at loop.so.settled) (rw all at (loop.told at h)) walked.verdict refl close.told;
-          back = record { path = close.path w.path.items p ep; scope = close.scope w.scope r es; keyword = close.keyword ∙ ek; instance = close.instance ∙ ei };
+          back = record { path = close.path w.path p ep; scope = close.scope ∙ (ap (λ i. take i w₁.scope) m.scope ∙ es.kept); keyword = close.keyword ∙ ek; instance = close.instance ∙ ei };
           falls = omega (arith, close.left, fl);
         }

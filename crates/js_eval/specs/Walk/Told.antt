@@ -59,8 +59,8 @@ unfoldable pub at_step : Text → Step → Text
 at_step trail s = trail ++ pointer_text (step_tokens s)
 
 -- the path is that of before, and so are its resources and the trails
-pub record IsBack {M : Type 0} (w w' : Way M) : Type 0 where
-  pub path : w'.path.items ≡ w.path.items
+pub record IsBack {M H K : Type 0} (w w' : Way M H K) : Type 0 where
+  pub path : w'.path ≡ w.path
   pub scope : w'.scope ≡ w.scope
   pub keyword : w'.keyword ≡ w.keyword
   pub instance : w'.instance ≡ w.instance

@@ -1,29 +1,23 @@
 //! The resources that a walk has come through.
-ghost use Rattle.std.specs.Prelude.{◌≡◌, ◌++◌, ◌∷◌, [], List, ℕ, OnOk, nat_eq};
-ghost use Rattle.std.specs.List.{dedup};
-ghost use Rattle.js_eval.specs.Walk.Scope.{ends_with};
+ghost use Rattle.std.specs.Prelude.{◌≡◌, [], OnOk, length, take};
+ghost use Rattle.js_eval.specs.Walk.Scope.{HasGrown, ends_with};
 
 use js_doc::Memory;
 use std::alloc::Global;
 use std::marker::Model;
 
-/// The numbers of the resources of a path's places, one a place. Contracts see them as a list.
+/// The numbers of the resources of a path's places, of equal neighbours one. Contracts see them as a list.
 #[derive(Drop)]
 pub(crate) struct DynamicScope {
-    each: Vec<usize>,
-    // Of equal neighbours one.
-    apart: Vec<usize>,
+    numbers: Vec<usize>,
 }
 
 impl Model for DynamicScope {
-    ghost use Rattle.std.specs.Prelude.{◌≡◌, ℕ, List, nat_eq};
-    ghost use Rattle.std.specs.List.{dedup};
+    ghost use Rattle.std.specs.Prelude.{List, ℕ};
 
     ghost Value = { List ℕ };
 
-    ghost view = { λ s. s.each.items };
-
-    ghost invariant = { λ s. s.apart.items ≡ dedup nat_eq s.each.items };
+    ghost view = { λ s. s.numbers.items };
 }
 
 impl DynamicScope {
@@ -32,45 +26,39 @@ impl DynamicScope {
         ensures { result ≡ [] }
     {
         DynamicScope {
-            each: Vec::new(alloc),
-            apart: Vec::new(alloc),
+            numbers: Vec::new(alloc),
         }
+    }
+
+    /// How many numbers there are.
+    pub fn len(&self) -> usize
+        ensures { result ≡ length self.now }
+    {
+        self.numbers.len()
     }
 
     /// Goes to a place of the resource with this number.
     pub fn push(&mut self, resource: usize) -> Result<(), Memory>
-        ensures { OnOk result (self.new ≡ self.old ++ resource ∷ []) }
+        ensures { OnOk result (HasGrown self.old resource self.new) }
     {
-        let stays = is_last(self.each.as_slice(), resource);
-        self.each.push(resource)?;
-        if stays {
-            return Ok(());
+        if !is_last(self.numbers.as_slice(), resource) {
+            self.numbers.push(resource)?;
         }
-        match self.apart.push(resource) {
-            Ok(_) => Ok(()),
-            Err(_) => {
-                let _ = self.each.pop();
-                Err(Memory)
-            }
-        }
+        Ok(())
     }
 
-    /// Goes back from the last place.
-    pub fn pop(&mut self)
-        ensures { (base : List ℕ) (last : ℕ) → self.old ≡ base ++ last ∷ [] → self.new ≡ base }
+    /// Goes back to where there were so many.
+    pub fn cut(&mut self, len: usize)
+        ensures { self.new ≡ take len self.old }
     {
-        if let Some(resource) = self.each.pop() {
-            if !is_last(self.each.as_slice(), resource) {
-                let _ = self.apart.pop();
-            }
-        }
+        self.numbers.truncate(len);
     }
 
-    /// The numbers, of equal neighbours one.
+    /// The numbers.
     pub fn resources(&self) -> &[usize]
-        ensures { result.now ≡ dedup nat_eq self.now }
+        ensures { result.now ≡ self.now }
     {
-        self.apart.as_slice()
+        self.numbers.as_slice()
     }
 }
 

@@ -2,43 +2,45 @@
 //!
 //! No bound of it names a lifetime, so that it may call itself. It goes down by one call of each of the three functions for each
 //! schema on the way.
-ghost use Rattle.std.specs.Prelude.{◌≡◌, ◌≤◌, true, map, length, drop, MatchResult};
-ghost use Rattle.std.specs.List.{list_all};
+ghost use Rattle.std.specs.Prelude.{◌≡◌, ◌≤◌, true, map, length, drop, nat_eq, MatchResult};
+ghost use Rattle.std.specs.List.{dedup, list_all};
 ghost use Rattle.js_eval.specs.Walk.Steps.{NodeDone, KeywordDone, EachDone};
 ghost use Rattle.js_eval.specs.Walk.Told.{IsKeywordAt, HasNone, KeywordHasNone, SomeHasNone, asked_by};
 ghost use Rattle.js_eval.specs.Walked.{OnTooLarge};
 
 use crate::kind::Kind;
 use crate::walking::fault::WalkFault;
+use crate::walking::pointer_text::PointerText;
 use crate::walking::reporter::Reporter;
 use crate::walking::steps::{
-    asked, close_keyword, close_schema, come_back, go_down, next_keyword, open_keyword, open_schema,
+    asked, childless_node, close_keyword, close_schema, come_back, go_down, next_keyword,
+    open_keyword, open_schema,
 };
 use crate::walking::tally::{Case, Judged, Judging, Known, Tally};
-use crate::walking::way::{Mark, Way};
+use crate::walking::way::{Start, Way};
 use crate::walking::world::World;
 use js_bundle::Place;
 use std::alloc::Global;
 
 /// The node of a place on a value, with all that stands below it.
 #[cycle(walk)]
-pub(crate) fn node<W: World, R: Reporter<W>>(
+pub(crate) fn node<W: World, H: PointerText + Drop, R: Reporter<W, H>>(
     alloc: Global,
     world: &W,
-    way: &mut Way<W::Name>,
+    way: &mut Way<W::Name, H>,
     into: &mut R,
     depth: usize,
     place: Place,
     schema: W::Schema,
     value: W::Value,
 ) -> Result<bool, WalkFault>
-    requires path { list_all (W.is_place world.now) way.old.path.items ≡ true }
-    requires scope { way.old.scope ≡ map (W.resource world.now) way.old.path.items }
+    requires path { list_all (W.is_place world.now) way.old.path ≡ true }
+    requires scope { way.old.scope ≡ dedup nat_eq (map (W.resource world.now) way.old.path) }
     requires place { W.is_place world.now place ≡ true }
     requires schema { W.stands_at world.now place schema }
     ensures { MatchResult result
-        (λ valid. NodeDone (W.schemas world.now) W.text_of R.takes depth (map (W.site world.now) way.old.path.items) (W.site world.now place) (W.value_of value) valid way.old way.new into.old into.new)
-        (λ e. OnTooLarge e (HasNone (W.schemas world.now) depth (map (W.site world.now) way.old.path.items) (W.site world.now place) (W.value_of value) way.old.left)) }
+        (λ valid. NodeDone (W.schemas world.now) W.text_of R.takes depth (map (W.site world.now) way.old.path) (W.site world.now place) (W.value_of value) valid way.old way.new into.old into.new)
+        (λ e. OnTooLarge e (HasNone (W.schemas world.now) depth (map (W.site world.now) way.old.path) (W.site world.now place) (W.value_of value) way.old.left)) }
 {
     if depth == 0 {
         return Err(WalkFault::TooLarge);
@@ -46,7 +48,7 @@ pub(crate) fn node<W: World, R: Reporter<W>>(
     if way.left == 0 {
         return Err(WalkFault::TooLarge);
     }
-    let start = way.mark();
+    let start = way.start();
     open_schema(alloc, world, way, into, place)?;
     let known = Known {
         valid: world.accepts(place, schema),
@@ -82,33 +84,37 @@ pub(crate) fn node<W: World, R: Reporter<W>>(
 
 /// The node of a keyword of the place that the path ends in.
 #[cycle(walk)]
-pub(crate) fn keyword_node<W: World, R: Reporter<W>>(
+pub(crate) fn keyword_node<W: World, H: PointerText + Drop, R: Reporter<W, H>>(
     alloc: Global,
     world: &W,
-    way: &mut Way<W::Name>,
+    way: &mut Way<W::Name, H>,
     into: &mut R,
     depth: usize,
     case: Case<W::Schema, W::Value, W::Keyword>,
-    start: Mark,
+    start: Start,
     known: Known,
 ) -> Result<Judged, WalkFault>
-    requires path { list_all (W.is_place world.now) way.old.path.items ≡ true }
-    requires scope { way.old.scope ≡ map (W.resource world.now) way.old.path.items }
+    requires path { list_all (W.is_place world.now) way.old.path ≡ true }
+    requires scope { way.old.scope ≡ dedup nat_eq (map (W.resource world.now) way.old.path) }
     requires place { W.is_place world.now case.place ≡ true }
     requires schema { W.stands_at world.now case.place case.schema }
     requires names { start.names ≤ length way.old.names.items }
     requires indexes { start.indexes ≤ length way.old.indexes.items }
     requires keyword { IsKeywordAt (W.schemas world.now) (W.site world.now case.place) (W.keyword_of case.keyword) }
     ensures { MatchResult result
-        (λ j. KeywordDone (W.schemas world.now) W.text_of R.takes depth (map (W.site world.now) way.old.path.items) (W.site world.now case.place) (W.value_of case.value) (W.keyword_of case.keyword) known.matching
-        (asked_by (W.schemas world.now) depth (map (W.site world.now) way.old.path.items) (W.site world.now case.place) (W.value_of case.value) (W.keyword_of case.keyword)
+        (λ j. KeywordDone (W.schemas world.now) W.text_of R.takes depth (map (W.site world.now) way.old.path) (W.site world.now case.place) (W.value_of case.value) (W.keyword_of case.keyword) known.matching
+        (asked_by (W.schemas world.now) depth (map (W.site world.now) way.old.path) (W.site world.now case.place) (W.value_of case.value) (W.keyword_of case.keyword)
         known.condition (map W.text_of (drop start.names way.old.names.items)) (drop start.indexes way.old.indexes.items)) j way.old way.new into.old into.new)
-        (λ e. OnTooLarge e (KeywordHasNone (W.schemas world.now) depth (map (W.site world.now) way.old.path.items) (W.site world.now case.place) (W.value_of case.value) (W.keyword_of case.keyword)
-        (asked_by (W.schemas world.now) depth (map (W.site world.now) way.old.path.items) (W.site world.now case.place) (W.value_of case.value) (W.keyword_of case.keyword)
+        (λ e. OnTooLarge e (KeywordHasNone (W.schemas world.now) depth (map (W.site world.now) way.old.path) (W.site world.now case.place) (W.value_of case.value) (W.keyword_of case.keyword)
+        (asked_by (W.schemas world.now) depth (map (W.site world.now) way.old.path) (W.site world.now case.place) (W.value_of case.value) (W.keyword_of case.keyword)
         known.condition (map W.text_of (drop start.names way.old.names.items)) (drop start.indexes way.old.indexes.items)) way.old.left)) }
 {
     if way.left == 0 {
         return Err(WalkFault::TooLarge);
+    }
+    if !world.asks(case.keyword) {
+        let judged = childless_node(alloc, world, way, into, case, known.matching)?;
+        return Ok(judged);
     }
     let here = way.mark();
     let mut asking = asked(alloc, world, way, case, start, known.condition)?;
@@ -131,21 +137,21 @@ pub(crate) fn keyword_node<W: World, R: Reporter<W>>(
 
 /// The nodes of what a keyword asks for, in order.
 #[cycle(walk)]
-pub(crate) fn applications<W: World, R: Reporter<W>>(
+pub(crate) fn applications<W: World, H: PointerText + Drop, R: Reporter<W, H>>(
     alloc: Global,
     world: &W,
-    way: &mut Way<W::Name>,
+    way: &mut Way<W::Name, H>,
     into: &mut R,
     depth: usize,
     kind: Kind,
     asking: &mut W::Asking,
 ) -> Result<Tally, WalkFault>
-    requires path { list_all (W.is_place world.now) way.old.path.items ≡ true }
-    requires scope { way.old.scope ≡ map (W.resource world.now) way.old.path.items }
+    requires path { list_all (W.is_place world.now) way.old.path ≡ true }
+    requires scope { way.old.scope ≡ dedup nat_eq (map (W.resource world.now) way.old.path) }
     requires asking { W.is_asking world.now asking.old }
     ensures { MatchResult result
-        (λ t. EachDone (W.schemas world.now) W.text_of R.takes depth (map (W.site world.now) way.old.path.items) kind (W.asked world.now asking.old) t way.old way.new into.old into.new)
-        (λ e. OnTooLarge e (SomeHasNone (W.schemas world.now) depth (map (W.site world.now) way.old.path.items) (W.asked world.now asking.old) way.old.left)) }
+        (λ t. EachDone (W.schemas world.now) W.text_of R.takes depth (map (W.site world.now) way.old.path) kind (W.asked world.now asking.old) t way.old way.new into.old into.new)
+        (λ e. OnTooLarge e (SomeHasNone (W.schemas world.now) depth (map (W.site world.now) way.old.path) (W.asked world.now asking.old) way.old.left)) }
 {
     let _left = way.left;
     let mut tally = Tally { asked: 0, held: 0 };

@@ -3,6 +3,7 @@ ghost use Rattle.std.specs.Prelude.{◌≡◌, true, Some, None, map, OnOk};
 ghost use Rattle.js_tree.specs.Events.{Event, opening, closing};
 ghost use Rattle.js_eval.specs.Walk.Told.{IsKeywordAt, says_at, schema_says};
 
+use crate::walking::pointer_text::PointerText;
 use crate::walking::tally::Judged;
 use crate::walking::trail::Trail;
 use crate::walking::world::World;
@@ -12,7 +13,7 @@ use std::alloc::Global;
 
 /// What a walk reports to: each node of the result as it opens, and as it closes, after those below it. It is lent where the walk
 /// stands and what is known there, and makes a location or a note of it only where it wants one.
-pub(crate) trait Reporter<W: World> {
+pub(crate) trait Reporter<W: World, H: PointerText + Drop> {
     /// One event leads from this reporter to that one.
     ghost takes: { Self → Event → Self → Type 0 };
 
@@ -22,8 +23,8 @@ pub(crate) trait Reporter<W: World> {
         alloc: Global,
         world: &W,
         place: Place,
-        keyword_location: &Trail,
-        instance_location: &Trail,
+        keyword_location: &Trail<H>,
+        instance_location: &Trail<H>,
     ) -> Result<(), Memory>
         requires { W.is_place world.now place ≡ true }
         ensures { OnOk result (takes self.old (opening keyword_location.now ((W.schemas world.now).absolute (W.site world.now place) None) instance_location.now) self.new) };
@@ -35,8 +36,8 @@ pub(crate) trait Reporter<W: World> {
         world: &W,
         place: Place,
         keyword: W::Keyword,
-        keyword_location: &Trail,
-        instance_location: &Trail,
+        keyword_location: &Trail<H>,
+        instance_location: &Trail<H>,
     ) -> Result<(), Memory>
         requires { W.is_place world.now place ≡ true }
         ensures { OnOk result (takes self.old (opening keyword_location.now ((W.schemas world.now).absolute (W.site world.now place) (Some ((W.keyword_of keyword).0))) instance_location.now) self.new) };

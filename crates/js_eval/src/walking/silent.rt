@@ -1,4 +1,5 @@
 //! A reporter that wants nothing.
+use crate::walking::pointer_text::PointerText;
 use crate::walking::reporter::Reporter;
 use crate::walking::tally::Judged;
 use crate::walking::trail::Trail;
@@ -11,7 +12,7 @@ use std::alloc::Global;
 #[derive(Clone, Copy)]
 pub(crate) struct Silent;
 
-impl<W: World> Reporter<W> for Silent {
+impl<W: World, H: PointerText + Drop> Reporter<W, H> for Silent {
     ghost takes = { λ _ _ _. Unit {0} };
 
     fn open_schema(
@@ -19,8 +20,8 @@ impl<W: World> Reporter<W> for Silent {
         _alloc: Global,
         _world: &W,
         _place: Place,
-        _keyword_location: &Trail,
-        _instance_location: &Trail,
+        _keyword_location: &Trail<H>,
+        _instance_location: &Trail<H>,
     ) -> Result<(), Memory> {
         Ok(())
     }
@@ -31,8 +32,8 @@ impl<W: World> Reporter<W> for Silent {
         _world: &W,
         _place: Place,
         _keyword: W::Keyword,
-        _keyword_location: &Trail,
-        _instance_location: &Trail,
+        _keyword_location: &Trail<H>,
+        _instance_location: &Trail<H>,
     ) -> Result<(), Memory> {
         Ok(())
     }

@@ -7,6 +7,8 @@ ghost use Rattle.js_eval.specs.Walk.Reported.{Reported};
 
 use crate::walking::dynamic_scope::DynamicScope;
 use crate::walking::fault::WalkFault;
+use crate::walking::path::Path;
+use crate::walking::pointer_text::PointerText;
 use crate::walking::recursion::node;
 use crate::walking::reporter::Reporter;
 use crate::walking::trail::Trail;
@@ -25,7 +27,7 @@ const MOST_NODES: usize = 1_000_000;
 ///
 /// # Errors
 /// `Memory`; `TooLarge` exactly where no result stands within the limits.
-pub(crate) fn walk_from<W: World, R: Reporter<W>>(
+pub(crate) fn walk_from<W: World, H: PointerText + Drop, R: Reporter<W, H>>(
     alloc: Global,
     world: &W,
     into: &mut R,
@@ -39,8 +41,8 @@ pub(crate) fn walk_from<W: World, R: Reporter<W>>(
         (λ valid. Reported (W.schemas world.now) (W.site world.now place) (W.value_of value) R.takes valid into.old into.new)
         (λ e. OnTooLarge e ((t : ResultTree) → IsResult (W.schemas world.now) [] (W.site world.now place) at_root (W.value_of value) t → IsWithinLimits t → ⊥)) }
 {
-    let mut way = Way {
-        path: Vec::new(alloc),
+    let mut way: Way<W::Name, H> = Way {
+        path: Path::new(),
         keyword: Trail::new(alloc),
         instance: Trail::new(alloc),
         left: MOST_NODES,

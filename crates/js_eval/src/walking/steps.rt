@@ -1,25 +1,27 @@
 //! The steps of a walk, each of which may want memory.
-ghost use Rattle.std.specs.Prelude.{◌≡◌, ◌∷◌, [], ◌<◌, ◌≤◌, true, map, length, drop, IfOk, OnOk, MatchOption};
-ghost use Rattle.std.specs.List.{list_all};
+ghost use Rattle.std.specs.Prelude.{◌≡◌, ◌∷◌, [], ◌<◌, ◌≤◌, List, true, map, length, drop, nat_eq, IfOk, OnOk, MatchOption, ℕ};
+ghost use Rattle.std.specs.List.{dedup, list_all};
 ghost use Rattle.std.specs.String.Boundary.{IsSplitPoint};
-ghost use Rattle.js_eval.specs.Walk.Steps.{SchemaOpened, SchemaClosed, KeywordOpened, KeywordClosed, WentDown, CameBack};
+ghost use Rattle.js_bundle.specs.Resource.{Site};
+ghost use Rattle.js_eval.specs.Walk.Steps.{SchemaOpened, SchemaClosed, KeywordOpened, KeywordClosed, KeywordDone, WentDown, CameBack};
 ghost use Rattle.js_eval.specs.Walk.Told.{IsKeywordAt, asked_by};
 
 use crate::kind::Kind;
 use crate::walking::keeping::{cut_unless, indexes_origin, keep, names_origin};
+use crate::walking::pointer_text::PointerText;
 use crate::walking::reporter::Reporter;
 use crate::walking::tally::{Case, Judged, Judging, Tally};
-use crate::walking::way::{Mark, Way};
+use crate::walking::way::{Mark, Start, Way};
 use crate::walking::world::World;
 use js_bundle::Place;
 use js_doc::Memory;
 use std::alloc::Global;
 
 /// Opens the node of a schema, which may have one.
-pub(crate) fn open_schema<W: World, R: Reporter<W>>(
+pub(crate) fn open_schema<W: World, H: PointerText + Drop, R: Reporter<W, H>>(
     alloc: Global,
     world: &W,
-    way: &mut Way<W::Name>,
+    way: &mut Way<W::Name, H>,
     into: &mut R,
     place: Place,
 ) -> Result<(), Memory>
@@ -29,20 +31,20 @@ pub(crate) fn open_schema<W: World, R: Reporter<W>>(
 {
     way.left -= 1;
     into.open_schema(alloc, world, place, &way.keyword, &way.instance)?;
-    way.path.push(place)?;
+    way.path.push(place);
     way.scope.push(world.resource(place))?;
     Ok(())
 }
 
 /// Closes the node of a schema. What it has evaluated goes, if it fails.
-pub(crate) fn close_schema<W: World, R: Reporter<W>>(
+pub(crate) fn close_schema<W: World, H: PointerText + Drop, R: Reporter<W, H>>(
     alloc: Global,
     world: &W,
-    way: &mut Way<W::Name>,
+    way: &mut Way<W::Name, H>,
     into: &mut R,
     place: Place,
     schema: W::Schema,
-    start: Mark,
+    start: Start,
     valid: bool,
 ) -> Result<(), Memory>
     requires place { W.is_place world.now place ≡ true }
@@ -50,8 +52,8 @@ pub(crate) fn close_schema<W: World, R: Reporter<W>>(
     ensures { OnOk result (SchemaClosed (W.schemas world.now) W.text_of R.takes (W.site world.now place) start valid way.old way.new into.old into.new) }
 {
     into.close_schema(alloc, world, place, schema, valid)?;
-    let _ = way.path.pop();
-    way.scope.pop();
+    way.path.pop();
+    way.scope.cut(start.scope);
     cut_unless(&mut way.names, start.names, valid);
     cut_unless(&mut way.indexes, start.indexes, valid);
     Ok(())
@@ -69,10 +71,10 @@ pub(crate) fn next_keyword<W: World>(
 }
 
 /// Opens the node of a keyword, which may have one.
-pub(crate) fn open_keyword<W: World, R: Reporter<W>>(
+pub(crate) fn open_keyword<W: World, H: PointerText + Drop, R: Reporter<W, H>>(
     alloc: Global,
     world: &W,
-    way: &mut Way<W::Name>,
+    way: &mut Way<W::Name, H>,
     into: &mut R,
     place: Place,
     keyword: W::Keyword,
@@ -87,21 +89,21 @@ pub(crate) fn open_keyword<W: World, R: Reporter<W>>(
 }
 
 /// What a keyword asks for, by what has been evaluated since the schema's node opened.
-pub(crate) fn asked<W: World>(
+pub(crate) fn asked<W: World, H: PointerText + Drop>(
     alloc: Global,
     world: &W,
-    way: &Way<W::Name>,
+    way: &Way<W::Name, H>,
     case: Case<W::Schema, W::Value, W::Keyword>,
-    start: Mark,
+    start: Start,
     condition: Option<bool>,
 ) -> Result<W::Asking, Memory>
-    requires path { list_all (W.is_place world.now) way.now.path.items ≡ true }
-    requires scope { way.now.scope ≡ map (W.resource world.now) way.now.path.items }
+    requires path { list_all (W.is_place world.now) way.now.path ≡ true }
+    requires scope { way.now.scope ≡ dedup nat_eq (map (W.resource world.now) way.now.path) }
     requires place { W.is_place world.now case.place ≡ true }
     requires schema { W.stands_at world.now case.place case.schema }
     requires names { start.names ≤ length way.now.names.items }
     requires indexes { start.indexes ≤ length way.now.indexes.items }
-    ensures asked { IfOk result (λ a. W.asked world.now a ≡ asked_by (W.schemas world.now) 0 (map (W.site world.now) way.now.path.items) (W.site world.now case.place) (W.value_of case.value) (W.keyword_of case.keyword)
+    ensures asked { IfOk result (λ a. W.asked world.now a ≡ asked_by (W.schemas world.now) 0 (map (W.site world.now) way.now.path) (W.site world.now case.place) (W.value_of case.value) (W.keyword_of case.keyword)
         condition (map W.text_of (drop start.names way.now.names.items)) (drop start.indexes way.now.indexes.items)) }
     ensures is { IfOk result (λ a. W.is_asking world.now a) }
 {
@@ -109,7 +111,7 @@ pub(crate) fn asked<W: World>(
     let indexes = &way.indexes[start.indexes..];
     world.asking(
         alloc,
-        way.path.as_slice(),
+        &way.path,
         way.scope.resources(),
         case.place,
         case.schema,
@@ -122,13 +124,13 @@ pub(crate) fn asked<W: World>(
 }
 
 /// Closes the node of a keyword. What it has evaluated goes, if it fails.
-pub(crate) fn close_keyword<W: World, R: Reporter<W>>(
+pub(crate) fn close_keyword<W: World, H: PointerText + Drop, R: Reporter<W, H>>(
     alloc: Global,
     world: &W,
-    way: &mut Way<W::Name>,
+    way: &mut Way<W::Name, H>,
     into: &mut R,
     case: Case<W::Schema, W::Value, W::Keyword>,
-    here: Mark,
+    here: Mark<H::Mark>,
     tally: Tally,
     matching: u64,
 ) -> Result<bool, Memory>
@@ -136,9 +138,9 @@ pub(crate) fn close_keyword<W: World, R: Reporter<W>>(
     requires schema { W.stands_at world.now case.place case.schema }
     requires names { here.names ≤ length way.old.names.items }
     requires indexes { here.indexes ≤ length way.old.indexes.items }
-    requires trail { IsSplitPoint way.old.keyword here.keyword }
+    requires trail { IsSplitPoint way.old.keyword (H.length_at here.keyword) }
     requires keyword { IsKeywordAt (W.schemas world.now) (W.site world.now case.place) (W.keyword_of case.keyword) }
-    ensures { IfOk result (λ passes. KeywordClosed (W.schemas world.now) W.text_of R.takes (W.site world.now case.place) (W.value_of case.value) (W.keyword_of case.keyword) matching tally here passes way.old way.new into.old into.new) }
+    ensures { IfOk result (λ passes. KeywordClosed (W.schemas world.now) W.text_of R.takes H.length_at (W.site world.now case.place) (W.value_of case.value) (W.keyword_of case.keyword) matching tally here passes way.old way.new into.old into.new) }
 {
     let Case {
         place,
@@ -162,10 +164,33 @@ pub(crate) fn close_keyword<W: World, R: Reporter<W>>(
     Ok(passes)
 }
 
-/// Goes to where a schema is applied to a value.
-pub(crate) fn go_down<W: World>(
+/// The node of a keyword that applies no schema.
+pub(crate) fn childless_node<W: World, H: PointerText + Drop, R: Reporter<W, H>>(
+    alloc: Global,
     world: &W,
-    way: &mut Way<W::Name>,
+    way: &mut Way<W::Name, H>,
+    into: &mut R,
+    case: Case<W::Schema, W::Value, W::Keyword>,
+    matching: u64,
+) -> Result<Judged, Memory>
+    requires place { W.is_place world.now case.place ≡ true }
+    requires schema { W.stands_at world.now case.place case.schema }
+    requires keyword { IsKeywordAt (W.schemas world.now) (W.site world.now case.place) (W.keyword_of case.keyword) }
+    requires left { 0 < way.old.left }
+    ensures { IfOk result (λ j. (depth : ℕ) (path : List Site) → KeywordDone (W.schemas world.now) W.text_of R.takes depth path (W.site world.now case.place) (W.value_of case.value) (W.keyword_of case.keyword) matching [] j
+        way.old way.new into.old into.new) }
+{
+    let here = way.mark();
+    open_keyword(alloc, world, way, into, case.place, case.keyword)?;
+    let tally = Tally { asked: 0, held: 0 };
+    let passes = close_keyword(alloc, world, way, into, case, here, tally, matching)?;
+    Ok(Judged { passes, held: 0 })
+}
+
+/// Goes to where a schema is applied to a value.
+pub(crate) fn go_down<W: World, H: PointerText + Drop>(
+    world: &W,
+    way: &mut Way<W::Name, H>,
     application: W::Application,
 ) -> Result<(), Memory>
     ensures { OnOk result (WentDown (W.application_of world.now application) way.old way.new) }
@@ -175,17 +200,17 @@ pub(crate) fn go_down<W: World>(
 }
 
 /// Comes back from there, with what the keyword keeps of what was evaluated.
-pub(crate) fn come_back<W: World>(
+pub(crate) fn come_back<W: World, H: PointerText + Drop>(
     world: &W,
-    way: &mut Way<W::Name>,
+    way: &mut Way<W::Name, H>,
     application: W::Application,
     kind: Kind,
-    here: Mark,
+    here: Mark<H::Mark>,
     holds: bool,
 ) -> Result<(), Memory>
-    requires keyword { IsSplitPoint way.old.keyword here.keyword }
-    requires instance { IsSplitPoint way.old.instance here.instance }
-    ensures { OnOk result (CameBack W.text_of kind (W.application_of world.now application) here holds way.old way.new) }
+    requires keyword { IsSplitPoint way.old.keyword (H.length_at here.keyword) }
+    requires instance { IsSplitPoint way.old.instance (H.length_at here.instance) }
+    ensures { OnOk result (CameBack W.text_of H.length_at kind (W.application_of world.now application) here holds way.old way.new) }
 {
     way.keyword.cut(here.keyword);
     way.instance.cut(here.instance);

@@ -1,85 +1,77 @@
-//! A pointer's text that grows at its end and is cut again.
-ghost use Rattle.std.specs.Prelude.{◌≡◌, ◌++◌, ◌∷◌, [], OnOk, IfOk, length, take, string_bytes, decimal};
-ghost use Rattle.js_doc.specs.Pointer.{escape};
+//! Where a walk is in the schemas, or in the instance.
+ghost use Rattle.std.specs.Prelude.{◌≡◌, ◌++◌, ◌∷◌, [], IfOk, OnOk, decimal, length, take};
 ghost use Rattle.std.specs.String.Boundary.{IsSplitPoint};
+ghost use Rattle.js_doc.specs.Pointer.{escape};
 
+use crate::walking::pointer_text::{HeldText, PointerText};
 use js_doc::{Memory, Text};
 use std::alloc::Global;
 use std::marker::Model;
 
-/// The text of a pointer (RFC 6901). Contracts see its bytes.
-#[derive(Debug, Drop)]
-pub(crate) struct Trail {
-    text: String,
+/// Where a walk is, as the text of a pointer. Contracts see its bytes, whether the text is held or not.
+#[derive(Drop)]
+pub(crate) struct Trail<H: PointerText + Drop> {
+    held: H,
 }
 
-impl Model for Trail {
-    ghost use Rattle.std.specs.Prelude.{ℕ, List, string_bytes};
+impl<H: PointerText + Drop> Model for Trail<H> {
+    ghost use Rattle.std.specs.Prelude.{List, ℕ};
 
     ghost Value = { List ℕ };
 
-    ghost view = { λ t. string_bytes t.text };
+    ghost view = { λ t. H.text t.held };
 }
 
-impl Trail {
-    /// The pointer to the root.
-    pub fn new(alloc: Global) -> Trail
+impl<H: PointerText + Drop> Trail<H> {
+    /// At the root.
+    pub fn new(alloc: Global) -> Trail<H>
         ensures { result ≡ [] }
     {
         Trail {
-            text: String::new(alloc),
+            held: H::root(alloc),
         }
     }
 
-    /// How long the text is.
-    pub fn len(&self) -> usize
-        ensures { result ≡ length self.now }
-    {
-        self.text.len()
-    }
-
     /// Goes one token further.
+    #[inline(always)]
     pub fn push_name(&mut self, token: &str) -> Result<(), Memory>
         ensures { OnOk result (self.new ≡ self.old ++ 47 ∷ escape token.now) }
     {
-        self.text.push('/')?;
-        push_escaped(&mut self.text, token)
+        self.held.push_name(token)
     }
 
     /// Goes one token further, to an item.
+    #[inline(always)]
     pub fn push_index(&mut self, index: usize) -> Result<(), Memory>
         ensures { OnOk result (self.new ≡ self.old ++ 47 ∷ escape (decimal index)) }
     {
-        let mut buffer = itoa::Buffer::new();
-        self.push_name(buffer.format(index))
+        self.held.push_index(index)
     }
 
-    /// Goes back to where the text was so long.
-    pub fn cut(&mut self, len: usize)
-        requires { IsSplitPoint self.old len }
-        ensures { self.new ≡ take len self.old }
+    /// Where it is.
+    #[inline(always)]
+    pub fn mark(&self) -> H::Mark
+        ensures { H.length_at result ≡ length self.now }
     {
-        self.text.truncate(len);
+        self.held.mark()
     }
 
+    /// Goes back to where it was.
+    #[inline(always)]
+    pub fn cut(&mut self, mark: H::Mark)
+        requires { IsSplitPoint self.old (H.length_at mark) }
+        ensures { self.new ≡ take (H.length_at mark) self.old }
+    {
+        self.held.cut(mark);
+    }
+}
+
+impl Trail<HeldText> {
     /// The text as it is now.
     pub fn copy(&self) -> Result<Text, Memory>
         ensures { IfOk result (λ t. t ≡ self.now) }
     {
-        let text = self.text.clone()?;
+        let text = self.held.text.clone()?;
         Ok(Text::new(text))
     }
-}
-
-fn push_escaped(out: &mut String, token: &str) -> Result<(), Memory>
-    ensures { OnOk result (string_bytes out.new ≡ string_bytes out.old ++ escape token.now) }
-{
-    for c in token.chars() {
-        match c {
-            '~' => out.push_str("~0")?,
-            '/' => out.push_str("~1")?,
-            _ => out.push(c)?,
-        }
-    }
-    Ok(())
 }

@@ -1,5 +1,5 @@
 //! What a walk asks of schemas and of an instance.
-ghost use Rattle.std.specs.Prelude.{◌≡◌, ◌∷◌, [], List, ℕ, Bool, true, map, length, nat_eq, option_to_list, IfOk, OnOk, MatchOption};
+ghost use Rattle.std.specs.Prelude.{◌≡◌, ◌∷◌, [], List, ℕ, Bool, Option, false, true, map, length, nat_eq, option_to_list, IfOk, OnOk, MatchOption};
 ghost use Rattle.std.specs.List.{dedup, list_all};
 ghost use Rattle.js_doc.specs.Members.{IsAscending};
 ghost use Rattle.js_doc.specs.Value.{Value as JsonValue};
@@ -13,6 +13,8 @@ ghost use Rattle.js_eval.specs.SchemaSet.{Text as Bytes, SchemaSet};
 ghost use Rattle.js_eval.specs.Walk.Told.{IsKeywordAt, asked_by, accepts_at, keywords_at, kind_at, passes_at, at_name, at_step};
 
 use crate::kind::Kind;
+use crate::walking::path::Path;
+use crate::walking::pointer_text::PointerText;
 use crate::walking::tally::Tally;
 use crate::walking::trail::Trail;
 use js_bundle::Place;
@@ -94,12 +96,17 @@ pub(crate) trait World {
     fn kind(&self, keyword: Self::Keyword) -> Kind
         ensures { result ≡ kind_at (keyword_of keyword) };
 
+    /// Whether a keyword may ask for anything.
+    fn asks(&self, keyword: Self::Keyword) -> bool
+        ensures { (depth : ℕ) (path : List Site) (place : Site) (v : JsonValue) (condition : Option Bool) (names : List Bytes) (indexes : List ℕ)
+            → result ≡ false → asked_by (schemas self.now) depth path place v (keyword_of keyword) condition names indexes ≡ [] };
+
     /// What a keyword asks for, where these facts are known of the keywords before it: the verdict of `if`, and what has been
     /// evaluated. `resources`: those of the path, of equal neighbours one.
     fn asking(
         &self,
         alloc: Global,
-        path: &[Place],
+        path: &Path,
         resources: &[usize],
         place: Place,
         schema: Self::Schema,
@@ -168,14 +175,26 @@ pub(crate) trait World {
             → b ≡ passes_at (schemas self.now) (site self.now place) (value_of value) matching (keyword_of keyword) verdicts) };
 
     /// Goes from a schema to its keyword.
-    fn go_to_keyword(&self, keyword: Self::Keyword, trail: &mut Trail) -> Result<(), Memory>
+    fn go_to_keyword<H: PointerText + Drop>(
+        &self,
+        keyword: Self::Keyword,
+        trail: &mut Trail<H>,
+    ) -> Result<(), Memory>
         ensures { OnOk result (trail.new ≡ at_name trail.old (keyword_of keyword)) };
 
     /// Goes from a keyword to the schema that it applies.
-    fn go_to_schema(&self, application: Self::Application, trail: &mut Trail) -> Result<(), Memory>
+    fn go_to_schema<H: PointerText + Drop>(
+        &self,
+        application: Self::Application,
+        trail: &mut Trail<H>,
+    ) -> Result<(), Memory>
         ensures { OnOk result (trail.new ≡ at_step trail.old (application_of self.now application).step) };
 
     /// Goes from an instance to the value that the schema is applied to.
-    fn go_to_value(&self, application: Self::Application, trail: &mut Trail) -> Result<(), Memory>
+    fn go_to_value<H: PointerText + Drop>(
+        &self,
+        application: Self::Application,
+        trail: &mut Trail<H>,
+    ) -> Result<(), Memory>
         ensures { OnOk result (trail.new ≡ at_step trail.old (application_of self.now application).at) };
 }

@@ -1,4 +1,5 @@
 use Rattle.std.proofs.Common.{◌≡◌, ◌++◌, ◌∷◌, [], ◌+◌, ◌*◌, ◌-◌, ◌<◌, ◌≤◌, length, map}
+use Rattle.js_eval.specs.Walk.Scope.{HasGrown}
 use Rattle.js_eval.specs.Walk.Told.{IsBack}
 use Rattle.js_eval.proofs.Recursion.Each.{EachSoFar}
 use Rattle.js_eval.proofs.Recursion.NodeTelling.{KeywordsLoop}
@@ -16,7 +17,7 @@ decreases-node g l = 3 * l.depth
 abbrev pub invariant-applications-each : goal.invariant-applications-each
 invariant-applications-each g l =
     record {
-      so : EachSoFar (g.W.World.schemas l.world) l.depth (map (g.W.World.site l.world) l.fn.way.path.items) l.kind g.R.Reporter.takes (g.W.World.asked l.world l.fn.asking) (g.W.World.asked l.world l.asking) l.tally.asked l.tally.held
+      so : EachSoFar (g.W.World.schemas l.world) l.depth (map (g.W.World.site l.world) l.fn.way.path) l.kind g.R.Reporter.takes (g.W.World.asked l.world l.fn.asking) (g.W.World.asked l.world l.asking) l.tally.asked l.tally.held
           (map g.W.World.text_of l.fn.way.names.items) (map g.W.World.text_of l.way.names.items) l.fn.way.indexes.items l.way.indexes.items l.fn.way.left l.way.left l.fn.way.keyword l.fn.way.instance l.fn.into l.into;
       back : IsBack l.fn.way l.way;
       asking : g.W.World.is_asking l.world l.asking;
@@ -30,10 +31,10 @@ decreases-applications-each g l = length (g.W.World.asked l.world l.asking)
 abbrev pub invariant-node-keywords : goal.invariant-node-keywords
 invariant-node-keywords g l =
     record {
-      loop : KeywordsLoop (g.W.World.schemas l.world) (l.depth - 1) (map (g.W.World.site l.world) l.fn.way.path.items) (g.W.World.site l.world l.place) (g.W.World.value_of l.value) g.R.Reporter.takes (g.W.World.listed l.judging.keywords) l.judging.known.valid l.judging.known.condition l.judging.known.matching
+      loop : KeywordsLoop (g.W.World.schemas l.world) (l.depth - 1) (map (g.W.World.site l.world) l.fn.way.path) (g.W.World.site l.world l.place) (g.W.World.value_of l.value) g.R.Reporter.takes (g.W.World.listed l.judging.keywords) l.judging.known.valid l.judging.known.condition l.judging.known.matching
           (map g.W.World.text_of l.fn.way.names.items) (map g.W.World.text_of l.way.names.items) l.fn.way.indexes.items l.way.indexes.items l.fn.way.left l.way.left l.fn.way.keyword l.fn.way.instance l.fn.into l.into;
-      path : l.way.path.items ≡ l.fn.way.path.items ++ l.place ∷ [];
-      scope : l.way.scope ≡ l.fn.way.scope ++ g.W.World.resource l.world l.place ∷ [];
+      path : l.way.path ≡ l.fn.way.path ++ l.place ∷ [];
+      scope : HasGrown l.fn.way.scope (g.W.World.resource l.world l.place) l.way.scope;
       keyword : l.way.keyword ≡ l.fn.way.keyword;
       instance : l.way.instance ≡ l.fn.way.instance;
       falls : l.way.left < l.fn.way.left;

@@ -8,11 +8,11 @@ use Rattle.js_eval.proofs.walking.start.walk_from.Goals as goal
 
 pub returns-in-Ok : goal.returns-in-Ok
 returns-in-Ok g c =
-    led (g.W.World.schemas c.args.world.now) g.W.World.text_of g.R.Reporter.takes (g.W.World.site c.args.world.now c.args.place) (g.W.World.value_of c.args.value) most_levels most_nodes c.in-Ok.valid (map (g.W.World.site c.args.world.now) c.new.result.items) _ _ _ _
-    (ap (map (g.W.World.site c.args.world.now)) c.new.ensures.items) refl refl c.new-2.ensures c.new-3.ensures c.in-Ok.ensures
+    led (g.W.World.schemas c.args.world.now) g.W.World.text_of g.R.Reporter.takes (g.W.World.site c.args.world.now c.args.place) (g.W.World.value_of c.args.value) most_levels c.in-Ok.valid (map (g.W.World.site c.args.world.now) c.new.result) _ _ _ _
+    (ap (map (g.W.World.site c.args.world.now)) c.new.ensures) refl refl c.new-2.ensures c.new-3.ensures c.in-Ok.ensures
 
 pub returns : goal.returns
 returns g c =
-    on_too_large (HasNone (g.W.World.schemas c.args.world.now) most_levels (map (g.W.World.site c.args.world.now) c.new.result.items) (g.W.World.site c.args.world.now c.args.place) (g.W.World.value_of c.args.value) most_nodes)
+    on_too_large (HasNone (g.W.World.schemas c.args.world.now) most_levels (map (g.W.World.site c.args.world.now) c.new.result) (g.W.World.site c.args.world.now c.args.place) (g.W.World.value_of c.args.value) most_nodes)
     ((t : ResultTree) → IsResult (g.W.World.schemas c.args.world.now) [] (g.W.World.site c.args.world.now c.args.place) at_root (g.W.World.value_of c.args.value) t → IsWithinLimits t → ⊥) c.in-Err.fault
-    (λ none. none_led (g.W.World.schemas c.args.world.now) g.W.World.text_of g.R.Reporter.takes (g.W.World.site c.args.world.now c.args.place) (g.W.World.value_of c.args.value) most_levels most_nodes (map (g.W.World.site c.args.world.now) c.new.result.items) most_nodes (ap (map (g.W.World.site c.args.world.now)) c.new.ensures.items) refl refl none) c.in-Err.ensures
+    (λ none. none_led (g.W.World.schemas c.args.world.now) (g.W.World.site c.args.world.now c.args.place) (g.W.World.value_of c.args.value) most_levels (map (g.W.World.site c.args.world.now) c.new.result) most_nodes (ap (map (g.W.World.site c.args.world.now)) c.new.ensures) refl refl none) c.in-Err.ensures

@@ -1,12 +1,19 @@
-use Rattle.js_eval.proofs.Scopes.{grows_apart, stays_apart}
+use Rattle.std.proofs.Common.{◌≡◌, ◌++◌, ◌∷◌, []}
+use Rattle.js_eval.proofs.Scopes.{grows, stays}
 use Rattle.js_eval.proofs.walking.dynamic_scope.DynamicScope.push.Goals as goal
 
-pub invariant_of-self-then-stays : goal.invariant_of-self-then-stays
-invariant_of-self-then-stays c =
-    stays_apart c.self.inside.apart.items c.self.inside.each.items c.push.new.self.items c.as_slice.result.now c.args.resource c.is_last-stays.result
-    c.self.invariant c.in_ok-push.ensures.items c.as_slice.ensures.value c.is_last-stays.ensures c.if-stays.true
+pub returns-in_ok-push : goal.returns-in_ok-push
+returns-in_ok-push c =
+    let v = c.self.view_is in
+    let a = c.as_slice.ensures.value in
+    let p = c.in_ok-push.ensures.items in
+    let from : c.as_slice.result.now ≡ c.args.self.now = cc in
+    let more : c.push.new.self.items ≡ c.args.self.now ++ c.args.resource ∷ [] = cc in
+    grows c.args.self.now c.push.new.self.items c.as_slice.result.now c.args.resource c.is_last.result from c.is_last.ensures c.if-not-is_last.true more
 
-pub invariant_of-self-in-Ok : goal.invariant_of-self-in-Ok
-invariant_of-self-in-Ok c =
-    grows_apart c.self.inside.apart.items c.push-2.new.self.items c.self.inside.each.items c.push.new.self.items c.as_slice.result.now c.args.resource c.is_last-stays.result
-    c.self.invariant c.in_ok-push.ensures.items c.as_slice.ensures.value c.is_last-stays.ensures c.if-stays.false c.in-Ok.ensures.items
+pub returns-else-not-is_last : goal.returns-else-not-is_last
+returns-else-not-is_last c =
+    let v = c.self.view_is in
+    let a = c.as_slice.ensures.value in
+    let from : c.as_slice.result.now ≡ c.args.self.now = cc in
+    stays c.args.self.now c.as_slice.result.now c.args.resource c.is_last.result from c.is_last.ensures c.if-not-is_last.false

@@ -2,7 +2,7 @@ use Rattle.std.proofs.Common.{◌≡◌, ◌==◌, false, ◌++◌, string_bytes
 use lib.Utf8.{encode}
 use Rattle.js_doc.specs.Pointer.{escape}
 use Rattle.js_doc.proofs.Escapes.{escape_encode}
-use Rattle.js_eval.proofs.walking.trail.push_escaped.Goals as goal
+use Rattle.js_eval.proofs.walking.pointer_text.push_escaped.Goals as goal
 
 pub loop-c-preserved : goal.loop-c-preserved
 loop-c-preserved c =

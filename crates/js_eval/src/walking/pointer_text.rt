@@ -1,0 +1,133 @@
+//! How the text of a trail is held, or that it isn't.
+ghost use Rattle.std.specs.Prelude.{◌≡◌, ◌++◌, ◌∷◌, [], List, OnOk, decimal, length, string_bytes, take, ℕ};
+ghost use Rattle.std.specs.String.Boundary.{IsSplitPoint};
+ghost use Rattle.js_doc.specs.Pointer.{escape};
+
+use crate::walking::unseen::Unseen;
+use js_doc::Memory;
+use std::alloc::Global;
+use std::snapshot::Snapshot;
+
+/// The text of a pointer (RFC 6901), which grows at its end and is cut again.
+pub(crate) trait PointerText {
+    /// How long it was.
+    type Mark: Drop;
+
+    ghost text: { Self → List ℕ };
+
+    ghost length_at: { Self.Mark → ℕ };
+
+    /// The pointer to the root.
+    fn root(alloc: Global) -> Self
+        ensures { text result ≡ [] };
+
+    /// Goes one token further.
+    fn push_name(&mut self, token: &str) -> Result<(), Memory>
+        ensures { OnOk result (text self.new ≡ text self.old ++ 47 ∷ escape token.now) };
+
+    /// Goes one token further, to an item.
+    fn push_index(&mut self, index: usize) -> Result<(), Memory>
+        ensures { OnOk result (text self.new ≡ text self.old ++ 47 ∷ escape (decimal index)) };
+
+    /// How long it is.
+    fn mark(&self) -> Self::Mark
+        ensures { length_at result ≡ length (text self.now) };
+
+    /// Goes back to where it was so long.
+    fn cut(&mut self, mark: Self::Mark)
+        requires { IsSplitPoint (text self.old) (length_at mark) }
+        ensures { text self.new ≡ take (length_at mark) (text self.old) };
+}
+
+/// A text that is held.
+#[derive(Debug, Drop)]
+pub(crate) struct HeldText {
+    pub text: String,
+}
+
+impl PointerText for HeldText {
+    type Mark = usize;
+
+    ghost text = { λ t. string_bytes t.text };
+
+    ghost length_at = { λ n. n };
+
+    fn root(alloc: Global) -> HeldText {
+        HeldText {
+            text: String::new(alloc),
+        }
+    }
+
+    fn push_name(&mut self, token: &str) -> Result<(), Memory> {
+        self.text.push('/')?;
+        push_escaped(&mut self.text, token)
+    }
+
+    fn push_index(&mut self, index: usize) -> Result<(), Memory> {
+        let mut buffer = itoa::Buffer::new();
+        self.push_name(buffer.format(index))
+    }
+
+    fn mark(&self) -> usize {
+        self.text.len()
+    }
+
+    fn cut(&mut self, mark: usize) {
+        self.text.truncate(mark);
+    }
+}
+
+fn push_escaped(out: &mut String, token: &str) -> Result<(), Memory>
+    ensures { OnOk result (string_bytes out.new ≡ string_bytes out.old ++ escape token.now) }
+{
+    for c in token.chars() {
+        match c {
+            '~' => out.push_str("~0")?,
+            '/' => out.push_str("~1")?,
+            _ => out.push(c)?,
+        }
+    }
+    Ok(())
+}
+
+/// A text that nobody reads, and that contracts alone see: for a walk of which no location is wanted.
+#[derive(Drop)]
+pub(crate) struct UnseenText {
+    text: Unseen,
+}
+
+impl PointerText for UnseenText {
+    type Mark = Snapshot<Unseen>;
+
+    ghost text = { λ t. t.text.items };
+
+    ghost length_at = { λ m. length m.value.items };
+
+    fn root(_alloc: Global) -> UnseenText {
+        UnseenText {
+            text: Unseen::new(),
+        }
+    }
+
+    #[inline(always)]
+    fn push_name(&mut self, token: &str) -> Result<(), Memory> {
+        self.text = self.text.with_name(token);
+        Ok(())
+    }
+
+    #[inline(always)]
+    fn push_index(&mut self, index: usize) -> Result<(), Memory> {
+        self.text = self.text.with_index(index);
+        Ok(())
+    }
+
+    #[inline(always)]
+    fn mark(&self) -> Snapshot<Unseen> {
+        Snapshot::of(&self.text)
+    }
+
+    #[inline(always)]
+    fn cut(&mut self, mark: Snapshot<Unseen>) {
+        self.text = self.text.until(&mark);
+    }
+}
