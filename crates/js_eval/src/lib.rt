@@ -17,6 +17,7 @@ mod keyword;
 mod keyword_cursor;
 mod kind;
 pub mod laws;
+mod lending;
 mod member_cursor;
 mod name_set;
 mod pattern_cursor;
@@ -30,6 +31,6 @@ mod turn;
 mod walking;
 
 pub use by_name::kind_of;
-pub use into::{verdict, walk, walk_into};
+pub use into::{verdict, walk, walk_into, walk_rows};
 pub use kind::Kind;
 pub use walking::WalkFault;
