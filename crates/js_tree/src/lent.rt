@@ -1,8 +1,9 @@
 //! A result as rows that are lent their texts.
 ghost use Rattle.std.specs.Prelude.{◌≡◌, IfOk};
 ghost use Rattle.js_tree.specs.Events.{opening, closing};
-ghost use Rattle.js_tree.specs.FlatState.{flat_after, flat_start};
+ghost use Rattle.js_tree.specs.FlatState.{IsWholeTree, flat_after, flat_start, whole_tree};
 ghost use Rattle.js_tree.specs.LentState.{lent_state};
+ghost use Rattle.js_tree.specs.Result.{ResultTree};
 ghost use Rattle.js_tree.specs.Seen.{note_of};
 
 use crate::note::Note;
@@ -83,5 +84,15 @@ impl<'a> LentRows<'a> {
                 row.size = count - number;
             }
         }
+    }
+
+    /// The root's verdict. The rows have to be a whole tree's.
+    pub fn is_valid(&self) -> bool
+        requires { IsWholeTree (lent_state self.now) }
+        ensures { (t : ResultTree) → lent_state self.now ≡ whole_tree t → result ≡ t.root.valid }
+    {
+        let rows = self.rows.as_slice();
+        let root = &rows[0];
+        root.valid
     }
 }
