@@ -10,6 +10,7 @@ use crate::here::Here;
 use crate::instance::Instance;
 use crate::lending::Lending;
 use crate::searchers::Searchers;
+use crate::texts::Texts;
 use crate::walking::{Silent, WalkFault, walk_from};
 use bumpalo::Bump;
 use js_bundle::{Place, Schemas};
@@ -91,12 +92,13 @@ pub fn walk_rows<'a>(
     ensures ok { IfOk result (AreResultRows schemas.now place (value_of value.now)) }
     ensures too_large { IfErr result (λ e. OnTooLarge e (NoneStands schemas.now place (value_of value.now))) }
 {
+    let texts = Texts::new(alloc, arena)?;
     let here = Here {
         schemas,
         searchers: Searchers::new(alloc),
     };
     let mut lending = Lending {
-        arena,
+        texts,
         rows: LentRows::new(alloc),
         open: Vec::new(alloc),
         location: String::new(alloc),
@@ -105,7 +107,7 @@ pub fn walk_rows<'a>(
     let value = Instance::Doc(value);
     let done = walk_from(alloc, &here, &mut lending, place, schema, value);
     let Lending {
-        arena: _,
+        texts: _,
         rows,
         open: _,
         location: _,

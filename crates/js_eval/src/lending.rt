@@ -11,8 +11,8 @@ use crate::here::Here;
 use crate::instance::Instance;
 use crate::keyword::Keyword;
 use crate::telling::keyword_note;
+use crate::texts::Texts;
 use crate::walking::{Judged, Reporter, Trail};
-use bumpalo::Bump;
 use js_bundle::Place;
 use js_doc::{Doc, Memory, push_fragment_token};
 use js_tree::LentRows;
@@ -25,11 +25,11 @@ pub(crate) struct Standing<'a> {
     instance: &'a str,
 }
 
-/// Rows to which each node goes. Their locations stand in the arena, where a node shares those of the one above it as far as
-/// they are the same, and in the schemas.
+/// Rows to which each node goes. Their locations stand in an arena and in the schemas, and a node shares those of the node
+/// above it as far as they are the same.
 #[derive(Drop)]
 pub(crate) struct Lending<'a> {
-    pub arena: &'a Bump,
+    pub texts: Texts<'a>,
     pub rows: LentRows<'a>,
     // The open nodes, the innermost last.
     pub open: Vec<Standing<'a>>,
@@ -50,7 +50,7 @@ impl<'a> Reporter<Here<'a>> for Lending<'a> {
     ) -> Result<(), Memory> {
         let absolute = schema_location(world, place);
         let standing = standing_at(
-            self.arena,
+            &self.texts,
             self.open.as_slice(),
             keyword_location,
             instance_location,
@@ -70,14 +70,14 @@ impl<'a> Reporter<Here<'a>> for Lending<'a> {
         instance_location: &Trail,
     ) -> Result<(), Memory> {
         let absolute = location_of_keyword(
-            self.arena,
+            &mut self.texts,
             &mut self.location,
             world,
             place,
             keyword.name,
         )?;
         let standing = standing_at(
-            self.arena,
+            &self.texts,
             self.open.as_slice(),
             keyword_location,
             instance_location,
@@ -141,7 +141,7 @@ fn schema_location<'a>(world: &Here<'a>, place: Place) -> &'a str
 
 // The absolute location of the keyword of this name at a place.
 fn location_of_keyword<'a>(
-    arena: &'a Bump,
+    texts: &mut Texts<'a>,
     location: &mut String,
     world: &Here<'a>,
     place: Place,
@@ -150,12 +150,12 @@ fn location_of_keyword<'a>(
     requires { is_place world.now.schemas.now place ≡ true }
     ensures { IfOk result (λ t. t.now ≡ (schemas_of world.now.schemas.now).absolute (numbered_site world.now.schemas.now place) (Some keyword.now)) }
 {
-    one_further(arena, location, world.schemas.absolute_of(place), keyword)
+    one_further(texts, location, world.schemas.absolute_of(place), keyword)
 }
 
 // A location, and behind it one token.
 fn one_further<'a>(
-    arena: &'a Bump,
+    texts: &mut Texts<'a>,
     text: &mut String,
     location: &str,
     token: &str,
@@ -165,12 +165,12 @@ fn one_further<'a>(
     text.clear();
     text.push_str(location)?;
     push_fragment_token(text, token)?;
-    Ok(arena.try_alloc_str(text.as_str())?)
+    texts.again(text.as_str())
 }
 
 // Where a node stands that opens below those.
 fn standing_at<'a>(
-    arena: &'a Bump,
+    texts: &Texts<'a>,
     open: &[Standing<'a>],
     keyword: &Trail,
     instance: &Trail,
@@ -180,8 +180,8 @@ fn standing_at<'a>(
 {
     let above = innermost(open);
     Ok(Standing {
-        keyword: lent(arena, above.keyword, keyword.as_str())?,
-        instance: lent(arena, above.instance, instance.as_str())?,
+        keyword: texts.below(above.keyword, keyword.as_str())?,
+        instance: texts.below(above.instance, instance.as_str())?,
     })
 }
 
@@ -193,14 +193,4 @@ fn innermost<'a>(open: &[Standing<'a>]) -> Standing<'a> {
             instance: "",
         },
     }
-}
-
-// The text: the one above, where it is the same.
-fn lent<'a>(arena: &'a Bump, above: &'a str, text: &str) -> Result<&'a str, Memory>
-    ensures { IfOk result (λ t. t.now ≡ text.now) }
-{
-    if above == text {
-        return Ok(above);
-    }
-    Ok(arena.try_alloc_str(text)?)
 }

@@ -27,6 +27,7 @@ mod start;
 mod start_items;
 mod start_members;
 mod telling;
+mod texts;
 mod turn;
 mod walking;
 
