@@ -143,7 +143,7 @@ put_roots-put_root-requires g t c κs within =
     let size : l.next + c.size.result - l.next ≡ c.size.result = omega arith in
     let all_is = ap (λ n. map g.L.Line.flat_row (take n (drop l.next rows))) size ∙ (t.all ∙ sym (flat-flat_of one)) in
     let few : length (take (l.next + c.size.result - l.next) (drop l.next rows)) ≤ length rows = shorter (l.next + c.size.result - l.next) l.next rows in
-    (omega (arith, few, c.decreases), (within, (one, all_is)))
+    (omega (arith, few, c.decreases), (within.0, (within.1, (one, all_is))))
 
 pub put_roots-returns-in_err-put_root : goal.put_roots-returns-in_err-put_root
 put_roots-returns-in_err-put_root g t c =
