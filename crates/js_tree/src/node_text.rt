@@ -1,5 +1,5 @@
 //! The text of a node piece by piece, in the ascending order of its members (Core, section 12.3).
-ghost use Rattle.std.specs.Prelude.{◌++◌, [], codes, false, map, pos, true};
+ghost use Rattle.std.specs.Prelude.{◌++◌, codes, false, map, pos, true};
 ghost use Rattle.js_doc.specs.BytesOut.{Puts};
 ghost use Rattle.js_doc.specs.Compact.{comma_if, compact, quoted};
 ghost use Rattle.js_doc.specs.Seen.{value_of};

@@ -1,4 +1,4 @@
-use Rattle.std.proofs.Common.{◌++◌, ap, subst, refl}
+use Rattle.std.proofs.Common.{◌++◌, subst, refl}
 use Rattle.js_doc.specs.BytesOut.{Puts}
 use Rattle.js_tree.specs.code.NodeText.{error_part, head_text, tail_text}
 use Rattle.js_tree.proofs.Pieces.{then_puts, stops_in}
