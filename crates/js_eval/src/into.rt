@@ -2,20 +2,17 @@
 ghost use Rattle.std.specs.Prelude.{◌≡◌, true, IfOk, IfErr};
 ghost use Rattle.js_doc.specs.Seen.{value_of};
 ghost use Rattle.js_bundle.specs.Schemas.{is_place};
-ghost use Rattle.js_eval.specs.Walked.{AreResultRows, IsResultWithin, IsVerdict, LeadsTo, NoneStands, OnTooLarge};
+ghost use Rattle.js_eval.specs.Walked.{IsResultWithin, IsVerdict, LeadsTo, NoneStands, OnTooLarge};
 
 use crate::bundled::schema_at;
 use crate::collecting::Collecting;
 use crate::here::Here;
 use crate::instance::Instance;
-use crate::lending::Lending;
 use crate::searchers::Searchers;
-use crate::texts::Texts;
 use crate::walking::{Silent, WalkFault, walk_from};
-use bumpalo::Bump;
 use js_bundle::{Place, Schemas};
 use js_doc::Doc;
-use js_tree::{Boxed, Collector, LentRows, Tree};
+use js_tree::{Boxed, Collector, Tree};
 use std::alloc::Global;
 use std::marker::PhantomData;
 
@@ -74,47 +71,6 @@ pub fn walk<'a>(
     match walk_into(alloc, schemas, place, value, Boxed::new(alloc)) {
         Ok(boxed) => Ok(boxed.tree().unwrap()),
         Err((fault, _boxed)) => Err(fault),
-    }
-}
-
-/// The result of judging the value at the place, as rows whose locations stand in the arena and in the schemas.
-///
-/// # Errors
-/// As `walk`.
-pub fn walk_rows<'a>(
-    alloc: Global,
-    arena: &'a Bump,
-    schemas: &'a Schemas,
-    place: Place,
-    value: &'a Doc,
-) -> Result<LentRows<'a>, WalkFault>
-    requires { is_place schemas.now place ≡ true }
-    ensures ok { IfOk result (AreResultRows schemas.now place (value_of value.now)) }
-    ensures too_large { IfErr result (λ e. OnTooLarge e (NoneStands schemas.now place (value_of value.now))) }
-{
-    let texts = Texts::new(alloc, arena)?;
-    let here = Here {
-        schemas,
-        searchers: Searchers::new(alloc),
-    };
-    let mut lending = Lending {
-        texts,
-        rows: LentRows::new(alloc),
-        open: Vec::new(alloc),
-        location: String::new(alloc),
-    };
-    let schema = schema_at(schemas, place);
-    let value = Instance::Doc(value);
-    let done = walk_from(alloc, &here, &mut lending, place, schema, value);
-    let Lending {
-        texts: _,
-        rows,
-        open: _,
-        location: _,
-    } = lending;
-    match done {
-        Ok(_) => Ok(rows),
-        Err(fault) => Err(fault),
     }
 }
 

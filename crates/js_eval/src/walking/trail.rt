@@ -62,13 +62,6 @@ impl Trail {
         self.text.truncate(len);
     }
 
-    /// The text as it is now, lent.
-    pub fn as_str(&self) -> &str
-        ensures { result.now ≡ self.now }
-    {
-        self.text.as_str()
-    }
-
     /// The text as it is now.
     pub fn copy(&self) -> Result<Text, Memory>
         ensures { IfOk result (λ t. t ≡ self.now) }
