@@ -1,41 +1,55 @@
 //! The text of a node piece by piece, in the ascending order of its members (Core, section 12.3).
-ghost use Rattle.std.specs.Prelude.{◌++◌, [], codes, false, map, pos, true};
+ghost use Rattle.std.specs.Prelude.{◌++◌, codes, false, map, pos, true};
 ghost use Rattle.js_doc.specs.BytesOut.{Puts};
 ghost use Rattle.js_doc.specs.Compact.{comma_if, compact, quoted};
 ghost use Rattle.js_doc.specs.Seen.{value_of};
 ghost use Rattle.js_doc.specs.Value.{items, list, text, whole};
-ghost use Rattle.js_tree.specs.Form.{node_value};
-ghost use Rattle.js_tree.specs.code.NodeText.{annotation_part, error_part, head_text, tail_text, valid_text};
+ghost use Rattle.js_tree.specs.code.NodeText.{annotation_part, beginning_text, end_text, error_part, head_text, tail_text, valid_text};
 ghost use Rattle.js_tree.specs.Seen.{note_of};
 
 use crate::note::Note;
 use crate::unit::Unit;
-use js_doc::{Doc, Out, Stopped, Text, Whole, put_number, put_string, put_text};
-
-/// Puts a node without children.
-pub(crate) fn put_leaf<O: Out>(unit: &Unit, out: &mut O) -> Result<(), Stopped>
-    ensures { Puts (O.progress out.old) (O.progress out.new) (compact (node_value unit.now [])) result }
-{
-    put_head(unit, out)?;
-    put_error(&unit.note, out)?;
-    put_tail(unit, out)
-}
+use js_doc::{Doc, Out, Stopped, Whole, put_number, put_string, put_text};
 
 /// Puts the members before `annotations`.
 pub(crate) fn put_head<O: Out>(unit: &Unit, out: &mut O) -> Result<(), Stopped>
     ensures { Puts (O.progress out.old) (O.progress out.new) (head_text unit.now) result }
 {
-    put_member(b"{\"absoluteKeywordLocation\":", &unit.absolute, out)?;
-    put_annotation(&unit.note, out)
+    put_beginning(unit.absolute.as_str(), &unit.note, out)
+}
+
+/// Puts the members before `annotations`: the absolute location, and the annotation, if the note is one.
+pub(crate) fn put_beginning<O: Out>(absolute: &str, note: &Note, out: &mut O) -> Result<(), Stopped>
+    ensures { Puts (O.progress out.old) (O.progress out.new) (beginning_text absolute.now (note_of note.now)) result }
+{
+    put_member(b"{\"absoluteKeywordLocation\":", absolute, out)?;
+    put_annotation(note, out)
 }
 
 /// Puts the members after `errors`.
 pub(crate) fn put_tail<O: Out>(unit: &Unit, out: &mut O) -> Result<(), Stopped>
     ensures { Puts (O.progress out.old) (O.progress out.new) (tail_text unit.now) result }
 {
-    put_member(b",\"instanceLocation\":", &unit.instance, out)?;
-    put_member(b",\"keywordLocation\":", &unit.keyword, out)?;
-    put_valid(unit.valid, out)
+    put_end(
+        unit.instance.as_str(),
+        unit.keyword.as_str(),
+        unit.valid,
+        out,
+    )
+}
+
+/// Puts the members after `errors`: the instance location, the keyword location and the verdict.
+pub(crate) fn put_end<O: Out>(
+    instance: &str,
+    keyword: &str,
+    valid: bool,
+    out: &mut O,
+) -> Result<(), Stopped>
+    ensures { Puts (O.progress out.old) (O.progress out.new) (end_text instance.now keyword.now valid) result }
+{
+    put_member(b",\"instanceLocation\":", instance, out)?;
+    put_member(b",\"keywordLocation\":", keyword, out)?;
+    put_valid(valid, out)
 }
 
 /// Puts the last member.
@@ -54,7 +68,7 @@ pub(crate) fn put_error<O: Out>(note: &Note, out: &mut O) -> Result<(), Stopped>
     ensures { Puts (O.progress out.old) (O.progress out.new) (error_part (note_of note.now)) result }
 {
     match note {
-        Note::Error(reason) => put_member(b",\"error\":", reason, out),
+        Note::Error(reason) => put_member(b",\"error\":", reason.as_str(), out),
         Note::Silent => Ok(()),
         Note::Value(_) => Ok(()),
         Note::Names(_) => Ok(()),
@@ -120,11 +134,11 @@ fn put_indexes<O: Out>(indexes: &[u64], out: &mut O) -> Result<(), Stopped>
 }
 
 /// Puts a member whose value is a text, after what stands before it.
-fn put_member<O: Out>(start: &[u8], value: &Text, out: &mut O) -> Result<(), Stopped>
+fn put_member<O: Out>(start: &[u8], value: &str, out: &mut O) -> Result<(), Stopped>
     ensures { Puts (O.progress out.old) (O.progress out.new) (start.now ++ quoted value.now) result }
 {
     out.put(start)?;
-    put_string(value.as_str(), out)
+    put_string(value, out)
 }
 
 /// Puts a comma, where something stands before.

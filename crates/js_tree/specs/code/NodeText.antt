@@ -17,17 +17,23 @@ annotation_part note = given_text (codes ",\"annotation\":") (annotation_value n
 abbrev pub error_part : Note → List ℕ
 error_part note = given_text (codes ",\"error\":") (error_value note)
 
+abbrev pub beginning_text : List ℕ → Note → List ℕ
+beginning_text absolute note = codes "{\"absoluteKeywordLocation\":" ++ (quoted absolute ++ annotation_part note)
+
 -- up to where the annotations of a passing node's children stand
 abbrev pub head_text : OutputUnit → List ℕ
-head_text u = codes "{\"absoluteKeywordLocation\":" ++ (quoted u.absolute ++ annotation_part u.note)
+head_text u = beginning_text u.absolute u.note
 
 abbrev pub valid_text : Bool → List ℕ
 valid_text true = codes ",\"valid\":true}"
 valid_text false = codes ",\"valid\":false}"
 
+abbrev pub end_text : List ℕ → List ℕ → Bool → List ℕ
+end_text instance keyword valid = codes ",\"instanceLocation\":" ++ (quoted instance ++ (codes ",\"keywordLocation\":" ++ (quoted keyword ++ valid_text valid)))
+
 -- from where the errors of a failing node's children have stood
 abbrev pub tail_text : OutputUnit → List ℕ
-tail_text u = codes ",\"instanceLocation\":" ++ (quoted u.instance ++ (codes ",\"keywordLocation\":" ++ (quoted u.keyword ++ valid_text u.valid)))
+tail_text u = end_text u.instance u.keyword u.valid
 
 abbrev pub node_text : OutputUnit → List Value → List ℕ
 node_text u children =

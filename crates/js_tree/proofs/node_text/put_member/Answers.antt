@@ -1,6 +1,4 @@
-use Rattle.std.proofs.Common.{◌++◌, subst}
 use Rattle.js_doc.specs.Compact.{quoted}
-use Rattle.js_doc.specs.BytesOut.{Puts}
 use Rattle.js_tree.proofs.Pieces.{then_puts, stops_in}
 use Rattle.js_tree.proofs.node_text.put_member.Goals as goal
 
@@ -12,5 +10,4 @@ returns-in_err-put g c =
 pub returns : goal.returns
 returns g c =
     let o = g.O.Out.progress in
-    subst (λ k. Puts (o c.args.out.now) (o c.put_string.new.out) (c.args.start.now ++ quoted k) c.put_string.result) c.as_str.ensures
-    (then_puts (o c.args.out.now) (o c.put.new.self) (o c.put_string.new.out) c.args.start.now (quoted c.as_str.result.now) c.put_string.result c.in_ok-put.ensures c.put_string.ensures)
+    then_puts (o c.args.out.now) (o c.put.new.self) (o c.put_string.new.out) c.args.start.now (quoted c.args.value.now) c.put_string.result c.in_ok-put.ensures c.put_string.ensures

@@ -1,37 +1,12 @@
-use Rattle.std.proofs.Common.{◌++◌, codes, subst}
+use Rattle.std.proofs.Common.{ap, subst, ◌∙◌}
 use Rattle.js_doc.specs.BytesOut.{Puts}
-use Rattle.js_doc.specs.Compact.{quoted}
-use Rattle.js_tree.specs.code.NodeText.{tail_text, valid_text}
-use Rattle.js_tree.proofs.Pieces.{then_puts, stops_in}
+use Rattle.js_tree.specs.code.NodeText.{end_text}
 use Rattle.js_tree.proofs.node_text.put_tail.Goals as goal
-
-pub returns-in_err-put_member : goal.returns-in_err-put_member
-returns-in_err-put_member g c =
-    let o = g.O.Out.progress in
-    let i = c.unit.inside in
-    let p = codes ",\"instanceLocation\":" ++ quoted i.instance in
-    let q = codes ",\"keywordLocation\":" ++ quoted i.keyword in
-    subst (λ u. Puts (o c.args.out.now) (o c.put_member.new.out) (tail_text u) c.from_residual.result) c.unit.view_is
-    (stops_in (o c.args.out.now) (o c.put_member.new.out) p (q ++ valid_text i.valid) c.from_residual.result c.from_residual.ensures.0 c.in_err-put_member.ensures)
-
-pub returns-in_err-put_member-2 : goal.returns-in_err-put_member-2
-returns-in_err-put_member-2 g c =
-    let o = g.O.Out.progress in
-    let i = c.unit.inside in
-    let p = codes ",\"instanceLocation\":" ++ quoted i.instance in
-    let q = codes ",\"keywordLocation\":" ++ quoted i.keyword in
-    let r = c.from_residual-in_err-put_member-2.result in
-    subst (λ u. Puts (o c.args.out.now) (o c.put_member-2.new.out) (tail_text u) r) c.unit.view_is
-    (then_puts (o c.args.out.now) (o c.put_member.new.out) (o c.put_member-2.new.out) p (q ++ valid_text i.valid) r c.in_ok-put_member.ensures
-    (stops_in (o c.put_member.new.out) (o c.put_member-2.new.out) q (valid_text i.valid) r c.from_residual-in_err-put_member-2.ensures.0 c.in_err-put_member-2.ensures))
 
 pub returns : goal.returns
 returns g c =
     let o = g.O.Out.progress in
     let i = c.unit.inside in
-    let p = codes ",\"instanceLocation\":" ++ quoted i.instance in
-    let q = codes ",\"keywordLocation\":" ++ quoted i.keyword in
-    let r = c.put_valid.result in
-    subst (λ u. Puts (o c.args.out.now) (o c.put_valid.new.out) (tail_text u) r) c.unit.view_is
-    (then_puts (o c.args.out.now) (o c.put_member.new.out) (o c.put_valid.new.out) p (q ++ valid_text i.valid) r c.in_ok-put_member.ensures
-    (then_puts (o c.put_member.new.out) (o c.put_member-2.new.out) (o c.put_valid.new.out) q (valid_text i.valid) r c.in_ok-put_member-2.ensures c.put_valid.ensures))
+    subst (λ l. Puts (o c.args.out.now) (o c.put_end.new.out) l c.put_end.result)
+    (ap (λ t. end_text t c.as_str-2.result.now i.valid) c.as_str.ensures ∙ (ap (λ t. end_text i.instance t i.valid) c.as_str-2.ensures ∙ ap (λ u. end_text u.instance u.keyword u.valid) c.unit.view_is))
+    c.put_end.ensures
