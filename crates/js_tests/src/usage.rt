@@ -1,7 +1,8 @@
-//! The example of docs/USING.md: check the schemas once, then ask for a verdict per instance.
+//! The example of docs/USING.md: check the schemas once, then ask per instance.
 use js_bundle::{Bundle, Schemas};
 use js_doc::read;
 use js_eval::verdict;
+use js_output::{Format, Sink, run_finished};
 use std::alloc::Global;
 use std::test::Fail;
 
@@ -24,6 +25,20 @@ fn is_person(alloc: Global, schemas: &Schemas, instance: &str) -> Result<bool, F
     Ok(verdict(alloc, schemas, place, &value)?)
 }
 
+fn report(alloc: Global, schemas: &Schemas, instance: &str) -> Result<String, Fail> {
+    let entry = "https://example.com/person";
+    let mut out = Sink::new(Vec::new(alloc));
+    run_finished(
+        alloc,
+        schemas,
+        entry,
+        instance.as_bytes(),
+        Format::Basic,
+        &mut out,
+    )?;
+    Ok(String::from_utf8(out.into_device())?)
+}
+
 const PERSON: &str = r#"{
   "$schema": "https://json-schema.org/draft/2020-12/schema",
   "$id": "https://example.com/person",
@@ -35,10 +50,19 @@ const PERSON: &str = r#"{
   "required": ["name"]
 }"#;
 
+const REPORT: &str = concat!(
+    r#"{"errors":[{"absoluteKeywordLocation":"https://example.com/person#/properties/age/minimum","#,
+    r#""error":"less than 0","instanceLocation":"/age","keywordLocation":"/properties/age/minimum","#,
+    r#""valid":false}],"valid":false}"#,
+    "\n"
+);
+
 #[test]
 fn validates_instances(rt: HostRuntime) -> Result<(), Fail> {
     let schemas = person_schemas(rt.alloc(), PERSON)?;
     assert!(rt; is_person(rt.alloc(), &schemas, r#"{"name": "Ada", "age": 36}"#)?);
     assert!(rt; !is_person(rt.alloc(), &schemas, r#"{"name": "Ada", "age": -1}"#)?);
+    let report = report(rt.alloc(), &schemas, r#"{"name": "Ada", "age": -1}"#)?;
+    assert_eq!(rt; report.as_str(), REPORT);
     Ok(())
 }
