@@ -88,7 +88,9 @@ pub(crate) fn open_keyword<W: World, H: PointerText + Drop, R: Reporter<W, H>>(
     into.open_keyword(alloc, world, place, keyword, &way.keyword, &way.instance)
 }
 
-/// What a keyword asks for, by what has been evaluated since the schema's node opened.
+/// What a keyword asks for, by what has been evaluated since the schema's node opened. What it works with stands in no
+/// frame of the recursion.
+#[inline(never)]
 pub(crate) fn asked<W: World, H: PointerText + Drop>(
     alloc: Global,
     world: &W,
@@ -164,7 +166,8 @@ pub(crate) fn close_keyword<W: World, H: PointerText + Drop, R: Reporter<W, H>>(
     Ok(passes)
 }
 
-/// The node of a keyword that applies no schema.
+/// The node of a keyword that applies no schema. What it works with stands in no frame of the recursion.
+#[inline(never)]
 pub(crate) fn childless_node<W: World, H: PointerText + Drop, R: Reporter<W, H>>(
     alloc: Global,
     world: &W,
