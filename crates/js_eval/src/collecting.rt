@@ -12,7 +12,8 @@ use js_tree::{Collector, Head};
 use std::alloc::Global;
 use std::marker::PhantomData;
 
-/// A collector to which each node goes with its three locations and its note.
+/// A collector to which each node goes with its three locations and its note. What these are made with stands in no frame
+/// of the recursion.
 pub(crate) struct Collecting<'a, C> {
     pub collector: C,
     pub notes: PhantomData<&'a Doc>,
@@ -21,6 +22,7 @@ pub(crate) struct Collecting<'a, C> {
 impl<'a, C: Collector<'a>> Reporter<Here<'a>, HeldText> for Collecting<'a, C> {
     ghost takes = { λ c e d. C.takes c.collector e d.collector };
 
+    #[inline(never)]
     fn open_schema(
         &mut self,
         alloc: Global,
@@ -34,6 +36,7 @@ impl<'a, C: Collector<'a>> Reporter<Here<'a>, HeldText> for Collecting<'a, C> {
             .enter(head(keyword_location, absolute, instance_location)?)
     }
 
+    #[inline(never)]
     fn open_keyword(
         &mut self,
         alloc: Global,
@@ -48,6 +51,7 @@ impl<'a, C: Collector<'a>> Reporter<Here<'a>, HeldText> for Collecting<'a, C> {
             .enter(head(keyword_location, absolute, instance_location)?)
     }
 
+    #[inline(never)]
     fn close_keyword(
         &mut self,
         alloc: Global,
@@ -74,6 +78,7 @@ impl<'a, C: Collector<'a>> Reporter<Here<'a>, HeldText> for Collecting<'a, C> {
         self.collector.leave(judged.passes, note)
     }
 
+    #[inline(never)]
     fn close_schema(
         &mut self,
         alloc: Global,

@@ -58,11 +58,13 @@ impl PointerText for HeldText {
         }
     }
 
+    #[inline(never)]
     fn push_name(&mut self, token: &str) -> Result<(), Memory> {
         self.text.push('/')?;
         push_escaped(&mut self.text, token)
     }
 
+    #[inline(never)]
     fn push_index(&mut self, index: usize) -> Result<(), Memory> {
         let mut buffer = itoa::Buffer::new();
         self.push_name(buffer.format(index))
