@@ -71,6 +71,7 @@ pub(crate) fn next_keyword<W: World>(
 }
 
 /// Opens the node of a keyword, which may have one.
+#[inline(always)]
 pub(crate) fn open_keyword<W: World, H: PointerText + Drop, R: Reporter<W, H>>(
     alloc: Global,
     world: &W,
@@ -126,6 +127,7 @@ pub(crate) fn asked<W: World, H: PointerText + Drop>(
 }
 
 /// Closes the node of a keyword. What it has evaluated goes, if it fails.
+#[inline(always)]
 pub(crate) fn close_keyword<W: World, H: PointerText + Drop, R: Reporter<W, H>>(
     alloc: Global,
     world: &W,
