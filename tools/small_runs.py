@@ -1,6 +1,9 @@
 """How the gate runs the commands of the pages that take too long, or change too much, as the pages show them."""
+import os
 import shutil
 from dataclasses import dataclass
+
+from programs import HOME
 
 
 @dataclass
@@ -11,8 +14,8 @@ class Small:
     needs: tuple = ()
 
     def missing(self):
-        """What it needs that isn't installed."""
-        return [tool for tool in self.needs if shutil.which(tool) is None]
+        """What it needs that isn't installed, or isn't built."""
+        return [it for it in self.needs if not (os.path.exists(it) if "/" in it else shutil.which(it))]
 
 
 @dataclass
@@ -21,6 +24,9 @@ class Step:
 
     name: str
 
+
+# What tools/build-library makes. ./test doesn't: it would prove each crate once more.
+LIBRARY = os.path.join(HOME, "out", "lib", "libjschema.a")
 
 # For each command of a block ```sh, what runs it. A command may need what those before it on its page made.
 RUN_BY = {
@@ -47,7 +53,10 @@ RUN_BY = {
     "hostile/run growth --only polygon": Step("hostile/run"),
     "hostile/run --times large limits":
         Small("hostile/run --times --only 'a pair' limits slow --program {program}"),
-    "tools/build-library": Step("c/test --build"),
+    "tools/build-library": Small("c/test calls header symbols", (LIBRARY,)),
+    "cc -Iout/include c/tests/person.c out/lib/libjschema.a -o out/person && out/person":
+        Small("cc -Iout/include c/tests/person.c out/lib/libjschema.a -o {folder}/person && {folder}/person",
+              (LIBRARY,)),
     "tools/install ~/.local": Step("tools/test_install"),
     "pip install ./python": Step("python/test"),
 }
