@@ -1,5 +1,5 @@
 -- How the table of resources is made: the number of each place's, and what `$dynamicAnchor` names in each.
-use Rattle.std.proofs.Common.{◌≡◌, ℕ, zero, suc, ◌+◌, ◌<◌, ◌≤◌, List, [], ◌∷◌, ◌++◌, Bool, true, false, ◌||◌, ◌==◌, cond, filter, map, length, take, drop, get_or, Option, Some, option_map, option_and_then, option_to_list, unwrap_or, slice_get, nat_eq, bytes_eq, codes, string_bytes, if◌then◌else◌, refl, sym, ap, ap₂, ◌∙◌, subst, arith}
+use Rattle.std.proofs.Common.{◌≡◌, ℕ, zero, suc, ◌+◌, ◌<◌, ◌≤◌, List, [], ◌∷◌, ◌++◌, Bool, true, false, ◌||◌, ◌==◌, cond, filter, map, length, take, drop, get_or, Option, Some, option_map, option_and_then, option_to_list, unwrap_or, slice_get, nat_eq, codes, if◌then◌else◌, refl, sym, ap, ap₂, ◌∙◌, subst, arith}
 use Rattle.std.specs.List.{AllByRecursion, list_any, position_from}
 use Rattle.std.specs.BTreeMap.{is_at}
 use Rattle.std.specs.Map.{lookup}
