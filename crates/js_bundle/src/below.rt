@@ -24,9 +24,9 @@ impl Schemas {
     ghost use Rattle.js_bundle.specs.Resource.{Site};
 
     /// The place to which a step leads through a keyword of the place: `Alone` where the keyword holds one schema,
-    /// `Index` where it holds a list of them, `Name` where it holds an object of them (JSON Schema Core, sections 8.2.4,
-    /// 10 and 11). None where no place stands there, or the step isn't of the keyword's kind; so never where the keyword
-    /// holds a schema at the step.
+    /// `Index` where it holds a list of them, `Name` where it holds an object of them (JSON Schema Core, sections
+    /// 8.2.4, 10 and 11). None where no place stands there, or the step isn't of the keyword's kind; so never where the
+    /// keyword holds a schema at the step.
     pub fn below(&self, place: Place, keyword: &str, step: Step<'_>) -> Option<Place>
         requires { is_place self.now place ≡ true }
         ensures found { Finds self.now result
@@ -40,8 +40,8 @@ impl Schemas {
         }
     }
 
-    /// The same place, and the schema that stands there. `schema` is that of the place itself: the other is found in it by
-    /// the keyword and the step, where a call of `schema` would start at the document's root.
+    /// The same place, and the schema that stands there. `schema` is that of the place itself: the other is found in it
+    /// by the keyword and the step, where a call of `schema` would start at the document's root.
     pub fn schema_below<'a>(
         &'a self,
         place: Place,

@@ -112,7 +112,8 @@ fn is_of_one(before: &Site<'_>, site: &Site<'_>) -> bool
     before.document == site.document && is_same(&before.own.resource, &site.own.resource)
 }
 
-// The number of a place's resource. That of a root is known, and most other places are of the resource of the one before.
+// The number of a place's resource. That of a root is known, and most other places are of the resource of the one
+// before.
 fn number_after(
     alloc: Global,
     index: &Index,
