@@ -1,5 +1,5 @@
 -- The headline: for every accepted bundle and entry, and each instance text that is read and isn't too large, the bytes
--- written are the requested form of the standard's result; or `TooLarge` is answered, exactly where none stands within the
+-- written are the requested form of the standard's result; or `TooLarge` is returned, if and only if none is within the
 -- limits. It follows from the clause `answer` of `run` alone; over finished schemas, from that of `run_finished`.
 use Rattle.std.specs.Prelude.{◌≡◌, ◌≤◌, ℕ, List, [], ◌∷◌, ◌++◌, length, Option, Some, Result, Ok, Err, Bool, ◌⊎◌, ⊤}
 use Rattle.js_doc.specs.Compact.{compact}
@@ -44,7 +44,7 @@ Shows Merged t shown =
     → (end : ResultTree) × RunOfThree met end × NormalOfThree end × (shown ≡ verbose end))
 Shows Verbose t shown = shown ≡ verbose t
 
--- The documents and the entry, which is this place, are accepted: at most given causes stand against them, which may be
+-- The documents and the entry, which is this place, are accepted: at most given causes speak against them, which may be
 -- passed over. The instance is the text of this value, and not too large.
 pub record IsAccepted (documents : DocumentTexts) (entry instance : List ℕ) (place : Site) (v : Value) : Type 0 where
   pub clear : MayGoOn (beginning_causes documents entry)
@@ -57,7 +57,7 @@ abbrev pub IsStandardResult : DocumentTexts → Site → Value → ResultTree �
 IsStandardResult documents place v t = IsResult (schemas_of (bundle_of documents)) [] place at_root v t
 
 module _ {D : Type 0} (taken : D → Option (List ℕ)) (old new : Tracked D) where
-  -- What is answered and written. A fault of the reader, of the writer, or for want of memory may come; no other but
+  -- What is returned and written. A fault of the reader, of the writer, or for lack of memory can come; no other but
   -- `TooLarge`, where none of the causes that may be passed over is taken.
   abbrev pub TellsResult : DocumentTexts → List ℕ → Format → Site → Value → Result Bool Fault → Type 0
   TellsResult documents entry format place v (Ok valid) =

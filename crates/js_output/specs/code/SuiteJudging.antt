@@ -28,12 +28,12 @@ abbrev pub IsStatusAt : Option rust.Entry → Option Value → Bool → Status �
 IsStatusAt (Some e) (Some v) valid status = IsStatusOn e.schemas (place_at e.schemas e.place) v valid status
 IsStatusAt _ _ valid status = status ≡ Skip
 
--- another fault than want of memory
+-- a fault other than lack of memory
 abbrev pub IsNotMemory : Fault → Type 0
 IsNotMemory fault.Memory = ⊥
 IsNotMemory _ = ⊤
 
--- the verdict that was found, and the one that is told
+-- the verdict that was found, and the expected one
 abbrev pub compared : Bool → Bool → Status
 compared true true = Pass
 compared false false = Pass
