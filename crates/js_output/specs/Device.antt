@@ -6,8 +6,8 @@ use Rattle.js_doc.specs.BytesOut.{Progress}
 use Rattle.js_output.specs.declared.fault.Fault.{Fault}
 use Rattle.js_output.specs.declared.fault.Fault.TheVariants as fault
 
--- `failed` once a call has failed; how many calls were made, how many of them were flushes, and which of them was the last
--- flush, counted from 1 (0 where none was). A reader is never flushed.
+-- `failed` once a call has failed; how many calls were made, how many of them were flushes, and which of them was the
+-- last flush, counted from 1 (0 where none was). A reader is never flushed.
 pub record Tracked (D : Type 0) : Type 0 where
   pub device : D
   pub failed : Bool

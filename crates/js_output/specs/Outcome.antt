@@ -1,5 +1,5 @@
--- The outcome of a run: the first of its causes of a fault that applies; else the verdict of the standard's result, and the
--- text of the form that was asked for.
+-- The outcome of a run: the first of its causes of a fault that applies; else the verdict of the standard's result,
+-- and the text of the form that was asked for.
 use Rattle.std.specs.Prelude.{◌≡◌, ℕ, List, [], ◌∷◌, ◌++◌, Option, Some, None, Result, Ok, Err, Bool, ◌==◌, ◌+◌, codes, take, drop, position, ⊤}
 use Rattle.js_doc.specs.Compact.{compact}
 use Rattle.js_doc.specs.Value.{Value}
@@ -48,8 +48,8 @@ pub record Output : Type 0 where
   pub valid : Bool
   pub text : List ℕ
 
--- what a format says of a result: its root's verdict, and the compact text of its form (JSON Schema Core, section 12.4),
--- with a line feed
+-- what a format says of a result: its root's verdict, and the compact text of its form (JSON Schema Core, section
+-- 12.4), with a line feed
 abbrev pub output_of : Format → ResultTree → Output
 output_of format t = record { valid = t.root.valid; text = compact (form format t) ++ 10 ∷ [] }
 

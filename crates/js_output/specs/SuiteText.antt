@@ -1,5 +1,5 @@
--- What a suite's text is read as: groups, each with a schema and its tests; or else the first value that is missing or of
--- the wrong kind: groups in order, the members of each ascending by name, its tests in order.
+-- What a suite's text is read as: groups, each with a schema and its tests; or else the first value that is missing
+-- or of the wrong kind: groups in order, the members of each ascending by name, its tests in order.
 use Rattle.std.specs.Prelude.{◌≡◌, ℕ, ◌+◌, List, [], ◌∷◌, map, Option, Some, None, option_map, option_and_then, is_some, Result, Ok, Err, Bool, if◌then◌else◌, codes, decimal, ⊤}
 use Rattle.std.specs.Str.{is_utf8}
 use Rattle.serde_json.specs.Data as json

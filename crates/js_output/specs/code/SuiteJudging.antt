@@ -1,4 +1,5 @@
--- Words for the parts of the judging of a suite: what the code keeps of a group's entry, and what comes of a test there.
+-- Words for the parts of the judging of a suite: what the code keeps of a group's entry, and what comes of a test
+-- there.
 use Rattle.std.specs.Prelude.{◌≡◌, ℕ, Option, Some, None, option_map, Bool, true, false, ⊤}
 use Rattle.js_doc.specs.Value.{Value}
 use Rattle.js_bundle.specs.Document.{Documents}
