@@ -28,6 +28,7 @@ use Rattle.js_bundle.proofs.Listing.{Among}
 use Rattle.js_bundle.proofs.PlacesApart.{below_all, less_apart}
 use Rattle.js_bundle.proofs.Ranks.{some_is}
 use Rattle.js_bundle.proofs.SchemaBelow.{is_one, is_listed, is_named}
+use Rattle.js_bundle.proofs.Taking.{takes_fits}
 use Rattle.js_bundle.proofs.Standing.{standing, made_at}
 
 -- ---- a member with a rank is the one of its name
@@ -53,9 +54,9 @@ argument_at (list vs) r n u a e = absurd (cc)
 argument_at (object ms) r n u a e = get_at ms r n u a e
 
 holds_ranked : (v : Value) (k : Text) (step : Step) (r : ℕ) (u : Value) → NamesAscend v → HoldsAtRank v k step r u → Holds v k step u
-holds_ranked v k Alone r u a h = (is_one (holding k) h.0, h.1)
-holds_ranked v k (Index i) r u a h = (is_listed (holding k) i h.0, h.1)
-holds_ranked v k (Name n) r u a h = (is_named (holding k) n h.0, (h.1.0, h.1.1, argument_at h.1.0 r n u (argument_ascends v k h.1.0 a h.1.1) h.1.2))
+holds_ranked v k Alone r u a h = (is_one (holding k) (takes_fits k Alone h.0), h.1.1 ∙ ap Some h.1.2.0)
+holds_ranked v k (Index i) r u a h = (is_listed (holding k) i (takes_fits k (Index i) h.0), (h.1.0, h.1.1, h.1.2.0))
+holds_ranked v k (Name n) r u a h = (is_named (holding k) n (takes_fits k (Name n) h.0), (h.1.0, h.1.1, argument_at h.1.0 r n u (argument_ascends v k h.1.0 a h.1.1) h.1.2))
 
 -- ---- the number with that rank
 
@@ -91,13 +92,15 @@ module _ (all : List Place) (spots : List Spot) (d : ℕ) (uri : Parts) (are : s
 pub ranked_by : (documents : Documents) → AreRead documents → (n : ℕ) (s : Site) → slice_get (sites documents) n ≡ Some s → (k : Text) (step : Step) (r : ℕ) (u : Value) → HoldsAtRank s.schema k step r u
     → IsRanked documents s k step r (option_map_or (places_of (keyword_name k)) (slice_get (edges_from 0 documents) n) [])
 ranked_by documents read n s e k Alone r u h =
-    let f = found_by documents read n s e k Alone u (is_one (holding k) h.0, h.1) in
+    let ascends = (standing documents read.ordered read.short n s e).ascends in
+    let f = found_by documents read n s e k Alone u (holds_ranked s.schema k Alone r u ascends h) in
     let numbers = option_map_or (places_of (keyword_name k)) (slice_get (edges_from 0 documents) n) [] in
-    record { number = f.number; is = subst (λ i. slice_get numbers i ≡ Some f.number) (sym h.2) f.is; finds = f.finds }
+    record { number = f.number; is = subst (λ i. slice_get numbers i ≡ Some f.number) (sym h.1.2.1) f.is; finds = f.finds }
 ranked_by documents read n s e k (Index i) r u h =
-    let f = found_by documents read n s e k (Index i) u (is_listed (holding k) i h.0, h.1) in
+    let ascends = (standing documents read.ordered read.short n s e).ascends in
+    let f = found_by documents read n s e k (Index i) u (holds_ranked s.schema k (Index i) r u ascends h) in
     let numbers = option_map_or (places_of (keyword_name k)) (slice_get (edges_from 0 documents) n) [] in
-    record { number = f.number; is = subst (λ j. slice_get numbers j ≡ Some f.number) (sym h.2) f.is; finds = f.finds }
+    record { number = f.number; is = subst (λ j. slice_get numbers j ≡ Some f.number) (sym h.1.2.1) f.is; finds = f.finds }
 ranked_by documents read n s e k (Name name) r u h =
     let all = places_from 0 documents in
     let made = made_at site all n s e in
@@ -105,7 +108,7 @@ ranked_by documents read n s e k (Name name) r u h =
     let root = root_of documents n t made.found in
     let ascends = (standing documents read.ordered read.short n s e).ascends in
     let at : HoldsAtRank t.spot.schema k (Name name) r u = subst (λ x. HoldsAtRank x.schema k (Name name) r u) made.is h in
-    let m = ranked_at all (map spot (sites documents)) t.document t.uri (spots_are documents) n root.above t.spot.pointer t.spot.schema k name at.1.0 u r root.places (is_named (holding k) name at.0) at.1.1 at.1.2 in
+    let m = ranked_at all (map spot (sites documents)) t.document t.uri (spots_are documents) n root.above t.spot.pointer t.spot.schema k name at.1.0 u r root.places (is_named (holding k) name (takes_fits k (Name name) at.0)) at.1.1 at.1.2 in
     record {
       number = m.0;
       is = subst (λ o. slice_get (option_map_or (places_of (keyword_name k)) o []) r ≡ Some m.0) (sym root.held) m.1;
