@@ -36,7 +36,7 @@ holds_alone k e n = let x : One ≡ Nothing = sym e ∙ n in absurd (cc)
 holds_list : (k : Text) → holding k ≡ Listed → ¬ (holding k ≡ Nothing)
 holds_list k e n = let x : Listed ≡ Nothing = sym e ∙ n in absurd (cc)
 
-holds_object : (k : Text) → holding k ≡ Named → ¬ (holding k ≡ Nothing)
+pub holds_object : (k : Text) → holding k ≡ Named → ¬ (holding k ≡ Nothing)
 holds_object k e n = let x : Named ≡ Nothing = sym e ∙ n in absurd (cc)
 
 none_some : {A : Type 0} (i : ℕ) (u : A) → ¬ (slice_get [] i ≡ Some u)
@@ -95,6 +95,21 @@ rank_of_name all spots d p k name u ms numbers r are up h here = (
   ),
 )
 
+ascends_at : (ms : Members) (r : ℕ) (k : Text) (l : Value) → NamesAscendInMembers ms → slice_get (member_pairs ms) r ≡ Some (k, l) → NamesAscend l
+ascends_at no_members r k l a e = absurd (cc)
+ascends_at (member j w ms) zero k l a e =
+    subst (λ x. NamesAscend x) (ap (λ m. m.1) (some_is (j, w) (k, l) e)) a.1
+ascends_at (member j w ms) (suc r) k l a e = ascends_at ms r k l a.2 e
+
+-- names ascend in a keyword's argument as in its schema
+pub argument_ascends : (v : Value) (k : Text) (l : Value) → NamesAscend v → argument k v ≡ Some l → NamesAscend l
+argument_ascends null k l a e = absurd (cc)
+argument_ascends (truth b) k l a e = absurd (cc)
+argument_ascends (whole z) k l a e = absurd (cc)
+argument_ascends (text t) k l a e = absurd (cc)
+argument_ascends (list vs) k l a e = absurd (cc)
+argument_ascends (object ms) k l a e = let r = rank_there k l ms e in ascends_at ms r.0 k l a r.1
+
 -- ---- what a keyword holds at a step
 
 pub record IsLed (all : List Place) (spots : List Spot) (d : ℕ) (p : Tokens) (k : Text) (step : Step) (numbers : List ℕ) : Type 0 where
@@ -152,7 +167,7 @@ module _ (all : List Place) (spots : List Spot) (d : ℕ) (uri : Parts) (are : s
       }
 
   -- the keyword of a schema of which the place is known
-  keyword_at : (n : ℕ) (above : List Located) (p : Tokens) (v : Value) (k : Text) (l : Value) → StandsFrom (places_at d uri above p v) n all → argument k v ≡ Some l → ¬ (holding k ≡ Nothing)
+  pub keyword_at : (n : ℕ) (above : List Located) (p : Tokens) (v : Value) (k : Text) (l : Value) → StandsFrom (places_at d uri above p v) n all → argument k v ≡ Some l → ¬ (holding k ≡ Nothing)
       → (below : List Located) × KeywordThere all d uri below p k l (places_of (keyword_name k) (held_at n v))
   keyword_at n above p null k l s e h = absurd (cc)
   keyword_at n above p (truth b) k l s e h = absurd (cc)
@@ -174,20 +189,6 @@ module _ (all : List Place) (spots : List Spot) (d : ℕ) (uri : Parts) (are : s
   led_at n above p v k (Name name) u a s h =
       let there = keyword_at n above p v k h.1.0 s h.1.1 (holds_object k h.0) in
       led_member there.0 p k h.1.0 u name (places_of (keyword_name k) (held_at n v)) h.0 (argument_ascends v k h.1.0 a h.1.1) h.1.2 there.1
-    where
-      argument_ascends : (v : Value) (k : Text) (l : Value) → NamesAscend v → argument k v ≡ Some l → NamesAscend l
-      argument_ascends null k l a e = absurd (cc)
-      argument_ascends (truth b) k l a e = absurd (cc)
-      argument_ascends (whole z) k l a e = absurd (cc)
-      argument_ascends (text t) k l a e = absurd (cc)
-      argument_ascends (list vs) k l a e = absurd (cc)
-      argument_ascends (object ms) k l a e = let r = rank_there k l ms e in at_rank ms r.0 k l a r.1
-        where
-          at_rank : (ms : Members) (r : ℕ) (k : Text) (l : Value) → NamesAscendInMembers ms → slice_get (member_pairs ms) r ≡ Some (k, l) → NamesAscend l
-          at_rank no_members r k l a e = absurd (cc)
-          at_rank (member j w ms) zero k l a e =
-              subst (λ x. NamesAscend x) (ap (λ m. m.1) (some_is (j, w) (k, l) e)) a.1
-          at_rank (member j w ms) (suc r) k l a e = at_rank ms r k l a.2 e
 
 -- ---- over all documents
 
@@ -197,12 +198,31 @@ pub record IsFound (documents : Documents) (spots : List Spot) (s : Site) (k : T
   pub is : IsNumberAt spots numbers step number
   pub finds : Finds documents (Some number) (below documents s k step)
 
-spots_are : (documents : Documents) → map spot (sites documents) ≡ map (λ t. spot (site t)) (places_from 0 documents)
+pub spots_are : (documents : Documents) → map spot (sites documents) ≡ map (λ t. spot (site t)) (places_from 0 documents)
 spots_are documents = map-twice (places_from 0 documents)
   where
     map-twice : (xs : List Place) → map spot (map site xs) ≡ map (λ t. spot (site t)) xs
     map-twice [] = refl
     map-twice (x ∷ xs) = ap (λ ys. spot (site x) ∷ ys) (map-twice xs)
+
+-- the number of the place that stands where the step leads
+pub finds_standing : (documents : Documents) → AreRead documents → (n : ℕ) (s : Site) (e : slice_get (sites documents) n ≡ Some s) (k : Text) (step : Step) (u : Value) → Holds s.schema k step u
+    → (number : ℕ) → StandsAt (places_from 0 documents) (made_at site (places_from 0 documents) n s e).from.document ((made_at site (places_from 0 documents) n s e).from.spot.pointer ++ k ∷ step_tokens step) number
+    → Finds documents (Some number) (below documents s k step)
+finds_standing documents read n s e k step u h number stands =
+    let all = places_from 0 documents in
+    let made = made_at site all n s e in
+    let place : slice_get (sites documents) number ≡ Some (site stands.place) = slice_get-map site all number ∙ ap (option_map site) stands.found in
+    let there = held documents read.ordered read.short n s e k step u h in
+    let document : stands.place.document ≡ s.document = stands.document ∙ ap (λ x. x.document) (sym made.is) in
+    let pointer : stands.place.spot.pointer ≡ s.pointer ++ k ∷ step_tokens step = stands.pointer ∙ ap (λ x. x.pointer ++ k ∷ step_tokens step) (sym made.is) in
+    let numbered : position_from (stands_at s.document (s.pointer ++ k ∷ step_tokens step)) 0 (sites documents) ≡ Some number =
+    ap (λ d. position_from (stands_at d (s.pointer ++ k ∷ step_tokens step)) 0 (sites documents)) (sym document)
+    ∙ ap (λ p. position_from (stands_at stands.place.document p) 0 (sites documents)) (sym pointer)
+    ∙ number_of documents read.ordered read.short number (site stands.place) place in
+    let both : Some there.number ≡ Some number = sym there.numbered ∙ numbered in
+    let same : there.number ≡ number = cc in
+    (there.place, there.found, subst (λ m. slice_get (sites documents) m ≡ Some there.place) same there.stands)
 
 pub found_by : (documents : Documents) → AreRead documents → (n : ℕ) (s : Site) → slice_get (sites documents) n ≡ Some s → (k : Text) (step : Step) (u : Value) → Holds s.schema k step u
     → IsFound documents (map spot (sites documents)) s k step (option_map_or (places_of (keyword_name k)) (slice_get (edges_from 0 documents) n) [])
@@ -215,20 +235,10 @@ found_by documents read n s e k step u h =
     let up = (standing documents read.ordered read.short n s e).ascends in
     let ascends = subst (λ x. NamesAscend x.schema) made.is up in
     let led = led_at all (map spot (sites documents)) t.document t.uri (spots_are documents) n root.above t.spot.pointer t.spot.schema k step u ascends root.places holds in
-    let place : slice_get (sites documents) led.number ≡ Some (site led.stands.place) = slice_get-map site all led.number ∙ ap (option_map site) led.stands.found in
-    let there = held documents read.ordered read.short n s e k step u h in
-    let document : led.stands.place.document ≡ s.document = led.stands.document ∙ ap (λ x. x.document) (sym made.is) in
-    let pointer : led.stands.place.spot.pointer ≡ s.pointer ++ k ∷ step_tokens step = led.stands.pointer ∙ ap (λ x. x.pointer ++ k ∷ step_tokens step) (sym made.is) in
-    let numbered : position_from (stands_at s.document (s.pointer ++ k ∷ step_tokens step)) 0 (sites documents) ≡ Some led.number =
-    ap (λ d. position_from (stands_at d (s.pointer ++ k ∷ step_tokens step)) 0 (sites documents)) (sym document)
-    ∙ ap (λ p. position_from (stands_at led.stands.place.document p) 0 (sites documents)) (sym pointer)
-    ∙ number_of documents read.ordered read.short led.number (site led.stands.place) place in
-    let both : Some there.number ≡ Some led.number = sym there.numbered ∙ numbered in
-    let number : there.number ≡ led.number = cc in
     record {
       number = led.number;
       is = subst (λ o. IsNumberAt (map spot (sites documents)) (option_map_or (places_of (keyword_name k)) o []) step led.number) (sym root.held) led.is;
-      finds = (there.place, there.found, subst (λ m. slice_get (sites documents) m ≡ Some there.place) number there.stands);
+      finds = finds_standing documents read n s e k step u h led.number led.stands;
     }
 
 -- the number of a name, where its rank is known

@@ -31,6 +31,8 @@ pub mod Counted
 pub mod EdgesNext
 pub mod Ranks
 pub mod HeldNumbers
+pub mod Taking
+pub mod AtRank
 pub mod EachFound
 pub mod LeadingDown
 pub mod Ways

@@ -35,19 +35,19 @@ item_at xs vs i (Some x) m e f =
 
 -- ---- what is held
 
-is_one : (h : Holding) → fits h Alone ≡ true → h ≡ One
+pub is_one : (h : Holding) → fits h Alone ≡ true → h ≡ One
 is_one One e = refl
 is_one Listed e = absurd (cc)
 is_one Named e = absurd (cc)
 is_one Nothing e = absurd (cc)
 
-is_listed : (h : Holding) (i : ℕ) → fits h (Index i) ≡ true → h ≡ Listed
+pub is_listed : (h : Holding) (i : ℕ) → fits h (Index i) ≡ true → h ≡ Listed
 is_listed One i e = absurd (cc)
 is_listed Listed i e = refl
 is_listed Named i e = absurd (cc)
 is_listed Nothing i e = absurd (cc)
 
-is_named : (h : Holding) (n : Text) → fits h (Name n) ≡ true → h ≡ Named
+pub is_named : (h : Holding) (n : Text) → fits h (Name n) ≡ true → h ≡ Named
 is_named One n e = absurd (cc)
 is_named Listed n e = absurd (cc)
 is_named Named n e = refl

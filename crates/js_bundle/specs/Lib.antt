@@ -17,6 +17,7 @@ pub mod Seen
 pub mod Finding
 pub mod AssertionsAndPatterns
 pub mod Schemas
+pub mod Ranked
 pub mod ResourceNumber
 pub mod ResourceTable
 pub mod Finished

@@ -140,8 +140,8 @@ fn fits(holding: Holding, step: Step<'_>) -> bool
     }
 }
 
-// The places that the keyword of the place with this number holds.
-fn places_under(edges: &[Edges], number: usize, keyword: KeywordName) -> &[usize]
+/// The places that the keyword of the place with this number holds.
+pub(crate) fn places_under(edges: &[Edges], number: usize, keyword: KeywordName) -> &[usize]
     ensures { result.now ≡ option_map_or (places_of keyword) (slice_get (map edges_of edges.now) number) [] }
 {
     match edges.get(number) {

@@ -28,6 +28,7 @@ mod place;
 mod place_check;
 mod place_keywords;
 mod pointers;
+mod ranked;
 mod reference;
 mod refusal;
 mod resource_table;

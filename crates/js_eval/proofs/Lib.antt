@@ -23,6 +23,8 @@ pub mod Counts
 pub mod AssertionThere
 pub mod Standard
 pub mod Held
+pub mod Holding
+pub mod NamesLeft
 pub mod Collected
 pub mod SaysThere
 pub mod ResultExamples

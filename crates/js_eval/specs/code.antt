@@ -6,3 +6,6 @@ pub mod Turns
 pub mod KeywordsLeft
 pub mod Applied
 pub mod Standing
+pub mod Holding
+pub mod NamesLeft
+pub mod ListLeft

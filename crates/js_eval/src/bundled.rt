@@ -2,6 +2,7 @@
 //! stands for it, as in the definition; in finished schemas that never happens to a keyword that asks.
 ghost use Rattle.std.specs.Prelude.{◌≡◌, codes, map, nat_eq, option_and_then, true};
 ghost use Rattle.std.specs.List.{dedup, list_all};
+ghost use Rattle.js_bundle.specs.Ranked.{HoldsAtRank};
 ghost use Rattle.js_bundle.specs.Resource.{sites};
 ghost use Rattle.js_bundle.specs.ResourceNumber.{dynamic_target_in};
 ghost use Rattle.js_bundle.specs.Schemas.{StandsFor, has_keyword, is_place, path_at, place_at};
@@ -9,11 +10,14 @@ ghost use Rattle.js_bundle.specs.Target.{dynamic_target};
 ghost use Rattle.js_doc.specs.Seen.{value_of};
 ghost use Rattle.js_assert.specs.Argument.{entries};
 ghost use Rattle.js_eval.specs.Bundle.{schemas_of};
+ghost use Rattle.js_eval.specs.code.Holding.{IsIn, holds_one};
 ghost use Rattle.js_eval.specs.code.Standard.{keyword_names_of};
 ghost use Rattle.js_eval.specs.code.Standing.{StandsAt};
-ghost use Rattle.js_eval.specs.Seen.{step_of};
+ghost use Rattle.js_eval.specs.SchemaSet as spec;
+ghost use Rattle.js_eval.specs.Seen.{keyword_of, step_of};
 ghost use Rattle.js_eval.specs.Sited.{numbered_site, resource_of};
 
+use crate::keyword::Keyword;
 use crate::walking::Path;
 use js_bundle::laws::{a_number_tells_a_resource, numbers_tell_the_dynamic_scope};
 use js_bundle::{KeywordName, Place, Schemas, Step};
@@ -54,6 +58,53 @@ pub(crate) fn below<'a>(
         Some((below, held)) => (below, held),
         None => (place, schema),
     }
+}
+
+/// The same, where it is known what the keyword holds there, and at which rank among all that it holds.
+pub(crate) fn ranked_below<'a>(
+    schemas: &Schemas,
+    place: Place,
+    schema: &'a Doc,
+    keyword: Keyword<'_>,
+    step: Step<'_>,
+    rank: usize,
+    held: &'a Doc,
+) -> (Place, &'a Doc)
+    requires place { StandsAt schemas.now place (value_of schema.now) }
+    requires held { HoldsAtRank (value_of schema.now) keyword.name.now (step_of step) rank (value_of held.now) }
+    ensures is { StandsAt schemas.now result.0 (value_of result.1.now) }
+    ensures site { numbered_site schemas.now result.0
+        ≡ (schemas_of schemas.now).below (numbered_site schemas.now place) keyword.entry.name.now (step_of step.entry) }
+{
+    match schemas.ranked_below(place, schema, keyword.which, keyword.name, step, rank, held) {
+        Some(below) => (below, held),
+        None => (place, schema),
+    }
+}
+
+/// The place of the one schema that a keyword of a place holds, and that schema.
+pub(crate) fn held_below<'a>(
+    schemas: &Schemas,
+    place: Place,
+    schema: &'a Doc,
+    keyword: Keyword<'a>,
+) -> (Place, &'a Doc)
+    requires place { StandsAt schemas.now place (value_of schema.now) }
+    requires kind { holds_one keyword.kind ≡ true }
+    requires keyword { IsIn (value_of schema.now) (keyword_of keyword) }
+    ensures is { StandsAt schemas.now result.0 (value_of result.1.now) }
+    ensures site { numbered_site schemas.now result.0
+        ≡ (schemas_of schemas.now).below (numbered_site schemas.now place) keyword.entry.name.now spec.Alone }
+{
+    ranked_below(
+        schemas,
+        place,
+        schema,
+        keyword,
+        Step::Alone,
+        0,
+        keyword.argument,
+    )
 }
 
 /// The place that the `$ref` of a place names, and the schema there.

@@ -69,7 +69,7 @@ impl<'a, C: Collector<'a>> Reporter<Here<'a>, HeldText> for Collecting<'a, C> {
     ) -> Result<(), Memory> {
         let note = keyword_note(
             alloc,
-            world.schemas,
+            world,
             place,
             value,
             keyword,

@@ -158,8 +158,11 @@ fn says<'a>(
     }
 }
 
-// A pattern is searched for with what was kept of it.
-fn holds<'a>(
+/// Whether a value holds under an assertion. A pattern is searched for with what was kept of it.
+///
+/// # Errors
+/// `Memory`.
+pub(crate) fn holds<'a>(
     alloc: Global,
     searchers: &Searchers<'a>,
     assertion: &'a Assertion,

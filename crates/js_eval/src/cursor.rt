@@ -11,7 +11,9 @@ ghost use Rattle.js_eval.specs.Sited.{numbered_site};
 
 use crate::instance::{Applied, Instance};
 use crate::item_cursor::{ItemCursor, next_on_item};
+use crate::list_cursor::{ListCursor, next_in_list};
 use crate::member_cursor::{MemberCursor, next_on_member};
+use crate::name_cursor::{NameCursor, next_of_names};
 use crate::pattern_cursor::{PatternCursor, next_matching};
 use crate::searchers::Searchers;
 use js_bundle::{Place, Schemas, Step};
@@ -23,7 +25,9 @@ use std::alloc::Global;
 pub(crate) enum Asking<'a> {
     /// At most one schema.
     One(Option<Applied<'a>>),
+    List(ListCursor<'a>),
     Items(ItemCursor<'a>),
+    Names(NameCursor<'a>),
     Members(MemberCursor<'a>),
     Patterns(PatternCursor<'a>),
 }
@@ -61,6 +65,8 @@ pub(crate) fn next_asked<'a>(
 {
     match asking {
         Asking::One(one) => Ok(next_alone(schemas, one)),
+        Asking::List(list) => Ok(next_in_list(schemas, list)),
+        Asking::Names(names) => Ok(next_of_names(schemas, names)),
         Asking::Items(items) => Ok(next_on_item(schemas, items)),
         Asking::Members(members) => next_on_member(alloc, schemas, searchers, members),
         Asking::Patterns(patterns) => next_matching(alloc, schemas, searchers, patterns),

@@ -117,7 +117,7 @@ impl<'a> World for Here<'a> {
         keyword.kind.is_applicator()
     }
 
-    #[tactic(auto, unfolding(crate::specs::Walk::Told::asked_by))]
+    #[tactic(auto, unfolding(crate::specs::Walk::Told::asked_by, crate::specs::Walk::Told::IsKeywordAt))]
     fn asking(
         &self,
         alloc: Global,
@@ -146,7 +146,7 @@ impl<'a> World for Here<'a> {
             names,
             indexes,
         };
-        start(alloc, self.schemas, scene, facts, keyword, keyword.kind)
+        start(alloc, self.schemas, scene, facts, keyword)
     }
 
     fn next(&self, alloc: Global, asking: &mut Asking<'a>) -> Result<Option<Applied<'a>>, Memory> {

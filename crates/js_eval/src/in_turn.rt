@@ -48,6 +48,7 @@ impl<'a> InTurn<'a> {
                 self.names = names;
                 let keyword = Keyword {
                     name,
+                    which,
                     kind: kind_of_named(which, name),
                     argument,
                 };

@@ -6,20 +6,21 @@ ghost use Rattle.js_bundle.specs.Schemas.{is_place};
 ghost use Rattle.js_doc.specs.Seen.{value_of};
 ghost use Rattle.js_eval.specs.Applications.{application, asks_of, if_fails, if_holds};
 ghost use Rattle.js_eval.specs.code.Asked.{IsAsking, asked};
+ghost use Rattle.js_eval.specs.code.Holding.{IsIn, holds_one};
 ghost use Rattle.js_eval.specs.code.Standing.{StandsAt};
 ghost use Rattle.js_eval.specs.Bundle.{schemas_of};
 ghost use Rattle.js_eval.specs.SchemaSet as spec;
 ghost use Rattle.js_eval.specs.Seen.{instance_of, keyword_of, texts_of};
 ghost use Rattle.js_eval.specs.Sited.{numbered_site, resource_of};
 
-use crate::bundled::{below, dynamic_target_at, target_at};
+use crate::bundled::{dynamic_target_at, held_below, target_at};
 use crate::cursor::{Asking, alone};
 use crate::instance::Instance;
 use crate::keyword::Keyword;
 use crate::kind::Kind;
 use crate::walking::Path;
 use crate::{start_items, start_members};
-use js_bundle::{Place, Schemas, Step};
+use js_bundle::{Place, Schemas};
 use js_doc::{Doc, Memory};
 use std::alloc::Global;
 
@@ -49,7 +50,7 @@ pub(crate) struct Facts<'s, 'a> {
     pub indexes: &'s [usize],
 }
 
-/// What a keyword of this kind asks for.
+/// What a keyword asks for.
 ///
 /// # Errors
 /// `Memory`.
@@ -59,14 +60,14 @@ pub(crate) fn start<'a>(
     scene: Scene<'_, 'a>,
     facts: Facts<'_, 'a>,
     keyword: Keyword<'a>,
-    kind: Kind,
 ) -> Result<Asking<'a>, Memory>
     requires schema { StandsAt schemas.now scene.place (value_of scene.schema.now) }
     requires path { list_all (is_place schemas.now) scene.path.now ≡ true }
     requires resources { scene.scope.now ≡ dedup nat_eq (map (resource_of schemas.now) scene.path.now) }
+    requires keyword { IsIn (value_of scene.schema.now) (keyword_of keyword) }
     ensures asked { IfOk result (λ a. asked schemas.now a
         ≡ asks_of (schemas_of schemas.now) (map (numbered_site schemas.now) scene.entry.path.now) (numbered_site schemas.now scene.entry.place) (entries (value_of scene.entry.schema.now))
-        (instance_of scene.entry.value) facts.entry.condition (texts_of facts.entry.names.now) facts.entry.indexes.now (keyword_of keyword.entry) kind) }
+        (instance_of scene.entry.value) facts.entry.condition (texts_of facts.entry.names.now) facts.entry.indexes.now (keyword_of keyword.entry) keyword.entry.kind) }
     ensures is { IfOk result (λ a. IsAsking schemas.now a) }
 {
     let Scene {
@@ -76,41 +77,40 @@ pub(crate) fn start<'a>(
         schema,
         value,
     } = scene;
-    let name = keyword.name;
-    match kind {
+    match keyword.kind {
         Kind::Reference => Ok(referred(schemas, place, schema, value)),
         Kind::DynamicReference => Ok(referred_dynamically(
             schemas, place, schema, path, scope, value,
         )),
-        Kind::AllOf => Ok(start_items::listed(alloc, schemas, place, schema, keyword, value)),
-        Kind::AnyOf => Ok(start_items::listed(alloc, schemas, place, schema, keyword, value)),
-        Kind::OneOf => Ok(start_items::listed(alloc, schemas, place, schema, keyword, value)),
-        Kind::Not => Ok(held(schemas, place, schema, name, value)),
-        Kind::If => Ok(held(schemas, place, schema, name, value)),
-        Kind::Then => Ok(held_then(schemas, place, schema, name, facts.condition, value)),
-        Kind::Else => Ok(held_else(schemas, place, schema, name, facts.condition, value)),
+        Kind::AllOf => Ok(start_items::listed(place, schema, keyword, value)),
+        Kind::AnyOf => Ok(start_items::listed(place, schema, keyword, value)),
+        Kind::OneOf => Ok(start_items::listed(place, schema, keyword, value)),
+        Kind::Not => Ok(held(schemas, place, schema, keyword, value)),
+        Kind::If => Ok(held(schemas, place, schema, keyword, value)),
+        Kind::Then => Ok(held_then(schemas, place, schema, keyword, facts.condition, value)),
+        Kind::Else => Ok(held_else(schemas, place, schema, keyword, facts.condition, value)),
         Kind::DependentSchemas => Ok(start_members::dependent(
             schemas, place, schema, keyword, value,
         )),
         Kind::PrefixItems => Ok(start_items::prefix(alloc, schemas, place, schema, keyword, value)),
-        Kind::Items => Ok(start_items::following(alloc, schemas, place, schema, name, value)),
-        Kind::Contains => Ok(start_items::every(alloc, schemas, place, schema, name, value)),
-        Kind::Properties => Ok(start_members::properties(schemas, place, schema, keyword, value)),
+        Kind::Items => Ok(start_items::following(alloc, schemas, place, schema, keyword, value)),
+        Kind::Contains => Ok(start_items::every(alloc, schemas, place, schema, keyword, value)),
+        Kind::Properties => Ok(start_members::properties(place, schema, keyword, value)),
         Kind::PatternProperties => Ok(start_members::patterns(
             schemas, place, schema, keyword, value,
         )),
         Kind::AdditionalProperties => Ok(start_members::additional(
-            schemas, place, schema, name, value,
+            schemas, place, schema, keyword, value,
         )),
         Kind::PropertyNames => Ok(start_members::property_names(
-            schemas, place, schema, name, value,
+            schemas, place, schema, keyword, value,
         )),
         Kind::UnevaluatedItems => start_items::unevaluated_items(
             alloc,
             schemas,
             place,
             schema,
-            name,
+            keyword,
             facts.indexes,
             value,
         ),
@@ -119,7 +119,7 @@ pub(crate) fn start<'a>(
             schemas,
             place,
             schema,
-            name,
+            keyword,
             facts.names,
             value,
         ),
@@ -178,15 +178,17 @@ fn held<'a>(
     schemas: &'a Schemas,
     place: Place,
     schema: &'a Doc,
-    keyword: &str,
+    keyword: Keyword<'a>,
     value: Instance<'a>,
 ) -> Asking<'a>
-    requires { StandsAt schemas.now place (value_of schema.now) }
+    requires place { StandsAt schemas.now place (value_of schema.now) }
+    requires kind { holds_one keyword.kind ≡ true }
+    requires keyword { IsIn (value_of schema.now) (keyword_of keyword) }
     ensures asked { asked schemas.now result
-        ≡ application (schemas_of schemas.now) (numbered_site schemas.now place) keyword.now spec.Alone spec.Alone (instance_of value.entry) ∷ [] }
+        ≡ application (schemas_of schemas.now) (numbered_site schemas.now place) keyword.entry.name.now spec.Alone spec.Alone (instance_of value.entry) ∷ [] }
     ensures is { IsAsking schemas.now result }
 {
-    let (place, schema) = below(schemas, place, schema, keyword, Step::Alone);
+    let (place, schema) = held_below(schemas, place, schema, keyword);
     alone(place, schema, value)
 }
 
@@ -195,13 +197,15 @@ fn held_then<'a>(
     schemas: &'a Schemas,
     place: Place,
     schema: &'a Doc,
-    keyword: &str,
+    keyword: Keyword<'a>,
     condition: Option<bool>,
     value: Instance<'a>,
 ) -> Asking<'a>
-    requires { StandsAt schemas.now place (value_of schema.now) }
+    requires place { StandsAt schemas.now place (value_of schema.now) }
+    requires kind { holds_one keyword.kind ≡ true }
+    requires keyword { IsIn (value_of schema.now) (keyword_of keyword) }
     ensures asked { asked schemas.now result ≡ if_holds condition
-        (application (schemas_of schemas.now) (numbered_site schemas.now place) keyword.now spec.Alone spec.Alone (instance_of value.entry) ∷ []) }
+        (application (schemas_of schemas.now) (numbered_site schemas.now place) keyword.entry.name.now spec.Alone spec.Alone (instance_of value.entry) ∷ []) }
     ensures is { IsAsking schemas.now result }
 {
     match condition {
@@ -216,13 +220,15 @@ fn held_else<'a>(
     schemas: &'a Schemas,
     place: Place,
     schema: &'a Doc,
-    keyword: &str,
+    keyword: Keyword<'a>,
     condition: Option<bool>,
     value: Instance<'a>,
 ) -> Asking<'a>
-    requires { StandsAt schemas.now place (value_of schema.now) }
+    requires place { StandsAt schemas.now place (value_of schema.now) }
+    requires kind { holds_one keyword.kind ≡ true }
+    requires keyword { IsIn (value_of schema.now) (keyword_of keyword) }
     ensures asked { asked schemas.now result ≡ if_fails condition
-        (application (schemas_of schemas.now) (numbered_site schemas.now place) keyword.now spec.Alone spec.Alone (instance_of value.entry) ∷ []) }
+        (application (schemas_of schemas.now) (numbered_site schemas.now place) keyword.entry.name.now spec.Alone spec.Alone (instance_of value.entry) ∷ []) }
     ensures is { IsAsking schemas.now result }
 {
     match condition {

@@ -1,49 +1,51 @@
 //! What the keywords for arrays, and those with a list of schemas, begin to ask for (Core, sections 10.2.1, 10.3.1 and
 //! 11.2).
-ghost use Rattle.std.specs.Prelude.{◌≡◌, IfOk, filter, length, map, nat_le, nat_lt, not};
+ghost use Rattle.std.specs.Prelude.{◌≡◌, IfOk, filter, length, map, nat_le, nat_lt, not, true};
 ghost use Rattle.js_assert.specs.Argument.{entries, values};
+ghost use Rattle.js_bundle.specs.Document.{Documents};
 ghost use Rattle.js_doc.specs.Seen.{value_of};
 ghost use Rattle.js_eval.specs.Applications.{among_indexes, application, indexed, prefix_length};
 ghost use Rattle.js_eval.specs.code.Asked.{IsAsking, asked};
+ghost use Rattle.js_eval.specs.code.Holding.{IsIn, holds_list, holds_one};
 ghost use Rattle.js_eval.specs.code.Standing.{StandsAt};
 ghost use Rattle.js_eval.specs.Bundle.{schemas_of};
 ghost use Rattle.js_eval.specs.SchemaSet as spec;
-ghost use Rattle.js_eval.specs.Seen.{instance_of};
+ghost use Rattle.js_eval.specs.Seen.{instance_of, keyword_of};
 ghost use Rattle.js_eval.specs.Sited.{numbered_site};
 
-use crate::bundled::below;
+use crate::bundled::held_below;
 use crate::cursor::Asking;
 use crate::instance::{Instance, array_in};
-use crate::item_cursor::{each_except, each_from, each_in_step, each_listed};
+use crate::item_cursor::{each_except, each_from, each_in_step};
 use crate::keyword::Keyword;
+use crate::list_cursor::ListCursor;
 use crate::schema::argument_in;
-use js_bundle::{Place, Schemas, Step};
+use js_bundle::{Place, Schemas};
 use js_doc::{Doc, Memory};
 use std::alloc::Global;
 
 /// Each schema of a keyword's list, on the value itself.
 pub(crate) fn listed<'a>(
-    alloc: Global,
-    schemas: &'a Schemas,
     place: Place,
     schema: &'a Doc,
     keyword: Keyword<'a>,
     value: Instance<'a>,
 ) -> Asking<'a>
-    requires { StandsAt schemas.now place (value_of schema.now) }
-    ensures asked { asked schemas.now result
-        ≡ map (λ e. application (schemas_of schemas.now) (numbered_site schemas.now place) keyword.entry.name.now (spec.Index e.0) spec.Alone (instance_of value.entry))
+    requires kind { holds_list keyword.kind ≡ true }
+    requires keyword { IsIn (value_of schema.now) (keyword_of keyword) }
+    ensures asked { (documents : Documents) → asked documents result
+        ≡ map (λ e. application (schemas_of documents) (numbered_site documents place) keyword.entry.name.now (spec.Index e.0) spec.Alone (instance_of value.entry))
         (indexed (value_of keyword.entry.argument.now)) }
-    ensures is { IsAsking schemas.now result }
+    ensures is { (documents : Documents) → StandsAt documents place (value_of schema.now) → IsAsking documents result }
 {
-    Asking::Items(each_listed(
-        alloc,
+    Asking::List(ListCursor {
         place,
         schema,
-        keyword.name,
-        array_in(keyword.argument),
+        keyword,
+        list: array_in(keyword.argument),
+        next: 0,
         value,
-    ))
+    })
 }
 
 /// Each schema of `prefixItems`, on the item at the same index.
@@ -77,12 +79,14 @@ pub(crate) fn following<'a>(
     schemas: &'a Schemas,
     place: Place,
     schema: &'a Doc,
-    keyword: &str,
+    keyword: Keyword<'a>,
     value: Instance<'a>,
 ) -> Asking<'a>
-    requires { StandsAt schemas.now place (value_of schema.now) }
+    requires place { StandsAt schemas.now place (value_of schema.now) }
+    requires kind { holds_one keyword.kind ≡ true }
+    requires keyword { IsIn (value_of schema.now) (keyword_of keyword) }
     ensures asked { asked schemas.now result
-        ≡ map (λ e. application (schemas_of schemas.now) (numbered_site schemas.now place) keyword.now spec.Alone (spec.Index e.0) e.1)
+        ≡ map (λ e. application (schemas_of schemas.now) (numbered_site schemas.now place) keyword.entry.name.now spec.Alone (spec.Index e.0) e.1)
         (filter (λ e. nat_le (prefix_length (entries (value_of schema.now))) e.0) (indexed (instance_of value.entry))) }
     ensures is { IsAsking schemas.now result }
 {
@@ -103,12 +107,14 @@ pub(crate) fn every<'a>(
     schemas: &'a Schemas,
     place: Place,
     schema: &'a Doc,
-    keyword: &str,
+    keyword: Keyword<'a>,
     value: Instance<'a>,
 ) -> Asking<'a>
-    requires { StandsAt schemas.now place (value_of schema.now) }
+    requires place { StandsAt schemas.now place (value_of schema.now) }
+    requires kind { holds_one keyword.kind ≡ true }
+    requires keyword { IsIn (value_of schema.now) (keyword_of keyword) }
     ensures asked { asked schemas.now result
-        ≡ map (λ e. application (schemas_of schemas.now) (numbered_site schemas.now place) keyword.now spec.Alone (spec.Index e.0) e.1)
+        ≡ map (λ e. application (schemas_of schemas.now) (numbered_site schemas.now place) keyword.entry.name.now spec.Alone (spec.Index e.0) e.1)
         (indexed (instance_of value.entry)) }
     ensures is { IsAsking schemas.now result }
 {
@@ -120,17 +126,19 @@ fn from_index<'a>(
     schemas: &'a Schemas,
     place: Place,
     schema: &'a Doc,
-    keyword: &str,
+    keyword: Keyword<'a>,
     value: Instance<'a>,
     first: usize,
 ) -> Asking<'a>
-    requires { StandsAt schemas.now place (value_of schema.now) }
+    requires place { StandsAt schemas.now place (value_of schema.now) }
+    requires kind { holds_one keyword.kind ≡ true }
+    requires keyword { IsIn (value_of schema.now) (keyword_of keyword) }
     ensures asked { asked schemas.now result
-        ≡ map (λ e. application (schemas_of schemas.now) (numbered_site schemas.now place) keyword.now spec.Alone (spec.Index e.0) e.1)
+        ≡ map (λ e. application (schemas_of schemas.now) (numbered_site schemas.now place) keyword.entry.name.now spec.Alone (spec.Index e.0) e.1)
         (filter (λ e. nat_le first e.0) (indexed (instance_of value.entry))) }
     ensures is { IsAsking schemas.now result }
 {
-    let (below, held) = below(schemas, place, schema, keyword, Step::Alone);
+    let (below, held) = held_below(schemas, place, schema, keyword);
     Asking::Items(each_from(alloc, below, held, value.array(), first))
 }
 
@@ -153,17 +161,19 @@ pub(crate) fn unevaluated_items<'a>(
     schemas: &'a Schemas,
     place: Place,
     schema: &'a Doc,
-    keyword: &str,
+    keyword: Keyword<'a>,
     indexes: &[usize],
     value: Instance<'a>,
 ) -> Result<Asking<'a>, Memory>
-    requires { StandsAt schemas.now place (value_of schema.now) }
+    requires place { StandsAt schemas.now place (value_of schema.now) }
+    requires kind { holds_one keyword.kind ≡ true }
+    requires keyword { IsIn (value_of schema.now) (keyword_of keyword) }
     ensures asked { IfOk result (λ a. asked schemas.now a
-        ≡ map (λ e. application (schemas_of schemas.now) (numbered_site schemas.now place) keyword.now spec.Alone (spec.Index e.0) e.1)
+        ≡ map (λ e. application (schemas_of schemas.now) (numbered_site schemas.now place) keyword.entry.name.now spec.Alone (spec.Index e.0) e.1)
         (filter (λ e. not (among_indexes e.0 indexes.now)) (indexed (instance_of value.entry)))) }
     ensures is { IfOk result (λ a. IsAsking schemas.now a) }
 {
-    let (below, held) = below(schemas, place, schema, keyword, Step::Alone);
+    let (below, held) = held_below(schemas, place, schema, keyword);
     let items = each_except(alloc, below, held, value.array(), indexes)?;
     Ok(Asking::Items(items))
 }

@@ -1,31 +1,38 @@
 //! What the keywords for objects begin to ask for on any value, with any argument (Core, sections 10.2.2.4, 10.3.2 and
 //! 11.3): nothing, where it is no object.
-ghost use Rattle.std.specs.Prelude.{◌≡◌, ◌||◌, IfOk, filter, map, not};
+ghost use Rattle.std.specs.Prelude.{◌≡◌, ◌||◌, IfOk, filter, map, not, true};
 ghost use Rattle.std.specs.List.{flat_map};
 ghost use Rattle.js_assert.specs.Argument.{entries, has};
 ghost use Rattle.js_assert.specs.Pattern.{matches};
+ghost use Rattle.js_bundle.specs.Document.{Documents};
 ghost use Rattle.js_doc.specs.Seen.{value_of};
 ghost use Rattle.js_doc.specs.Value.{text};
 ghost use Rattle.js_eval.specs.Applications.{among_names, application, is_property, matches_pattern};
 ghost use Rattle.js_eval.specs.code.Asked.{IsAsking, asked};
+ghost use Rattle.js_eval.specs.code.Holding.{IsIn, holds_named, holds_one};
 ghost use Rattle.js_eval.specs.code.Standing.{StandsAt};
 ghost use Rattle.js_eval.specs.Bundle.{schemas_of};
 ghost use Rattle.js_eval.specs.SchemaSet as spec;
-ghost use Rattle.js_eval.specs.Seen.{instance_of, texts_of};
+ghost use Rattle.js_eval.specs.Seen.{instance_of, keyword_of, texts_of};
 ghost use Rattle.js_eval.specs.Sited.{numbered_site};
 
-use crate::bundled::below;
+use crate::bundled::held_below;
 use crate::cursor::Asking;
 use crate::instance::{Instance, object_in};
 use crate::keyword::Keyword;
 use crate::member_cursor::{
     each_additional, each_in_place, each_name, each_named, each_other, object_at,
 };
+use crate::name_cursor::each_of_names;
 use crate::pattern_cursor::each_matching;
 use crate::schema::argument_in;
-use js_bundle::{Place, Schemas, Step};
-use js_doc::{Doc, Memory};
+use js_bundle::{Place, Schemas};
+use js_doc::{Doc, Members, Memory};
 use std::alloc::Global;
+
+/// How many times as many names as members are many more: to go through the names takes a look-up for each of them, and through
+/// the members several for each.
+const MANY_MORE: usize = 4;
 
 /// What `dependentSchemas` asks for.
 pub(crate) fn dependent<'a>(
@@ -57,26 +64,48 @@ pub(crate) fn dependent<'a>(
     }
 }
 
-/// What `properties` asks for.
+/// What `properties` asks for: its names are gone through, unless there are many more of them than members.
 pub(crate) fn properties<'a>(
-    schemas: &'a Schemas,
     place: Place,
     schema: &'a Doc,
     keyword: Keyword<'a>,
     value: Instance<'a>,
 ) -> Asking<'a>
-    requires { StandsAt schemas.now place (value_of schema.now) }
-    ensures asked { asked schemas.now result
-        ≡ map (λ m. application (schemas_of schemas.now) (numbered_site schemas.now place) keyword.entry.name.now (spec.Name m.0) (spec.Name m.0) m.1)
+    requires kind { holds_named keyword.kind ≡ true }
+    requires keyword { IsIn (value_of schema.now) (keyword_of keyword) }
+    ensures asked { (documents : Documents) → asked documents result
+        ≡ map (λ m. application (schemas_of documents) (numbered_site documents place) keyword.entry.name.now (spec.Name m.0) (spec.Name m.0) m.1)
         (filter (λ m. has m.0 (entries (value_of keyword.entry.argument.now))) (entries (instance_of value.entry))) }
-    ensures is { IsAsking schemas.now result }
+    ensures is { (documents : Documents) → StandsAt documents place (value_of schema.now) → IsAsking documents result }
 {
     let Some(named) = object_in(keyword.argument) else {
         return Asking::One(None);
     };
     match value.object() {
-        Some(members) => Asking::Members(each_named(place, schema, keyword.name, named, members)),
+        Some(members) => named_members(place, schema, keyword, named, members),
         None => Asking::One(None),
+    }
+}
+
+fn named_members<'a>(
+    place: Place,
+    schema: &'a Doc,
+    keyword: Keyword<'a>,
+    named: &'a Members,
+    members: &'a Members,
+) -> Asking<'a>
+    requires kind { holds_named keyword.kind ≡ true }
+    requires keyword { IsIn (value_of schema.now) (keyword_of keyword) }
+    requires named { named.now ≡ entries (value_of keyword.argument.now) }
+    ensures asked { (documents : Documents) → asked documents result
+        ≡ map (λ m. application (schemas_of documents) (numbered_site documents place) keyword.entry.name.now (spec.Name m.0) (spec.Name m.0) m.1)
+        (filter (λ m. has m.0 named.now) members.now) }
+    ensures is { (documents : Documents) → StandsAt documents place (value_of schema.now) → IsAsking documents result }
+{
+    if named.len() / MANY_MORE > members.len() {
+        Asking::Members(each_named(place, schema, keyword.name, named, members))
+    } else {
+        Asking::Names(each_of_names(place, schema, keyword, named, members))
     }
 }
 
@@ -115,16 +144,18 @@ pub(crate) fn additional<'a>(
     schemas: &'a Schemas,
     place: Place,
     schema: &'a Doc,
-    keyword: &str,
+    keyword: Keyword<'a>,
     value: Instance<'a>,
 ) -> Asking<'a>
-    requires { StandsAt schemas.now place (value_of schema.now) }
+    requires place { StandsAt schemas.now place (value_of schema.now) }
+    requires kind { holds_one keyword.kind ≡ true }
+    requires keyword { IsIn (value_of schema.now) (keyword_of keyword) }
     ensures asked { asked schemas.now result
-        ≡ map (λ m. application (schemas_of schemas.now) (numbered_site schemas.now place) keyword.now spec.Alone (spec.Name m.0) m.1)
+        ≡ map (λ m. application (schemas_of schemas.now) (numbered_site schemas.now place) keyword.entry.name.now spec.Alone (spec.Name m.0) m.1)
         (filter (λ m. not (is_property (entries (value_of schema.now)) m.0 || matches_pattern (entries (value_of schema.now)) m.0)) (entries (instance_of value.entry))) }
     ensures is { IsAsking schemas.now result }
 {
-    let (below, held) = below(schemas, place, schema, keyword, Step::Alone);
+    let (below, held) = held_below(schemas, place, schema, keyword);
     let properties = object_at(schema, "properties");
     let patterns = object_at(schema, "patternProperties");
     match value.object() {
@@ -140,15 +171,17 @@ pub(crate) fn property_names<'a>(
     schemas: &'a Schemas,
     place: Place,
     schema: &'a Doc,
-    keyword: &str,
+    keyword: Keyword<'a>,
     value: Instance<'a>,
 ) -> Asking<'a>
-    requires { StandsAt schemas.now place (value_of schema.now) }
+    requires place { StandsAt schemas.now place (value_of schema.now) }
+    requires kind { holds_one keyword.kind ≡ true }
+    requires keyword { IsIn (value_of schema.now) (keyword_of keyword) }
     ensures asked { asked schemas.now result
-        ≡ map (λ m. application (schemas_of schemas.now) (numbered_site schemas.now place) keyword.now spec.Alone (spec.Name m.0) (text m.0)) (entries (instance_of value.entry)) }
+        ≡ map (λ m. application (schemas_of schemas.now) (numbered_site schemas.now place) keyword.entry.name.now spec.Alone (spec.Name m.0) (text m.0)) (entries (instance_of value.entry)) }
     ensures is { IsAsking schemas.now result }
 {
-    let (below, held) = below(schemas, place, schema, keyword, Step::Alone);
+    let (below, held) = held_below(schemas, place, schema, keyword);
     match value.object() {
         Some(members) => Asking::Members(each_name(below, held, members)),
         None => Asking::One(None),
@@ -164,20 +197,22 @@ pub(crate) fn unevaluated_properties<'a>(
     schemas: &'a Schemas,
     place: Place,
     schema: &'a Doc,
-    keyword: &str,
+    keyword: Keyword<'a>,
     evaluated: &[&'a str],
     value: Instance<'a>,
 ) -> Result<Asking<'a>, Memory>
-    requires { StandsAt schemas.now place (value_of schema.now) }
+    requires place { StandsAt schemas.now place (value_of schema.now) }
+    requires kind { holds_one keyword.kind ≡ true }
+    requires keyword { IsIn (value_of schema.now) (keyword_of keyword) }
     ensures asked { IfOk result (λ a. asked schemas.now a
-        ≡ map (λ m. application (schemas_of schemas.now) (numbered_site schemas.now place) keyword.now spec.Alone (spec.Name m.0) m.1)
+        ≡ map (λ m. application (schemas_of schemas.now) (numbered_site schemas.now place) keyword.entry.name.now spec.Alone (spec.Name m.0) m.1)
         (filter (λ m. not (among_names m.0 (texts_of evaluated.now))) (entries (instance_of value.entry)))) }
     ensures is { IfOk result (λ a. IsAsking schemas.now a) }
 {
     let Some(members) = value.object() else {
         return Ok(Asking::One(None));
     };
-    let (below, held) = below(schemas, place, schema, keyword, Step::Alone);
+    let (below, held) = held_below(schemas, place, schema, keyword);
     let members = each_other(alloc, below, held, evaluated, members)?;
     Ok(Asking::Members(members))
 }

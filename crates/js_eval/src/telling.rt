@@ -20,14 +20,17 @@ ghost use Rattle.js_eval.specs.Walk.Said.{keyword_says};
 ghost use Rattle.js_eval.specs.Walk.Told.{IsKeywordAt, says_at};
 ghost use Rattle.js_tree.specs.Seen.{note_of};
 
+use crate::counted::holds;
+use crate::here::Here;
 use crate::instance::Instance;
 use crate::keyword::Keyword;
 use crate::kind::Kind;
 use crate::name_set::{is_in, set_of};
+use crate::searchers::Searchers;
 use crate::walking::Judged;
 use itoa::Buffer;
 use js_assert::Assertion;
-use js_bundle::{Place, Schemas};
+use js_bundle::Place;
 use js_doc::{Doc, Members, Memory, Text};
 use js_tree::{Indexes, Names, Note};
 use std::alloc::Global;
@@ -41,7 +44,7 @@ use std::collections::BTreeSet;
 #[tactic(auto, unfolding(crate::specs::Walk::Told::says_at))]
 pub(crate) fn keyword_note<'a>(
     alloc: Global,
-    schemas: &Schemas,
+    here: &Here<'a>,
     place: Place,
     value: Instance<'a>,
     keyword: Keyword<'a>,
@@ -50,16 +53,16 @@ pub(crate) fn keyword_note<'a>(
     names: &[&'a str],
     indexes: &[usize],
 ) -> Result<Note<'a>, Memory>
-    requires place { is_place schemas.now place ≡ true }
-    requires keyword { IsKeywordAt (schemas_of schemas.now) (numbered_site schemas.now place) (keyword_of keyword) }
-    ensures { IfOk result (λ n. note_of n ≡ says_at (schemas_of schemas.now) (numbered_site schemas.now place) (instance_of value.entry) matching (keyword_of keyword.entry)
+    requires place { is_place here.now.schemas.now place ≡ true }
+    requires keyword { IsKeywordAt (schemas_of here.now.schemas.now) (numbered_site here.now.schemas.now place) (keyword_of keyword) }
+    ensures { IfOk result (λ n. note_of n ≡ says_at (schemas_of here.now.schemas.now) (numbered_site here.now.schemas.now place) (instance_of value.entry) matching (keyword_of keyword.entry)
         judged.held (texts_of names.now) indexes.now judged.passes) }
 {
     let kind = keyword.kind;
     if judged.passes {
         annotation_of(alloc, kind, keyword, value, names, indexes)
     } else {
-        let error = error_at(alloc, schemas, place, value, keyword, matching)?;
+        let error = error_at(alloc, here, place, value, keyword, matching)?;
         failure_of(alloc, kind, judged.held, error)
     }
 }
@@ -332,29 +335,31 @@ fn add_name_if<'a>(names: &mut Vec<&'a str>, wanted: bool, name: &'a str) -> Res
 // The error that a value makes under the assertion that the keyword is, if it is one and the value doesn't hold.
 fn error_at(
     alloc: Global,
-    schemas: &Schemas,
+    here: &Here<'_>,
     place: Place,
     value: Instance<'_>,
     keyword: Keyword<'_>,
     matching: u64,
 ) -> Result<Option<String>, Memory>
-    requires place { is_place schemas.now place ≡ true }
-    requires keyword { IsKeywordAt (schemas_of schemas.now) (numbered_site schemas.now place) (keyword_of keyword) }
+    requires place { is_place here.now.schemas.now place ≡ true }
+    requires keyword { IsKeywordAt (schemas_of here.now.schemas.now) (numbered_site here.now.schemas.now place) (keyword_of keyword) }
     ensures { IfOk result (λ e. option_map string_bytes e ≡ option_map_or (λ a. texts.error a (instance_of value.entry) matching)
-        (asserted keyword.entry.name.now (value_of keyword.entry.argument.now) (entries (numbered_site schemas.now place).schema)) None) }
+        (asserted keyword.entry.name.now (value_of keyword.entry.argument.now) (entries (numbered_site here.now.schemas.now place).schema)) None) }
 {
     error_of(
         alloc,
-        schemas.assertion(place, keyword.name),
+        &here.searchers,
+        here.schemas.assertion(place, keyword.name),
         value,
         matching,
     )
 }
 
 // The error that a value makes under an assertion, if there is one and the value doesn't hold.
-fn error_of(
+fn error_of<'a>(
     alloc: Global,
-    assertion: Option<&Assertion>,
+    searchers: &Searchers<'a>,
+    assertion: Option<&'a Assertion>,
     value: Instance<'_>,
     matching: u64,
 ) -> Result<Option<String>, Memory>
@@ -362,24 +367,40 @@ fn error_of(
         (option_map (λ a. a.now) assertion.entry) None) }
 {
     match assertion {
-        Some(assertion) => checked(alloc, assertion, value, matching),
+        Some(assertion) => checked(alloc, searchers, assertion, value, matching),
         None => Ok(None),
     }
 }
 
-fn checked(
+// The verdict has been found before, with the same searcher: a kept one finds it again at little cost.
+fn checked<'a>(
     alloc: Global,
-    assertion: &Assertion,
+    searchers: &Searchers<'a>,
+    assertion: &'a Assertion,
     value: Instance<'_>,
     matching: u64,
 ) -> Result<Option<String>, Memory>
     ensures { IfOk result (λ e. option_map string_bytes e ≡ texts.error assertion.now (instance_of value.entry) matching) }
 {
+    if holds(alloc, searchers, assertion, value, matching)? {
+        return Ok(None);
+    }
+    Ok(Some(error_text(alloc, assertion, value, matching)?))
+}
+
+fn error_text(
+    alloc: Global,
+    assertion: &Assertion,
+    value: Instance<'_>,
+    matching: u64,
+) -> Result<String, Memory>
+    ensures { IfOk result (λ s. string_bytes s ≡ texts.error_text assertion.now (instance_of value.entry) matching) }
+{
     match value {
-        Instance::Doc(doc) => assertion.check(alloc, doc, matching),
+        Instance::Doc(doc) => assertion.error(alloc, doc, matching),
         Instance::Name(name) => {
             let name = Doc::Text(Text::new(String::from_str(alloc, name)?));
-            assertion.check(alloc, &name, matching)
+            assertion.error(alloc, &name, matching)
         }
     }
 }

@@ -1,23 +1,28 @@
 -- What an asking has still to ask for, of the schemas that it was made for.
-use Rattle.std.specs.Prelude.{List, [], ◌∷◌, Option, Some, None}
+use Rattle.std.specs.Prelude.{[], ◌∷◌, Option, Some, None}
+use Rattle.std.specs.Prelude as prelude
 use Rattle.js_doc.specs.Seen.{value_of}
 use Rattle.js_bundle.specs.Document.{Documents}
 use Rattle.js_bundle.specs.Resource.{Site}
 use Rattle.js_eval.specs.Applications.{Application}
 use Rattle.js_eval.specs.code.Applied.{IsHeld, applied_of}
 use Rattle.js_eval.specs.code.Cursors.{items_asked, members_asked, patterns_asked}
+use Rattle.js_eval.specs.code.ListLeft.{IsList, list_asked}
+use Rattle.js_eval.specs.code.NamesLeft.{IsNames, names_asked}
 use Rattle.js_eval.specs.code.Standing.{StandsAt}
 use Rattle.js_eval.specs.declared.instance.Applied.{Applied}
 use Rattle.js_eval.specs.declared.cursor.Asking.{Asking}
-use Rattle.js_eval.specs.declared.cursor.Asking.TheVariants.{One, Items, Members, Patterns}
+use Rattle.js_eval.specs.declared.cursor.Asking.TheVariants.{One, List, Names, Items, Members, Patterns}
 use Rattle.js_eval.specs.declared.pattern_cursor.PatternCursor.{PatternCursor}
 
-abbrev pub one_asked : Documents → Option Applied → List (Application Site)
+abbrev pub one_asked : Documents → Option Applied → prelude.List (Application Site)
 one_asked documents None = []
 one_asked documents (Some a) = applied_of documents a ∷ []
 
-abbrev pub asked : Documents → Asking → List (Application Site)
+abbrev pub asked : Documents → Asking → prelude.List (Application Site)
 asked documents (One one) = one_asked documents one
+asked documents (List c) = list_asked documents c
+asked documents (Names c) = names_asked documents c
 asked documents (Items c) = items_asked documents c
 asked documents (Members c) = members_asked documents c
 asked documents (Patterns c) = patterns_asked documents c
@@ -37,6 +42,8 @@ ArePatterns documents c = StandsAt documents c.place (value_of c.schema.now) × 
 
 abbrev pub IsAsking : Documents → Asking → Type 0
 IsAsking documents (One one) = IsOne documents one
+IsAsking documents (List c) = IsList documents c
+IsAsking documents (Names c) = IsNames documents c
 IsAsking documents (Items c) = IsHeld documents c.held
 IsAsking documents (Members c) = IsHeld documents c.held
 IsAsking documents (Patterns c) = ArePatterns documents c

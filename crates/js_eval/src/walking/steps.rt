@@ -106,6 +106,7 @@ pub(crate) fn asked<W: World, H: PointerText + Drop>(
     requires schema { W.stands_at world.now case.place case.schema }
     requires names { start.names ≤ length way.now.names.items }
     requires indexes { start.indexes ≤ length way.now.indexes.items }
+    requires keyword { IsKeywordAt (W.schemas world.now) (W.site world.now case.place) (W.keyword_of case.keyword) }
     ensures asked { IfOk result (λ a. W.asked world.now a ≡ asked_by (W.schemas world.now) 0 (map (W.site world.now) way.now.path) (W.site world.now case.place) (W.value_of case.value) (W.keyword_of case.keyword)
         condition (map W.text_of (drop start.names way.now.names.items)) (drop start.indexes way.now.indexes.items)) }
     ensures is { IfOk result (λ a. W.is_asking world.now a) }

@@ -120,6 +120,7 @@ pub(crate) trait World {
         requires resources { resources.now ≡ dedup nat_eq (map (resource self.now) path.now) }
         requires place { is_place self.now place ≡ true }
         requires schema { stands_at self.now place schema }
+        requires keyword { IsKeywordAt (schemas self.now) (site self.now place) (keyword_of keyword) }
         ensures asked { IfOk result (λ a. asked self.now a ≡ asked_by (schemas self.now) 0 (map (site self.now) path.now) (site self.now place) (value_of value) (keyword_of keyword)
             condition (map text_of names.now) indexes.now) }
         ensures is { IfOk result (λ a. is_asking self.now a) };

@@ -4,4 +4,4 @@ use Rattle.js_eval.proofs.start_items.from_index.Goals as goal
 
 pub returns-clause-asked : goal.returns-clause-asked
 returns-clause-asked c =
-    moved (on_items (nat_le c.args.first)) _ _ _ _ _ (c.each_from.ensures.asked c.args.schemas.now) c.below-below.ensures.site c.array.ensures
+    moved (on_items (nat_le c.args.first)) _ _ _ _ _ (c.each_from.ensures.asked c.args.schemas.now) c.held_below-below.ensures.site c.array.ensures

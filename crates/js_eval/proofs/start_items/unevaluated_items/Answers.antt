@@ -5,4 +5,4 @@ use Rattle.js_eval.proofs.start_items.unevaluated_items.Goals as goal
 
 pub returns-clause-asked : goal.returns-clause-asked
 returns-clause-asked c =
-    moved (on_items (λ i. not (among_indexes i c.args.indexes.now))) _ _ _ _ _ (c.in_ok-items.ensures.asked c.args.schemas.now) c.below-below.ensures.site c.array.ensures
+    moved (on_items (λ i. not (among_indexes i c.args.indexes.now))) _ _ _ _ _ (c.in_ok-items.ensures.asked c.args.schemas.now) c.held_below-below.ensures.site c.array.ensures

@@ -4,5 +4,5 @@ use Rattle.js_eval.proofs.telling.error_at.Goals as goal
 
 pub returns : goal.returns
 returns c =
-    let e = assertion_is c.args.schemas.now c.args.place (keyword_of c.args.keyword) _ c.requires.place c.requires.keyword c.assertion.ensures in
+    let e = assertion_is c.args.here.now.schemas.now c.args.place (keyword_of c.args.keyword) _ c.requires.place c.requires.keyword c.assertion.ensures in
     rw e at c.error_of.ensures

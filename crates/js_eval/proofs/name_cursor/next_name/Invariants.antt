@@ -1,0 +1,13 @@
+use Rattle.std.proofs.Common.{◌≡◌, ◌+◌, ◌<◌, ◌^◌, length}
+use Rattle.js_doc.specs.Value.{Named}
+use Rattle.js_eval.specs.code.NamesLeft.{AreLeft, names_left}
+use Rattle.js_eval.proofs.name_cursor.next_name.Given as goal
+
+abbrev pub invariant-loop-name : goal.invariant-loop-name
+invariant-loop-name l =
+    record {
+      can : (goal.iterator-loop-name).can_next l.names × (goal.iterator-loop-name).is_finite l.names;
+      same : names_left l.members l.names ≡ names_left l.members l.initial.names;
+      left : (all : Named) → AreLeft all l.initial.rank l.initial.names → AreLeft all l.rank l.names;
+      few : l.rank + length l.names < 2 ^ 64;
+    }

@@ -1,0 +1,40 @@
+-- What `properties` has still to ask for, name by name (of private functions).
+use Rattle.std.specs.Prelude.{◌≡◌, ℕ, ◌+◌, ◌<◌, ◌^◌, List, String, drop, filter, length, map, true}
+use Rattle.std.specs.Global.{Global}
+use Rattle.js_assert.specs.Argument.{entries, has}
+use Rattle.js_bundle.specs.Document.{Documents}
+use Rattle.js_bundle.specs.Resource.{Site}
+use Rattle.js_doc.specs.Seen.{pair_of, value_of}
+use Rattle.js_doc.specs.Value as doc
+use Rattle.js_doc.specs.declared.doc.Doc.{Doc}
+use Rattle.js_eval.specs.Applications.{Application, application}
+use Rattle.js_eval.specs.Bundle.{schemas_of}
+use Rattle.js_eval.specs.SchemaSet.{Name, Text}
+use Rattle.js_eval.specs.Seen.{keyword_of}
+use Rattle.js_eval.specs.Sited.{numbered_site}
+use Rattle.js_eval.specs.code.Applied.{namesake}
+use Rattle.js_eval.specs.code.Holding.{IsIn, holds_named}
+use Rattle.js_eval.specs.code.Standing.{StandsAt}
+use Rattle.js_eval.specs.declared.name_cursor.NameCursor.{NameCursor}
+
+-- the schema of a name, applied to the member of that name
+abbrev pub on_member : Documents → ℕ → Text → doc.Named → Text × doc.Value → Application Site
+on_member documents place keyword members m =
+    application (schemas_of documents) (numbered_site documents place) keyword (Name m.0) (Name m.0) (namesake members (Name m.0) m.1)
+
+-- of the names those that are a member's, with their schemas
+abbrev pub names_left : doc.Named → List (String Global × Doc) → doc.Named
+names_left members names = filter (λ m. has m.0 members) (map pair_of names)
+
+abbrev pub names_asked : Documents → NameCursor → List (Application Site)
+names_asked documents c = map (on_member documents c.place c.keyword.name.now c.members.now) (names_left c.members.now c.names)
+
+-- of all names, these are left behind so many
+abbrev pub AreLeft : doc.Named → ℕ → List (String Global × Doc) → Type 0
+AreLeft all rank names = map pair_of names ≡ drop rank all
+
+-- the names are those of the keyword of a place with this schema
+abbrev pub IsNames : Documents → NameCursor → Type 0
+IsNames documents c =
+    StandsAt documents c.place (value_of c.schema.now) × (holds_named c.keyword.kind ≡ true) × IsIn (value_of c.schema.now) (keyword_of c.keyword)
+    × AreLeft (entries (value_of c.keyword.argument.now)) c.rank c.names × (c.rank + length c.names < 2 ^ 64)
