@@ -4,7 +4,7 @@ use super::telling::{mark_begin, mark_end};
 use super::{flat_lists, trees};
 use crate::word_at;
 use js_doc::{Doc, Text, read};
-use js_tree::{Boxed, Collector, Flat, Head, Indexes, Location, Names, Note, Verdict};
+use js_tree::{Boxed, Collector, Flat, Head, Indexes, Names, Note, Verdict};
 use std::alloc::Global;
 use std::test::Fail;
 
@@ -60,9 +60,9 @@ fn head(alloc: Global, name: char) -> Result<Head, Fail> {
     let mut keyword = String::new(alloc);
     keyword.push(name)?;
     Ok(Head {
-        keyword: Location::new(keyword),
-        absolute: Location::new(String::from_str(alloc, "s#")?),
-        instance: Location::new(String::new(alloc)),
+        keyword: Text::new(keyword),
+        absolute: Text::new(String::from_str(alloc, "s#")?),
+        instance: Text::new(String::new(alloc)),
     })
 }
 
