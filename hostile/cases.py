@@ -298,8 +298,8 @@ def bundles():
             yield check(f"a {name} bundle, {it}", schema, instance, it, out=None)
         yield Case(f"the places of a {name} bundle", ["places", U, "schema.json"], {"schema.json": schema}, out=None)
     # A table that hashes takes as many comparisons as there are pairs of such names.
-    alike = compact({"$defs": {it: True for it in colliding(32_000)}})
-    yield valid("32,000 places whose keys have one hash", alike, "0", most_seconds=4)
+    alike = compact({"$defs": {it: True for it in colliding(64_000)}})
+    yield valid("64,000 places whose keys have one hash", alike, "0", most_seconds=4)
 
 
 def patterns():
