@@ -25,7 +25,7 @@ class Step:
     name: str
 
 
-# What tools/build-library makes. ./test doesn't: it would prove each crate once more.
+# What tools/build-library makes.
 LIBRARY = os.path.join(HOME, "out", "lib", "libjschema.a")
 
 # For each command of a block ```sh, what runs it. A command may need what those before it on its page made.
@@ -53,7 +53,7 @@ RUN_BY = {
     "hostile/run growth --only polygon": Step("hostile/run"),
     "hostile/run --times large limits":
         Small("hostile/run --times --only 'a pair' limits slow --program {program}"),
-    "tools/build-library": Small("c/test calls header symbols", (LIBRARY,)),
+    "tools/build-library": Step("c/test --build"),
     "cc -Iout/include c/tests/person.c out/lib/libjschema.a -o out/person && out/person":
         Small("cc -Iout/include c/tests/person.c out/lib/libjschema.a -o {folder}/person && {folder}/person",
               (LIBRARY,)),
