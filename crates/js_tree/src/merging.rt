@@ -72,7 +72,7 @@ fn merge_one(tree: &mut Tree) -> bool
     }
     match tree.children.pop() {
         Some(child) => {
-            *tree = child;
+            tree.replace_by(child);
             true
         }
         None => false,
