@@ -80,11 +80,21 @@ pub(crate) fn next_of_names<'a>(
     ensures applied { MatchOption result (Unit {0}) (λ a. IsApplied schemas.now a) }
     ensures is { IsNames schemas.now cursor.new }
 {
-    let (rank, name, held, member) =
-        next_name(cursor.members, &mut cursor.names, &mut cursor.rank)?;
+    let (rank, name, held, member) = next_name(
+        cursor.members,
+        &mut cursor.names,
+        &mut cursor.rank,
+    )?;
     let step = Step::Name(name);
-    let (place, schema) =
-        ranked_below(schemas, cursor.place, cursor.schema, cursor.keyword, step, rank, held);
+    let (place, schema) = ranked_below(
+        schemas,
+        cursor.place,
+        cursor.schema,
+        cursor.keyword,
+        step,
+        rank,
+        held,
+    );
     Some(Applied {
         place,
         schema,
