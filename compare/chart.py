@@ -2,7 +2,7 @@
 import math
 from xml.sax.saxutils import escape
 
-COLORS = ("#1b6ca8", "#c0562f", "#8a8a8a", "#3f8f4f", "#b59b00", "#7b4fa3")
+COLORS = ("#1b6ca8", "#6fb1e0", "#c0562f", "#8a8a8a", "#3f8f4f", "#b59b00", "#7b4fa3")
 LEFT, WIDTH, BAR, GAP, TOP = 150, 560, 9, 10, 60
 
 

@@ -94,10 +94,10 @@ def run_bounded(command, environment, seconds):
 
 def write_files(folder, name, schema, instances):
     """The files of a schema with instances, which are texts of JSON."""
-    paths = Files(*(os.path.join(folder, f"{name}.{it}.json") for it in ("suite", "schema", "instance")))
+    paths = Files(*(os.path.join(folder, f"{name}.{it}.json") for it in ("suite", "schema", "instance", "instances")))
     tests = ",".join(f'{{"description":"","data":{it},"valid":true}}' for it in instances)
-    texts = (f'[{{"description":"","schema":{schema},"tests":[{tests}]}}]', schema, instances[0])
-    for path, text in zip((paths.suite, paths.schema, paths.instance), texts):
+    texts = f'[{{"description":"","schema":{schema},"tests":[{tests}]}}]', schema, instances[0], "\n".join(instances)
+    for path, text in zip((paths.suite, paths.schema, paths.instance, paths.instances), texts):
         with open(path, "w", encoding="utf-8") as file:
             file.write(text)
     return paths

@@ -20,11 +20,12 @@ URI = "https://a.example/s"
 
 @dataclass(frozen=True)
 class Files:
-    """A schema with instances: as a suite of one group, and the first instance apart."""
+    """A schema with instances: as a suite of one group, the first instance apart, and all of them with one a line."""
 
     suite: str
     schema: str
     instance: str
+    instances: str
 
 
 @dataclass(frozen=True)
@@ -53,9 +54,9 @@ class Tool:
 
     def verdicts(self, mode, done):
         """Whether each instance is valid; none where it answers no verdict on one of them."""
-        words = [line.split(" ")[0] for line in done.stdout.splitlines()]
+        words = [line.split(" ")[0] for line in done.stdout.removesuffix("\n").split("\n")]
         known = done.returncode == 0 and set(words) <= {"valid", "invalid"}
-        return [word == "valid" for word in words] if known and words else None
+        return [word == "valid" for word in words] if known else None
 
 
 class Jschema(Tool):
@@ -82,6 +83,13 @@ class Jschema(Tool):
         return None if "skip" in words else [word == "pass" for word in words]
 
 
+class Library(Tool):
+    """The library for C: its driver is given the schema, and the bytes of each instance."""
+
+    def command(self, mode, files):
+        return [*self.driver, mode, files.schema, files.instances]
+
+
 def default_program():
     """The program as the gate, or `./jschema`, built it; none where it isn't built."""
     return next((os.path.normpath(it) for it in BUILDS if os.path.isfile(it)), None)
@@ -100,11 +108,27 @@ def package_version(name):
     return output_of("dpkg-query", "-W", "-f", "${Version}", name) or "unknown"
 
 
+def commit():
+    return output_of("git", "-C", HOME, "log", "-1", "--format=%h") or "unknown"
+
+
 def jschema(program):
-    version = output_of("git", "-C", HOME, "log", "-1", "--format=%h") or "unknown"
     asked = {"verdict": "`suite`: the verdict, by a whole walk",
              "errors": "`check basic`: each error with its locations"}
-    return Jschema("jschema", version, 2020, (os.path.abspath(program),), asked)
+    return Jschema("jschema", commit(), 2020, (os.path.abspath(program),), asked)
+
+
+def library(folder):
+    """The library that tools/build-library made, with a driver that is compiled here."""
+    driver, out = os.path.join(folder, "library_driver"), os.path.join(HOME, "out")
+    built = [os.environ.get("CC", "cc"), "-O2", "-I", os.path.join(out, "include"), "-I",
+             os.path.join(HOME, "c", "tests"), "-o", driver, os.path.join(DRIVERS, "library_driver.c"),
+             os.path.join(out, "lib", "libjschema.a")]
+    if output_of(*built) is None:
+        return "jschema (C): tools/build-library hasn't built the library, or there is no C compiler"
+    asked = {"verdict": "`jschema_check`, `flag`: the verdict, by a whole walk",
+             "errors": "`jschema_check`, `basic`: each error with its locations"}
+    return Library("jschema (C)", commit(), 2020, (driver,), asked)
 
 
 def of_python(name, draft, asked):
@@ -149,10 +173,11 @@ def gojsonschema(folder):
     return Tool("gojsonschema", version, 7, (program,), asked)
 
 
-def find_tools(program, folder):
-    """Those that are installed, and why each other one isn't there."""
+def find_tools(program, folder, *others):
+    """Those that are installed, and why each other one isn't there. `others` are named after the program."""
     found = [
         jschema(program),
+        *others,
         of_python("jsonschema", 2020, {"verdict": "`is_valid`, up to the first error", "errors": "`iter_errors`"}),
         of_python("fastjsonschema", 7, {"verdict": "the verdict, up to the first error"}),
         valijson(folder),

@@ -3,6 +3,7 @@ import json
 from dataclasses import dataclass, field
 from itertools import product
 
+from colliding import colliding
 from jschema import answer
 
 U = "https://a.example/s"
@@ -19,7 +20,10 @@ POINTS = '[{"x":2,"y":1},{"x":1,"z":6}]'
 
 @dataclass
 class Case:
-    """A run of the program. Where `out` is None, the reference answers; a large text is a function to its pieces."""
+    """A run of the program. Where `out` is None, the reference answers; a large text is a function to its pieces.
+
+    A run that takes more than `most_seconds` fails.
+    """
 
     name: str
     words: list
@@ -28,6 +32,7 @@ class Case:
     out: object = b""
     errors: bytes = b""
     status: int = 0
+    most_seconds: float | None = None
 
     def wanted(self):
         """What must be answered. The case's files must be in the current folder."""
@@ -287,11 +292,14 @@ def siblings():
 
 
 def bundles():
-    """A wide and a deep bundle."""
+    """A wide and a deep bundle, and one whose names are chosen to have one hash."""
     for name, (schema, instance) in (("wide", wide_bundle()), ("deep", deep_bundle())):
         for it in FORMATS:
             yield check(f"a {name} bundle, {it}", schema, instance, it, out=None)
         yield Case(f"the places of a {name} bundle", ["places", U, "schema.json"], {"schema.json": schema}, out=None)
+    # A table that hashes takes as many comparisons as there are pairs of such names.
+    alike = compact({"$defs": {it: True for it in colliding(64_000)}})
+    yield valid("64,000 places whose keys have one hash", alike, "0", most_seconds=4)
 
 
 def patterns():

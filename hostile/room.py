@@ -75,10 +75,13 @@ class Room:
         begin = time.monotonic()
         with open("given", "rb") as given, open("out", "wb") as out:
             _, errors, status = answer_of(words, self.seconds, None, stdin=given, stdout=out)
+        took = time.monotonic() - begin
         if self.times:
-            print(f"{time.monotonic() - begin:8.2f} s {read('peak').decode():>6} MB {os.path.getsize('out'):12,} bytes"
+            print(f"{took:8.2f} s {read('peak').decode():>6} MB {os.path.getsize('out'):12,} bytes"
                   f"  {case.name}", flush=True)
-        if callable(case.out):
+        if case.most_seconds and took > case.most_seconds:
+            self.tell(case.name, f"took {took:.1f} s; at most {case.most_seconds} s")
+        elif callable(case.out):
             self.judge(case.name, (True, case.errors, case.status), (is_made_of("out", case.out()), errors, status))
         else:
             self.judge(case.name, case.wanted(), (read("out"), errors, status))

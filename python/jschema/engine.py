@@ -33,4 +33,4 @@ class Engine(Protocol):
         """Validates a JSON text against the schema with this URI. `format` is one of `FORMATS`."""
 
     def close(self) -> None:
-        """Gives back what is held. A second call does nothing."""
+        """Frees what is held. A second call does nothing."""

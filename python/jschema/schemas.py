@@ -77,7 +77,7 @@ class Schemas:
         return self._open().check(entry, text, format)
 
     def close(self) -> None:
-        """Gives back what the schemas hold. Only `close` may be called afterwards."""
+        """Frees what the schemas hold. Afterwards only `close` may be called."""
         if self._engine is not None:
             self._engine.close()
             self._engine = None

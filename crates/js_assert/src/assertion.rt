@@ -134,8 +134,8 @@ impl Assertion {
         }
     }
 
-    /// The pattern that a string has to match (JSON Schema Validation, section 6.3.3), where the keyword is `pattern`: who judges
-    /// many values can keep what searches with it.
+    /// The pattern that a string has to match (JSON Schema Validation, section 6.3.3), where the keyword is `pattern`.
+    /// A caller that judges many values can keep a searcher for it.
     pub fn pattern(&self) -> Option<&Pattern>
         ensures asked { option_map (λ p. p.now) result ≡ pattern_asked self.now }
         ensures says { MatchOption result (Unit {0}) (λ p. (v : Value) (matching : ℕ)
@@ -151,7 +151,7 @@ impl Assertion {
     /// `contains`; only `maxContains` and `minContains` look at it, and only if there is such a `contains`.
     ///
     /// # Errors
-    /// `Memory`: only `pattern` and `uniqueItems` want some.
+    /// `Memory`: only `pattern` and `uniqueItems` need some.
     pub fn holds(&self, alloc: Global, value: &Doc, matching: u64) -> Result<bool, Memory>
         ensures { IfOk result (λ b. b ≡ says self.now (value_of value.now) matching) }
     {
@@ -182,7 +182,7 @@ impl Assertion {
         }
     }
 
-    /// The text of the error that the value makes where it doesn't meet the assertion. Whether it does isn't asked.
+    /// The text of the error for a value that doesn't meet the assertion. It isn't checked whether the value does.
     ///
     /// # Errors
     /// `Memory`.

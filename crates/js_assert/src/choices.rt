@@ -1,4 +1,4 @@
-//! The values that `enum` lists (JSON Schema Validation, section 6.1.2), kept so that one is found among them by halves.
+//! The values that `enum` lists (JSON Schema Validation, section 6.1.2), kept for a binary search.
 ghost use Rattle.std.specs.Prelude.{◌≡◌, IfOk, map};
 ghost use Rattle.js_doc.specs.Order.{order};
 ghost use Rattle.js_doc.specs.Seen.{value_of};
@@ -67,7 +67,7 @@ fn places_in_order(alloc: Global, docs: &[Doc]) -> Result<Vec<usize>, Memory>
     Ok(places)
 }
 
-// A place past the end counts as null: what a search compares with has to answer at each number.
+// A place past the end counts as null: a search may ask at any number.
 fn compare_with(docs: &[Doc], place: usize, value: &Doc) -> Ordering
     ensures { result ≡ order (value_in docs.now place) (value_of value.now) }
 {

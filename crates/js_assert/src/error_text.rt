@@ -16,7 +16,7 @@ use itoa::{Buffer, Integer};
 use js_doc::{Doc, Memory};
 use std::alloc::Global;
 
-/// The text of the error that the value makes, where it doesn't meet the test.
+/// The text of the error for a value that doesn't meet the test.
 pub(crate) fn error_text(
     alloc: Global,
     test: &Test,

@@ -3,7 +3,7 @@ ghost use Rattle.std.specs.Prelude.{◌≡◌};
 use js_doc::Memory;
 use std::alloc::{AllocError, AllocFailed};
 
-/// Why a keyword's argument isn't taken (JSON Schema Validation, section 6).
+/// Why a keyword's argument isn't accepted (JSON Schema Validation, section 6).
 #[derive(Clone, Copy, Debug, PartialEq, Eq)]
 pub enum KeywordFault {
     /// 1: there was no memory.
@@ -12,7 +12,7 @@ pub enum KeywordFault {
     BadKeyword,
     /// 3: the argument of `pattern` is a string that `regex` reads no pattern in, or one that nests too deep.
     NotAPattern,
-    /// 4: `regex` refuses the pattern for another cause than syntax and memory.
+    /// 4: `regex` refuses the pattern for a reason other than syntax and memory.
     PatternTooLarge,
 }
 

@@ -1,4 +1,4 @@
-//! The names that an object lacks, as the errors of `required` and `dependentRequired` tell them.
+//! The names that an object lacks, as the errors of `required` and `dependentRequired` list them.
 ghost use Rattle.std.specs.Prelude.{◌≡◌, ◌++◌, IfOk, OnOk, string_bytes, map, []};
 ghost use Rattle.js_doc.specs.Compact.{comma_if, quoted};
 ghost use Rattle.js_doc.specs.Seen.{value_of};
@@ -90,7 +90,7 @@ fn put_absent<'a>(
     Ok(())
 }
 
-// The name as a JSON string, behind a comma where something stands before.
+// The name as a JSON string, after a comma unless it is the first.
 fn put_name(out: &mut String, later: bool, name: &str) -> Result<(), Memory>
     ensures { OnOk result (string_bytes out.new ≡ string_bytes out.old ++ (comma_if later ++ quoted name.now)) }
 {

@@ -60,7 +60,8 @@ pub(crate) fn dependent_required(dependences: &[Dependence], value: &Doc) -> boo
 }
 
 fn meets_all(members: &Members, dependences: &[Dependence]) -> bool
-    ensures { result ≡ list_all (λ d. implies (has_name d.name members.now) (has_each d.needs.items members.now)) dependences.now }
+    ensures { result
+        ≡ list_all (λ d. implies (has_name d.name members.now) (has_each d.needs.items members.now)) dependences.now }
 {
     dependences
         .iter()
@@ -68,7 +69,8 @@ fn meets_all(members: &Members, dependences: &[Dependence]) -> bool
 }
 
 fn is_met(members: &Members, dependence: &Dependence) -> bool
-    ensures { result ≡ implies (has_name dependence.now.name members.now) (has_each dependence.now.needs.items members.now) }
+    ensures { result
+        ≡ implies (has_name dependence.now.name members.now) (has_each dependence.now.needs.items members.now) }
 {
     !has_member(members, &dependence.name) || has_all(members, dependence.needs.as_slice())
 }

@@ -16,7 +16,7 @@ pub enum PatternFault {
     Memory,
     /// 2: `regex` reads no pattern in the text, or one that nests too deep.
     NotAPattern,
-    /// 3: `regex` refuses the pattern for another cause than syntax and memory: what it would be compiled to is
+    /// 3: `regex` refuses the pattern for a reason other than syntax and memory: what it would be compiled to is
     /// too large.
     PatternTooLarge,
 }
@@ -83,7 +83,7 @@ impl Pattern {
     /// Whether the pattern matches somewhere in the text.
     ///
     /// # Errors
-    /// `Memory`: a search wants some.
+    /// `Memory`: a search needs some.
     pub fn holds(&self, alloc: Global, text: &str) -> Result<bool, Memory>
         ensures { IfOk result (λ b. b ≡ matches self.now text.now) }
     {

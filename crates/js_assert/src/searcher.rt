@@ -7,7 +7,7 @@ use regex::{Matcher, Regex};
 use std::alloc::Global;
 use std::marker::Model;
 
-/// Searches with one pattern, for one text after another. What it works with is kept from a search to the next, so only
+/// Searches for one pattern in one text after another. What it works with is kept from one search to the next, so only
 /// the first is slow. Contracts see it as the pattern's text.
 #[derive(Drop)]
 pub struct Searcher<'p> {

@@ -7,7 +7,7 @@ use js_doc::{Doc, Memory};
 use std::alloc::Global;
 use std::collections::BTreeSet;
 
-// So many items are compared with one another as they are.
+// Up to this many items are compared with one another directly.
 const FEW_ITEMS: usize = 16;
 
 /// The least position that has an equal later one, with the least such later one.

@@ -1,7 +1,9 @@
 -- How the table of resources is made: the number of each place's, and what `$dynamicAnchor` names in each.
-use Rattle.std.proofs.Common.{◌≡◌, ℕ, zero, suc, ◌+◌, ◌<◌, ◌≤◌, List, [], ◌∷◌, ◌++◌, Bool, true, false, ◌||◌, ◌==◌, cond, filter, map, length, take, drop, get_or, Option, Some, option_map, option_and_then, option_to_list, unwrap_or, slice_get, nat_eq, bytes_eq, codes, string_bytes, if◌then◌else◌, refl, sym, ap, ap₂, ◌∙◌, subst, arith}
+use Rattle.std.proofs.Common.{◌≡◌, ℕ, zero, suc, ◌+◌, ◌<◌, ◌≤◌, List, [], ◌∷◌, ◌++◌, Bool, true, false, ◌||◌, ◌==◌, cond, filter, map, length, take, drop, get_or, Option, Some, option_map, option_and_then, option_to_list, unwrap_or, slice_get, nat_eq, codes, if◌then◌else◌, refl, sym, ap, ap₂, ◌∙◌, subst, arith}
 use Rattle.std.specs.List.{AllByRecursion, list_any, position_from}
+use Rattle.std.specs.BTreeMap.{is_at}
 use Rattle.std.specs.Map.{lookup}
+use Rattle.std.proofs.lemmas.Map.Text.{text_cmp}
 use Rattle.std.proofs.lemmas.Bool.{and_parts, eqb-true, eqb-false}
 use Rattle.std.proofs.lemmas.List.{append-nil, drop_all, drop_more, length-map, length-take, take_all}
 use Rattle.std.proofs.lemmas.Option.{slice_get-map, slice_get-get_or, slice_get_within}
@@ -215,7 +217,7 @@ number_of_root all n root h e =
 pub none_named : (all : List Site) (anchors : List Numbering) → length anchors ≡ length (roots all) → AreEmpty anchors → AreAnchors (roots all) anchors []
 none_named all anchors many h = record {
   many = many;
-  first = λ n root names e g. record { first = λ key. ap (lookup (λ k. bytes_eq key (string_bytes k))) (all_at (λ a. a.first.entries ≡ []) anchors n names h g) };
+  first = λ n root names e g. record { first = λ key. ap (lookup (is_at (text_cmp key))) (all_at (λ a. a.first.entries ≡ []) anchors n names h g) };
 }
 
 belongs_is : (root place : Site) → root.document ≡ place.document → root.own.resource ≡ place.own.resource → belongs_to root.document root.own.resource place ≡ true

@@ -11,7 +11,7 @@ use Rattle.js_bundle.specs.declared.reference.DynamicReference.{DynamicReference
 use Rattle.js_bundle.specs.Candidate.{IsClear}
 use Rattle.js_bundle.specs.code.Column.{IsColumn}
 use Rattle.js_bundle.specs.Document.{Documents}
-use Rattle.js_bundle.specs.Finding.{number_of_target, goes_by_name, dynamic_as, dynamic_at, under_number, by_scope}
+use Rattle.js_bundle.specs.Finding.{number_of_target, goes_by_name, dynamic_as, dynamic_at, by_scope}
 use Rattle.js_bundle.specs.Keyword.{Text, has, text_argument}
 use Rattle.js_bundle.specs.Names.{belongs_to, makes}
 use Rattle.js_bundle.specs.Refusals.{candidates}
@@ -125,10 +125,10 @@ reference_by documents i r (Some s) e h = by_target (number_of_target (sites doc
           by_name = ap (λ q. q.by_name) (sym made);
         }
 
-pub reference_is : (docs documents : Documents) (items : List (Option DynamicReference)) (n place : ℕ) (r : DynamicReference) → docs ≡ documents → n ≡ place
-    → IsColumn items (dynamic_in docs) (sites docs) → Some r ≡ under_number items n → IsReference documents place r
-reference_is docs documents items n place r same number e h =
-    reference_by documents place r (place_at documents place) refl (sym (kept_under dynamic_in docs documents items n place (Some r) same number e h))
+pub reference_is : (docs documents : Documents) (kept : ℕ → Option DynamicReference) (n place : ℕ) (r : DynamicReference) → docs ≡ documents → n ≡ place
+    → IsColumn kept (dynamic_in docs) (sites docs) → Some r ≡ kept n → IsReference documents place r
+reference_is docs documents kept n place r same number e h =
+    reference_by documents place r (place_at documents place) refl (sym (kept_under dynamic_in docs documents kept n place (Some r) same number e h))
 
 pub target_place : (documents : Documents) (place : ℕ) (r : DynamicReference) → IsReference documents place r → is_place documents r.target ≡ true
 target_place documents place r h = lt-ltb r.target (length (sites documents)) (slice_get_within (sites documents) r.target h.first h.target)
@@ -152,17 +152,17 @@ some_of_map : {A B : Type 0} (f : A → B) (o : Option A) → is_some (option_ma
 some_of_map f None = refl
 some_of_map f (Some x) = refl
 
-pub has_dynamic_ref_kept : (docs documents : Documents) (items : List (Option DynamicReference)) (n place : ℕ) → docs ≡ documents → n ≡ place → IsClear (candidates docs)
-    → IsColumn items (dynamic_in docs) (sites docs) → is_some (under_number items n) ≡ has_keyword (codes "$dynamicRef") documents place
-has_dynamic_ref_kept docs documents items n place same number clear e =
-    has_kept dynamic_in (codes "$dynamicRef") docs documents items n place same number e
+pub has_dynamic_ref_kept : (docs documents : Documents) (kept : ℕ → Option DynamicReference) (n place : ℕ) → docs ≡ documents → n ≡ place → IsClear (candidates docs)
+    → IsColumn kept (dynamic_in docs) (sites docs) → is_some (kept n) ≡ has_keyword (codes "$dynamicRef") documents place
+has_dynamic_ref_kept docs documents kept n place same number clear e =
+    has_kept dynamic_in (codes "$dynamicRef") docs documents kept n place same number e
     (λ s is. some_of_map (dynamic_as (goes_by_name (sites documents) s)) (number_of_target (sites documents) (codes "$dynamicRef") s)
     ∙ has_target (sites documents) (codes "$dynamicRef") s (has (codes "$dynamicRef") s.schema) refl
     (first_target_there documents (subst (λ ds. IsClear (candidates ds)) same clear) place s is))
 
-pub reference_missing : (docs documents : Documents) (items : List (Option DynamicReference)) (n place : ℕ) → docs ≡ documents → n ≡ place → IsClear (candidates docs)
-    → IsColumn items (dynamic_in docs) (sites docs) → has_keyword (codes "$dynamicRef") documents place ≡ true → ¬ (None ≡ under_number items n)
-reference_missing docs documents items n place same number clear e there_is h =
-    let some : is_some (under_number items n) ≡ true = has_dynamic_ref_kept docs documents items n place same number clear e ∙ there_is in
-    let none : is_some (under_number items n) ≡ false = ap is_some (sym h) in
+pub reference_missing : (docs documents : Documents) (kept : ℕ → Option DynamicReference) (n place : ℕ) → docs ≡ documents → n ≡ place → IsClear (candidates docs)
+    → IsColumn kept (dynamic_in docs) (sites docs) → has_keyword (codes "$dynamicRef") documents place ≡ true → ¬ (None ≡ kept n)
+reference_missing docs documents kept n place same number clear e there_is h =
+    let some : is_some (kept n) ≡ true = has_dynamic_ref_kept docs documents kept n place same number clear e ∙ there_is in
+    let none : is_some (kept n) ≡ false = ap is_some (sym h) in
     absurd (cc)

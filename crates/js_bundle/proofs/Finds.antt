@@ -1,17 +1,22 @@
 -- The number that is found stands for the place that is found.
-use Rattle.std.proofs.Common.{◌≡◌, ℕ, List, Bool, false, is_none, Option, Some, None, option_and_then, slice_get, find, refl, sym, ap, ◌∙◌, subst}
+use Rattle.std.proofs.Common.{◌≡◌, ℕ, List, length, Bool, true, false, is_none, Option, Some, None, option_and_then, slice_get, find, refl, sym, ap, ◌∙◌, subst}
 use Rattle.std.specs.List.{position_from}
+use Rattle.std.proofs.lemmas.Bool.{lt-ltb}
+use Rattle.std.proofs.lemmas.Option.{slice_get_within}
 use Rattle.js_bundle.specs.Document.{Documents}
 use Rattle.url.specs.Parts.{Parts}
 use Rattle.js_bundle.specs.Finding.{number_named}
 use Rattle.js_bundle.specs.Names.{names, named}
 use Rattle.js_bundle.specs.Resource.{Site, sites}
-use Rattle.js_bundle.specs.Schemas.{StandsFor, Finds}
+use Rattle.js_bundle.specs.Schemas.{is_place, StandsFor, Finds}
 use Rattle.js_bundle.proofs.Named.{found_at, none_alike}
 
 stands_by : (documents : Documents) (n : ℕ) (found : Option Site) → slice_get (sites documents) n ≡ found → is_none found ≡ false → StandsFor documents n found
 stands_by documents n None e h = absurd (cc)
 stands_by documents n (Some place) e h = (place, refl, e)
+
+pub stands_there : (documents : Documents) (n : ℕ) (found : Option Site) → StandsFor documents n found → is_place documents n ≡ true
+stands_there documents n found h = lt-ltb n (length (sites documents)) (slice_get_within (sites documents) n h.0 h.2)
 
 finds_by : (documents : Documents) (n : Option ℕ) (found : Option Site) → option_and_then (slice_get (sites documents)) n ≡ found → is_none n ≡ is_none found → Finds documents n found
 finds_by documents None found e h = sym e

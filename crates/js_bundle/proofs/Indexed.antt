@@ -1,10 +1,10 @@
 -- What an index tells of the places that it was made of.
 use Rattle.std.proofs.Common.{◌≡◌, ℕ, ◌+◌, ◌<◌, ◌≤◌, ◌^◌, take, get_or, option_and_then, List, [], ◌∷◌, ◌++◌, map, length, Bool, true, false, ◌||◌, cond, if◌then◌else◌, ◌&&◌, ◌==◌, find, codes, decimal, option_to_list, Option, Some, None, is_some, option_map, slice_get, string_bytes, String, Global, refl, sym, ap, ap₂, ◌∙◌, subst, arith}
 use Rattle.std.specs.List.{AllByRecursion, list_any, position_from}
-use Rattle.std.specs.Map.{lookup}
 use Rattle.std.specs.Option.{option_or, option_map_or}
 use Rattle.std.specs.Str.{bytes_eq}
 use Rattle.std.proofs.lemmas.Bool.{and_parts, eqb-true}
+use Rattle.std.proofs.lemmas.Cmp.{nat_list_eq_equiv}
 use Rattle.std.proofs.lemmas.Fmt.{decimal_injective}
 use Rattle.std.proofs.lemmas.List.{length-map, length-take, take_all}
 use Rattle.url.specs.Parts.{Parts}
@@ -43,33 +43,20 @@ or_or (Some x) p q = refl
 pub none_put : (old : Numbering) (n : ℕ) → ArePut old [] n old
 none_put old n = record { told = λ key. or_none (number_of_key old key) }
 
--- the text has a number
-pub kept_put : (old : Numbering) (key : Text) (n m : ℕ) → number_of_key old key ≡ Some m → ArePut old (key ∷ []) n old
-kept_put old key n m e = record { told = λ k. by_same k (bytes_eq k key) refl }
-  where
-    by_same : (k : Text) (b : Bool) → bytes_eq k key ≡ b → number_of_key old k ≡ option_or (number_of_key old k) (if list_any (bytes_eq k) (key ∷ []) then Some n else None)
-    by_same k true same =
-        let is : number_of_key old k ≡ Some m = ap (number_of_key old) (is_text-sound k key same) ∙ e in
-        rw is refl
-    by_same k false other = rw other (or_none (number_of_key old k))
-
 past_one : {X : Type 0} (b : Bool) (o p q : Option X) (v : X) → o ≡ option_or p q → cond b (Some v) o ≡ option_or (cond b (Some v) p) q
 past_one true o p q v h = refl
 past_one false o p q v h = h
 
-looked_further : {K X : Type 0} (test : K → Bool) (es : List (K × X)) (k : K) (x : X) → lookup test (es ++ (k, x) ∷ []) ≡ option_or (lookup test es) (cond (test k) (Some x) None)
-looked_further test [] k x = refl
-looked_further test (e ∷ es) k x = past_one (test e.0) (lookup test (es ++ (k, x) ∷ [])) (lookup test es) (cond (test k) (Some x) None) e.1 (looked_further test es k x)
-
-if_any : {A : Type 0} (b : Bool) (x y : A) → cond b x y ≡ (if b || false then x else y)
-if_any true x y = refl
-if_any false x y = refl
+put_by : (b : Bool) (o : Option ℕ) (n : ℕ) → (b ≡ true → o ≡ None) → cond b (Some n) o ≡ option_or o (if b || false then Some n else None)
+put_by true o n none = ap (λ p. option_or p (Some n)) (sym (none refl))
+put_by false o n none = or_none o
 
 -- the text has none
-pub new_put : (old new : Numbering) (text : String Global) (n : ℕ) → new.first.entries ≡ old.first.entries ++ (text, n) ∷ [] → ArePut old (string_bytes text ∷ []) n new
-new_put old new text n e = record {
-  told = λ key. ap (lookup (λ k. bytes_eq key (string_bytes k))) e ∙ looked_further (λ k. bytes_eq key (string_bytes k)) old.first.entries text n
-      ∙ ap (option_or (number_of_key old key)) (if_any (bytes_eq key (string_bytes text)) (Some n) None);
+pub new_put : (old new : Numbering) (text : String Global) (n : ℕ) → number_of_key old (string_bytes text) ≡ None
+    → ((key : Text) → number_of_key new key ≡ cond (bytes_eq (string_bytes text) key) (Some n) (number_of_key old key)) → ArePut old (string_bytes text ∷ []) n new
+new_put old new text n absent put = record {
+  told = λ key. put key ∙ ap (λ b. cond b (Some n) (number_of_key old key)) (nat_list_eq_equiv.symm (string_bytes text) key)
+      ∙ put_by (bytes_eq key (string_bytes text)) (number_of_key old key) n (λ same. ap (number_of_key old) (is_text-sound key (string_bytes text) same) ∙ absent);
 }
 
 or_any : {A : Type 0} (b c : Bool) (x : A) → option_or (if b then Some x else None) (if c then Some x else None) ≡ (if b || c then Some x else None)

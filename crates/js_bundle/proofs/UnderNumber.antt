@@ -9,7 +9,7 @@ use Rattle.js_bundle.specs.AssertionsAndPatterns.{assertions_at, patterns_at}
 use Rattle.js_bundle.specs.Candidate.{IsClear}
 use Rattle.js_bundle.specs.code.Column.{IsColumn}
 use Rattle.js_bundle.specs.Document.{Documents}
-use Rattle.js_bundle.specs.Finding.{number_named, number_of_target, under_number}
+use Rattle.js_bundle.specs.Finding.{number_named, number_of_target}
 use Rattle.js_bundle.specs.Keyword.{Text, argument, as_text, has}
 use Rattle.js_bundle.specs.Refusals.{candidates}
 use Rattle.js_bundle.specs.Resource.{Site, joined, sites}
@@ -47,9 +47,9 @@ pattern_is documents r place name items o e h = ap (option_map (λ b. b.pattern)
 -- ---- what stands in a list with an entry for each place
 
 -- what is kept of finished schemas
-pub kept_under : {A : Type 0} (f : Documents → Site → Option A) (docs documents : Documents) (items : List (Option A)) (n place : ℕ) (o : Option A) → docs ≡ documents → n ≡ place
-    → IsColumn items (f docs) (sites docs) → o ≡ under_number items n → o ≡ option_and_then (f documents) (place_at documents place)
-kept_under f docs documents items n place o same number e h =
+pub kept_under : {A : Type 0} (f : Documents → Site → Option A) (docs documents : Documents) (kept : ℕ → Option A) (n place : ℕ) (o : Option A) → docs ≡ documents → n ≡ place
+    → IsColumn kept (f docs) (sites docs) → o ≡ kept n → o ≡ option_and_then (f documents) (place_at documents place)
+kept_under f docs documents kept n place o same number e h =
     h ∙ e.told n ∙ ap (λ m. option_and_then (f docs) (slice_get (sites docs) m)) number
     ∙ ap (λ ds. option_and_then (f ds) (place_at ds place)) same
 
@@ -63,10 +63,10 @@ target_by : (documents : Documents) (place : ℕ) (o : Option Site) (t : ℕ) �
 target_by documents place None t is e = absurd (cc)
 target_by documents place (Some s) t is e = let found = number_is_target (sites documents) (codes "$ref") s t e in (found.place, found.target, found.stands)
 
-pub target_is : (docs documents : Documents) (items : List (Option ℕ)) (n place t : ℕ) → docs ≡ documents → n ≡ place → IsColumn items (plain_at docs) (sites docs) → Some t ≡ under_number items n
+pub target_is : (docs documents : Documents) (kept : ℕ → Option ℕ) (n place t : ℕ) → docs ≡ documents → n ≡ place → IsColumn kept (plain_at docs) (sites docs) → Some t ≡ kept n
     → StandsFor documents t (option_and_then (target (sites documents)) (place_at documents place))
-target_is docs documents items n place t same number e h =
-    target_by documents place (place_at documents place) t refl (sym (kept_under plain_at docs documents items n place (Some t) same number e h))
+target_is docs documents kept n place t same number e h =
+    target_by documents place (place_at documents place) t refl (sym (kept_under plain_at docs documents kept n place (Some t) same number e h))
 
 -- ---- whether there is one
 
@@ -83,25 +83,25 @@ pub has_target : (all : List Site) (k : Text) (s : Site) (b : Bool) → has k s.
 has_target all k s true e there = there e ∙ sym e
 has_target all k s false e there = no_reference all k s e ∙ sym e
 
-pub has_kept : {A : Type 0} (f : Documents → Site → Option A) (k : Text) (docs documents : Documents) (items : List (Option A)) (n place : ℕ) → docs ≡ documents → n ≡ place
-    → IsColumn items (f docs) (sites docs) → ((s : Site) → place_at documents place ≡ Some s → is_some (f documents s) ≡ has k s.schema)
-    → is_some (under_number items n) ≡ has_keyword k documents place
-has_kept f k docs documents items n place same number e h =
-    ap is_some (kept_under f docs documents items n place (under_number items n) same number e refl) ∙ by_place (place_at documents place) refl
+pub has_kept : {A : Type 0} (f : Documents → Site → Option A) (k : Text) (docs documents : Documents) (kept : ℕ → Option A) (n place : ℕ) → docs ≡ documents → n ≡ place
+    → IsColumn kept (f docs) (sites docs) → ((s : Site) → place_at documents place ≡ Some s → is_some (f documents s) ≡ has k s.schema)
+    → is_some (kept n) ≡ has_keyword k documents place
+has_kept f k docs documents kept n place same number e h =
+    ap is_some (kept_under f docs documents kept n place (kept n) same number e refl) ∙ by_place (place_at documents place) refl
   where
     by_place : (o : Option Site) → place_at documents place ≡ o → is_some (option_and_then (f documents) o) ≡ option_map_or (λ s. has k s.schema) o false
     by_place None is = refl
     by_place (Some s) is = h s is
 
-pub has_ref_kept : (docs documents : Documents) (items : List (Option ℕ)) (n place : ℕ) → docs ≡ documents → n ≡ place → IsClear (candidates docs)
-    → IsColumn items (plain_at docs) (sites docs) → is_some (under_number items n) ≡ has_keyword (codes "$ref") documents place
-has_ref_kept docs documents items n place same number clear e =
-    has_kept plain_at (codes "$ref") docs documents items n place same number e
+pub has_ref_kept : (docs documents : Documents) (kept : ℕ → Option ℕ) (n place : ℕ) → docs ≡ documents → n ≡ place → IsClear (candidates docs)
+    → IsColumn kept (plain_at docs) (sites docs) → is_some (kept n) ≡ has_keyword (codes "$ref") documents place
+has_ref_kept docs documents kept n place same number clear e =
+    has_kept plain_at (codes "$ref") docs documents kept n place same number e
     (λ s is. has_target (sites documents) (codes "$ref") s (has (codes "$ref") s.schema) refl (target_there documents (subst (λ ds. IsClear (candidates ds)) same clear) place s is))
 
-pub target_missing : (docs documents : Documents) (items : List (Option ℕ)) (n place : ℕ) → docs ≡ documents → n ≡ place → IsClear (candidates docs)
-    → IsColumn items (plain_at docs) (sites docs) → has_keyword (codes "$ref") documents place ≡ true → ¬ (None ≡ under_number items n)
-target_missing docs documents items n place same number clear e there h =
-    let some : is_some (under_number items n) ≡ true = has_ref_kept docs documents items n place same number clear e ∙ there in
-    let none : is_some (under_number items n) ≡ false = ap is_some (sym h) in
+pub target_missing : (docs documents : Documents) (kept : ℕ → Option ℕ) (n place : ℕ) → docs ≡ documents → n ≡ place → IsClear (candidates docs)
+    → IsColumn kept (plain_at docs) (sites docs) → has_keyword (codes "$ref") documents place ≡ true → ¬ (None ≡ kept n)
+target_missing docs documents kept n place same number clear e there h =
+    let some : is_some (kept n) ≡ true = has_ref_kept docs documents kept n place same number clear e ∙ there in
+    let none : is_some (kept n) ≡ false = ap is_some (sym h) in
     absurd (cc)

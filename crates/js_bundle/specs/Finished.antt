@@ -1,12 +1,13 @@
 -- What finished schemas keep of their documents, beside them: for each place, in scan order, what the definitions tell of it.
-use Rattle.std.specs.Prelude.{◌≡◌, map, codes}
+use Rattle.std.specs.Prelude.{◌≡◌, map, codes, nat_eq}
+use Rattle.indexmap.specs.IndexMap.{get}
 use Rattle.js_bundle.specs.declared.whole_check.Checked.{Checked}
 use Rattle.js_bundle.specs.AssertionsAndPatterns.{assertions_at, patterns_at}
 use Rattle.js_bundle.specs.Candidate.{IsClear}
 use Rattle.js_bundle.specs.Document.{Documents}
 use Rattle.js_bundle.specs.code.Column.{IsColumn}
 use Rattle.js_bundle.specs.code.Edges.{edges_from, edges_of}
-use Rattle.js_bundle.specs.Finding.{dynamic_at, number_of_target}
+use Rattle.js_bundle.specs.Finding.{dynamic_at, number_of_target, under_number}
 use Rattle.js_bundle.specs.code.Grouped.{IsGrouped}
 use Rattle.js_bundle.specs.code.Index.{IsIndex}
 use Rattle.js_bundle.specs.KeywordName.{keyword_names}
@@ -24,8 +25,8 @@ pub record IsFinished (documents : Documents) (kept : Checked) : Type 0 where
   pub assertions : IsGrouped assertions_at (sites documents) kept.built.all.assertions.items kept.built.assertion_ends.items
   pub patterns : IsGrouped patterns_at (sites documents) kept.built.all.patterns.items kept.built.pattern_ends.items
   pub keywords : IsGrouped keyword_names (sites documents) kept.keywords.names.items kept.keywords.ends.items
-  pub dynamic : IsColumn kept.references.dynamic.items (dynamic_at (sites documents)) (sites documents)
-  pub plain : IsColumn kept.references.plain.items (number_of_target (sites documents) (codes "$ref")) (sites documents)
+  pub dynamic : IsColumn (get nat_eq kept.references.dynamic) (dynamic_at (sites documents)) (sites documents)
+  pub plain : IsColumn (under_number kept.references.plain.items) (number_of_target (sites documents) (codes "$ref")) (sites documents)
   pub locations : kept.locations.items ≡ map location (sites documents)
   pub index : IsIndex kept.index (sites documents)
   pub resources : IsResourceTable kept.resources (sites documents)

@@ -1,4 +1,4 @@
-//! What is built of keywords: assertions, and the patterns of `patternProperties`.
+//! What is built from keywords: assertions, and the patterns of `patternProperties`.
 ghost use Rattle.std.specs.Prelude.{◌≡◌, [], ◌∷◌, ◌++◌, length, map, flat_map, option_to_list, OnOk, IfOk, IfErr};
 ghost use Rattle.js_doc.specs.Seen.{value_of};
 ghost use Rattle.js_bundle.specs.AssertionsAndPatterns.{pattern_at, patterns_of};
@@ -14,14 +14,14 @@ use js_assert::{Assertion, Pattern, PatternFault};
 use js_doc::{Doc, Members, Memory, Text};
 use std::alloc::Global;
 
-/// What is built of the keywords of places, one place after another.
+/// What is built from the keywords of places, place by place.
 #[derive(Drop)]
 pub(crate) struct Built {
     pub(crate) assertions: Vec<Assertion>,
     pub(crate) patterns: Vec<BuiltPattern>,
 }
 
-/// The same of all places.
+/// The same for all places.
 #[derive(Drop)]
 pub(crate) struct BuiltTable {
     pub(crate) all: Built,
@@ -44,7 +44,7 @@ impl Built {
 }
 
 impl BuiltTable {
-    /// That of no places, with room for as many.
+    /// The table of no places, with room for this many.
     pub(crate) fn with_capacity(alloc: Global, places: usize) -> Result<BuiltTable, Memory>
         ensures assertions { IfOk result (λ t. t.all.assertions.items ≡ []) }
         ensures assertion_ends { IfOk result (λ t. t.assertion_ends.items ≡ []) }
@@ -58,7 +58,7 @@ impl BuiltTable {
         })
     }
 
-    /// What is built so far ends a place.
+    /// Ends a place: what is built next is of the next one.
     pub(crate) fn end_place(&mut self) -> Result<(), Memory>
         ensures all { OnOk result (self.new.all ≡ self.old.all) }
         ensures assertion_ends { OnOk result (self.new.assertion_ends.items
@@ -164,11 +164,13 @@ fn read_names_of(
     argument: &Doc,
 ) -> Result<(), Fault>
     ensures clear { OnOk result (IsClear
-        (flat_map (λ n. at_pattern (site_of site.now) (keyword.now ∷ n.0 ∷ []) n.0) (keywords (value_of argument.now)))) }
+        (flat_map (λ n. at_pattern (site_of site.now) (keyword.now ∷ n.0 ∷ []) n.0)
+        (keywords (value_of argument.now)))) }
     ensures built { OnOk result (out.new.items
         ≡ out.old.items ++ map pattern_at (keywords (value_of argument.now))) }
     ensures err { IfErr result (IsStopped
-        (flat_map (λ n. at_pattern (site_of site.now) (keyword.now ∷ n.0 ∷ []) n.0) (keywords (value_of argument.now)))) }
+        (flat_map (λ n. at_pattern (site_of site.now) (keyword.now ∷ n.0 ∷ []) n.0)
+        (keywords (value_of argument.now)))) }
 {
     match argument {
         Doc::Members(members) => read_patterns(alloc, out, site, keyword, members),

@@ -1,4 +1,4 @@
-//! How the texts begin that tell where a place stands: those of the next place go on from there.
+//! How the texts of a place's position begin: those of the next place continue from there.
 ghost use Rattle.std.specs.Prelude.{◌≡◌, IfOk, option_map, string_bytes};
 ghost use Rattle.js_bundle.specs.code.Beginning as spec;
 ghost use Rattle.js_bundle.specs.code.Scan.{site_of};
@@ -11,7 +11,7 @@ use std::alloc::Global;
 #[derive(Drop)]
 pub(crate) struct Beginning {
     pub(crate) text: String,
-    /// How many tokens are told in it.
+    /// How many tokens it contains.
     pub(crate) tokens: usize,
 }
 
@@ -48,7 +48,7 @@ pub(crate) fn room_for(tokens: &[Token], from: usize) -> usize {
     room
 }
 
-/// With how many tokens alike the pointers begin of the place and of the one before it.
+/// How many tokens the pointers of the place and of the one before it have in common at their start.
 pub(crate) fn shared_with(before: Option<&Site<'_>>, site: &Site<'_>) -> usize
     ensures { result ≡ spec.shared_with (option_map (λ b. site_of b.now) before.entry) (site_of site.now) }
 {

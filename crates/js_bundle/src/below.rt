@@ -23,10 +23,10 @@ impl Schemas {
     ghost use Rattle.js_doc.specs.Value.{Value};
     ghost use Rattle.js_bundle.specs.Resource.{Site};
 
-    /// The place to which a step leads through a keyword of the place: `Alone` where the keyword holds one schema, `Index`
-    /// where it holds a list of them, `Name` where it holds an object of them (JSON Schema Core, sections 8.2.4, 10 and
-    /// 11). None where no place stands there, or the step isn't of the keyword's kind; so never where the keyword holds a
-    /// schema at the step.
+    /// The place to which a step leads through a keyword of the place: `Alone` where the keyword holds one schema,
+    /// `Index` where it holds a list of them, `Name` where it holds an object of them (JSON Schema Core, sections
+    /// 8.2.4, 10 and 11). None where no place stands there, or the step isn't of the keyword's kind; so never where the
+    /// keyword holds a schema at the step.
     pub fn below(&self, place: Place, keyword: &str, step: Step<'_>) -> Option<Place>
         requires { is_place self.now place ≡ true }
         ensures found { Finds self.now result
@@ -40,8 +40,8 @@ impl Schemas {
         }
     }
 
-    /// The same place, and the schema that stands there. `schema`: that of the place itself, in which the other is found, by the
-    /// keyword and the step; a call of `schema` would go all the way from the document's root.
+    /// The same place, and the schema that stands there. `schema` is that of the place itself: the other is found in it
+    /// by the keyword and the step, where a call of `schema` would start at the document's root.
     pub fn schema_below<'a>(
         &'a self,
         place: Place,
@@ -53,9 +53,11 @@ impl Schemas {
         requires schema { option_map (λ s. s.schema) (place_at self.now place) ≡ Some (value_of schema.now) }
         ensures found { Finds self.now (option_map (λ e. e.0) result)
             (option_and_then (λ s. below self.now s keyword.now (step_of step.entry)) (place_at self.now place)) }
-        ensures schema { MatchOption result (Unit {0}) (λ e. option_map (λ s. s.schema) (place_at self.now e.0) ≡ Some (value_of e.1.now)) }
+        ensures schema { MatchOption result (Unit {0})
+            (λ e. option_map (λ s. s.schema) (place_at self.now e.0) ≡ Some (value_of e.1.now)) }
         ensures held { (s : Site) (u : Value) → place_at self.now place ≡ Some s
-            → Holds s.schema keyword.now (step_of step.entry) u → FindsSchema self.now (option_map (λ e. e.0) result) u }
+            → Holds s.schema keyword.now (step_of step.entry) u
+            → FindsSchema self.now (option_map (λ e. e.0) result) u }
     {
         let edges = self.kept.edges.as_slice();
         let places = places_under(edges, place.number, KeywordName::of(keyword));
@@ -73,7 +75,8 @@ fn place_with<'a>(
     step: Step<'_>,
     held: &'a Doc,
 ) -> Option<(Place, &'a Doc)>
-    ensures found { (n : ℕ) → IsNumberAt (map spot_of spots.now) places.now (step_of step.entry) n → option_map (λ e. e.0) result ≡ Some n }
+    ensures found { (n : ℕ) → IsNumberAt (map spot_of spots.now) places.now (step_of step.entry) n
+        → option_map (λ e. e.0) result ≡ Some n }
     ensures schema { MatchOption result (Unit {0}) (λ e. value_of e.1.now ≡ value_of held.now) }
 {
     match at_rank(places, rank_in(spots, places, step)) {
@@ -166,7 +169,8 @@ fn at_rank(places: &[usize], rank: usize) -> Option<usize>
 
 // The rank of the place to which the step leads, among these that a keyword holds.
 fn rank_in(spots: &[Spot], places: &[usize], step: Step<'_>) -> usize
-    ensures { (n : ℕ) → IsNumberAt (map spot_of spots.now) places.now (step_of step.entry) n → slice_get places.now result ≡ Some n }
+    ensures { (n : ℕ) → IsNumberAt (map spot_of spots.now) places.now (step_of step.entry) n
+        → slice_get places.now result ≡ Some n }
 {
     match step {
         Step::Alone => 0,

@@ -26,8 +26,8 @@ use url::{ParseError, Url};
 /// A bundle has no more documents.
 const MOST_DOCUMENTS: usize = 1_000;
 
-/// Schema documents, each under the URI that it was handed in with (JSON Schema Core, section 9.1.1). Contracts
-/// see it as the list of its documents.
+/// Schema documents, each under the URI that it was added with (JSON Schema Core, section 9.1.1). Contracts see
+/// it as the list of its documents.
 #[derive(Drop)]
 pub struct Bundle {
     documents: Vec<Document>,
@@ -81,7 +81,7 @@ impl Bundle {
     ///
     /// # Errors
     /// In this order: `TooManyDocuments`, `UriTooLong` and `BadUri`, as of `add`; `Memory` at any point. The value is
-    /// handed back, and the bundle is as it was.
+    /// returned, and the bundle is as it was.
     pub fn add_doc(&mut self, uri: &str, root: Doc) -> Result<(), (Refusal, Doc)>
         ensures ok { OnOk result (IsAddedAs self.old uri.now (value_of root) self.new) }
         ensures refused { IfErr result (λ p. IsUriRefusedBy (length self.old) uri.now p.0) }
@@ -107,11 +107,11 @@ impl Bundle {
     /// The first refusal, with the bundle as it was. Places come in scan order: document by document, a schema
     /// before those that it holds, by keyword ascending, then by index or name ascending. Of a place:
     /// `TooManyPlaces`, where it is the 100,001st; `NotASchema`; `DuplicateUri` for a document's URI. Then of its
-    /// keywords, ascending: `BadKeyword`; `BadPattern` and `PatternTooLarge`; `UnknownDialect` (`$schema`); `UriTooLong`,
-    /// `BadId` and `DuplicateUri` (`$id`); `BadAnchor` and `DuplicateAnchor`. After all places, of each the
-    /// `$dynamicRef` and then the `$ref`: `UriTooLong`, `BadReference`, `Unresolved`. `Memory` may come at any point;
-    /// its document is 0, and its place the empty pointer. A pattern that nests too deep for `regex` is always refused, as
-    /// `BadPattern`; no definition says when one is too large.
+    /// keywords, ascending: `BadKeyword`; `BadPattern` and `PatternTooLarge`; `UnknownDialect` (`$schema`);
+    /// `UriTooLong`, `BadId` and `DuplicateUri` (`$id`); `BadAnchor` and `DuplicateAnchor`. After all places, of each
+    /// the `$dynamicRef` and then the `$ref`: `UriTooLong`, `BadReference`, `Unresolved`. `Memory` may come at any
+    /// point; its document is 0, and its place the empty pointer. A pattern that nests too deep for `regex` is always
+    /// refused, as `BadPattern`; no definition says when one is too large.
     pub fn finish(self, alloc: Global) -> Result<Schemas, (Refusal, Bundle)>
         ensures ok { IfOk result (λ s. s ≡ self) }
         ensures clear { OnOk result (IsClear (candidates self)) }
@@ -153,7 +153,7 @@ fn append(documents: &mut Vec<Document>, document: Document) -> Result<(), Refus
     }
 }
 
-// The same, with the value handed back.
+// The same; a refused value is returned.
 fn put(documents: &mut Vec<Document>, uri: Url, root: Doc) -> Result<(), (Refusal, Doc)>
     ensures ok { OnOk result (documents.new.items ≡ documents.old.items ++ record { uri = uri; root = root } ∷ []) }
     ensures err { OnErr result (documents.new.items ≡ documents.old.items) }
@@ -169,7 +169,7 @@ fn put(documents: &mut Vec<Document>, uri: Url, root: Doc) -> Result<(), (Refusa
     }
 }
 
-// The document, where it may stand beside so many others.
+// The document, unless there are too many already.
 fn taken(alloc: Global, held: usize, uri: &str, bytes: &[u8]) -> Result<Document, Refusal>
     ensures ok { IfOk result (λ d. IsTaken held uri.now bytes.now (document_of d)) }
     ensures ascends { IfOk result (λ d. NamesAscend (value_of d.root)) }
@@ -183,7 +183,7 @@ fn taken(alloc: Global, held: usize, uri: &str, bytes: &[u8]) -> Result<Document
     }
 }
 
-// A document's URI, where it may stand beside so many others.
+// A document's URI, unless there are too many documents already.
 fn taken_uri(alloc: Global, held: usize, uri: &str) -> Result<Url, Refusal>
     ensures ok { IfOk result (λ u. IsUnder held uri.now u) }
     ensures err { IfErr result (IsUriRefusedBy held uri.now) }
@@ -232,7 +232,7 @@ pub(crate) enum UriFault {
     Bad,
 }
 
-// The URI under which a document is handed in.
+// The URI under which a document is added.
 fn document_uri(alloc: Global, text: &str) -> Result<Url, UriFault>
     ensures ok { IfOk result (λ u. IsUriOf text.now u) }
     ensures err { IfErr result (IsUriFault (parse_url None text.now)) }

@@ -1,18 +1,21 @@
-//! Lists with an entry for each place, which few places have.
-ghost use Rattle.std.specs.Prelude.{◌≡◌, ◌≤◌, false, length, slice_get, unwrap_or, OnOk};
+//! Lists with an entry for each place that has one.
+ghost use Rattle.std.specs.Prelude.{◌≡◌, ◌≤◌, ◌+◌, false, length, slice_get, unwrap_or, OnOk};
+ghost use Rattle.js_bundle.specs.Finding.{under_number};
 ghost use Rattle.js_bundle.specs.code.Column.{IsTold, TellAlike};
 
 use js_doc::Memory;
 
-/// Tells the entry of the place with this number, once those before it are told of. Where the last places have none, the
-/// list ends before them.
+/// Adds the entry of the place with this number, after those of the places before it. A list ends with the last place
+/// that has an entry.
 pub(crate) fn tell<T: Copy + Drop>(
     column: &mut Vec<Option<T>>,
     number: usize,
     entry: Option<T>,
 ) -> Result<(), Memory>
     requires { length column.old.items ≤ number }
-    ensures { OnOk result (IsTold column.old.items number entry column.new.items) }
+    ensures told { OnOk result
+        (IsTold (under_number column.old.items) number entry (under_number column.new.items)) }
+    ensures long { OnOk result (length column.new.items ≤ number + 1) }
 {
     if entry.is_none() {
         return Ok(());
@@ -22,7 +25,7 @@ pub(crate) fn tell<T: Copy + Drop>(
     Ok(())
 }
 
-// Makes the list so long, with places that have no entry.
+// Fills the list up to this length, with places that have no entry.
 fn fill<T: Copy + Drop>(column: &mut Vec<Option<T>>, number: usize) -> Result<(), Memory>
     requires { length column.old.items ≤ number }
     ensures alike { OnOk result (TellAlike column.old.items column.new.items) }
@@ -34,7 +37,7 @@ fn fill<T: Copy + Drop>(column: &mut Vec<Option<T>>, number: usize) -> Result<()
     Ok(())
 }
 
-/// What is told of the place with this number.
+/// The mark of the place with this number.
 pub(crate) fn is_told(column: &[bool], number: usize) -> bool
     ensures { result ≡ unwrap_or (slice_get column.now number) false }
 {

@@ -1,6 +1,7 @@
 //! What dynamic references lead to (JSON Schema Core, sections 7.1 and 8.2.3.2).
-ghost use Rattle.std.specs.Prelude.{◌≡◌, true, codes, slice_get, option_map, option_and_then};
-ghost use Rattle.js_bundle.specs.Finding.{by_scope, under_number};
+ghost use Rattle.std.specs.Prelude.{◌≡◌, true, codes, nat_eq, slice_get, option_map, option_and_then};
+ghost use Rattle.indexmap.specs.IndexMap.{get};
+ghost use Rattle.js_bundle.specs.Finding.{by_scope};
 ghost use Rattle.js_bundle.specs.code.Index.{number_of_key};
 ghost use Rattle.js_bundle.specs.Resource.{sites};
 ghost use Rattle.js_bundle.specs.ResourceNumber.{dynamic_target_in, roots, roots_at};
@@ -12,33 +13,33 @@ use crate::numbering::Numbering;
 use crate::place::Place;
 use crate::reference::DynamicReference;
 use crate::schemas::Schemas;
+use indexmap::IndexMap;
 
 impl Schemas {
-    /// The place that the `$dynamicRef` of the place names in a dynamic scope (JSON Schema Core, section 8.2.3.2): `path`
-    /// has all the places that were applied, from the entry to this one, both included. Where the reference goes by a
-    /// name that `$dynamicAnchor` makes, the first place of the path whose resource has that name by `$dynamicAnchor`
-    /// decides. The caller owes that the place has a `$dynamicRef`; `has_dynamic_ref` tells. It takes no memory.
+    /// The place that the `$dynamicRef` of the place names in a dynamic scope (JSON Schema Core, section 8.2.3.2):
+    /// `path` has all the places that were applied, from the entry to this one, both included. Where the reference goes
+    /// by a name that `$dynamicAnchor` makes, the first place of the path whose resource has that name by
+    /// `$dynamicAnchor` decides. The place must have a `$dynamicRef`: ask `has_dynamic_ref`. It takes no memory.
     pub fn dynamic_target(&self, place: Place, path: &[Place]) -> Place
         requires { has_keyword (codes "$dynamicRef") self.now place ≡ true }
         ensures { StandsFor self.now result (option_and_then
             (dynamic_target (sites self.now) (path_at self.now path.now)) (place_at self.now place)) }
     {
-        match reference_under(self.kept.references.dynamic.as_slice(), place.number) {
+        match reference_under(&self.kept.references.dynamic, place.number) {
             Some(reference) => self.led_to(reference, path),
             None => place, // never: each reference of finished schemas has its target
         }
     }
 
-    /// The same in a dynamic scope that is told by the numbers of its resources, from the entry's to the place's: where
-    /// `dynamic_target` asks the places of a path, it asks these, and the first whose resource has the name decides. A path
-    /// and the numbers of its resources, of equal neighbours one, lead to the same place
-    /// (`laws::numbers_tell_the_dynamic_scope`). It takes no memory.
+    /// The same in a dynamic scope given by the numbers of its resources, from the entry's to the place's: the first of
+    /// these that has the name decides. A path and the numbers of its resources, repeated neighbours left out, lead to
+    /// the same place (`laws::numbers_tell_the_dynamic_scope`). It takes no memory.
     pub fn dynamic_target_in(&self, place: Place, resources: &[usize]) -> Place
         requires { has_keyword (codes "$dynamicRef") self.now place ≡ true }
         ensures { StandsFor self.now result (option_and_then
             (dynamic_target_in (sites self.now) resources.now) (place_at self.now place)) }
     {
-        match reference_under(self.kept.references.dynamic.as_slice(), place.number) {
+        match reference_under(&self.kept.references.dynamic, place.number) {
             Some(reference) => self.led_in(reference, resources),
             None => place, // never: each reference of finished schemas has its target
         }
@@ -48,7 +49,8 @@ impl Schemas {
     fn led_to(&self, reference: DynamicReference, path: &[Place]) -> Place
         requires { is_place self.now reference.target ≡ true }
         ensures { StandsFor self.now result (option_map
-            (by_scope (sites self.now) (path_at self.now path.now) reference.by_name) (place_at self.now reference.target)) }
+            (by_scope (sites self.now) (path_at self.now path.now) reference.by_name)
+            (place_at self.now reference.target)) }
     {
         let first = Place {
             number: reference.target,
@@ -65,11 +67,12 @@ impl Schemas {
         }
     }
 
-    // The same in a scope that is told by numbers.
+    // The same in a scope given by numbers.
     fn led_in(&self, reference: DynamicReference, resources: &[usize]) -> Place
         requires { is_place self.now reference.target ≡ true }
         ensures { StandsFor self.now result (option_map
-            (by_scope (sites self.now) (roots_at (sites self.now) resources.now) reference.by_name) (place_at self.now reference.target)) }
+            (by_scope (sites self.now) (roots_at (sites self.now) resources.now) reference.by_name)
+            (place_at self.now reference.target)) }
     {
         let first = Place {
             number: reference.target,
@@ -86,7 +89,7 @@ impl Schemas {
         }
     }
 
-    // The place that the first resource of the path which has the name gives it to.
+    // The place with this name in the first resource of the path that has one.
     fn outermost(&self, name: &str, path: &[Place]) -> Option<Place>
         ensures { Finds self.now result (outermost (sites self.now) name.now (path_at self.now path.now)) }
     {
@@ -98,7 +101,7 @@ impl Schemas {
         None
     }
 
-    // The same of resources by their numbers.
+    // The same for resources by their numbers.
     fn outermost_in(&self, name: &str, resources: &[usize]) -> Option<Place>
         ensures { Finds self.now result
             (outermost (sites self.now) name.now (roots_at (sites self.now) resources.now)) }
@@ -146,13 +149,10 @@ fn anchored(anchors: &[Numbering], resource: usize, name: &str) -> Option<usize>
 
 /// The reference that is kept under a place's number.
 pub(crate) fn reference_under(
-    references: &[Option<DynamicReference>],
+    references: &IndexMap<usize, DynamicReference>,
     place: usize,
 ) -> Option<DynamicReference>
-    ensures { result ≡ under_number references.now place }
+    ensures { result ≡ get nat_eq references.now place }
 {
-    match references.get(place) {
-        Some(reference) => *reference,
-        None => None,
-    }
+    references.get(&place).copied()
 }

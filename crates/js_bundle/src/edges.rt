@@ -76,7 +76,8 @@ fn link_keywords(alloc: Global, edges: &mut Vec<Edges>, members: &Members) -> Re
 #[tactic(auto, using(crate::proofs::EdgesNext::set_map))]
 fn put(edges: &mut Vec<Edges>, number: usize, keywords: Vec<HeldPlaces>)
     requires { number < length edges.now.items }
-    ensures { map edges_of edges.new.items ≡ slice_set (map edges_of edges.old.items) number (map held_of keywords.items) }
+    ensures { map edges_of edges.new.items
+        ≡ slice_set (map edges_of edges.old.items) number (map held_of keywords.items) }
 {
     edges[number] = Edges { keywords };
 }
@@ -89,7 +90,8 @@ fn keywords_of(
 ) -> Result<Vec<HeldPlaces>, Memory>
     ensures edges { OnOk result (map edges_of edges.new.items ≡ map edges_of edges.old.items
         ++ edges_of_keywords (length edges.old.items) (spec.members members.now)) }
-    ensures held { IfOk result (λ v. map held_of v.items ≡ held_by_keywords (length edges.old.items) (spec.members members.now)) }
+    ensures held { IfOk result
+        (λ v. map held_of v.items ≡ held_by_keywords (length edges.old.items) (spec.members members.now)) }
 {
     let mut held = Vec::new(alloc);
     for (keyword, argument) in members.pairs() {
@@ -108,8 +110,11 @@ fn link_keyword(
 ) -> Result<(), Memory>
     ensures edges { OnOk result (map edges_of edges.new.items ≡ map edges_of edges.old.items
         ++ edges_held (holding keyword.now) (length edges.old.items) (value_of argument.now)) }
-    ensures held { OnOk result (map held_of held.new.items ≡ map held_of held.old.items ++ one_entry (holding keyword.now)
-        (keyword_name keyword.now, numbers_held (holding keyword.now) (length edges.old.items) (value_of argument.now))) }
+    ensures held { OnOk result (map held_of held.new.items ≡ map held_of held.old.items
+        ++ one_entry (holding keyword.now) (
+          keyword_name keyword.now,
+          numbers_held (holding keyword.now) (length edges.old.items) (value_of argument.now),
+        )) }
 {
     let holding = holding_of(keyword);
     if matches!(holding, Holding::Nothing) {
@@ -132,7 +137,8 @@ fn link_held(
 ) -> Result<Vec<usize>, Memory>
     ensures edges { OnOk result (map edges_of edges.new.items ≡ map edges_of edges.old.items
         ++ edges_held holding (length edges.old.items) (value_of argument.now)) }
-    ensures places { IfOk result (λ v. v.items ≡ numbers_held holding (length edges.old.items) (value_of argument.now)) }
+    ensures places { IfOk result
+        (λ v. v.items ≡ numbers_held holding (length edges.old.items) (value_of argument.now)) }
 {
     let mut places = Vec::new(alloc);
     match holding {
@@ -153,7 +159,8 @@ fn link_list(
 ) -> Result<(), Memory>
     ensures edges { OnOk result (map edges_of edges.new.items ≡ map edges_of edges.old.items
         ++ edges_in_list (length edges.old.items) (value_of argument.now)) }
-    ensures places { OnOk result (places.new.items ≡ places.old.items ++ numbers_in_list (length edges.old.items) (value_of argument.now)) }
+    ensures places { OnOk result (places.new.items ≡ places.old.items
+        ++ numbers_in_list (length edges.old.items) (value_of argument.now)) }
 {
     match argument {
         Doc::List(items) => link_items(alloc, edges, places, items.as_slice()),
@@ -188,7 +195,8 @@ fn link_object(
 ) -> Result<(), Memory>
     ensures edges { OnOk result (map edges_of edges.new.items ≡ map edges_of edges.old.items
         ++ edges_in_object (length edges.old.items) (value_of argument.now)) }
-    ensures places { OnOk result (places.new.items ≡ places.old.items ++ numbers_in_object (length edges.old.items) (value_of argument.now)) }
+    ensures places { OnOk result (places.new.items ≡ places.old.items
+        ++ numbers_in_object (length edges.old.items) (value_of argument.now)) }
 {
     match argument {
         Doc::Members(members) => link_members(alloc, edges, places, members),

@@ -5,7 +5,7 @@ ghost use Rattle.js_bundle.specs.code.Index.{standing, standing_of, spot_standin
 ghost use Rattle.js_bundle.specs.code.Spot.{spot_of};
 ghost use Rattle.js_bundle.specs.Names.{is_known_as, is_read, named};
 ghost use Rattle.js_bundle.specs.Resource.{sites};
-ghost use Rattle.js_bundle.specs.Schemas.{entry, StandsFor, IsEntryFault, IsNameFault, IsReadEntry};
+ghost use Rattle.js_bundle.specs.Schemas.{entry, is_place, StandsFor, IsEntryFault, IsNameFault, IsReadEntry};
 ghost use Rattle.js_bundle.specs.Url.{fragment, longest_uri};
 
 use crate::names::{NameFault, Root, place_by_fragment};
@@ -21,10 +21,11 @@ impl Schemas {
     /// The place that the URI names (JSON Schema Core, sections 8.2.1, 8.2.2 and 9.2.1).
     ///
     /// # Errors
-    /// In this order: `UriTooLong`, if it has more than 65,536 bytes; `BadUri`, if it is no absolute URL, or its fragment
-    /// isn't read; `Unresolved`, if it names no place; `Memory` at any point.
+    /// In this order: `UriTooLong`, if it has more than 65,536 bytes; `BadUri`, if it is no absolute URL, or its
+    /// fragment isn't read; `Unresolved`, if it names no place; `Memory` at any point.
     pub fn entry(&self, alloc: Global, uri: &str) -> Result<Place, EntryFault>
         ensures ok { IfOk result (λ p. StandsFor self.now p (entry self.now (parse_url None uri.now))) }
+        ensures place { IfOk result (λ p. is_place self.now p ≡ true) }
         ensures short { OnOk result (length uri.now ≤ longest_uri) }
         ensures read { OnOk result (IsReadEntry (parse_url None uri.now)) }
         ensures err { IfErr result (IsEntryFault self.now uri.now) }
@@ -43,6 +44,7 @@ impl Schemas {
     // The place that a URL names.
     fn place_of(&self, alloc: Global, url: Url) -> Result<Place, EntryFault>
         ensures ok { IfOk result (λ p. StandsFor self.now p (named (sites self.now) url)) }
+        ensures place { IfOk result (λ p. is_place self.now p ≡ true) }
         ensures read { OnOk result (is_read (fragment url) ≡ true) }
         ensures err { IfErr result (IsNameFault self.now url) }
     {

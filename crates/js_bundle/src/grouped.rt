@@ -1,10 +1,11 @@
-//! Lists of which each place has a part, one after another: the part of a place ends where it is said.
+//! Lists that consist of a part for each place, one after another, and where each part ends.
 ghost use Rattle.std.specs.Prelude.{◌≡◌, ◌∷◌, slice_get, unwrap_or};
 ghost use Rattle.js_bundle.specs.code.Grouped.{IsPart};
 
-/// The part of the place with this number, where the parts end so.
+/// The part of the place with this number. `ends` says where the parts end.
 pub(crate) fn part<'p, T>(all: &'p [T], ends: &[usize], number: usize) -> &'p [T]
-    ensures { IsPart all.now (unwrap_or (slice_get (0 ∷ ends.now) number) 0) (unwrap_or (slice_get ends.now number) 0) result.now }
+    ensures { IsPart all.now (unwrap_or (slice_get (0 ∷ ends.now) number) 0)
+        (unwrap_or (slice_get ends.now number) 0) result.now }
 {
     match all.get(begin(ends, number)..end(ends, number)) {
         Some(part) => part,

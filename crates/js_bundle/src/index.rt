@@ -1,5 +1,5 @@
 //! What finds places without a search: by the URI of a resource, by where they stand, by the names that they make.
-ghost use Rattle.std.specs.Prelude.{◌≡◌, [], OnOk, IfOk, string_bytes, option_copied, option_to_list};
+ghost use Rattle.std.specs.Prelude.{◌≡◌, [], OnOk, string_bytes, option_copied, option_to_list};
 ghost use Rattle.js_bundle.specs.code.Index.{ArePut, IsAdded, IsIndex, place_key, name_keys_by, name_keys, root_uris, made_uris};
 ghost use Rattle.js_bundle.specs.Names.{known_as};
 ghost use Rattle.js_bundle.specs.code.Scan.{site_of};
@@ -25,16 +25,15 @@ pub(crate) struct Index {
 }
 
 impl Index {
-    /// That of no places, with room for the keys of as many.
-    pub(crate) fn with_capacity(alloc: Global, places: usize) -> Result<Index, Memory>
-        ensures { IfOk result (λ i. IsIndex i []) }
+    /// The index of no places.
+    pub(crate) fn new(alloc: Global) -> Index
+        ensures { IsIndex result [] }
     {
-        let places = Numbering::with_capacity(alloc, places)?;
-        Ok(Index {
+        Index {
             known: Numbering::new(alloc),
-            places,
+            places: Numbering::new(alloc),
             names: Numbering::new(alloc),
-        })
+        }
     }
 
     /// Adds the next place, which stands under this key.
@@ -48,7 +47,7 @@ impl Index {
         requires { string_bytes key ≡ place_key site.now.document site.now.pointer.value }
         ensures { OnOk result (IsAdded self.old (site_of site.now) number self.new) }
     {
-        // read, so that it is known to be small: keys tell such documents apart
+        // read, so that it is known to be small: keys of different documents then differ
         let _document = site.document;
         put_known(alloc, &mut self.known, site, number)?;
         self.places.put(key, number)?;

@@ -1,4 +1,4 @@
-//! The keys under which places and names stand in the index: as texts of pointers, which tell their tokens apart.
+//! The keys under which places and names stand in the index: texts of pointers, which determine their tokens.
 ghost use Rattle.std.specs.Prelude.{◌≡◌, ◌≤◌, ◌++◌, [], decimal, drop, take, length, OnOk, IfOk, MatchOption, option_map, string_bytes};
 ghost use Rattle.js_doc.specs.Pointer.{pointer_text, token_text};
 ghost use Rattle.js_bundle.specs.code.Beginning.{BeginsKey, shared_with};
@@ -54,7 +54,7 @@ fn push_tokens(key: &mut String, tokens: &[Token], from: usize) -> Result<(), Me
     Ok(())
 }
 
-/// Makes the key of a place, and how it begins, of how that of the place before it began.
+/// Makes the key of a place, and its beginning, from the beginning of the key before it.
 pub(crate) fn next_key(
     alloc: Global,
     beginning: &mut Beginning,
@@ -104,7 +104,7 @@ fn begin_anew(beginning: &mut Beginning, document: usize) -> Result<(), Memory>
     push_document(&mut beginning.text, document)
 }
 
-// Tells the first tokens in it.
+// Adds the first tokens to it.
 fn extend(beginning: &mut Beginning, tokens: &[Token], told: usize) -> Result<(), Memory>
     requires { told ≤ length tokens.now }
     ensures text { OnOk result (string_bytes beginning.new.text

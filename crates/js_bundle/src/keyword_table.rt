@@ -51,7 +51,7 @@ fn push_names(names: &mut Vec<KeywordName>, site: &Site<'_>) -> Result<(), Memor
 }
 
 impl KeywordTable {
-    /// That of no places, with room for as many.
+    /// The table of no places, with room for this many.
     pub(crate) fn with_capacity(alloc: Global, places: usize) -> Result<KeywordTable, Memory>
         ensures names { IfOk result (λ t. t.names.items ≡ []) }
         ensures ends { IfOk result (λ t. t.ends.items ≡ []) }

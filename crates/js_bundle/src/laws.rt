@@ -36,20 +36,20 @@ pub fn a_uri_names_one_place()
     ensures { NamesOnePlace }
 {}
 
-/// Each place has the number of its resource, and two places have the same number exactly where they are of one resource
-/// (JSON Schema Core, section 8.2.1).
+/// Each place has the number of its resource, and two places have the same number exactly where they are of one
+/// resource (JSON Schema Core, section 8.2.1).
 pub fn a_number_tells_a_resource()
     ensures { NumbersResources }
 {}
 
-/// A dynamic scope that is told by the numbers of its resources, of equal neighbours one, leads to what the path of all
+/// A dynamic scope given by the numbers of its resources, repeated neighbours left out, leads to what the path of all
 /// places leads to (JSON Schema Core, sections 7.1 and 8.2.3.2).
 pub fn numbers_tell_the_dynamic_scope()
     ensures { ScopeByNumbers }
 {}
 
-/// In documents that are accepted, what a keyword of a place holds is found below the place, and each reference of a place has
-/// its target (JSON Schema Core, sections 8.2.3, 10 and 11).
+/// In documents that are accepted, what a keyword of a place holds is found below the place, and each reference of a
+/// place has its target (JSON Schema Core, sections 8.2.3, 10 and 11).
 pub fn what_is_held_and_named_is_found()
     ensures { EachIsFound }
 {}

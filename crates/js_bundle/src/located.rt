@@ -1,4 +1,4 @@
-//! What the first pass tells of where places stand.
+//! What the first pass finds out about where places stand.
 ghost use Rattle.std.specs.Prelude.{[], map, option_map, MatchOption, OnOk, IfOk};
 ghost use Rattle.js_bundle.specs.code.Located.{BeginTextsOf, IsLast, IsLocated, IsLocatedNext};
 ghost use Rattle.js_bundle.specs.code.Scan.{site_of};
@@ -22,7 +22,7 @@ pub(crate) struct Located {
     pub(crate) locations: Vec<Text>,
 }
 
-/// How the texts of a place begin, from where those of the next one go on.
+/// How the texts of a place begin. Those of the next one continue from there.
 #[derive(Drop)]
 pub(crate) struct Beginnings {
     /// Of the key of where it stands.
@@ -40,19 +40,18 @@ impl Beginnings {
 }
 
 impl Located {
-    /// That of no places, with room for as many.
+    /// The same for no places, with room for this many.
     pub(crate) fn with_capacity(alloc: Global, places: usize) -> Result<Located, Memory>
         ensures { IfOk result (λ l. IsLocated l []) }
     {
-        let index = Index::with_capacity(alloc, places)?;
         Ok(Located {
-            index,
+            index: Index::new(alloc),
             roots: Vec::with_capacity(alloc, places)?,
             locations: Vec::with_capacity(alloc, places)?,
         })
     }
 
-    /// Adds a place, and makes its texts, of how those of the place before it began.
+    /// Adds a place. Its texts are made from the beginnings of those of the place before it.
     pub(crate) fn add(
         &mut self,
         alloc: Global,

@@ -59,7 +59,7 @@ fn push_keyword(text: &mut String, keyword: Option<&str>) -> Result<(), Memory>
     }
 }
 
-/// Makes the location of a place, and how it begins, of how that of the place before it began.
+/// Makes the location of a place, and its beginning, from the beginning of the location before it.
 pub(crate) fn next_location(
     alloc: Global,
     beginning: &mut Beginning,
@@ -106,7 +106,8 @@ fn begin(
     most: usize,
 ) -> Result<(), Memory>
     requires before { MatchOption before (Unit {0}) (λ b. BeginsLocation beginning.old (site_of b.now)) }
-    requires most { most ≤ shared_with (option_map (λ b. site_of b.now) before) (site_of site.now) - length site.now.own.value.resource }
+    requires most { most ≤ shared_with (option_map (λ b. site_of b.now) before) (site_of site.now)
+        - length site.now.own.value.resource }
     ensures begins { OnOk result (BeginsLocation beginning.new (site_of site.now)) }
     ensures within { OnOk result (beginning.new.tokens ≤ most) }
 {
@@ -134,7 +135,7 @@ fn begin_anew(beginning: &mut Beginning, scope: &Scope) -> Result<(), Memory>
     push_resource(&mut beginning.text, scope)
 }
 
-// Tells the first tokens of the way in it.
+// Adds the first tokens of the way to it.
 fn extend(beginning: &mut Beginning, way: &[Token], told: usize) -> Result<(), Memory>
     requires { told ≤ length way.now }
     ensures text { OnOk result (string_bytes beginning.new.text

@@ -1,16 +1,18 @@
 //! Numbering of places, each under a text.
-ghost use Rattle.std.specs.Prelude.{◌≡◌, [], ◌∷◌, OnOk, IfOk, string_bytes, option_to_list, option_copied};
+ghost use Rattle.std.specs.Prelude.{◌≡◌, [], ◌∷◌, OnOk, string_bytes, option_to_list, option_copied};
 ghost use Rattle.js_bundle.specs.code.Index.{number_of_key, ArePut};
 
-use indexmap::IndexMap;
-use indexmap::map::Entry;
 use js_doc::Memory;
 use std::alloc::Global;
+use std::collections::BTreeMap;
+use std::collections::btree_map::Entry;
 
 /// Numbering of places, each under a text. A text keeps the first number that it is given.
+///
+/// The texts come from schemas, so they are kept in order, not hashed: names could be chosen to have one hash.
 #[derive(Drop)]
 pub(crate) struct Numbering {
-    first: IndexMap<String, usize>,
+    first: BTreeMap<String, usize>,
 }
 
 impl Numbering {
@@ -18,17 +20,8 @@ impl Numbering {
         ensures { result.first.entries ≡ [] }
     {
         Numbering {
-            first: IndexMap::new(alloc),
+            first: BTreeMap::new(alloc),
         }
-    }
-
-    /// The same, with room for as many texts.
-    pub(crate) fn with_capacity(alloc: Global, texts: usize) -> Result<Numbering, Memory>
-        ensures { IfOk result (λ n. n.first.entries ≡ []) }
-    {
-        Ok(Numbering {
-            first: IndexMap::with_capacity(alloc, texts)?,
-        })
     }
 
     /// The number under the text.

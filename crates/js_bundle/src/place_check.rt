@@ -196,7 +196,7 @@ pub(crate) struct Passed {
 }
 
 impl Passed {
-    // That of no places, with room for as many.
+    // The same for no places, with room for this many.
     fn with_capacity(alloc: Global, places: usize) -> Result<Passed, Memory>
         ensures assertions { IfOk result (λ p. p.built.all.assertions.items ≡ []) }
         ensures assertion_ends { IfOk result (λ p. p.built.assertion_ends.items ≡ []) }
@@ -214,7 +214,7 @@ impl Passed {
         })
     }
 
-    // Goes one place further, and makes its texts, of how those of the place before it began.
+    // Adds a place. Its texts are made from the beginnings of those of the place before it.
     fn pass(
         &mut self,
         alloc: Global,
@@ -236,7 +236,8 @@ impl Passed {
             ≡ self.old.built.all.patterns.items ++ patterns_at (site_of site.now)) }
         ensures pattern_ends { OnOk result (self.new.built.pattern_ends.items
             ≡ self.old.built.pattern_ends.items ++ length self.new.built.all.patterns.items ∷ []) }
-        ensures located { OnOk result (IsLocatedNext self.old.located (map site_of earlier.now) (site_of site.now) self.new.located) }
+        ensures located { OnOk result
+            (IsLocatedNext self.old.located (map site_of earlier.now) (site_of site.now) self.new.located) }
         ensures names { OnOk result (self.new.keywords.names.items
             ≡ self.old.keywords.names.items ++ keyword_names (site_of site.now)) }
         ensures ends { OnOk result (self.new.keywords.ends.items
@@ -260,7 +261,8 @@ pub(crate) fn first_pass(alloc: Global, sites: &[Site<'_>]) -> Result<Passed, Fa
     ensures patterns { IfOk result (λ p. IsGrouped patterns_at (map site_of sites.now)
         p.built.all.patterns.items p.built.pattern_ends.items) }
     ensures located { IfOk result (λ p. IsLocated p.located (map site_of sites.now)) }
-    ensures keywords { IfOk result (λ p. IsGrouped keyword_names (map site_of sites.now) p.keywords.names.items p.keywords.ends.items) }
+    ensures keywords { IfOk result
+        (λ p. IsGrouped keyword_names (map site_of sites.now) p.keywords.names.items p.keywords.ends.items) }
     ensures err { IfErr result (IsStopped (first_pass [] (map site_of sites.now))) }
 {
     let mut passed = Passed::with_capacity(alloc, sites.len())?;

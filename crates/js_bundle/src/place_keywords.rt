@@ -74,7 +74,7 @@ impl Schemas {
         requires { is_place self.now place ≡ true }
         ensures { result ≡ has_keyword (codes "$dynamicRef") self.now place }
     {
-        reference_under(self.kept.references.dynamic.as_slice(), place.number).is_some()
+        reference_under(&self.kept.references.dynamic, place.number).is_some()
     }
 }
 
@@ -89,8 +89,8 @@ fn find_assertion<'b>(built: &'b [Assertion], keyword: &str) -> Option<&'b Asser
     None
 }
 
-// The pattern of this name. They stand in the order of their names, so it is looked for by halves; where it isn't found so,
-// each is looked at.
+// The pattern of this name. They stand in the order of their names, so a binary search finds it. Where it doesn't, each
+// is looked at.
 fn find_pattern<'b>(built: &'b [BuiltPattern], name: &str) -> Option<&'b BuiltPattern>
     requires { AreOwn built.now }
     ensures { option_map (λ b. b.now) result ≡ find (λ b. bytes_eq name.now b.name) built.now }

@@ -1,4 +1,4 @@
-//! Pointers that are made of others.
+//! Pointers that are made from others.
 ghost use Rattle.std.specs.Prelude.{◌≡◌, [], ◌∷◌, ◌++◌, IfOk};
 
 use js_doc::{Memory, Pointer};
@@ -16,7 +16,7 @@ pub(crate) fn shared_further(
     Ok(Arc::new(alloc, pointer.further(alloc, token)?)?)
 }
 
-/// The pointer, gone on by another one.
+/// The pointer, followed by the tokens of another one.
 pub(crate) fn extended(alloc: Global, first: &Pointer, then: &Pointer) -> Result<Pointer, Memory>
     ensures { IfOk result (λ p. p ≡ first.now ++ then.now) }
 {

@@ -1,9 +1,10 @@
 //! The second pass: what references lead to.
-ghost use Rattle.std.specs.Prelude.{◌≡◌, [], ◌∷◌, Some, Ok, false, OnOk, IfOk, IfErr, codes, map, option_map, option_and_then, slice_get};
+ghost use Rattle.std.specs.Prelude.{◌≡◌, [], ◌∷◌, None, Some, Ok, false, nat_eq, OnOk, IfOk, IfErr, codes, map, option_map, option_and_then, slice_get};
+ghost use Rattle.indexmap.specs.IndexMap.{get};
 ghost use Rattle.js_bundle.specs.Candidate.{IsClear, IsStopped};
 ghost use Rattle.std.specs.Option.{option_map_or};
-ghost use Rattle.js_bundle.specs.Finding.{number_named, number_of_target, goes_by_name, dynamic_as, dynamic_at};
-ghost use Rattle.js_bundle.specs.code.Column.{IsColumn};
+ghost use Rattle.js_bundle.specs.Finding.{number_named, number_of_target, goes_by_name, dynamic_as, dynamic_at, under_number};
+ghost use Rattle.js_bundle.specs.code.Column.{IsColumn, IsTold};
 ghost use Rattle.js_bundle.specs.code.Grouped.{IsGrouped};
 ghost use Rattle.js_bundle.specs.code.Index.{IsIndex};
 ghost use Rattle.js_bundle.specs.KeywordName.{keyword_names};
@@ -25,6 +26,7 @@ use crate::refusal::RefusalKind;
 use crate::scan::Site;
 use crate::scope::joined;
 use crate::uri::{self, LONGEST};
+use indexmap::IndexMap;
 use js_doc::Memory;
 use std::alloc::Global;
 use url::{ParseError, Url};
@@ -129,7 +131,7 @@ fn is_dynamic(alloc: Global, site: &Site<'_>, first: &Site<'_>) -> Result<bool, 
     }
 }
 
-// The same of a first target that is told by its number.
+// The same for a first target given by its number.
 fn goes_by_name(
     alloc: Global,
     sites: &[Site<'_>],
@@ -182,7 +184,7 @@ fn resolve_both(
     })
 }
 
-// The same of a place whose keywords are these. Most have no reference: nothing is looked up for them.
+// The same for a place whose keywords are these. Most have no reference: nothing is looked up for them.
 fn targets_of(
     alloc: Global,
     index: &Index,
@@ -221,11 +223,12 @@ pub(crate) struct DynamicReference {
     pub(crate) by_name: bool,
 }
 
-/// What the references of each place name, in scan order. Where the last places have none, a list ends before them.
+/// What the references of places name.
 #[derive(Drop)]
 pub(crate) struct References {
-    pub(crate) dynamic: Vec<Option<DynamicReference>>,
-    /// The numbers of the targets of `$ref`.
+    /// The first targets of `$dynamicRef`, under the numbers of the places that have one. These are few.
+    pub(crate) dynamic: IndexMap<usize, DynamicReference>,
+    /// The number of the target of each place's `$ref`, in scan order. It ends with the last place that has one.
     pub(crate) plain: Vec<Option<usize>>,
 }
 
@@ -238,6 +241,21 @@ fn dynamic_of(target: Option<usize>, by_name: bool) -> Option<DynamicReference>
     }
 }
 
+// Keeps the reference of a place, if it has one.
+fn keep(
+    dynamic: &mut IndexMap<usize, DynamicReference>,
+    place: usize,
+    reference: Option<DynamicReference>,
+) -> Result<(), Memory>
+    requires { get nat_eq dynamic.old place ≡ None }
+    ensures { OnOk result (IsTold (get nat_eq dynamic.old) place reference (get nat_eq dynamic.new)) }
+{
+    if let Some(reference) = reference {
+        dynamic.insert(place, reference)?;
+    }
+    Ok(())
+}
+
 /// Resolves all references.
 pub(crate) fn resolve_all(
     alloc: Global,
@@ -246,24 +264,22 @@ pub(crate) fn resolve_all(
     keywords: &KeywordTable,
 ) -> Result<References, Fault>
     requires index { IsIndex index.now (map site_of sites.now) }
-    requires keywords { IsGrouped keyword_names (map site_of sites.now) keywords.now.names.items keywords.now.ends.items }
+    requires keywords { IsGrouped keyword_names (map site_of sites.now)
+        keywords.now.names.items keywords.now.ends.items }
     ensures clear { OnOk result (IsClear (second_pass (map site_of sites.now))) }
-    ensures dynamic { IfOk result (λ r. IsColumn r.dynamic.items
+    ensures dynamic { IfOk result (λ r. IsColumn (get nat_eq r.dynamic)
         (dynamic_at (map site_of sites.now)) (map site_of sites.now)) }
-    ensures plain { IfOk result (λ r. IsColumn r.plain.items
+    ensures plain { IfOk result (λ r. IsColumn (under_number r.plain.items)
         (number_of_target (map site_of sites.now) (codes "$ref")) (map site_of sites.now)) }
     ensures err { IfErr result (IsStopped (second_pass (map site_of sites.now))) }
 {
-    let mut dynamic = Vec::new(alloc);
+    let mut dynamic = IndexMap::new(alloc);
     let mut plain = Vec::new(alloc);
     for i in 0..sites.len() {
         let names = part(keywords.names.as_slice(), keywords.ends.as_slice(), i);
         let targets = targets_of(alloc, index, sites, &sites[i], names)?;
-        tell(
-            &mut dynamic,
-            i,
-            dynamic_of(targets.dynamic, targets.by_name),
-        )?;
+        let reference = dynamic_of(targets.dynamic, targets.by_name);
+        keep(&mut dynamic, i, reference)?;
         tell(&mut plain, i, targets.plain)?;
     }
     Ok(References { dynamic, plain })

@@ -4,7 +4,7 @@ use js_doc::{Memory, Pointer};
 /// Which document is refused, where in it, and why.
 #[derive(Debug, Drop, PartialEq, Eq)]
 pub struct Refusal {
-    /// The document's number, the first one's 0. Of a document that isn't taken in, the number it would have had.
+    /// The document's number, the first one's 0. For a document that isn't added, the number that it would have had.
     pub document: usize,
     /// Where in the document.
     pub place: Pointer,
@@ -14,7 +14,7 @@ pub struct Refusal {
 /// Why a schema document is refused. The kinds are numbered in this order, from 1.
 #[derive(Clone, Copy, Debug, Drop, PartialEq, Eq)]
 pub enum RefusalKind {
-    /// A growth was refused.
+    /// An allocation was refused.
     Memory,
     /// `serde_json` reads no value.
     NotJson,
@@ -55,7 +55,7 @@ pub enum RefusalKind {
 /// Why an entry is refused. The faults are numbered in this order, from 1.
 #[derive(Clone, Copy, Debug, Drop, PartialEq, Eq)]
 pub enum EntryFault {
-    /// A growth was refused.
+    /// An allocation was refused.
     Memory,
     /// It is no absolute URL, or its fragment isn't read.
     BadUri,

@@ -78,7 +78,7 @@ fn open_resource(alloc: Global, anchors: &mut Vec<Numbering>, begins: bool) -> R
     Ok(())
 }
 
-// It is told of each place whether it is a root.
+// The roots, where it is known of each place whether it is one.
 fn roots_of(alloc: Global, begins: &[bool]) -> Result<Roots, Memory>
     ensures ranks { IfOk result (λ r. r.ranks.items ≡ ranks_by 0 begins.now) }
     ensures many { IfOk result (λ r. length r.anchors.items ≡ count_of begins.now) }
@@ -112,7 +112,8 @@ fn is_of_one(before: &Site<'_>, site: &Site<'_>) -> bool
     before.document == site.document && is_same(&before.own.resource, &site.own.resource)
 }
 
-// The number of a place's resource: that of a root is known, and most other places are of the resource of the one before.
+// The number of a place's resource. That of a root is known, and most other places are of the resource of the one
+// before.
 fn number_after(
     alloc: Global,
     index: &Index,
@@ -183,7 +184,7 @@ fn numbers_of(
     Ok(numbers)
 }
 
-// The name that a place whose keywords are these makes by `$dynamicAnchor`. Few do: nothing is looked up for the others.
+// The name that a place with these keywords makes by `$dynamicAnchor`. Few do: nothing is looked up for the others.
 fn dynamic_name<'s>(site: &'s Site<'_>, names: &[KeywordName]) -> Option<&'s str>
     requires { names.now ≡ keyword_names (site_of site.now) }
     ensures { option_copied result ≡ text_argument (codes "$dynamicAnchor") (site_of site.now).schema }
@@ -219,7 +220,8 @@ fn name_all(
     keywords: &KeywordTable,
     numbers: &[usize],
 ) -> Result<(), Memory>
-    requires keywords { IsGrouped keyword_names (map site_of sites.now) keywords.now.names.items keywords.now.ends.items }
+    requires keywords { IsGrouped keyword_names (map site_of sites.now)
+        keywords.now.names.items keywords.now.ends.items }
     requires rooted { AreRooted (map site_of sites.now) }
     requires numbers { map Some numbers.now ≡ map (resource_number (map site_of sites.now)) (map site_of sites.now) }
     requires many { length anchors.now.items ≡ length (roots (map site_of sites.now)) }
@@ -241,7 +243,8 @@ pub(crate) fn resources_of(
     keywords: &KeywordTable,
 ) -> Result<Resources, Memory>
     requires located { IsLocated located.now (map site_of sites.now) }
-    requires keywords { IsGrouped keyword_names (map site_of sites.now) keywords.now.names.items keywords.now.ends.items }
+    requires keywords { IsGrouped keyword_names (map site_of sites.now)
+        keywords.now.names.items keywords.now.ends.items }
     requires rooted { AreRooted (map site_of sites.now) }
     ensures { IfOk result (λ r. IsResourceTable r (map site_of sites.now)) }
 {

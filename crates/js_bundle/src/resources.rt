@@ -16,7 +16,7 @@ use std::alloc::Global;
 
 impl Schemas {
     /// The URIs by which resources are known, each with the root of its resource, in scan order. A document's URI comes
-    /// before its root's base; where they are the same, it is told once.
+    /// before its root's base; where they are the same, it is listed once.
     ///
     /// # Errors
     /// `Memory`.

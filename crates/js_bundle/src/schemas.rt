@@ -16,7 +16,7 @@ use std::alloc::Global;
 use std::marker::Model;
 
 /// Schema documents that are checked: every keyword has its form, and every reference its target. Contracts see them as
-/// their documents; a place is told by its number in scan order.
+/// their documents, and a place as its number in scan order.
 #[derive(Drop)]
 pub struct Schemas {
     pub(crate) documents: Vec<Document>,
@@ -40,7 +40,7 @@ impl Model for Schemas {
 }
 
 impl Schemas {
-    /// Whether the place is one of these schemas'. Each that a call of these schemas answers is.
+    /// Whether the place is one of these schemas'. Each place that a call of these schemas returns is.
     pub fn has(&self, place: Place) -> bool
         ensures { result ≡ is_place self.now place }
     {
@@ -92,8 +92,8 @@ impl Schemas {
         uri::text_of(&self.spot(place).own.base)
     }
 
-    /// The absolute location of the place, or of a keyword of it (JSON Schema Core, section 12.3.2): the canonical URI of
-    /// its resource, `#`, and the way from the resource's root as a fragment. A root's ends in a bare `#`.
+    /// The absolute location of the place, or of a keyword of it (JSON Schema Core, section 12.3.2): the canonical URI
+    /// of its resource, `#`, and the way from the resource's root as a fragment. A root's ends in a bare `#`.
     ///
     /// # Errors
     /// `Memory`.
@@ -119,8 +119,8 @@ impl Schemas {
         self.kept.locations[place.number].as_str()
     }
 
-    /// All places, in scan order: document by document, a schema before those that it holds, these by keyword ascending and
-    /// then by index or by name ascending.
+    /// All places, in scan order: document by document, a schema before those that it holds, these by keyword ascending
+    /// and then by index or by name ascending.
     ///
     /// # Errors
     /// `Memory`.

@@ -9,8 +9,8 @@ use crate::place::Place;
 use crate::schemas::Schemas;
 
 impl Schemas {
-    /// The place that the `$ref` of the place names (JSON Schema Core, section 8.2.3.1). The caller owes that the place has
-    /// one; `has_ref` tells. It takes no memory.
+    /// The place that the `$ref` of the place names (JSON Schema Core, section 8.2.3.1). The place must have one: ask
+    /// `has_ref`. It takes no memory.
     pub fn target(&self, place: Place) -> Place
         requires { has_keyword (codes "$ref") self.now place ≡ true }
         ensures { StandsFor self.now result

@@ -1,10 +1,11 @@
 //! The check of documents as a whole.
-ghost use Rattle.std.specs.Prelude.{◌≡◌, codes, map, OnOk, IfOk, IfErr};
+ghost use Rattle.std.specs.Prelude.{◌≡◌, codes, map, nat_eq, OnOk, IfOk, IfErr};
+ghost use Rattle.indexmap.specs.IndexMap.{get};
 ghost use Rattle.js_bundle.specs.AssertionsAndPatterns.{assertions_at, patterns_at};
 ghost use Rattle.js_bundle.specs.Candidate.{IsClear, IsStopped};
 ghost use Rattle.js_bundle.specs.code.Column.{IsColumn};
 ghost use Rattle.js_bundle.specs.code.Edges.{edges_from, edges_of};
-ghost use Rattle.js_bundle.specs.Finding.{dynamic_at, number_of_target};
+ghost use Rattle.js_bundle.specs.Finding.{dynamic_at, number_of_target, under_number};
 ghost use Rattle.js_bundle.specs.code.Grouped.{IsGrouped};
 ghost use Rattle.js_bundle.specs.code.Index.{IsIndex};
 ghost use Rattle.js_bundle.specs.code.Located.{IsLocated};
@@ -46,7 +47,7 @@ pub(crate) struct Spot {
     pub(crate) identifies: bool,
 }
 
-/// What is kept of documents that are checked, place by place.
+/// What is kept of checked documents, place by place.
 #[derive(Drop)]
 pub(crate) struct Checked {
     pub(crate) spots: Vec<Spot>,
@@ -100,12 +101,13 @@ fn look_up(
     keywords: &KeywordTable,
 ) -> Result<LookedUp, Fault>
     requires located { IsLocated located.now (map site_of sites.now) }
-    requires keywords { IsGrouped keyword_names (map site_of sites.now) keywords.now.names.items keywords.now.ends.items }
+    requires keywords { IsGrouped keyword_names (map site_of sites.now)
+        keywords.now.names.items keywords.now.ends.items }
     requires rooted { AreRooted (map site_of sites.now) }
     ensures clear { OnOk result (IsClear (second_pass (map site_of sites.now))) }
-    ensures dynamic { IfOk result (λ l. IsColumn l.references.dynamic.items
+    ensures dynamic { IfOk result (λ l. IsColumn (get nat_eq l.references.dynamic)
         (dynamic_at (map site_of sites.now)) (map site_of sites.now)) }
-    ensures plain { IfOk result (λ l. IsColumn l.references.plain.items
+    ensures plain { IfOk result (λ l. IsColumn (under_number l.references.plain.items)
         (number_of_target (map site_of sites.now) (codes "$ref")) (map site_of sites.now)) }
     ensures resources { IfOk result (λ l. IsResourceTable l.resources (map site_of sites.now)) }
     ensures err { IfErr result (IsStopped (second_pass (map site_of sites.now))) }
@@ -130,9 +132,9 @@ pub(crate) fn check_whole(alloc: Global, documents: &[Document]) -> Result<Check
         c.built.all.patterns.items c.built.pattern_ends.items) }
     ensures keywords { IfOk result (λ c. IsGrouped keyword_names (sites (map document_of documents.now))
         c.keywords.names.items c.keywords.ends.items) }
-    ensures dynamic { IfOk result (λ c. IsColumn c.references.dynamic.items
+    ensures dynamic { IfOk result (λ c. IsColumn (get nat_eq c.references.dynamic)
         (dynamic_at (sites (map document_of documents.now))) (sites (map document_of documents.now))) }
-    ensures plain { IfOk result (λ c. IsColumn c.references.plain.items
+    ensures plain { IfOk result (λ c. IsColumn (under_number c.references.plain.items)
         (number_of_target (sites (map document_of documents.now)) (codes "$ref"))
         (sites (map document_of documents.now))) }
     ensures locations { IfOk result (λ c. c.locations.items

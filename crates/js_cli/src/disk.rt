@@ -4,7 +4,7 @@ use js_output::{Fault, Source, read_all};
 use std::alloc::Global;
 use std::fs;
 
-/// Files on the disk, as a runtime reaches them.
+/// Files on the disk, reached through the runtime.
 pub struct Disk<'a, R: std::rt::Files> {
     rt: &'a R,
 }

@@ -45,7 +45,7 @@ fn status(rt: &HostRuntime) -> u8 {
         &mut faults,
     );
     drop(out);
-    // Dropping the buffer would write once more what a failed write left in it.
+    // Dropping the buffer would write again what a failed write left in it.
     drop(buffered.into_parts());
     status
 }

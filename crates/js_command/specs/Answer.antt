@@ -1,4 +1,4 @@
--- What the program answers: what comes of that which its words ask for, by what the files and the input hold.
+-- What the program answers: the outcome of what its words ask for, by what the files and the input hold.
 use Rattle.std.specs.Prelude.{◌≡◌, ◌≤◌, ◌⊎◌, ℕ, ◌==◌, List, [], ◌∷◌, ◌++◌, length, Option, Result, Ok, Err, Bool, true, ◌&&◌, ⊤}
 use Rattle.std.specs.Io.KnownBytes.{Appends}
 use Rattle.js_output.specs.Cause.{Causes, MayGoOn, IsFirstFault}
@@ -15,13 +15,13 @@ use Rattle.js_command.specs.Files.{HeldByPath, IsFirstFileFault}
 use Rattle.js_command.specs.Words.{Pairs, files_of, Request, pair, check, suite, places, request_of}
 use Rattle.js_command.specs.declared.words.Misuse.{Misuse}
 
--- each document stands under its URI, and is what its file holds, within the limit
+-- each document has its URI, and is what its file holds, within the limit
 abbrev pub AreHeld : HeldByPath → Pairs → DocumentTexts → Type 0
 AreHeld held [] [] = ⊤
 AreHeld held (p ∷ ps) (d ∷ ds) = (d.0 ≡ p.0) × IsLeft (held p.1) d.1 × (length d.1 ≤ input_limit) × AreHeld held ps ds
 AreHeld held _ _ = ⊥
 
--- what comes of documents whose places are told
+-- what comes of documents whose places are listed
 abbrev pub PlacesOutcome : DocumentTexts → Result Output Fault → Type 0
 PlacesOutcome documents (Ok output) = MayGoOn (documents_causes documents) × (output ≡ record { valid = true; text = places_text documents })
 PlacesOutcome documents (Err f) = IsFirstFault (documents_causes documents) f
@@ -38,23 +38,23 @@ abbrev pub SuiteTold : DocumentTexts → List ℕ → Result Output Fault → Ty
 SuiteTold documents bytes (Ok output) = (lines : _) × SuiteOutcome documents bytes (Ok lines) × (output ≡ suite_output (counts_of lines) (lines_text lines))
 SuiteTold documents bytes (Err f) = SuiteOutcome documents bytes (Err f)
 
--- what comes of the standard input, which can't be read where it stands failed
+-- what comes of the standard input, which can't be read if it has failed
 abbrev pub OverInput : Bool → (Result Output Fault → Type 0) → Result Output Fault → Type 0
 OverInput failed Expected (Err fault.Read) = failed ≡ true
 OverInput failed Expected answer = Expected answer
 
--- What comes of files, which are taken in this order. `Unread` is what else `Read` may come of.
+-- What comes of files, which are read in this order. `Unread` is what else `Read` can come of.
 abbrev pub OverFiles : HeldByPath → List (List ℕ) → Type 0 → (Result Output Fault → Type 0) → Result Output Fault → Type 0
 OverFiles held paths Unread Expected (Err fault.Read) = IsFirstFileFault held paths fault.Read ⊎ Unread
 OverFiles held paths Unread Expected (Err fault.InputTooLarge) = IsFirstFileFault held paths fault.InputTooLarge ⊎ Expected (Err fault.InputTooLarge)
 OverFiles held paths Unread Expected answer = Expected answer
 
--- The text that the last file holds is read again, from memory, once nothing stands against the documents. That this
--- reading doesn't fail is no promise of its reader.
+-- The text of the last file is read again, from memory, once the documents are accepted. That this reading doesn't
+-- fail is no promise of its reader.
 abbrev pub MayReadAgain : HeldByPath → Pairs → (DocumentTexts → Causes) → Type 0
 MayReadAgain held pairs causes = (documents : DocumentTexts) × AreHeld held pairs documents × MayGoOn (causes documents)
 
--- what comes of a request; `failed` where the standard input stands failed at the end
+-- what comes of a request; `failed` if the standard input has failed at the end
 abbrev pub RequestOutcome : HeldByPath → Option (List ℕ) → Bool → Request → Result Output Fault → Type 0
 RequestOutcome held input failed pair answer = OverInput failed (λ told. (bytes : List ℕ) × IsLeft input bytes × PairOutcome bytes told) answer
 RequestOutcome held input failed (check format instance entry pairs) answer =
@@ -66,23 +66,23 @@ RequestOutcome held input failed (suite file pairs) answer =
 RequestOutcome held input failed (places pairs) answer =
     OverFiles held (files_of pairs) ⊥ (λ told. (documents : DocumentTexts) × AreHeld held pairs documents × PlacesOutcome documents told) answer
 
--- The verdict is answered where the output's text went out, and `Write` where the sink stands failed after a beginning of it;
--- any other fault but want of memory where it comes.
+-- The verdict is returned if the output's text was written, and `Write` if the sink has failed after a beginning of
+-- it; any other fault, except lack of memory, if it comes.
 abbrev pub Performs : {D : Type 0} → (Result Output Fault → Type 0) → (D → Option (List ℕ)) → Tracked D → Tracked D → Result Bool Fault → Type 0
 Performs Expected taken old new (Ok valid) = (output : Output) × Expected (Ok output) × (output.valid ≡ valid) × Sends taken old new output.text
 Performs Expected taken old new (Err fault.Memory) = ⊤
 Performs Expected taken old new (Err fault.Write) = (output : Output) × Expected (Ok output) × SendsBeginning taken old new output.text
 Performs Expected taken old new (Err f) = Expected (Err f)
 
--- it comes to this verdict, and its text went out
+-- it comes to this verdict, and its text was written
 abbrev pub IsTold : (Result Output Fault → Type 0) → Bool → Option (List ℕ) → Option (List ℕ) → Type 0
 IsTold Expected valid old new = (output : Output) × Expected (Ok output) × (output.valid ≡ valid) × Appends old new output.text
 
--- it comes to an output, and a beginning of its text went out
+-- it comes to an output, and a beginning of its text was written
 abbrev pub IsPartlyTold : (Result Output Fault → Type 0) → Option (List ℕ) → Option (List ℕ) → Type 0
 IsPartlyTold Expected old new = (output : Output) × Expected (Ok output) × AppendsBeginning old new output.text
 
--- why a fault is told: memory ran out; or the output stands failed, after a beginning of a text; or this fault comes
+-- why a fault is reported: memory ran out; or the output has failed, after a beginning of a text; or this fault comes
 abbrev pub IsReason : (Result Output Fault → Type 0) → Option (List ℕ) → Option (List ℕ) → Bool → Fault → Type 0
 IsReason Expected old new failed fault.Memory = ⊤
 IsReason Expected old new failed fault.Write = (failed ≡ true) × IsPartlyTold Expected old new
@@ -92,7 +92,7 @@ IsReason Expected old new failed f = Expected (Err f)
 abbrev pub WordsOutcome : List (List ℕ) → HeldByPath → Option (List ℕ) → Bool → Result Output Fault → Type 0
 WordsOutcome words held input failed answer = (request : Request) × (request_of words ≡ Ok request) × RequestOutcome held input failed request answer
 
--- Standard input is read for a pair alone. Where it then stands failed, the status is 4.
+-- Standard input is read for a pair alone. If it has failed then, the status is 4.
 abbrev pub UsesInput : {D : Type 0} → Result Request Misuse → Tracked D → Tracked D → ℕ → Type 0
 UsesInput (Ok pair) old new status = new.failed ≡ true → status ≡ 4
 UsesInput asked old new status = new ≡ old

@@ -1,4 +1,4 @@
--- What is read from that which `clap` finds in the words.
+-- What is read from what `clap` finds in the words.
 use Rattle.std.specs.Prelude.{List, [], ◌∷◌, Option, Some, None, Result, Err, codes, unwrap_or, if◌then◌else◌}
 use Rattle.std.specs.Str.{bytes_eq}
 use Rattle.clap.specs.Words.{Row, Text, first_of, all_of, fault_of, subcommand_of}
@@ -37,7 +37,7 @@ read_by (k ∷ ks) found = Err misuse.OtherForm
 abbrev pub read_of : List Text → Result Request Misuse
 read_of words = read_by (fault_of grammar words) (subcommand_of grammar words)
 
--- what an error of `clap` tells
+-- what an error of `clap` means
 abbrev pub misuse_of : ErrorKind → Misuse
 misuse_of kind.OutOfMemory = misuse.Memory
 misuse_of _ = misuse.OtherForm

@@ -1,15 +1,15 @@
--- The words that the program takes, as `clap` is told of them: `check FORMAT INSTANCE ENTRY [URI FILE]...`,
+-- The words that the program takes, as a grammar for `clap`: `check FORMAT INSTANCE ENTRY [URI FILE]...`,
 -- `suite SUITE [URI FILE]...`, `places [URI FILE]...`.
 use Rattle.std.specs.Prelude.{Some, true, codes}
 use Rattle.clap.specs.Lexer.{usize_max}
 use Rattle.clap.specs.Words.{App, Rule, Text, new_rule, new_app, with_rule, with_subcommand}
 use Rattle.clap.specs.declared.builder.action.ArgAction.TheVariants.{Set, Append}
 
--- a word that has to stand there
+-- a required word
 abbrev pub word_argument : Text → Rule
 word_argument name = record (new_rule name) { action = Some Set; required = true }
 
--- all words that are left
+-- all remaining words
 abbrev pub pairs_argument : Rule
 pairs_argument = record (new_rule (codes "PAIRS")) {
   action = Some Append;
@@ -25,7 +25,7 @@ suite_command = with_rule (with_rule (new_app (codes "suite")) (word_argument (c
 abbrev pub places_command : App
 places_command = with_rule (new_app (codes "places")) pairs_argument
 
--- the program's name isn't among the words, and neither help nor a version is asked for by a word
+-- the program's name isn't among the words, and no word asks for help or for the version
 abbrev pub program : App
 program =
     let a = new_app (codes "jschema") in

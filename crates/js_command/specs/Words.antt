@@ -85,7 +85,7 @@ request_of (name ∷ words) =
 abbrev pub words_of : List (Bor Text) → List Text
 words_of words = map (λ w. w.now) words
 
--- what is told of misused words
+-- what is reported of misused words
 abbrev pub usage_line : Misuse → List ℕ
 usage_line misuse.OddPairs = codes "usage: URI and FILE come in pairs" ++ 10 ∷ []
 usage_line _ = codes "usage: jschema (check FORMAT INSTANCE ENTRY | suite SUITE | places) [URI FILE]..." ++ 10 ∷ []

@@ -19,8 +19,8 @@ pub(crate) struct Taken<'a> {
     pub(crate) text: Vec<u8>,
 }
 
-/// Takes the files of the documents, one after another. Answers the fault of the first that isn't
-/// taken.
+/// Reads the files of the documents, one after another. Returns the fault of the first that can't be
+/// read.
 pub(crate) fn take_all<'a, F: Files>(
     alloc: Global,
     documents: &[DocumentFile<'a>],
@@ -56,7 +56,7 @@ pub(crate) fn handed_in<'t>(
     Ok(docs)
 }
 
-/// Puts one more at the end.
+/// Adds an item at the end.
 pub(crate) fn append<T: Drop>(list: &mut Vec<T>, item: T) -> Result<(), AllocFailed<T>>
     ensures { OnOk result (list.new.items ≡ list.old.items ++ item ∷ []) }
 {

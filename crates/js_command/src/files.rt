@@ -8,15 +8,15 @@ use std::alloc::Global;
 
 /// Files by their paths.
 pub trait Files {
-    // What a file holds, by its path, where that is known. Such a file can be read. On a disk
-    // nothing is known.
+    // What a file holds, by its path, if that is known. Such a file can be read. Of a disk nothing
+    // is known.
     ghost held: { Self → List ℕ → Option (List ℕ) } = { λ _ _. None };
 
     /// All bytes of a file.
     ///
     /// # Errors
-    /// `Memory`; `Read` where the file can't be opened or read; `InputTooLarge` where it holds more
-    /// than 16,777,216 bytes. After an error the files hold what they held.
+    /// `Memory`; `Read` if the file can't be opened or read; `InputTooLarge` if it has more than
+    /// 16,777,216 bytes. After an error the files are as they were.
     fn take(&mut self, alloc: Global, path: &str) -> Result<Vec<u8>, Fault>
         ensures bytes { IfOk result (λ bytes. IsLeft (held self.old path.now) bytes.items) }
         ensures fits { IfOk result (λ bytes. length bytes.items ≤ input_limit) }

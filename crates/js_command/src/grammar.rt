@@ -1,4 +1,4 @@
-//! The words that the program takes, as `clap` is told of them.
+//! The words that the program takes, as a grammar for `clap`.
 ghost use Rattle.std.specs.Prelude.{◌≡◌, false, IfOk};
 ghost use Rattle.clap.specs.Words.{app_of, rule_of};
 ghost use Rattle.clap.specs.declared.builder.command.Command.TheViews.{out-Command as fields_of};
@@ -7,7 +7,7 @@ ghost use Rattle.js_command.specs.Grammar.{word_argument, pairs_argument, check_
 use clap::{Arg, ArgAction, Command};
 use std::alloc::{AllocError, Global};
 
-/// All of them. Neither help nor a version is asked for by a word.
+/// The whole grammar. No word asks for help or for the version.
 pub(crate) fn grammar<'a>(alloc: Global) -> Result<Command<'a>, AllocError>
     ensures { IfOk result (λ c. app_of c ≡ grammar) }
 {
@@ -49,7 +49,7 @@ fn places_command<'a>(alloc: Global) -> Result<Command<'a>, AllocError>
     Command::new(alloc, "places").arg(pairs_argument(alloc))
 }
 
-// A word that has to stand there.
+// A required word.
 fn word_argument<'a>(alloc: Global, name: &'a str) -> Arg<'a>
     ensures rule { rule_of result ≡ word_argument name.entry.now }
     ensures local { result.global ≡ false }
@@ -57,7 +57,7 @@ fn word_argument<'a>(alloc: Global, name: &'a str) -> Arg<'a>
     Arg::new(alloc, name).required(true).action(ArgAction::Set)
 }
 
-// All words that are left.
+// All remaining words.
 fn pairs_argument<'a>(alloc: Global) -> Arg<'a>
     ensures rule { rule_of result ≡ pairs_argument }
     ensures local { result.global ≡ false }

@@ -1,4 +1,4 @@
-//! The work of the program `jschema`, over files and devices of any make.
+//! The work of the program `jschema`, over files and devices of any kind.
 #![tactic(auto)]
 
 mod documents;

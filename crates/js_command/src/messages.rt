@@ -12,7 +12,7 @@ use js_output::{Fault, Sink, refusal_line};
 use std::alloc::Global;
 use std::io::Write;
 
-/// Writes the line of a fault and a line feed, or nothing where there is no memory for them.
+/// Writes the line of a fault and a line feed, or nothing if there is no memory for them.
 pub(crate) fn tell<V: Write>(alloc: Global, fault: &Fault, faults: &mut Sink<V>)
     ensures { AppendsBeginning (V.contents faults.old.device) (V.contents faults.new.device)
         (fault_line fault.now ++ 10 ∷ []) }
@@ -30,7 +30,7 @@ fn told(alloc: Global, fault: &Fault) -> Option<String>
     Some(line)
 }
 
-/// Writes the usage text, or that memory ran out. Answers the status.
+/// Writes the usage text, or that memory ran out. Returns the status.
 pub(crate) fn tell_misuse<V: Write>(alloc: Global, misuse: Misuse, faults: &mut Sink<V>) -> u8
     ensures status { result ≡ misuse_status misuse }
     ensures usage { result ≡ 2 → AppendsBeginning (V.contents faults.old.device)

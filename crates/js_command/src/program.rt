@@ -46,8 +46,8 @@ pub fn command<'a, F: Files, R: Read, W: Write, V: Write>(
 ) -> u8
     ensures named { result ≤ 4 }
 
-    // With 0 what comes of the words, by what the files and the input hold, is valid, and with 1
-    // invalid; the text that says so was written.
+    // 0: the outcome of the words, by what the files and the input hold, is valid. 1: it is invalid.
+    // The text that says so was written.
     ensures verdict { result < 2 → IsTold
         (WordsOutcome (words_of words.entry.now) (F.held files.old)
         (R.remaining input.old.device) input.new.failed)
@@ -65,7 +65,7 @@ pub fn command<'a, F: Files, R: Read, W: Write, V: Write>(
     ensures nothing { (result ≡ 2) ⊎ (result ≡ 3)
         → Keeps (W.contents out.old.device) (W.contents out.new.device) }
 
-    // Nothing was written; or a beginning of such a text, where the output has failed.
+    // Nothing was written; or the output has failed, after a beginning of such a text.
     ensures beginning { result ≡ 4
         → Keeps (W.contents out.old.device) (W.contents out.new.device)
         ⊎ ((out.new.failed ≡ true) × IsPartlyTold
@@ -135,7 +135,7 @@ fn perform_whole<F: Files, R: Read, W: Write>(
     first_fault(answer, flushed)
 }
 
-// A fault of the last flush counts only where none came before.
+// A fault of the last flush counts only if none came before.
 fn first_fault(answer: Result<bool, Fault>, flushed: Result<(), Fault>) -> Result<bool, Fault>
     ensures { result ≡ first_fault answer flushed }
 {

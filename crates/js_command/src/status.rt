@@ -4,19 +4,19 @@ ghost use Rattle.js_command.specs.Status.{fault_status};
 
 use js_output::Fault;
 
-/// The exit status of a valid instance, of a suite that passed, and where places were written.
+/// The exit status of a valid instance, of a suite that passed, and of a list of places.
 pub const VALID: u8 = 0;
 
 /// The exit status of an invalid instance, and of a suite with a test that failed or was skipped.
 pub const INVALID: u8 = 1;
 
-/// The exit status where the arguments name no task.
+/// The exit status if the arguments name no task.
 pub const MISUSED: u8 = 2;
 
-/// The exit status where a schema, an instance, an entry, a suite or the size of a result is refused.
+/// The exit status if a schema, an instance, an entry, a suite or the size of a result is refused.
 pub const REFUSED: u8 = 3;
 
-/// The exit status where memory ran out, or a read, a write or the last flush failed.
+/// The exit status if memory ran out, or a read, a write or the last flush failed.
 pub const FAILED: u8 = 4;
 
 /// The exit status of a fault.

@@ -13,7 +13,8 @@ use js_output::{Counts, Fault, Sink, Source, run, run_pair, run_places, run_suit
 use std::alloc::Global;
 use std::io::{Read, Write};
 
-/// Does a task: whether what comes of it is valid, passed or told, and its text goes to `out`.
+/// Does a task, whose text goes to `out`: whether the instance is valid, or the suite passed. A list
+/// of places is always `true`.
 pub(crate) fn perform<F: Files, R: Read, W: Write>(
     alloc: Global,
     task: Task,

@@ -12,23 +12,23 @@ use clap::error::ErrorKind;
 use js_output::Format;
 use std::alloc::{AllocError, AllocFailed, Global};
 
-/// The usage text: what is written where the words have none of the four forms.
+/// The usage text, written if the words have none of the four forms.
 pub const USAGE: &[u8] =
     b"usage: jschema (check FORMAT INSTANCE ENTRY | suite SUITE | places) [URI FILE]...\n";
 
-/// The usage text where a URI has no file.
+/// The usage text if a URI has no file.
 pub(crate) const PAIRS_USAGE: &[u8] = b"usage: URI and FILE come in pairs\n";
 
 /// What the words ask for.
 #[derive(Drop)]
 pub(crate) enum Task<'a> {
-    /// To run the pair on standard input.
+    /// Validate the pair on standard input.
     Pair,
-    /// To check an instance.
+    /// Check an instance.
     Check(Check<'a>),
-    /// To run a suite.
+    /// Run a suite.
     Suite(Suite<'a>),
-    /// To tell the places of documents.
+    /// List the places of documents.
     Places(Vec<DocumentFile<'a>>),
 }
 
@@ -101,7 +101,7 @@ impl From<clap::Error> for Misuse {
     }
 }
 
-/// What the words, without the program's name, ask for.
+/// The task that the words name, without the program's name.
 ///
 /// # Errors
 /// See [`Misuse`]. A wrong format comes before an odd number of words.

@@ -22,7 +22,7 @@ impl From<Utf8Error> for Stopped {
 
 /// What takes bytes piece by piece, until it stops.
 pub trait Out {
-    // How far the bytes have come. A type that can't tell whether it has stopped says always that it has.
+    // How far the bytes have come. A type that doesn't know whether it has stopped always says that it has.
     ghost progress: { Self → Progress };
 
     /// Puts the bytes out, all of them, with at most one call of a device for each.

@@ -20,7 +20,7 @@ pub enum Doc {
 }
 
 impl Doc {
-    /// Tells a proof what holds of each value: at each level an object's names ascend by their bytes, each once, and a
+    /// Gives a proof what holds of each value: at each level an object's names ascend by their bytes, each once, and a
     /// list has fewer than 2^64 items. It does nothing.
     pub fn lawful(&self)
         ensures { IsLawful (value_of self.now) }

@@ -23,7 +23,7 @@ impl Doc {
     }
 }
 
-// What stands one token further.
+// What stands one token below.
 fn below<'a>(doc: &'a Doc, token: &str) -> Option<&'a Doc>
     ensures { option_map (λ d. value_of d.now) result ≡ below token.now (value_of doc.now) }
 {

@@ -1,7 +1,7 @@
 use crate::bytes_out::Stopped;
 use std::alloc::{AllocError, AllocFailed};
 
-/// Memory was wanted and there was none: a growth was refused.
+/// Memory was needed and there was none: an allocation was refused.
 #[derive(Clone, Copy, Debug, PartialEq, Eq)]
 pub struct Memory;
 

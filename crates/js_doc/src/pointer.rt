@@ -33,7 +33,7 @@ impl Pointer {
         }
     }
 
-    /// Goes one token further.
+    /// Adds a token at the end.
     ///
     /// # Errors
     /// `Memory`; then the pointer is as it was.
@@ -87,7 +87,7 @@ impl Pointer {
         self.with_room(alloc, 0)
     }
 
-    /// The pointer that goes one token further. The others are shared.
+    /// The pointer with one more token at its end. The other tokens are shared.
     ///
     /// # Errors
     /// `Memory`.
@@ -99,7 +99,7 @@ impl Pointer {
         Ok(further)
     }
 
-    // A copy with room for so many tokens more.
+    // A copy with room for more tokens.
     fn with_room(&self, alloc: Global, more: usize) -> Result<Pointer, Memory>
         ensures { IfOk result (λ p. p ≡ self.now) }
     {

@@ -73,7 +73,8 @@ fn put_items<O: Out>(docs: &[Doc], out: &mut O) -> Result<(), Stopped>
 
 #[cycle(put_text)]
 fn put_members<O: Out>(entries: &BTreeMap<String, Doc>, out: &mut O) -> Result<(), Stopped>
-    ensures { Puts (O.progress out.old) (O.progress out.new) (compact (object (members_seen entries.now.entries))) result }
+    ensures { Puts (O.progress out.old) (O.progress out.new)
+        (compact (object (members_seen entries.now.entries))) result }
 {
     out.put(b"{")?;
     let mut later = false;
@@ -87,7 +88,7 @@ fn put_members<O: Out>(entries: &BTreeMap<String, Doc>, out: &mut O) -> Result<(
     out.put(b"}")
 }
 
-// A comma, where something stands before.
+// A comma, unless this is the first item or member.
 fn put_comma<O: Out>(later: bool, out: &mut O) -> Result<(), Stopped>
     ensures { Puts (O.progress out.old) (O.progress out.new) (comma_if later) result }
 {

@@ -62,7 +62,7 @@ impl From<Memory> for ReadFault {
 }
 
 impl ReadFault {
-    // The fault as the value above it tells it.
+    // The fault as the value above reports it.
     pub(crate) fn lifted(self, token: Text) -> ReadFault
         ensures { Lifts token self result }
     {

@@ -3,7 +3,7 @@ ghost use Rattle.std.specs.Prelude.{◌≡◌, IfOk, string_bytes};
 use crate::memory::Memory;
 use std::marker::Model;
 
-/// A text. Contracts see it as the bytes of its UTF-8, which tell its code points.
+/// A text. Contracts see it as the bytes of its UTF-8, which determine its code points.
 #[derive(Debug, Drop)]
 pub struct Text {
     text: String,

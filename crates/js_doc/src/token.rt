@@ -54,7 +54,7 @@ impl Token {
         self.text.as_str()
     }
 
-    // The same token once more.
+    // The same token, shared.
     pub(crate) fn shared(&self) -> Result<Token, Memory>
         ensures { IfOk result (λ t. t ≡ self.now) }
     {
@@ -84,8 +84,8 @@ impl Eq for Token {
     ghost laws = { nat_list_eq_equiv };
 }
 
-/// Puts a `/` and the token at the end of the text, with `~` written `~0` and `/` written `~1` (RFC 6901, section 3): a
-/// pointer's text goes one token further.
+/// Puts a `/` and the token at the end of a pointer's text, with `~` written `~0` and `/` written `~1` (RFC 6901,
+/// section 3).
 ///
 /// # Errors
 /// `Memory`; the text is then as it was.
@@ -143,7 +143,7 @@ fn push_escaped(out: &mut String, token: &str) -> Result<(), Memory>
     push_characters(out, token)
 }
 
-// Whether it stands as it is: most tokens do, and go out in whole.
+// Whether nothing in it is escaped: most tokens are written in one piece.
 fn has_no_escape(token: &[u8]) -> bool
     ensures { IsTrue result → escape token.now ≡ token.now }
 {

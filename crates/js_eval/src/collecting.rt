@@ -4,12 +4,11 @@ ghost use Rattle.std.specs.Prelude.{◌≡◌, IfOk};
 use crate::here::Here;
 use crate::instance::Instance;
 use crate::keyword::Keyword;
-use crate::shared_texts::SharedTexts;
 use crate::telling::keyword_note;
 use crate::walking::{HeldText, Judged, Reporter, Trail};
 use js_bundle::Place;
-use js_doc::{Doc, Memory};
-use js_tree::{Collector, Head, Location};
+use js_doc::{Doc, Memory, Text};
+use js_tree::{Collector, Head};
 use std::alloc::Global;
 use std::marker::PhantomData;
 
@@ -17,8 +16,6 @@ use std::marker::PhantomData;
 /// of the recursion.
 pub(crate) struct Collecting<'a, C> {
     pub collector: C,
-    pub keyword_locations: SharedTexts,
-    pub instance_locations: SharedTexts,
     pub notes: PhantomData<&'a Doc>,
 }
 
@@ -35,8 +32,8 @@ impl<'a, C: Collector<'a>> Reporter<Here<'a>, HeldText> for Collecting<'a, C> {
         instance_location: &Trail<HeldText>,
     ) -> Result<(), Memory> {
         let absolute = world.absolute(alloc, place)?;
-        let head = self.head(alloc, keyword_location, absolute, instance_location)?;
-        self.collector.enter(head)
+        self.collector
+            .enter(head(keyword_location, absolute, instance_location)?)
     }
 
     #[inline(never)]
@@ -50,8 +47,8 @@ impl<'a, C: Collector<'a>> Reporter<Here<'a>, HeldText> for Collecting<'a, C> {
         instance_location: &Trail<HeldText>,
     ) -> Result<(), Memory> {
         let absolute = world.absolute_keyword(alloc, place, keyword.name)?;
-        let head = self.head(alloc, keyword_location, absolute, instance_location)?;
-        self.collector.enter(head)
+        self.collector
+            .enter(head(keyword_location, absolute, instance_location)?)
     }
 
     #[inline(never)]
@@ -87,34 +84,17 @@ impl<'a, C: Collector<'a>> Reporter<Here<'a>, HeldText> for Collecting<'a, C> {
     }
 }
 
-impl<C> Collecting<'_, C> {
-    /// With no location made.
-    pub fn new(alloc: Global, collector: C) -> Self
-        ensures { result.collector ≡ collector }
-    {
-        Collecting {
-            collector,
-            keyword_locations: SharedTexts::new(alloc),
-            instance_locations: SharedTexts::new(alloc),
-            notes: PhantomData,
-        }
-    }
-
-    // Where a node stands.
-    fn head(
-        &mut self,
-        alloc: Global,
-        keyword: &Trail<HeldText>,
-        absolute: Location,
-        instance: &Trail<HeldText>,
-    ) -> Result<Head, Memory>
-        ensures head { IfOk result (λ h. h ≡ record { keyword = keyword.now; absolute = absolute; instance = instance.now }) }
-        ensures collector { self.new.collector ≡ self.old.collector }
-    {
-        Ok(Head {
-            keyword: self.keyword_locations.location(alloc, keyword.as_str())?,
-            absolute,
-            instance: self.instance_locations.location(alloc, instance.as_str())?,
-        })
-    }
+// What tells a node: its keyword location, its absolute location, and its instance location.
+fn head(
+    keyword: &Trail<HeldText>,
+    absolute: Text,
+    instance: &Trail<HeldText>,
+) -> Result<Head, Memory>
+    ensures { IfOk result (λ h. h ≡ record { keyword = keyword.now; absolute = absolute; instance = instance.now }) }
+{
+    Ok(Head {
+        keyword: keyword.copy()?,
+        absolute,
+        instance: instance.copy()?,
+    })
 }

@@ -25,8 +25,8 @@ use crate::start::{Facts, Scene, start};
 use crate::telling::schema_note;
 use crate::walking::{Path, PointerText, Tally, Trail, World};
 use js_bundle::{Place, Schemas, Step};
-use js_doc::{Doc, Memory, push_fragment_token};
-use js_tree::{Location, Note};
+use js_doc::{Doc, Memory, Text, push_fragment_token};
+use js_tree::Note;
 use std::alloc::Global;
 
 /// Finished schemas, and what searches with their patterns. Values of the instance, and what the schemas' keywords hold, live as
@@ -289,12 +289,11 @@ impl Here<'_> {
     /// # Errors
     /// `Memory`.
     #[tactic(auto, using(crate::proofs::Paths::location_is))]
-    pub fn absolute(&self, alloc: Global, place: Place) -> Result<Location, Memory>
+    pub fn absolute(&self, alloc: Global, place: Place) -> Result<Text, Memory>
         requires { is_place self.now.schemas.now place ≡ true }
         ensures { IfOk result (λ t. t ≡ (schemas_of self.now.schemas.now).absolute (numbered_site self.now.schemas.now place) None) }
     {
-        let location = String::from_str(alloc, self.schemas.absolute_of(place))?;
-        Ok(Location::new(location))
+        Ok(Text::new(String::from_str(alloc, self.schemas.absolute_of(place))?))
     }
 
     /// The absolute location of the keyword of this name at a place.
@@ -306,12 +305,12 @@ impl Here<'_> {
         alloc: Global,
         place: Place,
         keyword: &str,
-    ) -> Result<Location, Memory>
+    ) -> Result<Text, Memory>
         requires { is_place self.now.schemas.now place ≡ true }
         ensures { IfOk result (λ t. t ≡ (schemas_of self.now.schemas.now).absolute (numbered_site self.now.schemas.now place) (Some keyword.now)) }
     {
         let location = one_further(alloc, self.schemas.absolute_of(place), keyword)?;
-        Ok(Location::new(location))
+        Ok(Text::new(location))
     }
 
     /// The note of a schema's node.
@@ -336,9 +335,7 @@ impl Here<'_> {
 fn one_further(alloc: Global, location: &str, token: &str) -> Result<String, Memory>
     ensures { IfOk result (λ t. string_bytes t ≡ location.now ++ fragment_token token.now) }
 {
-    // Room for both, where nothing has to be encoded.
-    let mut text = String::with_capacity(alloc, location.len() + token.len() + 1)?;
-    text.push_str(location)?;
+    let mut text = String::from_str(alloc, location)?;
     push_fragment_token(&mut text, token)?;
     Ok(text)
 }

@@ -14,6 +14,7 @@ use js_bundle::{Place, Schemas};
 use js_doc::Doc;
 use js_tree::{Boxed, Collector, Tree};
 use std::alloc::Global;
+use std::marker::PhantomData;
 
 /// Judges the value at the place, and hands the result to the collector, node by node, as it is made: 512 schemas may stand on a
 /// way, and the result may have 1,000,000 nodes.
@@ -36,7 +37,10 @@ pub fn walk_into<'a, C: Collector<'a>>(
         schemas,
         searchers: Searchers::new(alloc),
     };
-    let mut collecting = Collecting::new(alloc, collector);
+    let mut collecting = Collecting {
+        collector,
+        notes: PhantomData,
+    };
     let schema = schema_at(schemas, place);
     let value = Instance::Doc(value);
     let done = walk_from::<Here<'a>, HeldText, Collecting<'a, C>>(
@@ -49,8 +53,6 @@ pub fn walk_into<'a, C: Collector<'a>>(
     );
     let Collecting {
         collector,
-        keyword_locations: _,
-        instance_locations: _,
         notes: _,
     } = collecting;
     match done {

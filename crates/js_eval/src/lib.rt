@@ -24,7 +24,6 @@ mod name_set;
 mod pattern_cursor;
 mod schema;
 mod searchers;
-mod shared_texts;
 mod start;
 mod start_items;
 mod start_members;

@@ -6,8 +6,8 @@ use Rattle.js_doc.specs.BytesOut.{Progress}
 use Rattle.js_output.specs.declared.fault.Fault.{Fault}
 use Rattle.js_output.specs.declared.fault.Fault.TheVariants as fault
 
--- `failed` once a call has failed; how many calls were made, how many of them were flushes, and which of them was the last
--- flush, counted from 1 (0 where none was). A reader is never flushed.
+-- `failed` once a call has failed; how many calls were made, how many of them were flushes, and which of them was the
+-- last flush, counted from 1 (0 where none was). A reader is never flushed.
 pub record Tracked (D : Type 0) : Type 0 where
   pub device : D
   pub failed : Bool
@@ -25,26 +25,26 @@ tracked_code {D} d =
 abbrev pub input_limit : ℕ
 input_limit = 16777216
 
--- `bytes` are all that a reader has left, where it tells
+-- `bytes` are all that a reader has left, where that is known
 abbrev pub IsLeft : Option (List ℕ) → List ℕ → Type 0
 IsLeft None bytes = ⊤
 IsLeft (Some known) bytes = known ≡ bytes
 
--- a beginning of `bytes` went out
+-- a beginning of `bytes` was written
 abbrev pub AppendsBeginning : Option (List ℕ) → Option (List ℕ) → List ℕ → Type 0
 AppendsBeginning old new bytes = (sent : List ℕ) × (unsent : List ℕ) × (bytes ≡ sent ++ unsent) × Appends old new sent
 
--- ---- what a sink did with a text, by what its writer has taken, where that tells
+-- ---- what a sink did with a text, by what its writer has taken, where that is known
 
--- the text went out, in at most a call a byte
+-- the text was written, in at most one call for each byte
 abbrev pub Sends : {D : Type 0} → (D → Option (List ℕ)) → Tracked D → Tracked D → List ℕ → Type 0
 Sends taken old new text = Appends (taken old.device) (taken new.device) text × (new.failed ≡ false) × (new.calls ≤ old.calls + length text)
 
--- the sink stands failed, and a beginning went out
+-- the sink has failed, and a beginning was written
 abbrev pub SendsBeginning : {D : Type 0} → (D → Option (List ℕ)) → Tracked D → Tracked D → List ℕ → Type 0
 SendsBeginning taken old new text = AppendsBeginning (taken old.device) (taken new.device) text × (new.failed ≡ true) × (new.calls ≤ old.calls + length text)
 
--- one of these, by what is answered
+-- one of these, by what is returned
 abbrev pub SendsOrFails : {D T : Type 0} → (D → Option (List ℕ)) → Tracked D → Tracked D → List ℕ → Result T Fault → Type 0
 SendsOrFails taken old new text (Ok _) = Sends taken old new text
 SendsOrFails taken old new text (Err f) = (f ≡ fault.Write) × SendsBeginning taken old new text

@@ -1,4 +1,4 @@
--- Schema documents that are handed in, each with its URI (JSON Schema Core, section 9.1.1): what they are taken in as, and
+-- Schema documents that are passed in, each with its URI (JSON Schema Core, section 9.1.1): how they are read, and
 -- what is refused of them, in order.
 use Rattle.std.specs.Prelude.{ℕ, ◌+◌, List, [], ◌∷◌, ◌++◌, length, Option, Some, None, is_none, option_and_then, option_to_list, Result, Ok, Err, not, true, nat_lt, nat_le, map, flat_map, if◌then◌else◌}
 use Rattle.std.proofs.Common.{Bor}
@@ -28,7 +28,7 @@ DocumentTexts = List (List ℕ × List ℕ)
 abbrev pub documents_of : List (Bor (List ℕ) × Bor (List ℕ)) → DocumentTexts
 documents_of documents = map (λ d. (d.0.now, d.1.now)) documents
 
--- ---- what they are taken in as
+-- ---- how they are read
 
 -- the URI without its fragment, which is to be empty
 abbrev pub unfragmented : Parts → Option Parts
@@ -42,14 +42,14 @@ abbrev pub document_under : Option Parts → Result Value ReadFault → Option D
 document_under (Some uri) (Ok root) = Some (record { uri = uri; root = root })
 document_under _ _ = None
 
--- the document that is taken in, where its URI and its text are read
+-- the document, if its URI and its text can be read
 abbrev pub taken : List ℕ × List ℕ → Option Document
 taken d = document_under (absolute_uri d.0) (reading d.1)
 
 abbrev pub bundle_of : DocumentTexts → bundle.Documents
 bundle_of documents = flat_map (λ d. option_to_list (taken d)) documents
 
--- ---- what is refused of one beside so many others
+-- ---- what is refused of one, after a number of others
 
 abbrev pub refused : ℕ → RefusalKind → Fault
 refused held kind = fault.Refused (record { document = held; place = []; kind = kind })
@@ -87,7 +87,7 @@ documents_causes documents = adding_causes 0 documents ++ bundle_causes (bundle_
 
 -- ---- words for the parts
 
--- want of memory is one fault, wherever it came
+-- lack of memory is one fault, wherever it comes
 abbrev pub fault_by : RefusalKind → Refusal → Fault
 fault_by kind.Memory r = fault.Memory
 fault_by _ r = fault.Refused r

@@ -1,4 +1,4 @@
--- The schema with which a judgement begins (JSON Schema Core, section 9.2.1): what is refused of its URI, in order.
+-- The schema that an instance is judged by (JSON Schema Core, section 9.2.1): what is refused of its URI, in order.
 use Rattle.std.specs.Prelude.{◌≡◌, ℕ, List, ◌++◌, length, Option, None, is_none, Ok, Err, Bool, true, false, not, nat_lt}
 use Rattle.url.specs.Parts.{Parts}
 use Rattle.url.specs.Parser.{Parsed, parse_url}
@@ -31,7 +31,7 @@ entry_causes documents uri =
 
 -- ---- words for the parts
 
--- want of memory is one fault, wherever it came
+-- lack of memory is one fault, wherever it comes
 abbrev pub entry_fault_of : EntryFault → Fault
 entry_fault_of entry_fault.Memory = fault.Memory
 entry_fault_of e = fault.Entry e

@@ -1,5 +1,5 @@
--- Schemas that are kept: documents were added to a bundle one after another, and the bundle was finished. What `js_bundle`
--- promises of these calls.
+-- Schemas that are kept: documents were added to a bundle one after another, and the bundle was finished. What
+-- `js_bundle` promises of these calls.
 use Rattle.std.specs.Prelude.{◌≡◌, [], ◌∷◌}
 use Rattle.js_bundle.specs.Adding.{IsAdded}
 use Rattle.js_bundle.specs.Candidate.{IsClear}

@@ -1,6 +1,7 @@
--- The headline: for every accepted bundle and entry, and each instance text that is read and isn't too large, the bytes
--- written are the requested form of the standard's result; or `TooLarge` is answered, exactly where none stands within the
--- limits. It follows from the clause `answer` of `run` alone; over finished schemas, from that of `run_finished`.
+-- The headline: for every accepted bundle and entry, and each instance text that is read and isn't too large, the
+-- bytes written are the requested form of the standard's result; or `TooLarge` is returned, if and only if none is
+-- within the limits. It follows from the clause `answer` of `run` alone; over finished schemas, from that of
+-- `run_finished`.
 use Rattle.std.specs.Prelude.{◌≡◌, ◌≤◌, ℕ, List, [], ◌∷◌, ◌++◌, length, Option, Some, Result, Ok, Err, Bool, ◌⊎◌, ⊤}
 use Rattle.js_doc.specs.Compact.{compact}
 use Rattle.js_doc.specs.Value.{Value}
@@ -25,11 +26,11 @@ use Rattle.js_output.specs.Reading.{reading}
 use Rattle.js_output.specs.declared.fault.Fault.{Fault}
 use Rattle.js_output.specs.declared.fault.Fault.TheVariants as fault
 
--- What a format shows of a result (JSON Schema Core, section 12.4): flag its verdict, basic the units with a note of the
--- pruned tree, verbose the whole tree. Detailed shows the one tree in which every run of the two condensing rules from the
--- pruned tree ends: a run leads to it, each run that can't be continued ends in it, and each run can be continued to it.
--- Merged, this project's own, shows the one in which every run of these and of the third rule ends: a node goes, with all
--- below it, where an earlier sibling is equal once keyword locations are ignored.
+-- What a format shows of a result (JSON Schema Core, section 12.4): flag its verdict, basic the units with a note of
+-- the pruned tree, verbose the whole tree. Detailed shows the one tree in which every run of the two condensing rules
+-- from the pruned tree ends: a run leads to it, each run that can't be continued ends in it, and each run can be
+-- continued to it. Merged, this project's own, shows the one in which every run of these and of the third rule ends:
+-- a node goes, with all below it, where an earlier sibling is equal once keyword locations are ignored.
 abbrev pub Shows : Format → ResultTree → Value → Type 0
 Shows Flag t shown = shown ≡ flag t.root.valid
 Shows Basic t shown = shown ≡ unit_list (pruned t)
@@ -44,8 +45,8 @@ Shows Merged t shown =
     → (end : ResultTree) × RunOfThree met end × NormalOfThree end × (shown ≡ verbose end))
 Shows Verbose t shown = shown ≡ verbose t
 
--- The documents and the entry, which is this place, are accepted: at most given causes stand against them, which may be
--- passed over. The instance is the text of this value, and not too large.
+-- The documents and the entry, which is this place, are accepted: at most given causes speak against them, which may
+-- be passed over. The instance is the text of this value, and not too large.
 pub record IsAccepted (documents : DocumentTexts) (entry instance : List ℕ) (place : Site) (v : Value) : Type 0 where
   pub clear : MayGoOn (beginning_causes documents entry)
   pub names : entry_place (bundle_of documents) entry ≡ Some place
@@ -57,7 +58,7 @@ abbrev pub IsStandardResult : DocumentTexts → Site → Value → ResultTree �
 IsStandardResult documents place v t = IsResult (schemas_of (bundle_of documents)) [] place at_root v t
 
 module _ {D : Type 0} (taken : D → Option (List ℕ)) (old new : Tracked D) where
-  -- What is answered and written. A fault of the reader, of the writer, or for want of memory may come; no other but
+  -- What is returned and written. A fault of the reader, of the writer, or for lack of memory can come; no other but
   -- `TooLarge`, where none of the causes that may be passed over is taken.
   abbrev pub TellsResult : DocumentTexts → List ℕ → Format → Site → Value → Result Bool Fault → Type 0
   TellsResult documents entry format place v (Ok valid) =

@@ -1,4 +1,4 @@
--- The line that a fault is told by: what it is of, where, and its name.
+-- The line that reports a fault: what was refused or failed, where, and the fault's name.
 use Rattle.std.specs.Prelude.{ℕ, List, ◌++◌, Bool, true, false, if◌then◌else◌, codes, decimal}
 use Rattle.js_doc.specs.Pointer.{Tokens, pointer_text}
 use Rattle.js_doc.specs.Compact.{quoted}
@@ -33,7 +33,7 @@ kind_name kind.TooManyPlaces = codes "TooManyPlaces"
 kind_name kind.BadReference = codes "BadReference"
 kind_name kind.Unresolved = codes "Unresolved"
 
--- want of memory is told alike, wherever it came
+-- lack of memory is reported alike, wherever it comes
 abbrev pub failed_memory : List ℕ
 failed_memory = codes "failed: Memory"
 

@@ -1,5 +1,5 @@
--- The outcome of a run: the first of its causes of a fault that applies; else the verdict of the standard's result, and the
--- text of the form that was asked for.
+-- The outcome of a run: the first of its causes of a fault that applies; else the verdict of the standard's result,
+-- and the text of the form that was asked for.
 use Rattle.std.specs.Prelude.{◌≡◌, ℕ, List, [], ◌∷◌, ◌++◌, Option, Some, None, Result, Ok, Err, Bool, ◌==◌, ◌+◌, codes, take, drop, position, ⊤}
 use Rattle.js_doc.specs.Compact.{compact}
 use Rattle.js_doc.specs.Value.{Value}
@@ -43,13 +43,13 @@ IsEarlyOrMemory f = IsEarly f
 
 -- ---- what comes of a value, which is judged at a place of finished documents
 
--- whether the instance is valid, and the text that tells it
+-- whether the instance is valid, and the text that says so
 pub record Output : Type 0 where
   pub valid : Bool
   pub text : List ℕ
 
--- what a format tells of a result: its root's verdict, and the compact text of its form (JSON Schema Core, section 12.4),
--- with a line feed
+-- what a format says of a result: its root's verdict, and the compact text of its form (JSON Schema Core, section
+-- 12.4), with a line feed
 abbrev pub output_of : Format → ResultTree → Output
 output_of format t = record { valid = t.root.valid; text = compact (form format t) ++ 10 ∷ [] }
 
@@ -60,11 +60,11 @@ module _ (documents : bundle.Documents) (entry : Option Site) (v : Value) where
     pub is_entry : entry ≡ Some place
     pub is_result : IsResult (schemas_of documents) [] place at_root v t
 
-  -- no result stands within the limits
+  -- no result is within the limits
   abbrev pub NoResultStands : Type 0
   NoResultStands = (t : ResultTree) → IsResultOf t → IsWithinLimits t → ⊥
 
-  -- what the format tells of the result within the limits; `TooLarge` where none stands within them
+  -- what the format says of the result within the limits; `TooLarge` if there is none
   abbrev pub ValueOutcome : Format → Result Output Fault → Type 0
   ValueOutcome format (Ok output) = (t : ResultTree) × IsResultOf t × IsWithinLimits t × (output ≡ output_of format t)
   ValueOutcome format (Err f) = (f ≡ fault.TooLarge) × NoResultStands
@@ -108,7 +108,7 @@ abbrev pub text_after : Option ℕ → List ℕ → List ℕ
 text_after None bytes = []
 text_after (Some at) bytes = drop (at + 1) bytes
 
--- where the document of a pair stands
+-- the URI of a pair's document
 abbrev pub pair_uri : List ℕ
 pair_uri = codes "https://a.example/s"
 
@@ -120,20 +120,20 @@ PairOutcome bytes =
     let at = first_line_feed bytes in
     OfInput bytes (OutcomeOfTexts (text_before at bytes) (text_after at bytes))
 
--- ---- what is answered
+-- ---- what is returned
 
--- the verdict, and the output's text goes out
+-- the verdict; the output's text is written
 abbrev pub telling_output : Telling Output Bool
 telling_output = record { answer = λ output. output.valid; text = λ output. output.text }
 
--- where the source stands failed: its fault, unless another came before it was needed, or memory failed
+-- if the source has failed: its fault, unless another came before it was needed, or memory failed
 abbrev pub IsReadOrEarly : {A : Type 0} → Result A Fault → Type 0
 IsReadOrEarly (Err fault.Memory) = ⊤
 IsReadOrEarly (Err fault.Read) = ⊤
 IsReadOrEarly (Err f) = IsEarly f
 IsReadOrEarly (Ok valid) = ⊥
 
--- the faults from the instance's text on, or want of memory
+-- the faults from the instance's text on, or lack of memory
 abbrev pub IsLateOrMemory : Fault → Type 0
 IsLateOrMemory fault.Memory = ⊤
 IsLateOrMemory (fault.Instance e) = ⊤
@@ -141,7 +141,7 @@ IsLateOrMemory fault.TooLarge = ⊤
 IsLateOrMemory fault.Write = ⊤
 IsLateOrMemory _ = ⊥
 
--- the faults from the instance's bytes on, or want of memory
+-- the faults from the instance's bytes on, or lack of memory
 abbrev pub IsInstanceFault : Fault → Type 0
 IsInstanceFault fault.InputTooLarge = ⊤
 IsInstanceFault f = IsLateOrMemory f
@@ -170,7 +170,7 @@ abbrev pub IsTrimmed : bundle.Documents → Option Site → Value → Format →
 IsTrimmed documents entry v format tree =
     (t : ResultTree) × IsResultOf documents entry v t × IsWithinLimits t × (tree ≡ trimmed format t)
 
--- why there is none: none stands within them, or want of memory
+-- why there is none: none is within them, or lack of memory
 abbrev pub IsWalkFault : bundle.Documents → Option Site → Value → Fault → Type 0
 IsWalkFault documents entry v fault.Memory = ⊤
 IsWalkFault documents entry v fault.TooLarge = NoResultStands documents entry v

@@ -1,4 +1,4 @@
--- What is told of the places of documents: their absolute locations (JSON Schema Core, section 12.3.2), in scan order.
+-- The list of the places of documents: their absolute locations (JSON Schema Core, section 12.3.2), in scan order.
 use Rattle.std.specs.Prelude.{◌≡◌, ℕ, List, [], ◌∷◌, ◌++◌, length, flat_map, Result, Ok, Err, ⊤}
 use Rattle.js_bundle.specs.Location.{absolute}
 use Rattle.js_bundle.specs.Resource.{Site, sites}
@@ -20,7 +20,7 @@ places_of documents = sites (bundle_of documents)
 abbrev pub places_text : DocumentTexts → List ℕ
 places_text documents = lines_of (places_of documents)
 
--- what is answered: their number, where nothing is refused. A write only where nothing stands before it
+-- what is returned: their number, if nothing is refused. `Write` only if nothing comes before it
 abbrev pub TellsPlaces : DocumentTexts → Result ℕ Fault → Type 0
 TellsPlaces documents (Ok n) = MayGoOn (documents_causes documents) × (n ≡ length (places_of documents))
 TellsPlaces documents (Err fault.Memory) = ⊤

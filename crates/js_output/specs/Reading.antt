@@ -24,7 +24,7 @@ value_read (Some d) = whole_value (value_in d)
 unfoldable pub reading : List ℕ → Result Value ReadFault
 reading bytes = if is_utf8 bytes then value_read (read_json bytes) else Err NotJson
 
--- the fault, or want of memory, which may come at any time
+-- the fault, or lack of memory, which can come at any time
 abbrev pub ReadsWith : Result Value ReadFault → ReadFault → Type 0
 ReadsWith found Memory = ⊤
 ReadsWith found fault = found ≡ Err fault

@@ -1,4 +1,4 @@
--- The outcome of a suite: what comes of each test of each group, in order, and the text that tells it.
+-- The outcome of a suite: what comes of each test of each group, in order, and the text that reports it.
 use Rattle.std.specs.Prelude.{◌≡◌, ℕ, ◌+◌, List, [], ◌∷◌, ◌++◌, length, Option, Some, None, option_to_list, Result, Ok, Err, Bool, not, codes, decimal, ⊤}
 use Rattle.js_doc.specs.Value.{Value}
 use Rattle.js_bundle.specs.Document as bundle
@@ -20,7 +20,7 @@ use Rattle.js_output.specs.declared.suite_lines.Line.{Line}
 use Rattle.js_output.specs.declared.suite_lines.Status.{Status}
 use Rattle.js_output.specs.declared.suite_lines.Status.TheVariants.{Pass, Fail, Skip}
 
--- ---- the documents of a group: those that are handed in, and its schema, which is the entry
+-- ---- the documents of a group: those that are passed in, and its schema, which is the entry
 
 abbrev pub group_uri : ℕ → List ℕ
 group_uri g = codes "https://suite.example/" ++ decimal g
@@ -107,22 +107,22 @@ ReadLines documents (Err e) answer = answer ≡ Err (fault.Suite e)
 abbrev pub SuiteOutcome : DocumentTexts → List ℕ → Result (List Line) Fault → Type 0
 SuiteOutcome documents bytes = After (documents_causes documents) (OfInput bytes (ReadLines documents (suite_reading bytes)))
 
--- ---- what is answered
+-- ---- what is returned
 
--- the counts, and the lines' text goes out
+-- the counts; the lines' text is written
 abbrev pub telling_lines : Telling (List Line) Counts
 telling_lines = record { answer = counts_of; text = lines_text }
 
 -- ---- words for the parts
 
--- the faults from the suite's text on, or want of memory
+-- the faults from the suite's text on, or lack of memory
 abbrev pub IsSuiteLate : Fault → Type 0
 IsSuiteLate fault.Memory = ⊤
 IsSuiteLate (fault.Suite e) = ⊤
 IsSuiteLate fault.Write = ⊤
 IsSuiteLate _ = ⊥
 
--- these lines are told, or why they aren't
+-- these lines are reported, or why they aren't
 abbrev pub SendsLines : {D : Type 0} → (D → Option (List ℕ)) → Tracked D → Tracked D → List Line → Result Counts Fault → Type 0
 SendsLines taken old new lines (Ok counts) = (counts_of lines ≡ counts) × Sends taken old new (lines_text lines)
 SendsLines taken old new lines (Err fault.Memory) = ⊤

@@ -1,4 +1,4 @@
--- What is told of a suite: a line for each test, and one that counts them.
+-- The output of a suite: a line for each test, and one with the counts.
 use Rattle.std.specs.Prelude.{ℕ, List, [], ◌∷◌, ◌++◌, Bool, true, false, count_by, flat_map, codes, decimal}
 use Rattle.js_doc.specs.Compact.{quoted}
 use Rattle.js_output.specs.declared.suite_lines.Counts.{Counts}

@@ -1,5 +1,5 @@
--- What a suite's text is read as: groups, each with a schema and its tests; or else the first value that is missing or of
--- the wrong kind: groups in order, the members of each ascending by name, its tests in order.
+-- What a suite's text is read as: groups, each with a schema and its tests; or else the first value that is missing
+-- or of the wrong kind: groups in order, the members of each ascending by name, its tests in order.
 use Rattle.std.specs.Prelude.{◌≡◌, ℕ, ◌+◌, List, [], ◌∷◌, map, Option, Some, None, option_map, option_and_then, is_some, Result, Ok, Err, Bool, if◌then◌else◌, codes, decimal, ⊤}
 use Rattle.std.specs.Str.{is_utf8}
 use Rattle.serde_json.specs.Data as json
@@ -48,7 +48,7 @@ is_json_object d = is_some (as_object d)
 abbrev pub member_in : {A : Type 0} → (Data → Option A) → List ℕ → Data → Found A
 member_in kind name d = under name (needed (option_and_then kind (get name d)))
 
--- each item, the first of which stands at n
+-- each item, of which the first has the number n
 abbrev pub each_in : {A : Type 0} → (Data → Found A) → ℕ → json.Items → Found (List A)
 each_in read n json.no_items = Ok []
 each_in read n (json.item d ds) = found_both ◌∷◌ (under (decimal n) (read d)) (each_in read (n + 1) ds)
@@ -119,7 +119,7 @@ group_seen g = record { schema = option_map value_of g.schema; tests = tests_see
 abbrev pub groups_seen : List rust_group.SuiteGroup → List SuiteGroup
 groups_seen groups = map group_seen groups
 
--- want of memory may come at any time
+-- lack of memory can come at any time
 abbrev pub IsMisfit : {A : Type 0} → Found A → Misfit → Type 0
 IsMisfit found misfit.Memory = ⊤
 IsMisfit found (misfit.At place) = found ≡ Err place

@@ -1,4 +1,4 @@
--- What is answered and what goes out, by what comes of bytes that are read, where memory, the reader or the sink may fail.
+-- What is returned and written, by what comes of the bytes that are read. Memory, the reader and the sink can fail.
 use Rattle.std.specs.Prelude.{◌≡◌, ℕ, List, length, Option, Result, Ok, Err, ◌⊎◌, MatchBool, nat_lt, ⊤}
 use Rattle.js_output.specs.Cause.{Causes, MayGoOn, IsFirstFault}
 use Rattle.js_output.specs.Device.{Tracked, input_limit, IsLeft, Sends, SendsBeginning}
@@ -7,7 +7,7 @@ use Rattle.js_output.specs.declared.fault.Fault.TheVariants as fault
 
 -- ---- what comes
 
--- one of these causes, or where nothing stands against going on what comes then
+-- one of these causes; or, if nothing prevents going on, what comes then
 abbrev pub After : {O : Type 0} → Causes → (Result O Fault → Type 0) → Result O Fault → Type 0
 After causes Then (Ok o) = MayGoOn causes × Then (Ok o)
 After causes Then (Err f) = IsFirstFault causes f ⊎ (MayGoOn causes × Then (Err f))
@@ -16,14 +16,14 @@ After causes Then (Err f) = IsFirstFault causes f ⊎ (MayGoOn causes × Then (E
 abbrev pub OfInput : {O : Type 0} → List ℕ → (Result O Fault → Type 0) → Result O Fault → Type 0
 OfInput bytes Then outcome = MatchBool (nat_lt input_limit (length bytes)) (outcome ≡ Err fault.InputTooLarge) (Then outcome)
 
--- ---- what is told of it
+-- ---- how it is reported
 
--- how an output is told: what is answered, and the text that goes out
+-- how an output is reported: what is returned, and the text that is written
 pub record Telling (O A : Type 0) : Type 0 where
   pub answer : O → A
   pub text : O → List ℕ
 
--- An output that is expected is answered where its text went out, and `Write` where a beginning of it did.
+-- An expected output is returned if its text was written, and `Write` if a beginning of it was.
 abbrev pub Tells : {O A D : Type 0} → Telling O A → (Result O Fault → Type 0) → (D → Option (List ℕ)) → Tracked D → Tracked D → Result A Fault → Type 0
 Tells {O} telling Expected taken old new (Ok answer) = (output : O) × Expected (Ok output) × (telling.answer output ≡ answer) × Sends taken old new (telling.text output)
 Tells telling Expected taken old new (Err fault.Memory) = ⊤
@@ -31,8 +31,8 @@ Tells telling Expected taken old new (Err fault.Read) = ⊥
 Tells {O} telling Expected taken old new (Err fault.Write) = (output : O) × Expected (Ok output) × SendsBeginning taken old new (telling.text output)
 Tells telling Expected taken old new (Err f) = Expected (Err f)
 
--- Of the bytes that a source has left: they are those that are judged, what is expected comes of them, and that is told. `Read`
--- is answered only where nothing stands before them.
+-- The bytes that a source has left are those that are judged; what is expected comes of them, and is reported. `Read`
+-- is returned only if nothing comes before them.
 abbrev pub Answers : {O A D : Type 0} → Telling O A → (List ℕ → Result O Fault → Type 0) → Causes → Option (List ℕ) → (D → Option (List ℕ)) → Tracked D → Tracked D → Result A Fault → Type 0
 Answers telling Expected before left taken old new (Err fault.Memory) = ⊤
 Answers telling Expected before left taken old new (Err fault.Read) = MayGoOn before

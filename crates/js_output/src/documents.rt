@@ -1,4 +1,4 @@
-//! From the documents that are handed in to finished schemas.
+//! From the documents that are passed in to finished schemas.
 ghost use Rattle.std.specs.Prelude.{◌≡◌, length, OnOk, IfOk, IfErr};
 ghost use Rattle.js_bundle.specs.Adding.{IsAdded};
 ghost use Rattle.js_output.specs.Cause.{MayGoOn, FailsBy};
@@ -20,7 +20,7 @@ pub(crate) fn finished(alloc: Global, docs: &[(&str, &[u8])]) -> Result<Schemas,
     finish_bundle(alloc, bundle)
 }
 
-/// The documents, taken in, or the first refusal of one.
+/// The documents in a bundle, or the first refusal of one.
 pub(crate) fn bundled(alloc: Global, docs: &[(&str, &[u8])]) -> Result<Bundle, Fault>
     ensures ok { IfOk result (λ b. b ≡ bundle_of (documents_of docs.now)) }
     ensures clear { OnOk result (MayGoOn (adding_causes 0 (documents_of docs.now))) }
@@ -44,7 +44,7 @@ fn add(bundle: &mut Bundle, uri: &str, bytes: &[u8]) -> Result<(), Fault>
     Ok(())
 }
 
-/// The schemas of what was taken in, or the first refusal.
+/// The schemas of a bundle, or its first refusal.
 pub(crate) fn finish_bundle(alloc: Global, bundle: Bundle) -> Result<Schemas, Fault>
     ensures ok { IfOk result (λ s. s ≡ bundle) }
     ensures clear { OnOk result (MayGoOn (bundle_causes bundle)) }

@@ -1,4 +1,4 @@
-//! The schema with which a judgement begins.
+//! The schema that an instance is judged by.
 ghost use Rattle.std.specs.Prelude.{◌≡◌, true, OnOk, IfOk, IfErr};
 ghost use Rattle.js_bundle.specs.Schemas.{is_place, place_at};
 ghost use Rattle.js_output.specs.Cause.{MayGoOn, FailsBy};
@@ -9,7 +9,7 @@ use crate::fault::Fault;
 use js_bundle::{Place, Schemas};
 use std::alloc::Global;
 
-/// Finished schemas, and the place of them with which a judgement begins.
+/// Finished schemas, and the place of the one that instances are judged by.
 #[derive(Drop)]
 pub(crate) struct Entry {
     pub(crate) schemas: Schemas,

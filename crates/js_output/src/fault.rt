@@ -12,10 +12,10 @@ use thiserror::Error;
 /// What `Display` writes names no place: [`crate::refusal_line`] does.
 #[derive(Debug, Drop, PartialEq, Eq, Error)]
 pub enum Fault {
-    /// A growth was refused.
+    /// Out of memory: an allocation was refused.
     #[error("failed: Memory")]
     Memory,
-    /// The source of the input stands failed.
+    /// The source of the input has failed.
     #[error("failed: Read")]
     Read,
     /// The input has more than 16,777,216 bytes.
@@ -36,7 +36,7 @@ pub enum Fault {
     /// The suite's text is refused.
     #[error("refused: suite")]
     Suite(SuiteFault),
-    /// The sink stands failed.
+    /// The sink has failed.
     #[error("failed: Write")]
     Write,
 }
@@ -44,7 +44,7 @@ pub enum Fault {
 /// Why a suite's text is refused.
 #[derive(Debug, Drop, PartialEq, Eq)]
 pub enum SuiteFault {
-    /// `serde_json` reads no value.
+    /// `serde_json` can't read it.
     NotJson,
     /// The first value that is missing or of the wrong kind.
     BadSuite(Pointer),
@@ -119,7 +119,7 @@ impl From<WalkFault> for Fault {
     }
 }
 
-/// The bytes went to a sink, which stops only where it stands failed.
+/// A sink stops only if it has failed.
 impl From<Stopped> for Fault {
     ghost use Rattle.js_output.specs.declared.fault.Fault.TheVariants.{Write};
 

@@ -15,19 +15,19 @@ use js_tree::Format;
 use std::alloc::Global;
 use std::io::Write;
 
-/// Whether the schema that the entry names accepts the instance whose text the bytes are. Writes what
-/// the format tells of it, and a line feed (JSON Schema Core, section 12.4).
+/// Whether the schema that the entry names accepts the instance with this text. Writes the output in
+/// the format, and a line feed (JSON Schema Core, section 12.4).
 ///
-/// Of documents that were added to a `Bundle` and finished, this is what [`crate::run`] answers and
-/// writes. The schemas can be asked again. For many instances, look the entry up once with
-/// [`Schemas::entry`] and call [`judge`].
+/// For documents that were added to a `Bundle` and finished, this returns and writes what
+/// [`crate::run`] does. The schemas can be used again. For many instances, look the entry up once
+/// with [`Schemas::entry`] and call [`judge`].
 ///
 /// # Errors
-/// The first that applies, of: `Entry`, where the entry is refused; `InputTooLarge`, where the
-/// instance has more than 16,777,216 bytes; `Instance`, where its text is refused; `TooLarge`, where
-/// no result stands within the limits of `js_eval`; `Write`, where the sink stands failed. `Memory`
-/// may come at any point before the first write. After `Write` a beginning of the text is out, and
-/// after any other fault nothing is. `Read`, `Refused` and `Suite` never come.
+/// The first that applies, of: `Entry`, if the entry is refused; `InputTooLarge`, if the instance has
+/// more than 16,777,216 bytes; `Instance`, if its text is refused; `TooLarge`, if no result is within
+/// the limits of `js_eval`; `Write`, if the sink has failed. `Memory` can come at any point before
+/// the first write. After `Write` a beginning of the text has been written, and after any other fault
+/// nothing. `Read`, `Refused` and `Suite` never come.
 pub fn run_finished<W: Write>(
     alloc: Global,
     schemas: &Schemas,
@@ -36,7 +36,7 @@ pub fn run_finished<W: Write>(
     format: Format,
     out: &mut Sink<W>,
 ) -> Result<bool, Fault>
-    // This is the outcome of the entry and the instance over these schemas, and its text went out.
+    // The entry and the instance have this outcome over these schemas, and its text was written.
     ensures answer { Tells telling_output
         (FinishedOutcome schemas.now entry.now format instance.now) W.contents
         out.old out.new result }
@@ -50,12 +50,12 @@ pub fn run_finished<W: Write>(
     judge(alloc, schemas, place, instance, format, out)
 }
 
-/// Whether the schema at the place accepts the instance whose text the bytes are. Writes what the
-/// format tells of it, and a line feed. This is [`run_finished`] with an entry that was looked up
-/// before.
+/// Whether the schema at the place accepts the instance with this text. Writes the output in the
+/// format, and a line feed. This is [`run_finished`] with an entry that has been looked up
+/// already.
 ///
 /// # Errors
-/// As of [`run_finished`], without `Entry`.
+/// Those of [`run_finished`], except `Entry`.
 pub fn judge<W: Write>(
     alloc: Global,
     schemas: &Schemas,
@@ -66,7 +66,7 @@ pub fn judge<W: Write>(
 ) -> Result<bool, Fault>
     requires { is_place schemas.now place ≡ true }
 
-    // This is the outcome of the instance at the place, and its text went out.
+    // The instance has this outcome at the place, and its text was written.
     ensures answer { Tells telling_output
         (InstanceOutcome schemas.now (place_at schemas.now place) format instance.now) W.contents
         out.old out.new result }

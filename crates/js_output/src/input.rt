@@ -8,21 +8,21 @@ use crate::{Fault, Source};
 use std::alloc::Global;
 use std::io::Read;
 
-/// The most bytes that are read of an input.
+/// The most bytes that an input may have.
 pub(crate) const LIMIT: usize = 16_777_216;
 
-/// All bytes up to the source's end, at most 16,777,216 of them.
+/// All bytes up to the source's end, at most 16,777,216.
 ///
-/// Answers `Fault::InputTooLarge` where a byte past these comes, `Fault::Read` where the source
-/// stands failed, before this call or by it, and `Fault::Memory` where a growth is refused. Each
-/// turn reads at least one byte or is the last.
+/// Returns `Fault::InputTooLarge` if there are more, `Fault::Read` if the source has failed, before
+/// this call or in it, and `Fault::Memory` if an allocation is refused. Each turn reads at least one
+/// byte or is the last.
 pub fn read_all<R: Read>(alloc: Global, source: &mut Source<R>) -> Result<Vec<u8>, Fault>
     ensures ok { IfOk result (λ bytes. Consumes (R.remaining source.old.device)
         (R.remaining source.new.device) bytes.items) }
     ensures end { OnOk result (IsAtEnd (R.remaining source.new.device)) }
     ensures fits { IfOk result (λ bytes. length bytes.items ≤ input_limit) }
 
-    // More bytes than the limit came.
+    // There are more bytes than the limit.
     ensures too_large { IsErrOf result Fault.InputTooLarge → (taken : List ℕ)
         × (input_limit < length taken)
         × Consumes (R.remaining source.old.device) (R.remaining source.new.device) taken }

@@ -1,4 +1,4 @@
-//! The line that a fault is told by.
+//! The line that reports a fault.
 ghost use Rattle.std.specs.Prelude.{◌≡◌, IfOk, string_bytes};
 ghost use Rattle.js_output.specs.Line.{fault_line, kind_name, refused_line, refused_at_line, instance_line, entry_line, suite_line, place_text};
 
@@ -7,8 +7,8 @@ use js_bundle::{EntryFault, Refusal, RefusalKind};
 use js_doc::{Doc, Memory, Pointer, ReadFault, Text, text};
 use std::alloc::Global;
 
-/// The one line, without a line feed, that tells a fault: what it is of, its place as JSON text
-/// where it has one, and its name. Want of memory is `failed: Memory` wherever it came.
+/// The line that reports a fault, without a line feed: what was refused or failed, the place as a
+/// JSON string if there is one, and the fault's name. Lack of memory is always `failed: Memory`.
 ///
 /// # Errors
 /// `Memory`.
@@ -115,7 +115,7 @@ fn suite(alloc: Global, fault: &SuiteFault) -> Result<String, Memory>
     }
 }
 
-// The pointer's text as JSON text.
+// The pointer as a JSON string.
 fn quoted_place(alloc: Global, place: &Pointer) -> Result<String, Memory>
     ensures { IfOk result (λ quoted. string_bytes quoted ≡ place_text place.now) }
 {

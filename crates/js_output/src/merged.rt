@@ -1,4 +1,4 @@
-//! The result of a judgement as a tree, as far as the merged format shows it.
+//! The result for an instance as a tree, as far as the merged format shows it.
 ghost use Rattle.std.specs.Prelude.{◌≡◌, true, IfErr, IfOk};
 ghost use Rattle.js_doc.specs.Seen.{value_of};
 ghost use Rattle.js_tree.specs.declared.forms.Format.TheVariants.{Merged};
@@ -12,7 +12,7 @@ use js_eval::walk;
 use js_tree::{Tree, merge_condense, prune};
 use std::alloc::Global;
 
-/// Judges the instance at the place. What the format doesn't show is taken out in place.
+/// Judges the instance at the place. What the format doesn't show is removed in place.
 pub(crate) fn merged_of<'a>(
     alloc: Global,
     schemas: &'a Schemas,

@@ -14,21 +14,21 @@ use js_tree::Format;
 use std::alloc::Global;
 use std::io::{Read, Write};
 
-/// Where the document of a pair stands.
+/// The URI of a pair's document.
 const PAIR_URI: &str = "https://a.example/s";
 
-/// Runs a pair in one input: the bytes before the first line feed are the one document, which
-/// stands at `https://a.example/s` and is the entry; the bytes after it are the instance, none
-/// without a line feed. The format is flag.
+/// Runs a pair in one input. The bytes before the first line feed are the only document; its URI,
+/// `https://a.example/s`, is the entry. The bytes after it are the instance; without a line feed
+/// there are none. The format is flag.
 ///
 /// # Errors
-/// The whole input is read first: `Read` and `InputTooLarge`. Then they are those of [`crate::run`].
+/// `Read` and `InputTooLarge`, since the whole input is read first. Then those of [`crate::run`].
 pub fn run_pair<R: Read, W: Write>(
     alloc: Global,
     input: &mut Source<R>,
     out: &mut Sink<W>,
 ) -> Result<bool, Fault>
-    // These are the input's bytes, this is their outcome, and its text went out.
+    // The input's bytes have this outcome, and its text was written.
     ensures answer { Answers telling_output PairOutcome [] (R.remaining input.old.device) W.contents
         out.old out.new result }
     ensures read { result ≢ Err Fault.Memory
@@ -36,7 +36,7 @@ pub fn run_pair<R: Read, W: Write>(
     ensures reads { input.new.calls ≤ input.old.calls + (input_limit + 1) }
     ensures source_stays { input.old.failed ≡ true → input.new ≡ input.old }
 
-    // Nothing goes out where there is no output.
+    // Without output nothing is written.
     ensures nothing { IfErr result (λ e. e ≢ Fault.Write → out.new ≡ out.old) }
     ensures unflushed { Unflushed out.old out.new }
     ensures sink_stays { out.old.failed ≡ true → out.new ≡ out.old }

@@ -1,4 +1,4 @@
-//! The places of documents, told by their absolute locations.
+//! The places of documents, as a list of their absolute locations.
 ghost use Rattle.std.specs.Prelude.{◌≡◌, ◌≢◌, ◌≤◌, ◌+◌, true, false, length, string_bytes, OnOk, IfOk, IfErr, IsErrOf};
 ghost use Rattle.std.specs.Io.KnownBytes.{Appends};
 ghost use Rattle.js_bundle.specs.Resource.{sites};
@@ -17,14 +17,14 @@ use std::alloc::Global;
 use std::io::Write;
 
 /// Writes the absolute location of each place of the documents and a line feed, in scan order
-/// (JSON Schema Core, section 12.3.2), and answers how many places there are.
+/// (JSON Schema Core, section 12.3.2), and returns how many places there are.
 ///
-/// Each document is handed in with its URI; nothing is fetched.
+/// Each document is passed in with its URI; nothing is fetched.
 ///
 /// # Errors
 /// The first that applies, of: the refusal of a document, in their order; the first refusal of all;
-/// `Write`. `Memory` may come at any point before the first write. After `Write` a beginning of the
-/// text is out, and after any other fault nothing is.
+/// `Write`. `Memory` can come at any point before the first write. After `Write` a beginning of the
+/// text has been written, and after any other fault nothing.
 pub fn run_places<W: Write>(
     alloc: Global,
     docs: &[(&str, &[u8])],
@@ -66,7 +66,7 @@ pub fn list_places(alloc: Global, schemas: &Schemas) -> Result<String, Fault>
     }
 }
 
-// What is told of places, and of how many.
+// The list of places, and how many they are.
 #[derive(Drop)]
 struct Told {
     text: String,

@@ -1,4 +1,4 @@
-//! The result of a judgement as rows, as far as a format shows them.
+//! The result for an instance as rows, as far as a format shows them.
 ghost use Rattle.std.specs.Prelude.{◌≡◌, ◌≢◌, true, IfErr, IfOk};
 ghost use Rattle.js_doc.specs.Seen.{value_of};
 ghost use Rattle.js_tree.specs.FlatState.{IsWholeTree, flat_state, whole_tree};
@@ -14,7 +14,7 @@ use js_eval::walk_into;
 use js_tree::{Flat, Format, flat_condense, flat_prune};
 use std::alloc::Global;
 
-/// Judges the instance at the place. The rows that the format doesn't show are taken out in place.
+/// Judges the instance at the place. The rows that the format doesn't show are removed in place.
 pub(crate) fn rows_of<'a>(
     alloc: Global,
     schemas: &'a Schemas,
@@ -51,7 +51,7 @@ fn walked<'a>(
     }
 }
 
-// Takes no memory.
+// Allocates nothing.
 fn trimmed<'a>(flat: Flat<'a>, format: Format) -> Flat<'a>
     requires whole { IsWholeTree (flat_state flat) }
     requires rows { format ≢ Merged }

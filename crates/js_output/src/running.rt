@@ -19,17 +19,17 @@ use js_tree::Format;
 use std::alloc::Global;
 use std::io::{Read, Write};
 
-/// Whether the schema that the entry names accepts the instance. Writes what the format tells of
-/// it, and a line feed (JSON Schema Core, section 12.4).
+/// Whether the schema that the entry names accepts the instance. Writes the output in the format,
+/// and a line feed (JSON Schema Core, section 12.4).
 ///
-/// Each document is handed in with its URI; nothing is fetched.
+/// Each document is passed in with its URI; nothing is fetched.
 ///
 /// # Errors
 /// The first that applies, of: the refusal of a document, in their order, and the first refusal of
 /// all; that of the entry; `Read` and `InputTooLarge` of the instance's source; the refusal of the
-/// instance's text; `TooLarge` where no result stands within the limits of `js_eval`; `Write`.
-/// `Memory` may come at any point before the first write. After `Write` a beginning of the text is
-/// out, and after any other fault nothing is.
+/// instance's text; `TooLarge`, if no result is within the limits of `js_eval`; `Write`. `Memory` can
+/// come at any point before the first write. After `Write` a beginning of the text has been written,
+/// and after any other fault nothing.
 pub fn run<R: Read, W: Write>(
     alloc: Global,
     docs: &[(&str, &[u8])],
@@ -38,19 +38,19 @@ pub fn run<R: Read, W: Write>(
     format: Format,
     out: &mut Sink<W>,
 ) -> Result<bool, Fault>
-    // These are the instance's bytes, this is their outcome, and its text went out.
+    // The instance's bytes have this outcome, and its text was written.
     ensures answer { Answers telling_output (Outcome (documents_of docs.now) entry.now format)
         (beginning_causes (documents_of docs.now) entry.now)
         (R.remaining instance.old.device) W.contents out.old out.new result }
 
-    // The instance is read where no fault comes before it.
+    // The instance is read unless a fault comes first.
     ensures unread { IfErr result (λ e. IsEarly e → instance.new ≡ instance.old) }
     ensures read { IsErrOf result Fault.Read → instance.new.failed ≡ true }
     ensures failed { instance.new.failed ≡ true → IsReadOrEarly result }
     ensures reads { instance.new.calls ≤ instance.old.calls + (input_limit + 1) }
     ensures source_stays { instance.old.failed ≡ true → instance.new ≡ instance.old }
 
-    // Nothing goes out where there is no output.
+    // Without output nothing is written.
     ensures nothing { IfErr result (λ e. e ≢ Fault.Write → out.new ≡ out.old) }
     ensures unflushed { Unflushed out.old out.new }
     ensures sink_stays { out.old.failed ≡ true → out.new ≡ out.old }
@@ -59,7 +59,7 @@ pub fn run<R: Read, W: Write>(
     run_read(alloc, &schemas, entry, instance, format, out)
 }
 
-// Over finished schemas: what comes of the entry, and then of the instance that the source gives.
+// Looks the entry up in finished schemas, then reads and judges the instance.
 fn run_read<R: Read, W: Write>(
     alloc: Global,
     schemas: &Schemas,
@@ -84,7 +84,7 @@ fn run_read<R: Read, W: Write>(
     judge_read(alloc, schemas, place, instance, format, out)
 }
 
-// What comes of the instance that the source gives, at the place.
+// Reads the instance and judges it at the place.
 fn judge_read<R: Read, W: Write>(
     alloc: Global,
     schemas: &Schemas,

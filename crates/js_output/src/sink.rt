@@ -1,4 +1,4 @@
-// Writers that are asked no more once they have failed.
+// Writers that aren't called again once they have failed.
 ghost use Rattle.std.specs.Prelude.{◌≡◌, ◌≤◌, ◌<◌, ◌+◌, true, false, min, ◌^◌, ◌-◌, take, length, is_err, OnOk, OnErr, IfOk, IfErr};
 ghost use Rattle.std.specs.Io.KnownBytes.{Appends, Keeps};
 ghost use Rattle.js_output.specs.Device.{AppendsBeginning, Unflushed};
@@ -8,13 +8,13 @@ use js_doc::{Out, Stopped};
 use std::io::Write;
 use std::marker::Model;
 
-/// A writer that counts its calls. From the first write that answers an error or takes no byte of
-/// some, or the first flush that answers an error, it stands failed, and is called no more.
+/// A writer that counts its calls. It has failed once a write returns an error or takes none of its
+/// bytes, or a flush returns an error, and isn't called any more.
 #[derive(Drop)]
 pub struct Sink<W: Write> {
     pub(crate) writing: Writing<W>,
     flushes: u64,
-    // Which call was the last flush, counted from 1; 0 before the first.
+    // The number of the call that was the last flush, counted from 1; 0 before the first.
     last_flush: u64,
 }
 
@@ -43,7 +43,7 @@ impl<W: Write> Model for Sink<W> {
 }
 
 impl<W: Write> Sink<W> {
-    /// A sink that was not called yet.
+    /// A sink that hasn't been called yet.
     pub fn new(device: W) -> Sink<W>
         ensures device { result.device ≡ device }
         ensures failed { result.failed ≡ false }
@@ -62,7 +62,7 @@ impl<W: Write> Sink<W> {
         }
     }
 
-    /// The device, with what it has taken.
+    /// The device, with what has been written to it.
     pub fn into_device(self) -> W
         ensures { result ≡ self.device }
     {
@@ -77,14 +77,14 @@ impl<W: Write> Sink<W> {
         self.writing.failed
     }
 
-    /// How often the device was called. The count stays at the greatest `u64`.
+    /// How often the device was called, or the greatest `u64` if that is less.
     pub fn calls(&self) -> u64
         ensures { result ≡ self.now.calls }
     {
         self.writing.calls
     }
 
-    /// How many of the calls were flushes. The count stays at the greatest `u64`.
+    /// How many of the calls were flushes, or the greatest `u64` if that is less.
     pub fn flushes(&self) -> u64
         ensures { result ≡ self.now.flushes }
     {
@@ -92,7 +92,7 @@ impl<W: Write> Sink<W> {
     }
 
     /// Writes all of the bytes, one write after another, and stops at the first that fails. After
-    /// `Fault::Write` a beginning of them is out. A sink that stands failed answers it at once.
+    /// `Fault::Write` a beginning of them has been written. A sink that has failed returns it at once.
     pub fn put(&mut self, bytes: &[u8]) -> Result<(), Fault>
         ensures ok { OnOk result
             (Appends (W.contents self.old.device) (W.contents self.new.device) bytes.now) }
@@ -110,8 +110,8 @@ impl<W: Write> Sink<W> {
         Ok(())
     }
 
-    /// Has the device pass on what it holds back: one call of it, unless the sink stands failed
-    /// already. Answers `Fault::Write` exactly where the sink then stands failed.
+    /// Flushes the device: one call of it, unless the sink has failed before. Returns `Fault::Write`
+    /// if and only if the sink has failed by then.
     pub fn flush(&mut self) -> Result<(), Fault>
         ensures bytes { Keeps (W.contents self.old.device) (W.contents self.new.device) }
         ensures fault { IfErr result (λ e. e ≡ Fault.Write) }
@@ -161,7 +161,7 @@ impl<W: Write> Writing<W> {
         Ok(())
     }
 
-    // Calls the device once with bytes, of which it has to take some.
+    // Calls the device once with some bytes; it fails unless it takes at least one.
     fn write(&mut self, bytes: &[u8]) -> Result<usize, Stopped>
         requires some { 0 < length bytes.now }
         requires stands { self.old.failed ≡ false }
@@ -187,7 +187,7 @@ impl<W: Write> Writing<W> {
     }
 }
 
-/// It stops where it stands failed.
+/// It stops once it has failed.
 impl<W: Write> Out for Writing<W> {
     ghost progress = { λ w. record {
       gone = W.contents w.device;
@@ -200,7 +200,7 @@ impl<W: Write> Out for Writing<W> {
     }
 }
 
-/// It stops where it stands failed.
+/// It stops once it has failed.
 impl<W: Write> Out for Sink<W> {
     ghost use Rattle.js_output.specs.Device.{progress_of};
 

@@ -1,4 +1,4 @@
-// Readers that are asked no more once they have failed.
+// Readers that aren't called again once they have failed.
 ghost use Rattle.std.specs.Prelude.{◌≡◌, ◌≤◌, ◌<◌, ◌+◌, ◌-◌, ◌^◌, min, true, false, is_err, IfErr};
 ghost use Rattle.std.specs.Io.{ReadsAtMost};
 ghost use Rattle.std.specs.Io.KnownBytes.{ReadConsumes};
@@ -7,8 +7,8 @@ use crate::Fault;
 use std::io::Read;
 use std::marker::Model;
 
-/// A reader that counts its calls. From the first one that answers an error it stands failed
-/// (`Interrupted` is an error too, and nothing is tried again), and is called no more.
+/// A reader that counts its calls. It has failed once a call returns an error (`Interrupted` is one
+/// too: nothing is tried again), and isn't called any more.
 #[derive(Drop)]
 pub struct Source<R: Read> {
     device: R,
@@ -33,7 +33,7 @@ impl<R: Read> Model for Source<R> {
 }
 
 impl<R: Read> Source<R> {
-    /// A source that was not called yet.
+    /// A source that hasn't been called yet.
     pub fn new(device: R) -> Source<R>
         ensures device { result.device ≡ device }
         ensures failed { result.failed ≡ false }
@@ -53,14 +53,14 @@ impl<R: Read> Source<R> {
         self.failed
     }
 
-    /// How often the device was called. The count stays at the greatest `u64`.
+    /// How often the device was called, or the greatest `u64` if that is less.
     pub fn calls(&self) -> u64
         ensures { result ≡ self.now.calls }
     {
         self.calls
     }
 
-    /// Calls the device once, unless the source stands failed.
+    /// Calls the device once, unless the source has failed.
     pub(crate) fn read(&mut self, buffer: &mut [u8]) -> Result<usize, Fault>
         ensures bound { ReadsAtMost result buffer.new }
         ensures bytes { ReadConsumes (R.remaining self.old.device) (R.remaining self.new.device)

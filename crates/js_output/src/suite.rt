@@ -21,40 +21,40 @@ use std::io::{Read, Write};
 /// Runs a suite of tests: a list of groups, each with a `description`, a `schema` and its `tests`; a
 /// test has a `description`, its `data`, and whether this is `valid`. Other members are ignored.
 ///
-/// Each document is handed in with its URI; nothing is fetched. For the group of the number `G`, from
-/// 0, its schema stands after them, at `https://suite.example/G`, and is the entry. A line is written
-/// for each test: `pass` if the verdict on its data is the one that it tells, `fail` if not, and
-/// `skip` if there is no verdict, since the group's documents are refused, the data's numbers aren't
-/// whole, or no result stands within the limits of `js_eval`; then `G.T`, `T` being the test's
-/// number in its group, and the description as JSON text. At the end stands
-/// `passed P, failed F, skipped S`; these counts are answered.
+/// Each document is passed in with its URI; nothing is fetched. The schema of group `G`, counted from
+/// 0, is added after them as `https://suite.example/G`, and is the entry. A line is written for each
+/// test: `pass` if the verdict on its data is the expected one, `fail` if it is the other one, and
+/// `skip` if there is no verdict, because the group's documents are refused, a number in the data
+/// isn't whole, or no result is within the limits of `js_eval`; then `G.T`, where `T` is the test's
+/// number in its group, and the description as a JSON string. The last line is
+/// `passed P, failed F, skipped S`; these counts are returned.
 ///
 /// # Errors
 /// The first that applies, of: the refusal of a document, in their order, and the first refusal of
-/// all, of these documents alone; `Read` and `InputTooLarge` of the suite's source; `Suite`, where
-/// its text is no JSON, or at the first value that is missing or of the wrong kind: groups in order,
-/// the members of each ascending by name, its tests in order; `Write`. `Memory` may come at any point
-/// before the first write. After `Write` a beginning of the text is out, and after any other fault
-/// nothing is.
+/// all, of these documents alone; `Read` and `InputTooLarge` of the suite's source; `Suite`, if its
+/// text isn't JSON, or at the first value that is missing or of the wrong kind: groups in order, the
+/// members of each ascending by name, its tests in order; `Write`. `Memory` can come at any point
+/// before the first write. After `Write` a beginning of the text has been written, and after any
+/// other fault nothing.
 pub fn run_suite<R: Read, W: Write>(
     alloc: Global,
     docs: &[(&str, &[u8])],
     suite: &mut Source<R>,
     out: &mut Sink<W>,
 ) -> Result<Counts, Fault>
-    // These are the suite's bytes, these are its lines, and their text went out.
+    // The suite's bytes have these lines, and their text was written.
     ensures answer { Answers telling_lines (SuiteOutcome (documents_of docs.now))
         (documents_causes (documents_of docs.now)) (R.remaining suite.old.device)
         W.contents out.old out.new result }
 
-    // The suite is read where no fault comes before it.
+    // The suite is read unless a fault comes first.
     ensures unread { IfErr result (λ e. IsEarly e → suite.new ≡ suite.old) }
     ensures read { IsErrOf result Fault.Read → suite.new.failed ≡ true }
     ensures failed { suite.new.failed ≡ true → IsReadOrEarly result }
     ensures reads { suite.new.calls ≤ suite.old.calls + (input_limit + 1) }
     ensures source_stays { suite.old.failed ≡ true → suite.new ≡ suite.old }
 
-    // Nothing goes out where there are no lines.
+    // Without lines nothing is written.
     ensures nothing { IfErr result (λ e. e ≢ Fault.Write → out.new ≡ out.old) }
     ensures unflushed { Unflushed out.old out.new }
     ensures sink_stays { out.old.failed ≡ true → out.new ≡ out.old }
@@ -64,7 +64,7 @@ pub fn run_suite<R: Read, W: Write>(
     tell_suite(alloc, docs, bytes.as_slice(), out)
 }
 
-// What comes of the suite whose text these bytes are.
+// Runs the suite with this text.
 fn tell_suite<W: Write>(
     alloc: Global,
     docs: &[(&str, &[u8])],
@@ -84,7 +84,7 @@ fn tell_suite<W: Write>(
     tell_lines(alloc, lines.as_slice(), out)
 }
 
-// All that takes memory is done before a byte goes out.
+// All allocations come before the first byte is written.
 fn tell_lines<W: Write>(alloc: Global, lines: &[Line], out: &mut Sink<W>) -> Result<Counts, Fault>
     ensures answer { SendsLines W.contents out.old out.new lines.now result }
     ensures nothing { IfErr result (λ e. e ≢ Fault.Write → out.new ≡ out.old) }

@@ -20,8 +20,8 @@ use js_bundle::Bundle;
 use js_doc::{Doc, Memory};
 use std::alloc::{AllocError, Global};
 
-/// A line for each test of the groups, in order. Each group has the documents anew, with its schema
-/// as the last one, which is the entry.
+/// A line for each test of the groups, in order. Each group has the documents to itself, with its
+/// schema as the last one, which is the entry.
 pub(crate) fn judged_lines(
     alloc: Global,
     docs: &[(&str, &[u8])],
@@ -88,7 +88,7 @@ fn judged_line(
     })
 }
 
-// The schema is judged by once its group's documents are finished, however many tests there are.
+// What a group's tests are judged by. Its documents are finished once, however many tests it has.
 fn group_entry(
     alloc: Global,
     docs: &[(&str, &[u8])],
@@ -108,7 +108,7 @@ fn group_entry(
     }
 }
 
-// Only want of memory ends the suite.
+// Only a lack of memory ends the suite.
 fn without_entry(fault: &Fault) -> Result<Option<Entry>, Memory>
     ensures none { IfOk result (λ o. o ≡ None) }
     ensures refusal { OnOk result (IsNotMemory fault.now) }
@@ -119,7 +119,7 @@ fn without_entry(fault: &Fault) -> Result<Option<Entry>, Memory>
     }
 }
 
-// The entry at the schema, which stands after the documents.
+// The group's schema, added after the documents, as the entry.
 fn entry_with(
     alloc: Global,
     docs: &[(&str, &[u8])],

@@ -1,14 +1,14 @@
-//! What is told of a suite: a line for each test, and one that counts them.
+//! The output of a suite: a line for each test, and one with the counts.
 ghost use Rattle.std.specs.Prelude.{◌≡◌, ◌++◌, OnOk, IfOk, string_bytes};
 ghost use Rattle.js_output.specs.SuiteLines.{status_word, line_text, counts_of, counts_text, lines_text};
 
 use js_doc::{Memory, Text, push_string};
 use std::alloc::Global;
 
-/// How many tests of a suite there were of each status.
+/// How many tests of a suite had each status.
 #[derive(Debug, Clone, Copy, PartialEq, Eq)]
 pub struct Counts {
-    /// The verdict was the one that the test tells.
+    /// The verdict was the expected one.
     pub passed: u64,
     /// The verdict was the other one.
     pub failed: u64,
@@ -16,7 +16,7 @@ pub struct Counts {
     pub skipped: u64,
 }
 
-/// What came of a test.
+/// The status of a test.
 #[derive(Clone, Copy)]
 pub(crate) enum Status {
     Pass,
@@ -24,7 +24,7 @@ pub(crate) enum Status {
     Skip,
 }
 
-/// What is told of a test: what came of it, the number of its group and its own in the group, each
+/// The line of a test: its status, the number of its group and its own in the group, both counted
 /// from 0, and its description.
 #[derive(Drop)]
 pub(crate) struct Line {
@@ -100,7 +100,7 @@ fn counts_text(alloc: Global, counts: Counts) -> Result<String, Memory>
     Ok(format!(in alloc; "passed {passed}, failed {failed}, skipped {skipped}\n")?)
 }
 
-/// How many lines there are of each status.
+/// How many lines have each status.
 pub(crate) fn counts_of(lines: &[Line]) -> Counts
     ensures { result ≡ counts_of lines.now }
 {

@@ -10,15 +10,15 @@ use js_doc::{Doc, Memory, Pointer, ReadFault, Text, from_value};
 use serde_json::Value;
 use std::alloc::{AllocError, AllocFailed, Global};
 
-/// Tests of one schema. There is none where its numbers aren't whole.
+/// The tests of one schema, which is `None` if one of its numbers isn't whole.
 #[derive(Drop)]
 pub(crate) struct SuiteGroup {
     pub(crate) schema: Option<Doc>,
     pub(crate) tests: Vec<SuiteTest>,
 }
 
-/// A test: whether the instance is said to be valid. There is no instance where its numbers aren't
-/// whole.
+/// A test, and whether its instance should be valid. The instance is `None` if one of its numbers
+/// isn't whole.
 #[derive(Drop)]
 pub(crate) struct SuiteTest {
     pub(crate) description: Text,
@@ -26,12 +26,12 @@ pub(crate) struct SuiteTest {
     pub(crate) valid: bool,
 }
 
-/// Why a part of a suite isn't read.
+/// Why a part of a suite can't be read.
 #[derive(Drop)]
 pub(crate) enum Misfit {
-    /// There was no memory.
+    /// Out of memory.
     Memory,
-    /// The way to the first value that is missing or of the wrong kind.
+    /// The location of the first value that is missing or of the wrong kind.
     At(Pointer),
 }
 
@@ -66,7 +66,7 @@ impl<T: Drop> From<AllocFailed<T>> for Misfit {
 }
 
 impl Misfit {
-    // It, as the value above tells it.
+    // The same, located from one level further up.
     fn lifted(self, alloc: Global, token: &str) -> Misfit
         ensures { LiftsMisfit token.now self result }
     {
@@ -80,7 +80,7 @@ impl Misfit {
     }
 }
 
-// The pointer that begins with the token and goes on so.
+// The pointer with the token in front of it.
 fn below(alloc: Global, token: &str, rest: &Pointer) -> Result<Pointer, Memory>
     ensures { IfOk result (λ p. p ≡ token.now ∷ rest.now) }
 {
@@ -92,7 +92,7 @@ fn below(alloc: Global, token: &str, rest: &Pointer) -> Result<Pointer, Memory>
     Ok(place)
 }
 
-/// The groups of the suite whose text the bytes are, or why it has none.
+/// The groups of the suite with this text, or why it can't be read.
 pub(crate) fn suite_from(alloc: Global, bytes: &[u8]) -> Result<Vec<SuiteGroup>, Fault>
     ensures ok { IfOk result (λ v. suite_reading bytes.now ≡ Ok (groups_seen v.items)) }
     ensures err { IfErr result (IsSuiteFault (suite_reading bytes.now)) }
@@ -213,7 +213,7 @@ fn truth_member(alloc: Global, value: &Value, name: &str) -> Result<bool, Misfit
     }
 }
 
-// The member, or none where its numbers aren't whole.
+// The member, or `None` if one of its numbers isn't whole.
 fn whole_member(alloc: Global, value: &Value, name: &str) -> Result<Option<Doc>, Misfit>
     ensures ok { IfOk result (Keeps (member_in Some name.now (view value.now))) }
     ensures err { IfErr result (IsMisfit (member_in Some name.now (view value.now))) }

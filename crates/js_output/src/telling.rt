@@ -1,4 +1,4 @@
-//! From the instance's text to what is answered and written.
+//! From the instance's text to the verdict and the output.
 ghost use Rattle.std.specs.Prelude.{◌≡◌, ◌≢◌, true, IfErr, IfOk};
 ghost use Rattle.js_doc.specs.Seen.{value_of};
 ghost use Rattle.js_tree.specs.declared.forms.Format.TheVariants.{Flag, Merged};
@@ -20,8 +20,8 @@ use js_tree::Format;
 use std::alloc::Global;
 use std::io::Write;
 
-/// Judges the instance whose text these bytes are by the schema at the place, and writes what the
-/// format tells of it.
+/// Judges the instance with this text by the schema at the place, and writes the output in the
+/// format.
 pub(crate) fn tell_text<W: Write>(
     alloc: Global,
     schemas: &Schemas,
@@ -72,7 +72,7 @@ fn tell_value<W: Write>(
     }
 }
 
-// The verdict is known before a byte goes out, and no tree is made.
+// The verdict is known before the first byte is written, and no tree is made.
 fn tell_verdict<W: Write>(
     alloc: Global,
     schemas: &Schemas,
@@ -94,7 +94,7 @@ fn tell_verdict<W: Write>(
     Ok(valid)
 }
 
-// All that takes memory is done before a byte goes out.
+// All allocations come before the first byte is written.
 fn tell_form<W: Write>(
     alloc: Global,
     schemas: &Schemas,
@@ -119,7 +119,7 @@ fn tell_form<W: Write>(
     Ok(valid)
 }
 
-// Siblings are compared in the tree, which is made whole before a byte goes out.
+// Siblings are compared in the tree, which is complete before the first byte is written.
 fn tell_merged<W: Write>(
     alloc: Global,
     schemas: &Schemas,

@@ -5,7 +5,7 @@ ghost use Rattle.js_output.specs.Reading.{reading, ReadsWith};
 use js_doc::{Doc, ReadFault, read};
 use std::alloc::Global;
 
-/// The value that the bytes are the text of.
+/// The value of a JSON text.
 pub(crate) fn value_from(alloc: Global, bytes: &[u8]) -> Result<Doc, ReadFault>
     ensures ok { IfOk result (λ value. reading bytes.now ≡ Ok (value_of value)) }
     ensures err { IfErr result (ReadsWith (reading bytes.now)) }

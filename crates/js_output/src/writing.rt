@@ -13,8 +13,8 @@ use js_doc::{Out, Stopped};
 use js_tree::{Flat, Format, Tree, put_flag, put_flat, put_tree};
 use std::io::Write;
 
-/// Writes what the flag format tells of a verdict (JSON Schema Core, section 12.4.1), and a line
-/// feed. It takes no memory.
+/// Writes a verdict in the flag format (JSON Schema Core, section 12.4.1), and a line feed. It
+/// allocates nothing.
 pub(crate) fn write_flag<W: Write>(valid: bool, out: &mut Sink<W>) -> Result<(), Fault>
     ensures sent { SendsOrFails W.contents out.old out.new (compact (flag valid) ++ 10 ∷ [])
         result }
@@ -28,8 +28,8 @@ pub(crate) fn write_flag<W: Write>(valid: bool, out: &mut Sink<W>) -> Result<(),
     Ok(())
 }
 
-/// Writes the compact text of what the format shows of the rows' tree, and a line feed. It takes no
-/// memory.
+/// Writes the compact text of what the format shows of the rows' tree, and a line feed. It allocates
+/// nothing.
 pub(crate) fn write_rows<W: Write>(
     flat: &Flat,
     format: Format,
@@ -48,7 +48,7 @@ pub(crate) fn write_rows<W: Write>(
     Ok(())
 }
 
-/// Writes the compact text of the tree's root node, and a line feed. It takes no memory.
+/// Writes the compact text of the tree's root node, and a line feed. It allocates nothing.
 pub(crate) fn write_tree<W: Write>(tree: &Tree, out: &mut Sink<W>) -> Result<(), Fault>
     ensures sent { SendsOrFails W.contents out.old out.new (compact (verbose tree.now) ++ 10 ∷ [])
         result }

@@ -1,12 +1,14 @@
-//! Public calls by themselves, for `hostile/run single`: it asks, refuses the growths of a call one after the other, and compares.
+//! Public calls by themselves, for `hostile/run single`, which refuses the allocations of a call one after the other
+//! and compares the answers.
 //!
-//! Standard input has two groups with U+001D between them: the documents of a bundle, and questions. A group's records have
-//! U+001E between them, and a record's words U+001F. A document is its URI and its text. A question's first word names what
-//! is asked, by the modules below; each answer goes to standard output, with U+001E after it.
+//! Standard input has two groups, separated by U+001D: the documents of a bundle, and questions. The records of a
+//! group are separated by U+001E, and the words of a record by U+001F. A document is its URI and its text. A
+//! question's first word names what is asked, by the modules below; each answer goes to standard output, followed by
+//! U+001E.
 //!
-//! On standard error goes `<` right before a call, and `>` right after it. A call that finds no memory answers `Memory`, and
-//! where something has to stand after it, what stands. The word after the test's name says which calls on the bundle itself
-//! stand between these marks: `add`, `add_doc` or `finish`, else none.
+//! Standard error gets `<` right before a call, and `>` right after it. A call that finds no memory answers `Memory`,
+//! and what is left if something must be left as it was. The word after the test's name says which calls on the
+//! bundle itself are between these marks: `add`, `add_doc` or `finish`, otherwise none.
 mod bundles;
 mod devices;
 pub mod fakes;
@@ -24,7 +26,7 @@ use std::io::Write;
 use std::test::Fail;
 use std::{env, io};
 
-/// Without words, as the gate runs each test, one pointer is asked for its fragment.
+/// Without words, as the gate runs each test, the only question is a pointer's fragment.
 #[test]
 fn by_itself(rt: HostRuntime) -> Result<(), Fail> {
     // (the program's name, and the test's)

@@ -130,7 +130,7 @@ const RUNS: [Run; 11] = [
     },
 ];
 
-/// Takes all bytes of a write at once, and `|` for a flush. Its writes may fail, and its flushes.
+/// Takes all bytes of a write at once, and adds `|` for a flush. Writes can be made to fail, and flushes.
 #[derive(Drop)]
 struct Recorder {
     taken: Vec<u8>,

@@ -1,7 +1,8 @@
 //! Tests of the library crates' calls, and nothing else: each crate that they call is proved once, without tests.
 //!
-//! `hostile/run single` asks one test, `calls::by_itself`, call after call, and compares the answers with worked examples and
-//! with the reference. `commands` runs the program's work over devices in memory; `usage` is the example of `docs/USING.md`.
+//! `hostile/run single` has one test, `calls::by_itself`, make call after call, and compares the answers with worked
+//! examples and with the reference. `commands` runs the program's work over devices in memory; `usage` is the example
+//! of `docs/USING.md`.
 #![tactic(auto)]
 
 mod words;

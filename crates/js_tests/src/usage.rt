@@ -1,4 +1,4 @@
-//! The example of docs/USING.md: check the schemas once, then ask per instance.
+//! The example of docs/USING.md: check the schemas once, then each instance.
 use js_bundle::{Bundle, Schemas};
 use js_doc::read;
 use js_eval::verdict;

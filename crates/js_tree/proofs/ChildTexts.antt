@@ -4,13 +4,12 @@ use Rattle.std.proofs.lemmas.List.{drop_more}
 use Rattle.js_doc.specs.Compact.{compact}
 use Rattle.js_doc.specs.Value.{items, list}
 use Rattle.js_tree.specs.Flat.{flat_of}
-use Rattle.js_tree.specs.FlatState.{row_of}
+use Rattle.js_tree.specs.FlatState.{FlatRow}
 use Rattle.js_tree.specs.Forest.{Forest, empty, tree, forest_of}
 use Rattle.js_tree.specs.Form.{array_of_some, node_values, verbose, value_if}
 use Rattle.js_tree.specs.code.NodeText.{given_text}
 use Rattle.js_tree.specs.OutputUnit.{OutputUnit}
 use Rattle.js_tree.specs.Result.{ResultTree}
-use Rattle.js_tree.specs.declared.flat.Row.{Row}
 use Rattle.js_tree.proofs.Marks.{take_all}
 
 pub children_text : (start : List ℕ) (here : Bool) (ts : List ResultTree) → here ≡ true → 0 < length ts → given_text start (value_if here (array_of_some (node_values (forest_of ts)))) ≡ start ++ compact (list (items (node_values (forest_of ts))))
@@ -22,17 +21,17 @@ tree_next ts i t h e = ap (λ us. node_values (forest_of us)) (drop_more ts i t 
 
 -- ---- of rows
 
-pub row_children_text : (start : List ℕ) (here : Bool) (rows : List Row) (f : Forest OutputUnit) → here ≡ true → 0 < length rows → map row_of rows ≡ flat_of f → given_text start (value_if here (array_of_some (node_values f))) ≡ start ++ compact (list (items (node_values f)))
-row_children_text start here [] f e h g = absurd (omega (arith, h))
-row_children_text start here (r ∷ rows) empty e h g = absurd cc
-row_children_text start here (r ∷ rows) (tree u below after) e h g = rw e refl
+pub row_children_text : {R : Type 0} (row_of : R → FlatRow) (start : List ℕ) (here : Bool) (rows : List R) (f : Forest OutputUnit) → here ≡ true → 0 < length rows → map row_of rows ≡ flat_of f → given_text start (value_if here (array_of_some (node_values f))) ≡ start ++ compact (list (items (node_values f)))
+row_children_text row_of start here [] f e h g = absurd (omega (arith, h))
+row_children_text row_of start here (r ∷ rows) empty e h g = absurd cc
+row_children_text row_of start here (r ∷ rows) (tree u below after) e h g = rw e refl
 
-pub no_children_text : (start : List ℕ) (here : Bool) (rows : List Row) (f : Forest OutputUnit) → length rows ≡ 0 → map row_of rows ≡ flat_of f → given_text start (value_if here (array_of_some (node_values f))) ≡ []
-no_children_text start true [] empty h g = refl
-no_children_text start false [] empty h g = refl
-no_children_text start here [] (tree u below after) h g = absurd cc
-no_children_text start here (r ∷ rows) f h g = absurd (omega (arith, h))
+pub no_children_text : {R : Type 0} (row_of : R → FlatRow) (start : List ℕ) (here : Bool) (rows : List R) (f : Forest OutputUnit) → length rows ≡ 0 → map row_of rows ≡ flat_of f → given_text start (value_if here (array_of_some (node_values f))) ≡ []
+no_children_text row_of start true [] empty h g = refl
+no_children_text row_of start false [] empty h g = refl
+no_children_text row_of start here [] (tree u below after) h g = absurd cc
+no_children_text row_of start here (r ∷ rows) f h g = absurd (omega (arith, h))
 
-pub rest_of : (rows : List Row) → take (length rows - 1) (drop 1 rows) ≡ drop 1 rows
+pub rest_of : {R : Type 0} (rows : List R) → take (length rows - 1) (drop 1 rows) ≡ drop 1 rows
 rest_of [] = refl
 rest_of (r ∷ rows) = take_all (suc (length rows) - 1) rows (omega arith)

@@ -4,13 +4,14 @@ use Rattle.std.proofs.Common.{arith, ap, sym, ◌∙◌, append-nil}
 use Rattle.std.proofs.lemmas.List.{append_assoc, length-append, length-map, map-append}
 use Rattle.js_tree.specs.Events.{closing, events, events_of, Passes, after_all}
 use Rattle.js_tree.specs.Flat.{flat, flat_of}
-use Rattle.js_tree.specs.FlatState.{FlatRow, FlatState, flat_start, opening_row, flat_opened, closed_row, with_closed, flat_closed, flat_after, row_of, open_numbers, flat_state}
+use Rattle.js_tree.specs.FlatState.{FlatRow, FlatState, flat_start, opening_row, flat_opened, closed_row, with_closed, flat_closed, flat_after, open_numbers, flat_state}
 use Rattle.js_tree.specs.Forest.{Forest, empty, tree, node_count}
 use Rattle.js_tree.specs.Note.{Note}
 use Rattle.js_tree.specs.OutputUnit.{OutputUnit}
 use Rattle.js_tree.specs.Result.{ResultTree}
-use Rattle.js_tree.specs.declared.flat.Row.{Row}
+use Rattle.js_tree.specs.LentState.{lent_state}
 use Rattle.js_tree.specs.declared.flat.Flat.{Flat}
+use Rattle.js_tree.specs.declared.lent.LentRows.{LentRows}
 use Rattle.js_tree.proofs.Telling.{passes-after_all, after_all-append}
 
 -- ---- the events of a tree
@@ -60,6 +61,9 @@ told t =
 pub flat_held : (t : ResultTree) (c d : Flat) → flat_state c ≡ flat_start → Passes (λ a e b. flat_state b ≡ flat_after (flat_state a) e) (events t) c d → flat_state d ≡ at (flat t) []
 flat_held t c d h p = passes-after_all flat_state flat_after (events t) c d p ∙ (ap (λ s. after_all flat_after s (events t)) h ∙ told t)
 
+pub lent_held : (t : ResultTree) (c d : LentRows) → lent_state c ≡ flat_start → Passes (λ a e b. lent_state b ≡ flat_after (lent_state a) e) (events t) c d → lent_state d ≡ at (flat t) []
+lent_held t c d h p = passes-after_all lent_state flat_after (events t) c d p ∙ (ap (λ s. after_all flat_after s (events t)) h ∙ told t)
+
 -- ---- the code's rows and numbers
 
 open_numbers-append : (ns : List ℕ) (n : ℕ) (ms : List ℕ) → open_numbers (ns ++ n ∷ []) ms ≡ n ∷ open_numbers ns ms
@@ -71,24 +75,24 @@ with_closed-beyond n valid note size [] le = refl
 with_closed-beyond zero valid note size (r ∷ rows) le = absurd (omega (arith, le))
 with_closed-beyond (suc n) valid note size (r ∷ rows) le = ap (λ zs. r ∷ zs) (with_closed-beyond n valid note size rows (omega (arith, le)))
 
-row_closed : (rows : List Row) (n : ℕ) (old new : Row) (valid : Bool) (note : Note) (size : ℕ) → n < length rows → old ≡ slice_index_or rows n old → row_of new ≡ closed_row (row_of old) valid note size
+row_closed : {R : Type 0} (row_of : R → FlatRow) (rows : List R) (n : ℕ) (old new : R) (valid : Bool) (note : Note) (size : ℕ) → n < length rows → old ≡ slice_index_or rows n old → row_of new ≡ closed_row (row_of old) valid note size
     → map row_of (slice_set rows n new) ≡ with_closed n valid note size (map row_of rows)
-row_closed [] n old new valid note size lt e f = absurd (omega (arith, lt))
-row_closed (y ∷ ys) zero old new valid note size lt e f = ap (λ z. z ∷ map row_of ys) (f ∙ ap (λ (z : Row). closed_row (row_of z) valid note size) e)
-row_closed (y ∷ ys) (suc n) old new valid note size lt e f = ap (λ zs. row_of y ∷ zs) (row_closed ys n old new valid note size (omega (arith, lt)) e f)
+row_closed row_of [] n old new valid note size lt e f = absurd (omega (arith, lt))
+row_closed row_of (y ∷ ys) zero old new valid note size lt e f = ap (λ z. z ∷ map row_of ys) (f ∙ ap (λ z. closed_row (row_of z) valid note size) e)
+row_closed row_of (y ∷ ys) (suc n) old new valid note size lt e f = ap (λ zs. row_of y ∷ zs) (row_closed row_of ys n old new valid note size (omega (arith, lt)) e f)
 
 popped : (rows : List FlatRow) (ns ms : List ℕ) (n : ℕ) (valid : Bool) (note : Note) (zs : List FlatRow) → ns ≡ ms ++ n ∷ [] → zs ≡ with_closed n valid note (length rows - n) rows → at zs (open_numbers ms []) ≡ flat_closed rows (open_numbers ns []) valid note
 popped rows ns ms n valid note zs e f =
     ap (λ qs. at qs (open_numbers ms [])) f ∙ ap (λ ks. flat_closed rows ks valid note) (sym (ap (λ xs. open_numbers xs []) e ∙ open_numbers-append ms n []))
 
-pub closes : (rows : List Row) (ns ms : List ℕ) (n : ℕ) (old new : Row) (valid : Bool) (note : Note) (size : ℕ) → ns ≡ ms ++ n ∷ [] → n < length rows → size ≡ length rows - n → old ≡ slice_index_or rows n old → row_of new ≡ closed_row (row_of old) valid note size
+pub closes : {R : Type 0} (row_of : R → FlatRow) (rows : List R) (ns ms : List ℕ) (n : ℕ) (old new : R) (valid : Bool) (note : Note) (size : ℕ) → ns ≡ ms ++ n ∷ [] → n < length rows → size ≡ length rows - n → old ≡ slice_index_or rows n old → row_of new ≡ closed_row (row_of old) valid note size
     → at (map row_of (slice_set rows n new)) (open_numbers ms []) ≡ flat_closed (map row_of rows) (open_numbers ns []) valid note
-closes rows ns ms n old new valid note size e lt s i f =
+closes row_of rows ns ms n old new valid note size e lt s i f =
     popped (map row_of rows) ns ms n valid note _ e
-    (row_closed rows n old new valid note size lt i f ∙ ap (λ k. with_closed n valid note k (map row_of rows)) (let l = length-map rows row_of in omega (arith, s, l)))
+    (row_closed row_of rows n old new valid note size lt i f ∙ ap (λ k. with_closed n valid note k (map row_of rows)) (let l = length-map rows row_of in omega (arith, s, l)))
 
-pub closes_beyond : (rows : List Row) (ns ms : List ℕ) (n : ℕ) (valid : Bool) (note : Note) → ns ≡ ms ++ n ∷ [] → length rows ≤ n → at (map row_of rows) (open_numbers ms []) ≡ flat_closed (map row_of rows) (open_numbers ns []) valid note
-closes_beyond rows ns ms n valid note e le =
+pub closes_beyond : {R : Type 0} (row_of : R → FlatRow) (rows : List R) (ns ms : List ℕ) (n : ℕ) (valid : Bool) (note : Note) → ns ≡ ms ++ n ∷ [] → length rows ≤ n → at (map row_of rows) (open_numbers ms []) ≡ flat_closed (map row_of rows) (open_numbers ns []) valid note
+closes_beyond row_of rows ns ms n valid note e le =
     popped (map row_of rows) ns ms n valid note _ e (sym (with_closed-beyond n valid note _ (map row_of rows) (let l = length-map rows row_of in omega (arith, le, l))))
 
 -- a list that is turned onto another isn't empty
@@ -99,11 +103,11 @@ open_numbers-there (n ∷ ns) m ms = open_numbers-there ns n (m ∷ ms)
 opened_there : (rows : List FlatRow) (ks : List ℕ) (row : FlatRow) (y : ℕ) (ys : List ℕ) → ks ≡ y ∷ ys → flat_opened rows ks row ≡ at (rows ++ row ∷ []) (length rows ∷ ks)
 opened_there rows ks row y ys e = ap (λ qs. flat_opened rows qs row) e ∙ (opened_below rows y ys row ∙ ap (λ qs. at (rows ++ row ∷ []) (length rows ∷ qs)) (sym e))
 
-pub opens : (rows new : List Row) (ns ms : List ℕ) (r : Row) (row : FlatRow) (n : ℕ) → (length ns ≡ 0 → length rows ≡ 0) → row_of r ≡ row → new ≡ rows ++ r ∷ [] → ms ≡ ns ++ n ∷ [] → n ≡ length rows
+pub opens : {R : Type 0} (row_of : R → FlatRow) (rows new : List R) (ns ms : List ℕ) (r : R) (row : FlatRow) (n : ℕ) → (length ns ≡ 0 → length rows ≡ 0) → row_of r ≡ row → new ≡ rows ++ r ∷ [] → ms ≡ ns ++ n ∷ [] → n ≡ length rows
     → at (map row_of new) (open_numbers ms []) ≡ flat_opened (map row_of rows) (open_numbers ns []) row
-opens [] new [] ms r row n h f e d l = ap (λ qs. at (map row_of qs) (open_numbers ms [])) e ∙ (ap (λ qs. at (row_of r ∷ []) (open_numbers qs [])) d ∙ (ap (λ q. at (q ∷ []) (n ∷ [])) f ∙ ap (λ q. at (row ∷ []) (q ∷ [])) l))
-opens (y ∷ ys) new [] ms r row n h f e d l = let a : suc (length ys) ≡ 0 = h refl in absurd (omega (arith, a))
-opens rows new (x ∷ xs) ms r row n h f e d l =
+opens row_of [] new [] ms r row n h f e d l = ap (λ qs. at (map row_of qs) (open_numbers ms [])) e ∙ (ap (λ qs. at (row_of r ∷ []) (open_numbers qs [])) d ∙ (ap (λ q. at (q ∷ []) (n ∷ [])) f ∙ ap (λ q. at (row ∷ []) (q ∷ [])) l))
+opens row_of (y ∷ ys) new [] ms r row n h f e d l = let a : suc (length ys) ≡ 0 = h refl in absurd (omega (arith, a))
+opens row_of rows new (x ∷ xs) ms r row n h f e d l =
     let w = open_numbers-there xs x [] in
     let a : map row_of new ≡ map row_of rows ++ row ∷ [] = ap (map row_of) e ∙ (map-append row_of rows (r ∷ []) ∙ ap (λ q. map row_of rows ++ q ∷ []) f) in
     let b : open_numbers ms [] ≡ n ∷ open_numbers (x ∷ xs) [] = ap (λ qs. open_numbers qs []) d ∙ open_numbers-append (x ∷ xs) n [] in
@@ -116,6 +120,6 @@ none_open [] e = refl
 none_open (n ∷ ns) e = let w = open_numbers-there ns n [] in let k = w.2 in absurd cc
 
 -- a row is made only where a node is open or there is no row
-pub made_in_time : (rows : List Row) (ns : List ℕ) → (length ns ≡ 0 → length rows ≡ 0) → map row_of rows ≢ [] → open_numbers ns [] ≡ [] → ⊥
-made_in_time [] ns h there none = there refl
-made_in_time (r ∷ rows) ns h there none = let l : suc (length rows) ≡ 0 = h (ap length (none_open ns none)) in absurd (omega (arith, l))
+pub made_in_time : {R : Type 0} (row_of : R → FlatRow) (rows : List R) (ns : List ℕ) → (length ns ≡ 0 → length rows ≡ 0) → map row_of rows ≢ [] → open_numbers ns [] ≡ [] → ⊥
+made_in_time row_of [] ns h there none = there refl
+made_in_time row_of (r ∷ rows) ns h there none = let l : suc (length rows) ≡ 0 = h (ap length (none_open ns none)) in absurd (omega (arith, l))

@@ -146,7 +146,7 @@ head_of x y xs ys e = cc
 pub row_at : (rows : List Row) (f : Forest OutputUnit) (n : ℕ) (d : Row) → map row_of rows ≡ flat_of f → n < length rows → (a : At n f) → row_of (get_or rows n d) ≡ (a.unit, suc (node_count a.below))
 row_at rows f n d e h a =
     head_of (row_of (get_or rows n d)) (a.unit, suc (node_count a.below)) (map row_of (drop (n + 1) rows)) (flat_of a.below ++ flat_of a.after)
-    (ap (map row_of) (sym (drop_more rows n d h)) ∙ (map-drop n rows ∙ (ap (drop n) e ∙ (sym (flat_of-from n f) ∙ ap flat_of a.is))))
+    (ap (map row_of) (sym (drop_more rows n d h)) ∙ (map-drop row_of n rows ∙ (ap (drop n) e ∙ (sym (flat_of-from n f) ∙ ap flat_of a.is))))
 
 pub rows_of : (rows : List Row) (f : Forest OutputUnit) → map row_of rows ≡ flat_of f → length rows ≡ node_count f
 rows_of rows f e = sym (length-map rows row_of) ∙ (ap length e ∙ length-flat_of f)
@@ -425,7 +425,7 @@ take_length zero rows h = refl
 take_length (suc n) [] h = absurd (omega (arith, h))
 take_length (suc n) (r ∷ rows) h = ap suc (take_length n rows (omega (arith, h)))
 
-pub take_all : (n : ℕ) (rows : List Row) → length rows ≤ n → take n rows ≡ rows
+pub take_all : {R : Type 0} (n : ℕ) (rows : List R) → length rows ≤ n → take n rows ≡ rows
 take_all zero [] h = refl
 take_all zero (r ∷ rows) h = absurd (omega (arith, h))
 take_all (suc n) [] h = refl

@@ -50,7 +50,7 @@ ends_there (tree u below after) g =
 pub goes_on : (rows : List Row) (n left all : ℕ) (f g : Forest OutputUnit) (x : Row) → map row_of (drop n rows) ≡ flat_of g → n < length rows → x ≡ get_or rows n x → x.size ≤ left → ends_after left g ≡ ends_after all f
     → (h : Forest OutputUnit) × (map row_of (drop (n + x.size) rows) ≡ flat_of h) × (ends_after (left - x.size) h ≡ ends_after all f)
 goes_on rows n left all f g x e lt is fits same =
-    let t = first_tree rows n g x e lt is in
+    let t = first_tree row_of rows n g x e lt is in
     let m : left - x.size ≡ left - suc (node_count t.below) = omega (arith, t.size) in
     (t.after, t.more, ap (λ n. ends_after n t.after) m ∙ (sym (ends_at left t.unit t.below t.after (omega (arith, t.size, fits))) ∙ (ap (ends_after left) (sym t.is) ∙ same)))
 
@@ -60,7 +60,7 @@ ends_nowhere (suc n) f h e = rw e refl
 
 -- no tree is left
 pub none_left : (rows : List Row) (n left : ℕ) (g : Forest OutputUnit) → map row_of (drop n rows) ≡ flat_of g → length rows ≤ n → 0 < left → ends_after left g ≡ false
-none_left rows n left g e h some = ends_nowhere left g some (all_gone rows n g e h)
+none_left rows n left g e h some = ends_nowhere left g some (all_gone row_of rows n g e h)
 
 -- ---- a row before trees
 
@@ -78,26 +78,26 @@ is_root rows n x h e lt is some ends =
     )
 
 pub root_sized : (rows : List Row) (n : ℕ) (x : Row) (f : Forest OutputUnit) → map row_of (drop n rows) ≡ flat_of f → n < length rows → x ≡ get_or rows n x → 0 < x.size
-root_sized rows n x f e lt is = let t = first_tree rows n f x e lt is in omega (arith, t.size)
+root_sized rows n x f e lt is = let t = first_tree row_of rows n f x e lt is in omega (arith, t.size)
 
 -- its tree ends where one of those does, if it is a root
 pub root_ends : (rows : List Row) (n : ℕ) (x : Row) (f : Forest OutputUnit) (r : Bool) → map row_of (drop n rows) ≡ flat_of f → n < length rows → x ≡ get_or rows n x
     → ((g : Forest OutputUnit) → map row_of (drop (n + 1) rows) ≡ flat_of g → r ≡ ends_after (x.size - 1) g) → r ≡ true
 root_ends rows n x f r e lt is h =
-    let t = first_tree rows n f x e lt is in
+    let t = first_tree row_of rows n f x e lt is in
     let s : x.size - 1 ≡ node_count t.below = omega (arith, t.size) in
     h (t.below ⊹ t.after) (t.next ∙ sym (flat_of-append t.below t.after)) ∙ (ap (λ m. ends_after m (t.below ⊹ t.after)) s ∙ ends_there t.below t.after)
 
 -- ---- all rows
 
 pub from_there : (rows : List Row) (n : ℕ) (f : Forest OutputUnit) → map row_of rows ≡ flat_of f → (g : Forest OutputUnit) × (map row_of (drop n rows) ≡ flat_of g)
-from_there rows n f e = (from n f, map-drop n rows ∙ (ap (drop n) e ∙ sym (flat_of-from n f)))
+from_there rows n f e = (from n f, map-drop row_of n rows ∙ (ap (drop n) e ∙ sym (flat_of-from n f)))
 
 -- a tree that has all of the nodes stands alone
 pub alone : (rows : List Row) (x : Row) (f : Forest OutputUnit) → map row_of rows ≡ flat_of f → 0 < length rows → x ≡ get_or rows 0 x → x.size ≡ length rows → (t : ResultTree) × (map row_of rows ≡ flat t)
 alone rows x f e lt is s =
-    let t = first_tree rows 0 f x e lt is in
-    let gone : t.after ≡ empty = all_gone rows (0 + x.size) t.after t.more (omega (arith, s)) in
+    let t = first_tree row_of rows 0 f x e lt is in
+    let gone : t.after ≡ empty = all_gone row_of rows (0 + x.size) t.after t.more (omega (arith, s)) in
     (record { root = t.unit; below = t.below }, e ∙ (ap flat_of t.is ∙ (ap (λ g. flat_of (tree t.unit t.below g)) gone ∙ sym (flat-flat_of (record { root = t.unit; below = t.below })))))
 
 -- a tree has all of the nodes

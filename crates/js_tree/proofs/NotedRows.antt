@@ -1,13 +1,12 @@
 -- The units with a note, of a tree and of its rows.
 use Rattle.std.proofs.Common.{◌≡◌, Bool, true, false, if◌then◌else◌, List, [], ◌∷◌, ◌++◌, ℕ, ◌+◌, ◌<◌, ◌≤◌, length, drop, get_or, map, refl, ap, sym, ◌∙◌}
 use Rattle.js_tree.specs.Flat.{flat, flat_of}
-use Rattle.js_tree.specs.FlatState.{FlatRow, noted_of, row_of}
+use Rattle.js_tree.specs.FlatState.{FlatRow, noted_of}
 use Rattle.js_tree.specs.Form.{node_value}
 use Rattle.js_tree.specs.Forest.{Forest, empty, tree}
 use Rattle.js_tree.specs.OutputUnit.{OutputUnit, noted}
 use Rattle.js_tree.specs.Result.{ResultTree, kept, units}
 use Rattle.js_tree.specs.Units.{units_below}
-use Rattle.js_tree.specs.declared.flat.Row.{Row}
 use Rattle.js_tree.proofs.KeptTree.{units-kept}
 use Rattle.js_tree.proofs.Pieces.{seen_next, seen_all}
 
@@ -38,13 +37,13 @@ leaves_at : (r : FlatRow) (rows : List FlatRow) (b : Bool) → noted r.0 ≡ b �
 leaves_at r rows true e = rw e refl
 leaves_at r rows false e = rw e refl
 
-pub leaf_next : (rows : List Row) (i : ℕ) (x : Row) → i < length rows → x ≡ get_or rows i x → noted x.unit ≡ true
-    → map (λ u. node_value u []) (noted_of (map row_of (drop i rows))) ≡ node_value x.unit [] ∷ map (λ u. node_value u []) (noted_of (map row_of (drop (i + 1) rows)))
-leaf_next rows i x h is e = ap (λ rs. map (λ u. node_value u []) (noted_of rs)) (seen_next row_of rows i x h is) ∙ leaves_at (row_of x) (map row_of (drop (i + 1) rows)) true e
+pub leaf_next : {R : Type 0} (row_of : R → FlatRow) (rows : List R) (i : ℕ) (x : R) → i < length rows → x ≡ get_or rows i x → noted (row_of x).0 ≡ true
+    → map (λ u. node_value u []) (noted_of (map row_of (drop i rows))) ≡ node_value (row_of x).0 [] ∷ map (λ u. node_value u []) (noted_of (map row_of (drop (i + 1) rows)))
+leaf_next row_of rows i x h is e = ap (λ rs. map (λ u. node_value u []) (noted_of rs)) (seen_next row_of rows i x h is) ∙ leaves_at (row_of x) (map row_of (drop (i + 1) rows)) true e
 
-pub leaf_skipped : (rows : List Row) (i : ℕ) (x : Row) → i < length rows → x ≡ get_or rows i x → noted x.unit ≡ false
+pub leaf_skipped : {R : Type 0} (row_of : R → FlatRow) (rows : List R) (i : ℕ) (x : R) → i < length rows → x ≡ get_or rows i x → noted (row_of x).0 ≡ false
     → map (λ u. node_value u []) (noted_of (map row_of (drop i rows))) ≡ map (λ u. node_value u []) (noted_of (map row_of (drop (i + 1) rows)))
-leaf_skipped rows i x h is e = ap (λ rs. map (λ u. node_value u []) (noted_of rs)) (seen_next row_of rows i x h is) ∙ leaves_at (row_of x) (map row_of (drop (i + 1) rows)) false e
+leaf_skipped row_of rows i x h is e = ap (λ rs. map (λ u. node_value u []) (noted_of rs)) (seen_next row_of rows i x h is) ∙ leaves_at (row_of x) (map row_of (drop (i + 1) rows)) false e
 
-pub no_leaf : (rows : List Row) (i : ℕ) → length rows ≤ i → map (λ u. node_value u []) (noted_of (map row_of (drop i rows))) ≡ []
-no_leaf rows i h = ap (λ rs. map (λ u. node_value u []) (noted_of rs)) (seen_all row_of rows i h)
+pub no_leaf : {R : Type 0} (row_of : R → FlatRow) (rows : List R) (i : ℕ) → length rows ≤ i → map (λ u. node_value u []) (noted_of (map row_of (drop i rows))) ≡ []
+no_leaf row_of rows i h = ap (λ rs. map (λ u. node_value u []) (noted_of rs)) (seen_all row_of rows i h)

@@ -1,6 +1,5 @@
 -- What only private functions speak of: no public clause cites it.
 pub mod Compacting
-pub mod Held
 pub mod Nesting
 pub mod NodeText
 pub mod Order

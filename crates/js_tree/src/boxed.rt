@@ -1,5 +1,5 @@
 //! The whole tree of a result.
-ghost use Rattle.std.specs.Prelude.{◌≡◌, ◌<◌, ◌≤◌, ◌+◌, ◌++◌, ◌∷◌, [], vec_capacity, vec_len};
+ghost use Rattle.std.specs.Prelude.{◌≡◌};
 ghost use Rattle.js_tree.specs.BoxedState.{frame_of, unit_of};
 ghost use Rattle.js_tree.specs.Seen.{note_of};
 
@@ -91,29 +91,20 @@ impl<'a> Collector<'a> for Boxed<'a> {
                 }
                 Some(mut parent) => match parent.children.reserve(1) {
                     Ok(()) => {
-                        push_within(&mut parent.children, closed(node, valid, note));
-                        push_within(&mut self.nodes, parent);
+                        // There is room for both.
+                        let _ = parent.children.push(closed(node, valid, note));
+                        let _ = self.nodes.push(parent);
                         Ok(())
                     }
                     Err(refused) => {
-                        push_within(&mut self.nodes, parent);
-                        push_within(&mut self.nodes, node);
+                        let _ = self.nodes.push(parent);
+                        let _ = self.nodes.push(node);
                         Err(Memory::from(refused))
                     }
                 },
             },
         }
     }
-}
-
-/// Adds an item for which there is room.
-fn push_within<T: Drop>(items: &mut Vec<T>, item: T)
-    requires { vec_len items.old < vec_capacity items.old }
-    ensures items { items.new.items ≡ items.old.items ++ item ∷ [] }
-    ensures len { vec_len items.new ≡ vec_len items.old + 1 }
-    ensures capacity { vec_capacity items.old ≤ vec_capacity items.new }
-{
-    let _ = items.push(item);
 }
 
 /// The tree of a node that closes.

@@ -1,19 +1,18 @@
 //! What takes a result node by node.
 ghost use Rattle.std.specs.Prelude.{IfOk};
 
-use crate::location::Location;
 use crate::note::Note;
-use js_doc::Memory;
+use js_doc::{Memory, Text};
 
 /// Where a node stands (Core, sections 12.3.1 to 12.3.3).
 #[derive(Debug, Drop)]
 pub struct Head {
     /// The keyword location: the way through the schema, references included.
-    pub keyword: Location,
+    pub keyword: Text,
     /// The absolute keyword location: the keyword's own place, as a URI with a fragment.
-    pub absolute: Location,
+    pub absolute: Text,
     /// The instance location: the place of the value that is judged.
-    pub instance: Location,
+    pub instance: Text,
 }
 
 /// What takes the events of a result: each node opens, then its children come in their order, and then it closes.

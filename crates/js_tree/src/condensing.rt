@@ -63,7 +63,7 @@ fn condense_one(tree: &mut Tree) -> bool
     }
     match tree.children.pop() {
         Some(child) => {
-            tree.replace_by(child);
+            *tree = child;
             true
         }
         None => false,

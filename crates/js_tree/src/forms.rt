@@ -155,20 +155,10 @@ pub(crate) fn node_doc(alloc: Global, unit: &Unit, children: Vec<Doc>) -> Result
         alloc,
         &mut members,
         "absoluteKeywordLocation",
-        unit.absolute.as_str(),
+        &unit.absolute,
     )?;
-    put_text_member(
-        alloc,
-        &mut members,
-        "instanceLocation",
-        unit.instance.as_str(),
-    )?;
-    put_text_member(
-        alloc,
-        &mut members,
-        "keywordLocation",
-        unit.keyword.as_str(),
-    )?;
+    put_text_member(alloc, &mut members, "instanceLocation", &unit.instance)?;
+    put_text_member(alloc, &mut members, "keywordLocation", &unit.keyword)?;
     put_member(alloc, &mut members, "valid", Doc::Truth(unit.valid))?;
     Ok(Doc::Members(members))
 }
@@ -178,7 +168,7 @@ fn put_note(alloc: Global, members: &mut Members, note: &Note) -> Result<(), Mem
 {
     match note {
         Note::Silent => Ok(()),
-        Note::Error(reason) => put_text_member(alloc, members, "error", reason.as_str()),
+        Note::Error(reason) => put_text_member(alloc, members, "error", reason),
         Note::Value(value) => put_member(alloc, members, "annotation", value.copy(alloc)?),
         Note::Names(names) => put_member(
             alloc,
@@ -232,12 +222,11 @@ fn put_text_member(
     alloc: Global,
     members: &mut Members,
     name: &str,
-    value: &str,
+    value: &Text,
 ) -> Result<(), Memory>
     ensures { OnOk result (members.new ≡ put name.now (text value.now) members.old) }
 {
-    let text = Text::new(String::from_str(alloc, value)?);
-    put_member(alloc, members, name, Doc::Text(text))
+    put_member(alloc, members, name, Doc::Text(value.copy()?))
 }
 
 fn put_member(alloc: Global, members: &mut Members, name: &str, doc: Doc) -> Result<(), Memory>

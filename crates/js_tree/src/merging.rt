@@ -72,7 +72,7 @@ fn merge_one(tree: &mut Tree) -> bool
     }
     match tree.children.pop() {
         Some(child) => {
-            tree.replace_by(child);
+            *tree = child;
             true
         }
         None => false,

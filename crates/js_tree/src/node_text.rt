@@ -1,25 +1,15 @@
 //! The text of a node piece by piece, in the ascending order of its members (Core, section 12.3).
-ghost use Rattle.std.specs.Prelude.{◌++◌, [], codes, false, map, pos, true};
+ghost use Rattle.std.specs.Prelude.{◌++◌, codes, false, map, pos, true};
 ghost use Rattle.js_doc.specs.BytesOut.{Puts};
 ghost use Rattle.js_doc.specs.Compact.{comma_if, compact, quoted};
 ghost use Rattle.js_doc.specs.Seen.{value_of};
 ghost use Rattle.js_doc.specs.Value.{items, list, text, whole};
-ghost use Rattle.js_tree.specs.Form.{node_value};
 ghost use Rattle.js_tree.specs.code.NodeText.{annotation_part, beginning_text, end_text, error_part, head_text, tail_text, valid_text};
 ghost use Rattle.js_tree.specs.Seen.{note_of};
 
 use crate::note::Note;
 use crate::unit::Unit;
 use js_doc::{Doc, Out, Stopped, Whole, put_number, put_string, put_text};
-
-/// Puts a node without children.
-pub(crate) fn put_leaf<O: Out>(unit: &Unit, out: &mut O) -> Result<(), Stopped>
-    ensures { Puts (O.progress out.old) (O.progress out.new) (compact (node_value unit.now [])) result }
-{
-    put_head(unit, out)?;
-    put_error(&unit.note, out)?;
-    put_tail(unit, out)
-}
 
 /// Puts the members before `annotations`.
 pub(crate) fn put_head<O: Out>(unit: &Unit, out: &mut O) -> Result<(), Stopped>

@@ -4,38 +4,43 @@ ghost use Rattle.js_doc.specs.BytesOut.{Puts};
 ghost use Rattle.js_doc.specs.Compact.{compact};
 ghost use Rattle.js_doc.specs.Value.{items, list};
 ghost use Rattle.js_tree.specs.Flat.{flat, flat_of};
-ghost use Rattle.js_tree.specs.FlatState.{noted_of, row_of};
+ghost use Rattle.js_tree.specs.FlatState.{noted_of};
 ghost use Rattle.js_tree.specs.Forest.{Forest};
 ghost use Rattle.js_tree.specs.Form.{array_of_some, node_value, node_values, unit_list, verbose, value_if};
 ghost use Rattle.js_tree.specs.code.NodeText.{given_text, list_start};
 ghost use Rattle.js_tree.specs.OutputUnit.{OutputUnit};
 ghost use Rattle.js_tree.specs.Result.{ResultTree};
 
-use crate::flat::Row;
-use crate::node_text::{put_comma, put_error, put_head, put_leaf, put_tail, put_valid};
+use crate::line::Line;
+use crate::node_text::{put_comma, put_valid};
 use js_doc::{Out, Stopped};
 
 /// Puts the tree of the rows.
 #[cycle(put_root)]
-pub(crate) fn put_root<O: Out>(rows: &[Row], out: &mut O) -> Result<(), Stopped>
-    requires { (t : ResultTree) × (map row_of rows.now ≡ flat t) }
-    ensures { (t : ResultTree) → map row_of rows.now ≡ flat t → Puts (O.progress out.old) (O.progress out.new) (compact (verbose t)) result }
+pub(crate) fn put_root<L: Line, O: Out>(rows: &[L], out: &mut O) -> Result<(), Stopped>
+    requires { (t : ResultTree) × (map L.flat_row rows.now ≡ flat t) }
+    ensures { (t : ResultTree) → map L.flat_row rows.now ≡ flat t → Puts (O.progress out.old) (O.progress out.new) (compact (verbose t)) result }
 {
     let row = &rows[0];
-    let unit = &row.unit;
     let below = &rows[1..];
-    put_head(unit, out)?;
-    put_children(unit.valid, b",\"annotations\":", below, out)?;
-    put_error(&unit.note, out)?;
-    put_children(!unit.valid, b",\"errors\":", below, out)?;
-    put_tail(unit, out)
+    let valid = row.is_valid();
+    row.put_head(out)?;
+    put_children(valid, b",\"annotations\":", below, out)?;
+    row.put_error(out)?;
+    put_children(!valid, b",\"errors\":", below, out)?;
+    row.put_tail(out)
 }
 
 /// Puts the trees of the rows, if there are any and they belong here, after what stands before their list.
 #[cycle(put_root)]
-fn put_children<O: Out>(here: bool, start: &[u8], rows: &[Row], out: &mut O) -> Result<(), Stopped>
-    requires { (f : Forest OutputUnit) × (map row_of rows.now ≡ flat_of f) }
-    ensures { (f : Forest OutputUnit) → map row_of rows.now ≡ flat_of f → Puts (O.progress out.old) (O.progress out.new) (given_text start.now (value_if here (array_of_some (node_values f)))) result }
+fn put_children<L: Line, O: Out>(
+    here: bool,
+    start: &[u8],
+    rows: &[L],
+    out: &mut O,
+) -> Result<(), Stopped>
+    requires { (f : Forest OutputUnit) × (map L.flat_row rows.now ≡ flat_of f) }
+    ensures { (f : Forest OutputUnit) → map L.flat_row rows.now ≡ flat_of f → Puts (O.progress out.old) (O.progress out.new) (given_text start.now (value_if here (array_of_some (node_values f)))) result }
 {
     if !here {
         return Ok(());
@@ -49,9 +54,9 @@ fn put_children<O: Out>(here: bool, start: &[u8], rows: &[Row], out: &mut O) -> 
 
 /// Puts the trees of the rows as an array.
 #[cycle(put_root)]
-fn put_roots<O: Out>(rows: &[Row], out: &mut O) -> Result<(), Stopped>
-    requires { (f : Forest OutputUnit) × (map row_of rows.now ≡ flat_of f) }
-    ensures { (f : Forest OutputUnit) → map row_of rows.now ≡ flat_of f → Puts (O.progress out.old) (O.progress out.new) (compact (list (items (node_values f)))) result }
+fn put_roots<L: Line, O: Out>(rows: &[L], out: &mut O) -> Result<(), Stopped>
+    requires { (f : Forest OutputUnit) × (map L.flat_row rows.now ≡ flat_of f) }
+    ensures { (f : Forest OutputUnit) → map L.flat_row rows.now ≡ flat_of f → Puts (O.progress out.old) (O.progress out.new) (compact (list (items (node_values f)))) result }
 {
     out.put(b"[")?;
     let mut later = false;
@@ -59,7 +64,7 @@ fn put_roots<O: Out>(rows: &[Row], out: &mut O) -> Result<(), Stopped>
     while next < rows.len() {
         put_comma(later, out)?;
         let row = &rows[next];
-        let end = next + row.size;
+        let end = next + row.size();
         put_root(&rows[next..end], out)?;
         later = true;
         next = end;
@@ -68,15 +73,15 @@ fn put_roots<O: Out>(rows: &[Row], out: &mut O) -> Result<(), Stopped>
 }
 
 /// Puts the verdict and the units with a note, each as a node without children, as an object.
-pub(crate) fn put_units<O: Out>(rows: &[Row], out: &mut O) -> Result<(), Stopped>
-    requires { (t : ResultTree) × (map row_of rows.now ≡ flat t) }
-    ensures { (t : ResultTree) → map row_of rows.now ≡ flat t → Puts (O.progress out.old) (O.progress out.new) (compact (unit_list t)) result }
+pub(crate) fn put_units<L: Line, O: Out>(rows: &[L], out: &mut O) -> Result<(), Stopped>
+    requires { (t : ResultTree) × (map L.flat_row rows.now ≡ flat t) }
+    ensures { (t : ResultTree) → map L.flat_row rows.now ≡ flat t → Puts (O.progress out.old) (O.progress out.new) (compact (unit_list t)) result }
 {
-    let row = &rows[0];
-    let root = &row.unit;
-    put_list_name(root.valid, out)?;
+    let root = &rows[0];
+    let valid = root.is_valid();
+    put_list_name(valid, out)?;
     put_noted(rows, out)?;
-    put_valid(root.valid, out)
+    put_valid(valid, out)
 }
 
 fn put_list_name<O: Out>(valid: bool, out: &mut O) -> Result<(), Stopped>
@@ -90,18 +95,27 @@ fn put_list_name<O: Out>(valid: bool, out: &mut O) -> Result<(), Stopped>
 }
 
 /// Puts the units with a note, each as a node without children, as an array.
-fn put_noted<O: Out>(rows: &[Row], out: &mut O) -> Result<(), Stopped>
-    ensures { Puts (O.progress out.old) (O.progress out.new) (compact (list (items (map (λ u. node_value u []) (noted_of (map row_of rows.now)))))) result }
+fn put_noted<L: Line, O: Out>(rows: &[L], out: &mut O) -> Result<(), Stopped>
+    ensures { Puts (O.progress out.old) (O.progress out.new) (compact (list (items (map (λ u. node_value u []) (noted_of (map L.flat_row rows.now)))))) result }
 {
     out.put(b"[")?;
     let mut later = false;
     for row in rows {
-        if !row.unit.is_noted() {
+        if !row.is_noted() {
             continue;
         }
         put_comma(later, out)?;
-        put_leaf(&row.unit, out)?;
+        put_leaf(row, out)?;
         later = true;
     }
     out.put(b"]")
+}
+
+/// Puts a node without children.
+fn put_leaf<L: Line, O: Out>(row: &L, out: &mut O) -> Result<(), Stopped>
+    ensures { Puts (O.progress out.old) (O.progress out.new) (compact (node_value (L.flat_row row.now).0 [])) result }
+{
+    row.put_head(out)?;
+    row.put_error(out)?;
+    row.put_tail(out)
 }

@@ -119,14 +119,6 @@ impl<'a> Tree<'a> {
     {
         self.unit.is_noted() || self.children.len() >= 2
     }
-
-    /// Another tree takes its place.
-    pub(crate) fn replace_by(&mut self, tree: Tree<'a>)
-        ensures { self.new ≡ tree.entry }
-    {
-        *self = tree;
-    }
-
     /// The place that was noted last.
     pub(crate) fn mark(&self) -> usize {
         self.children.mark.get()

@@ -4,8 +4,8 @@ ghost use Rattle.js_tree.specs.FlatState.{closed_unit};
 ghost use Rattle.js_tree.specs.OutputUnit.{noted};
 ghost use Rattle.js_tree.specs.Seen.{note_of};
 
-use crate::location::Location;
 use crate::note::Note;
+use js_doc::Text;
 use std::marker::Model;
 
 /// An output unit (Core, section 12.3): a verdict, where it was reached, and what there is to say of it. Contracts see
@@ -15,11 +15,11 @@ pub struct Unit<'a> {
     /// The node passes.
     pub valid: bool,
     /// The keyword location: the way through the schema, references included.
-    pub keyword: Location,
+    pub keyword: Text,
     /// The absolute keyword location: the keyword's own place, as a URI with a fragment.
-    pub absolute: Location,
+    pub absolute: Text,
     /// The instance location: the place of the value that is judged.
-    pub instance: Location,
+    pub instance: Text,
     /// The error or the annotation.
     pub note: Note<'a>,
 }

@@ -1,4 +1,4 @@
--- What a session answers to each call, what it holds afterwards, and which text stands.
+-- What a session answers to each call, and what it and its text are afterwards.
 use Rattle.std.specs.Prelude.{◌≡◌, ℕ, List, [], ◌∷◌, ◌++◌, length, slice_get, Some, Result, Ok, Err, Bool, true, false, ⊤}
 use Rattle.std.specs.Str.{IsUtf8}
 use Rattle.js_tree.specs.declared.forms.Format.{Format}
@@ -22,7 +22,7 @@ use Rattle.jschema_c.specs.declared.status.Status.{Status}
 use Rattle.jschema_c.specs.declared.status.Status.TheVariants as status
 use Rattle.jschema_c.specs.Status.{format_number}
 
--- ---- what is answered, and the text
+-- ---- the status, and the text
 
 -- a fault of an input, and not of memory or a device
 abbrev pub IsRefusal : Fault → Type 0

@@ -1,4 +1,5 @@
-//! jschema for C: schema documents are added and finished once, then instances are checked. The header is `c/jschema.h`.
+//! jschema for C: schema documents are added and finished once, then instances are checked. The header is
+//! `c/jschema.h`.
 #![tactic(auto)]
 
 ghost use Rattle.std.specs.Prelude.{◌≡◌, ◌≢◌, None, IfSome, length};
@@ -16,7 +17,7 @@ use session::Session;
 use status::Status;
 use std::alloc::Global;
 
-/// Begins anew: no documents, in place of what the handle held.
+/// Begins anew, without documents. What the handle held is dropped.
 #[unsafe(no_mangle)]
 pub extern "C" fn jschema_new(alloc: Global, handle: &mut Handle) -> u32
     ensures made { result ≡ code Status.Done → IfSome handle.new.value IsNew }
@@ -51,7 +52,7 @@ pub extern "C" fn jschema_add(
     status.code()
 }
 
-/// Finishes the documents. If one is refused, all are as they were.
+/// Finishes the documents. If one is refused, all stay as they were.
 #[unsafe(no_mangle)]
 pub extern "C" fn jschema_finish(alloc: Global, handle: &mut Handle) -> u32
     ensures { OnHandle SessionFinishes handle.old.value handle.new.value result }

@@ -12,12 +12,12 @@ use js_tree::Format;
 use std::alloc::Global;
 use std::mem::replace;
 
-/// Documents that are added, or the schemas of finished ones.
+/// Documents, or the schemas of finished ones.
 #[derive(Drop)]
 pub enum Phase {
-    /// Documents are added.
+    /// Documents can be added.
     Adding(Bundle),
-    /// Instances are checked.
+    /// Instances can be checked.
     Finished(Schemas),
 }
 
@@ -233,7 +233,7 @@ fn judged(
     }
 }
 
-// The status of what a call came to. The text is the line of its fault, or none.
+// The status of a call's result. The text is the line of its fault, or none.
 fn answered(alloc: Global, came: Result<Status, Fault>, text: &mut Vec<u8, Global>) -> Status
     ensures { Says [] came result text.new.items }
 {
@@ -244,7 +244,7 @@ fn answered(alloc: Global, came: Result<Status, Fault>, text: &mut Vec<u8, Globa
     }
 }
 
-// Says the fault by its line.
+// The status of a fault, whose line becomes the text.
 fn say(alloc: Global, fault: &Fault, text: &mut Vec<u8, Global>) -> Status
     ensures { SaysFault fault.now result text.new.items }
 {

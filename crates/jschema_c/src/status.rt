@@ -7,7 +7,7 @@ use js_tree::Format;
 /// What a call answers.
 #[derive(Debug, Clone, Copy, PartialEq, Eq)]
 pub enum Status {
-    /// The call did what it is for. Of a check: the instance is valid.
+    /// Done. Of a check: the instance is valid.
     Done,
     /// The instance is invalid.
     Invalid,

@@ -1,4 +1,4 @@
-"""What comes of each instance."""
+"""The result of each instance."""
 from __future__ import annotations
 
 from collections import deque

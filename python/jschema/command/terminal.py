@@ -38,7 +38,7 @@ class Progress:
         self._next = 0.0
 
     def show(self, done: int) -> None:
-        """Draws that so many are done."""
+        """Draws how many are done."""
         if not self._is_shown or time.monotonic() < self._next:
             return
         self._next = time.monotonic() + _PAUSE

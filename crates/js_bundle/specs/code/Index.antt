@@ -1,7 +1,7 @@
 -- What finds places by their keys. Of the places with one key it finds the first, in scan order.
-use Rattle.std.specs.Prelude.{◌≡◌, ℕ, ◌<◌, ◌^◌, List, [], ◌∷◌, ◌++◌, Option, Some, None, option_map, option_and_then, option_to_list, bytes_eq, codes, decimal, string_bytes, if◌then◌else◌}
+use Rattle.std.specs.Prelude.{◌≡◌, ℕ, ◌<◌, ◌^◌, List, [], ◌∷◌, ◌++◌, Option, Some, None, option_map, option_and_then, option_to_list, bytes_eq, codes, decimal, if◌then◌else◌}
 use Rattle.std.specs.List.{AllByRecursion, list_any, position_from}
-use Rattle.std.specs.Map.{lookup}
+use Rattle.std.specs.BTreeMap.{get_by_text}
 use Rattle.std.specs.Option.{option_or}
 use Rattle.js_doc.specs.Pointer.{Tokens, pointer_text}
 use Rattle.js_doc.specs.PointerReading.{pointer_of}
@@ -17,7 +17,7 @@ use Rattle.js_bundle.specs.Url.{printed}
 -- ---- numbers under texts
 
 abbrev pub number_of_key : Numbering → Text → Option ℕ
-number_of_key numbers key = lookup (λ k. bytes_eq key (string_bytes k)) numbers.first.entries
+number_of_key numbers key = get_by_text numbers.first key
 
 -- each of the keys has the number, unless it had one before
 pub record ArePut (old : Numbering) (keys : List Text) (n : ℕ) (new : Numbering) : Type 0 where

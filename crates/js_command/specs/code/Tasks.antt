@@ -19,7 +19,7 @@ request_seen (task.Check c) = check c.format c.instance.now c.entry.now (pairs_s
 request_seen (task.Suite s) = suite s.file.now (pairs_seen s.documents.items)
 request_seen (task.Places ds) = places (pairs_seen ds.items)
 
--- why the words ask for nothing; want of memory may come at any time
+-- why the words ask for nothing; lack of memory can come at any time
 abbrev pub IsMisuse : Result Request Misuse → Misuse → Type 0
 IsMisuse asked misuse.Memory = ⊤
 IsMisuse asked m = asked ≡ Err m
@@ -36,7 +36,7 @@ first_fault (Err f) after = Err f
 first_fault (Ok a) (Err f) = Err f
 first_fault (Ok a) (Ok b) = Ok a
 
--- what a task answers where the input stands failed
+-- what a task answers if the input has failed
 abbrev pub IsReadOrMemory : Result Bool Fault → Type 0
 IsReadOrMemory (Err fault.Memory) = ⊤
 IsReadOrMemory (Err fault.Read) = ⊤

@@ -4,7 +4,7 @@ ghost use Rattle.std.specs.String.Boundary.{IsSplitPoint};
 ghost use Rattle.js_doc.specs.Pointer.{escape};
 
 use crate::walking::unseen::Unseen;
-use js_doc::{Memory, push_token};
+use js_doc::Memory;
 use std::alloc::Global;
 use std::snapshot::Snapshot;
 
@@ -60,7 +60,8 @@ impl PointerText for HeldText {
 
     #[inline(never)]
     fn push_name(&mut self, token: &str) -> Result<(), Memory> {
-        push_token(&mut self.text, token)
+        self.text.push('/')?;
+        push_escaped(&mut self.text, token)
     }
 
     #[inline(never)]
@@ -76,6 +77,19 @@ impl PointerText for HeldText {
     fn cut(&mut self, mark: usize) {
         self.text.truncate(mark);
     }
+}
+
+fn push_escaped(out: &mut String, token: &str) -> Result<(), Memory>
+    ensures { OnOk result (string_bytes out.new ≡ string_bytes out.old ++ escape token.now) }
+{
+    for c in token.chars() {
+        match c {
+            '~' => out.push_str("~0")?,
+            '/' => out.push_str("~1")?,
+            _ => out.push(c)?,
+        }
+    }
+    Ok(())
 }
 
 /// A text that nobody reads, and that contracts alone see: for a walk of which no location is wanted.

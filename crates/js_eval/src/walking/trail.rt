@@ -1,10 +1,10 @@
 //! Where a walk is in the schemas, or in the instance.
-ghost use Rattle.std.specs.Prelude.{◌≡◌, ◌++◌, ◌∷◌, [], OnOk, decimal, length, take};
+ghost use Rattle.std.specs.Prelude.{◌≡◌, ◌++◌, ◌∷◌, [], IfOk, OnOk, decimal, length, take};
 ghost use Rattle.std.specs.String.Boundary.{IsSplitPoint};
 ghost use Rattle.js_doc.specs.Pointer.{escape};
 
 use crate::walking::pointer_text::{HeldText, PointerText};
-use js_doc::Memory;
+use js_doc::{Memory, Text};
 use std::alloc::Global;
 use std::marker::Model;
 
@@ -68,9 +68,10 @@ impl<H: PointerText + Drop> Trail<H> {
 
 impl Trail<HeldText> {
     /// The text as it is now.
-    pub fn as_str(&self) -> &str
-        ensures { result.now ≡ self.now }
+    pub fn copy(&self) -> Result<Text, Memory>
+        ensures { IfOk result (λ t. t ≡ self.now) }
     {
-        self.held.text.as_str()
+        let text = self.held.text.clone()?;
+        Ok(Text::new(text))
     }
 }

@@ -1,4 +1,5 @@
--- Words for the parts of the judging of a suite: what the code keeps of a group's entry, and what comes of a test there.
+-- Words for the parts of the judging of a suite: what the code keeps of a group's entry, and what comes of a test
+-- there.
 use Rattle.std.specs.Prelude.{◌≡◌, ℕ, Option, Some, None, option_map, Bool, true, false, ⊤}
 use Rattle.js_doc.specs.Value.{Value}
 use Rattle.js_bundle.specs.Document.{Documents}
@@ -28,12 +29,12 @@ abbrev pub IsStatusAt : Option rust.Entry → Option Value → Bool → Status �
 IsStatusAt (Some e) (Some v) valid status = IsStatusOn e.schemas (place_at e.schemas e.place) v valid status
 IsStatusAt _ _ valid status = status ≡ Skip
 
--- another fault than want of memory
+-- a fault other than lack of memory
 abbrev pub IsNotMemory : Fault → Type 0
 IsNotMemory fault.Memory = ⊥
 IsNotMemory _ = ⊤
 
--- the verdict that was found, and the one that is told
+-- the verdict that was found, and the expected one
 abbrev pub compared : Bool → Bool → Status
 compared true true = Pass
 compared false false = Pass

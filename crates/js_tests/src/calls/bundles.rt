@@ -1,4 +1,4 @@
-//! A bundle made of documents: after a refusal it takes the same document, and is finished, once more.
+//! A bundle made of documents. After an allocation is refused, the call is made once more.
 use super::telling::{mark_begin, mark_end};
 use super::words_of;
 use crate::word_at;
@@ -6,7 +6,8 @@ use js_bundle::{Bundle, Refusal, RefusalKind, Schemas};
 use js_doc::{Doc, read};
 use std::test::Fail;
 
-/// The schemas of the documents. Where a marked call finds no memory, `Memory` is told first, and it is made again.
+/// The schemas of the documents. If a marked call finds no memory, `Memory` is written first, and the call is made
+/// again.
 pub fn finished_schemas(
     rt: &HostRuntime,
     marked: &str,
@@ -77,7 +78,7 @@ fn add_bytes(
     Ok(())
 }
 
-// The same of a value: what comes back is handed in again.
+// The same with a value: the one that comes back is passed in again.
 fn add_value(
     rt: &HostRuntime,
     bundle: &mut Bundle,

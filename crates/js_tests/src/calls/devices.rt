@@ -1,5 +1,6 @@
-//! Whole runs over devices in memory. The words of a question: what is run, its entry, its input; the read that fails, and
-//! `interrupted` where it says so; how many bytes the writer takes a call, and the write or flush that fails.
+//! Whole runs over devices in memory. The words of a question: what is run, its entry, its input; the read that
+//! fails, and `interrupted` if it fails that way; how many bytes the writer takes a call, and the write or flush that
+//! fails.
 use super::fakes::{SlowReader, SlowWriter};
 use super::telling::{mark_begin, mark_end};
 use super::trees::format_named;
@@ -12,8 +13,8 @@ use std::alloc::Global;
 use std::io::{ErrorKind, Read, Write};
 use std::test::Fail;
 
-/// What the run answers, and how often its reader and its writer were called; what one more `read_all` and a flush answer, how
-/// often they were called then, and whether the source and the sink have failed; and what was written.
+/// What the run answers, and how often its reader and its writer were called; what one more `read_all` and a flush
+/// answer, how often they were called then, and whether the source and the sink have failed; and what was written.
 pub fn answer(rt: &HostRuntime, documents: &str, words: &[&str]) -> Result<String, Fail> {
     let alloc = rt.alloc();
     let kind = match word_at(words, 4) {

@@ -1,11 +1,11 @@
-//! Devices that move a byte a call, and fail at one call or never.
+//! Devices that move one byte a call, and fail at one call or never.
 ghost use Rattle.std.specs.Prelude.{Some};
 
 use std::alloc::Global;
 use std::io;
 use std::io::{ErrorKind, Read, Write};
 
-/// Gives a byte a call. The call `fails_at`, counted from 1, answers an error of this kind.
+/// Reads one byte a call. The call `fails_at`, counted from 1, returns an error of this kind.
 #[derive(Drop)]
 pub struct SlowReader<'a> {
     pub rest: &'a [u8],
@@ -41,7 +41,7 @@ impl Read for SlowReader<'_> {
     }
 }
 
-/// Takes at most `step` bytes a call. The call `fails_at`, be it a write or a flush, answers an error.
+/// Writes at most `step` bytes a call. The call `fails_at`, whether a write or a flush, returns an error.
 #[derive(Drop)]
 pub struct SlowWriter {
     pub got: Vec<u8>,

@@ -10,7 +10,7 @@ use js_tree::{Flat, Format, flat_condense, flat_doc, flat_prune, flat_units, put
 use std::alloc::Global;
 use std::test::Fail;
 
-/// What the call answers on the rows, for a format of what that format shows.
+/// What the call answers on the rows; if it takes a format, on what that format shows of them.
 pub fn answer(rt: &HostRuntime, call: &str, format: &str, flat: Flat) -> Result<String, Fail> {
     let flat = whole(flat)?;
     match call {
@@ -55,7 +55,7 @@ fn trimmed<'a>(rows: Flat<'a>, format: Format) -> Result<Flat<'a>, Fail>
     }
 }
 
-// (a text has its room before it is put out)
+// (the text's memory is reserved before it is written)
 fn formatted(rt: &HostRuntime, call: &str, format: Format, flat: Flat) -> Result<String, Fail>
     requires { IsWholeTree (flat_state flat) }
 {

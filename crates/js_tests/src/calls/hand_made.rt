@@ -1,4 +1,5 @@
-//! Result trees by hand. The words of a question: the value of a note, the events of a tree, the call, and with what.
+//! Result trees made by hand. The words of a question: the value of a note, the events of a tree, the call, and its
+//! argument.
 use super::telling::{mark_begin, mark_end};
 use super::{flat_lists, trees};
 use crate::word_at;
@@ -80,7 +81,7 @@ fn note_of<'a>(alloc: Global, sign: char, value: &'a Doc) -> Result<Note<'a>, Fa
     })
 }
 
-// What a verdict holds of a failing root over a passing node, told of texts that are made before.
+// The verdict on a failing root over a passing node. Their texts are made before the marked call.
 fn told_by_events(rt: &HostRuntime) -> Result<String, Fail> {
     let root = head(rt.alloc(), 'r')?;
     let node = head(rt.alloc(), 'a')?;

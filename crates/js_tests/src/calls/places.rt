@@ -1,5 +1,5 @@
-//! What finished schemas answer at a place. The words of a question: the URI of an entry, what is asked of the place that it
-//! names, and with what.
+//! What finished schemas answer at a place. The words of a question: the URI of an entry, the call on the place that
+//! it names, and its argument.
 ghost use Rattle.std.specs.Prelude.{◌≡◌, true};
 ghost use Rattle.js_bundle.specs.Schemas.{is_place};
 
@@ -74,7 +74,7 @@ fn location(alloc: Global, schemas: &Schemas, place: Option<Place>) -> Result<St
     }
 }
 
-// Where a place stands, its schema and its keywords.
+// The location of a place, its schema and its keywords.
 fn standing(rt: &HostRuntime, schemas: &Schemas, place: Place) -> Result<String, Fail>
     requires { is_place schemas.now place ≡ true }
 {
@@ -97,7 +97,7 @@ fn standing(rt: &HostRuntime, schemas: &Schemas, place: Place) -> Result<String,
     )?)
 }
 
-// What stands at a step, by both calls that say it, and its schema.
+// The place at a step, by both calls that find it, and its schema.
 fn below(
     rt: &HostRuntime,
     schemas: &Schemas,
@@ -184,8 +184,8 @@ fn target(rt: &HostRuntime, schemas: &Schemas, place: Place) -> Result<String, F
     location(rt.alloc(), schemas, led_to)
 }
 
-// Where `$dynamicRef` leads at the end of a path of places, whose URIs are the words from the third on: by the path, and by the
-// numbers of its resources.
+// Where `$dynamicRef` leads at the end of a path of places, whose URIs are the words from the third on: by the path,
+// and by the numbers of its resources.
 fn dynamic_target(
     rt: &HostRuntime,
     schemas: &Schemas,

@@ -1,5 +1,5 @@
-//! Walks of a value at an entry, and calls on the result. The words of a question: the URI of the entry, the value's text, the call,
-//! and with what.
+//! Walks of a value at an entry, and calls on the result. The words of a question: the URI of the entry, the value's
+//! text, the call, and its argument.
 ghost use Rattle.std.specs.Prelude.{◌≡◌, true};
 ghost use Rattle.js_bundle.specs.Schemas.{is_place};
 
@@ -52,7 +52,7 @@ fn judged<'a>(
     }
 }
 
-// The walk itself is asked by `walk` and `walk_into_boxed`.
+// `walk` and `walk_into_boxed` test the walk itself.
 fn on_tree<'a>(
     rt: &HostRuntime,
     schemas: &'a Schemas,
@@ -85,7 +85,7 @@ fn on_tree<'a>(
     }
 }
 
-// The walk itself is asked by `walk_into_flat`.
+// `walk_into_flat` tests the walk itself.
 fn on_rows<'a>(
     rt: &HostRuntime,
     schemas: &'a Schemas,
@@ -108,7 +108,7 @@ fn on_rows<'a>(
     }
 }
 
-/// Takes as many calls as are left, and refuses the next.
+/// Accepts as many calls as are left, and refuses the next.
 #[derive(Drop)]
 struct Refusing {
     left: usize,
@@ -130,7 +130,7 @@ impl<'a> Collector<'a> for Refusing {
     }
 }
 
-// How many calls are left of so many, or the fault.
+// How many of `calls` are left after the walk, or the fault.
 fn refused<'a>(
     rt: &HostRuntime,
     schemas: &'a Schemas,

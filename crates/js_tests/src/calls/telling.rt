@@ -1,11 +1,11 @@
-//! The marks around a call, and how its answer is told.
+//! The marks around a call, and how its answer is written.
 use js_doc::{Doc, text};
 use std::alloc::Global;
 use std::fmt::Debug;
 use std::io::Write;
 use std::test::Fail;
 
-/// The call comes next: from here on growths are refused.
+/// The call comes next: from here on allocations are refused.
 pub fn mark_begin(rt: &HostRuntime) {
     let _ = rt.stderr().write(b"<");
 }

@@ -9,7 +9,7 @@ use js_tree::{
 use std::alloc::Global;
 use std::test::Fail;
 
-/// What the call answers on the tree. `more` is a format or moves, for those that take some.
+/// What the call answers on the tree. `more` is a format or moves, for the calls that take them.
 pub fn answer(rt: &HostRuntime, call: &str, more: &str, tree: Tree) -> Result<String, Fail> {
     match call {
         "units" => {
@@ -55,7 +55,7 @@ pub fn told_units(alloc: Global, found: Result<Vec<&Unit>, Memory>) -> Result<St
     Ok(lines)
 }
 
-// (a text has its room before it is put out)
+// (the text's memory is reserved before it is written)
 fn formatted(rt: &HostRuntime, call: &str, format: &str, tree: Tree) -> Result<String, Fail> {
     let alloc = rt.alloc();
     if call == "put_tree" {
@@ -121,7 +121,8 @@ fn moved(rt: &HostRuntime, call: &str, moves: &str, tree: Tree) -> Result<String
     }
 }
 
-// The moves of a text: with spaces between, `drop`, `lift` or `merge` for the rule of those that come next, or a position.
+// The moves in a text, separated by spaces: positions, and `drop`, `lift` or `merge` for the rule of the positions
+// after it.
 fn moves_of(alloc: Global, text: &str) -> Result<Vec<Move>, Fail> {
     let mut moves = Vec::new(alloc);
     let mut rule = Rule::Drop;

@@ -1,4 +1,4 @@
-//! js_doc's and js_assert's calls. The words of a question: the call, and the texts that it is made on.
+//! Calls of js_doc and js_assert. The words of a question: the call, and the texts that it takes.
 use super::telling::{mark_begin, mark_end, told_text, told_value};
 use crate::word_at;
 use js_assert::{Assertion, Pattern};
@@ -9,7 +9,7 @@ use js_doc::{
 use serde_json::Value;
 use std::test::Fail;
 
-/// More bytes than the texts of questions have.
+/// More bytes than any text of a question has.
 pub const ROOM: usize = 16_777_216;
 
 pub fn answer(rt: &HostRuntime, words: &[&str]) -> Result<String, Fail> {
@@ -63,7 +63,7 @@ fn value_made(rt: &HostRuntime, call: &str, source: &str) -> Result<String, Fail
     }
 }
 
-// (a text has its room before it is put out)
+// (the text's memory is reserved before it is written)
 fn value_seen(rt: &HostRuntime, call: &str, source: &str, more: &str) -> Result<String, Fail> {
     let alloc = rt.alloc();
     let doc = read(alloc, source.as_bytes())?;
@@ -96,7 +96,7 @@ fn value_seen(rt: &HostRuntime, call: &str, source: &str, more: &str) -> Result<
     }
 }
 
-// An object into which `true` is put under a name; or the value of a name, and the first name of all.
+// An object after `true` is put under a name; or the value under a name, and the first name of all.
 fn members_called(rt: &HostRuntime, call: &str, object: &str, name: &str) -> Result<String, Fail> {
     let alloc = rt.alloc();
     let Doc::Members(mut members) = read(alloc, object.as_bytes())? else {
@@ -164,7 +164,7 @@ fn pointer_called(rt: &HostRuntime, call: &str, source: &str, token: &str) -> Re
     told_text(alloc, made)
 }
 
-// A token as pointers and fragments have it, or a text as JSON has it.
+// A token as it stands in pointers and fragments, or a text as a JSON string.
 fn text_pushed(rt: &HostRuntime, call: &str, text: &str) -> Result<String, Fail> {
     let mut out = String::new(rt.alloc());
     mark_begin(rt);

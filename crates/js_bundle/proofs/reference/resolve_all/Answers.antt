@@ -1,10 +1,11 @@
-use Rattle.std.proofs.Common.{◌+◌, ◌∙◌, codes, map, drop, arith}
+use Rattle.std.proofs.Common.{◌+◌, ◌∙◌, codes, map, drop, nat_eq, arith}
 use Rattle.std.specs.List.{flat_map}
 use Rattle.std.proofs.lemmas.Result.{err_from_is_err_and}
-use Rattle.js_bundle.specs.Finding.{number_of_target, dynamic_at}
+use Rattle.indexmap.specs.IndexMap.{get}
+use Rattle.js_bundle.specs.Finding.{number_of_target, dynamic_at, under_number}
 use Rattle.js_bundle.specs.Refusals.{at_references, second_pass}
 use Rattle.js_bundle.specs.code.Scan.{site_of}
-use Rattle.js_bundle.proofs.Columns.{column_told, column_whole}
+use Rattle.js_bundle.proofs.Columns.{column_next, column_told, column_whole}
 use Rattle.js_bundle.proofs.NamesOf.{names_are}
 use Rattle.js_bundle.proofs.Stopping.{leads_past, leads_stop}
 use Rattle.js_bundle.proofs.Passes.{leads_next, dynamic_same}
@@ -29,6 +30,11 @@ targets_of-requires-clause-names c =
     names_are ss l.i x table.names.items table.ends.items c.part-names.result.now c.as_slice.result.now c.as_slice-in-loop-i.result.now c.requires.keywords (omega arith) c.index-sites-i.is
     c.as_slice.ensures.value c.as_slice-in-loop-i.ensures.value c.part-names.ensures
 
+pub keep-requires : goal.keep-requires
+keep-requires c =
+    let l = c.loop-i in
+    column_next (dynamic_at (map site_of c.args.sites.now)) c.args.sites.now l.i (get nat_eq l.dynamic) l.invariant.dynamic
+
 pub loop-i-preserved : goal.loop-i-preserved
 loop-i-preserved c =
     let l = c.loop-i in
@@ -38,16 +44,15 @@ loop-i-preserved c =
     record {
       leads = leads_past (second_pass all) (at_references all (site_of x)) (flat_map (at_references all) (map site_of (drop (l.i + 1) ss)))
           (leads_next (at_references all) ss l.i x (second_pass all) (omega arith) c.index-sites-i.is l.invariant.leads) c.in_ok-targets.ensures.clear;
-      dynamic = column_told (dynamic_at all) ss l.i x l.dynamic.items c.tell.new.column.items c.dynamic_of.result (omega arith) c.index-sites-i.is c.in_ok-tell.ensures
-          (c.dynamic_of.ensures ∙ dynamic_same all (site_of x) c.in_ok-targets.targets.by_name c.in_ok-targets.targets.dynamic c.in_ok-targets.ensures.by_name c.in_ok-targets.ensures.dynamic) l.invariant.dynamic;
-      dynamic_long = c.in_ok-tell.ensures.long;
-      plain = column_told (number_of_target all (codes "$ref")) ss l.i x l.plain.items c.tell-in-loop-i.new.column.items c.in_ok-targets.targets.plain (omega arith) c.index-sites-i.is c.in_ok-tell-2.ensures
+      dynamic = column_told (dynamic_at all) ss l.i x (get nat_eq l.dynamic) (get nat_eq c.keep.new.dynamic) c.dynamic_of-reference.result (omega arith) c.index-sites-i.is c.in_ok-keep.ensures
+          (c.dynamic_of-reference.ensures ∙ dynamic_same all (site_of x) c.in_ok-targets.targets.by_name c.in_ok-targets.targets.dynamic c.in_ok-targets.ensures.by_name c.in_ok-targets.ensures.dynamic) l.invariant.dynamic;
+      plain = column_told (number_of_target all (codes "$ref")) ss l.i x (under_number l.plain.items) (under_number c.tell.new.column.items) c.in_ok-targets.targets.plain (omega arith) c.index-sites-i.is c.in_ok-tell.ensures.told
           c.in_ok-targets.ensures.plain l.invariant.plain;
-      plain_long = c.in_ok-tell-2.ensures.long;
+      plain_long = c.in_ok-tell.ensures.long;
     }
 
 pub returns-clause-dynamic : goal.returns-clause-dynamic
-returns-clause-dynamic c = column_whole (dynamic_at (map site_of c.args.sites.now)) c.args.sites.now c.loop-i.i c.loop-i.dynamic.items (omega arith) c.loop-i.invariant.dynamic
+returns-clause-dynamic c = column_whole (dynamic_at (map site_of c.args.sites.now)) c.args.sites.now c.loop-i.i (get nat_eq c.loop-i.dynamic) (omega arith) c.loop-i.invariant.dynamic
 
 pub returns-clause-plain : goal.returns-clause-plain
-returns-clause-plain c = column_whole (number_of_target (map site_of c.args.sites.now) (codes "$ref")) c.args.sites.now c.loop-i.i c.loop-i.plain.items (omega arith) c.loop-i.invariant.plain
+returns-clause-plain c = column_whole (number_of_target (map site_of c.args.sites.now) (codes "$ref")) c.args.sites.now c.loop-i.i (under_number c.loop-i.plain.items) (omega arith) c.loop-i.invariant.plain

@@ -1,7 +1,8 @@
-use Rattle.std.proofs.Common.{◌≡◌, codes, map, sym, ap, subst, ◌∙◌}
+use Rattle.std.proofs.Common.{◌≡◌, codes, map, nat_eq, sym, ap, subst, ◌∙◌}
 use Rattle.std.proofs.lemmas.Result.{err_from_is_err_and}
+use Rattle.indexmap.specs.IndexMap.{get}
 use Rattle.js_bundle.specs.AssertionsAndPatterns.{assertions_at, patterns_at}
-use Rattle.js_bundle.specs.Finding.{dynamic_at, number_of_target}
+use Rattle.js_bundle.specs.Finding.{dynamic_at, number_of_target, under_number}
 use Rattle.js_bundle.specs.KeywordName.{keyword_names}
 use Rattle.js_bundle.specs.Location.{location}
 use Rattle.js_bundle.specs.Resource.{sites}
@@ -108,7 +109,7 @@ returns-clause-dynamic c =
     let first : map site_of c.as_slice.result.now ≡ sites ds =
     lists_all ds (map site_of c.as_slice.result.now) (ap (map site_of) c.as_slice.ensures.value ∙ c.in_ok-sites.ensures) c.in_ok-passed.ensures.clear in
     let second : map site_of c.as_slice-2.result.now ≡ sites ds = ap (map site_of) (c.as_slice-2.ensures.value ∙ sym c.as_slice.ensures.value) ∙ first in
-    subst (λ ss. IsColumn c.in_ok-found.found.references.dynamic.items (dynamic_at ss) ss) second c.in_ok-found.ensures.dynamic
+    subst (λ ss. IsColumn (get nat_eq c.in_ok-found.found.references.dynamic) (dynamic_at ss) ss) second c.in_ok-found.ensures.dynamic
 
 pub returns-clause-plain : goal.returns-clause-plain
 returns-clause-plain c =
@@ -116,7 +117,7 @@ returns-clause-plain c =
     let first : map site_of c.as_slice.result.now ≡ sites ds =
     lists_all ds (map site_of c.as_slice.result.now) (ap (map site_of) c.as_slice.ensures.value ∙ c.in_ok-sites.ensures) c.in_ok-passed.ensures.clear in
     let second : map site_of c.as_slice-2.result.now ≡ sites ds = ap (map site_of) (c.as_slice-2.ensures.value ∙ sym c.as_slice.ensures.value) ∙ first in
-    subst (λ ss. IsColumn c.in_ok-found.found.references.plain.items (number_of_target ss (codes "$ref")) ss) second c.in_ok-found.ensures.plain
+    subst (λ ss. IsColumn (under_number c.in_ok-found.found.references.plain.items) (number_of_target ss (codes "$ref")) ss) second c.in_ok-found.ensures.plain
 
 pub returns-clause-locations : goal.returns-clause-locations
 returns-clause-locations c =

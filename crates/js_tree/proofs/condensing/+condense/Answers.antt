@@ -62,7 +62,7 @@ condense_one-returns-in-Some t c =
     opened (record { root = c.tree.inside.unit; below = forest_of c.tree.inside.children }) c.args.tree.now c.tree.view_is
     ∙ one_goes noted c.tree.inside.unit (forest_of c.tree.inside.children) (forest_of c.condense_children.new.children) c.condense_children.ensures s
     ∙ ap forest_of (only_last c.condense_children.new.children c.pop.new.self c.in-Some.child c.in-Some.ensures few)
-    ∙ ap (λ v. node v.root v.below empty) (sym c.replace_by.ensures)
+    ∙ ap (λ v. node v.root v.below empty) (sym c.drop.view_is)
 
 pub condense_one-returns-in-None : goal.condense_one-returns-in-None
 condense_one-returns-in-None t c =

@@ -54,4 +54,4 @@ merge_one-returns-in-Some t c =
     ap (λ v. given_trees noted same_but_keyword (node v.root v.below empty)) (sym c.tree.view_is)
     ∙ one_passed noted same_but_keyword c.tree.inside.unit (forest_of c.tree.inside.children) (forest_of c.merge_children.new.children) c.merge_children.ensures s
     ∙ ap forest_of (only_last c.merge_children.new.children c.pop.new.self c.in-Some.child c.in-Some.ensures few)
-    ∙ ap (λ v. node v.root v.below empty) (sym c.replace_by.ensures)
+    ∙ ap (λ v. node v.root v.below empty) (sym c.drop.view_is)

@@ -16,8 +16,8 @@ root_doc-returns t c =
     let u = c.index-rows-0.result.unit in
     IfOk-weaker c.node_doc.result _ _
     (λ doc p t' e.
-    p ∙ (ap (node_value u) (c.in_ok-children.ensures t'.below (ap (map row_of) (rest_of rows) ∙ rows_below rows t' e))
-    ∙ ap (λ u. node_value u (node_values t'.below)) (root_row rows t' c.index-rows-0.result e c.index-rows-0.is)))
+    p ∙ (ap (node_value u) (c.in_ok-children.ensures t'.below (ap (map row_of) (rest_of rows) ∙ rows_below row_of rows t' e))
+    ∙ ap (λ u. node_value u (node_values t'.below)) (root_row row_of rows t' c.index-rows-0.result e c.index-rows-0.is)))
     c.node_doc.ensures
 
 pub root_docs-overflow_add-end : goal.root_docs-overflow_add-end
@@ -26,7 +26,7 @@ root_docs-overflow_add-end t' c =
     let rows = c.args.rows.now in
     let x = c.index-rows-next.result in
     let w = l.invariant.1 c.requires.0 c.requires.1 in
-    let t = first_tree rows l.next w.0 x w.1 c.loop-next-test.true c.index-rows-next.is in
+    let t = first_tree row_of rows l.next w.0 x w.1 c.loop-next-test.true c.index-rows-next.is in
     omega (arith, t.fits)
 
 pub root_docs-slice_bounds-root_doc-end : goal.root_docs-slice_bounds-root_doc-end
@@ -35,7 +35,7 @@ root_docs-slice_bounds-root_doc-end t' c =
     let rows = c.args.rows.now in
     let x = c.index-rows-next.result in
     let w = l.invariant.1 c.requires.0 c.requires.1 in
-    let t = first_tree rows l.next w.0 x w.1 c.loop-next-test.true c.index-rows-next.is in
+    let t = first_tree row_of rows l.next w.0 x w.1 c.loop-next-test.true c.index-rows-next.is in
     t.fits
 
 pub root_docs-root_doc-requires : goal.root_docs-root_doc-requires
@@ -44,7 +44,7 @@ root_docs-root_doc-requires t' c =
     let rows = c.args.rows.now in
     let x = c.index-rows-next.result in
     let w = l.invariant.1 c.requires.0 c.requires.1 in
-    let t = first_tree rows l.next w.0 x w.1 c.loop-next-test.true c.index-rows-next.is in
+    let t = first_tree row_of rows l.next w.0 x w.1 c.loop-next-test.true c.index-rows-next.is in
     let one : ResultTree = record { root = t.unit; below = t.below } in
     let size : l.next + x.size - l.next ≡ x.size = omega arith in
     let all_is = ap (λ n. map row_of (take n (drop l.next rows))) size ∙ (t.all ∙ sym (flat-flat_of one)) in
@@ -57,7 +57,7 @@ root_docs-loop-next-smaller t' c =
     let rows = c.args.rows.now in
     let x = c.index-rows-next.result in
     let w = l.invariant.1 c.requires.0 c.requires.1 in
-    let t = first_tree rows l.next w.0 x w.1 c.loop-next-test.true c.index-rows-next.is in
+    let t = first_tree row_of rows l.next w.0 x w.1 c.loop-next-test.true c.index-rows-next.is in
     omega (arith, t.size, t.fits)
 
 pub root_docs-loop-next-preserved : goal.root_docs-loop-next-preserved
@@ -66,11 +66,11 @@ root_docs-loop-next-preserved t' c =
     let rows = c.args.rows.now in
     let x = c.index-rows-next.result in
     let w = l.invariant.1 c.requires.0 c.requires.1 in
-    let t = first_tree rows l.next w.0 x w.1 c.loop-next-test.true c.index-rows-next.is in (
+    let t = first_tree row_of rows l.next w.0 x w.1 c.loop-next-test.true c.index-rows-next.is in (
       omega (arith, t.fits),
       λ f e.
           let w = l.invariant.1 f e in
-          let t = first_tree rows l.next w.0 x w.1 c.loop-next-test.true c.index-rows-next.is in
+          let t = first_tree row_of rows l.next w.0 x w.1 c.loop-next-test.true c.index-rows-next.is in
           let one : ResultTree = record { root = t.unit; below = t.below } in
           let size : l.next + x.size - l.next ≡ x.size = omega arith in
           let all_is = ap (λ n. map row_of (take n (drop l.next rows))) size ∙ (t.all ∙ sym (flat-flat_of one)) in
@@ -91,4 +91,4 @@ root_docs-returns t' c =
     let rows = c.args.rows.now in
     λ f e.
     let w = l.invariant.1 f e in
-    sym (append-nil (map value_of l.docs.items)) ∙ (ap (λ vs. map value_of l.docs.items ++ vs) (sym (ap node_values (all_gone rows l.next w.0 w.1 (omega (arith, c.loop-next-test.false))))) ∙ w.2)
+    sym (append-nil (map value_of l.docs.items)) ∙ (ap (λ vs. map value_of l.docs.items ++ vs) (sym (ap node_values (all_gone row_of rows l.next w.0 w.1 (omega (arith, c.loop-next-test.false))))) ∙ w.2)

@@ -3,6 +3,7 @@ use Rattle.std.proofs.lemmas.Result.{IfOk-weaker}
 use Rattle.js_tree.specs.FlatState.{noted_of}
 use Rattle.js_tree.specs.Form.{node_value}
 use Rattle.js_tree.specs.Result.{units}
+use Rattle.js_tree.specs.FlatState.{row_of}
 use Rattle.js_tree.proofs.FlatRows.{root_row}
 use Rattle.js_tree.proofs.NodeTexts.{list_value}
 use Rattle.js_tree.proofs.NotedRows.{noted_of-flat}
@@ -15,5 +16,5 @@ returns c =
     IfOk-weaker c.list_doc.result _ _
     (λ doc p t e.
     p ∙ (ap (list_value v) (c.in_ok-docs.ensures ∙ ap (λ rs. map (λ u. node_value u []) (noted_of rs)) e ∙ ap (map (λ u. node_value u [])) (noted_of-flat t))
-    ∙ ap (λ u. list_value u.valid (map (λ u. node_value u []) (units t))) (c.root.view_is ∙ root_row rows t c.index-rows-0.result e c.index-rows-0.is)))
+    ∙ ap (λ u. list_value u.valid (map (λ u. node_value u []) (units t))) (c.root.view_is ∙ root_row row_of rows t c.index-rows-0.result e c.index-rows-0.is)))
     c.list_doc.ensures

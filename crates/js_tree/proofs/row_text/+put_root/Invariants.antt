@@ -3,7 +3,6 @@ use Rattle.js_doc.specs.Compact.{compact, compact_items}
 use Rattle.js_doc.specs.Value.{items, list}
 use Rattle.js_doc.proofs.BytesGone.{Wrote}
 use Rattle.js_tree.specs.Flat.{flat_of}
-use Rattle.js_tree.specs.FlatState.{row_of}
 use Rattle.js_tree.specs.Forest.{Forest}
 use Rattle.js_tree.specs.Form.{node_values}
 use Rattle.js_tree.specs.OutputUnit.{OutputUnit}
@@ -21,8 +20,8 @@ decreases-put_roots g l = 3 * length l.rows.now + 1
 abbrev pub invariant-put_roots-loop-next : goal.invariant-put_roots-loop-next
 invariant-put_roots-loop-next g l =
     (l.next ≤ length l.rows)
-    × ((f : Forest OutputUnit) → map row_of l.rows ≡ flat_of f
-    → (left : Forest OutputUnit) × (map row_of (drop l.next l.rows) ≡ flat_of left)
+    × ((f : Forest OutputUnit) → map g.L.Line.flat_row l.rows ≡ flat_of f
+    → (left : Forest OutputUnit) × (map g.L.Line.flat_row (drop l.next l.rows) ≡ flat_of left)
     × Wrote (g.O.Out.progress l.fn.out) (g.O.Out.progress l.out) (compact_items l.later (items (node_values left))) (compact (list (items (node_values f)))))
 
 abbrev pub decreases-put_roots-loop-next : goal.decreases-put_roots-loop-next

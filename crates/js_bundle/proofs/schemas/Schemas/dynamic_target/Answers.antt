@@ -1,5 +1,5 @@
-use Rattle.std.proofs.Common.{map, ap, ◌∙◌}
-use Rattle.js_bundle.specs.Finding.{under_number}
+use Rattle.std.proofs.Common.{map, nat_eq}
+use Rattle.indexmap.specs.IndexMap.{get}
 use Rattle.js_bundle.specs.Schemas.{path_at}
 use Rattle.js_bundle.specs.Seen.{document_of}
 use Rattle.js_bundle.proofs.Dynamic.{reference_is, target_place, led, reference_missing}
@@ -9,18 +9,18 @@ pub led_to-requires : goal.led_to-requires
 led_to-requires c =
     let n = c.place.inside.number in
     target_place c.args.self.now c.args.place c.in-Some.reference
-    (reference_is (map document_of c.self.inside.documents.items) c.args.self.now c.self.inside.kept.references.dynamic.items n c.args.place c.in-Some.reference c.self.view_is c.place.view_is c.self.invariant.dynamic
-    (c.in-Some.ensures ∙ ap (λ items. under_number items n) c.as_slice.ensures.value))
+    (reference_is (map document_of c.self.inside.documents.items) c.args.self.now (get nat_eq c.self.inside.kept.references.dynamic) n c.args.place c.in-Some.reference c.self.view_is c.place.view_is c.self.invariant.dynamic
+    c.in-Some.ensures)
 
 pub returns-in-Some : goal.returns-in-Some
 returns-in-Some c =
     let n = c.place.inside.number in
     led c.args.self.now (path_at c.args.self.now c.args.path.now) c.args.place c.led_to.result c.in-Some.reference
-    (reference_is (map document_of c.self.inside.documents.items) c.args.self.now c.self.inside.kept.references.dynamic.items n c.args.place c.in-Some.reference c.self.view_is c.place.view_is c.self.invariant.dynamic
-    (c.in-Some.ensures ∙ ap (λ items. under_number items n) c.as_slice.ensures.value)) c.led_to.ensures
+    (reference_is (map document_of c.self.inside.documents.items) c.args.self.now (get nat_eq c.self.inside.kept.references.dynamic) n c.args.place c.in-Some.reference c.self.view_is c.place.view_is c.self.invariant.dynamic
+    c.in-Some.ensures) c.led_to.ensures
 
 pub returns-in-None : goal.returns-in-None
 returns-in-None c =
     let n = c.place.inside.number in
-    absurd (reference_missing (map document_of c.self.inside.documents.items) c.args.self.now c.self.inside.kept.references.dynamic.items n c.args.place c.self.view_is c.place.view_is c.self.invariant.clear
-    c.self.invariant.dynamic c.requires (c.in-None.ensures ∙ ap (λ items. under_number items n) c.as_slice.ensures.value))
+    absurd (reference_missing (map document_of c.self.inside.documents.items) c.args.self.now (get nat_eq c.self.inside.kept.references.dynamic) n c.args.place c.self.view_is c.place.view_is c.self.invariant.clear
+    c.self.invariant.dynamic c.requires c.in-None.ensures)

@@ -8,4 +8,4 @@ pub returns : goal.returns
 returns c =
     let n = c.place.inside.number in
     c.is_some.ensures ∙ ap is_some (c.target_under.ensures ∙ ap (λ items. under_number items n) c.as_slice.ensures.value)
-    ∙ has_ref_kept (map document_of c.self.inside.documents.items) c.args.self.now c.self.inside.kept.references.plain.items n c.args.place c.self.view_is c.place.view_is c.self.invariant.clear c.self.invariant.plain
+    ∙ has_ref_kept (map document_of c.self.inside.documents.items) c.args.self.now (under_number c.self.inside.kept.references.plain.items) n c.args.place c.self.view_is c.place.view_is c.self.invariant.clear c.self.invariant.plain

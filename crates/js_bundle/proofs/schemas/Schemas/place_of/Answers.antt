@@ -1,9 +1,9 @@
 use Rattle.std.proofs.Common.{◌≡◌, true, find, option_map, ap, sym, subst, ◌∙◌}
 use Rattle.js_bundle.specs.code.Index.{IsIndex, number_under, standing}
-use Rattle.js_bundle.specs.Names.{is_known_as, is_read}
+use Rattle.js_bundle.specs.Names.{is_known_as, is_read, named}
 use Rattle.js_bundle.specs.Resource.{sites}
 use Rattle.js_bundle.specs.Url.{printed}
-use Rattle.js_bundle.proofs.Finds.{names_it, names_none}
+use Rattle.js_bundle.proofs.Finds.{names_it, names_none, stands_there}
 use Rattle.js_bundle.proofs.Indexed.{named_found}
 use Rattle.js_bundle.proofs.schemas.Schemas.place_of.Goals as goal
 
@@ -16,6 +16,9 @@ returns-in-Ok-Some-clause-ok c =
     names_it c.args.self.now all c.args.url c.in-Ok-Some.number (λ _. all)
     (sym c.in-Ok-Some.field-0-is ∙ c.in-Ok-Some.ensures.ok ∙ ap (number_under index c.root_named-root.result) (c.as_slice.ensures.value ∙ c.in_ok-fragment.ensures)
     ∙ named_found index all c.args.url c.root_named-root.result whole root)
+
+pub returns-in-Ok-Some-clause-place : goal.returns-in-Ok-Some-clause-place
+returns-in-Ok-Some-clause-place c = stands_there c.args.self.now c.in-Ok-Some.number (named (sites c.args.self.now) c.args.url) (returns-in-Ok-Some-clause-ok c)
 
 pub returns-in-Ok-Some-clause-read : goal.returns-in-Ok-Some-clause-read
 returns-in-Ok-Some-clause-read c = subst (λ f. is_read f ≡ true) (c.as_slice.ensures.value ∙ c.in_ok-fragment.ensures) c.in-Ok-Some.ensures.read
