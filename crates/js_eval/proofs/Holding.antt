@@ -1,5 +1,5 @@
 -- What a keyword holds, and at which rank.
-use Rattle.std.specs.Prelude.{◌≡◌, ℕ, Bool, true, List, [], ◌∷◌, Some, slice_get, refl}
+use Rattle.std.specs.Prelude.{◌≡◌, ℕ, true, List, ◌∷◌, Some, slice_get, refl}
 use Rattle.std.proofs.Common.{sym, ◌∙◌, ap}
 use Rattle.js_assert.specs.Argument.{entries, values}
 use Rattle.js_bundle.specs.declared.keyword_name.KeywordName.{KeywordName}

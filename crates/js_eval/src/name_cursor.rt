@@ -1,5 +1,5 @@
 //! What `properties` asks for name by name (Core, section 10.3.2.1): the schema of each name that is a member's, on the member.
-ghost use Rattle.std.specs.Prelude.{◌≡◌, ◌∷◌, ◌+◌, ◌<◌, ◌^◌, [], MatchOption, Some, filter, length, map, slice_get, true};
+ghost use Rattle.std.specs.Prelude.{◌≡◌, ◌∷◌, ◌+◌, ◌<◌, ◌^◌, [], MatchOption, Some, filter, length, map, slice_get};
 ghost use Rattle.js_assert.specs.Argument.{entries, has};
 ghost use Rattle.js_bundle.specs.Document.{Documents};
 ghost use Rattle.js_doc.specs.Members.{IsAscending, get};

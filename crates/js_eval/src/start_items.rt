@@ -1,6 +1,6 @@
 //! What the keywords for arrays, and those with a list of schemas, begin to ask for (Core, sections 10.2.1, 10.3.1 and
 //! 11.2).
-ghost use Rattle.std.specs.Prelude.{◌≡◌, IfOk, filter, length, map, nat_le, nat_lt, not, true};
+ghost use Rattle.std.specs.Prelude.{◌≡◌, IfOk, filter, length, map, nat_le, nat_lt, not};
 ghost use Rattle.js_assert.specs.Argument.{entries, values};
 ghost use Rattle.js_bundle.specs.Document.{Documents};
 ghost use Rattle.js_doc.specs.Seen.{value_of};

@@ -1,6 +1,6 @@
 //! What the keywords for objects begin to ask for on any value, with any argument (Core, sections 10.2.2.4, 10.3.2 and
 //! 11.3): nothing, where it is no object.
-ghost use Rattle.std.specs.Prelude.{◌≡◌, ◌||◌, IfOk, filter, map, not, true};
+ghost use Rattle.std.specs.Prelude.{◌≡◌, ◌||◌, IfOk, filter, map, not};
 ghost use Rattle.std.specs.List.{flat_map};
 ghost use Rattle.js_assert.specs.Argument.{entries, has};
 ghost use Rattle.js_assert.specs.Pattern.{matches};

@@ -1,5 +1,5 @@
 -- How a keyword's argument holds schemas, by what the keyword does (of private functions).
-use Rattle.std.specs.Prelude.{◌≡◌, Bool, true, false, Some}
+use Rattle.std.specs.Prelude.{◌≡◌, Bool, Some}
 use Rattle.js_assert.specs.Argument.{entries}
 use Rattle.js_bundle.specs.Ranked.{is_alone, is_index, is_name, is_none}
 use Rattle.js_bundle.specs.Schemas.{Step}

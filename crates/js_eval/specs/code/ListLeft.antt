@@ -1,5 +1,5 @@
 -- What a keyword with a list of schemas has still to ask for (of private functions).
-use Rattle.std.specs.Prelude.{◌≡◌, List, drop, map, true}
+use Rattle.std.specs.Prelude.{◌≡◌, List, drop, map}
 use Rattle.js_assert.specs.Argument.{values}
 use Rattle.js_bundle.specs.Document.{Documents}
 use Rattle.js_bundle.specs.Resource.{Site}

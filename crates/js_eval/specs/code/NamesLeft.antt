@@ -1,5 +1,5 @@
 -- What `properties` has still to ask for, name by name (of private functions).
-use Rattle.std.specs.Prelude.{◌≡◌, ℕ, ◌+◌, ◌<◌, ◌^◌, List, String, drop, filter, length, map, true}
+use Rattle.std.specs.Prelude.{◌≡◌, ℕ, ◌+◌, ◌<◌, ◌^◌, List, String, drop, filter, length, map}
 use Rattle.std.specs.Global.{Global}
 use Rattle.js_assert.specs.Argument.{entries, has}
 use Rattle.js_bundle.specs.Document.{Documents}
