@@ -1,77 +1,88 @@
 -- What a keyword holds, and at which rank.
-use Rattle.std.specs.Prelude.{◌≡◌, ℕ, Bool, true, false, cond, List, [], ◌∷◌, Some, is_some, length, map, slice_get, refl}
-use Rattle.std.specs.List.{AllByRecursion}
-use Rattle.std.specs.Str.{bytes_eq}
+use Rattle.std.specs.Prelude.{◌≡◌, ℕ, true, List, ◌∷◌, Some, slice_get, refl}
 use Rattle.std.proofs.Common.{sym, ◌∙◌, ap}
-use Rattle.std.proofs.lemmas.Slice.Eq.{bytes_eq-Decides}
 use Rattle.js_assert.specs.Argument.{entries, values}
-use Rattle.js_assert.specs.Keyword.{keyword_named}
+use Rattle.js_bundle.specs.declared.keyword_name.KeywordName.{KeywordName}
+use Rattle.js_bundle.specs.declared.keyword_name.KeywordName.TheVariants as name
 use Rattle.js_bundle.specs.Keyword.{keywords}
-use Rattle.js_bundle.specs.Place.{holding, items_in}
-use Rattle.js_bundle.specs.Ranked.{HoldsAtRank}
-use Rattle.js_bundle.specs.Schemas.{Alone, Index, Name, fits}
+use Rattle.js_bundle.specs.KeywordName.{keyword_name}
+use Rattle.js_bundle.specs.Place.{items_in}
+use Rattle.js_bundle.specs.Place as bundle
+use Rattle.js_bundle.specs.Ranked.{HoldsAtRank, is_alone, is_index, is_name, takes}
+use Rattle.js_bundle.specs.Schemas.{Step, Alone, Index, Name}
 use Rattle.js_doc.specs.Members.{get}
-use Rattle.js_doc.specs.Value.{Value}
+use Rattle.js_doc.specs.Parts.{item_list}
+use Rattle.js_doc.specs.Value.{Value, null, truth, whole, text, list, object, Items, no_items, item}
 use Rattle.js_eval.specs.Keywords.{Keyword}
-use Rattle.js_eval.specs.Kind.{Applicator, applicators, kind, kind_in}
-use Rattle.js_eval.specs.code.Holding.{IsIn, holds_list, holds_named, holds_one}
+use Rattle.js_eval.specs.Kind.{kind}
+use Rattle.js_eval.specs.code.Holding.{IsIn, held_at}
+use Rattle.js_eval.specs.code.Standard.{kind_by}
 use Rattle.js_eval.specs.declared.kind.Kind.{Kind}
-use Rattle.js_eval.specs.declared.kind.Kind.TheVariants.{Assertion, Annotation}
 use Rattle.js_eval.proofs.AssertionThere.{same_members}
+use Rattle.js_eval.proofs.Standard.{kind_is}
 
--- ---- a keyword that applies what it holds is one that holds schemas so
+-- ---- what a keyword does tells how it holds schemas
 
-none_of : (g : Kind → Bool) (b : Bool) → g Assertion ≡ false → g Annotation ≡ false → ¬ (g (cond b Assertion Annotation) ≡ true)
-none_of g true a n e = let x : false ≡ true = sym a ∙ e in absurd (cc)
-none_of g false a n e = let x : false ≡ true = sym n ∙ e in absurd (cc)
+takes_by : (w : KeywordName) → takes w ≡ held_at (kind_by w)
+takes_by name.Ref = refl
+takes_by name.DynamicRef = refl
+takes_by name.AllOf = refl
+takes_by name.AnyOf = refl
+takes_by name.OneOf = refl
+takes_by name.Not = refl
+takes_by name.If = refl
+takes_by name.Then = refl
+takes_by name.Else = refl
+takes_by name.DependentSchemas = refl
+takes_by name.PrefixItems = refl
+takes_by name.Items = refl
+takes_by name.Contains = refl
+takes_by name.Properties = refl
+takes_by name.PatternProperties = refl
+takes_by name.AdditionalProperties = refl
+takes_by name.PropertyNames = refl
+takes_by name.UnevaluatedItems = refl
+takes_by name.UnevaluatedProperties = refl
+takes_by name.AssertionUpToIf = refl
+takes_by name.AssertionBehindIf = refl
+takes_by name.Schema = refl
+takes_by name.Id = refl
+takes_by name.Anchor = refl
+takes_by name.DynamicAnchor = refl
+takes_by name.Vocabulary = refl
+takes_by name.Comment = refl
+takes_by name.Defs = refl
+takes_by name.Definitions = refl
+takes_by name.OtherUpToIf = refl
+takes_by name.OtherBehindIf = refl
 
--- a test of names that agrees with one of kinds in each row
-by_rows : (f : List ℕ → Bool) (g : Kind → Bool) (rows : List Applicator) (name : List ℕ) → g Assertion ≡ false → g Annotation ≡ false → AllByRecursion (λ row. f row.0 ≡ g row.1) rows
-    → g (kind_in rows name) ≡ true → f name ≡ true
-by_rows f g [] name a n all e = absurd (none_of g (is_some (keyword_named name)) a n e)
-by_rows f g (row ∷ rows) name a n all e = at (bytes_eq name row.0) refl e (by_rows f g rows name a n all.1)
-  where
-    at : (b : Bool) → bytes_eq name row.0 ≡ b → g (cond b row.1 (kind_in rows name)) ≡ true → (g (kind_in rows name) ≡ true → f name ≡ true) → f name ≡ true
-    at true q h rest = ap f ((bytes_eq-Decides name row.0).0 q) ∙ all.0 ∙ h
-    at false q h rest = rest h
-
-by_kind : (f : List ℕ → Bool) (g : Kind → Bool) (κ : Kind) (name : List ℕ) → g Assertion ≡ false → g Annotation ≡ false → AllByRecursion (λ row. f row.0 ≡ g row.1) applicators
-    → κ ≡ kind name → g κ ≡ true → f name ≡ true
-unfolding kind
-by_kind f g κ name a n all e h = by_rows f g applicators name a n all (ap g (sym e) ∙ h)
-
-fits_one : (κ : Kind) (name : List ℕ) → κ ≡ kind name → holds_one κ ≡ true → fits (holding name) Alone ≡ true
-unfolding holding
-fits_one κ name e h =
-    by_kind (λ k. fits (holding k) Alone) holds_one κ name refl refl
-    (refl, (refl, (refl, (refl, (refl, (refl, (refl, (refl, (refl, (refl, (refl, (refl, (refl, (refl, (refl, (refl, (refl, (refl, (refl, tt)))))))))))))))))))
-    e h
-
-fits_list : (κ : Kind) (name : List ℕ) (i : ℕ) → κ ≡ kind name → holds_list κ ≡ true → fits (holding name) (Index i) ≡ true
-unfolding holding
-fits_list κ name i e h =
-    by_kind (λ k. fits (holding k) (Index i)) holds_list κ name refl refl
-    (refl, (refl, (refl, (refl, (refl, (refl, (refl, (refl, (refl, (refl, (refl, (refl, (refl, (refl, (refl, (refl, (refl, (refl, (refl, tt)))))))))))))))))))
-    e h
-
-fits_named : (κ : Kind) (name n : List ℕ) → κ ≡ kind name → holds_named κ ≡ true → fits (holding name) (Name n) ≡ true
-unfolding holding
-fits_named κ name n e h =
-    by_kind (λ k. fits (holding k) (Name n)) holds_named κ name refl refl
-    (refl, (refl, (refl, (refl, (refl, (refl, (refl, (refl, (refl, (refl, (refl, (refl, (refl, (refl, (refl, (refl, (refl, (refl, (refl, tt)))))))))))))))))))
-    e h
+takes_is : (w : KeywordName) (κ : Kind) (name : List ℕ) (step : Step) → w ≡ keyword_name name → κ ≡ kind name → held_at κ step ≡ true → takes (keyword_name name) step ≡ true
+takes_is w κ name step e f h = ap (λ t. t step) (takes_by (keyword_name name)) ∙ ap (λ c. held_at c step) (kind_is name ∙ sym f) ∙ h
 
 -- ---- its argument
 
 argument_is : (v : Value) (k : Keyword) → IsIn v k → get k.0 (keywords v) ≡ Some k.1
 argument_is v k e = ap (get k.0) (same_members v) ∙ e
 
-pub one_ranked : (κ : Kind) (v : Value) (k : Keyword) → κ ≡ kind k.0 → holds_one κ ≡ true → IsIn v k → HoldsAtRank v k.0 Alone 0 k.1
-one_ranked κ v k e f g = (fits_one κ k.0 e f, argument_is v k g, refl)
+values_are : (vs : Items) → bundle.values vs ≡ item_list vs
+values_are no_items = refl
+values_are (item v vs) = ap (λ us. v ∷ us) (values_are vs)
 
-pub item_ranked : (κ : Kind) (v : Value) (k : Keyword) (i : ℕ) (u : Value) → κ ≡ kind k.0 → holds_list κ ≡ true → IsIn v k → slice_get (items_in k.1) i ≡ Some u → HoldsAtRank v k.0 (Index i) i u
-item_ranked κ v k i u e f g h = (fits_list κ k.0 i e f, (k.1, argument_is v k g, h), refl)
+items_are : (v : Value) → items_in v ≡ values v
+items_are null = refl
+items_are (truth b) = refl
+items_are (whole z) = refl
+items_are (text t) = refl
+items_are (list vs) = values_are vs
+items_are (object ms) = refl
 
-pub member_ranked : (κ : Kind) (v : Value) (k : Keyword) (name : List ℕ) (r : ℕ) (u : Value) → κ ≡ kind k.0 → holds_named κ ≡ true → IsIn v k → slice_get (entries k.1) r ≡ Some (name, u)
-    → HoldsAtRank v k.0 (Name name) r u
-member_ranked κ v k name r u e f g h = (fits_named κ k.0 name e f, (k.1, argument_is v k g, ap (λ ms. slice_get ms r) (same_members k.1) ∙ h))
+pub one_ranked : (w : KeywordName) (κ : Kind) (v : Value) (k : Keyword) → w ≡ keyword_name k.0 → κ ≡ kind k.0 → held_at κ ≡ is_alone → IsIn v k → HoldsAtRank v k.0 Alone 0 k.1
+one_ranked w κ v k d e f g = (takes_is w κ k.0 Alone d e (ap (λ t. t Alone) f), (k.1, argument_is v k g, (refl, refl)))
+
+pub item_ranked : (w : KeywordName) (κ : Kind) (v : Value) (k : Keyword) (i : ℕ) (u : Value) → w ≡ keyword_name k.0 → κ ≡ kind k.0 → held_at κ ≡ is_index → IsIn v k → slice_get (values k.1) i ≡ Some u
+    → HoldsAtRank v k.0 (Index i) i u
+item_ranked w κ v k i u d e f g h = (takes_is w κ k.0 (Index i) d e (ap (λ t. t (Index i)) f), (k.1, argument_is v k g, (ap (λ us. slice_get us i) (items_are k.1) ∙ h, refl)))
+
+pub member_ranked : (w : KeywordName) (κ : Kind) (v : Value) (k : Keyword) (name : List ℕ) (r : ℕ) (u : Value) → w ≡ keyword_name k.0 → κ ≡ kind k.0 → held_at κ ≡ is_name → IsIn v k
+    → slice_get (entries k.1) r ≡ Some (name, u) → HoldsAtRank v k.0 (Name name) r u
+member_ranked w κ v k name r u d e f g h = (takes_is w κ k.0 (Name name) d e (ap (λ t. t (Name name)) f), (k.1, argument_is v k g, ap (λ ms. slice_get ms r) (same_members k.1) ∙ h))

@@ -1,7 +1,7 @@
 //! A schema of finished schemas that is applied to a value.
 ghost use Rattle.std.specs.Prelude.{◌≡◌};
 ghost use Rattle.js_doc.specs.Seen.{value_of};
-ghost use Rattle.js_eval.specs.code.Applied.{IsHeld, applied, applied_of, at_in, namesake, site_in, step_in, value_in};
+ghost use Rattle.js_eval.specs.code.Applied.{IsHeld, applied, applied_of, at_in, site_in, step_in, value_in};
 ghost use Rattle.js_eval.specs.code.Asked.{IsApplied};
 ghost use Rattle.js_eval.specs.code.Standing.{StandsAt};
 ghost use Rattle.js_eval.specs.Seen.{instance_of, step_of};
@@ -11,7 +11,7 @@ ghost use Rattle.js_eval.specs.declared.applied.To.TheVariants as to;
 use crate::bundled::below;
 use crate::instance::{Applied, Instance};
 use js_bundle::{Place, Schemas, Step};
-use js_doc::{Doc, Members};
+use js_doc::Doc;
 
 /// Where the schemas that a keyword applies to the parts of a value stand.
 #[derive(Clone, Copy)]
@@ -27,8 +27,6 @@ pub(crate) enum Held<'a> {
 pub(crate) enum To<'a> {
     /// An item or a member.
     Part,
-    /// Of these members the one that has the part's name.
-    Namesake(&'a Members),
     /// The name of a member, as a string.
     Name,
     /// This value as a whole.
@@ -64,7 +62,6 @@ impl<'a> To<'a> {
     {
         match self {
             To::Part => step,
-            To::Namesake(_) => step,
             To::Name => step,
             To::Whole(_) => Step::Alone,
         }
@@ -75,24 +72,9 @@ impl<'a> To<'a> {
     {
         match self {
             To::Part => Instance::Doc(part),
-            To::Namesake(members) => Instance::Doc(namesake(members, step, part)),
             To::Name => named(step, part),
             To::Whole(value) => *value,
         }
-    }
-}
-
-// Of the members the one that has the name; the part itself, where none has.
-fn namesake<'a>(members: &'a Members, step: Step<'a>, part: &'a Doc) -> &'a Doc
-    ensures { value_of result.now ≡ namesake members.now (step_of step.entry) (value_of part.now) }
-{
-    match step {
-        Step::Name(name) => match members.get(name) {
-            Some(member) => member,
-            None => part,
-        },
-        Step::Alone => part,
-        Step::Index(_) => part,
     }
 }
 

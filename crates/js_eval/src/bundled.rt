@@ -2,15 +2,15 @@
 //! stands for it, as in the definition; in finished schemas that never happens to a keyword that asks.
 ghost use Rattle.std.specs.Prelude.{◌≡◌, codes, map, nat_eq, option_and_then, true};
 ghost use Rattle.std.specs.List.{dedup, list_all};
-ghost use Rattle.js_bundle.specs.Ranked.{HoldsAtRank};
 ghost use Rattle.js_bundle.specs.Resource.{sites};
 ghost use Rattle.js_bundle.specs.ResourceNumber.{dynamic_target_in};
 ghost use Rattle.js_bundle.specs.Schemas.{StandsFor, has_keyword, is_place, path_at, place_at};
 ghost use Rattle.js_bundle.specs.Target.{dynamic_target};
 ghost use Rattle.js_doc.specs.Seen.{value_of};
 ghost use Rattle.js_assert.specs.Argument.{entries};
+ghost use Rattle.js_bundle.specs.Ranked.{HoldsAtRank, is_alone};
 ghost use Rattle.js_eval.specs.Bundle.{schemas_of};
-ghost use Rattle.js_eval.specs.code.Holding.{IsIn, holds_one};
+ghost use Rattle.js_eval.specs.code.Holding.{IsIn, held_at};
 ghost use Rattle.js_eval.specs.code.Standard.{keyword_names_of};
 ghost use Rattle.js_eval.specs.code.Standing.{StandsAt};
 ghost use Rattle.js_eval.specs.SchemaSet as spec;
@@ -90,7 +90,7 @@ pub(crate) fn held_below<'a>(
     keyword: Keyword<'a>,
 ) -> (Place, &'a Doc)
     requires place { StandsAt schemas.now place (value_of schema.now) }
-    requires kind { holds_one keyword.kind ≡ true }
+    requires kind { held_at keyword.kind ≡ is_alone }
     requires keyword { IsIn (value_of schema.now) (keyword_of keyword) }
     ensures is { StandsAt schemas.now result.0 (value_of result.1.now) }
     ensures site { numbered_site schemas.now result.0

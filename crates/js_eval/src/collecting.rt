@@ -65,15 +65,7 @@ impl<'a, C: Collector<'a>> Reporter<Here<'a>, HeldText> for Collecting<'a, C> {
         indexes: &[usize],
     ) -> Result<(), Memory> {
         let note = keyword_note(
-            alloc,
-            world,
-            place,
-            value,
-            keyword,
-            judged,
-            matching,
-            names,
-            indexes,
+            alloc, world, place, value, keyword, judged, matching, names, indexes,
         )?;
         self.collector.leave(judged.passes, note)
     }

@@ -41,8 +41,15 @@ pub(crate) fn next_in_list<'a>(
     let held = &list[index];
     cursor.next = index + 1;
     let step = Step::Index(index);
-    let (place, schema) =
-        ranked_below(schemas, cursor.place, cursor.schema, cursor.keyword, step, index, held);
+    let (place, schema) = ranked_below(
+        schemas,
+        cursor.place,
+        cursor.schema,
+        cursor.keyword,
+        step,
+        index,
+        held,
+    );
     Some(Applied {
         place,
         schema,

@@ -59,7 +59,7 @@ pub(crate) struct MemberCursor<'a> {
     pub choice: Choice<'a>,
 }
 
-/// The schema of each name that is a member's, on the member: the names are gone through where they are fewer, and else the members.
+/// The schema of each name that is a member's, on the member: the members are gone through.
 pub(crate) fn each_named<'a>(
     place: Place,
     schema: &'a Doc,
@@ -72,22 +72,11 @@ pub(crate) fn each_named<'a>(
         (filter (λ m. has m.0 named.now) members.now) }
     ensures held { (documents : Documents) → StandsAt documents place (value_of schema.now) → IsHeld documents result.held }
 {
-    let names = named.pairs();
-    let left = members.pairs();
-    if named.len() < members.len() {
-        MemberCursor {
-            held: Held::Each(place, schema, keyword),
-            to: To::Namesake(members),
-            members: names,
-            choice: Choice::Named(members),
-        }
-    } else {
-        MemberCursor {
-            held: Held::Each(place, schema, keyword),
-            to: To::Part,
-            members: left,
-            choice: Choice::Named(named),
-        }
+    MemberCursor {
+        held: Held::Each(place, schema, keyword),
+        to: To::Part,
+        members: members.pairs(),
+        choice: Choice::Named(named),
     }
 }
 

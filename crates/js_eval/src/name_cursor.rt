@@ -1,15 +1,16 @@
 //! What `properties` asks for name by name (Core, section 10.3.2.1): the schema of each name that is a member's, on the member.
-ghost use Rattle.std.specs.Prelude.{◌≡◌, ◌∷◌, ◌+◌, ◌<◌, ◌^◌, [], MatchOption, Some, filter, length, map, slice_get, true};
+ghost use Rattle.std.specs.Prelude.{◌≡◌, ◌∷◌, ◌+◌, ◌<◌, ◌^◌, [], MatchOption, Some, filter, length, map, slice_get};
 ghost use Rattle.js_assert.specs.Argument.{entries, has};
 ghost use Rattle.js_bundle.specs.Document.{Documents};
-ghost use Rattle.js_doc.specs.Members.{get};
+ghost use Rattle.js_doc.specs.Members.{IsAscending, get};
 ghost use Rattle.js_doc.specs.Seen.{value_of};
 ghost use Rattle.js_doc.specs.Value as doc;
+ghost use Rattle.js_bundle.specs.Ranked.{is_name};
 ghost use Rattle.js_eval.specs.Applications.{application};
 ghost use Rattle.js_eval.specs.Bundle.{schemas_of};
 ghost use Rattle.js_eval.specs.code.Applied.{applied_of};
 ghost use Rattle.js_eval.specs.code.Asked.{IsApplied};
-ghost use Rattle.js_eval.specs.code.Holding.{IsIn, holds_named};
+ghost use Rattle.js_eval.specs.code.Holding.{IsIn, held_at};
 ghost use Rattle.js_eval.specs.code.NamesLeft.{AreLeft, IsNames, names_asked, names_left};
 ghost use Rattle.js_eval.specs.code.Standing.{StandsAt};
 ghost use Rattle.js_eval.specs.SchemaSet as spec;
@@ -43,7 +44,7 @@ pub(crate) fn each_of_names<'a>(
     named: &'a Members,
     members: &'a Members,
 ) -> NameCursor<'a>
-    requires kind { holds_named keyword.kind ≡ true }
+    requires kind { held_at keyword.kind ≡ is_name }
     requires keyword { IsIn (value_of schema.now) (keyword_of keyword) }
     requires named { named.now ≡ entries (value_of keyword.argument.now) }
     ensures asked { (documents : Documents) → names_asked documents result
@@ -51,6 +52,7 @@ pub(crate) fn each_of_names<'a>(
         (filter (λ m. has m.0 named.now) members.now) }
     ensures is { (documents : Documents) → StandsAt documents place (value_of schema.now) → IsNames documents result }
 {
+    names_ascend(members);
     NameCursor {
         place,
         schema,
@@ -59,6 +61,12 @@ pub(crate) fn each_of_names<'a>(
         rank: 0,
         members,
     }
+}
+
+fn names_ascend(members: &Members)
+    ensures { IsAscending members.now }
+{
+    let _ = members.pairs();
 }
 
 /// The next application.
@@ -72,11 +80,21 @@ pub(crate) fn next_of_names<'a>(
     ensures applied { MatchOption result (Unit {0}) (λ a. IsApplied schemas.now a) }
     ensures is { IsNames schemas.now cursor.new }
 {
-    let (rank, name, held, member) =
-        next_name(cursor.members, &mut cursor.names, &mut cursor.rank)?;
+    let (rank, name, held, member) = next_name(
+        cursor.members,
+        &mut cursor.names,
+        &mut cursor.rank,
+    )?;
     let step = Step::Name(name);
-    let (place, schema) =
-        ranked_below(schemas, cursor.place, cursor.schema, cursor.keyword, step, rank, held);
+    let (place, schema) = ranked_below(
+        schemas,
+        cursor.place,
+        cursor.schema,
+        cursor.keyword,
+        step,
+        rank,
+        held,
+    );
     Some(Applied {
         place,
         schema,

@@ -4,9 +4,10 @@ ghost use Rattle.std.specs.List.{dedup, list_all};
 ghost use Rattle.js_assert.specs.Argument.{entries};
 ghost use Rattle.js_bundle.specs.Schemas.{is_place};
 ghost use Rattle.js_doc.specs.Seen.{value_of};
+ghost use Rattle.js_bundle.specs.Ranked.{is_alone};
 ghost use Rattle.js_eval.specs.Applications.{application, asks_of, if_fails, if_holds};
 ghost use Rattle.js_eval.specs.code.Asked.{IsAsking, asked};
-ghost use Rattle.js_eval.specs.code.Holding.{IsIn, holds_one};
+ghost use Rattle.js_eval.specs.code.Holding.{IsIn, held_at};
 ghost use Rattle.js_eval.specs.code.Standing.{StandsAt};
 ghost use Rattle.js_eval.specs.Bundle.{schemas_of};
 ghost use Rattle.js_eval.specs.SchemaSet as spec;
@@ -182,7 +183,7 @@ fn held<'a>(
     value: Instance<'a>,
 ) -> Asking<'a>
     requires place { StandsAt schemas.now place (value_of schema.now) }
-    requires kind { holds_one keyword.kind ≡ true }
+    requires kind { held_at keyword.kind ≡ is_alone }
     requires keyword { IsIn (value_of schema.now) (keyword_of keyword) }
     ensures asked { asked schemas.now result
         ≡ application (schemas_of schemas.now) (numbered_site schemas.now place) keyword.entry.name.now spec.Alone spec.Alone (instance_of value.entry) ∷ [] }
@@ -202,7 +203,7 @@ fn held_then<'a>(
     value: Instance<'a>,
 ) -> Asking<'a>
     requires place { StandsAt schemas.now place (value_of schema.now) }
-    requires kind { holds_one keyword.kind ≡ true }
+    requires kind { held_at keyword.kind ≡ is_alone }
     requires keyword { IsIn (value_of schema.now) (keyword_of keyword) }
     ensures asked { asked schemas.now result ≡ if_holds condition
         (application (schemas_of schemas.now) (numbered_site schemas.now place) keyword.entry.name.now spec.Alone spec.Alone (instance_of value.entry) ∷ []) }
@@ -225,7 +226,7 @@ fn held_else<'a>(
     value: Instance<'a>,
 ) -> Asking<'a>
     requires place { StandsAt schemas.now place (value_of schema.now) }
-    requires kind { holds_one keyword.kind ≡ true }
+    requires kind { held_at keyword.kind ≡ is_alone }
     requires keyword { IsIn (value_of schema.now) (keyword_of keyword) }
     ensures asked { asked schemas.now result ≡ if_fails condition
         (application (schemas_of schemas.now) (numbered_site schemas.now place) keyword.entry.name.now spec.Alone spec.Alone (instance_of value.entry) ∷ []) }

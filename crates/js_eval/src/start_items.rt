@@ -1,12 +1,13 @@
 //! What the keywords for arrays, and those with a list of schemas, begin to ask for (Core, sections 10.2.1, 10.3.1 and
 //! 11.2).
-ghost use Rattle.std.specs.Prelude.{◌≡◌, IfOk, filter, length, map, nat_le, nat_lt, not, true};
+ghost use Rattle.std.specs.Prelude.{◌≡◌, IfOk, filter, length, map, nat_le, nat_lt, not};
 ghost use Rattle.js_assert.specs.Argument.{entries, values};
 ghost use Rattle.js_bundle.specs.Document.{Documents};
 ghost use Rattle.js_doc.specs.Seen.{value_of};
+ghost use Rattle.js_bundle.specs.Ranked.{is_alone, is_index};
 ghost use Rattle.js_eval.specs.Applications.{among_indexes, application, indexed, prefix_length};
 ghost use Rattle.js_eval.specs.code.Asked.{IsAsking, asked};
-ghost use Rattle.js_eval.specs.code.Holding.{IsIn, holds_list, holds_one};
+ghost use Rattle.js_eval.specs.code.Holding.{IsIn, held_at};
 ghost use Rattle.js_eval.specs.code.Standing.{StandsAt};
 ghost use Rattle.js_eval.specs.Bundle.{schemas_of};
 ghost use Rattle.js_eval.specs.SchemaSet as spec;
@@ -31,7 +32,7 @@ pub(crate) fn listed<'a>(
     keyword: Keyword<'a>,
     value: Instance<'a>,
 ) -> Asking<'a>
-    requires kind { holds_list keyword.kind ≡ true }
+    requires kind { held_at keyword.kind ≡ is_index }
     requires keyword { IsIn (value_of schema.now) (keyword_of keyword) }
     ensures asked { (documents : Documents) → asked documents result
         ≡ map (λ e. application (schemas_of documents) (numbered_site documents place) keyword.entry.name.now (spec.Index e.0) spec.Alone (instance_of value.entry))
@@ -83,7 +84,7 @@ pub(crate) fn following<'a>(
     value: Instance<'a>,
 ) -> Asking<'a>
     requires place { StandsAt schemas.now place (value_of schema.now) }
-    requires kind { holds_one keyword.kind ≡ true }
+    requires kind { held_at keyword.kind ≡ is_alone }
     requires keyword { IsIn (value_of schema.now) (keyword_of keyword) }
     ensures asked { asked schemas.now result
         ≡ map (λ e. application (schemas_of schemas.now) (numbered_site schemas.now place) keyword.entry.name.now spec.Alone (spec.Index e.0) e.1)
@@ -111,7 +112,7 @@ pub(crate) fn every<'a>(
     value: Instance<'a>,
 ) -> Asking<'a>
     requires place { StandsAt schemas.now place (value_of schema.now) }
-    requires kind { holds_one keyword.kind ≡ true }
+    requires kind { held_at keyword.kind ≡ is_alone }
     requires keyword { IsIn (value_of schema.now) (keyword_of keyword) }
     ensures asked { asked schemas.now result
         ≡ map (λ e. application (schemas_of schemas.now) (numbered_site schemas.now place) keyword.entry.name.now spec.Alone (spec.Index e.0) e.1)
@@ -131,7 +132,7 @@ fn from_index<'a>(
     first: usize,
 ) -> Asking<'a>
     requires place { StandsAt schemas.now place (value_of schema.now) }
-    requires kind { holds_one keyword.kind ≡ true }
+    requires kind { held_at keyword.kind ≡ is_alone }
     requires keyword { IsIn (value_of schema.now) (keyword_of keyword) }
     ensures asked { asked schemas.now result
         ≡ map (λ e. application (schemas_of schemas.now) (numbered_site schemas.now place) keyword.entry.name.now spec.Alone (spec.Index e.0) e.1)
@@ -166,7 +167,7 @@ pub(crate) fn unevaluated_items<'a>(
     value: Instance<'a>,
 ) -> Result<Asking<'a>, Memory>
     requires place { StandsAt schemas.now place (value_of schema.now) }
-    requires kind { holds_one keyword.kind ≡ true }
+    requires kind { held_at keyword.kind ≡ is_alone }
     requires keyword { IsIn (value_of schema.now) (keyword_of keyword) }
     ensures asked { IfOk result (λ a. asked schemas.now a
         ≡ map (λ e. application (schemas_of schemas.now) (numbered_site schemas.now place) keyword.entry.name.now spec.Alone (spec.Index e.0) e.1)

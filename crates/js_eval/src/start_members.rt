@@ -1,15 +1,16 @@
 //! What the keywords for objects begin to ask for on any value, with any argument (Core, sections 10.2.2.4, 10.3.2 and
 //! 11.3): nothing, where it is no object.
-ghost use Rattle.std.specs.Prelude.{◌≡◌, ◌||◌, IfOk, filter, map, not, true};
+ghost use Rattle.std.specs.Prelude.{◌≡◌, ◌||◌, IfOk, filter, map, not};
 ghost use Rattle.std.specs.List.{flat_map};
 ghost use Rattle.js_assert.specs.Argument.{entries, has};
 ghost use Rattle.js_assert.specs.Pattern.{matches};
 ghost use Rattle.js_bundle.specs.Document.{Documents};
 ghost use Rattle.js_doc.specs.Seen.{value_of};
 ghost use Rattle.js_doc.specs.Value.{text};
+ghost use Rattle.js_bundle.specs.Ranked.{is_alone, is_name};
 ghost use Rattle.js_eval.specs.Applications.{among_names, application, is_property, matches_pattern};
 ghost use Rattle.js_eval.specs.code.Asked.{IsAsking, asked};
-ghost use Rattle.js_eval.specs.code.Holding.{IsIn, holds_named, holds_one};
+ghost use Rattle.js_eval.specs.code.Holding.{IsIn, held_at};
 ghost use Rattle.js_eval.specs.code.Standing.{StandsAt};
 ghost use Rattle.js_eval.specs.Bundle.{schemas_of};
 ghost use Rattle.js_eval.specs.SchemaSet as spec;
@@ -71,7 +72,7 @@ pub(crate) fn properties<'a>(
     keyword: Keyword<'a>,
     value: Instance<'a>,
 ) -> Asking<'a>
-    requires kind { holds_named keyword.kind ≡ true }
+    requires kind { held_at keyword.kind ≡ is_name }
     requires keyword { IsIn (value_of schema.now) (keyword_of keyword) }
     ensures asked { (documents : Documents) → asked documents result
         ≡ map (λ m. application (schemas_of documents) (numbered_site documents place) keyword.entry.name.now (spec.Name m.0) (spec.Name m.0) m.1)
@@ -94,7 +95,7 @@ fn named_members<'a>(
     named: &'a Members,
     members: &'a Members,
 ) -> Asking<'a>
-    requires kind { holds_named keyword.kind ≡ true }
+    requires kind { held_at keyword.kind ≡ is_name }
     requires keyword { IsIn (value_of schema.now) (keyword_of keyword) }
     requires named { named.now ≡ entries (value_of keyword.argument.now) }
     ensures asked { (documents : Documents) → asked documents result
@@ -148,7 +149,7 @@ pub(crate) fn additional<'a>(
     value: Instance<'a>,
 ) -> Asking<'a>
     requires place { StandsAt schemas.now place (value_of schema.now) }
-    requires kind { holds_one keyword.kind ≡ true }
+    requires kind { held_at keyword.kind ≡ is_alone }
     requires keyword { IsIn (value_of schema.now) (keyword_of keyword) }
     ensures asked { asked schemas.now result
         ≡ map (λ m. application (schemas_of schemas.now) (numbered_site schemas.now place) keyword.entry.name.now spec.Alone (spec.Name m.0) m.1)
@@ -175,7 +176,7 @@ pub(crate) fn property_names<'a>(
     value: Instance<'a>,
 ) -> Asking<'a>
     requires place { StandsAt schemas.now place (value_of schema.now) }
-    requires kind { holds_one keyword.kind ≡ true }
+    requires kind { held_at keyword.kind ≡ is_alone }
     requires keyword { IsIn (value_of schema.now) (keyword_of keyword) }
     ensures asked { asked schemas.now result
         ≡ map (λ m. application (schemas_of schemas.now) (numbered_site schemas.now place) keyword.entry.name.now spec.Alone (spec.Name m.0) (text m.0)) (entries (instance_of value.entry)) }
@@ -202,7 +203,7 @@ pub(crate) fn unevaluated_properties<'a>(
     value: Instance<'a>,
 ) -> Result<Asking<'a>, Memory>
     requires place { StandsAt schemas.now place (value_of schema.now) }
-    requires kind { holds_one keyword.kind ≡ true }
+    requires kind { held_at keyword.kind ≡ is_alone }
     requires keyword { IsIn (value_of schema.now) (keyword_of keyword) }
     ensures asked { IfOk result (λ a. asked schemas.now a
         ≡ map (λ m. application (schemas_of schemas.now) (numbered_site schemas.now place) keyword.entry.name.now spec.Alone (spec.Name m.0) m.1)

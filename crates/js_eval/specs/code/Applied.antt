@@ -52,13 +52,11 @@ namesake members (Index i) part = part
 
 abbrev pub at_in : To → Step → Step
 at_in to.Part step = step
-at_in (to.Namesake members) step = step
 at_in to.Name step = step
 at_in (to.Whole value) step = Alone
 
 abbrev pub value_in : To → Step → Value → Value
 value_in to.Part step part = part
-value_in (to.Namesake members) step part = namesake members.now step part
 value_in to.Name (Name name) part = text name
 value_in to.Name Alone part = part
 value_in to.Name (Index i) part = part

@@ -1,15 +1,16 @@
 -- What a keyword with a list of schemas has still to ask for (of private functions).
-use Rattle.std.specs.Prelude.{◌≡◌, List, drop, map, true}
+use Rattle.std.specs.Prelude.{◌≡◌, List, drop, map}
 use Rattle.js_assert.specs.Argument.{values}
 use Rattle.js_bundle.specs.Document.{Documents}
 use Rattle.js_bundle.specs.Resource.{Site}
 use Rattle.js_doc.specs.Seen.{value_of}
+use Rattle.js_bundle.specs.Ranked.{is_index}
 use Rattle.js_eval.specs.Applications.{Application, application, indexed_from}
 use Rattle.js_eval.specs.Bundle.{schemas_of}
 use Rattle.js_eval.specs.SchemaSet.{Alone, Index}
 use Rattle.js_eval.specs.Seen.{instance_of, keyword_of}
 use Rattle.js_eval.specs.Sited.{numbered_site}
-use Rattle.js_eval.specs.code.Holding.{IsIn, holds_list}
+use Rattle.js_eval.specs.code.Holding.{IsIn, held_at}
 use Rattle.js_eval.specs.code.Standing.{StandsAt}
 use Rattle.js_eval.specs.declared.list_cursor.ListCursor.{ListCursor}
 
@@ -21,5 +22,5 @@ list_asked documents c =
 -- the list is that of the keyword of a place with this schema
 abbrev pub IsList : Documents → ListCursor → Type 0
 IsList documents c =
-    StandsAt documents c.place (value_of c.schema.now) × (holds_list c.keyword.kind ≡ true) × IsIn (value_of c.schema.now) (keyword_of c.keyword)
+    StandsAt documents c.place (value_of c.schema.now) × (held_at c.keyword.kind ≡ is_index) × IsIn (value_of c.schema.now) (keyword_of c.keyword)
     × (map value_of c.list.now ≡ values (value_of c.keyword.argument.now))

@@ -1,5 +1,5 @@
 -- What `properties` has still to ask for, name by name (of private functions).
-use Rattle.std.specs.Prelude.{◌≡◌, ℕ, ◌+◌, ◌<◌, ◌^◌, List, String, drop, filter, length, map, true}
+use Rattle.std.specs.Prelude.{◌≡◌, ℕ, ◌+◌, ◌<◌, ◌^◌, List, String, drop, filter, length, map}
 use Rattle.std.specs.Global.{Global}
 use Rattle.js_assert.specs.Argument.{entries, has}
 use Rattle.js_bundle.specs.Document.{Documents}
@@ -7,13 +7,14 @@ use Rattle.js_bundle.specs.Resource.{Site}
 use Rattle.js_doc.specs.Seen.{pair_of, value_of}
 use Rattle.js_doc.specs.Value as doc
 use Rattle.js_doc.specs.declared.doc.Doc.{Doc}
+use Rattle.js_bundle.specs.Ranked.{is_name}
 use Rattle.js_eval.specs.Applications.{Application, application}
 use Rattle.js_eval.specs.Bundle.{schemas_of}
 use Rattle.js_eval.specs.SchemaSet.{Name, Text}
 use Rattle.js_eval.specs.Seen.{keyword_of}
 use Rattle.js_eval.specs.Sited.{numbered_site}
 use Rattle.js_eval.specs.code.Applied.{namesake}
-use Rattle.js_eval.specs.code.Holding.{IsIn, holds_named}
+use Rattle.js_eval.specs.code.Holding.{IsIn, held_at}
 use Rattle.js_eval.specs.code.Standing.{StandsAt}
 use Rattle.js_eval.specs.declared.name_cursor.NameCursor.{NameCursor}
 
@@ -36,5 +37,5 @@ AreLeft all rank names = map pair_of names ≡ drop rank all
 -- the names are those of the keyword of a place with this schema
 abbrev pub IsNames : Documents → NameCursor → Type 0
 IsNames documents c =
-    StandsAt documents c.place (value_of c.schema.now) × (holds_named c.keyword.kind ≡ true) × IsIn (value_of c.schema.now) (keyword_of c.keyword)
+    StandsAt documents c.place (value_of c.schema.now) × (held_at c.keyword.kind ≡ is_name) × IsIn (value_of c.schema.now) (keyword_of c.keyword)
     × AreLeft (entries (value_of c.keyword.argument.now)) c.rank c.names × (c.rank + length c.names < 2 ^ 64)

@@ -1,4 +1,4 @@
-use Rattle.std.proofs.Common.{map, ap, ◌∙◌}
+use Rattle.std.proofs.Common.{map, ap}
 use Rattle.js_eval.specs.Applications.{application, indexed_from}
 use Rattle.js_eval.specs.Bundle.{schemas_of}
 use Rattle.js_eval.specs.SchemaSet as spec
@@ -7,6 +7,5 @@ use Rattle.js_eval.specs.Sited.{numbered_site}
 use Rattle.js_eval.proofs.start_items.listed.Goals as goal
 
 pub returns-clause-asked : goal.returns-clause-asked
-returns-clause-asked c =
-    c.each_listed.ensures.asked c.args.schemas.now
-    ∙ ap (λ vs. map (λ e. application (schemas_of c.args.schemas.now) (numbered_site c.args.schemas.now c.args.place) c.args.keyword.name.now (spec.Index e.0) spec.Alone (instance_of c.args.value)) (indexed_from 0 vs)) c.array_in.ensures
+returns-clause-asked c = λ documents.
+    ap (λ vs. map (λ e. application (schemas_of documents) (numbered_site documents c.args.place) c.args.keyword.name.now (spec.Index e.0) spec.Alone (instance_of c.args.value)) (indexed_from 0 vs)) c.array_in.ensures
