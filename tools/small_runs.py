@@ -59,4 +59,6 @@ RUN_BY = {
               (LIBRARY,)),
     "tools/install ~/.local": Step("tools/test_install"),
     "pip install ./python": Step("python/test"),
+    "PYTHONPATH=python python3 examples/dask_validate.py --schema examples/person.schema.json --workers 2 "
+    "examples/ada.json": Step("python/test"),
 }
