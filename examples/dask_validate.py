@@ -1,4 +1,3 @@
-#!/usr/bin/env python3
 """Validates newline-delimited JSON over a Dask bag.
 
     python3 examples/dask_validate.py --schema person.schema.json 'people/*.jsonl'
@@ -16,6 +15,7 @@ import functools
 import json
 import sys
 from collections import Counter
+from collections.abc import Iterable
 from pathlib import Path
 from typing import NamedTuple, Optional
 
@@ -24,6 +24,9 @@ import jschema
 NEEDS = "this needs dask[bag] and distributed (Debian: python3-distributed), and each worker needs jschema too"
 STATUSES = """exit status: 0 all are valid, 1 some are invalid, 2 the arguments are wrong, 3 an input is refused,
 4 anything else failed; the highest of these"""
+
+#: Each document's absolute URI with its text. The first is the schema to apply.
+Documents = tuple[tuple[str, bytes], ...]
 
 
 class Row(NamedTuple):
@@ -44,17 +47,17 @@ class Part(NamedTuple):
 
 
 @functools.lru_cache(maxsize=1)
-def schemas_of(documents: tuple[tuple[str, bytes], ...]) -> jschema.Schemas:
+def schemas_of(documents: Documents) -> jschema.Schemas:
     """The schemas. They can't be pickled, so each worker process makes them, once."""
     return jschema.Schemas(documents)
 
 
-def check(lines, documents) -> list[Part]:
-    """Checks the lines of a file against the first document. This is what the workers run."""
+def check(lines: Iterable[tuple[str, str]], documents: Documents) -> list[Part]:
+    """Checks the lines of a partition, each with its file. This is what the workers run."""
     schemas, entry = schemas_of(documents), documents[0][0]
     part = Part(Counter(), [])
     for number, (line, file) in enumerate(lines, 1):
-        if not line.strip():
+        if not line.strip(" \t\r\n"):
             continue
         try:
             errors = schemas.errors(entry, line)
@@ -67,7 +70,7 @@ def check(lines, documents) -> list[Part]:
     return [part]
 
 
-def validate(arguments: argparse.Namespace, documents: tuple[tuple[str, bytes], ...]) -> list[Part]:
+def validate(arguments: argparse.Namespace, documents: Documents) -> list[Part]:
     """What came of each file."""
     from dask import delayed
     from dask.bag import read_text
@@ -79,6 +82,7 @@ def validate(arguments: argparse.Namespace, documents: tuple[tuple[str, bytes], 
         file.fs.info(file.path)
     local = {"n_workers": arguments.workers, "threads_per_worker": 1, "dashboard_address": None}
     with Client(arguments.scheduler) if arguments.scheduler else Client(**local) as client:
+        # A running cluster doesn't have this file.
         client.upload_file(__file__)
         # An instance may have a carriage return. With a surrogate it is refused, like all that isn't UTF-8.
         lines = read_text(arguments.instances, encoding="utf-8", errors="surrogateescape", linedelimiter="\n",
@@ -104,6 +108,7 @@ def document(argument: str) -> tuple[str, bytes]:
 
 
 def positive(word: str) -> int:
+    """The number that an argument is."""
     if not word.isdecimal() or int(word) == 0:
         raise argparse.ArgumentTypeError(f"{word!r} isn't a number from 1")
     return int(word)
