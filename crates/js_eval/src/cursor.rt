@@ -29,7 +29,8 @@ pub(crate) enum Asking<'a> {
     Items(ItemCursor<'a>),
     Names(NameCursor<'a>),
     Members(MemberCursor<'a>),
-    Patterns(PatternCursor<'a>),
+    /// Boxed: it is much larger than the others, and a level of the walk holds one of them.
+    Patterns(Box<PatternCursor<'a>>),
 }
 
 /// The schema at a place, on the value itself.

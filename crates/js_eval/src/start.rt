@@ -97,9 +97,9 @@ pub(crate) fn start<'a>(
         Kind::Items => Ok(start_items::following(alloc, schemas, place, schema, keyword, value)),
         Kind::Contains => Ok(start_items::every(alloc, schemas, place, schema, keyword, value)),
         Kind::Properties => Ok(start_members::properties(place, schema, keyword, value)),
-        Kind::PatternProperties => Ok(start_members::patterns(
-            schemas, place, schema, keyword, value,
-        )),
+        Kind::PatternProperties => {
+            start_members::patterns(alloc, schemas, place, schema, keyword, value)
+        }
         Kind::AdditionalProperties => Ok(start_members::additional(
             schemas, place, schema, keyword, value,
         )),

@@ -111,32 +111,39 @@ fn named_members<'a>(
 }
 
 /// What `patternProperties` asks for.
+///
+/// # Errors
+/// `Memory`.
 pub(crate) fn patterns<'a>(
+    alloc: Global,
     schemas: &'a Schemas,
     place: Place,
     schema: &'a Doc,
     keyword: Keyword<'a>,
     value: Instance<'a>,
-) -> Asking<'a>
+) -> Result<Asking<'a>, Memory>
     requires { StandsAt schemas.now place (value_of schema.now) }
-    ensures asked { asked schemas.now result
+    ensures asked { IfOk result (λ a. asked schemas.now a
         ≡ flat_map (λ p. map (λ m. application (schemas_of schemas.now) (numbered_site schemas.now place) keyword.entry.name.now (spec.Name p.0) (spec.Name m.0) m.1)
-        (filter (λ m. matches p.0 m.0) (entries (instance_of value.entry)))) (entries (value_of keyword.entry.argument.now)) }
-    ensures is { IsAsking schemas.now result }
+        (filter (λ m. matches p.0 m.0) (entries (instance_of value.entry)))) (entries (value_of keyword.entry.argument.now))) }
+    ensures is { IfOk result (λ a. IsAsking schemas.now a) }
 {
     let Some(patterns) = object_in(keyword.argument) else {
-        return Asking::One(None);
+        return Ok(Asking::One(None));
     };
     match value.object() {
-        Some(members) => Asking::Patterns(each_matching(
-            place,
-            schema,
-            keyword.name,
-            patterns,
-            members,
-            argument_in(schema, "additionalProperties").is_some(),
-        )),
-        None => Asking::One(None),
+        Some(members) => {
+            let cursor = each_matching(
+                place,
+                schema,
+                keyword.name,
+                patterns,
+                members,
+                argument_in(schema, "additionalProperties").is_some(),
+            );
+            Ok(Asking::Patterns(Box::new(alloc, cursor)?))
+        }
+        None => Ok(Asking::One(None)),
     }
 }
 

@@ -25,7 +25,7 @@ asked documents (List c) = list_asked documents c
 asked documents (Names c) = names_asked documents c
 asked documents (Items c) = items_asked documents c
 asked documents (Members c) = members_asked documents c
-asked documents (Patterns c) = patterns_asked documents c
+asked documents (Patterns c) = patterns_asked documents c.value
 
 -- ---- it was made for these
 
@@ -46,4 +46,4 @@ IsAsking documents (List c) = IsList documents c
 IsAsking documents (Names c) = IsNames documents c
 IsAsking documents (Items c) = IsHeld documents c.held
 IsAsking documents (Members c) = IsHeld documents c.held
-IsAsking documents (Patterns c) = ArePatterns documents c
+IsAsking documents (Patterns c) = ArePatterns documents c.value
