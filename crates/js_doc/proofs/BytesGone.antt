@@ -35,6 +35,10 @@ goes_on a b c piece left all w h =
 pub ends : (a b c : Progress) (piece all : List ℕ) → Wrote a b piece all → Goes b c piece → Goes a c all
 ends a b c piece all w h = subst (Goes a c) w.is (goes-then a b c w.written piece w.goes h)
 
+-- all of them have gone out
+pub all_gone : (a b : Progress) (all : List ℕ) → Wrote a b [] all → Goes a b all
+all_gone a b all w = subst (Goes a b) (sym (append-nil w.written) ∙ w.is) w.goes
+
 sizes : (xs ys zs all : List ℕ) → xs ++ (ys ++ zs) ≡ all → length xs + length ys ≤ length all
 sizes xs ys zs all e = let n = ap length e in omega (arith, n, length-append xs (ys ++ zs), length-append ys zs)
 

@@ -31,7 +31,7 @@ pub use memory::Memory;
 pub use pointer::Pointer;
 pub use pointer_reading::PointerFault;
 pub use printing::{put_number, put_text, text};
-pub use quoting::{push_string, put_string};
+pub use quoting::{push_string, put_escaped, put_quoted, put_string};
 pub use reading::{ReadFault, from_value, read};
 pub use string::Text;
 pub use token::{Token, push_fragment_token, push_token};

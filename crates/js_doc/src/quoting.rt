@@ -1,7 +1,7 @@
 //! Texts as JSON strings (RFC 8259, section 7): the escapes are those that `serde_json` writes.
 ghost use Rattle.std.specs.Prelude.{◌≡◌, ◌<◌, ◌≤◌, ◌++◌, take, OnErr, OnOk, string_bytes};
 ghost use Rattle.std.specs.Char.{digit_char};
-ghost use Rattle.json.specs.Print.{escape_byte, escape_letter};
+ghost use Rattle.json.specs.Print.{escape, escape_byte, escape_letter};
 ghost use Rattle.js_doc.specs.BytesOut.{Puts};
 ghost use Rattle.js_doc.specs.Compact.{quoted};
 
@@ -37,16 +37,32 @@ pub fn push_string(out: &mut String, text: &str) -> Result<(), Memory>
     Ok(())
 }
 
-fn put_quoted<O: Out>(bytes: &[u8], out: &mut O) -> Result<(), Stopped>
+/// Puts the text with these bytes between quotation marks, with its escapes. It takes no memory.
+///
+/// # Errors
+/// `Stopped`; then a beginning has gone out.
+pub fn put_quoted<O: Out>(bytes: &[u8], out: &mut O) -> Result<(), Stopped>
     ensures { Puts (O.progress out.old) (O.progress out.new) (quoted bytes.now) result }
 {
     out.put(b"\"")?;
+    put_escaped(bytes, out)?;
+    out.put(b"\"")
+}
+
+/// Puts these bytes of a text with their escapes, and no quotation marks: what stands between these may be put in parts.
+/// It takes no memory.
+///
+/// # Errors
+/// `Stopped`; then a beginning has gone out.
+pub fn put_escaped<O: Out>(bytes: &[u8], out: &mut O) -> Result<(), Stopped>
+    ensures { Puts (O.progress out.old) (O.progress out.new) (escape bytes.now) result }
+{
     let mut start = 0;
     loop {
         let end = run_end(bytes, start);
         out.put(&bytes[start..end])?;
         if end == bytes.len() {
-            return out.put(b"\"");
+            return Ok(());
         }
         put_escape(bytes[end], out)?;
         start = end + 1;
