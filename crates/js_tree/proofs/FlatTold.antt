@@ -9,9 +9,7 @@ use Rattle.js_tree.specs.Forest.{Forest, empty, tree, node_count}
 use Rattle.js_tree.specs.Note.{Note}
 use Rattle.js_tree.specs.OutputUnit.{OutputUnit}
 use Rattle.js_tree.specs.Result.{ResultTree}
-use Rattle.js_tree.specs.LentState.{lent_state}
 use Rattle.js_tree.specs.declared.flat.Flat.{Flat}
-use Rattle.js_tree.specs.declared.lent.LentRows.{LentRows}
 use Rattle.js_tree.proofs.Telling.{passes-after_all, after_all-append}
 
 -- ---- the events of a tree
@@ -60,9 +58,6 @@ told t =
 
 pub flat_held : (t : ResultTree) (c d : Flat) → flat_state c ≡ flat_start → Passes (λ a e b. flat_state b ≡ flat_after (flat_state a) e) (events t) c d → flat_state d ≡ at (flat t) []
 flat_held t c d h p = passes-after_all flat_state flat_after (events t) c d p ∙ (ap (λ s. after_all flat_after s (events t)) h ∙ told t)
-
-pub lent_held : (t : ResultTree) (c d : LentRows) → lent_state c ≡ flat_start → Passes (λ a e b. lent_state b ≡ flat_after (lent_state a) e) (events t) c d → lent_state d ≡ at (flat t) []
-lent_held t c d h p = passes-after_all lent_state flat_after (events t) c d p ∙ (ap (λ s. after_all flat_after s (events t)) h ∙ told t)
 
 -- ---- the code's rows and numbers
 

@@ -8,13 +8,14 @@ pub mod Forest
 pub mod Form
 pub mod Holding
 pub mod Kept
-pub mod LentState
 pub mod Merged
 pub mod MergedResult
 pub mod Moves
 pub mod Note
 pub mod OutputUnit
 pub mod Pruned
+pub mod Relative
+pub mod RelativeState
 pub mod Result
 pub mod Seen
 pub mod Step

@@ -6,8 +6,7 @@ ghost use Rattle.js_tree.specs.code.NodeText.{error_part, head_text, tail_text};
 ghost use Rattle.js_tree.specs.OutputUnit.{noted};
 
 use crate::flat::Row;
-use crate::lent::LentRow;
-use crate::node_text::{put_beginning, put_end, put_error, put_head, put_tail};
+use crate::node_text::{put_error, put_head, put_tail};
 use js_doc::{Out, Stopped};
 
 /// A row of a flat form.
@@ -68,35 +67,5 @@ impl<'a> Line for Row<'a> {
 
     fn put_tail<O: Out>(&self, out: &mut O) -> Result<(), Stopped> {
         put_tail(&self.unit, out)
-    }
-}
-
-impl<'a> Line for LentRow<'a> {
-    ghost use Rattle.js_tree.specs.LentState.{lent_row};
-
-    ghost flat_row = { lent_row };
-
-    fn size(&self) -> usize {
-        self.size
-    }
-
-    fn is_valid(&self) -> bool {
-        self.valid
-    }
-
-    fn is_noted(&self) -> bool {
-        self.note.is_some()
-    }
-
-    fn put_head<O: Out>(&self, out: &mut O) -> Result<(), Stopped> {
-        put_beginning(self.absolute, &self.note, out)
-    }
-
-    fn put_error<O: Out>(&self, out: &mut O) -> Result<(), Stopped> {
-        put_error(&self.note, out)
-    }
-
-    fn put_tail<O: Out>(&self, out: &mut O) -> Result<(), Stopped> {
-        put_end(self.instance, self.keyword, self.valid, out)
     }
 }

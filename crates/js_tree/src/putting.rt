@@ -5,12 +5,10 @@ ghost use Rattle.js_doc.specs.Compact.{compact};
 ghost use Rattle.js_tree.specs.Flat.{flat};
 ghost use Rattle.js_tree.specs.FlatState.{IsWholeTree, flat_state, whole_tree};
 ghost use Rattle.js_tree.specs.Form.{flag, shown};
-ghost use Rattle.js_tree.specs.LentState.{lent_state};
 ghost use Rattle.js_tree.specs.Result.{ResultTree};
 
 use crate::flat::Flat;
 use crate::forms::Format;
-use crate::lent::LentRows;
 use crate::line::Line;
 use crate::row_text::{put_root, put_units};
 use js_doc::{Out, Stopped};
@@ -25,17 +23,6 @@ pub fn put_flat<O: Out>(flat: &Flat, format: Format, out: &mut O) -> Result<(), 
     ensures { (t : ResultTree) → flat_state flat.now ≡ whole_tree t → Puts (O.progress out.old) (O.progress out.new) (compact (shown format t)) result }
 {
     put_rows(flat.rows(), format, out)
-}
-
-/// Puts the compact text of what the format shows of the tree whose rows are lent their texts: see `put_flat`. It takes no memory.
-///
-/// # Errors
-/// `Stopped`; then a beginning of the text has gone out.
-pub fn put_lent<O: Out>(rows: &LentRows, format: Format, out: &mut O) -> Result<(), Stopped>
-    requires { IsWholeTree (lent_state rows.now) }
-    ensures { (t : ResultTree) → lent_state rows.now ≡ whole_tree t → Puts (O.progress out.old) (O.progress out.new) (compact (shown format t)) result }
-{
-    put_rows(rows.rows.as_slice(), format, out)
 }
 
 fn put_rows<L: Line, O: Out>(rows: &[L], format: Format, out: &mut O) -> Result<(), Stopped>

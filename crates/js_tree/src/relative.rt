@@ -1,0 +1,156 @@
+//! A result as rows that have only what their locations add to those of the node above.
+ghost use Rattle.std.specs.Prelude.{◌≡◌, ◌++◌, IfOk, drop};
+ghost use Rattle.js_tree.specs.Events.{opening, closing};
+ghost use Rattle.js_tree.specs.RelativeState.{AreRowsOf, AreWhole, relative_after, relative_start, relative_state};
+ghost use Rattle.js_tree.specs.Result.{ResultTree};
+ghost use Rattle.js_tree.specs.Seen.{note_of};
+
+use crate::note::Note;
+use bumpalo::Bump;
+use js_doc::Memory;
+use std::alloc::Global;
+
+/// A node of a tree in its flat form, as `RelativeRows` keeps it.
+#[derive(Drop)]
+pub struct RelativeRow<'a> {
+    pub(crate) valid: bool,
+    // What its keyword location and its instance location add to those of the node above.
+    pub(crate) keyword: &'a [u8],
+    pub(crate) instance: &'a [u8],
+    // The absolute location of its schema, and what its own adds to that.
+    pub(crate) schema: &'a str,
+    pub(crate) absolute: &'a [u8],
+    pub(crate) note: Note<'a>,
+    // How many nodes its subtree has, itself included; 0 while it is open.
+    pub(crate) size: usize,
+}
+
+// A node that is open: the number of its row, and the lengths of its locations.
+#[derive(Clone, Copy)]
+struct OpenNode {
+    number: usize,
+    keyword: usize,
+    instance: usize,
+}
+
+/// Collects the flat form of a tree as `Flat` does. A location isn't kept whole, but only what it adds to that of the node
+/// above: so a node takes the memory of its row and of a few bytes in an arena, however deep it stands.
+#[derive(Drop)]
+pub struct RelativeRows<'a> {
+    arena: &'a Bump,
+    pub(crate) rows: Vec<RelativeRow<'a>>,
+    // The innermost is the last.
+    nodes: Vec<OpenNode>,
+}
+
+impl<'a> RelativeRows<'a> {
+    /// Without a node. Allocates nothing.
+    pub fn new(alloc: Global, arena: &'a Bump) -> RelativeRows<'a>
+        ensures { relative_state result ≡ relative_start }
+    {
+        RelativeRows {
+            arena,
+            rows: Vec::new(alloc),
+            nodes: Vec::new(alloc),
+        }
+    }
+
+    /// A node opens: with its keyword location, the absolute location of its schema, what its own absolute location adds to
+    /// that, and its instance location (JSON Schema Core, section 12.3).
+    ///
+    /// # Errors
+    /// `Memory`.
+    pub fn enter(
+        &mut self,
+        keyword: &str,
+        schema: &'a str,
+        token: &str,
+        instance: &str,
+    ) -> Result<(), Memory>
+        ensures { IfOk result (λ _. relative_state self.new ≡ relative_after (relative_state self.old) (opening keyword.now (schema.now ++ token.now) instance.now)) }
+    {
+        // Without an open node there is either no row yet, or the root has closed.
+        if !self.nodes.is_empty() || self.rows.is_empty() {
+            self.nodes.reserve(1)?;
+            let number = self.rows.len();
+            let above = innermost(self.nodes.as_slice());
+            let keyword = keyword.as_bytes();
+            let instance = instance.as_bytes();
+            let row = RelativeRow {
+                valid: false,
+                keyword: in_arena(self.arena, behind(keyword, above.keyword))?,
+                instance: in_arena(self.arena, behind(instance, above.instance))?,
+                schema,
+                absolute: in_arena(self.arena, token.as_bytes())?,
+                note: Note::Silent,
+                size: 0,
+            };
+            self.rows.push(row)?;
+            let _ = self.nodes.push(OpenNode {
+                number,
+                keyword: keyword.len(),
+                instance: instance.len(),
+            });
+        }
+        Ok(())
+    }
+
+    /// The last node that opened and hasn't closed closes. Allocates nothing.
+    pub fn leave(&mut self, valid: bool, note: Note<'a>)
+        ensures { relative_state self.new ≡ relative_after (relative_state self.old) (closing valid (note_of note.entry)) }
+    {
+        if let Some(node) = self.nodes.pop() {
+            let number = node.number;
+            let count = self.rows.len();
+            if number < count {
+                let row = &mut self.rows[number];
+                row.valid = valid;
+                row.note = note;
+                row.size = count - number;
+            }
+        }
+    }
+
+    /// The root's verdict. The rows have to be a whole tree's.
+    pub fn is_valid(&self) -> bool
+        requires { AreWhole self.now }
+        ensures { (t : ResultTree) → AreRowsOf self.now t → result ≡ t.root.valid }
+    {
+        let rows = self.rows.as_slice();
+        let root = &rows[0];
+        root.valid
+    }
+}
+
+// The innermost open node. Above the root nothing is known.
+fn innermost(open: &[OpenNode]) -> OpenNode {
+    match open.last() {
+        Some(node) => *node,
+        None => OpenNode {
+            number: 0,
+            keyword: 0,
+            instance: 0,
+        },
+    }
+}
+
+// What stands in the text behind so many bytes.
+fn behind(text: &[u8], length: usize) -> &[u8]
+    ensures { result.now ≡ drop length text.now }
+{
+    if length < text.len() {
+        &text[length..]
+    } else {
+        &[]
+    }
+}
+
+fn in_arena<'a>(arena: &'a Bump, bytes: &[u8]) -> Result<&'a [u8], Memory>
+    ensures { IfOk result (λ b. b.now ≡ bytes.now) }
+{
+    if bytes.is_empty() {
+        return Ok(&[]);
+    }
+    let kept = arena.try_alloc_slice_copy(bytes)?;
+    Ok(kept)
+}
