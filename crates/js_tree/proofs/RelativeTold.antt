@@ -93,6 +93,7 @@ opened_there [] [] keyword absolute instance h = refl
 opened_there (r ∷ rows) [] keyword absolute instance h = let a : suc (length rows) ≡ 0 = h refl in absurd (omega (arith, a))
 opened_there rows (o ∷ nodes) keyword absolute instance h = opened_below rows o nodes keyword absolute instance
 
+-- a row from what the code knows of its parts
 pub opening_is : (above found : OpenNode) (keyword absolute instance k a i added_keyword added_instance : List ℕ) → found ≡ above → k ≡ keyword → i ≡ instance → added_keyword ≡ drop found.keyword k → a ≡ absolute → added_instance ≡ drop found.instance i
     → opening_row added_keyword a added_instance ≡ opening_row (drop above.keyword keyword) absolute (drop above.instance instance)
 opening_is above found keyword absolute instance k a i added_keyword added_instance n ke ie ka ae ia =

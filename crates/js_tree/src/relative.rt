@@ -33,8 +33,8 @@ struct OpenNode {
     instance: usize,
 }
 
-/// Collects the flat form of a tree as `Flat` does. A location isn't kept whole, but only what it adds to that of the node
-/// above: so a node takes the memory of its row and of a few bytes in an arena, however deep it stands.
+/// Collects the flat form of a tree as `Flat` does. A location isn't kept whole, but only what it adds to that of the
+/// node above: so a node takes the memory of its row and of a few bytes in an arena, however deep it stands.
 #[derive(Drop)]
 pub struct RelativeRows<'a> {
     arena: &'a Bump,
@@ -55,8 +55,8 @@ impl<'a> RelativeRows<'a> {
         }
     }
 
-    /// A node opens: with its keyword location, the absolute location of its schema, what its own absolute location adds to
-    /// that, and its instance location (JSON Schema Core, section 12.3).
+    /// A node opens: with its keyword location, the absolute location of its schema, what its own absolute location adds
+    /// to that, and its instance location (JSON Schema Core, section 12.3).
     ///
     /// # Errors
     /// `Memory`.
