@@ -55,8 +55,7 @@ impl<'a> RelativeRows<'a> {
         }
     }
 
-    /// A node opens: with its keyword location, the absolute location of its schema, what its own absolute location adds
-    /// to that, and its instance location (JSON Schema Core, section 12.3).
+    /// A node opens. `token` is what its absolute location adds to that of its schema (JSON Schema Core, section 12.3).
     ///
     /// # Errors
     /// `Memory`.
