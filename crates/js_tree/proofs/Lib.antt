@@ -20,6 +20,8 @@ pub mod Nested
 pub mod NodeTexts
 pub mod NotedRows
 pub mod Pieces
+pub mod Placing
+pub mod RelativeTold
 pub mod Searching
 pub mod Siblings
 pub mod Steps

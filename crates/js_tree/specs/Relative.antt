@@ -1,5 +1,5 @@
--- Trees each of whose nodes has only what its locations add to those of the node above (JSON Schema Core, section 12.3:
--- the keyword location and the instance location of a node begin with those of the node above).
+-- Trees each of whose nodes has only what its locations add to those of the node above (JSON Schema Core,
+-- section 12.3: the keyword location and the instance location of a node begin with those of the node above).
 use Rattle.std.specs.Prelude.{◌≡◌, ℕ, List, ◌++◌, drop, length}
 use Rattle.js_tree.specs.Forest.{Forest, empty, tree}
 use Rattle.js_tree.specs.OutputUnit.{OutputUnit}

@@ -1,8 +1,9 @@
 //! Laws of result trees. Each is the contract of a function that does nothing.
-ghost use Rattle.std.specs.Prelude.{◌≡◌, ◌+◌, ◌<◌, ◌↔◌, IsTrue, Some, false, true};
+ghost use Rattle.std.specs.Prelude.{◌≡◌, [], ◌+◌, ◌<◌, ◌↔◌, IsTrue, Some, false, true};
 ghost use Rattle.js_tree.specs.Alike.{same_but_keyword};
 ghost use Rattle.js_tree.specs.Forest.{Forest, ◌⊹◌, node_count, tree};
-ghost use Rattle.js_tree.specs.Holding.{BoxedClosesAll, BoxedHolds, FlatHolds, VerdictHolds};
+ghost use Rattle.js_tree.specs.Holding.{BoxedClosesAll, BoxedHolds, FlatHolds, RelativeHolds, VerdictHolds};
+ghost use Rattle.js_tree.specs.Relative.{IsLocated, placed_tree, relative_tree};
 ghost use Rattle.js_tree.specs.Result.{ResultTree, Normal, Run, Step, kept, moved, units};
 ghost use Rattle.js_tree.specs.declared.moves.Move.{Move};
 ghost use Rattle.js_tree.specs.Merged.{alike, firsts, has_alike};
@@ -108,6 +109,16 @@ pub fn a_boxed_tree_is_closed()
 /// After the events of a tree `Flat` holds its flat form, and no node is open.
 pub fn rows_are_the_flat_form()
     ensures { FlatHolds }
+{}
+
+/// After the events of a tree whose locations go on from those above, the rows of `RelativeRows` are the tree's.
+pub fn relative_rows_are_those_of_the_tree()
+    ensures { RelativeHolds }
+{}
+
+/// Nothing is lost: what the locations add, put behind those above, makes the tree again.
+pub fn a_located_tree_is_placed_again()
+    ensures { (t : ResultTree) → IsLocated t → placed_tree [] [] (relative_tree t) ≡ t }
 {}
 
 /// The root alone, which is normal: so a contract that asks for no more than a normal answer lets it through.
