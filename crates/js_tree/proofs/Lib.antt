@@ -21,6 +21,7 @@ pub mod NodeTexts
 pub mod NotedRows
 pub mod Pieces
 pub mod QuotedParts
+pub mod RelativeTexts
 pub mod Searching
 pub mod Siblings
 pub mod Steps
