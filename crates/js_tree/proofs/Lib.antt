@@ -22,6 +22,8 @@ pub mod NotedRows
 pub mod Pieces
 pub mod Placing
 pub mod RelativeTold
+pub mod QuotedParts
+pub mod RelativeTexts
 pub mod Searching
 pub mod Siblings
 pub mod Steps
