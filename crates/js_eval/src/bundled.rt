@@ -111,7 +111,8 @@ pub(crate) fn held_below<'a>(
 pub(crate) fn target_at<'a>(schemas: &'a Schemas, place: Place, schema: &'a Doc) -> (Place, &'a Doc)
     requires { StandsAt schemas.now place (value_of schema.now) }
     ensures is { StandsAt schemas.now result.0 (value_of result.1.now) }
-    ensures site { numbered_site schemas.now result.0 ≡ (schemas_of schemas.now).target (numbered_site schemas.now place) }
+    ensures site { numbered_site schemas.now result.0
+        ≡ (schemas_of schemas.now).target (numbered_site schemas.now place) }
 {
     if schemas.has_ref(place) {
         let target = schemas.target(place);
@@ -136,7 +137,8 @@ pub(crate) fn dynamic_target_at<'a>(
     requires resources { resources.now ≡ dedup nat_eq (map (resource_of schemas.now) path.now) }
     ensures is { StandsAt schemas.now result.0 (value_of result.1.now) }
     ensures site { numbered_site schemas.now result.0
-        ≡ (schemas_of schemas.now).dynamic_target (map (numbered_site schemas.now) path.now) (numbered_site schemas.now place) }
+        ≡ (schemas_of schemas.now).dynamic_target (map (numbered_site schemas.now) path.now)
+        (numbered_site schemas.now place) }
 {
     if schemas.has_dynamic_ref(place) {
         let target = led_by_numbers(schemas, place, path, resources);

@@ -47,7 +47,8 @@ pub(crate) fn passes<'a>(
     requires schema { StandsAt schemas.now place (value_of schema.now) }
     requires keyword { IsKeywordAt (schemas_of schemas.now) (numbered_site schemas.now place) (keyword_of keyword) }
     ensures { IfOk result (λ b. (verdicts : List Bool) → length verdicts ≡ tally.asked → how_many verdicts ≡ tally.held
-        → b ≡ passes_at (schemas_of schemas.now) (numbered_site schemas.now place) (instance_of value.entry) matching (keyword_of keyword.entry) verdicts) }
+        → b ≡ passes_at (schemas_of schemas.now) (numbered_site schemas.now place) (instance_of value.entry) matching
+        (keyword_of keyword.entry) verdicts) }
 {
     let kind = keyword.kind;
     let said = match kind {
@@ -67,7 +68,8 @@ pub(crate) fn passes_by_count(
     tally: Tally,
 ) -> bool
     ensures { (matching : ℕ) (k : table.Keyword) (verdicts : List Bool)
-        → (kind ≡ AssertionKind → option_map_or (λ a. spec.says a (instance_of value.entry) matching) (asserted k.0 k.1 (entries (value_of schema.now))) true ≡ said)
+        → (kind ≡ AssertionKind → option_map_or (λ a. spec.says a (instance_of value.entry) matching)
+        (asserted k.0 k.1 (entries (value_of schema.now))) true ≡ said)
         → length verdicts ≡ tally.asked → how_many verdicts ≡ tally.held
         → result ≡ passes_of (entries (value_of schema.now)) (instance_of value.entry) matching k verdicts kind }
 {
@@ -85,7 +87,8 @@ pub(crate) fn passes_by_count(
 
 #[tactic(auto, using(crate::proofs::Counts::all_by_count))]
 fn holds_all(tally: Tally) -> bool
-    ensures { (verdicts : List Bool) → length verdicts ≡ tally.asked → how_many verdicts ≡ tally.held → result ≡ all verdicts }
+    ensures { (verdicts : List Bool) → length verdicts ≡ tally.asked → how_many verdicts ≡ tally.held
+        → result ≡ all verdicts }
 {
     tally.held == tally.asked
 }
@@ -99,7 +102,8 @@ fn holds_any(tally: Tally) -> bool
 
 fn contains(schema: &Doc, value: Instance<'_>, tally: Tally) -> bool
     ensures { (verdicts : List Bool) → how_many verdicts ≡ tally.held
-        → result ≡ on_array (instance_of value.entry) (λ _. any verdicts || may_contain_none (entries (value_of schema.now))) }
+        → result ≡ on_array (instance_of value.entry)
+        (λ _. any verdicts || may_contain_none (entries (value_of schema.now))) }
 {
     match value {
         Instance::Doc(Doc::List(_)) => holds_any(tally) || may_hold_none(schema),
@@ -130,7 +134,8 @@ fn says_at<'a>(
     requires place { is_place schemas.now place ≡ true }
     requires keyword { IsKeywordAt (schemas_of schemas.now) (numbered_site schemas.now place) (keyword_of keyword) }
     ensures { IfOk result (λ b. b ≡ option_map_or (λ a. spec.says a (instance_of value.entry) matching)
-        (asserted keyword.entry.name.now (value_of keyword.entry.argument.now) (entries (numbered_site schemas.now place).schema)) true) }
+        (asserted keyword.entry.name.now (value_of keyword.entry.argument.now)
+        (entries (numbered_site schemas.now place).schema)) true) }
 {
     says(
         alloc,

@@ -36,7 +36,12 @@ pub(crate) enum Asking<'a> {
 /// The schema at a place, on the value itself.
 pub(crate) fn alone<'a>(place: Place, schema: &'a Doc, value: Instance<'a>) -> Asking<'a>
     ensures asked { (documents : Documents) → asked documents result
-        ≡ record { place = numbered_site documents place; step = spec.Alone; at = spec.Alone; value = instance_of value.entry } ∷ [] }
+        ≡ record {
+          place = numbered_site documents place;
+          step = spec.Alone;
+          at = spec.Alone;
+          value = instance_of value.entry;
+        } ∷ [] }
     ensures is { (documents : Documents) → StandsAt documents place (value_of schema.now) → IsAsking documents result }
 {
     Asking::One(Some(Applied {

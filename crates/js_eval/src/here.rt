@@ -291,7 +291,8 @@ impl Here<'_> {
     #[tactic(auto, using(crate::proofs::Paths::location_is))]
     pub fn absolute(&self, alloc: Global, place: Place) -> Result<Text, Memory>
         requires { is_place self.now.schemas.now place ≡ true }
-        ensures { IfOk result (λ t. t ≡ (schemas_of self.now.schemas.now).absolute (numbered_site self.now.schemas.now place) None) }
+        ensures { IfOk result (λ t. t ≡ (schemas_of self.now.schemas.now).absolute
+            (numbered_site self.now.schemas.now place) None) }
     {
         Ok(Text::new(String::from_str(alloc, self.schemas.absolute_of(place))?))
     }
@@ -307,7 +308,8 @@ impl Here<'_> {
         keyword: &str,
     ) -> Result<Text, Memory>
         requires { is_place self.now.schemas.now place ≡ true }
-        ensures { IfOk result (λ t. t ≡ (schemas_of self.now.schemas.now).absolute (numbered_site self.now.schemas.now place) (Some keyword.now)) }
+        ensures { IfOk result (λ t. t ≡ (schemas_of self.now.schemas.now).absolute
+            (numbered_site self.now.schemas.now place) (Some keyword.now)) }
     {
         let location = one_further(alloc, self.schemas.absolute_of(place), keyword)?;
         Ok(Text::new(location))
@@ -325,7 +327,8 @@ impl Here<'_> {
         schema: &Doc,
     ) -> Result<Note<'n>, Memory>
         requires { StandsAt self.now.schemas.now _place (schema_value schema.now) }
-        ensures { IfOk result (λ n. note_of n ≡ schema_says (schemas_of self.now.schemas.now) (numbered_site self.now.schemas.now _place)) }
+        ensures { IfOk result (λ n. note_of n
+            ≡ schema_says (schemas_of self.now.schemas.now) (numbered_site self.now.schemas.now _place)) }
     {
         schema_note(alloc, schema)
     }

@@ -39,7 +39,8 @@ impl<'a> InTurn<'a> {
     /// The next one.
     pub fn next(&mut self) -> Option<(Turn, Keyword<'a>)>
         ensures { MatchOption result ((map pair_of self.old.left ≡ []) × (map pair_of self.new.left ≡ []))
-            (λ m. (map pair_of self.old.left ≡ keyword_of m.1 ∷ map pair_of self.new.left) × (m.0 ≡ turn_of m.1.name.now)) }
+            (λ m. (map pair_of self.old.left ≡ keyword_of m.1 ∷ map pair_of self.new.left)
+            × (m.0 ≡ turn_of m.1.name.now)) }
     {
         match self.left.next() {
             Some((name, argument)) => {
@@ -61,7 +62,8 @@ impl<'a> InTurn<'a> {
 
 // The first of the names, and the others.
 fn first_name(names: &[KeywordName]) -> (KeywordName, &[KeywordName])
-    ensures { (which : Which) (others : List Which) → names.now ≡ which ∷ others → (result.0 ≡ which) × (result.1.now ≡ others) }
+    ensures { (which : Which) (others : List Which) → names.now ≡ which ∷ others
+        → (result.0 ≡ which) × (result.1.now ≡ others) }
 {
     match names.split_first() {
         Some((first, others)) => (*first, others),

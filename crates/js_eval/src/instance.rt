@@ -52,7 +52,8 @@ impl<'a> Instance<'a> {
 
     /// The members, where it is an object.
     pub fn object(self) -> Option<&'a Members>
-        ensures { MatchOption result (entries (instance_of self.entry) ≡ []) (λ ms. ms.now ≡ entries (instance_of self.entry)) }
+        ensures { MatchOption result (entries (instance_of self.entry) ≡ [])
+            (λ ms. ms.now ≡ entries (instance_of self.entry)) }
     {
         match self {
             Instance::Doc(doc) => object_in(doc),

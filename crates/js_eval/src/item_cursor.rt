@@ -42,9 +42,11 @@ pub(crate) fn each_listed<'a>(
     value: Instance<'a>,
 ) -> ItemCursor<'a>
     ensures asked { (documents : Documents) → items_asked documents result
-        ≡ map (λ e. application (schemas_of documents) (numbered_site documents place) keyword.now (spec.Index e.0) spec.Alone (instance_of value.entry))
+        ≡ map (λ e. application (schemas_of documents) (numbered_site documents place) keyword.now
+        (spec.Index e.0) spec.Alone (instance_of value.entry))
         (indexed_from 0 (map value_of list.now)) }
-    ensures held { (documents : Documents) → StandsAt documents place (value_of schema.now) → IsHeld documents result.held }
+    ensures held { (documents : Documents) → StandsAt documents place (value_of schema.now)
+        → IsHeld documents result.held }
 {
     ItemCursor {
         held: Held::Each(place, schema, keyword),
@@ -66,9 +68,11 @@ pub(crate) fn each_in_step<'a>(
     items: &'a [Doc],
 ) -> ItemCursor<'a>
     ensures asked { (documents : Documents) → items_asked documents result
-        ≡ map (λ e. application (schemas_of documents) (numbered_site documents place) keyword.now (spec.Index e.0) (spec.Index e.0) e.1)
+        ≡ map (λ e. application (schemas_of documents) (numbered_site documents place) keyword.now (spec.Index e.0)
+        (spec.Index e.0) e.1)
         (filter (λ e. nat_lt e.0 (length list.now)) (indexed_from 0 (map value_of items.now))) }
-    ensures held { (documents : Documents) → StandsAt documents place (value_of schema.now) → IsHeld documents result.held }
+    ensures held { (documents : Documents) → StandsAt documents place (value_of schema.now)
+        → IsHeld documents result.held }
 {
     ItemCursor {
         held: Held::Each(place, schema, keyword),
@@ -99,9 +103,11 @@ pub(crate) fn each_from<'a>(
     first: usize,
 ) -> ItemCursor<'a>
     ensures asked { (documents : Documents) → items_asked documents result
-        ≡ map (λ e. record { place = numbered_site documents below; step = spec.Alone; at = spec.Index e.0; value = e.1 })
+        ≡ map (λ e.
+        record { place = numbered_site documents below; step = spec.Alone; at = spec.Index e.0; value = e.1 })
         (filter (λ e. nat_le first e.0) (indexed_from 0 (map value_of items.now))) }
-    ensures held { (documents : Documents) → StandsAt documents below (value_of schema.now) → IsHeld documents result.held }
+    ensures held { (documents : Documents) → StandsAt documents below (value_of schema.now)
+        → IsHeld documents result.held }
 {
     ItemCursor {
         held: Held::One(below, schema),
@@ -124,9 +130,11 @@ pub(crate) fn each_except<'a>(
     indexes: &[usize],
 ) -> Result<ItemCursor<'a>, Memory>
     ensures asked { IfOk result (λ c. (documents : Documents) → items_asked documents c
-        ≡ map (λ e. record { place = numbered_site documents below; step = spec.Alone; at = spec.Index e.0; value = e.1 })
+        ≡ map (λ e.
+        record { place = numbered_site documents below; step = spec.Alone; at = spec.Index e.0; value = e.1 })
         (filter (λ e. not (among_indexes e.0 indexes.now)) (indexed_from 0 (map value_of items.now)))) }
-    ensures held { IfOk result (λ c. (documents : Documents) → StandsAt documents below (value_of schema.now) → IsHeld documents c.held) }
+    ensures held { IfOk result (λ c. (documents : Documents) → StandsAt documents below (value_of schema.now)
+        → IsHeld documents c.held) }
 {
     Ok(ItemCursor {
         held: Held::One(below, schema),
@@ -176,7 +184,8 @@ fn next_item<'a>(
     next: &mut usize,
 ) -> Option<(usize, &'a Doc)>
     ensures { MatchOption result (items_left passed_over.now next.old items.now ≡ [])
-        (λ e. items_left passed_over.now next.old items.now ≡ (e.0, value_of e.1.now) ∷ items_left passed_over.now next.new items.now) }
+        (λ e. items_left passed_over.now next.old items.now
+        ≡ (e.0, value_of e.1.now) ∷ items_left passed_over.now next.new items.now) }
 {
     for index in *next..items.len() {
         if !is_marked(passed_over, index) {

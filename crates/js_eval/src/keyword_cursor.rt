@@ -50,7 +50,8 @@ impl<'a> Keywords<'a> {
     /// The next one. What it works with stands in no frame of the recursion.
     #[inline(never)]
     pub fn next(&mut self) -> Option<Keyword<'a>>
-        ensures { MatchOption result (keywords_in self.old ≡ []) (λ k. keywords_in self.old ≡ keyword_of k ∷ keywords_in self.new) }
+        ensures { MatchOption result (keywords_in self.old ≡ [])
+            (λ k. keywords_in self.old ≡ keyword_of k ∷ keywords_in self.new) }
     {
         match self {
             Keywords::Nothing => None,
@@ -73,7 +74,8 @@ impl<'a> KeywordCursor<'a> {
     }
 
     fn next(&mut self) -> Option<Keyword<'a>>
-        ensures { MatchOption result (keywords_left self.old ≡ []) (λ k. keywords_left self.old ≡ keyword_of k ∷ keywords_left self.new) }
+        ensures { MatchOption result (keywords_left self.old ≡ [])
+            (λ k. keywords_left self.old ≡ keyword_of k ∷ keywords_left self.new) }
     {
         if self.is_past_if {
             self.next_after_if()
@@ -84,7 +86,8 @@ impl<'a> KeywordCursor<'a> {
 
     fn next_up_to_if(&mut self) -> Option<Keyword<'a>>
         requires { self.old.is_past_if ≡ false }
-        ensures { MatchOption result (keywords_left self.old ≡ []) (λ k. keywords_left self.old ≡ keyword_of k ∷ keywords_left self.new) }
+        ensures { MatchOption result (keywords_left self.old ≡ [])
+            (λ k. keywords_left self.old ≡ keyword_of k ∷ keywords_left self.new) }
     {
         while let Some((turn, keyword)) = self.left.next() {
             match turn {
@@ -103,7 +106,8 @@ impl<'a> KeywordCursor<'a> {
 
     fn next_after_if(&mut self) -> Option<Keyword<'a>>
         requires { self.old.is_past_if ≡ true }
-        ensures { MatchOption result (keywords_left self.old ≡ []) (λ k. keywords_left self.old ≡ keyword_of k ∷ keywords_left self.new) }
+        ensures { MatchOption result (keywords_left self.old ≡ [])
+            (λ k. keywords_left self.old ≡ keyword_of k ∷ keywords_left self.new) }
     {
         match self.kept {
             Some(keyword) => {
@@ -117,7 +121,8 @@ impl<'a> KeywordCursor<'a> {
 
 // What is kept, or else the keyword.
 fn kept_or<'a>(kept: Option<Keyword<'a>>, keyword: Keyword<'a>) -> Option<Keyword<'a>>
-    ensures { (others : List table.Keyword) → kept_or result others ≡ kept_or kept.entry (keyword_of keyword.entry ∷ []) }
+    ensures { (others : List table.Keyword)
+        → kept_or result others ≡ kept_or kept.entry (keyword_of keyword.entry ∷ []) }
 {
     match kept {
         Some(kept) => Some(kept),

@@ -56,7 +56,8 @@ pub enum Kind {
 impl Kind {
     /// Whether a keyword of this kind applies schemas.
     pub(crate) fn is_applicator(self) -> bool
-        ensures { (S : SchemaSet Site) (path : List Site) (place : Site) (siblings : Named) (v : JsonValue) (condition : Option Bool) (names : List Text) (indexes : List ℕ) (k : Member)
+        ensures { (S : SchemaSet Site) (path : List Site) (place : Site) (siblings : Named) (v : JsonValue)
+            (condition : Option Bool) (names : List Text) (indexes : List ℕ) (k : Member)
             → result ≡ false → asks_of S path place siblings v condition names indexes k self ≡ [] }
     {
         match self {

@@ -68,9 +68,11 @@ pub(crate) fn each_named<'a>(
     members: &'a Members,
 ) -> MemberCursor<'a>
     ensures asked { (documents : Documents) → members_asked documents result
-        ≡ map (λ m. application (schemas_of documents) (numbered_site documents place) keyword.now (spec.Name m.0) (spec.Name m.0) m.1)
+        ≡ map (λ m. application (schemas_of documents) (numbered_site documents place) keyword.now (spec.Name m.0)
+        (spec.Name m.0) m.1)
         (filter (λ m. has m.0 named.now) members.now) }
-    ensures held { (documents : Documents) → StandsAt documents place (value_of schema.now) → IsHeld documents result.held }
+    ensures held { (documents : Documents) → StandsAt documents place (value_of schema.now)
+        → IsHeld documents result.held }
 {
     MemberCursor {
         held: Held::Each(place, schema, keyword),
@@ -90,9 +92,11 @@ pub(crate) fn each_in_place<'a>(
     value: Instance<'a>,
 ) -> MemberCursor<'a>
     ensures asked { (documents : Documents) → members_asked documents result
-        ≡ map (λ m. application (schemas_of documents) (numbered_site documents place) keyword.now (spec.Name m.0) spec.Alone (instance_of value.entry))
+        ≡ map (λ m. application (schemas_of documents) (numbered_site documents place) keyword.now
+        (spec.Name m.0) spec.Alone (instance_of value.entry))
         (filter (λ m. has m.0 members.now) named.now) }
-    ensures held { (documents : Documents) → StandsAt documents place (value_of schema.now) → IsHeld documents result.held }
+    ensures held { (documents : Documents) → StandsAt documents place (value_of schema.now)
+        → IsHeld documents result.held }
 {
     MemberCursor {
         held: Held::Each(place, schema, keyword),
@@ -106,8 +110,11 @@ pub(crate) fn each_in_place<'a>(
 #[tactic(auto, using(crate::proofs::MembersLeft::all_chosen))]
 pub(crate) fn each_name<'a>(below: Place, schema: &'a Doc, members: &'a Members) -> MemberCursor<'a>
     ensures asked { (documents : Documents) → members_asked documents result
-        ≡ map (λ m. record { place = numbered_site documents below; step = spec.Alone; at = spec.Name m.0; value = text m.0 }) members.now }
-    ensures held { (documents : Documents) → StandsAt documents below (value_of schema.now) → IsHeld documents result.held }
+        ≡ map (λ m.
+        record { place = numbered_site documents below; step = spec.Alone; at = spec.Name m.0; value = text m.0 })
+        members.now }
+    ensures held { (documents : Documents) → StandsAt documents below (value_of schema.now)
+        → IsHeld documents result.held }
 {
     MemberCursor {
         held: Held::One(below, schema),
@@ -127,9 +134,11 @@ pub(crate) fn each_additional<'a>(
     members: &'a Members,
 ) -> MemberCursor<'a>
     ensures asked { (documents : Documents) → members_asked documents result
-        ≡ map (λ m. record { place = numbered_site documents below; step = spec.Alone; at = spec.Name m.0; value = m.1 })
+        ≡ map (λ m.
+        record { place = numbered_site documents below; step = spec.Alone; at = spec.Name m.0; value = m.1 })
         (filter (λ m. not (is_named properties.entry m.0 || is_matched patterns.entry m.0)) members.now) }
-    ensures held { (documents : Documents) → StandsAt documents below (value_of schema.now) → IsHeld documents result.held }
+    ensures held { (documents : Documents) → StandsAt documents below (value_of schema.now)
+        → IsHeld documents result.held }
 {
     MemberCursor {
         held: Held::One(below, schema),
@@ -155,9 +164,11 @@ pub(crate) fn each_other<'a>(
     members: &'a Members,
 ) -> Result<MemberCursor<'a>, Memory>
     ensures asked { IfOk result (λ c. (documents : Documents) → members_asked documents c
-        ≡ map (λ m. record { place = numbered_site documents below; step = spec.Alone; at = spec.Name m.0; value = m.1 })
+        ≡ map (λ m.
+        record { place = numbered_site documents below; step = spec.Alone; at = spec.Name m.0; value = m.1 })
         (filter (λ m. not (among_names m.0 (texts_of names.now))) members.now)) }
-    ensures held { IfOk result (λ c. (documents : Documents) → StandsAt documents below (value_of schema.now) → IsHeld documents c.held) }
+    ensures held { IfOk result (λ c. (documents : Documents) → StandsAt documents below (value_of schema.now)
+        → IsHeld documents c.held) }
 {
     let set = set_of(alloc, names)?;
     Ok(MemberCursor {
@@ -221,7 +232,8 @@ fn next_member<'a>(
     members: &mut Iter<'a, String, Doc>,
 ) -> Result<Option<(&'a str, &'a Doc)>, Memory>
     ensures { IfOk result (λ o. MatchOption o (members_left choice.now members.old ≡ [])
-        (λ m. members_left choice.now members.old ≡ (m.0.now, value_of m.1.now) ∷ members_left choice.now members.new)) }
+        (λ m. members_left choice.now members.old
+        ≡ (m.0.now, value_of m.1.now) ∷ members_left choice.now members.new)) }
 {
     while let Some((name, member)) = members.next() {
         let name = name.as_str();
@@ -259,7 +271,8 @@ fn is_spoken_of<'a>(
     adjacent: &Adjacent<'a>,
     name: &str,
 ) -> Result<bool, Memory>
-    ensures { IfOk result (λ b. b ≡ (is_named adjacent.now.properties name.now || is_matched adjacent.now.patterns name.now)) }
+    ensures { IfOk result (λ b. b ≡ (is_named adjacent.now.properties name.now
+        || is_matched adjacent.now.patterns name.now)) }
 {
     if is_named(adjacent.properties, name) {
         return Ok(true);

@@ -48,7 +48,8 @@ pub(crate) fn each_of_names<'a>(
     requires keyword { IsIn (value_of schema.now) (keyword_of keyword) }
     requires named { named.now ≡ entries (value_of keyword.argument.now) }
     ensures asked { (documents : Documents) → names_asked documents result
-        ≡ map (λ m. application (schemas_of documents) (numbered_site documents place) keyword.entry.name.now (spec.Name m.0) (spec.Name m.0) m.1)
+        ≡ map (λ m. application (schemas_of documents) (numbered_site documents place) keyword.entry.name.now
+        (spec.Name m.0) (spec.Name m.0) m.1)
         (filter (λ m. has m.0 named.now) members.now) }
     ensures is { (documents : Documents) → StandsAt documents place (value_of schema.now) → IsNames documents result }
 {

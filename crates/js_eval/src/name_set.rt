@@ -23,7 +23,8 @@ pub(crate) fn set_of<'a>(alloc: Global, names: &[&'a str]) -> Result<BTreeSet<&'
 }
 
 fn insert<'a>(set: &mut BTreeSet<&'a str>, name: &'a str) -> Result<(), Memory>
-    ensures { OnOk result ((names : List Text) → HasNames set.old.keys names → HasNames set.new.keys (names ++ name.now ∷ [])) }
+    ensures { OnOk result ((names : List Text) → HasNames set.old.keys names
+        → HasNames set.new.keys (names ++ name.now ∷ [])) }
 {
     set.insert(name)?;
     Ok(())

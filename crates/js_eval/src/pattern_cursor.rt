@@ -48,8 +48,10 @@ pub(crate) fn each_matching<'a>(
     is_kept: bool,
 ) -> PatternCursor<'a>
     ensures asked { (documents : Documents) → patterns_asked documents result
-        ≡ flat_map (λ p. matching_asked documents (numbered_site documents place) keyword.now p.0 members.now) patterns.now }
-    ensures are { (documents : Documents) → StandsAt documents place (value_of schema.now) → ArePatterns documents result }
+        ≡ flat_map (λ p. matching_asked documents
+        (numbered_site documents place) keyword.now p.0 members.now) patterns.now }
+    ensures are { (documents : Documents) → StandsAt documents place (value_of schema.now)
+        → ArePatterns documents result }
 {
     PatternCursor {
         place,
@@ -78,7 +80,8 @@ pub(crate) fn next_matching<'a>(
 ) -> Result<Option<Applied<'a>>, Memory>
     requires { ArePatterns schemas.now cursor.old }
     ensures next { IfOk result (λ o. MatchOption o (patterns_asked schemas.now cursor.old ≡ [])
-        (λ a. patterns_asked schemas.now cursor.old ≡ applied_of schemas.now a ∷ patterns_asked schemas.now cursor.new)) }
+        (λ a. patterns_asked schemas.now cursor.old
+        ≡ applied_of schemas.now a ∷ patterns_asked schemas.now cursor.new)) }
     ensures is { IfOk result (λ o. MatchOption o (Unit {0}) (λ a. IsApplied schemas.now a)) }
     ensures are { IfOk result (λ _. ArePatterns schemas.now cursor.new) }
 {
@@ -108,7 +111,9 @@ fn next_match<'a>(
 ) -> Result<Option<(&'a str, &'a Doc)>, Memory>
     requires { ArePatterns schemas.now cursor.old }
     ensures next { IfOk result (λ o. MatchOption o (patterns_asked schemas.now cursor.old ≡ [])
-        (λ m. patterns_asked schemas.now cursor.old ≡ on_matched_member schemas.now cursor.new.below cursor.new.name.now (m.0.now, value_of m.1.now) ∷ patterns_asked schemas.now cursor.new)) }
+        (λ m. patterns_asked schemas.now cursor.old
+        ≡ on_matched_member schemas.now cursor.new.below cursor.new.name.now
+        (m.0.now, value_of m.1.now) ∷ patterns_asked schemas.now cursor.new)) }
     ensures are { IfOk result (λ _. ArePatterns schemas.now cursor.new) }
 {
     if let Some(pattern) = cursor.present {
@@ -163,8 +168,11 @@ fn next_member<'a>(
     is_kept: bool,
     members: &mut Iter<'a, String, Doc>,
 ) -> Result<Option<(&'a str, &'a Doc)>, Memory>
-    ensures { IfOk result (λ o. MatchOption o (filter (λ m. matches pattern.entry.text.now m.0) (map pair_of members.old) ≡ [])
-        (λ m. filter (λ m. matches pattern.entry.text.now m.0) (map pair_of members.old) ≡ (m.0.now, value_of m.1.now) ∷ filter (λ m. matches pattern.entry.text.now m.0) (map pair_of members.new))) }
+    ensures { IfOk result (λ o. MatchOption o
+        (filter (λ m. matches pattern.entry.text.now m.0) (map pair_of members.old) ≡ [])
+        (λ m. filter (λ m. matches pattern.entry.text.now m.0) (map pair_of members.old)
+        ≡ (m.0.now, value_of m.1.now) ∷ filter (λ m. matches pattern.entry.text.now m.0)
+        (map pair_of members.new))) }
 {
     while let Some((name, member)) = members.next() {
         let name = name.as_str();

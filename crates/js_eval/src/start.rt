@@ -67,8 +67,10 @@ pub(crate) fn start<'a>(
     requires resources { scene.scope.now ≡ dedup nat_eq (map (resource_of schemas.now) scene.path.now) }
     requires keyword { IsIn (value_of scene.schema.now) (keyword_of keyword) }
     ensures asked { IfOk result (λ a. asked schemas.now a
-        ≡ asks_of (schemas_of schemas.now) (map (numbered_site schemas.now) scene.entry.path.now) (numbered_site schemas.now scene.entry.place) (entries (value_of scene.entry.schema.now))
-        (instance_of scene.entry.value) facts.entry.condition (texts_of facts.entry.names.now) facts.entry.indexes.now (keyword_of keyword.entry) keyword.entry.kind) }
+        ≡ asks_of (schemas_of schemas.now) (map (numbered_site schemas.now) scene.entry.path.now)
+        (numbered_site schemas.now scene.entry.place) (entries (value_of scene.entry.schema.now))
+        (instance_of scene.entry.value) facts.entry.condition (texts_of facts.entry.names.now) facts.entry.indexes.now
+        (keyword_of keyword.entry) keyword.entry.kind) }
     ensures is { IfOk result (λ a. IsAsking schemas.now a) }
 {
     let Scene {
@@ -163,7 +165,8 @@ fn referred_dynamically<'a>(
     requires resources { resources.now ≡ dedup nat_eq (map (resource_of schemas.now) path.now) }
     ensures asked { asked schemas.now result
         ≡ record {
-          place = (schemas_of schemas.now).dynamic_target (map (numbered_site schemas.now) path.now) (numbered_site schemas.now place);
+          place = (schemas_of schemas.now).dynamic_target (map (numbered_site schemas.now) path.now)
+              (numbered_site schemas.now place);
           step = spec.Alone;
           at = spec.Alone;
           value = instance_of value.entry;
@@ -186,7 +189,9 @@ fn held<'a>(
     requires kind { held_at keyword.kind ≡ is_alone }
     requires keyword { IsIn (value_of schema.now) (keyword_of keyword) }
     ensures asked { asked schemas.now result
-        ≡ application (schemas_of schemas.now) (numbered_site schemas.now place) keyword.entry.name.now spec.Alone spec.Alone (instance_of value.entry) ∷ [] }
+        ≡ application (schemas_of schemas.now)
+        (numbered_site schemas.now place) keyword.entry.name.now spec.Alone spec.Alone
+        (instance_of value.entry) ∷ [] }
     ensures is { IsAsking schemas.now result }
 {
     let (place, schema) = held_below(schemas, place, schema, keyword);
@@ -206,7 +211,9 @@ fn held_then<'a>(
     requires kind { held_at keyword.kind ≡ is_alone }
     requires keyword { IsIn (value_of schema.now) (keyword_of keyword) }
     ensures asked { asked schemas.now result ≡ if_holds condition
-        (application (schemas_of schemas.now) (numbered_site schemas.now place) keyword.entry.name.now spec.Alone spec.Alone (instance_of value.entry) ∷ []) }
+        (application (schemas_of schemas.now)
+        (numbered_site schemas.now place) keyword.entry.name.now spec.Alone spec.Alone
+        (instance_of value.entry) ∷ []) }
     ensures is { IsAsking schemas.now result }
 {
     match condition {
@@ -229,7 +236,9 @@ fn held_else<'a>(
     requires kind { held_at keyword.kind ≡ is_alone }
     requires keyword { IsIn (value_of schema.now) (keyword_of keyword) }
     ensures asked { asked schemas.now result ≡ if_fails condition
-        (application (schemas_of schemas.now) (numbered_site schemas.now place) keyword.entry.name.now spec.Alone spec.Alone (instance_of value.entry) ∷ []) }
+        (application (schemas_of schemas.now)
+        (numbered_site schemas.now place) keyword.entry.name.now spec.Alone spec.Alone
+        (instance_of value.entry) ∷ []) }
     ensures is { IsAsking schemas.now result }
 {
     match condition {

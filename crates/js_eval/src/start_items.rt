@@ -35,7 +35,8 @@ pub(crate) fn listed<'a>(
     requires kind { held_at keyword.kind ≡ is_index }
     requires keyword { IsIn (value_of schema.now) (keyword_of keyword) }
     ensures asked { (documents : Documents) → asked documents result
-        ≡ map (λ e. application (schemas_of documents) (numbered_site documents place) keyword.entry.name.now (spec.Index e.0) spec.Alone (instance_of value.entry))
+        ≡ map (λ e. application (schemas_of documents) (numbered_site documents place) keyword.entry.name.now
+        (spec.Index e.0) spec.Alone (instance_of value.entry))
         (indexed (value_of keyword.entry.argument.now)) }
     ensures is { (documents : Documents) → StandsAt documents place (value_of schema.now) → IsAsking documents result }
 {
@@ -60,8 +61,10 @@ pub(crate) fn prefix<'a>(
 ) -> Asking<'a>
     requires { StandsAt schemas.now place (value_of schema.now) }
     ensures asked { asked schemas.now result
-        ≡ map (λ e. application (schemas_of schemas.now) (numbered_site schemas.now place) keyword.entry.name.now (spec.Index e.0) (spec.Index e.0) e.1)
-        (filter (λ e. nat_lt e.0 (length (values (value_of keyword.entry.argument.now)))) (indexed (instance_of value.entry))) }
+        ≡ map (λ e. application (schemas_of schemas.now) (numbered_site schemas.now place) keyword.entry.name.now
+        (spec.Index e.0) (spec.Index e.0) e.1)
+        (filter (λ e. nat_lt e.0 (length (values (value_of keyword.entry.argument.now))))
+        (indexed (instance_of value.entry))) }
     ensures is { IsAsking schemas.now result }
 {
     Asking::Items(each_in_step(
@@ -87,7 +90,8 @@ pub(crate) fn following<'a>(
     requires kind { held_at keyword.kind ≡ is_alone }
     requires keyword { IsIn (value_of schema.now) (keyword_of keyword) }
     ensures asked { asked schemas.now result
-        ≡ map (λ e. application (schemas_of schemas.now) (numbered_site schemas.now place) keyword.entry.name.now spec.Alone (spec.Index e.0) e.1)
+        ≡ map (λ e. application (schemas_of schemas.now)
+        (numbered_site schemas.now place) keyword.entry.name.now spec.Alone (spec.Index e.0) e.1)
         (filter (λ e. nat_le (prefix_length (entries (value_of schema.now))) e.0) (indexed (instance_of value.entry))) }
     ensures is { IsAsking schemas.now result }
 {
@@ -115,7 +119,8 @@ pub(crate) fn every<'a>(
     requires kind { held_at keyword.kind ≡ is_alone }
     requires keyword { IsIn (value_of schema.now) (keyword_of keyword) }
     ensures asked { asked schemas.now result
-        ≡ map (λ e. application (schemas_of schemas.now) (numbered_site schemas.now place) keyword.entry.name.now spec.Alone (spec.Index e.0) e.1)
+        ≡ map (λ e. application (schemas_of schemas.now)
+        (numbered_site schemas.now place) keyword.entry.name.now spec.Alone (spec.Index e.0) e.1)
         (indexed (instance_of value.entry)) }
     ensures is { IsAsking schemas.now result }
 {
@@ -135,7 +140,8 @@ fn from_index<'a>(
     requires kind { held_at keyword.kind ≡ is_alone }
     requires keyword { IsIn (value_of schema.now) (keyword_of keyword) }
     ensures asked { asked schemas.now result
-        ≡ map (λ e. application (schemas_of schemas.now) (numbered_site schemas.now place) keyword.entry.name.now spec.Alone (spec.Index e.0) e.1)
+        ≡ map (λ e. application (schemas_of schemas.now)
+        (numbered_site schemas.now place) keyword.entry.name.now spec.Alone (spec.Index e.0) e.1)
         (filter (λ e. nat_le first e.0) (indexed (instance_of value.entry))) }
     ensures is { IsAsking schemas.now result }
 {
@@ -170,7 +176,8 @@ pub(crate) fn unevaluated_items<'a>(
     requires kind { held_at keyword.kind ≡ is_alone }
     requires keyword { IsIn (value_of schema.now) (keyword_of keyword) }
     ensures asked { IfOk result (λ a. asked schemas.now a
-        ≡ map (λ e. application (schemas_of schemas.now) (numbered_site schemas.now place) keyword.entry.name.now spec.Alone (spec.Index e.0) e.1)
+        ≡ map (λ e. application (schemas_of schemas.now)
+        (numbered_site schemas.now place) keyword.entry.name.now spec.Alone (spec.Index e.0) e.1)
         (filter (λ e. not (among_indexes e.0 indexes.now)) (indexed (instance_of value.entry)))) }
     ensures is { IfOk result (λ a. IsAsking schemas.now a) }
 {

@@ -45,7 +45,8 @@ pub(crate) fn dependent<'a>(
 ) -> Asking<'a>
     requires { StandsAt schemas.now place (value_of schema.now) }
     ensures asked { asked schemas.now result
-        ≡ map (λ m. application (schemas_of schemas.now) (numbered_site schemas.now place) keyword.entry.name.now (spec.Name m.0) spec.Alone (instance_of value.entry))
+        ≡ map (λ m. application (schemas_of schemas.now) (numbered_site schemas.now place) keyword.entry.name.now
+        (spec.Name m.0) spec.Alone (instance_of value.entry))
         (filter (λ m. has m.0 (entries (instance_of value.entry))) (entries (value_of keyword.entry.argument.now))) }
     ensures is { IsAsking schemas.now result }
 {
@@ -75,7 +76,8 @@ pub(crate) fn properties<'a>(
     requires kind { held_at keyword.kind ≡ is_name }
     requires keyword { IsIn (value_of schema.now) (keyword_of keyword) }
     ensures asked { (documents : Documents) → asked documents result
-        ≡ map (λ m. application (schemas_of documents) (numbered_site documents place) keyword.entry.name.now (spec.Name m.0) (spec.Name m.0) m.1)
+        ≡ map (λ m. application (schemas_of documents) (numbered_site documents place) keyword.entry.name.now
+        (spec.Name m.0) (spec.Name m.0) m.1)
         (filter (λ m. has m.0 (entries (value_of keyword.entry.argument.now))) (entries (instance_of value.entry))) }
     ensures is { (documents : Documents) → StandsAt documents place (value_of schema.now) → IsAsking documents result }
 {
@@ -99,7 +101,8 @@ fn named_members<'a>(
     requires keyword { IsIn (value_of schema.now) (keyword_of keyword) }
     requires named { named.now ≡ entries (value_of keyword.argument.now) }
     ensures asked { (documents : Documents) → asked documents result
-        ≡ map (λ m. application (schemas_of documents) (numbered_site documents place) keyword.entry.name.now (spec.Name m.0) (spec.Name m.0) m.1)
+        ≡ map (λ m. application (schemas_of documents) (numbered_site documents place) keyword.entry.name.now
+        (spec.Name m.0) (spec.Name m.0) m.1)
         (filter (λ m. has m.0 named.now) members.now) }
     ensures is { (documents : Documents) → StandsAt documents place (value_of schema.now) → IsAsking documents result }
 {
@@ -124,8 +127,10 @@ pub(crate) fn patterns<'a>(
 ) -> Result<Asking<'a>, Memory>
     requires { StandsAt schemas.now place (value_of schema.now) }
     ensures asked { IfOk result (λ a. asked schemas.now a
-        ≡ flat_map (λ p. map (λ m. application (schemas_of schemas.now) (numbered_site schemas.now place) keyword.entry.name.now (spec.Name p.0) (spec.Name m.0) m.1)
-        (filter (λ m. matches p.0 m.0) (entries (instance_of value.entry)))) (entries (value_of keyword.entry.argument.now))) }
+        ≡ flat_map (λ p. map (λ m. application (schemas_of schemas.now)
+        (numbered_site schemas.now place) keyword.entry.name.now (spec.Name p.0) (spec.Name m.0) m.1)
+        (filter (λ m. matches p.0 m.0) (entries (instance_of value.entry))))
+        (entries (value_of keyword.entry.argument.now))) }
     ensures is { IfOk result (λ a. IsAsking schemas.now a) }
 {
     let Some(patterns) = object_in(keyword.argument) else {
@@ -159,8 +164,10 @@ pub(crate) fn additional<'a>(
     requires kind { held_at keyword.kind ≡ is_alone }
     requires keyword { IsIn (value_of schema.now) (keyword_of keyword) }
     ensures asked { asked schemas.now result
-        ≡ map (λ m. application (schemas_of schemas.now) (numbered_site schemas.now place) keyword.entry.name.now spec.Alone (spec.Name m.0) m.1)
-        (filter (λ m. not (is_property (entries (value_of schema.now)) m.0 || matches_pattern (entries (value_of schema.now)) m.0)) (entries (instance_of value.entry))) }
+        ≡ map (λ m. application (schemas_of schemas.now)
+        (numbered_site schemas.now place) keyword.entry.name.now spec.Alone (spec.Name m.0) m.1)
+        (filter (λ m. not (is_property (entries (value_of schema.now)) m.0
+        || matches_pattern (entries (value_of schema.now)) m.0)) (entries (instance_of value.entry))) }
     ensures is { IsAsking schemas.now result }
 {
     let (below, held) = held_below(schemas, place, schema, keyword);
@@ -186,7 +193,9 @@ pub(crate) fn property_names<'a>(
     requires kind { held_at keyword.kind ≡ is_alone }
     requires keyword { IsIn (value_of schema.now) (keyword_of keyword) }
     ensures asked { asked schemas.now result
-        ≡ map (λ m. application (schemas_of schemas.now) (numbered_site schemas.now place) keyword.entry.name.now spec.Alone (spec.Name m.0) (text m.0)) (entries (instance_of value.entry)) }
+        ≡ map (λ m. application (schemas_of schemas.now)
+        (numbered_site schemas.now place) keyword.entry.name.now spec.Alone (spec.Name m.0) (text m.0))
+        (entries (instance_of value.entry)) }
     ensures is { IsAsking schemas.now result }
 {
     let (below, held) = held_below(schemas, place, schema, keyword);
@@ -213,7 +222,8 @@ pub(crate) fn unevaluated_properties<'a>(
     requires kind { held_at keyword.kind ≡ is_alone }
     requires keyword { IsIn (value_of schema.now) (keyword_of keyword) }
     ensures asked { IfOk result (λ a. asked schemas.now a
-        ≡ map (λ m. application (schemas_of schemas.now) (numbered_site schemas.now place) keyword.entry.name.now spec.Alone (spec.Name m.0) m.1)
+        ≡ map (λ m. application (schemas_of schemas.now)
+        (numbered_site schemas.now place) keyword.entry.name.now spec.Alone (spec.Name m.0) m.1)
         (filter (λ m. not (among_names m.0 (texts_of evaluated.now))) (entries (instance_of value.entry)))) }
     ensures is { IfOk result (λ a. IsAsking schemas.now a) }
 {

@@ -54,8 +54,10 @@ pub(crate) fn keyword_note<'a>(
     indexes: &[usize],
 ) -> Result<Note<'a>, Memory>
     requires place { is_place here.now.schemas.now place ≡ true }
-    requires keyword { IsKeywordAt (schemas_of here.now.schemas.now) (numbered_site here.now.schemas.now place) (keyword_of keyword) }
-    ensures { IfOk result (λ n. note_of n ≡ says_at (schemas_of here.now.schemas.now) (numbered_site here.now.schemas.now place) (instance_of value.entry) matching (keyword_of keyword.entry)
+    requires keyword { IsKeywordAt (schemas_of here.now.schemas.now) (numbered_site here.now.schemas.now place)
+        (keyword_of keyword) }
+    ensures { IfOk result (λ n. note_of n ≡ says_at (schemas_of here.now.schemas.now)
+        (numbered_site here.now.schemas.now place) (instance_of value.entry) matching (keyword_of keyword.entry)
         judged.held (texts_of names.now) indexes.now judged.passes) }
 {
     let kind = keyword.kind;
@@ -93,7 +95,8 @@ fn annotation_of<'a>(
     indexes: &[usize],
 ) -> Result<Note<'a>, Memory>
     ensures { (siblings : Named) (matching held : ℕ)
-        → IfOk result (λ n. note_of n ≡ keyword_says siblings (instance_of value.entry) matching (keyword_of keyword.entry) held (texts_of names.now) indexes.now true kind) }
+        → IfOk result (λ n. note_of n ≡ keyword_says siblings (instance_of value.entry) matching
+        (keyword_of keyword.entry) held (texts_of names.now) indexes.now true kind) }
 {
     match kind {
         Kind::PrefixItems => Ok(true_or_largest(value, indexes)),
@@ -120,7 +123,8 @@ fn failure_of<'a>(
     held: usize,
     error: Option<String>,
 ) -> Result<Note<'a>, Memory>
-    ensures { (siblings : Named) (v : JsonValue) (matching : ℕ) (k : table.Keyword) (names : List Bytes) (indexes : List ℕ)
+    ensures { (siblings : Named) (v : JsonValue) (matching : ℕ) (k : table.Keyword) (names : List Bytes)
+        (indexes : List ℕ)
         → option_map string_bytes error ≡ option_map_or (λ a. texts.error a v matching) (asserted k.0 k.1 siblings) None
         → IfOk result (λ n. note_of n ≡ keyword_says siblings v matching k held names indexes false kind) }
 {
@@ -161,7 +165,8 @@ fn error_or_none<'a>(error: Option<String>) -> Note<'a>
 
 // `true` where a schema was applied to every item, else the largest index.
 fn true_or_largest<'a>(value: Instance<'a>, indexes: &[usize]) -> Note<'a>
-    ensures { note_of result ≡ spec.true_or (spec.are_all_items (instance_of value.entry) indexes.now) (spec.largest indexes.now) }
+    ensures { note_of result ≡ spec.true_or (spec.are_all_items (instance_of value.entry) indexes.now)
+        (spec.largest indexes.now) }
 {
     if are_all_items(value, indexes) {
         Note::Truth
@@ -241,7 +246,8 @@ fn members_applied<'a>(
     value: Instance<'a>,
     names: &[&'a str],
 ) -> Result<Note<'a>, Memory>
-    ensures { IfOk result (λ n. note_of n ≡ spec.said_of_object (instance_of value.entry) (spec.names (texts_of names.now))) }
+    ensures { IfOk result (λ n. note_of n ≡ spec.said_of_object (instance_of value.entry)
+        (spec.names (texts_of names.now))) }
 {
     match value {
         Instance::Doc(Doc::Members(_)) => Ok(Note::Names(Names::new(copies(alloc, names)?))),
@@ -287,7 +293,8 @@ fn members_among<'a>(
     value: Instance<'a>,
     among: &[&'a str],
 ) -> Result<Vec<&'a str>, Memory>
-    ensures { IfOk result (λ ns. texts_of ns.items ≡ spec.members_among (instance_of value.entry) (texts_of among.now)) }
+    ensures { IfOk result (λ ns. texts_of ns.items
+        ≡ spec.members_among (instance_of value.entry) (texts_of among.now)) }
 {
     match value.object() {
         Some(members) => names_among(alloc, members, among),
@@ -301,7 +308,8 @@ fn names_among<'a>(
     members: &'a Members,
     among: &[&'a str],
 ) -> Result<Vec<&'a str>, Memory>
-    ensures { IfOk result (λ ns. texts_of ns.items ≡ filter (λ name. among_names name (texts_of among.now)) (map (λ m. m.0) members.now)) }
+    ensures { IfOk result (λ ns. texts_of ns.items
+        ≡ filter (λ name. among_names name (texts_of among.now)) (map (λ m. m.0) members.now)) }
 {
     let set = set_of(alloc, among)?;
     names_in(alloc, members, &set)
@@ -313,7 +321,8 @@ fn names_in<'a>(
     members: &'a Members,
     set: &BTreeSet<&'a str>,
 ) -> Result<Vec<&'a str>, Memory>
-    ensures { IfOk result (λ ns. texts_of ns.items ≡ filter (λ name. is_key set.now.keys name) (map (λ m. m.0) members.now)) }
+    ensures { IfOk result (λ ns. texts_of ns.items
+        ≡ filter (λ name. is_key set.now.keys name) (map (λ m. m.0) members.now)) }
 {
     let mut names = Vec::new(alloc);
     for (name, _) in members.pairs() {
@@ -342,9 +351,12 @@ fn error_at(
     matching: u64,
 ) -> Result<Option<String>, Memory>
     requires place { is_place here.now.schemas.now place ≡ true }
-    requires keyword { IsKeywordAt (schemas_of here.now.schemas.now) (numbered_site here.now.schemas.now place) (keyword_of keyword) }
-    ensures { IfOk result (λ e. option_map string_bytes e ≡ option_map_or (λ a. texts.error a (instance_of value.entry) matching)
-        (asserted keyword.entry.name.now (value_of keyword.entry.argument.now) (entries (numbered_site here.now.schemas.now place).schema)) None) }
+    requires keyword { IsKeywordAt (schemas_of here.now.schemas.now) (numbered_site here.now.schemas.now place)
+        (keyword_of keyword) }
+    ensures { IfOk result (λ e. option_map string_bytes e
+        ≡ option_map_or (λ a. texts.error a (instance_of value.entry) matching)
+        (asserted keyword.entry.name.now (value_of keyword.entry.argument.now)
+        (entries (numbered_site here.now.schemas.now place).schema)) None) }
 {
     error_of(
         alloc,
@@ -363,7 +375,8 @@ fn error_of<'a>(
     value: Instance<'_>,
     matching: u64,
 ) -> Result<Option<String>, Memory>
-    ensures { IfOk result (λ e. option_map string_bytes e ≡ option_map_or (λ a. texts.error a (instance_of value.entry) matching)
+    ensures { IfOk result (λ e. option_map string_bytes e
+        ≡ option_map_or (λ a. texts.error a (instance_of value.entry) matching)
         (option_map (λ a. a.now) assertion.entry) None) }
 {
     match assertion {
@@ -380,7 +393,8 @@ fn checked<'a>(
     value: Instance<'_>,
     matching: u64,
 ) -> Result<Option<String>, Memory>
-    ensures { IfOk result (λ e. option_map string_bytes e ≡ texts.error assertion.now (instance_of value.entry) matching) }
+    ensures { IfOk result (λ e. option_map string_bytes e
+        ≡ texts.error assertion.now (instance_of value.entry) matching) }
 {
     if holds(alloc, searchers, assertion, value, matching)? {
         return Ok(None);

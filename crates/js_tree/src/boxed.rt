@@ -63,7 +63,8 @@ impl<'a> Collector<'a> for Boxed<'a> {
     ghost takes = { λ a e b. boxed_state b ≡ boxed_after (boxed_state a) e };
 
     fn enter(&mut self, head: Head) -> Result<(), Memory>
-        ensures takes { IfOk result (λ _. boxed_state self.new ≡ boxed_after (boxed_state self.old) (opening head.keyword head.absolute head.instance)) }
+        ensures takes { IfOk result (λ _. boxed_state self.new
+            ≡ boxed_after (boxed_state self.old) (opening head.keyword head.absolute head.instance)) }
         ensures kept { IfErr result (λ _. boxed_state self.new ≡ boxed_state self.old) }
         ensures ok { IsSome (boxed_state self.old).found → IsOk result }
     {
@@ -78,7 +79,8 @@ impl<'a> Collector<'a> for Boxed<'a> {
     }
 
     fn leave(&mut self, valid: bool, note: Note<'a>) -> Result<(), Memory>
-        ensures takes { IfOk result (λ _. boxed_state self.new ≡ boxed_after (boxed_state self.old) (closing valid (note_of note.entry))) }
+        ensures takes { IfOk result (λ _. boxed_state self.new
+            ≡ boxed_after (boxed_state self.old) (closing valid (note_of note.entry))) }
         ensures kept { IfErr result (λ _. boxed_state self.new ≡ boxed_state self.old) }
         ensures ok { (boxed_state self.old).frames ≡ [] → IsOk result }
     {
@@ -109,7 +111,10 @@ impl<'a> Collector<'a> for Boxed<'a> {
 
 /// The tree of a node that closes.
 fn closed<'a>(node: OpenNode<'a>, valid: bool, note: Note<'a>) -> Tree<'a>
-    ensures { result ≡ record { root = unit_of (frame_of node.entry) valid (note_of note.entry); below = (frame_of node.entry).below } }
+    ensures { result ≡ record {
+      root = unit_of (frame_of node.entry) valid (note_of note.entry);
+      below = (frame_of node.entry).below;
+    } }
 {
     let OpenNode { head, children } = node;
     Tree {

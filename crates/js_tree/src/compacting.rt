@@ -87,7 +87,8 @@ pub fn flat_condense(flat: Flat) -> Flat
 
 fn keep_rows(rows: &mut Vec<Row>, keep: Keep)
     requires { (t : ResultTree) × (map row_of rows.old.items ≡ flat t) }
-    ensures { (t : ResultTree) → map row_of rows.old.items ≡ flat t → map row_of rows.new.items ≡ flat (left_of keep t) }
+    ensures { (t : ResultTree) → map row_of rows.old.items ≡ flat t
+        → map row_of rows.new.items ≡ flat (left_of keep t) }
 {
     mark(rows, keep);
     let count = gather(rows, keep);
@@ -115,7 +116,8 @@ fn mark(rows: &mut [Row], keep: Keep)
 fn children(rows: &[Row], first: usize, end: usize) -> Remaining
     requires within { end ≤ length rows.now }
     requires marked { AreMarkedTrees rows.now first end }
-    ensures { (k : OfKeep) (f : Forest OutputUnit) (rest : List OfRow) → drop first rows.now ≡ marked k f ++ rest → first + node_count f ≡ end
+    ensures { (k : OfKeep) (f : Forest OutputUnit) (rest : List OfRow) → drop first rows.now ≡ marked k f ++ rest
+        → first + node_count f ≡ end
         → (result.trees ≡ left_trees k f) × (result.nodes ≡ node_count (left k f)) }
 {
     let mut remaining = Remaining { trees: 0, nodes: 0 };
@@ -136,7 +138,8 @@ fn children(rows: &[Row], first: usize, end: usize) -> Remaining
 fn gather(rows: &mut [Row], keep: Keep) -> usize
     requires { 0 < length rows.old }
     ensures at_most { result ≤ length rows.old }
-    ensures gathered { map row_of (take result rows.new) ≡ map row_of (take 1 rows.old) ++ gathered keep 0 (drop 1 rows.old) }
+    ensures gathered { map row_of (take result rows.new)
+        ≡ map row_of (take 1 rows.old) ++ gathered keep 0 (drop 1 rows.old) }
 {
     let mut count = 1;
     // How many rows go with one before them.

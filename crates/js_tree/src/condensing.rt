@@ -53,7 +53,8 @@ fn condense_all(trees: &mut [Tree]) -> usize
 /// Condenses below the node; then its only child takes its place, if it has no note. Answers whether a tree is left.
 #[cycle(condense)]
 fn condense_one(tree: &mut Tree) -> bool
-    ensures { kept_below noted (node tree.old.root tree.old.below empty) ≡ (if result then node tree.new.root tree.new.below empty else empty) }
+    ensures { kept_below noted (node tree.old.root tree.old.below empty)
+        ≡ (if result then node tree.new.root tree.new.below empty else empty) }
 {
     condense_children(&mut tree.children);
     // Only now: what stood below the node may be gone.

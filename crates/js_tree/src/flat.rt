@@ -68,7 +68,8 @@ impl<'a> Collector<'a> for Flat<'a> {
     ghost takes = { λ a e b. flat_state b ≡ flat_after (flat_state a) e };
 
     fn enter(&mut self, head: Head) -> Result<(), Memory>
-        ensures takes { IfOk result (λ _. flat_state self.new ≡ flat_after (flat_state self.old) (opening head.keyword head.absolute head.instance)) }
+        ensures takes { IfOk result (λ _. flat_state self.new
+            ≡ flat_after (flat_state self.old) (opening head.keyword head.absolute head.instance)) }
         ensures kept { IfErr result (λ _. flat_state self.new ≡ flat_state self.old) }
         ensures ok { (flat_state self.old).rows ≢ [] → (flat_state self.old).numbers ≡ [] → IsOk result }
     {
@@ -95,7 +96,8 @@ impl<'a> Collector<'a> for Flat<'a> {
     }
 
     fn leave(&mut self, valid: bool, note: Note<'a>) -> Result<(), Memory>
-        ensures takes { IfOk result (λ _. flat_state self.new ≡ flat_after (flat_state self.old) (closing valid (note_of note.entry))) }
+        ensures takes { IfOk result (λ _. flat_state self.new
+            ≡ flat_after (flat_state self.old) (closing valid (note_of note.entry))) }
         ensures kept { IfErr result (λ _. flat_state self.new ≡ flat_state self.old) }
         ensures ok { IsOk result }
     {

@@ -42,7 +42,9 @@ pub enum Format {
 /// `Memory`.
 pub fn form(alloc: Global, tree: Tree, format: Format) -> Result<Doc, Memory>
     ensures form { IfOk result (λ doc. value_of doc ≡ form format tree.entry) }
-    ensures one_normal_form { format ≡ Detailed → IfOk result (λ doc. (end : ResultTree) → Run (pruned tree.entry) end → Normal end → value_of doc ≡ verbose end) }
+    ensures one_normal_form { format ≡ Detailed
+        → IfOk result (λ doc. (end : ResultTree) → Run (pruned tree.entry) end → Normal end
+        → value_of doc ≡ verbose end) }
 {
     let tree = tree_of_format(tree, format);
     shown(alloc, &tree, format)
@@ -118,7 +120,9 @@ fn unit_list(alloc: Global, tree: &Tree) -> Result<Doc, Memory>
 
 /// The list of units, over the documents of the units.
 pub(crate) fn list_doc(alloc: Global, valid: bool, docs: Vec<Doc>) -> Result<Doc, Memory>
-    ensures { IfOk result (λ doc. value_of doc ≡ object (members ((list_name valid, list (items (map value_of docs.items))) ∷ (codes "valid", truth valid) ∷ []))) }
+    ensures { IfOk result (λ doc. value_of doc
+        ≡ object (members ((list_name valid, list (items (map value_of docs.items))) ∷
+        (codes "valid", truth valid) ∷ []))) }
 {
     let mut members = Members::new(alloc);
     put_member(
@@ -133,7 +137,8 @@ pub(crate) fn list_doc(alloc: Global, valid: bool, docs: Vec<Doc>) -> Result<Doc
 
 /// Adds the units with a note, in preorder, each as a node without children.
 fn add_unit_docs(alloc: Global, trees: &[Tree], docs: &mut Vec<Doc>) -> Result<(), Memory>
-    ensures { IfOk result (λ _. map value_of docs.new.items ≡ map value_of docs.old.items ++ map (λ u. node_value u []) (units_below noted (forest_of trees.now))) }
+    ensures { IfOk result (λ _. map value_of docs.new.items
+        ≡ map value_of docs.old.items ++ map (λ u. node_value u []) (units_below noted (forest_of trees.now))) }
 {
     for tree in trees {
         if tree.unit.is_noted() {
@@ -164,7 +169,8 @@ pub(crate) fn node_doc(alloc: Global, unit: &Unit, children: Vec<Doc>) -> Result
 }
 
 fn put_note(alloc: Global, members: &mut Members, note: &Note) -> Result<(), Memory>
-    ensures { OnOk result (members.new ≡ put_some (codes "error") (error_value (note_of note.now)) (put_some (codes "annotation") (annotation_value (note_of note.now)) members.old)) }
+    ensures { OnOk result (members.new ≡ put_some (codes "error") (error_value (note_of note.now))
+        (put_some (codes "annotation") (annotation_value (note_of note.now)) members.old)) }
 {
     match note {
         Note::Silent => Ok(()),
@@ -199,7 +205,9 @@ fn put_children(
     valid: bool,
     children: Vec<Doc>,
 ) -> Result<(), Memory>
-    ensures { OnOk result (members.new ≡ put_some (codes "errors") (value_if (not valid) (array_of_some (map value_of children.items))) (put_some (codes "annotations") (value_if valid (array_of_some (map value_of children.items))) members.old)) }
+    ensures { OnOk result (members.new ≡ put_some (codes "errors")
+        (value_if (not valid) (array_of_some (map value_of children.items)))
+        (put_some (codes "annotations") (value_if valid (array_of_some (map value_of children.items))) members.old)) }
 {
     if children.is_empty() {
         return Ok(());

@@ -81,13 +81,19 @@ pub fn steps_of_three_are_moves()
 
 /// Trees are alike exactly where they are equal without their keyword locations.
 pub fn alike_trees_are_equal_without_keywords()
-    ensures { (f g : Forest OutputUnit) → IsTrue (alike same_but_keyword f g) ↔ (without_keywords f ≡ without_keywords g) }
+    ensures { (f g : Forest OutputUnit) → IsTrue (alike same_but_keyword f g)
+        ↔ (without_keywords f ≡ without_keywords g) }
 {}
 
 /// Of alike trees side by side the earliest stays, with its own keyword locations, and the later ones go.
 pub fn the_earliest_of_alike_trees_stays()
-    ensures stays { (f : Forest OutputUnit) (u : OutputUnit) (below g : Forest OutputUnit) → has_alike same_but_keyword f u below ≡ false → (h : Forest OutputUnit) × (firsts same_but_keyword (f ⊹ tree u below g) ≡ (firsts same_but_keyword f ⊹ tree u below h)) }
-    ensures goes { (f : Forest OutputUnit) (u : OutputUnit) (below g : Forest OutputUnit) → has_alike same_but_keyword f u below ≡ true → firsts same_but_keyword (f ⊹ tree u below g) ≡ firsts same_but_keyword (f ⊹ g) }
+    ensures stays { (f : Forest OutputUnit) (u : OutputUnit) (below g : Forest OutputUnit)
+        → has_alike same_but_keyword f u below ≡ false
+        → (h : Forest OutputUnit) × (firsts same_but_keyword (f ⊹ tree u below g)
+        ≡ (firsts same_but_keyword f ⊹ tree u below h)) }
+    ensures goes { (f : Forest OutputUnit) (u : OutputUnit) (below g : Forest OutputUnit)
+        → has_alike same_but_keyword f u below ≡ true
+        → firsts same_but_keyword (f ⊹ tree u below g) ≡ firsts same_but_keyword (f ⊹ g) }
 {}
 
 /// After the events of a tree whose nodes stand on fewer than 2^64 levels, `Verdict` holds its root's verdict.

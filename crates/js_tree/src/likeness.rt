@@ -97,7 +97,8 @@ fn has_alike(trees: &[Tree], tree: &Tree) -> bool
 /// The tree at the index is alike to one of the first, so many of them as `count` says.
 pub(crate) fn comes_again(trees: &[Tree], count: usize, index: usize) -> bool
     requires { (count ≤ index) × (index < length trees.now) }
-    ensures { (d : ResultTree) → result ≡ has_alike same_but_keyword (forest_of (take count trees.now)) (get_or trees.now index d).root (get_or trees.now index d).below }
+    ensures { (d : ResultTree) → result ≡ has_alike same_but_keyword (forest_of (take count trees.now))
+        (get_or trees.now index d).root (get_or trees.now index d).below }
 {
     has_alike(&trees[..count], &trees[index])
 }
@@ -105,7 +106,9 @@ pub(crate) fn comes_again(trees: &[Tree], count: usize, index: usize) -> bool
 /// The tree at the index is alike to the one that its mark names, of so many first ones as `count` says.
 pub(crate) fn comes_again_at_mark(trees: &[Tree], count: usize, index: usize) -> bool
     requires { (count ≤ index) × (index < length trees.now) }
-    ensures { (d : ResultTree) → IsTrue result → has_alike same_but_keyword (forest_of (take count trees.now)) (get_or trees.now index d).root (get_or trees.now index d).below ≡ true }
+    ensures { (d : ResultTree) → IsTrue result
+        → has_alike same_but_keyword (forest_of (take count trees.now)) (get_or trees.now index d).root
+        (get_or trees.now index d).below ≡ true }
 {
     let tree = &trees[index];
     let place = tree.mark();

@@ -62,7 +62,8 @@ fn merge_all(trees: &mut [Tree]) -> usize
 /// Merges below the node; then its only child takes its place, if it has no note. Answers whether a tree is left.
 #[cycle(merge)]
 fn merge_one(tree: &mut Tree) -> bool
-    ensures { given_trees noted same_but_keyword (node tree.old.root tree.old.below empty) ≡ (if result then node tree.new.root tree.new.below empty else empty) }
+    ensures { given_trees noted same_but_keyword (node tree.old.root tree.old.below empty)
+        ≡ (if result then node tree.new.root tree.new.below empty else empty) }
 {
     merge_children(&mut tree.children);
     // Only now: what stood below the node may be gone.
@@ -102,7 +103,8 @@ fn keep_few(trees: &mut Vec<Tree>)
 
 /// Takes away trees that are alike to an earlier one. Answers whether all of them are gone for sure.
 fn keep_firsts_by_list(trees: &mut Vec<Tree>) -> bool
-    ensures left { firsts same_but_keyword (forest_of trees.new.items) ≡ firsts same_but_keyword (forest_of trees.old.items) }
+    ensures left { firsts same_but_keyword (forest_of trees.new.items)
+        ≡ firsts same_but_keyword (forest_of trees.old.items) }
     ensures gone { IsTrue result → firsts same_but_keyword (forest_of trees.new.items) ≡ forest_of trees.new.items }
 {
     let first = list_in_order(trees, 0, trees.len());
@@ -120,7 +122,8 @@ fn keep_firsts_by_list(trees: &mut Vec<Tree>) -> bool
 /// many they are.
 fn drop_marked(trees: &mut [Tree]) -> usize
     ensures at_most { result ≤ length trees.old }
-    ensures left { firsts same_but_keyword (forest_of (take result trees.new)) ≡ firsts same_but_keyword (forest_of trees.old) }
+    ensures left { firsts same_but_keyword (forest_of (take result trees.new))
+        ≡ firsts same_but_keyword (forest_of trees.old) }
 {
     let mut count = 0;
     for i in 0..trees.len() {
@@ -156,7 +159,8 @@ pub fn is_merged(tree: &Tree) -> bool
 
 /// No step is possible among the trees or below them.
 fn are_merged(trees: &[Tree]) -> bool
-    ensures { result ≡ (none_alike same_but_keyword empty (forest_of trees.now) && all_merged noted same_but_keyword (forest_of trees.now)) }
+    ensures { result ≡ (none_alike same_but_keyword empty (forest_of trees.now)
+        && all_merged noted same_but_keyword (forest_of trees.now)) }
 {
     siblings_differ(trees) && all_merged(trees)
 }

@@ -50,7 +50,8 @@ enum Search {
 /// `NoMove` with the tree as it was, exactly where the rule isn't possible there or no node below the root has the
 /// number.
 pub fn apply<'a>(tree: Tree<'a>, chosen: &Move) -> Result<Tree<'a>, (NoMove, Tree<'a>)>
-    ensures moved { MatchResult result (λ made. moved chosen.now tree.entry ≡ Some made) (λ refused. (moved chosen.now tree.entry ≡ None) × (refused.1 ≡ tree.entry)) }
+    ensures moved { MatchResult result (λ made. moved chosen.now tree.entry ≡ Some made)
+        (λ refused. (moved chosen.now tree.entry ≡ None) × (refused.1 ≡ tree.entry)) }
     ensures step { IfOk result (λ made. IsTrue (of_two chosen.now.rule) → Step tree.entry made) }
     ensures step_of_three { IfOk result (λ made. StepOfThree tree.entry made) }
 {
@@ -69,9 +70,12 @@ pub fn apply<'a>(tree: Tree<'a>, chosen: &Move) -> Result<Tree<'a>, (NoMove, Tre
 /// # Errors
 /// The number of the first that isn't possible, the first move's being 0, and the tree that it met.
 pub fn replay<'a>(tree: Tree<'a>, moves: &[Move]) -> Result<Tree<'a>, (usize, Tree<'a>)>
-    ensures run { MatchResult result (λ end. replayed moves.now tree.entry ≡ Some end) (λ stop. (stop.0 < length moves.now) × (replayed (take stop.0 moves.now) tree.entry ≡ Some stop.1) × (replayed (take (stop.0 + 1) moves.now) tree.entry ≡ None)) }
+    ensures run { MatchResult result (λ end. replayed moves.now tree.entry ≡ Some end)
+        (λ stop. (stop.0 < length moves.now) × (replayed (take stop.0 moves.now) tree.entry ≡ Some stop.1)
+        × (replayed (take (stop.0 + 1) moves.now) tree.entry ≡ None)) }
     ensures at_most { IfOk result (λ end. length moves.now + node_count end.below ≤ node_count tree.entry.below) }
-    ensures length { IfOk result (λ end. IsTrue (all_of_two moves.now) → length moves.now + node_count end.below ≡ node_count tree.entry.below) }
+    ensures length { IfOk result (λ end. IsTrue (all_of_two moves.now)
+        → length moves.now + node_count end.below ≡ node_count tree.entry.below) }
     ensures one_normal_form { IfOk result (λ end. IsTrue (all_of_two moves.now) → Normal end → end ≡ kept tree.entry) }
     ensures one_merged_form { IfOk result (λ end. NormalOfThree end → end ≡ merged tree.entry) }
 {
@@ -88,7 +92,8 @@ fn apply_numbered<'a>(
     chosen: &Move,
     number: usize,
 ) -> Result<Tree<'a>, (usize, Tree<'a>)>
-    ensures { MatchResult result (λ made. moved chosen.now tree.entry ≡ Some made) (λ stop. (stop.0 ≡ number) × (moved chosen.now tree.entry ≡ None) × (stop.1 ≡ tree.entry)) }
+    ensures { MatchResult result (λ made. moved chosen.now tree.entry ≡ Some made) (λ stop. (stop.0 ≡ number)
+        × (moved chosen.now tree.entry ≡ None) × (stop.1 ≡ tree.entry)) }
 {
     match apply(tree, chosen) {
         Ok(made) => Ok(made),
@@ -134,7 +139,9 @@ fn move_among(trees: &mut Vec<Tree>, rule: Rule, position: usize) -> Search
 /// Takes the tree at the index away, if it is a leaf without a note.
 fn drop_leaf(trees: &mut Vec<Tree>, i: usize) -> bool
     requires { i < vec_len trees.old }
-    ensures dropped { moved_at noted same_but_keyword Drop empty (forest_of trees.old.items) (node_count (forest_of (take i trees.old.items))) ≡ (if result then Some (forest_of trees.new.items) else None) }
+    ensures dropped { moved_at noted same_but_keyword Drop empty (forest_of trees.old.items)
+        (node_count (forest_of (take i trees.old.items)))
+        ≡ (if result then Some (forest_of trees.new.items) else None) }
     ensures unchanged { result ≡ false → trees.new.items ≡ trees.old.items }
 {
     let tree = &trees[i];
@@ -148,7 +155,9 @@ fn drop_leaf(trees: &mut Vec<Tree>, i: usize) -> bool
 /// Takes the tree at the index away, if one before it is alike.
 fn drop_alike(trees: &mut Vec<Tree>, i: usize) -> bool
     requires { i < vec_len trees.old }
-    ensures merged { moved_at noted same_but_keyword Merge empty (forest_of trees.old.items) (node_count (forest_of (take i trees.old.items))) ≡ (if result then Some (forest_of trees.new.items) else None) }
+    ensures merged { moved_at noted same_but_keyword Merge empty (forest_of trees.old.items)
+        (node_count (forest_of (take i trees.old.items)))
+        ≡ (if result then Some (forest_of trees.new.items) else None) }
     ensures unchanged { result ≡ false → trees.new.items ≡ trees.old.items }
 {
     if !comes_again(trees.as_slice(), i, i) {
@@ -160,7 +169,8 @@ fn drop_alike(trees: &mut Vec<Tree>, i: usize) -> bool
 
 /// Puts the node's only child in its place, if it has exactly one and no note.
 fn lift_child(tree: &mut Tree) -> bool
-    ensures lifted { with_only_child noted tree.old.root tree.old.below empty ≡ (if result then Some (node tree.new.root tree.new.below empty) else None) }
+    ensures lifted { with_only_child noted tree.old.root tree.old.below empty
+        ≡ (if result then Some (node tree.new.root tree.new.below empty) else None) }
     ensures unchanged { result ≡ false → tree.new ≡ tree.old }
 {
     if tree.unit.is_noted() || tree.children.len() != 1 {

@@ -94,21 +94,24 @@ fn put_annotation<O: Out>(note: &Note, out: &mut O) -> Result<(), Stopped>
 }
 
 fn put_value<O: Out>(value: &Doc, out: &mut O) -> Result<(), Stopped>
-    ensures { Puts (O.progress out.old) (O.progress out.new) (codes ",\"annotation\":" ++ compact (value_of value.now)) result }
+    ensures { Puts (O.progress out.old) (O.progress out.new)
+        (codes ",\"annotation\":" ++ compact (value_of value.now)) result }
 {
     out.put(b",\"annotation\":")?;
     put_text(value, out)
 }
 
 fn put_index<O: Out>(index: u64, out: &mut O) -> Result<(), Stopped>
-    ensures { Puts (O.progress out.old) (O.progress out.new) (codes ",\"annotation\":" ++ compact (whole (pos index))) result }
+    ensures { Puts (O.progress out.old) (O.progress out.new)
+        (codes ",\"annotation\":" ++ compact (whole (pos index))) result }
 {
     out.put(b",\"annotation\":")?;
     put_number(Whole::from_u64(index), out)
 }
 
 fn put_names<O: Out>(names: &[&str], out: &mut O) -> Result<(), Stopped>
-    ensures { Puts (O.progress out.old) (O.progress out.new) (codes ",\"annotation\":" ++ compact (list (items (map text (map (λ name. name.now) names.now))))) result }
+    ensures { Puts (O.progress out.old) (O.progress out.new)
+        (codes ",\"annotation\":" ++ compact (list (items (map text (map (λ name. name.now) names.now))))) result }
 {
     out.put(b",\"annotation\":[")?;
     let mut later = false;
@@ -121,7 +124,8 @@ fn put_names<O: Out>(names: &[&str], out: &mut O) -> Result<(), Stopped>
 }
 
 fn put_indexes<O: Out>(indexes: &[u64], out: &mut O) -> Result<(), Stopped>
-    ensures { Puts (O.progress out.old) (O.progress out.new) (codes ",\"annotation\":" ++ compact (list (items (map (λ index. whole (pos index)) indexes.now)))) result }
+    ensures { Puts (O.progress out.old) (O.progress out.new)
+        (codes ",\"annotation\":" ++ compact (list (items (map (λ index. whole (pos index)) indexes.now)))) result }
 {
     out.put(b",\"annotation\":[")?;
     let mut later = false;

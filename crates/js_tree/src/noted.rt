@@ -26,7 +26,8 @@ pub fn units<'t, 'a>(alloc: Global, tree: &'t Tree<'a>) -> Result<Vec<&'t Unit<'
 }
 
 fn add_units<'t, 'a>(trees: &'t [Tree<'a>], found: &mut Vec<&'t Unit<'a>>) -> Result<(), Memory>
-    ensures { IfOk result (λ _. map (λ unit. unit.now) found.new.items ≡ map (λ unit. unit.now) found.old.items ++ units_below noted (forest_of trees.now)) }
+    ensures { IfOk result (λ _. map (λ unit. unit.now) found.new.items
+        ≡ map (λ unit. unit.now) found.old.items ++ units_below noted (forest_of trees.now)) }
 {
     for tree in trees {
         if tree.unit.is_noted() {

@@ -14,7 +14,8 @@ use std::alloc::Global;
 /// `Memory`.
 pub fn flat_units<'t, 'a>(alloc: Global, flat: &'t Flat<'a>) -> Result<Vec<&'t Unit<'a>>, Memory>
     requires { IsWholeTree (flat_state flat.now) }
-    ensures { IfOk result (λ found. (t : ResultTree) → flat_state flat.now ≡ whole_tree t → map (λ unit. unit.now) found.items ≡ units t) }
+    ensures { IfOk result (λ found. (t : ResultTree) → flat_state flat.now ≡ whole_tree t
+        → map (λ unit. unit.now) found.items ≡ units t) }
 {
     noted_units(alloc, flat.rows())
 }

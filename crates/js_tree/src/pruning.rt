@@ -45,7 +45,8 @@ fn prune_all(trees: &mut [Tree], verdict: bool) -> usize
 /// Prunes below the node, if it has the verdict, and answers whether it has.
 #[cycle(prune)]
 fn prune_one(tree: &mut Tree, verdict: bool) -> bool
-    ensures { pruned_below (has_verdict verdict) (node tree.old.root tree.old.below empty) ≡ (if result then node tree.new.root tree.new.below empty else empty) }
+    ensures { pruned_below (has_verdict verdict) (node tree.old.root tree.old.below empty)
+        ≡ (if result then node tree.new.root tree.new.below empty else empty) }
 {
     if tree.unit.valid != verdict {
         return false;

@@ -20,14 +20,16 @@ use js_doc::{Out, Stopped};
 /// `Stopped`; then a beginning of the text has gone out.
 pub fn put_flat<O: Out>(flat: &Flat, format: Format, out: &mut O) -> Result<(), Stopped>
     requires { IsWholeTree (flat_state flat.now) }
-    ensures { (t : ResultTree) → flat_state flat.now ≡ whole_tree t → Puts (O.progress out.old) (O.progress out.new) (compact (shown format t)) result }
+    ensures { (t : ResultTree) → flat_state flat.now ≡ whole_tree t
+        → Puts (O.progress out.old) (O.progress out.new) (compact (shown format t)) result }
 {
     put_rows(flat.rows(), format, out)
 }
 
 fn put_rows<L: Line, O: Out>(rows: &[L], format: Format, out: &mut O) -> Result<(), Stopped>
     requires { (t : ResultTree) × (map L.flat_row rows.now ≡ flat t) }
-    ensures { (t : ResultTree) → map L.flat_row rows.now ≡ flat t → Puts (O.progress out.old) (O.progress out.new) (compact (shown format t)) result }
+    ensures { (t : ResultTree) → map L.flat_row rows.now ≡ flat t
+        → Puts (O.progress out.old) (O.progress out.new) (compact (shown format t)) result }
 {
     let root = &rows[0];
     match format {

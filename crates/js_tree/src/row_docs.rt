@@ -20,7 +20,8 @@ use std::alloc::Global;
 /// `Memory`.
 pub fn flat_doc(alloc: Global, flat: &Flat, format: Format) -> Result<Doc, Memory>
     requires { IsWholeTree (flat_state flat.now) }
-    ensures { IfOk result (λ doc. (t : ResultTree) → flat_state flat.now ≡ whole_tree t → value_of doc ≡ shown format t) }
+    ensures { IfOk result (λ doc. (t : ResultTree) → flat_state flat.now ≡ whole_tree t
+        → value_of doc ≡ shown format t) }
 {
     let rows = flat.rows();
     match format {
@@ -53,7 +54,8 @@ fn unit_list_doc(alloc: Global, rows: &[Row]) -> Result<Doc, Memory>
 
 /// The units with a note, each as a node without children.
 fn noted_docs(alloc: Global, rows: &[Row]) -> Result<Vec<Doc>, Memory>
-    ensures { IfOk result (λ docs. map value_of docs.items ≡ map (λ u. node_value u []) (noted_of (map row_of rows.now))) }
+    ensures { IfOk result (λ docs. map value_of docs.items
+        ≡ map (λ u. node_value u []) (noted_of (map row_of rows.now))) }
 {
     let mut docs = Vec::new(alloc);
     for row in rows {
@@ -79,7 +81,8 @@ fn root_doc(alloc: Global, rows: &[Row]) -> Result<Doc, Memory>
 #[cycle(root_doc)]
 fn root_docs(alloc: Global, rows: &[Row]) -> Result<Vec<Doc>, Memory>
     requires { (f : Forest OutputUnit) × (map row_of rows.now ≡ flat_of f) }
-    ensures { IfOk result (λ docs. (f : Forest OutputUnit) → map row_of rows.now ≡ flat_of f → map value_of docs.items ≡ node_values f) }
+    ensures { IfOk result (λ docs. (f : Forest OutputUnit) → map row_of rows.now ≡ flat_of f
+        → map value_of docs.items ≡ node_values f) }
 {
     let mut docs = Vec::new(alloc);
     let mut next = 0;

@@ -19,7 +19,8 @@ use js_doc::{Out, Stopped};
 #[cycle(put_root)]
 pub(crate) fn put_root<L: Line, O: Out>(rows: &[L], out: &mut O) -> Result<(), Stopped>
     requires { (t : ResultTree) × (map L.flat_row rows.now ≡ flat t) }
-    ensures { (t : ResultTree) → map L.flat_row rows.now ≡ flat t → Puts (O.progress out.old) (O.progress out.new) (compact (verbose t)) result }
+    ensures { (t : ResultTree) → map L.flat_row rows.now ≡ flat t
+        → Puts (O.progress out.old) (O.progress out.new) (compact (verbose t)) result }
 {
     let row = &rows[0];
     let below = &rows[1..];
@@ -40,7 +41,9 @@ fn put_children<L: Line, O: Out>(
     out: &mut O,
 ) -> Result<(), Stopped>
     requires { (f : Forest OutputUnit) × (map L.flat_row rows.now ≡ flat_of f) }
-    ensures { (f : Forest OutputUnit) → map L.flat_row rows.now ≡ flat_of f → Puts (O.progress out.old) (O.progress out.new) (given_text start.now (value_if here (array_of_some (node_values f)))) result }
+    ensures { (f : Forest OutputUnit) → map L.flat_row rows.now ≡ flat_of f
+        → Puts (O.progress out.old) (O.progress out.new)
+        (given_text start.now (value_if here (array_of_some (node_values f)))) result }
 {
     if !here {
         return Ok(());
@@ -56,7 +59,8 @@ fn put_children<L: Line, O: Out>(
 #[cycle(put_root)]
 fn put_roots<L: Line, O: Out>(rows: &[L], out: &mut O) -> Result<(), Stopped>
     requires { (f : Forest OutputUnit) × (map L.flat_row rows.now ≡ flat_of f) }
-    ensures { (f : Forest OutputUnit) → map L.flat_row rows.now ≡ flat_of f → Puts (O.progress out.old) (O.progress out.new) (compact (list (items (node_values f)))) result }
+    ensures { (f : Forest OutputUnit) → map L.flat_row rows.now ≡ flat_of f
+        → Puts (O.progress out.old) (O.progress out.new) (compact (list (items (node_values f)))) result }
 {
     out.put(b"[")?;
     let mut later = false;
@@ -75,7 +79,8 @@ fn put_roots<L: Line, O: Out>(rows: &[L], out: &mut O) -> Result<(), Stopped>
 /// Puts the verdict and the units with a note, each as a node without children, as an object.
 pub(crate) fn put_units<L: Line, O: Out>(rows: &[L], out: &mut O) -> Result<(), Stopped>
     requires { (t : ResultTree) × (map L.flat_row rows.now ≡ flat t) }
-    ensures { (t : ResultTree) → map L.flat_row rows.now ≡ flat t → Puts (O.progress out.old) (O.progress out.new) (compact (unit_list t)) result }
+    ensures { (t : ResultTree) → map L.flat_row rows.now ≡ flat t
+        → Puts (O.progress out.old) (O.progress out.new) (compact (unit_list t)) result }
 {
     let root = &rows[0];
     let valid = root.is_valid();
@@ -96,7 +101,8 @@ fn put_list_name<O: Out>(valid: bool, out: &mut O) -> Result<(), Stopped>
 
 /// Puts the units with a note, each as a node without children, as an array.
 fn put_noted<L: Line, O: Out>(rows: &[L], out: &mut O) -> Result<(), Stopped>
-    ensures { Puts (O.progress out.old) (O.progress out.new) (compact (list (items (map (λ u. node_value u []) (noted_of (map L.flat_row rows.now)))))) result }
+    ensures { Puts (O.progress out.old) (O.progress out.new)
+        (compact (list (items (map (λ u. node_value u []) (noted_of (map L.flat_row rows.now)))))) result }
 {
     out.put(b"[")?;
     let mut later = false;

@@ -78,7 +78,8 @@ fn set_mark(trees: &[Tree], place: usize, mark: usize) {
 
 /// Whether none of the trees is alike to an earlier one, if the list that begins at `first` shows it.
 pub(crate) fn differ_by_list(trees: &[Tree], first: usize) -> Option<bool>
-    ensures { MatchOption result (Unit {0}) (λ differ. differ ≡ none_alike same_but_keyword empty (forest_of trees.now)) }
+    ensures { MatchOption result (Unit {0})
+        (λ differ. differ ≡ none_alike same_but_keyword empty (forest_of trees.now)) }
 {
     if first >= trees.len() {
         return None;

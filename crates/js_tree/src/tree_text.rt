@@ -35,7 +35,8 @@ fn put_children<O: Out>(
     trees: &[Tree],
     out: &mut O,
 ) -> Result<(), Stopped>
-    ensures { Puts (O.progress out.old) (O.progress out.new) (given_text start.now (value_if here (array_of_some (node_values (forest_of trees.now))))) result }
+    ensures { Puts (O.progress out.old) (O.progress out.new)
+        (given_text start.now (value_if here (array_of_some (node_values (forest_of trees.now))))) result }
 {
     if !here {
         return Ok(());
@@ -50,7 +51,8 @@ fn put_children<O: Out>(
 /// Puts the trees as an array.
 #[cycle(put_tree)]
 fn put_trees<O: Out>(trees: &[Tree], out: &mut O) -> Result<(), Stopped>
-    ensures { Puts (O.progress out.old) (O.progress out.new) (compact (list (items (node_values (forest_of trees.now))))) result }
+    ensures { Puts (O.progress out.old) (O.progress out.new)
+        (compact (list (items (node_values (forest_of trees.now))))) result }
 {
     out.put(b"[")?;
     let mut later = false;

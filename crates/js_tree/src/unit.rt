@@ -33,7 +33,13 @@ impl<'a> Model for Unit<'a> {
 
     ghost coded = { unit_code };
 
-    ghost view = { λ u. record { valid = u.valid; keyword = u.keyword; absolute = u.absolute; instance = u.instance; note = note_of u.note } };
+    ghost view = { λ u. record {
+      valid = u.valid;
+      keyword = u.keyword;
+      absolute = u.absolute;
+      instance = u.instance;
+      note = note_of u.note;
+    } };
 }
 
 impl<'a> Unit<'a> {

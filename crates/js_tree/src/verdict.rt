@@ -43,7 +43,8 @@ impl<'a> Collector<'a> for Verdict {
     ghost takes = { λ a e b. verdict_state b ≡ verdict_after (verdict_state a) e };
 
     fn enter(&mut self, head: Head) -> Result<(), Memory>
-        ensures takes { IfOk result (λ _. verdict_state self.new ≡ verdict_after (verdict_state self.old) (opening head.keyword head.absolute head.instance)) }
+        ensures takes { IfOk result (λ _. verdict_state self.new
+            ≡ verdict_after (verdict_state self.old) (opening head.keyword head.absolute head.instance)) }
         ensures ok { IsOk result }
     {
         drop(head);
@@ -54,7 +55,8 @@ impl<'a> Collector<'a> for Verdict {
     }
 
     fn leave(&mut self, valid: bool, note: Note<'a>) -> Result<(), Memory>
-        ensures takes { IfOk result (λ _. verdict_state self.new ≡ verdict_after (verdict_state self.old) (closing valid (note_of note.entry))) }
+        ensures takes { IfOk result (λ _. verdict_state self.new
+            ≡ verdict_after (verdict_state self.old) (closing valid (note_of note.entry))) }
         ensures ok { IsOk result }
     {
         drop(note);

@@ -25,7 +25,8 @@ pub(crate) fn keep<M: Copy>(
     holds: bool,
     own: Option<M>,
 ) -> Result<(), Memory>
-    ensures { OnOk result (list.new.items ≡ take from list.old.items ++ keeps source holds (option_to_list own) (drop from list.old.items)) }
+    ensures { OnOk result (list.new.items ≡ take from list.old.items
+        ++ keeps source holds (option_to_list own) (drop from list.old.items)) }
 {
     match source {
         Origin::Below => Ok(()),

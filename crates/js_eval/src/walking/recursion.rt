@@ -39,8 +39,10 @@ pub(crate) fn node<W: World, H: PointerText + Drop, R: Reporter<W, H>>(
     requires place { W.is_place world.now place ≡ true }
     requires schema { W.stands_at world.now place schema }
     ensures { MatchResult result
-        (λ valid. NodeDone (W.schemas world.now) W.text_of R.takes depth (map (W.site world.now) way.old.path) (W.site world.now place) (W.value_of value) valid way.old way.new into.old into.new)
-        (λ e. OnTooLarge e (HasNone (W.schemas world.now) depth (map (W.site world.now) way.old.path) (W.site world.now place) (W.value_of value) way.old.left)) }
+        (λ valid. NodeDone (W.schemas world.now) W.text_of R.takes depth (map (W.site world.now) way.old.path)
+        (W.site world.now place) (W.value_of value) valid way.old way.new into.old into.new)
+        (λ e. OnTooLarge e (HasNone (W.schemas world.now) depth (map (W.site world.now) way.old.path)
+        (W.site world.now place) (W.value_of value) way.old.left)) }
 {
     if depth == 0 {
         return Err(WalkFault::TooLarge);
@@ -102,12 +104,18 @@ pub(crate) fn keyword_node<W: World, H: PointerText + Drop, R: Reporter<W, H>>(
     requires indexes { start.indexes ≤ length way.old.indexes.items }
     requires keyword { IsKeywordAt (W.schemas world.now) (W.site world.now case.place) (W.keyword_of case.keyword) }
     ensures { MatchResult result
-        (λ j. KeywordDone (W.schemas world.now) W.text_of R.takes depth (map (W.site world.now) way.old.path) (W.site world.now case.place) (W.value_of case.value) (W.keyword_of case.keyword) known.matching
-        (asked_by (W.schemas world.now) depth (map (W.site world.now) way.old.path) (W.site world.now case.place) (W.value_of case.value) (W.keyword_of case.keyword)
-        known.condition (map W.text_of (drop start.names way.old.names.items)) (drop start.indexes way.old.indexes.items)) j way.old way.new into.old into.new)
-        (λ e. OnTooLarge e (KeywordHasNone (W.schemas world.now) depth (map (W.site world.now) way.old.path) (W.site world.now case.place) (W.value_of case.value) (W.keyword_of case.keyword)
-        (asked_by (W.schemas world.now) depth (map (W.site world.now) way.old.path) (W.site world.now case.place) (W.value_of case.value) (W.keyword_of case.keyword)
-        known.condition (map W.text_of (drop start.names way.old.names.items)) (drop start.indexes way.old.indexes.items)) way.old.left)) }
+        (λ j. KeywordDone (W.schemas world.now) W.text_of R.takes depth (map (W.site world.now) way.old.path)
+        (W.site world.now case.place) (W.value_of case.value) (W.keyword_of case.keyword) known.matching
+        (asked_by (W.schemas world.now) depth (map (W.site world.now) way.old.path) (W.site world.now case.place)
+        (W.value_of case.value) (W.keyword_of case.keyword)
+        known.condition (map W.text_of (drop start.names way.old.names.items))
+        (drop start.indexes way.old.indexes.items)) j way.old way.new into.old into.new)
+        (λ e. OnTooLarge e (KeywordHasNone (W.schemas world.now) depth (map (W.site world.now) way.old.path)
+        (W.site world.now case.place) (W.value_of case.value) (W.keyword_of case.keyword)
+        (asked_by (W.schemas world.now) depth (map (W.site world.now) way.old.path) (W.site world.now case.place)
+        (W.value_of case.value) (W.keyword_of case.keyword)
+        known.condition (map W.text_of (drop start.names way.old.names.items))
+        (drop start.indexes way.old.indexes.items)) way.old.left)) }
 {
     if way.left == 0 {
         return Err(WalkFault::TooLarge);
@@ -150,8 +158,10 @@ pub(crate) fn applications<W: World, H: PointerText + Drop, R: Reporter<W, H>>(
     requires scope { way.old.scope ≡ dedup nat_eq (map (W.resource world.now) way.old.path) }
     requires asking { W.is_asking world.now asking.old }
     ensures { MatchResult result
-        (λ t. EachDone (W.schemas world.now) W.text_of R.takes depth (map (W.site world.now) way.old.path) kind (W.asked world.now asking.old) t way.old way.new into.old into.new)
-        (λ e. OnTooLarge e (SomeHasNone (W.schemas world.now) depth (map (W.site world.now) way.old.path) (W.asked world.now asking.old) way.old.left)) }
+        (λ t. EachDone (W.schemas world.now) W.text_of R.takes depth (map (W.site world.now) way.old.path) kind
+        (W.asked world.now asking.old) t way.old way.new into.old into.new)
+        (λ e. OnTooLarge e (SomeHasNone (W.schemas world.now) depth (map (W.site world.now) way.old.path)
+        (W.asked world.now asking.old) way.old.left)) }
 {
     let _left = way.left;
     let mut tally = Tally { asked: 0, held: 0 };

@@ -27,7 +27,10 @@ pub(crate) trait Reporter<W: World, H: PointerText + Drop> {
         instance_location: &Trail<H>,
     ) -> Result<(), Memory>
         requires { W.is_place world.now place ≡ true }
-        ensures { OnOk result (takes self.old (opening keyword_location.now ((W.schemas world.now).absolute (W.site world.now place) None) instance_location.now) self.new) };
+        ensures { OnOk result (takes self.old
+            (opening keyword_location.now
+            ((W.schemas world.now).absolute (W.site world.now place) None)
+            instance_location.now) self.new) };
 
     /// The node of a keyword opens.
     fn open_keyword(
@@ -40,7 +43,10 @@ pub(crate) trait Reporter<W: World, H: PointerText + Drop> {
         instance_location: &Trail<H>,
     ) -> Result<(), Memory>
         requires { W.is_place world.now place ≡ true }
-        ensures { OnOk result (takes self.old (opening keyword_location.now ((W.schemas world.now).absolute (W.site world.now place) (Some ((W.keyword_of keyword).0))) instance_location.now) self.new) };
+        ensures { OnOk result (takes self.old
+            (opening keyword_location.now
+            ((W.schemas world.now).absolute (W.site world.now place) (Some ((W.keyword_of keyword).0)))
+            instance_location.now) self.new) };
 
     /// The node of a keyword closes, which was judged on this value: of its applications so many hold, so many items match the
     /// adjacent `contains`, and where it passes it gives these members and items.
@@ -58,7 +64,9 @@ pub(crate) trait Reporter<W: World, H: PointerText + Drop> {
     ) -> Result<(), Memory>
         requires place { W.is_place world.now place ≡ true }
         requires keyword { IsKeywordAt (W.schemas world.now) (W.site world.now place) (W.keyword_of keyword) }
-        ensures { OnOk result (takes self.old (closing judged.passes (says_at (W.schemas world.now) (W.site world.now place) (W.value_of value) matching (W.keyword_of keyword)
+        ensures { OnOk result (takes self.old
+            (closing judged.passes (says_at (W.schemas world.now) (W.site world.now place) (W.value_of value) matching
+            (W.keyword_of keyword)
             judged.held (map W.text_of names.now) indexes.now judged.passes)) self.new) };
 
     /// The node of a schema closes.
@@ -72,5 +80,6 @@ pub(crate) trait Reporter<W: World, H: PointerText + Drop> {
     ) -> Result<(), Memory>
         requires place { W.is_place world.now place ≡ true }
         requires schema { W.stands_at world.now place schema }
-        ensures { OnOk result (takes self.old (closing valid (schema_says (W.schemas world.now) (W.site world.now place))) self.new) };
+        ensures { OnOk result (takes self.old
+            (closing valid (schema_says (W.schemas world.now) (W.site world.now place))) self.new) };
 }

@@ -38,8 +38,11 @@ pub(crate) fn walk_from<W: World, H: PointerText + Drop, R: Reporter<W, H>>(
     requires place { W.is_place world.now place ≡ true }
     requires schema { W.stands_at world.now place schema }
     ensures { MatchResult result
-        (λ valid. Reported (W.schemas world.now) (W.site world.now place) (W.value_of value) R.takes valid into.old into.new)
-        (λ e. OnTooLarge e ((t : ResultTree) → IsResult (W.schemas world.now) [] (W.site world.now place) at_root (W.value_of value) t → IsWithinLimits t → ⊥)) }
+        (λ valid. Reported (W.schemas world.now) (W.site world.now place) (W.value_of value)
+        R.takes valid into.old into.new)
+        (λ e. OnTooLarge e ((t : ResultTree)
+        → IsResult (W.schemas world.now) [] (W.site world.now place) at_root (W.value_of value) t
+        → IsWithinLimits t → ⊥)) }
 {
     let mut way: Way<W::Name, H> = Way {
         path: Path::new(),

@@ -27,7 +27,8 @@ pub(crate) fn open_schema<W: World, H: PointerText + Drop, R: Reporter<W, H>>(
 ) -> Result<(), Memory>
     requires place { W.is_place world.now place ≡ true }
     requires left { 0 < way.old.left }
-    ensures { OnOk result (SchemaOpened (W.schemas world.now) W.text_of R.takes (W.site world.now place) place (W.resource world.now place) way.old way.new into.old into.new) }
+    ensures { OnOk result (SchemaOpened (W.schemas world.now) W.text_of R.takes (W.site world.now place) place
+        (W.resource world.now place) way.old way.new into.old into.new) }
 {
     way.left -= 1;
     into.open_schema(alloc, world, place, &way.keyword, &way.instance)?;
@@ -49,7 +50,8 @@ pub(crate) fn close_schema<W: World, H: PointerText + Drop, R: Reporter<W, H>>(
 ) -> Result<(), Memory>
     requires place { W.is_place world.now place ≡ true }
     requires schema { W.stands_at world.now place schema }
-    ensures { OnOk result (SchemaClosed (W.schemas world.now) W.text_of R.takes (W.site world.now place) start valid way.old way.new into.old into.new) }
+    ensures { OnOk result (SchemaClosed (W.schemas world.now) W.text_of R.takes
+        (W.site world.now place) start valid way.old way.new into.old into.new) }
 {
     into.close_schema(alloc, world, place, schema, valid)?;
     way.path.pop();
@@ -64,7 +66,8 @@ pub(crate) fn next_keyword<W: World>(
     world: &W,
     judging: &mut Judging<W::Keywords>,
 ) -> Option<W::Keyword>
-    ensures next { MatchOption result (W.listed judging.old.keywords ≡ []) (λ k. W.listed judging.old.keywords ≡ W.keyword_of k ∷ W.listed judging.new.keywords) }
+    ensures next { MatchOption result (W.listed judging.old.keywords ≡ [])
+        (λ k. W.listed judging.old.keywords ≡ W.keyword_of k ∷ W.listed judging.new.keywords) }
     ensures known { judging.new.known ≡ judging.old.known }
 {
     world.next_keyword(&mut judging.keywords)
@@ -82,7 +85,8 @@ pub(crate) fn open_keyword<W: World, H: PointerText + Drop, R: Reporter<W, H>>(
 ) -> Result<(), Memory>
     requires place { W.is_place world.now place ≡ true }
     requires left { 0 < way.old.left }
-    ensures { OnOk result (KeywordOpened (W.schemas world.now) W.text_of R.takes (W.site world.now place) (W.keyword_of keyword) way.old way.new into.old into.new) }
+    ensures { OnOk result (KeywordOpened (W.schemas world.now) W.text_of R.takes (W.site world.now place)
+        (W.keyword_of keyword) way.old way.new into.old into.new) }
 {
     way.left -= 1;
     world.go_to_keyword(keyword, &mut way.keyword)?;
@@ -107,7 +111,9 @@ pub(crate) fn asked<W: World, H: PointerText + Drop>(
     requires names { start.names ≤ length way.now.names.items }
     requires indexes { start.indexes ≤ length way.now.indexes.items }
     requires keyword { IsKeywordAt (W.schemas world.now) (W.site world.now case.place) (W.keyword_of case.keyword) }
-    ensures asked { IfOk result (λ a. W.asked world.now a ≡ asked_by (W.schemas world.now) 0 (map (W.site world.now) way.now.path) (W.site world.now case.place) (W.value_of case.value) (W.keyword_of case.keyword)
+    ensures asked { IfOk result (λ a. W.asked world.now a
+        ≡ asked_by (W.schemas world.now) 0 (map (W.site world.now) way.now.path) (W.site world.now case.place)
+        (W.value_of case.value) (W.keyword_of case.keyword)
         condition (map W.text_of (drop start.names way.now.names.items)) (drop start.indexes way.now.indexes.items)) }
     ensures is { IfOk result (λ a. W.is_asking world.now a) }
 {
@@ -145,7 +151,9 @@ pub(crate) fn close_keyword<W: World, H: PointerText + Drop, R: Reporter<W, H>>(
     requires indexes { here.indexes ≤ length way.old.indexes.items }
     requires trail { IsSplitPoint way.old.keyword (H.length_at here.keyword) }
     requires keyword { IsKeywordAt (W.schemas world.now) (W.site world.now case.place) (W.keyword_of case.keyword) }
-    ensures { IfOk result (λ passes. KeywordClosed (W.schemas world.now) W.text_of R.takes H.length_at (W.site world.now case.place) (W.value_of case.value) (W.keyword_of case.keyword) matching tally here passes way.old way.new into.old into.new) }
+    ensures { IfOk result (λ passes. KeywordClosed (W.schemas world.now) W.text_of R.takes H.length_at
+        (W.site world.now case.place) (W.value_of case.value)
+        (W.keyword_of case.keyword) matching tally here passes way.old way.new into.old into.new) }
 {
     let Case {
         place,
@@ -183,7 +191,9 @@ pub(crate) fn childless_node<W: World, H: PointerText + Drop, R: Reporter<W, H>>
     requires schema { W.stands_at world.now case.place case.schema }
     requires keyword { IsKeywordAt (W.schemas world.now) (W.site world.now case.place) (W.keyword_of case.keyword) }
     requires left { 0 < way.old.left }
-    ensures { IfOk result (λ j. (depth : ℕ) (path : List Site) → KeywordDone (W.schemas world.now) W.text_of R.takes depth path (W.site world.now case.place) (W.value_of case.value) (W.keyword_of case.keyword) matching [] j
+    ensures { IfOk result (λ j. (depth : ℕ) (path : List Site)
+        → KeywordDone (W.schemas world.now) W.text_of R.takes depth path (W.site world.now case.place)
+        (W.value_of case.value) (W.keyword_of case.keyword) matching [] j
         way.old way.new into.old into.new) }
 {
     let here = way.mark();
@@ -216,7 +226,8 @@ pub(crate) fn come_back<W: World, H: PointerText + Drop>(
 ) -> Result<(), Memory>
     requires keyword { IsSplitPoint way.old.keyword (H.length_at here.keyword) }
     requires instance { IsSplitPoint way.old.instance (H.length_at here.instance) }
-    ensures { OnOk result (CameBack W.text_of H.length_at kind (W.application_of world.now application) here holds way.old way.new) }
+    ensures { OnOk result (CameBack W.text_of H.length_at kind
+        (W.application_of world.now application) here holds way.old way.new) }
 {
     way.keyword.cut(here.keyword);
     way.instance.cut(here.instance);

@@ -91,15 +91,18 @@ pub(crate) trait World {
         ensures ascending { IsAscending (entries ((schemas self.now).schema (site self.now place))) };
 
     fn next_keyword(&self, keywords: &mut Self::Keywords) -> Option<Self::Keyword>
-        ensures { MatchOption result (listed keywords.old ≡ []) (λ k. listed keywords.old ≡ keyword_of k ∷ listed keywords.new) };
+        ensures { MatchOption result (listed keywords.old ≡ [])
+            (λ k. listed keywords.old ≡ keyword_of k ∷ listed keywords.new) };
 
     fn kind(&self, keyword: Self::Keyword) -> Kind
         ensures { result ≡ kind_at (keyword_of keyword) };
 
     /// Whether a keyword may ask for anything.
     fn asks(&self, keyword: Self::Keyword) -> bool
-        ensures { (depth : ℕ) (path : List Site) (place : Site) (v : JsonValue) (condition : Option Bool) (names : List Bytes) (indexes : List ℕ)
-            → result ≡ false → asked_by (schemas self.now) depth path place v (keyword_of keyword) condition names indexes ≡ [] };
+        ensures { (depth : ℕ) (path : List Site) (place : Site) (v : JsonValue) (condition : Option Bool)
+            (names : List Bytes) (indexes : List ℕ)
+            → result ≡ false → asked_by (schemas self.now) depth path place v
+            (keyword_of keyword) condition names indexes ≡ [] };
 
     /// What a keyword asks for, where these facts are known of the keywords before it: the verdict of `if`, and what has been
     /// evaluated. `resources`: those of the path, of equal neighbours one.
@@ -121,7 +124,9 @@ pub(crate) trait World {
         requires place { is_place self.now place ≡ true }
         requires schema { stands_at self.now place schema }
         requires keyword { IsKeywordAt (schemas self.now) (site self.now place) (keyword_of keyword) }
-        ensures asked { IfOk result (λ a. asked self.now a ≡ asked_by (schemas self.now) 0 (map (site self.now) path.now) (site self.now place) (value_of value) (keyword_of keyword)
+        ensures asked { IfOk result (λ a. asked self.now a
+            ≡ asked_by (schemas self.now) 0 (map (site self.now) path.now) (site self.now place) (value_of value)
+            (keyword_of keyword)
             condition (map text_of names.now) indexes.now) }
         ensures is { IfOk result (λ a. is_asking self.now a) };
 
@@ -131,9 +136,11 @@ pub(crate) trait World {
         asking: &mut Self::Asking,
     ) -> Result<Option<Self::Application>, Memory>
         requires { is_asking self.now asking.old }
-        ensures next { IfOk result (λ o. MatchOption o (asked self.now asking.old ≡ []) (λ a. asked self.now asking.old ≡ application_of self.now a ∷ asked self.now asking.new)) }
+        ensures next { IfOk result (λ o. MatchOption o (asked self.now asking.old ≡ [])
+            (λ a. asked self.now asking.old ≡ application_of self.now a ∷ asked self.now asking.new)) }
         ensures is { IfOk result (λ o. MatchOption o (Unit {0}) (λ a. is_place self.now (place_of a) ≡ true)) }
-        ensures schema { IfOk result (λ o. MatchOption o (Unit {0}) (λ a. stands_at self.now (place_of a) (schema_of a))) }
+        ensures schema { IfOk result (λ o. MatchOption o (Unit {0})
+            (λ a. stands_at self.now (place_of a) (schema_of a))) }
         ensures asking { IfOk result (λ _. is_asking self.now asking.new) };
 
     /// The place of the schema that is applied.
@@ -172,8 +179,10 @@ pub(crate) trait World {
         requires place { is_place self.now place ≡ true }
         requires schema { stands_at self.now place schema }
         requires keyword { IsKeywordAt (schemas self.now) (site self.now place) (keyword_of keyword) }
-        ensures { IfOk result (λ b. (verdicts : List Bool) → length verdicts ≡ tally.asked → how_many verdicts ≡ tally.held
-            → b ≡ passes_at (schemas self.now) (site self.now place) (value_of value) matching (keyword_of keyword) verdicts) };
+        ensures { IfOk result (λ b. (verdicts : List Bool) → length verdicts ≡ tally.asked
+            → how_many verdicts ≡ tally.held
+            → b ≡ passes_at (schemas self.now) (site self.now place) (value_of value) matching
+            (keyword_of keyword) verdicts) };
 
     /// Goes from a schema to its keyword.
     fn go_to_keyword<H: PointerText + Drop>(
