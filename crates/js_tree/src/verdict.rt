@@ -1,14 +1,14 @@
-//! The verdict of a result.
+//! A collector that keeps the verdict alone.
 ghost use Rattle.std.specs.Prelude.{◌≡◌};
 
 use crate::collector::{Collector, Head};
 use crate::note::Note;
 use js_doc::Memory;
 
-/// Collects the root's verdict. No call takes memory, and each answers Ok.
+/// A collector that keeps the root's verdict. No call allocates, and each returns Ok.
 #[derive(Debug, Drop)]
 pub struct Verdict {
-    // How many nodes are open.
+    // The number of open nodes.
     depth: u64,
     valid: Option<bool>,
 }
@@ -16,7 +16,7 @@ pub struct Verdict {
 impl Verdict {
     ghost use Rattle.js_tree.specs.VerdictState.{verdict_start, verdict_state};
 
-    /// Of nothing yet.
+    /// A collector without a verdict.
     pub fn new() -> Verdict
         ensures { verdict_state result ≡ verdict_start }
     {
@@ -26,7 +26,7 @@ impl Verdict {
         }
     }
 
-    /// The root's verdict; None before the root has closed.
+    /// The root's verdict, or None if the root hasn't closed.
     pub fn valid(&self) -> Option<bool>
         ensures { result ≡ (verdict_state self.now).valid }
     {
