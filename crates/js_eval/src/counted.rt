@@ -1,4 +1,4 @@
-//! Whether a keyword passes, by how many applications it asked for and how many of them hold.
+//! Whether a keyword passes, from the number of its applications and the number of those that succeed.
 ghost use Rattle.std.specs.Prelude.{◌≡◌, ◌||◌, ℕ, Bool, List, IfOk, length, option_map, true};
 ghost use Rattle.std.specs.Option.{option_map_or};
 ghost use Rattle.js_assert.specs.Argument.{entries, on_array, on_string};
@@ -27,11 +27,11 @@ use js_bundle::{Place, Schemas};
 use js_doc::{Doc, Memory, Text, Whole};
 use std::alloc::Global;
 
-/// Whether a keyword of a place passes, which asked for so many applications of which so many hold, where so many items match the
-/// adjacent `contains`.
+/// Whether a keyword passes. `tally`: the number of its applications, and of those that succeed; `matching`: the number
+/// of items that match the adjacent `contains`.
 ///
 /// # Errors
-/// `Memory`.
+/// `Memory` if an allocation fails.
 #[tactic(auto, unfolding(crate::specs::Walk::Told::passes_at))]
 pub(crate) fn passes<'a>(
     alloc: Global,
@@ -58,8 +58,7 @@ pub(crate) fn passes<'a>(
     Ok(passes_by_count(kind, schema, value, said, tally))
 }
 
-/// Whether a keyword of this kind passes, which stands in the schema. `said`: whether the value holds under it, where it is an
-/// assertion.
+/// Whether a keyword of this kind in `schema` passes. `said`: whether the value satisfies it, if it is an assertion.
 pub(crate) fn passes_by_count(
     kind: Kind,
     schema: &Doc,
@@ -111,7 +110,7 @@ fn contains(schema: &Doc, value: Instance<'_>, tally: Tally) -> bool
     }
 }
 
-// The adjacent `minContains` is 0.
+// Whether the adjacent `minContains` is 0, so that `contains` passes without a match (Core, section 10.3.1.3).
 fn may_hold_none(schema: &Doc) -> bool
     ensures { result ≡ may_contain_none (entries (value_of schema.now)) }
 {
@@ -121,7 +120,7 @@ fn may_hold_none(schema: &Doc) -> bool
     }
 }
 
-// Whether the value holds under the assertion that the keyword is, if it is one.
+// Whether the value satisfies the keyword's assertion; true if it makes none.
 fn says_at<'a>(
     alloc: Global,
     schemas: &'a Schemas,
@@ -146,7 +145,7 @@ fn says_at<'a>(
     )
 }
 
-// Whether the value holds under an assertion, if there is one.
+// Whether the value satisfies the assertion; true if there is none.
 fn says<'a>(
     alloc: Global,
     searchers: &Searchers<'a>,
@@ -163,10 +162,10 @@ fn says<'a>(
     }
 }
 
-/// Whether a value holds under an assertion. A pattern is searched for with what was kept of it.
+/// Whether a value satisfies an assertion. A pattern uses a kept searcher, if there is one.
 ///
 /// # Errors
-/// `Memory`.
+/// `Memory` if an allocation fails.
 pub(crate) fn holds<'a>(
     alloc: Global,
     searchers: &Searchers<'a>,
@@ -182,7 +181,7 @@ pub(crate) fn holds<'a>(
     }
 }
 
-// Whether the value, if it is a string, has a match of the pattern.
+// Whether the pattern matches the value; true if the value is no string.
 fn has_match<'a>(
     alloc: Global,
     searchers: &Searchers<'a>,

@@ -1,5 +1,5 @@
-//! What a keyword asks for member by member (Core, sections 10.2.2.4, 10.3.2 and 11.3): a schema on each of the members
-//! that it chooses by their names, or on the value, for each of its own names that is a member's.
+//! Applications member by member (Core, sections 10.2.2.4, 10.3.2 and 11.3): a schema on each member that the keyword
+//! chooses by name, or on the value itself for each of the keyword's names that a member has.
 ghost use Rattle.std.specs.Prelude.{◌≡◌, ◌||◌, ◌∷◌, [], IfOk, MatchOption, filter, map, not};
 ghost use Rattle.std.specs.List.{list_any};
 ghost use Rattle.std.specs.Option.{option_map_or};
@@ -30,19 +30,19 @@ use std::alloc::Global;
 use std::collections::BTreeSet;
 use std::collections::btree_map::Iter;
 
-/// Which members a keyword chooses.
+/// Which members a keyword chooses, by their names.
 #[derive(Drop)]
 pub(crate) enum Choice<'a> {
     All,
-    /// Those that these members name.
+    /// Those whose name is also a name of these.
     Named(&'a Members),
-    /// Those of which the adjacent keywords don't speak.
+    /// Those that the adjacent `properties` and `patternProperties` don't cover.
     Additional(Adjacent<'a>),
-    /// Those that aren't among these.
+    /// Those whose name isn't in this set.
     Except(BTreeSet<&'a str>),
 }
 
-/// The arguments of the adjacent `properties` and `patternProperties`, where they are objects.
+/// The arguments of the adjacent `properties` and `patternProperties`, if they are objects, and the schema's place.
 #[derive(Clone, Copy)]
 pub(crate) struct Adjacent<'a> {
     pub place: Place,
@@ -50,7 +50,7 @@ pub(crate) struct Adjacent<'a> {
     pub patterns: Option<&'a Members>,
 }
 
-/// The members that a keyword is still to ask for.
+/// The applications that a keyword still has to ask for, one for each chosen member.
 #[derive(Drop)]
 pub(crate) struct MemberCursor<'a> {
     pub held: Held<'a>,
@@ -59,7 +59,7 @@ pub(crate) struct MemberCursor<'a> {
     pub choice: Choice<'a>,
 }
 
-/// The schema of each name that is a member's, on the member: the members are gone through.
+/// The schema of each name that a member has, applied to the member. It goes through the members.
 pub(crate) fn each_named<'a>(
     place: Place,
     schema: &'a Doc,
@@ -82,7 +82,7 @@ pub(crate) fn each_named<'a>(
     }
 }
 
-/// The schema of each name that is a member's, on the value itself.
+/// The schema of each name that a member has, applied to the value itself.
 pub(crate) fn each_in_place<'a>(
     place: Place,
     schema: &'a Doc,
@@ -106,7 +106,7 @@ pub(crate) fn each_in_place<'a>(
     }
 }
 
-/// The schema at a place, on each name, as a string.
+/// The schema at a place, applied to each member's name, as a string.
 #[tactic(auto, using(crate::proofs::MembersLeft::all_chosen))]
 pub(crate) fn each_name<'a>(below: Place, schema: &'a Doc, members: &'a Members) -> MemberCursor<'a>
     ensures asked { (documents : Documents) → members_asked documents result
@@ -124,7 +124,7 @@ pub(crate) fn each_name<'a>(below: Place, schema: &'a Doc, members: &'a Members)
     }
 }
 
-/// The schema at a place, on each member of which the adjacent keywords don't speak.
+/// The schema at a place, applied to each member that the adjacent keywords don't cover.
 pub(crate) fn each_additional<'a>(
     below: Place,
     schema: &'a Doc,
@@ -152,10 +152,10 @@ pub(crate) fn each_additional<'a>(
     }
 }
 
-/// The schema at a place, on each member that isn't among these.
+/// The schema at a place, applied to each member whose name isn't one of these.
 ///
 /// # Errors
-/// `Memory`.
+/// `Memory` if an allocation fails.
 pub(crate) fn each_other<'a>(
     alloc: Global,
     below: Place,
@@ -179,7 +179,7 @@ pub(crate) fn each_other<'a>(
     })
 }
 
-/// The argument of the keyword of this name, where it is an object.
+/// The argument of the keyword with this name, if it is an object.
 pub(crate) fn object_at<'a>(schema: &'a Doc, keyword: &str) -> Option<&'a Members>
     ensures { named_in result ≡ option_map_or entries (get keyword.now (entries (value_of schema.now))) [] }
 {
@@ -189,10 +189,10 @@ pub(crate) fn object_at<'a>(schema: &'a Doc, keyword: &str) -> Option<&'a Member
     }
 }
 
-/// The next application.
+/// The next application, or None after the last.
 ///
 /// # Errors
-/// `Memory`: a pattern is searched for.
+/// `Memory` if an allocation fails; a search with a pattern may need one.
 pub(crate) fn next_on_member<'a>(
     alloc: Global,
     schemas: &'a Schemas,
@@ -223,7 +223,7 @@ pub(crate) fn next_on_member<'a>(
     }
 }
 
-// The next member that is chosen.
+// The next chosen member.
 fn next_member<'a>(
     alloc: Global,
     schemas: &'a Schemas,
@@ -263,7 +263,7 @@ fn is_chosen<'a>(
     }
 }
 
-// The adjacent keywords speak of the name.
+// Whether one of the adjacent keywords covers the name.
 fn is_spoken_of<'a>(
     alloc: Global,
     schemas: &'a Schemas,
@@ -314,7 +314,7 @@ fn matches_any<'a>(
     Ok(false)
 }
 
-// Whether a pattern of the place's `patternProperties` matches somewhere in a name.
+// Whether a pattern of the place's `patternProperties` matches somewhere in the name.
 fn matches<'a>(
     alloc: Global,
     schemas: &'a Schemas,
@@ -331,7 +331,7 @@ fn matches<'a>(
     }
 }
 
-/// The pattern of this name among the `patternProperties` of the place.
+/// The pattern with this text in the `patternProperties` of the place.
 pub(crate) fn pattern_of<'a>(
     schemas: &'a Schemas,
     place: Place,

@@ -1,4 +1,4 @@
-//! What a keyword begins to ask for, by its kind (Core, sections 8.2.3, 10 and 11).
+//! The applications that a keyword asks for, by its kind (Core, sections 8.2.3, 10 and 11).
 ghost use Rattle.std.specs.Prelude.{◌≡◌, ◌∷◌, [], IfOk, map, nat_eq, true};
 ghost use Rattle.std.specs.List.{dedup, list_all};
 ghost use Rattle.js_assert.specs.Argument.{entries};
@@ -25,36 +25,36 @@ use js_bundle::{Place, Schemas};
 use js_doc::{Doc, Memory};
 use std::alloc::Global;
 
-/// Where a keyword is judged, and on what.
+/// Where a keyword is evaluated, and on what value.
 #[derive(Clone, Copy)]
 pub(crate) struct Scene<'s, 'a> {
-    /// All places that were applied, the present one being the last.
+    /// The places of the schemas being applied, from the root's to that of the keyword's schema.
     pub path: &'s Path,
-    /// Their resources, of equal neighbours one.
+    /// The numbers of their schema resources, without consecutive repeats.
     pub scope: &'s [usize],
-    /// The present place.
+    /// The place of the keyword's schema.
     pub place: Place,
-    /// The schema there.
+    /// That schema.
     pub schema: &'a Doc,
     /// The value.
     pub value: Instance<'a>,
 }
 
-/// What a keyword looks at of the other keywords of its schema.
+/// What a keyword depends on among the other keywords of its schema.
 #[derive(Clone, Copy)]
 pub(crate) struct Facts<'s, 'a> {
-    /// The verdict of the adjacent `if`, if there is one.
+    /// Whether the adjacent `if` succeeds, or None without an `if`.
     pub condition: Option<bool>,
-    /// The members that the others have evaluated.
+    /// The names of the members that the others have evaluated.
     pub names: &'s [&'a str],
-    /// The items that the others have evaluated.
+    /// The indexes of the items that the others have evaluated.
     pub indexes: &'s [usize],
 }
 
-/// What a keyword asks for.
+/// The applications that a keyword asks for.
 ///
 /// # Errors
-/// `Memory`.
+/// `Memory` if an allocation fails.
 pub(crate) fn start<'a>(
     alloc: Global,
     schemas: &'a Schemas,
@@ -131,7 +131,7 @@ pub(crate) fn start<'a>(
     }
 }
 
-// What `$ref` names, on the value itself.
+// The schema that `$ref` refers to, applied to the value itself.
 fn referred<'a>(
     schemas: &'a Schemas,
     place: Place,
@@ -151,7 +151,7 @@ fn referred<'a>(
     alone(place, schema, value)
 }
 
-// What `$dynamicRef` names, on the value itself.
+// The schema that `$dynamicRef` refers to, applied to the value itself.
 fn referred_dynamically<'a>(
     schemas: &'a Schemas,
     place: Place,
@@ -177,7 +177,7 @@ fn referred_dynamically<'a>(
     alone(place, schema, value)
 }
 
-// The keyword's schema, on the value itself.
+// The keyword's schema, applied to the value itself.
 fn held<'a>(
     schemas: &'a Schemas,
     place: Place,
@@ -198,7 +198,7 @@ fn held<'a>(
     alone(place, schema, value)
 }
 
-// The schema of `then`. `condition`: the verdict of the adjacent `if`, if there is one.
+// The schema of `then`, applied if the adjacent `if` succeeds. `condition`: whether it does, or None without an `if`.
 fn held_then<'a>(
     schemas: &'a Schemas,
     place: Place,
@@ -223,7 +223,7 @@ fn held_then<'a>(
     }
 }
 
-// The schema of `else`. `condition`: the verdict of the adjacent `if`, if there is one.
+// The schema of `else`, applied if the adjacent `if` fails. `condition`: whether it succeeds, or None without an `if`.
 fn held_else<'a>(
     schemas: &'a Schemas,
     place: Place,

@@ -1,4 +1,4 @@
-//! What the keywords for arrays, and those with a list of schemas, begin to ask for (Core, sections 10.2.1, 10.3.1 and
+//! The applications of keywords for arrays, and of those with a list of schemas (Core, sections 10.2.1, 10.3.1 and
 //! 11.2).
 ghost use Rattle.std.specs.Prelude.{◌≡◌, IfOk, filter, length, map, nat_le, nat_lt, not};
 ghost use Rattle.js_assert.specs.Argument.{entries, values};
@@ -25,7 +25,7 @@ use js_bundle::{Place, Schemas};
 use js_doc::{Doc, Memory};
 use std::alloc::Global;
 
-/// Each schema of a keyword's list, on the value itself.
+/// Each schema of a keyword's list, applied to the value itself.
 pub(crate) fn listed<'a>(
     place: Place,
     schema: &'a Doc,
@@ -50,7 +50,7 @@ pub(crate) fn listed<'a>(
     })
 }
 
-/// Each schema of `prefixItems`, on the item at the same index.
+/// Each schema of `prefixItems`, applied to the item at the same index.
 pub(crate) fn prefix<'a>(
     alloc: Global,
     schemas: &'a Schemas,
@@ -77,7 +77,7 @@ pub(crate) fn prefix<'a>(
     ))
 }
 
-/// The schema of `items`, on each item behind those that the adjacent `prefixItems` has schemas for.
+/// The schema of `items`, applied to each item after those that the adjacent `prefixItems` has schemas for.
 pub(crate) fn following<'a>(
     alloc: Global,
     schemas: &'a Schemas,
@@ -106,7 +106,7 @@ pub(crate) fn following<'a>(
     )
 }
 
-/// The schema of `contains`, on each item.
+/// The schema of `contains`, applied to each item.
 pub(crate) fn every<'a>(
     alloc: Global,
     schemas: &'a Schemas,
@@ -149,7 +149,7 @@ fn from_index<'a>(
     Asking::Items(each_from(alloc, below, held, value.array(), first))
 }
 
-// How many schemas the adjacent `prefixItems` holds.
+// The number of schemas in the adjacent `prefixItems`, or 0 without it.
 fn prefix_length_in(schema: &Doc) -> usize
     ensures { result ≡ prefix_length (entries (value_of schema.now)) }
 {
@@ -159,10 +159,10 @@ fn prefix_length_in(schema: &Doc) -> usize
     }
 }
 
-/// The schema of `unevaluatedItems`, on each item that isn't at one of these indexes.
+/// The schema of `unevaluatedItems`, applied to each item that isn't at one of these indexes.
 ///
 /// # Errors
-/// `Memory`.
+/// `Memory` if an allocation fails.
 pub(crate) fn unevaluated_items<'a>(
     alloc: Global,
     schemas: &'a Schemas,

@@ -1,5 +1,5 @@
-//! What the keywords for objects begin to ask for on any value, with any argument (Core, sections 10.2.2.4, 10.3.2 and
-//! 11.3): nothing, where it is no object.
+//! The applications of keywords for objects (Core, sections 10.2.2.4, 10.3.2 and 11.3). There are none if the value, or
+//! an argument that should be an object, isn't one.
 ghost use Rattle.std.specs.Prelude.{◌≡◌, ◌||◌, IfOk, filter, map, not};
 ghost use Rattle.std.specs.List.{flat_map};
 ghost use Rattle.js_assert.specs.Argument.{entries, has};
@@ -31,11 +31,11 @@ use js_bundle::{Place, Schemas};
 use js_doc::{Doc, Members, Memory};
 use std::alloc::Global;
 
-/// How many times as many names as members are many more: to go through the names takes a look-up for each of them, and through
-/// the members several for each.
+/// `properties` looks up its names among the members, one look-up each. If it has more names than this number times the
+/// members, it goes through the members instead, with several look-ups each.
 const MANY_MORE: usize = 4;
 
-/// What `dependentSchemas` asks for.
+/// The applications of `dependentSchemas`.
 pub(crate) fn dependent<'a>(
     schemas: &'a Schemas,
     place: Place,
@@ -66,7 +66,7 @@ pub(crate) fn dependent<'a>(
     }
 }
 
-/// What `properties` asks for: its names are gone through, unless there are many more of them than members.
+/// The applications of `properties`. It goes through its names, unless there are many more of them than members.
 pub(crate) fn properties<'a>(
     place: Place,
     schema: &'a Doc,
@@ -113,10 +113,10 @@ fn named_members<'a>(
     }
 }
 
-/// What `patternProperties` asks for.
+/// The applications of `patternProperties`.
 ///
 /// # Errors
-/// `Memory`.
+/// `Memory` if an allocation fails.
 pub(crate) fn patterns<'a>(
     alloc: Global,
     schemas: &'a Schemas,
@@ -152,7 +152,7 @@ pub(crate) fn patterns<'a>(
     }
 }
 
-/// What `additionalProperties` asks for.
+/// The applications of `additionalProperties`.
 pub(crate) fn additional<'a>(
     schemas: &'a Schemas,
     place: Place,
@@ -181,7 +181,7 @@ pub(crate) fn additional<'a>(
     }
 }
 
-/// What `propertyNames` asks for.
+/// The applications of `propertyNames`.
 pub(crate) fn property_names<'a>(
     schemas: &'a Schemas,
     place: Place,
@@ -205,10 +205,10 @@ pub(crate) fn property_names<'a>(
     }
 }
 
-/// What `unevaluatedProperties` asks for, where these members are evaluated.
+/// The applications of `unevaluatedProperties`, if members with these names are evaluated.
 ///
 /// # Errors
-/// `Memory`.
+/// `Memory` if an allocation fails.
 pub(crate) fn unevaluated_properties<'a>(
     alloc: Global,
     schemas: &'a Schemas,

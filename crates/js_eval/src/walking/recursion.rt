@@ -1,7 +1,7 @@
-//! The recursion: the node of a schema, of a keyword, and those of what a keyword asks for.
+//! The recursion: a function each for the node of a schema, the node of a keyword, and the applications of a keyword.
 //!
-//! No bound of it names a lifetime, so that it may call itself. It goes down by one call of each of the three functions for each
-//! schema on the way.
+//! No bound names a lifetime, so that the functions may be recursive. A nested schema application takes one call of
+//! each.
 ghost use Rattle.std.specs.Prelude.{◌≡◌, ◌≤◌, true, map, length, drop, nat_eq, MatchResult};
 ghost use Rattle.std.specs.List.{dedup, list_all};
 ghost use Rattle.js_eval.specs.Walk.Steps.{NodeDone, KeywordDone, EachDone};
@@ -22,7 +22,11 @@ use crate::walking::world::World;
 use js_bundle::Place;
 use std::alloc::Global;
 
-/// The node of a place on a value, with all that stands below it.
+/// Evaluates a value against the schema at a place, and reports the schema's node and the nodes below it. Returns the
+/// verdict.
+///
+/// # Errors
+/// `Memory` if an allocation fails; `TooLarge` if no result is within the limits that are left.
 #[cycle(walk)]
 pub(crate) fn node<W: World, H: PointerText + Drop, R: Reporter<W, H>>(
     alloc: Global,
@@ -84,7 +88,11 @@ pub(crate) fn node<W: World, H: PointerText + Drop, R: Reporter<W, H>>(
     Ok(valid)
 }
 
-/// The node of a keyword of the place that the path ends in.
+/// Evaluates a keyword, and reports its node and the nodes below it. `start`: how much was evaluated when the schema's
+/// node opened; `known`: what the keywords before have shown.
+///
+/// # Errors
+/// `Memory` if an allocation fails; `TooLarge` if no result is within the limits that are left.
 #[cycle(walk)]
 pub(crate) fn keyword_node<W: World, H: PointerText + Drop, R: Reporter<W, H>>(
     alloc: Global,
@@ -143,7 +151,11 @@ pub(crate) fn keyword_node<W: World, H: PointerText + Drop, R: Reporter<W, H>>(
     })
 }
 
-/// The nodes of what a keyword asks for, in order.
+/// Evaluates the applications that a keyword asks for, in order, and reports their nodes. Returns how many there are,
+/// and how many succeed.
+///
+/// # Errors
+/// `Memory` if an allocation fails; `TooLarge` if no result is within the limits that are left.
 #[cycle(walk)]
 pub(crate) fn applications<W: World, H: PointerText + Drop, R: Reporter<W, H>>(
     alloc: Global,

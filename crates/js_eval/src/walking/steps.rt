@@ -1,4 +1,4 @@
-//! The steps of a walk, each of which may want memory.
+//! The single steps of the recursion. Each that returns a `Result` fails with `Memory` if an allocation fails.
 ghost use Rattle.std.specs.Prelude.{◌≡◌, ◌∷◌, [], ◌<◌, ◌≤◌, List, true, map, length, drop, nat_eq, IfOk, OnOk, MatchOption, ℕ};
 ghost use Rattle.std.specs.List.{dedup, list_all};
 ghost use Rattle.std.specs.String.Boundary.{IsSplitPoint};
@@ -17,7 +17,7 @@ use js_bundle::Place;
 use js_doc::Memory;
 use std::alloc::Global;
 
-/// Opens the node of a schema, which may have one.
+/// Opens the node of a schema. The limit must allow one more node.
 pub(crate) fn open_schema<W: World, H: PointerText + Drop, R: Reporter<W, H>>(
     alloc: Global,
     world: &W,
@@ -37,7 +37,7 @@ pub(crate) fn open_schema<W: World, H: PointerText + Drop, R: Reporter<W, H>>(
     Ok(())
 }
 
-/// Closes the node of a schema. What it has evaluated goes, if it fails.
+/// Closes the node of a schema. If it fails, drops what it has evaluated.
 pub(crate) fn close_schema<W: World, H: PointerText + Drop, R: Reporter<W, H>>(
     alloc: Global,
     world: &W,
@@ -61,7 +61,7 @@ pub(crate) fn close_schema<W: World, H: PointerText + Drop, R: Reporter<W, H>>(
     Ok(())
 }
 
-/// The next keyword of a schema, whatever those before it say.
+/// The next keyword of a schema. Keywords are evaluated even if one before them has failed.
 pub(crate) fn next_keyword<W: World>(
     world: &W,
     judging: &mut Judging<W::Keywords>,
@@ -73,7 +73,7 @@ pub(crate) fn next_keyword<W: World>(
     world.next_keyword(&mut judging.keywords)
 }
 
-/// Opens the node of a keyword, which may have one.
+/// Opens the node of a keyword. The limit must allow one more node.
 #[inline(always)]
 pub(crate) fn open_keyword<W: World, H: PointerText + Drop, R: Reporter<W, H>>(
     alloc: Global,
@@ -93,8 +93,8 @@ pub(crate) fn open_keyword<W: World, H: PointerText + Drop, R: Reporter<W, H>>(
     into.open_keyword(alloc, world, place, keyword, &way.keyword, &way.instance)
 }
 
-/// What a keyword asks for, by what has been evaluated since the schema's node opened. What it works with stands in no
-/// frame of the recursion.
+/// The applications that a keyword asks for, given what has been evaluated since the schema's node opened. It isn't
+/// inlined, to keep its locals out of the recursive function's stack frame.
 #[inline(never)]
 pub(crate) fn asked<W: World, H: PointerText + Drop>(
     alloc: Global,
@@ -133,7 +133,7 @@ pub(crate) fn asked<W: World, H: PointerText + Drop>(
     )
 }
 
-/// Closes the node of a keyword. What it has evaluated goes, if it fails.
+/// Closes the node of a keyword, and returns whether it passes. If it fails, drops what it has evaluated.
 #[inline(always)]
 pub(crate) fn close_keyword<W: World, H: PointerText + Drop, R: Reporter<W, H>>(
     alloc: Global,
@@ -177,7 +177,8 @@ pub(crate) fn close_keyword<W: World, H: PointerText + Drop, R: Reporter<W, H>>(
     Ok(passes)
 }
 
-/// The node of a keyword that applies no schema. What it works with stands in no frame of the recursion.
+/// Evaluates a keyword that applies no schema, and reports its node. It isn't inlined, to keep its locals out of the
+/// recursive function's stack frame.
 #[inline(never)]
 pub(crate) fn childless_node<W: World, H: PointerText + Drop, R: Reporter<W, H>>(
     alloc: Global,
@@ -203,7 +204,7 @@ pub(crate) fn childless_node<W: World, H: PointerText + Drop, R: Reporter<W, H>>
     Ok(Judged { passes, held: 0 })
 }
 
-/// Goes to where a schema is applied to a value.
+/// Moves both trails down to an application.
 pub(crate) fn go_down<W: World, H: PointerText + Drop>(
     world: &W,
     way: &mut Way<W::Name, H>,
@@ -215,7 +216,7 @@ pub(crate) fn go_down<W: World, H: PointerText + Drop>(
     world.go_to_value(application, &mut way.instance)
 }
 
-/// Comes back from there, with what the keyword keeps of what was evaluated.
+/// Moves both trails back up, and replaces what the applied schema has evaluated by what the keyword has.
 pub(crate) fn come_back<W: World, H: PointerText + Drop>(
     world: &W,
     way: &mut Way<W::Name, H>,
