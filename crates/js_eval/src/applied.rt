@@ -13,13 +13,13 @@ use crate::instance::{Applied, Instance};
 use js_bundle::{Place, Schemas, Step};
 use js_doc::Doc;
 
-/// Where the subschemas are that a keyword applies to the parts of a value.
+/// Where to find the subschemas that a keyword applies to the parts of a value.
 #[derive(Clone, Copy)]
 pub(crate) enum Held<'a> {
     /// A single schema, which is the keyword's argument, and its place.
     One(Place, &'a Doc),
-    /// A schema for each part, in the keyword of this name of this schema at this place. The step to it is that to the
-    /// part.
+    /// One schema for each part, below the keyword with this name in this schema at this place. The step from the
+    /// keyword to the schema is the step to the part.
     Each(Place, &'a Doc, &'a str),
 }
 

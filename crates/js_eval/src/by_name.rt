@@ -7,7 +7,7 @@ ghost use Rattle.js_eval.specs.code.Standard.{kind_by};
 use crate::kind::Kind;
 use js_bundle::KeywordName;
 
-/// The kind of the keyword with this name. A keyword that the standard doesn't know is an annotation (Core, section
+/// The kind of the keyword with this name. A keyword that the standard doesn't define is an annotation (Core, section
 /// 4.3.1).
 pub fn kind_of(name: &str) -> Kind
     ensures { result ≡ kind name.now }

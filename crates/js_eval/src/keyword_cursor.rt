@@ -25,9 +25,9 @@ pub(crate) enum Keywords<'a> {
     Of(KeywordCursor<'a>),
 }
 
-/// The keywords of an object that are still to come. Names ascend, but `else` comes right after `if`. One pass over the
-/// members is enough: `else` is kept until the first name after `if`, and then that keyword is kept until `else` is
-/// out.
+/// The keywords of an object that are still to come. They ascend by name, except that `else` comes right after `if`.
+/// One pass over the members is enough: `else` is kept until the first name after `if`, and then that keyword is kept
+/// until `else` is out.
 #[derive(Drop)]
 pub(crate) struct KeywordCursor<'a> {
     pub is_past_if: bool,

@@ -1,5 +1,5 @@
-//! When a keyword has its turn among the nodes of its schema. The order is that of the names, but `else` comes right
-//! after `if`.
+//! When a keyword has its turn among the nodes of its schema. They ascend by name, except that `else` comes right after
+//! `if`.
 ghost use Rattle.std.specs.Prelude.{◌≡◌};
 ghost use Rattle.js_bundle.specs.KeywordName.{keyword_name};
 ghost use Rattle.js_eval.specs.code.Standard.{turn_by_name};
@@ -7,8 +7,8 @@ ghost use Rattle.js_eval.specs.code.Turns.{is_ever, turn_of};
 
 use js_bundle::KeywordName;
 
-/// When a keyword has its turn among the nodes of its schema. The order is that of the names, but `else` comes right
-/// after `if`.
+/// When a keyword has its turn among the nodes of its schema. They ascend by name, except that `else` comes right after
+/// `if`.
 #[derive(Clone, Copy)]
 pub(crate) enum Turn {
     /// It has no node.

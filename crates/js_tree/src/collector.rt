@@ -27,14 +27,14 @@ pub trait Collector<'a> {
     /// A node opens, below the innermost open node.
     ///
     /// # Errors
-    /// `Memory` if an allocation fails.
+    /// `Memory` if an allocation fails; `Boxed` and `Flat` are then as they were.
     fn enter(&mut self, head: Head) -> Result<(), Memory>
         ensures { IfOk result (λ _. takes self.old (opening head.keyword head.absolute head.instance) self.new) };
 
     /// The innermost open node closes, with this verdict and this note.
     ///
     /// # Errors
-    /// `Memory` if an allocation fails.
+    /// `Memory` if an allocation fails; `Boxed` and `Flat` are then as they were.
     fn leave(&mut self, valid: bool, note: Note<'a>) -> Result<(), Memory>
         ensures { IfOk result (λ _. takes self.old (closing valid (note_of note.entry)) self.new) };
 }

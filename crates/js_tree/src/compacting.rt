@@ -17,7 +17,7 @@ use crate::unit::Unit;
 enum Keep {
     /// Those with this verdict, if every node between them and the root has it too.
     Verdict(bool),
-    /// Those that condensing keeps: with a note, or with children of which at least two leave something.
+    /// Those that condensing keeps: each has a note, or at least two children of whose subtrees something is left.
     Noted,
 }
 
@@ -56,7 +56,7 @@ impl Keep {
         }
     }
 
-    /// The number of rows that go with the root of a subtree, of this size, that doesn't stay.
+    /// The number of rows that are dropped with the root of a subtree. `size`: the number of rows of the subtree.
     fn gone_with(self, size: usize) -> usize
         ensures { result ≡ gone_with self size }
     {

@@ -61,7 +61,7 @@ fn condense_one(tree: &mut Tree) -> bool
         ≡ (if result then node tree.new.root tree.new.below empty else empty) }
 {
     condense_children(&mut tree.children);
-    // This comes last, because condensing may have removed children.
+    // Checked after the children are condensed, because some may be gone.
     let stays = tree.stands();
     if stays {
         return true;

@@ -199,7 +199,7 @@ fn put_note(alloc: Global, members: &mut Members, note: &Note) -> Result<(), Mem
     }
 }
 
-/// Adds the children, if there are any, as `annotations` or as `errors`, by the verdict.
+/// Adds the children, if there are any: as `annotations` if the node passes, as `errors` if it fails.
 fn put_children(
     alloc: Global,
     members: &mut Members,

@@ -1,8 +1,8 @@
 //! Laws of result trees. Each is the contract of a function that does nothing.
 //!
 //! A *step* applies a rule once, at one node below the root; a *run* is a sequence of steps. A tree is *normal* if no
-//! step is possible. The *kept tree* of a tree is what `condense` makes of it, and the *merged tree* what
-//! `merge_condense` does.
+//! step is possible. The *kept tree* of a tree is what `condense` makes of it, and its *merged tree* what
+//! `merge_condense` makes of it.
 ghost use Rattle.std.specs.Prelude.{◌≡◌, ◌+◌, ◌<◌, ◌↔◌, IsTrue, Some, false, true};
 ghost use Rattle.js_tree.specs.Alike.{same_but_keyword};
 ghost use Rattle.js_tree.specs.Forest.{Forest, ◌⊹◌, node_count, tree};

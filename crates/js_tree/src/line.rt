@@ -1,4 +1,4 @@
-//! What writing a row's node needs of it, however the row stores its texts.
+//! What the JSON text of a row needs of the row, however it stores its texts.
 ghost use Rattle.std.specs.Prelude.{◌≡◌};
 ghost use Rattle.js_doc.specs.BytesOut.{Puts};
 ghost use Rattle.js_tree.specs.FlatState.{FlatRow};

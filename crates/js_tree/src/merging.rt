@@ -12,7 +12,7 @@ use crate::likeness::{comes_again, comes_again_at_mark};
 use crate::sorting::{are_shown_to_differ, differ_by_list, list_in_order, mark_alike};
 use crate::tree::{Tree, Trees};
 
-/// The number of siblings from which on they are sorted, instead of comparing each with each.
+/// From this number of siblings on, they are sorted before they are compared.
 const MANY: usize = 32;
 
 /// Condenses a tree by three rules. They apply to any node below the root:
@@ -69,7 +69,7 @@ fn merge_one(tree: &mut Tree) -> bool
         ≡ (if result then node tree.new.root tree.new.below empty else empty) }
 {
     merge_children(&mut tree.children);
-    // This comes last, because merging may have removed children.
+    // Checked after the children are merged, because some may be gone.
     let stays = tree.stands();
     if stays {
         return true;
@@ -104,7 +104,7 @@ fn keep_few(trees: &mut Vec<Tree>)
     trees.truncate(count);
 }
 
-/// Drops trees that are alike to an earlier one. Returns whether none is left for sure.
+/// Drops trees that are alike to an earlier one. Returns true only if none of them is left.
 fn keep_firsts_by_list(trees: &mut Vec<Tree>) -> bool
     ensures left { firsts same_but_keyword (forest_of trees.new.items)
         ≡ firsts same_but_keyword (forest_of trees.old.items) }

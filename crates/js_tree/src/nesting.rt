@@ -49,7 +49,7 @@ fn is_root(rows: &[Row], number: usize) -> bool
     ends_after(rows, number + 1, row.size - 1)
 }
 
-/// Whether the trees from row `first` on include some first ones with exactly `count` nodes together.
+/// Whether the `count` rows from `first` on are whole trees, if all rows from there on are those of trees.
 fn ends_after(rows: &[Row], first: usize, count: usize) -> bool
     requires within { first ≤ length rows.now }
     requires trees { (f : Forest OutputUnit) × (map row_of (drop first rows.now) ≡ flat_of f) }

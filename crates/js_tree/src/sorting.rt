@@ -130,8 +130,8 @@ fn are_alike_at(trees: &[Tree], place: usize, next: usize) -> bool
 }
 
 /// Sets the marks by the list that begins at `first`. If a tree is alike to an earlier one, its mark becomes the index
-/// that the first such tree will have once the repeated ones are dropped. Any other tree's mark becomes its own such
-/// index.
+/// that the first such tree will have once the repeated trees are dropped. Otherwise its mark becomes its own index
+/// then.
 pub(crate) fn mark_alike(trees: &[Tree], first: usize) {
     mark_firsts(trees, first);
     let mut count = 0_usize;

@@ -1,7 +1,6 @@
-//! The recursion: a function each for the node of a schema, the node of a keyword, and the applications of a keyword.
+//! The recursion of a walk. Three functions evaluate a schema, a keyword, and the applications of a keyword.
 //!
-//! No bound names a lifetime, so that the functions may be recursive. A nested schema application takes one call of
-//! each.
+//! No bound names a lifetime, so that they may be recursive. A nested schema application takes one call of each.
 ghost use Rattle.std.specs.Prelude.{◌≡◌, ◌≤◌, true, map, length, drop, nat_eq, MatchResult};
 ghost use Rattle.std.specs.List.{dedup, list_all};
 ghost use Rattle.js_eval.specs.Walk.Steps.{NodeDone, KeywordDone, EachDone};
