@@ -1,6 +1,6 @@
--- What a keyword asks for: its schemas, each applied to a value (JSON Schema Core, sections 8.2.3, 10 and 11).
--- On a value of a type that it doesn't speak of a keyword asks for nothing: such a value has no items, or no members.
--- The order in which it asks is this project's own choice.
+-- The applications that a keyword asks for: its schemas, each applied to a value (JSON Schema Core, sections 8.2.3, 10
+-- and 11). On a value of a type that it isn't about, a keyword asks for nothing, because such a value has no items, or
+-- no members. The order of the applications is this project's own choice.
 use Rattle.std.specs.Prelude.{ℕ, suc, ◌==◌, List, [], ◌∷◌, Bool, false, not, ◌||◌, Option, Some, None, map, filter, length, nat_lt, nat_le, codes, if◌then◌else◌}
 use Rattle.std.specs.List.{list_any, flat_map}
 use Rattle.std.specs.Option.{option_map_or}
@@ -18,15 +18,15 @@ use Rattle.js_eval.specs.declared.kind.Kind.TheVariants.{Reference, DynamicRefer
 pub record Application (Place : Type 0) : Type 0 where
   -- the place of the schema
   pub place : Place
-  -- the step to it from the keyword
+  -- the step from the keyword to the schema
   pub step : Step
-  -- the step to the value from the instance that the keyword is judged on
+  -- the step from the value that the keyword is evaluated on to the value that the schema is applied to
   pub at : Step
   pub value : Value
 
--- ---- words of the table
+-- ---- the terms of the table
 
--- the values with their positions, the first of which is i
+-- the values with their positions, of which the first is i
 abbrev pub indexed_from : ℕ → List Value → List (ℕ × Value)
 indexed_from i [] = []
 indexed_from i (v ∷ vs) = (i, v) ∷ indexed_from (suc i) vs
@@ -41,11 +41,11 @@ among_names name names = list_any (bytes_eq name) names
 abbrev pub among_indexes : ℕ → List ℕ → Bool
 among_indexes i indexes = list_any (λ j. i == j) indexes
 
--- how many schemas the adjacent `prefixItems` holds; 0 where there is none
+-- how many schemas the adjacent `prefixItems` has; 0 without it
 abbrev pub prefix_length : Named → ℕ
 prefix_length siblings = option_map_or (λ argument. length (values argument)) (get (codes "prefixItems") siblings) 0
 
--- the adjacent `properties` holds a schema of this name
+-- the adjacent `properties` has a schema with this name
 abbrev pub is_property : Named → Text → Bool
 is_property siblings name = option_map_or (λ argument. has name (entries argument)) (get (codes "properties") siblings) false
 
@@ -66,9 +66,9 @@ if_fails (Some holds) apps = if holds then [] else apps
 abbrev pub application : {Place : Type 0} → SchemaSet Place → Place → Text → Step → Step → Value → Application Place
 application S place name step at value = record { place = S.below place name step; step = step; at = at; value = value }
 
--- ---- the table: at the last place of the path stands the keyword k among its siblings, and v is judged there.
--- ---- `condition`: the verdict of the adjacent `if`, None where there is none.
--- ---- `names` and `indexes`: the members and the items that the other keywords of the schema have evaluated.
+-- ---- the table: v is evaluated under the keyword k among its siblings, at the last place of the path. `condition`:
+-- the verdict of the adjacent `if`, or None without it. `names` and `indexes`: the members and the items that the other
+-- keywords of the schema have evaluated.
 
 module _ {Place : Type 0} (S : SchemaSet Place) (path : List Place) (place : Place) (siblings : Named) (v : Value) (condition : Option Bool) (names : List Text) (indexes : List ℕ) (k : Keyword) where
   -- the keyword's schema at the step, on the whole of v, on an item of v, on a member of v
@@ -82,9 +82,9 @@ module _ {Place : Type 0} (S : SchemaSet Place) (path : List Place) (place : Pla
   on_member step m = application S place k.0 step (Name m.0) m.1
 
   abbrev pub asks_of : Kind → List (Application Place)
-  -- 8.2.3.1: what the reference names, on v
+  -- 8.2.3.1: the schema that the reference leads to, on v
   asks_of Reference = record { place = S.target place; step = Alone; at = Alone; value = v } ∷ []
-  -- 8.2.3.2: what the reference names in the dynamic scope, on v
+  -- 8.2.3.2: the schema that the reference leads to in the dynamic scope, on v
   asks_of DynamicReference = record { place = S.dynamic_target path place; step = Alone; at = Alone; value = v } ∷ []
   -- 10.2.1.1: each schema of the list, on v
   asks_of AllOf = map (λ e. in_place (Index e.0)) (indexed k.1)
@@ -100,22 +100,23 @@ module _ {Place : Type 0} (S : SchemaSet Place) (path : List Place) (place : Pla
   asks_of Then = if_holds condition (in_place Alone ∷ [])
   -- 10.2.2.3: the schema on v, if `if` is there and fails
   asks_of Else = if_fails condition (in_place Alone ∷ [])
-  -- 10.2.2.4: the schema of each name that is a member's, on the whole of v
+  -- 10.2.2.4: the schema of each name that a member has, on the whole of v
   asks_of DependentSchemas = map (λ m. in_place (Name m.0)) (filter (λ m. has m.0 (entries v)) (entries k.1))
   -- 10.3.1.1: at each index that the array also has, the schema on the item
   asks_of PrefixItems = map (λ e. on_item (Index e.0) e) (filter (λ e. nat_lt e.0 (length (values k.1))) (indexed v))
-  -- 10.3.1.2: the schema on each item behind those that `prefixItems` has schemas for
+  -- 10.3.1.2: the schema on each item after those that `prefixItems` has schemas for
   asks_of Items = map (on_item Alone) (filter (λ e. nat_le (prefix_length siblings) e.0) (indexed v))
   -- 10.3.1.3: the schema on each item
   asks_of Contains = map (on_item Alone) (indexed v)
-  -- 10.3.2.1: the schema of each name that is a member's, on the member
+  -- 10.3.2.1: the schema of each name that a member has, on the member
   asks_of Properties = map (λ m. on_member (Name m.0) m) (filter (λ m. has m.0 (entries k.1)) (entries v))
   -- 10.3.2.2: for each pattern, its schema on each member whose name it matches
   asks_of PatternProperties = flat_map (λ p. map (on_member (Name p.0)) (filter (λ m. matches p.0 m.0) (entries v))) (entries k.1)
   -- 10.3.2.3: the schema on each member that `properties` doesn't name and no pattern of `patternProperties` matches
   asks_of AdditionalProperties =
       map (on_member Alone) (filter (λ m. not (is_property siblings m.0 || matches_pattern siblings m.0)) (entries v))
-  -- 10.3.2.4: the schema on each name, as a string; that its instance location is the member's is this project's own choice
+  -- 10.3.2.4: the schema on each name, as a string; that it has the member's instance location is this project's own
+  -- choice
   asks_of PropertyNames = map (λ m. on_member Alone (m.0, text m.0)) (entries v)
   -- 11.2: the schema on each item that is not evaluated
   asks_of UnevaluatedItems = map (on_item Alone) (filter (λ e. not (among_indexes e.0 indexes)) (indexed v))

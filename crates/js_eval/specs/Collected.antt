@@ -1,4 +1,4 @@
--- What each collector holds after a walk into it (JSON Schema Core, section 12.4).
+-- The state of each collector after a walk into it (JSON Schema Core, section 12.4).
 use Rattle.std.specs.Prelude.{◌≡◌, ℕ, Bool, Some}
 use Rattle.js_bundle.specs.Document.{Documents}
 use Rattle.js_doc.specs.Value.{Value}
@@ -11,7 +11,7 @@ use Rattle.js_tree.specs.declared.verdict.Verdict.{Verdict}
 use Rattle.js_eval.specs.Result.{ResultTree}
 use Rattle.js_eval.specs.Walked.{IsResultWithin, IsVerdict, LeadsTo}
 
--- v is judged at the place of a number, and c is a new collector
+-- v is evaluated at the place with this number, and c is a new collector
 module _ (documents : Documents) (place : ℕ) (v : Value) where
   abbrev pub VerdictIsCollected : Type 0
   VerdictIsCollected =

@@ -1,5 +1,5 @@
--- The members and the items of a value that a keyword has evaluated, where it passes
--- (JSON Schema Core, sections 10.2, 10.3, 11.2 and 11.3).
+-- The members and the items of a value that a keyword has evaluated if it passes (JSON Schema Core, sections 10.2,
+-- 10.3, 11.2 and 11.3).
 use Rattle.std.specs.Prelude.{ℕ, List, [], ◌∷◌}
 use Rattle.std.specs.List.{flat_map}
 use Rattle.js_eval.specs.Applications.{Application}
@@ -15,15 +15,15 @@ abbrev pub index_in : Step → List ℕ
 index_in (Index i) = i ∷ []
 index_in _ = []
 
--- the members, and the items, that these applications were made to
+-- the members, and the items, that schemas were applied to
 abbrev pub names_applied : {Place : Type 0} → List (Application Place) → List Text
 names_applied apps = flat_map (λ a. name_in a.at) apps
 
 abbrev pub indexes_applied : {Place : Type 0} → List (Application Place) → List ℕ
 indexes_applied apps = flat_map (λ a. index_in a.at) apps
 
--- ---- the tables: a keyword asked for these applications, of which those in `holding` hold.
--- ---- `names` and `indexes`: what the schemas of those that hold have evaluated themselves.
+-- ---- the tables: a keyword asks for these applications, of which those in `holding` hold. `names` and `indexes`: what
+-- the schemas of those that hold have evaluated themselves.
 
 module _ {Place : Type 0} (apps holding : List (Application Place)) where
   abbrev pub names_of : List Text → Kind → List Text
@@ -42,7 +42,7 @@ module _ {Place : Type 0} (apps holding : List (Application Place)) where
   names_of names Then = names
   names_of names Else = names
   names_of names DependentSchemas = names
-  -- all others, `not` among them
+  -- all others, including `not`
   names_of names _ = []
 
   abbrev pub indexes_of : List ℕ → Kind → List ℕ

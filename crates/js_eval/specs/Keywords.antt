@@ -1,5 +1,5 @@
--- The keywords of a schema that stand in its result, and their order.
--- The standard asks for no order: all of this file is this project's own choice.
+-- The keywords of a schema that have a node in the result, and their order. The standard prescribes no order: all of
+-- this file is this project's own choice.
 use Rattle.std.specs.Prelude.{ℕ, List, [], ◌∷◌, ◌++◌, Bool, not, ◌&&◌, filter, codes}
 use Rattle.std.specs.Str.{bytes_eq}
 use Rattle.std.specs.List.{list_any}
@@ -11,7 +11,7 @@ use Rattle.js_bundle.specs.KeywordName.{stands_behind_if}
 abbrev pub Keyword : Type 0
 Keyword = List ℕ × Value
 
--- the keywords that identify schemas, hold them for reference, or comment (Core, sections 8.1 to 8.3): they ask
+-- the keywords that identify schemas, hold them for reference, or comment (Core, sections 8.1 to 8.3): they require
 -- nothing of a value, and have no node; `definitions` is taken as `$defs`
 abbrev pub without_node : List (List ℕ)
 without_node =
@@ -21,7 +21,7 @@ without_node =
 abbrev pub has_node : List ℕ → Bool
 has_node name = not (list_any (bytes_eq name) without_node)
 
--- ---- the order: ascending by name, save that `else` stands as a name would that comes directly after `if`
+-- ---- the order: ascending by name, except that `else` counts as a name directly after `if`
 
 abbrev pub is_else : List ℕ → Bool
 is_else name = bytes_eq name (codes "else")

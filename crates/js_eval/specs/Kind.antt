@@ -24,7 +24,7 @@ applicators =
     -- 11: schemas applied to what the others left unevaluated
     ∷ (codes "unevaluatedItems", UnevaluatedItems) ∷ (codes "unevaluatedProperties", UnevaluatedProperties) ∷ []
 
--- a name that is in none of the rows is an assertion's, or only annotates
+-- a name in none of the rows is that of an assertion, or only annotates
 abbrev pub kind_in : List Applicator → List ℕ → Kind
 kind_in [] name = if is_some (keyword_named name) then Assertion else Annotation
 kind_in (row ∷ rows) name = if bytes_eq name row.0 then row.1 else kind_in rows name
@@ -32,7 +32,7 @@ kind_in (row ∷ rows) name = if bytes_eq name row.0 then row.1 else kind_in row
 unfoldable pub kind : List ℕ → Kind
 kind name = kind_in applicators name
 
--- the two keywords of section 11, which look at what all the others have evaluated
+-- the two keywords of section 11, which depend on what all the others have evaluated
 abbrev pub is_unevaluated_items : Kind → Bool
 is_unevaluated_items UnevaluatedItems = true
 is_unevaluated_items _ = false

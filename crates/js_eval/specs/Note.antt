@@ -1,6 +1,6 @@
--- What a node of the result has to say: an error where it fails, an annotation where it passes, or nothing
--- (JSON Schema Core, sections 7.7, 10 to 12.3.4). The standard leaves the texts of errors open, and lets `prefixItems` and
--- `contains` say `true` where it is about every item: the texts, and that they always do, are this project's own choices.
+-- The note of a node: an error if it fails, an annotation if it passes, or nothing (JSON Schema Core, sections 7.7 and
+-- 10 to 12.3.4). The standard leaves the texts of errors open, and allows `prefixItems` and `contains` to annotate
+-- `true` if they cover every item. The texts, and that `true` is always used then, are this project's own choices.
 use Rattle.std.specs.Prelude.{ℕ, ◌==◌, List, [], ◌∷◌, ◌++◌, Bool, true, false, Option, Some, None, map, filter, length, codes, decimal, if◌then◌else◌}
 use Rattle.std.specs.Option.{option_map_or}
 use Rattle.js_doc.specs.Value.{Value, truth, list, object, Named}
@@ -15,7 +15,7 @@ use Rattle.js_eval.specs.SchemaSet.{Text}
 use Rattle.js_eval.specs.declared.kind.Kind.{Kind}
 use Rattle.js_eval.specs.declared.kind.Kind.TheVariants.{AnyOf, OneOf, Not, PrefixItems, Items, Contains, Properties, PatternProperties, AdditionalProperties, UnevaluatedItems, UnevaluatedProperties, Assertion, Annotation}
 
--- ---- words of the tables
+-- ---- the terms of the tables
 
 abbrev pub error_or_none : Option Text → Note
 error_or_none None = silent
@@ -26,22 +26,22 @@ abbrev pub if_any : List ℕ → Note
 if_any [] = silent
 if_any (_ ∷ _) = truly
 
--- the largest index, which is the last; none where there is none
+-- the largest index, which is the last; none if there are no indexes
 abbrev pub largest : List ℕ → Note
 largest [] = silent
 largest (i ∷ []) = index i
 largest (i ∷ j ∷ js) = largest (j ∷ js)
 
--- these are all items of an array that isn't empty: no keyword is applied to an item twice, so they are as many
+-- these are all items of a nonempty array; since no keyword is applied to an item twice, their number decides
 abbrev pub are_all_items : Value → List ℕ → Bool
 are_all_items v [] = false
 are_all_items v (i ∷ is) = length (i ∷ is) == length (values v)
 
--- `true` where these are all items, else that note
+-- `true` if these are all items, else that note
 abbrev pub true_or : Bool → Note → Note
 true_or are_all note = if are_all then truly else note
 
--- a note on arrays alone, and one on objects alone
+-- a note for arrays only, and one for objects only
 abbrev pub said_of_array : Value → Note → Note
 said_of_array (list _) note = note
 said_of_array _ note = silent
@@ -54,12 +54,11 @@ said_of_object _ note = silent
 abbrev pub members_among : Value → List Text → List Text
 members_among v among = filter (λ name. among_names name among) (map (λ m. m.0) (entries v))
 
--- ---- a keyword's note: the keyword k stands among its siblings, v is judged, and k asked for these applications, of which
--- ---- those in `holding` hold.
--- ---- `matching`: how many items of v match the adjacent `contains`.
+-- ---- a keyword's note: v is evaluated under the keyword k among its siblings, with these applications, of which those
+-- in `holding` hold. `matching`: how many items of v match the adjacent `contains`.
 
 module _ {Place : Type 0} (siblings : Named) (v : Value) (matching : ℕ) (k : Keyword) (apps holding : List (Application Place)) where
-  -- where it fails (12.3.4); a keyword that fails because its applications do says nothing itself
+  -- if it fails (12.3.4); a keyword that fails because its applications do has no error of its own
   abbrev pub error_of : Kind → Note
   error_of AnyOf = error (codes "no branch holds")
   error_of OneOf = error (decimal (length holding) ++ codes " branches hold")
@@ -68,7 +67,7 @@ module _ {Place : Type 0} (siblings : Named) (v : Value) (matching : ℕ) (k : K
   error_of Assertion = error_or_none (option_map_or (λ a. assertion.error a v matching) (asserted k.0 k.1 siblings) None)
   error_of _ = silent
 
-  -- where it passes (10.3, 11)
+  -- if it passes (10.3, 11)
   abbrev pub annotation_of : Kind → Note
   -- 10.3.1.1: `true` if it was applied to every item, else the largest index that it was applied to
   annotation_of PrefixItems = true_or (are_all_items v (indexes_applied apps)) (largest (indexes_applied apps))
@@ -83,7 +82,7 @@ module _ {Place : Type 0} (siblings : Named) (v : Value) (matching : ℕ) (k : K
   -- 11
   annotation_of UnevaluatedItems = if_any (indexes_applied apps)
   annotation_of UnevaluatedProperties = said_of_object v (names (names_applied apps))
-  -- 6.5, 7.7: each keyword that does nothing else annotates its value
+  -- 6.5, 7.7: a keyword that does nothing else annotates its value
   annotation_of Annotation = value k.1
   annotation_of _ = silent
 

@@ -1,5 +1,5 @@
--- Whether a keyword passes, by the verdicts of the applications that it asked for
--- (JSON Schema Core, sections 8.2.3, 10 and 11; Validation, section 6).
+-- Whether a keyword passes, given the verdicts of its applications (JSON Schema Core, sections 8.2.3, 10 and 11;
+-- Validation, section 6).
 use Rattle.std.specs.Prelude.{ℕ, ◌==◌, List, Bool, true, false, not, ◌||◌, Option, count_by, pos, codes}
 use Rattle.std.specs.List.{list_any, list_all}
 use Rattle.std.specs.Option.{option_and_then, option_map_or}
@@ -31,8 +31,8 @@ may_contain_none siblings = option_map_or (λ argument. same argument (whole (po
 abbrev pub assertion_in : Value → Text → Option Asserted
 assertion_in schema name = option_and_then (λ argument. asserted name argument (entries schema)) (get name (entries schema))
 
--- ---- the table: the keyword k stands among its siblings, v is judged, and these are the verdicts of what k asked for.
--- ---- `matching`: how many items of v match the adjacent `contains`.
+-- ---- the table: v is evaluated under the keyword k among its siblings, and these are the verdicts of k's
+-- applications. `matching`: how many items of v match the adjacent `contains`.
 
 module _ (siblings : Named) (v : Value) (matching : ℕ) (k : Keyword) (verdicts : List Bool) where
   abbrev pub passes_of : Kind → Bool
@@ -49,5 +49,5 @@ module _ (siblings : Named) (v : Value) (matching : ℕ) (k : Keyword) (verdicts
   -- Validation, section 6
   passes_of Assertion = option_map_or (λ a. says a v matching) (asserted k.0 k.1 siblings) true
   passes_of Annotation = true
-  -- each other keyword passes if all its applications hold
+  -- any other keyword passes if all its applications hold
   passes_of _ = all verdicts

@@ -1,6 +1,6 @@
--- The result of judging an instance, as a law on a finished tree (JSON Schema Core, sections 12.3 and 12.4.4).
--- Below the node of a schema stands one node for each of its keywords, in their order, and below the node of a keyword
--- one for each application that it asks for, in their order.
+-- The result of evaluating an instance, as a predicate on a finished tree (JSON Schema Core, sections 12.3 and 12.4.4).
+-- A schema's node has one child for each of its keywords, in their order; a keyword's node has one for each application
+-- that it asks for, in their order.
 use Rattle.std.specs.Prelude.{◌≡◌, ℕ, suc, ◌≤◌, max, List, [], ◌∷◌, ◌++◌, Some, None, filter}
 use Rattle.js_doc.specs.Pointer.{pointer_text}
 use Rattle.js_doc.specs.Value.{Value}
@@ -46,7 +46,7 @@ module _ {Place : Type 0} (S : SchemaSet Place) (n : ℕ) (above : List Place) (
 
 module _ {Place : Type 0} (S : SchemaSet Place) (n : ℕ) where
   abbrev mutual
-    -- they are the nodes of these keywords of a place, in order
+    -- these are the nodes of these keywords of a place, in order
     pub AreKeywordNodes : List Place → Place → Location → Value → List Keyword → Forest OutputUnit → Type 0
     AreKeywordNodes above place at v [] empty = Unit {0}
     AreKeywordNodes above place at v (k ∷ ks) (tree u below after) =
@@ -55,7 +55,7 @@ module _ {Place : Type 0} (S : SchemaSet Place) (n : ℕ) where
         × AreKeywordNodes above place at v ks after
     AreKeywordNodes above place at v _ _ = ⊥
 
-    -- they are the nodes of these applications, to which a path led, in order
+    -- these are the nodes of these applications at the end of a path, in order
     pub AreSchemaNodes : List Place → Location → List (Application Place) → Forest OutputUnit → Type 0
     AreSchemaNodes above at [] empty = Unit {0}
     AreSchemaNodes above at (a ∷ apps) (tree u below after) =
@@ -64,11 +64,11 @@ module _ {Place : Type 0} (S : SchemaSet Place) (n : ℕ) where
         × AreSchemaNodes above at apps after
     AreSchemaNodes above at _ _ = ⊥
 
-  -- t is the node of a place on a value
+  -- t is the node of the schema at a place, evaluated on a value
   abbrev pub IsNode : List Place → Place → Location → Value → ResultTree → Type 0
   IsNode above place at v t = (t.root ≡ schema_unit S n above place at v) × AreKeywordNodes above place at v (keywords (S.schema place)) t.below
 
--- t is the result of judging v at a place, to which these places led
+-- t is the result of evaluating v at a place, at the end of these places
 pub record IsResult {Place : Type 0} (S : SchemaSet Place) (above : List Place) (place : Place) (at : Location) (v : Value) (t : ResultTree) : Type 0 where
   pub bound : ℕ
   pub settled : Settled S bound above place v
@@ -77,7 +77,7 @@ pub record IsResult {Place : Type 0} (S : SchemaSet Place) (above : List Place) 
 -- ---- the limits: this project's own choice
 
 abbrev mutual
-  -- how many nodes of schemas stand on the longest way down, below keywords, and below schemas
+  -- the largest number of schema nodes on a path down, below keywords and below schemas
   pub depth_below_schema : Forest OutputUnit → ℕ
   depth_below_schema empty = 0
   depth_below_schema (tree k below after) = max (depth_of_schemas below) (depth_below_schema after)
@@ -86,7 +86,7 @@ abbrev mutual
   depth_of_schemas empty = 0
   depth_of_schemas (tree s below after) = max (suc (depth_below_schema below)) (depth_of_schemas after)
 
--- how many nodes of schemas stand on the longest way from the root, the root included
+-- the largest number of schema nodes on a path from the root, the root included
 abbrev pub depth : ResultTree → ℕ
 depth t = suc (depth_below_schema t.below)
 

@@ -1,5 +1,5 @@
--- Whole results over documents (JSON Schema Core, sections 12.3 and 12.4.4): schema documents, an instance, and the tree that is
--- the result of judging it at the root of the first.
+-- Whole results over documents (JSON Schema Core, sections 12.3 and 12.4.4): schema documents, an instance, and the
+-- tree that results from evaluating it at the root of the first document.
 use Rattle.std.specs.Prelude.{ℕ, zero, suc, List, [], ◌∷◌, ◌++◌, Bool, true, false, codes}
 use Rattle.std.specs.Option.{option_map_or}
 use Rattle.js_doc.specs.Value.{Value, null, truth}

@@ -1,4 +1,4 @@
--- What the parts of the code are seen as.
+-- What contracts see of the code's types.
 use Rattle.std.specs.Prelude.{ℕ, List, map}
 use denote.Ref.{Bor}
 use Rattle.js_doc.specs.Seen.{value_of}

@@ -1,4 +1,4 @@
--- How many nodes the result has, told without the tree, so that a result that is too large can be known before it is made.
+-- How many nodes the result has, defined without the tree: so it is known that a result is too large before it is made.
 use Rattle.std.specs.Prelude.{ℕ, zero, suc, ◌+◌, List, [], ◌∷◌, ◌++◌, sum_by}
 use Rattle.js_doc.specs.Value.{Value}
 use Rattle.js_eval.specs.Applications.{Application}
@@ -6,11 +6,11 @@ use Rattle.js_eval.specs.Keywords.{Keyword, keywords}
 use Rattle.js_eval.specs.SchemaSet.{SchemaSet}
 use Rattle.js_eval.specs.Verdict.{Known, within, asks}
 
--- of an application to which a path led
+-- of an application at the end of a path
 abbrev pub nodes_of_application : {Place : Type 0} → (List Place → Place → Value → ℕ) → List Place → Application Place → ℕ
 nodes_of_application nodes path a = nodes path a.place a.value
 
--- of a keyword: its own, and those of what it asks for
+-- of a keyword: its own, and those of its applications
 abbrev pub nodes_of_keyword : {Place : Type 0} → SchemaSet Place → Known Place → (List Place → Place → Value → ℕ) → List Place → Place → Value → Keyword → ℕ
 nodes_of_keyword S known nodes above place v k = 1 + sum_by (nodes_of_application nodes (above ++ place ∷ [])) (asks S known above place v k)
 

@@ -1,6 +1,7 @@
--- Whether a value holds under a schema, and what of it is then evaluated (JSON Schema Core, sections 7.2 and 7.5 to 7.7).
--- References may lead on without end, so all is said within a number n of schemas on a way: within 0 nothing is
--- settled, and within n + 1 a schema is judged by what is known of its keywords' applications within n.
+-- Whether a value is valid under a schema, and what of it is then evaluated (JSON Schema Core, sections 7.2 and 7.5 to
+-- 7.7). References may lead on without end, so everything is defined within a number n of nested schema applications:
+-- within 0 nothing is settled, and within n + 1 a schema is evaluated by what is known of its keywords' applications
+-- within n.
 use Rattle.std.specs.Prelude.{◌≡◌, ℕ, zero, suc, List, [], ◌∷◌, ◌++◌, Bool, true, false, not, ◌&&◌, Option, option_map, map, filter, length, codes, if◌then◌else◌}
 use Rattle.std.specs.List.{list_all, flat_map}
 use Rattle.std.specs.Option.{option_map_or}
@@ -15,8 +16,8 @@ use Rattle.js_eval.specs.Passes.{passes_of}
 use Rattle.js_eval.specs.SchemaSet.{Text, SchemaSet, Alone}
 use Rattle.js_eval.specs.declared.kind.Kind.TheVariants.{Contains}
 
--- What is known of applications. Each is told by the places that were applied before it, from the entry on, by its
--- own place, and by the value.
+-- What is known of applications. An application is given by the places applied before it, from the entry on, by its own
+-- place, and by the value.
 pub record Known (Place : Type 0) : Type 0 where
   -- its verdict is known
   pub settled : List Place → Place → Value → Bool
@@ -47,16 +48,16 @@ module _ {Place : Type 0} (S : SchemaSet Place) (known : Known Place) (above : L
   abbrev pub application_holds : Application Place → Bool
   application_holds a = known.holds path a.place a.value
 
-  -- the verdict of the adjacent `if`, where there is one (10.2.2.1)
+  -- the verdict of the adjacent `if`, if there is one (10.2.2.1)
   abbrev pub condition : Option Bool
   condition = option_map (λ _. application_holds (application S place (codes "if") Alone Alone v)) (get (codes "if") siblings)
 
-  -- ---- a keyword, of what it asks for
+  -- ---- a keyword, by its applications
 
   abbrev pub passes_by : ℕ → Keyword → List (Application Place) → Bool
   passes_by matching k apps = passes_of siblings v matching k (map application_holds apps) (kind k.0)
 
-  -- what a keyword gives where it asks for these; one that fails gives nothing (7.7.1.2)
+  -- what a keyword with these applications has evaluated; one that fails has evaluated nothing (7.7.1.2)
   abbrev pub names_by : ℕ → Keyword → List (Application Place) → List Text
   names_by matching k apps =
       if passes_by matching k apps
@@ -77,7 +78,7 @@ module _ {Place : Type 0} (S : SchemaSet Place) (known : Known Place) (above : L
   abbrev pub others_ask : Keyword → List (Application Place)
   others_ask k = asks_of S path place siblings v condition [] [] k (kind k.0)
 
-  -- how many items match the adjacent `contains`; 0 where there is none
+  -- how many items match the adjacent `contains`; 0 without it
   abbrev pub matching : ℕ
   matching =
       option_map_or (λ argument. length (filter application_holds (asks_of S path place siblings v condition [] [] (codes "contains", argument) Contains)))
@@ -118,7 +119,7 @@ module _ {Place : Type 0} (S : SchemaSet Place) (known : Known Place) (above : L
   abbrev pub schema_passes : Bool
   schema_passes = accepts (S.schema place) && list_all passes (keywords (S.schema place))
 
--- what is known with one schema more on the way; a schema that fails has evaluated nothing (7.7.1.2)
+-- what is known with one more nested application; a schema that fails has evaluated nothing (7.7.1.2)
 abbrev pub next : {Place : Type 0} → SchemaSet Place → Known Place → Known Place
 next S known = record {
   settled = λ above place v. schema_settled S known above place v;
@@ -130,12 +131,12 @@ next S known = record {
 abbrev pub nothing : {Place : Type 0} → Known Place
 nothing = record { settled = λ _ _ _. false; holds = λ _ _ _. false; names = λ _ _ _. []; indexes = λ _ _ _. [] }
 
--- what is known within n schemas on a way
+-- what is known within n nested schema applications
 unfoldable pub within : {Place : Type 0} → SchemaSet Place → ℕ → Known Place
 within S zero = nothing
 within S (suc n) = next S (within S n)
 
--- ---- verdicts: v is judged at a place, to which these places led
+-- ---- verdicts: v is evaluated at a place, at the end of these places
 
 module _ {Place : Type 0} (S : SchemaSet Place) (n : ℕ) (above : List Place) (place : Place) (v : Value) where
   abbrev pub Settled : Type 0

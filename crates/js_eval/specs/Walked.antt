@@ -1,4 +1,4 @@
--- What a walk over finished schemas answers (JSON Schema Core, sections 12.3 and 12.4). A place is told by its number.
+-- What a walk over finished schemas returns (JSON Schema Core, sections 12.3 and 12.4). A place is given by its number.
 use Rattle.std.specs.Prelude.{◌≡◌, ℕ, Bool, []}
 use Rattle.js_doc.specs.Value.{Value}
 use Rattle.js_tree.specs.Events.{Event, Passes, events}
@@ -10,12 +10,12 @@ use Rattle.js_eval.specs.Sited.{numbered_site}
 use Rattle.js_eval.specs.declared.walking.fault.WalkFault.{WalkFault}
 use Rattle.js_eval.specs.declared.walking.fault.WalkFault.TheVariants.{Memory, TooLarge}
 
--- of a want of memory nothing is said
+-- nothing is claimed about `Memory`
 abbrev pub OnTooLarge : WalkFault → Type 0 → Type 0
 OnTooLarge Memory P = Unit {0}
 OnTooLarge TooLarge P = P
 
--- ---- v is judged at the place of a number
+-- ---- v is evaluated at the place with this number
 
 module _ (documents : Documents) (place : ℕ) (v : Value) where
   abbrev pub IsResultThere : ResultTree → Type 0
@@ -24,18 +24,18 @@ module _ (documents : Documents) (place : ℕ) (v : Value) where
   abbrev pub NoneStands : Type 0
   NoneStands = (t : ResultTree) → IsResultThere t → IsWithinLimits t → ⊥
 
-  -- t is the result, and it stands within the limits
+  -- t is the result, and is within the limits
   pub record IsResultWithin (t : ResultTree) : Type 0 where
     pub is : IsResultThere t
     pub stands : IsWithinLimits t
 
-  -- the result stands within the limits, and this is its verdict
+  -- the result is within the limits, and this is its verdict
   pub record IsVerdict (valid : Bool) : Type 0 where
     pub result : ResultTree
     pub within : IsResultWithin result
     pub verdict : valid ≡ result.root.valid
 
-  -- the result stands within the limits, and its events lead from c to d, one after another
+  -- the result is within the limits, and its events lead from c to d, one after another
   pub record LeadsTo {C : Type 0} (takes : C → Event → C → Type 0) (c d : C) : Type 0 where
     pub result : ResultTree
     pub within : IsResultWithin result

@@ -1,4 +1,5 @@
-//! What a pattern says of the names of an object, kept from one keyword to another.
+//! Which names of an object the patterns of `patternProperties` match. `additionalProperties` needs this first, and
+//! `patternProperties` of the same schema reuses it.
 ghost use Rattle.std.specs.Prelude.{◌≡◌, IfOk, MatchOption, drop, get_or, map, false};
 ghost use Rattle.std.specs.List.{list_any};
 ghost use Rattle.js_assert.specs.Pattern.{matches};
@@ -12,23 +13,27 @@ use js_doc::{Doc, Members, Memory};
 use std::alloc::Global;
 use std::collections::btree_map::Iter;
 
-/// Whether a pattern matches each name of an object. It is asked for names in their order, and may pass over some.
+/// For one pattern: whether it matches each name of an object. Names are asked for in ascending order, and some may be
+/// skipped.
 #[derive(Drop)]
 pub(crate) struct PatternAnswers<'p> {
     pub pattern: &'p str,
     members: &'p Members,
+    /// Whether the pattern matches, for each member.
     all: Vec<bool>,
+    /// The members that haven't been asked for.
     left: Iter<'p, String, Doc>,
+    /// The index of the first of them.
     next: usize,
     ghost right: { all.items ≡ map (λ m. matches pattern.now m.0) members.now },
     ghost in_step: { drop next all.items ≡ map (λ m. matches pattern.now m.0) (map pair_of left) },
 }
 
 impl<'p> PatternAnswers<'p> {
-    /// Asks the pattern once for each name.
+    /// Tries the pattern on each name.
     ///
     /// # Errors
-    /// `Memory`.
+    /// `Memory` if an allocation fails.
     pub fn new(
         alloc: Global,
         searchers: &Searchers<'p>,
@@ -46,7 +51,7 @@ impl<'p> PatternAnswers<'p> {
         })
     }
 
-    /// Begins with the first name again.
+    /// Goes back to the first name.
     pub fn rewind(&mut self)
         ensures { self.new.pattern ≡ self.old.pattern }
     {
@@ -54,7 +59,7 @@ impl<'p> PatternAnswers<'p> {
         self.next = 0;
     }
 
-    /// Whether the pattern matches the name, where it is among those that are left.
+    /// Whether the pattern matches the name, or None if the name isn't among those left. Skips the names before it.
     pub fn find_name(&mut self, name: &str) -> Option<bool>
         ensures answer { MatchOption result (Unit {0}) (λ b. b ≡ matches self.old.pattern.now name.now) }
         ensures same { self.new.pattern ≡ self.old.pattern }
@@ -69,7 +74,7 @@ impl<'p> PatternAnswers<'p> {
         None
     }
 
-    /// The same, if this is the pattern.
+    /// The same if `pattern` is the text of this pattern, else None.
     pub fn find_of(&mut self, pattern: &str, name: &str) -> Option<bool>
         ensures { MatchOption result (Unit {0}) (λ b. b ≡ matches pattern.now name.now) }
     {
@@ -81,16 +86,17 @@ impl<'p> PatternAnswers<'p> {
     }
 }
 
-/// What the patterns of one schema say of the names of one object.
+/// For each pattern of a schema: which names of one object it matches.
 #[derive(Drop)]
 pub(crate) struct AllAnswers<'p> {
     each: Vec<PatternAnswers<'p>>,
-    /// Which pattern is asked.
+    /// The index of the pattern that `find` asks.
     present: usize,
 }
 
 impl<'p> AllAnswers<'p> {
-    /// Whether one of the patterns, all of them, matches the name.
+    /// Whether one of the patterns matches the name, or None if that isn't known. `patterns`: all patterns of the
+    /// schema.
     pub fn any(&mut self, patterns: &Members, name: &str) -> Option<bool>
         ensures { MatchOption result (Unit {0}) (λ b. b ≡ list_any (λ p. matches p.0 name.now) patterns.now) }
     {
@@ -102,7 +108,7 @@ impl<'p> AllAnswers<'p> {
         Some(false)
     }
 
-    /// Begins with the first name again, for this pattern.
+    /// Selects the pattern that `find` asks, and goes back to the first name.
     pub fn begin(&mut self, pattern: &str) {
         self.present = place_of(self.each.as_slice(), pattern);
         if let Some(answers) = self.each.get_mut(self.present) {
@@ -110,7 +116,7 @@ impl<'p> AllAnswers<'p> {
         }
     }
 
-    /// Whether the pattern matches the name, if it is the one that was begun.
+    /// Whether the pattern matches the name, or None if it isn't the selected one.
     pub fn find(&mut self, pattern: &str, name: &str) -> Option<bool>
         ensures { MatchOption result (Unit {0}) (λ b. b ≡ matches pattern.now name.now) }
     {
@@ -127,15 +133,16 @@ impl<'p> AllAnswers<'p> {
     }
 }
 
-// Where the pattern's answers stand, if they are there: they stand in the order of their patterns.
+// The index of the pattern's answers, if there are any. They are sorted by pattern.
 fn place_of(each: &[PatternAnswers<'_>], pattern: &str) -> usize {
     each.partition_point(|answers| answers.pattern < pattern)
 }
 
-/// Asks each pattern of a place's `patternProperties` once for each name, where the value is an object, and keeps the answers.
+/// Tries each pattern of a schema's `patternProperties` on each name of the value, if it is an object, and stores the
+/// answers in `searchers`.
 ///
 /// # Errors
-/// `Memory`.
+/// `Memory` if an allocation fails.
 #[inline(never)]
 pub(crate) fn keep_all<'p>(
     alloc: Global,

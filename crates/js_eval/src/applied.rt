@@ -1,4 +1,4 @@
-//! A schema of finished schemas that is applied to a value.
+//! Applications: which subschema of a keyword is applied to which part of a value.
 ghost use Rattle.std.specs.Prelude.{◌≡◌};
 ghost use Rattle.js_doc.specs.Seen.{value_of};
 ghost use Rattle.js_eval.specs.code.Applied.{IsHeld, applied, applied_of, at_in, site_in, step_in, value_in};
@@ -13,12 +13,13 @@ use crate::instance::{Applied, Instance};
 use js_bundle::{Place, Schemas, Step};
 use js_doc::Doc;
 
-/// Where the schemas that a keyword applies to the parts of a value stand.
+/// Where to find the subschemas that a keyword applies to the parts of a value.
 #[derive(Clone, Copy)]
 pub(crate) enum Held<'a> {
-    /// One schema, which is the keyword's argument, and its place.
+    /// A single schema, which is the keyword's argument, and its place.
     One(Place, &'a Doc),
-    /// Below the keyword of this name, of this place with this schema, one for each part, at the step to the part.
+    /// One schema for each part, below the keyword with this name in this schema at this place. The step from the
+    /// keyword to the schema is the step to the part.
     Each(Place, &'a Doc, &'a str),
 }
 
@@ -34,7 +35,7 @@ pub(crate) enum To<'a> {
 }
 
 impl<'a> Held<'a> {
-    // The schema for the part to which the step leads, with its place.
+    // The schema for the part at this step, with its place.
     fn schema(&self, schemas: &'a Schemas, step: Step<'_>) -> (Place, &'a Doc)
         requires { IsHeld schemas.now self.now }
         ensures is { StandsAt schemas.now result.0 (value_of result.1.now) }
@@ -89,7 +90,7 @@ fn named<'a>(step: Step<'a>, part: &'a Doc) -> Instance<'a>
     }
 }
 
-/// The schema for a part of a value, applied as the keyword does.
+/// The application of a keyword to one part of a value. `step`: the step from the value to the part.
 pub(crate) fn apply_to_part<'a>(
     schemas: &'a Schemas,
     held: &Held<'a>,

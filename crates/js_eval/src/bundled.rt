@@ -1,5 +1,6 @@
-//! What the keywords of a place of finished schemas hold and name, as places. Where nothing is found the place itself
-//! stands for it, as in the definition; in finished schemas that never happens to a keyword that asks.
+//! Look-ups in finished schemas: the subschemas of keywords and the targets of references, with their places. If
+//! nothing is found, the place itself is returned, as in the definition. In finished schemas, that doesn't happen for a
+//! keyword that asks for applications.
 ghost use Rattle.std.specs.Prelude.{◌≡◌, codes, map, nat_eq, option_and_then, true};
 ghost use Rattle.std.specs.List.{dedup, list_all};
 ghost use Rattle.js_bundle.specs.Resource.{sites};
@@ -23,7 +24,7 @@ use js_bundle::laws::{a_number_tells_a_resource, numbers_tell_the_dynamic_scope}
 use js_bundle::{KeywordName, Place, Schemas, Step};
 use js_doc::Doc;
 
-/// The schema that stands at a place, which is looked for from its document's root on.
+/// The schema at a place. The look-up starts at the root of its document.
 #[tactic(auto, using(crate::proofs::Paths::schema_is))]
 pub(crate) fn schema_at(schemas: &Schemas, place: Place) -> &Doc
     requires { is_place schemas.now place ≡ true }
@@ -32,7 +33,7 @@ pub(crate) fn schema_at(schemas: &Schemas, place: Place) -> &Doc
     schemas.schema(place)
 }
 
-/// Which keyword of the standard each keyword of a place is, in the order of the schema's members.
+/// Which keyword of the standard each member of the schema at a place is, in order.
 #[tactic(auto, using(crate::proofs::Standard::names_are))]
 pub(crate) fn names_at(schemas: &Schemas, place: Place) -> &[KeywordName]
     requires { is_place schemas.now place ≡ true }
@@ -41,7 +42,8 @@ pub(crate) fn names_at(schemas: &Schemas, place: Place) -> &[KeywordName]
     schemas.keywords(place)
 }
 
-/// The place to which a step leads through a keyword, and the schema there, which is found in the one above.
+/// The subschema that a step through a keyword leads to, and its place. `schema`: the schema at `place`, where the
+/// look-up starts.
 pub(crate) fn below<'a>(
     schemas: &'a Schemas,
     place: Place,
@@ -60,7 +62,7 @@ pub(crate) fn below<'a>(
     }
 }
 
-/// The same, where it is known what the keyword holds there, and at which rank among all that it holds.
+/// The same, if the caller already knows the subschema, and its rank among all subschemas of the keyword.
 pub(crate) fn ranked_below<'a>(
     schemas: &Schemas,
     place: Place,
@@ -82,7 +84,7 @@ pub(crate) fn ranked_below<'a>(
     }
 }
 
-/// The place of the one schema that a keyword of a place holds, and that schema.
+/// The single subschema of a keyword, and its place.
 pub(crate) fn held_below<'a>(
     schemas: &Schemas,
     place: Place,
@@ -107,11 +109,12 @@ pub(crate) fn held_below<'a>(
     )
 }
 
-/// The place that the `$ref` of a place names, and the schema there.
+/// The schema that `$ref` refers to, and its place (Core, section 8.2.3.1).
 pub(crate) fn target_at<'a>(schemas: &'a Schemas, place: Place, schema: &'a Doc) -> (Place, &'a Doc)
     requires { StandsAt schemas.now place (value_of schema.now) }
     ensures is { StandsAt schemas.now result.0 (value_of result.1.now) }
-    ensures site { numbered_site schemas.now result.0 ≡ (schemas_of schemas.now).target (numbered_site schemas.now place) }
+    ensures site { numbered_site schemas.now result.0
+        ≡ (schemas_of schemas.now).target (numbered_site schemas.now place) }
 {
     if schemas.has_ref(place) {
         let target = schemas.target(place);
@@ -121,8 +124,9 @@ pub(crate) fn target_at<'a>(schemas: &'a Schemas, place: Place, schema: &'a Doc)
     }
 }
 
-/// The place that the `$dynamicRef` of a place names, and the schema there, after all the places of a path that ends in it. `resources`: those of the
-/// path, of equal neighbours one.
+/// The schema that `$dynamicRef` refers to, and its place (Core, section 8.2.3.2). `path`: the places of the schemas
+/// being applied, of which the last is `place`; `resources`: the numbers of their schema resources, without consecutive
+/// repeats.
 #[tactic(auto, using(crate::proofs::Paths::path_is))]
 pub(crate) fn dynamic_target_at<'a>(
     schemas: &'a Schemas,
@@ -136,7 +140,8 @@ pub(crate) fn dynamic_target_at<'a>(
     requires resources { resources.now ≡ dedup nat_eq (map (resource_of schemas.now) path.now) }
     ensures is { StandsAt schemas.now result.0 (value_of result.1.now) }
     ensures site { numbered_site schemas.now result.0
-        ≡ (schemas_of schemas.now).dynamic_target (map (numbered_site schemas.now) path.now) (numbered_site schemas.now place) }
+        ≡ (schemas_of schemas.now).dynamic_target (map (numbered_site schemas.now) path.now)
+        (numbered_site schemas.now place) }
 {
     if schemas.has_dynamic_ref(place) {
         let target = led_by_numbers(schemas, place, path, resources);
@@ -146,7 +151,7 @@ pub(crate) fn dynamic_target_at<'a>(
     }
 }
 
-// Where a dynamic scope that is told by the numbers of its resources leads: where its path leads.
+// The target of `$dynamicRef`. The numbers of the resources of a path decide it as the path itself does.
 fn led_by_numbers(schemas: &Schemas, place: Place, _path: &Path, resources: &[usize]) -> Place
     requires place { has_keyword (codes "$dynamicRef") schemas.now place ≡ true }
     requires path { list_all (is_place schemas.now) _path.now ≡ true }

@@ -1,4 +1,4 @@
-//! What a keyword does, by which keyword of the standard it is.
+//! The kinds of keywords, by name.
 ghost use Rattle.std.specs.Prelude.{◌≡◌};
 ghost use Rattle.js_bundle.specs.KeywordName.{keyword_name};
 ghost use Rattle.js_eval.specs.Kind.{kind};
@@ -7,14 +7,15 @@ ghost use Rattle.js_eval.specs.code.Standard.{kind_by};
 use crate::kind::Kind;
 use js_bundle::KeywordName;
 
-/// What the keyword of this name does.
+/// The kind of the keyword with this name. A keyword that the standard doesn't define is an annotation (Core, section
+/// 4.3.1).
 pub fn kind_of(name: &str) -> Kind
     ensures { result ≡ kind name.now }
 {
     kind_of_named(KeywordName::of(name), name)
 }
 
-/// The same, where it is known which keyword of the standard it is.
+/// The same, if the caller knows which keyword of the standard it is.
 #[tactic(auto, using(crate::proofs::Standard::kind_if_named))]
 pub(crate) fn kind_of_named(which: KeywordName, _name: &str) -> Kind
     requires { which ≡ keyword_name _name.now }

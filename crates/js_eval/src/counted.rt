@@ -1,4 +1,4 @@
-//! Whether a keyword passes, by how many applications it asked for and how many of them hold.
+//! Whether a keyword passes, from the number of its applications and the number of those that succeed.
 ghost use Rattle.std.specs.Prelude.{◌≡◌, ◌||◌, ℕ, Bool, List, IfOk, length, option_map, true};
 ghost use Rattle.std.specs.Option.{option_map_or};
 ghost use Rattle.js_assert.specs.Argument.{entries, on_array, on_string};
@@ -27,11 +27,11 @@ use js_bundle::{Place, Schemas};
 use js_doc::{Doc, Memory, Text, Whole};
 use std::alloc::Global;
 
-/// Whether a keyword of a place passes, which asked for so many applications of which so many hold, where so many items match the
-/// adjacent `contains`.
+/// Whether a keyword passes. `tally`: the number of its applications, and of those that succeed; `matching`: the number
+/// of items that match the adjacent `contains`.
 ///
 /// # Errors
-/// `Memory`.
+/// `Memory` if an allocation fails.
 #[tactic(auto, unfolding(crate::specs::Walk::Told::passes_at))]
 pub(crate) fn passes<'a>(
     alloc: Global,
@@ -47,7 +47,8 @@ pub(crate) fn passes<'a>(
     requires schema { StandsAt schemas.now place (value_of schema.now) }
     requires keyword { IsKeywordAt (schemas_of schemas.now) (numbered_site schemas.now place) (keyword_of keyword) }
     ensures { IfOk result (λ b. (verdicts : List Bool) → length verdicts ≡ tally.asked → how_many verdicts ≡ tally.held
-        → b ≡ passes_at (schemas_of schemas.now) (numbered_site schemas.now place) (instance_of value.entry) matching (keyword_of keyword.entry) verdicts) }
+        → b ≡ passes_at (schemas_of schemas.now) (numbered_site schemas.now place) (instance_of value.entry) matching
+        (keyword_of keyword.entry) verdicts) }
 {
     let kind = keyword.kind;
     let said = match kind {
@@ -57,8 +58,7 @@ pub(crate) fn passes<'a>(
     Ok(passes_by_count(kind, schema, value, said, tally))
 }
 
-/// Whether a keyword of this kind passes, which stands in the schema. `said`: whether the value holds under it, where it is an
-/// assertion.
+/// Whether a keyword of this kind in `schema` passes. `said`: whether the value satisfies it, if it is an assertion.
 pub(crate) fn passes_by_count(
     kind: Kind,
     schema: &Doc,
@@ -67,7 +67,8 @@ pub(crate) fn passes_by_count(
     tally: Tally,
 ) -> bool
     ensures { (matching : ℕ) (k : table.Keyword) (verdicts : List Bool)
-        → (kind ≡ AssertionKind → option_map_or (λ a. spec.says a (instance_of value.entry) matching) (asserted k.0 k.1 (entries (value_of schema.now))) true ≡ said)
+        → (kind ≡ AssertionKind → option_map_or (λ a. spec.says a (instance_of value.entry) matching)
+        (asserted k.0 k.1 (entries (value_of schema.now))) true ≡ said)
         → length verdicts ≡ tally.asked → how_many verdicts ≡ tally.held
         → result ≡ passes_of (entries (value_of schema.now)) (instance_of value.entry) matching k verdicts kind }
 {
@@ -85,7 +86,8 @@ pub(crate) fn passes_by_count(
 
 #[tactic(auto, using(crate::proofs::Counts::all_by_count))]
 fn holds_all(tally: Tally) -> bool
-    ensures { (verdicts : List Bool) → length verdicts ≡ tally.asked → how_many verdicts ≡ tally.held → result ≡ all verdicts }
+    ensures { (verdicts : List Bool) → length verdicts ≡ tally.asked → how_many verdicts ≡ tally.held
+        → result ≡ all verdicts }
 {
     tally.held == tally.asked
 }
@@ -99,7 +101,8 @@ fn holds_any(tally: Tally) -> bool
 
 fn contains(schema: &Doc, value: Instance<'_>, tally: Tally) -> bool
     ensures { (verdicts : List Bool) → how_many verdicts ≡ tally.held
-        → result ≡ on_array (instance_of value.entry) (λ _. any verdicts || may_contain_none (entries (value_of schema.now))) }
+        → result ≡ on_array (instance_of value.entry)
+        (λ _. any verdicts || may_contain_none (entries (value_of schema.now))) }
 {
     match value {
         Instance::Doc(Doc::List(_)) => holds_any(tally) || may_hold_none(schema),
@@ -107,7 +110,7 @@ fn contains(schema: &Doc, value: Instance<'_>, tally: Tally) -> bool
     }
 }
 
-// The adjacent `minContains` is 0.
+// Whether the adjacent `minContains` is 0, so that `contains` passes without a match (Core, section 10.3.1.3).
 fn may_hold_none(schema: &Doc) -> bool
     ensures { result ≡ may_contain_none (entries (value_of schema.now)) }
 {
@@ -117,7 +120,7 @@ fn may_hold_none(schema: &Doc) -> bool
     }
 }
 
-// Whether the value holds under the assertion that the keyword is, if it is one.
+// Whether the value satisfies the keyword's assertion; true if it makes none.
 fn says_at<'a>(
     alloc: Global,
     schemas: &'a Schemas,
@@ -130,7 +133,8 @@ fn says_at<'a>(
     requires place { is_place schemas.now place ≡ true }
     requires keyword { IsKeywordAt (schemas_of schemas.now) (numbered_site schemas.now place) (keyword_of keyword) }
     ensures { IfOk result (λ b. b ≡ option_map_or (λ a. spec.says a (instance_of value.entry) matching)
-        (asserted keyword.entry.name.now (value_of keyword.entry.argument.now) (entries (numbered_site schemas.now place).schema)) true) }
+        (asserted keyword.entry.name.now (value_of keyword.entry.argument.now)
+        (entries (numbered_site schemas.now place).schema)) true) }
 {
     says(
         alloc,
@@ -141,7 +145,7 @@ fn says_at<'a>(
     )
 }
 
-// Whether the value holds under an assertion, if there is one.
+// Whether the value satisfies the assertion; true if there is none.
 fn says<'a>(
     alloc: Global,
     searchers: &Searchers<'a>,
@@ -158,10 +162,10 @@ fn says<'a>(
     }
 }
 
-/// Whether a value holds under an assertion. A pattern is searched for with what was kept of it.
+/// Whether a value satisfies an assertion. A pattern uses a kept searcher, if there is one.
 ///
 /// # Errors
-/// `Memory`.
+/// `Memory` if an allocation fails.
 pub(crate) fn holds<'a>(
     alloc: Global,
     searchers: &Searchers<'a>,
@@ -177,7 +181,7 @@ pub(crate) fn holds<'a>(
     }
 }
 
-// Whether the value, if it is a string, has a match of the pattern.
+// Whether the pattern matches the value; true if the value is no string.
 fn has_match<'a>(
     alloc: Global,
     searchers: &Searchers<'a>,

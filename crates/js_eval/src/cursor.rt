@@ -1,4 +1,4 @@
-//! What a keyword asks for, one application after another (Core, sections 8.2.3, 10 and 11).
+//! The applications that a keyword asks for, one after another (Core, sections 8.2.3, 10 and 11).
 ghost use Rattle.std.specs.Prelude.{◌≡◌, ◌∷◌, [], IfOk, MatchOption};
 ghost use Rattle.js_bundle.specs.Document.{Documents};
 ghost use Rattle.js_doc.specs.Seen.{value_of};
@@ -20,23 +20,28 @@ use js_bundle::{Place, Schemas, Step};
 use js_doc::{Doc, Memory};
 use std::alloc::Global;
 
-/// What a keyword has still to ask for, of the schemas that it was made for.
+/// The applications that a keyword still has to ask for.
 #[derive(Drop)]
 pub(crate) enum Asking<'a> {
-    /// At most one schema.
+    /// At most one application.
     One(Option<Applied<'a>>),
     List(ListCursor<'a>),
     Items(ItemCursor<'a>),
     Names(NameCursor<'a>),
     Members(MemberCursor<'a>),
-    /// Boxed: it is much larger than the others, and a level of the walk holds one of them.
+    /// Boxed, because it is much larger than the others, and each level of the recursion holds an `Asking`.
     Patterns(Box<PatternCursor<'a>>),
 }
 
-/// The schema at a place, on the value itself.
+/// The schema at a place, applied to the value itself.
 pub(crate) fn alone<'a>(place: Place, schema: &'a Doc, value: Instance<'a>) -> Asking<'a>
     ensures asked { (documents : Documents) → asked documents result
-        ≡ record { place = numbered_site documents place; step = spec.Alone; at = spec.Alone; value = instance_of value.entry } ∷ [] }
+        ≡ record {
+          place = numbered_site documents place;
+          step = spec.Alone;
+          at = spec.Alone;
+          value = instance_of value.entry;
+        } ∷ [] }
     ensures is { (documents : Documents) → StandsAt documents place (value_of schema.now) → IsAsking documents result }
 {
     Asking::One(Some(Applied {
@@ -48,10 +53,10 @@ pub(crate) fn alone<'a>(place: Place, schema: &'a Doc, value: Instance<'a>) -> A
     }))
 }
 
-/// The next application.
+/// The next application, or None after the last.
 ///
 /// # Errors
-/// `Memory`: a pattern is searched for.
+/// `Memory` if an allocation fails; a search with a pattern may need one.
 pub(crate) fn next_asked<'a>(
     alloc: Global,
     schemas: &'a Schemas,

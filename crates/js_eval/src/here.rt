@@ -1,4 +1,4 @@
-//! Finished schemas, as a walk asks them.
+//! Finished schemas and their patterns, as a walk uses them.
 ghost use Rattle.std.specs.Prelude.{◌≡◌, ◌++◌, IfOk, None, OnOk, Some, map, option_to_list, string_bytes, true};
 ghost use Rattle.js_bundle.specs.Schemas.{is_place};
 ghost use Rattle.js_doc.specs.Fragment.{fragment_token};
@@ -29,8 +29,7 @@ use js_doc::{Doc, Memory, Text, push_fragment_token};
 use js_tree::Note;
 use std::alloc::Global;
 
-/// Finished schemas, and what searches with their patterns. Values of the instance, and what the schemas' keywords hold, live as
-/// long as the schemas do.
+/// Finished schemas, and the searchers for their patterns. `'a` is the lifetime of the schemas and of the instance.
 #[derive(Drop)]
 pub(crate) struct Here<'a> {
     pub schemas: &'a Schemas,
@@ -226,8 +225,8 @@ impl<'a> World for Here<'a> {
     }
 }
 
-// What an application is made of. Each of these is handed a step and a document too, which it doesn't look at: a function
-// that takes a struct has to speak of each type in it.
+// The parts of an application. Each of these functions takes a step and a document too, even to ignore them: a function
+// that takes apart a struct has to mention each type in it.
 
 fn place_of<'a>(place: Place, _step: Step<'a>, _doc: Option<&'a Doc>) -> Place
     ensures { result ≡ place }
@@ -267,7 +266,7 @@ fn item_at<'a>(at: Step<'a>, _doc: Option<&'a Doc>) -> Option<usize>
     }
 }
 
-// Goes one step further.
+// Appends the step to the trail.
 #[tactic(auto, unfolding(crate::specs::Walk::Told::at_step))]
 fn go<'a, H: PointerText + Drop>(
     step: Step<'a>,
@@ -284,22 +283,23 @@ fn go<'a, H: PointerText + Drop>(
 }
 
 impl Here<'_> {
-    /// The absolute location of a place.
+    /// The absolute keyword location of the schema at a place (Core, section 12.3.2).
     ///
     /// # Errors
-    /// `Memory`.
+    /// `Memory` if an allocation fails.
     #[tactic(auto, using(crate::proofs::Paths::location_is))]
     pub fn absolute(&self, alloc: Global, place: Place) -> Result<Text, Memory>
         requires { is_place self.now.schemas.now place ≡ true }
-        ensures { IfOk result (λ t. t ≡ (schemas_of self.now.schemas.now).absolute (numbered_site self.now.schemas.now place) None) }
+        ensures { IfOk result (λ t. t ≡ (schemas_of self.now.schemas.now).absolute
+            (numbered_site self.now.schemas.now place) None) }
     {
         Ok(Text::new(String::from_str(alloc, self.schemas.absolute_of(place))?))
     }
 
-    /// The absolute location of the keyword of this name at a place.
+    /// The absolute keyword location of the keyword with this name at a place (Core, section 12.3.2).
     ///
     /// # Errors
-    /// `Memory`.
+    /// `Memory` if an allocation fails.
     pub fn absolute_keyword(
         &self,
         alloc: Global,
@@ -307,7 +307,8 @@ impl Here<'_> {
         keyword: &str,
     ) -> Result<Text, Memory>
         requires { is_place self.now.schemas.now place ≡ true }
-        ensures { IfOk result (λ t. t ≡ (schemas_of self.now.schemas.now).absolute (numbered_site self.now.schemas.now place) (Some keyword.now)) }
+        ensures { IfOk result (λ t. t ≡ (schemas_of self.now.schemas.now).absolute
+            (numbered_site self.now.schemas.now place) (Some keyword.now)) }
     {
         let location = one_further(alloc, self.schemas.absolute_of(place), keyword)?;
         Ok(Text::new(location))
@@ -316,7 +317,7 @@ impl Here<'_> {
     /// The note of a schema's node.
     ///
     /// # Errors
-    /// `Memory`.
+    /// `Memory` if an allocation fails.
     #[tactic(auto, unfolding(crate::specs::Walk::Told::schema_says))]
     pub fn schema_says<'n>(
         &self,
@@ -325,13 +326,14 @@ impl Here<'_> {
         schema: &Doc,
     ) -> Result<Note<'n>, Memory>
         requires { StandsAt self.now.schemas.now _place (schema_value schema.now) }
-        ensures { IfOk result (λ n. note_of n ≡ schema_says (schemas_of self.now.schemas.now) (numbered_site self.now.schemas.now _place)) }
+        ensures { IfOk result (λ n. note_of n
+            ≡ schema_says (schemas_of self.now.schemas.now) (numbered_site self.now.schemas.now _place)) }
     {
         schema_note(alloc, schema)
     }
 }
 
-// A location, and behind it one token.
+// The location with one more token at its end.
 fn one_further(alloc: Global, location: &str, token: &str) -> Result<String, Memory>
     ensures { IfOk result (λ t. string_bytes t ≡ location.now ++ fragment_token token.now) }
 {

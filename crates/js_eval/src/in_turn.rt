@@ -1,4 +1,4 @@
-//! The members of a schema, one after another, each as a keyword with its turn.
+//! The members of a schema, one after another, each as a keyword with its turn (see `turn`).
 ghost use Rattle.std.specs.Prelude.{◌≡◌, ◌∷◌, [], List, MatchOption, map};
 ghost use Rattle.js_bundle.specs.declared.keyword_name.KeywordName.{KeywordName as Which};
 ghost use Rattle.js_doc.specs.Seen.{pair_of};
@@ -11,7 +11,7 @@ use js_bundle::KeywordName;
 use js_doc::{Doc, Members};
 use std::collections::btree_map::Iter;
 
-/// The members that are left, and of each which keyword of the standard it is.
+/// The members that are left, and which keyword of the standard each of them is.
 #[derive(Drop)]
 pub(crate) struct InTurn<'a> {
     names: &'a [KeywordName],
@@ -24,7 +24,7 @@ impl<'a> InTurn<'a> {
     ghost use Rattle.js_eval.specs.Seen.{keyword_of};
     ghost use Rattle.js_eval.specs.code.Turns.{turn_of};
 
-    /// All members.
+    /// Starts with all members.
     pub fn new(names: &'a [KeywordName], members: &'a Members) -> InTurn<'a>
         requires { names.now ≡ keyword_names_of members.now }
         ensures all { map pair_of result.left ≡ members.now }
@@ -36,10 +36,11 @@ impl<'a> InTurn<'a> {
         }
     }
 
-    /// The next one.
+    /// The next member, as a keyword, and its turn.
     pub fn next(&mut self) -> Option<(Turn, Keyword<'a>)>
         ensures { MatchOption result ((map pair_of self.old.left ≡ []) × (map pair_of self.new.left ≡ []))
-            (λ m. (map pair_of self.old.left ≡ keyword_of m.1 ∷ map pair_of self.new.left) × (m.0 ≡ turn_of m.1.name.now)) }
+            (λ m. (map pair_of self.old.left ≡ keyword_of m.1 ∷ map pair_of self.new.left)
+            × (m.0 ≡ turn_of m.1.name.now)) }
     {
         match self.left.next() {
             Some((name, argument)) => {
@@ -59,9 +60,10 @@ impl<'a> InTurn<'a> {
     }
 }
 
-// The first of the names, and the others.
+// The first name and the others.
 fn first_name(names: &[KeywordName]) -> (KeywordName, &[KeywordName])
-    ensures { (which : Which) (others : List Which) → names.now ≡ which ∷ others → (result.0 ≡ which) × (result.1.now ≡ others) }
+    ensures { (which : Which) (others : List Which) → names.now ≡ which ∷ others
+        → (result.0 ≡ which) × (result.1.now ≡ others) }
 {
     match names.split_first() {
         Some((first, others)) => (*first, others),

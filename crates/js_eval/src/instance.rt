@@ -1,4 +1,4 @@
-//! What is judged, and what it holds; a schema applied to it.
+//! Values that schemas are applied to, and applications.
 ghost use Rattle.std.specs.Prelude.{◌≡◌, [], MatchOption, map};
 ghost use Rattle.js_assert.specs.Argument.{entries, values};
 ghost use Rattle.js_doc.specs.Seen.{value_of};
@@ -7,30 +7,30 @@ ghost use Rattle.js_eval.specs.Seen.{instance_of};
 use js_bundle::{Place, Step};
 use js_doc::{Doc, Members};
 
-/// What is judged: a value of the instance, or the name of one of its members.
+/// What a schema is applied to: a value of the instance, or the name of a member, as a string (Core, section 10.3.2.4).
 #[derive(Clone, Copy)]
 pub(crate) enum Instance<'a> {
     Doc(&'a Doc),
     Name(&'a str),
 }
 
-/// A schema applied to a value.
+/// An application: a schema applied to a value.
 #[derive(Clone, Copy)]
 pub(crate) struct Applied<'a> {
-    /// The place of the schema.
+    /// The schema's place.
     pub place: Place,
-    /// The schema there.
+    /// The schema.
     pub schema: &'a Doc,
-    /// The step to it from the keyword.
+    /// The step from the keyword to the schema.
     pub step: Step<'a>,
-    /// The step to the value from the instance that the keyword is judged on.
+    /// The step from the value that the keyword is evaluated on to the value that the schema is applied to.
     pub at: Step<'a>,
-    /// The value.
+    /// That value.
     pub value: Instance<'a>,
 }
 
 impl<'a> Instance<'a> {
-    /// The value of the instance, where it is no name.
+    /// The value, unless it is the name of a member.
     pub fn doc(self) -> Option<&'a Doc>
         ensures { MatchOption result (Unit {0}) (λ d. value_of d.now ≡ instance_of self.entry) }
     {
@@ -40,7 +40,7 @@ impl<'a> Instance<'a> {
         }
     }
 
-    /// The items, none where it is no array.
+    /// The items, or none if it isn't an array.
     pub fn array(self) -> &'a [Doc]
         ensures { map value_of result.now ≡ values (instance_of self.entry) }
     {
@@ -50,9 +50,10 @@ impl<'a> Instance<'a> {
         }
     }
 
-    /// The members, where it is an object.
+    /// The members, if it is an object.
     pub fn object(self) -> Option<&'a Members>
-        ensures { MatchOption result (entries (instance_of self.entry) ≡ []) (λ ms. ms.now ≡ entries (instance_of self.entry)) }
+        ensures { MatchOption result (entries (instance_of self.entry) ≡ [])
+            (λ ms. ms.now ≡ entries (instance_of self.entry)) }
     {
         match self {
             Instance::Doc(doc) => object_in(doc),
@@ -61,7 +62,7 @@ impl<'a> Instance<'a> {
     }
 }
 
-/// The items, none where it is no array.
+/// The items, or none if it isn't an array.
 pub(crate) fn array_in(doc: &Doc) -> &[Doc]
     ensures { map value_of result.now ≡ values (value_of doc.now) }
 {
@@ -71,7 +72,7 @@ pub(crate) fn array_in(doc: &Doc) -> &[Doc]
     }
 }
 
-/// The members, where it is an object.
+/// The members, if it is an object.
 pub(crate) fn object_in(doc: &Doc) -> Option<&Members>
     ensures { MatchOption result (entries (value_of doc.now) ≡ []) (λ ms. ms.now ≡ entries (value_of doc.now)) }
 {

@@ -1,5 +1,5 @@
-//! What a keyword asks for item by item (Core, sections 10.2.1, 10.3.1 and 11.2): each schema of a list on the value, or
-//! a schema on each item of an array.
+//! Applications item by item (Core, sections 10.2.1, 10.3.1 and 11.2): each schema of a list on the value, or a schema
+//! on each item of an array.
 ghost use Rattle.std.specs.Prelude.{◌≡◌, ◌∷◌, [], IfOk, MatchOption, filter, length, map, nat_le, nat_lt, not, take};
 ghost use Rattle.js_doc.specs.Seen.{value_of};
 ghost use Rattle.js_bundle.specs.Document.{Documents};
@@ -19,7 +19,7 @@ use js_bundle::{Place, Schemas, Step};
 use js_doc::{Doc, Memory};
 use std::alloc::Global;
 
-/// The items that a keyword is still to ask for.
+/// The applications that a keyword still has to ask for, one for each item.
 #[derive(Drop)]
 pub(crate) struct ItemCursor<'a> {
     pub held: Held<'a>,
@@ -27,11 +27,11 @@ pub(crate) struct ItemCursor<'a> {
     pub items: &'a [Doc],
     /// The index of the next item.
     pub next: usize,
-    /// Of each item, whether it is passed over; where there is no mark it isn't.
+    /// Marks the items that are skipped. An item without a mark isn't.
     pub passed_over: Vec<bool>,
 }
 
-/// Each schema of a keyword's list, on the value itself.
+/// Each schema of a keyword's list, applied to the value itself.
 #[tactic(auto, using(crate::proofs::ItemsLeft::all_left))]
 pub(crate) fn each_listed<'a>(
     alloc: Global,
@@ -42,9 +42,11 @@ pub(crate) fn each_listed<'a>(
     value: Instance<'a>,
 ) -> ItemCursor<'a>
     ensures asked { (documents : Documents) → items_asked documents result
-        ≡ map (λ e. application (schemas_of documents) (numbered_site documents place) keyword.now (spec.Index e.0) spec.Alone (instance_of value.entry))
+        ≡ map (λ e. application (schemas_of documents) (numbered_site documents place) keyword.now
+        (spec.Index e.0) spec.Alone (instance_of value.entry))
         (indexed_from 0 (map value_of list.now)) }
-    ensures held { (documents : Documents) → StandsAt documents place (value_of schema.now) → IsHeld documents result.held }
+    ensures held { (documents : Documents) → StandsAt documents place (value_of schema.now)
+        → IsHeld documents result.held }
 {
     ItemCursor {
         held: Held::Each(place, schema, keyword),
@@ -55,7 +57,7 @@ pub(crate) fn each_listed<'a>(
     }
 }
 
-/// Each schema of a keyword's list, on the item at the same index.
+/// Each schema of a keyword's list, applied to the item at the same index.
 #[tactic(auto, using(crate::proofs::ItemsLeft::all_left))]
 pub(crate) fn each_in_step<'a>(
     alloc: Global,
@@ -66,9 +68,11 @@ pub(crate) fn each_in_step<'a>(
     items: &'a [Doc],
 ) -> ItemCursor<'a>
     ensures asked { (documents : Documents) → items_asked documents result
-        ≡ map (λ e. application (schemas_of documents) (numbered_site documents place) keyword.now (spec.Index e.0) (spec.Index e.0) e.1)
+        ≡ map (λ e. application (schemas_of documents) (numbered_site documents place) keyword.now (spec.Index e.0)
+        (spec.Index e.0) e.1)
         (filter (λ e. nat_lt e.0 (length list.now)) (indexed_from 0 (map value_of items.now))) }
-    ensures held { (documents : Documents) → StandsAt documents place (value_of schema.now) → IsHeld documents result.held }
+    ensures held { (documents : Documents) → StandsAt documents place (value_of schema.now)
+        → IsHeld documents result.held }
 {
     ItemCursor {
         held: Held::Each(place, schema, keyword),
@@ -79,7 +83,7 @@ pub(crate) fn each_in_step<'a>(
     }
 }
 
-// So many of the items, from the first on.
+// The first `count` items, or all if there are fewer.
 fn first_of(items: &[Doc], count: usize) -> &[Doc]
     ensures { result.now ≡ take count items.now }
 {
@@ -90,7 +94,7 @@ fn first_of(items: &[Doc], count: usize) -> &[Doc]
     }
 }
 
-/// The schema at a place, on each item from one on.
+/// The schema at a place, applied to each item from index `first` on.
 pub(crate) fn each_from<'a>(
     alloc: Global,
     below: Place,
@@ -99,9 +103,11 @@ pub(crate) fn each_from<'a>(
     first: usize,
 ) -> ItemCursor<'a>
     ensures asked { (documents : Documents) → items_asked documents result
-        ≡ map (λ e. record { place = numbered_site documents below; step = spec.Alone; at = spec.Index e.0; value = e.1 })
+        ≡ map (λ e.
+        record { place = numbered_site documents below; step = spec.Alone; at = spec.Index e.0; value = e.1 })
         (filter (λ e. nat_le first e.0) (indexed_from 0 (map value_of items.now))) }
-    ensures held { (documents : Documents) → StandsAt documents below (value_of schema.now) → IsHeld documents result.held }
+    ensures held { (documents : Documents) → StandsAt documents below (value_of schema.now)
+        → IsHeld documents result.held }
 {
     ItemCursor {
         held: Held::One(below, schema),
@@ -112,10 +118,10 @@ pub(crate) fn each_from<'a>(
     }
 }
 
-/// The schema at a place, on each item that isn't at one of these indexes.
+/// The schema at a place, applied to each item that isn't at one of these indexes.
 ///
 /// # Errors
-/// `Memory`.
+/// `Memory` if an allocation fails.
 pub(crate) fn each_except<'a>(
     alloc: Global,
     below: Place,
@@ -124,9 +130,11 @@ pub(crate) fn each_except<'a>(
     indexes: &[usize],
 ) -> Result<ItemCursor<'a>, Memory>
     ensures asked { IfOk result (λ c. (documents : Documents) → items_asked documents c
-        ≡ map (λ e. record { place = numbered_site documents below; step = spec.Alone; at = spec.Index e.0; value = e.1 })
+        ≡ map (λ e.
+        record { place = numbered_site documents below; step = spec.Alone; at = spec.Index e.0; value = e.1 })
         (filter (λ e. not (among_indexes e.0 indexes.now)) (indexed_from 0 (map value_of items.now)))) }
-    ensures held { IfOk result (λ c. (documents : Documents) → StandsAt documents below (value_of schema.now) → IsHeld documents c.held) }
+    ensures held { IfOk result (λ c. (documents : Documents) → StandsAt documents below (value_of schema.now)
+        → IsHeld documents c.held) }
 {
     Ok(ItemCursor {
         held: Held::One(below, schema),
@@ -137,7 +145,7 @@ pub(crate) fn each_except<'a>(
     })
 }
 
-// So many marks, those at these indexes set.
+// A list of `count` marks, set at these indexes.
 fn marks_at(alloc: Global, count: usize, indexes: &[usize]) -> Result<Vec<bool>, Memory>
     ensures { IfOk result (λ marks. AreMarked marks.items count indexes.now) }
 {
@@ -150,7 +158,7 @@ fn marks_at(alloc: Global, count: usize, indexes: &[usize]) -> Result<Vec<bool>,
     Ok(marks)
 }
 
-/// The next application.
+/// The next application, or None after the last.
 pub(crate) fn next_on_item<'a>(
     schemas: &'a Schemas,
     cursor: &mut ItemCursor<'a>,
@@ -169,14 +177,15 @@ pub(crate) fn next_on_item<'a>(
     Some(apply_to_part(schemas, &cursor.held, &cursor.to, Step::Index(index), item))
 }
 
-// The next item that isn't passed over.
+// The next item that isn't skipped, and its index.
 fn next_item<'a>(
     items: &'a [Doc],
     passed_over: &[bool],
     next: &mut usize,
 ) -> Option<(usize, &'a Doc)>
     ensures { MatchOption result (items_left passed_over.now next.old items.now ≡ [])
-        (λ e. items_left passed_over.now next.old items.now ≡ (e.0, value_of e.1.now) ∷ items_left passed_over.now next.new items.now) }
+        (λ e. items_left passed_over.now next.old items.now
+        ≡ (e.0, value_of e.1.now) ∷ items_left passed_over.now next.new items.now) }
 {
     for index in *next..items.len() {
         if !is_marked(passed_over, index) {

@@ -7,7 +7,7 @@ use crate::kind::Kind;
 use js_bundle::KeywordName;
 use js_doc::Doc;
 
-/// A keyword's name, which keyword of the standard it is, what it does, and its argument.
+/// A keyword's name, which keyword of the standard it is, its kind, and its argument.
 #[derive(Clone, Copy)]
 pub(crate) struct Keyword<'a> {
     pub name: &'a str,

@@ -1,4 +1,4 @@
-//! The keywords of a schema that have a node in its result, one after another, in the order of their nodes.
+//! The keywords of a schema that have a node in the result tree, one after another, in the order of their nodes.
 ghost use Rattle.std.specs.Prelude.{◌≡◌, ◌++◌, ◌∷◌, [], List, MatchOption, false, map, true};
 ghost use Rattle.js_assert.specs.Argument.{entries};
 ghost use Rattle.js_doc.specs.Members.{IsAscending};
@@ -19,14 +19,15 @@ use js_doc::{Doc, Members};
 /// The keywords of a schema that are still to come.
 #[derive(Drop)]
 pub(crate) enum Keywords<'a> {
-    /// A schema that is `true` or `false` has none.
+    /// The schema is `true` or `false`, and has none.
     Nothing,
-    /// Those of an object.
+    /// The keywords of an object.
     Of(KeywordCursor<'a>),
 }
 
-/// The keywords of an object that are still to come. Names ascend, so one pass gives them in order: `else` is kept until the first
-/// comes that stands behind `if`, and then that one is kept until `else` is gone.
+/// The keywords of an object that are still to come. They ascend by name, except that `else` comes right after `if`.
+/// One pass over the members is enough: `else` is kept until the first name after `if`, and then that keyword is kept
+/// until `else` is out.
 #[derive(Drop)]
 pub(crate) struct KeywordCursor<'a> {
     pub is_past_if: bool,
@@ -35,7 +36,7 @@ pub(crate) struct KeywordCursor<'a> {
 }
 
 impl<'a> Keywords<'a> {
-    /// Those of a schema. `names`: which keyword of the standard each of its members is.
+    /// All keywords of a schema. `names`: which keyword of the standard each of its members is.
     pub fn new(names: &'a [KeywordName], schema: &'a Doc) -> Keywords<'a>
         requires { names.now ≡ keyword_names_of (entries (value_of schema.now)) }
         ensures all { keywords_in result ≡ table.keywords (value_of schema.now) }
@@ -47,10 +48,11 @@ impl<'a> Keywords<'a> {
         }
     }
 
-    /// The next one. What it works with stands in no frame of the recursion.
+    /// The next keyword. It isn't inlined, to keep its locals out of the recursive function's stack frame.
     #[inline(never)]
     pub fn next(&mut self) -> Option<Keyword<'a>>
-        ensures { MatchOption result (keywords_in self.old ≡ []) (λ k. keywords_in self.old ≡ keyword_of k ∷ keywords_in self.new) }
+        ensures { MatchOption result (keywords_in self.old ≡ [])
+            (λ k. keywords_in self.old ≡ keyword_of k ∷ keywords_in self.new) }
     {
         match self {
             Keywords::Nothing => None,
@@ -73,7 +75,8 @@ impl<'a> KeywordCursor<'a> {
     }
 
     fn next(&mut self) -> Option<Keyword<'a>>
-        ensures { MatchOption result (keywords_left self.old ≡ []) (λ k. keywords_left self.old ≡ keyword_of k ∷ keywords_left self.new) }
+        ensures { MatchOption result (keywords_left self.old ≡ [])
+            (λ k. keywords_left self.old ≡ keyword_of k ∷ keywords_left self.new) }
     {
         if self.is_past_if {
             self.next_after_if()
@@ -84,7 +87,8 @@ impl<'a> KeywordCursor<'a> {
 
     fn next_up_to_if(&mut self) -> Option<Keyword<'a>>
         requires { self.old.is_past_if ≡ false }
-        ensures { MatchOption result (keywords_left self.old ≡ []) (λ k. keywords_left self.old ≡ keyword_of k ∷ keywords_left self.new) }
+        ensures { MatchOption result (keywords_left self.old ≡ [])
+            (λ k. keywords_left self.old ≡ keyword_of k ∷ keywords_left self.new) }
     {
         while let Some((turn, keyword)) = self.left.next() {
             match turn {
@@ -103,7 +107,8 @@ impl<'a> KeywordCursor<'a> {
 
     fn next_after_if(&mut self) -> Option<Keyword<'a>>
         requires { self.old.is_past_if ≡ true }
-        ensures { MatchOption result (keywords_left self.old ≡ []) (λ k. keywords_left self.old ≡ keyword_of k ∷ keywords_left self.new) }
+        ensures { MatchOption result (keywords_left self.old ≡ [])
+            (λ k. keywords_left self.old ≡ keyword_of k ∷ keywords_left self.new) }
     {
         match self.kept {
             Some(keyword) => {
@@ -115,9 +120,10 @@ impl<'a> KeywordCursor<'a> {
     }
 }
 
-// What is kept, or else the keyword.
+// The keyword that is kept already, or else this one.
 fn kept_or<'a>(kept: Option<Keyword<'a>>, keyword: Keyword<'a>) -> Option<Keyword<'a>>
-    ensures { (others : List table.Keyword) → kept_or result others ≡ kept_or kept.entry (keyword_of keyword.entry ∷ []) }
+    ensures { (others : List table.Keyword)
+        → kept_or result others ≡ kept_or kept.entry (keyword_of keyword.entry ∷ []) }
 {
     match kept {
         Some(kept) => Some(kept),
@@ -125,7 +131,7 @@ fn kept_or<'a>(kept: Option<Keyword<'a>>, keyword: Keyword<'a>) -> Option<Keywor
     }
 }
 
-// What is kept, and then the keyword is kept; or else the keyword.
+// Returns the kept keyword and keeps this one in its place; without a kept one, returns this one.
 fn kept_before<'a>(kept: &mut Option<Keyword<'a>>, keyword: Keyword<'a>) -> Keyword<'a>
     ensures { (left : List table.Keyword)
         → kept_or kept.old [] ++ keyword_of keyword.entry ∷ left ≡ keyword_of result ∷ (kept_or kept.new [] ++ left) }
@@ -139,7 +145,7 @@ fn kept_before<'a>(kept: &mut Option<Keyword<'a>>, keyword: Keyword<'a>) -> Keyw
     }
 }
 
-// The next of the members that has a turn.
+// The next member that has a node.
 fn next_ever<'a>(left: &mut InTurn<'a>) -> Option<Keyword<'a>>
     ensures { MatchOption result (ever (map pair_of left.old.left) ≡ [])
         (λ k. ever (map pair_of left.old.left) ≡ keyword_of k ∷ ever (map pair_of left.new.left)) }

@@ -1,4 +1,4 @@
-//! What a keyword does.
+//! Kinds of keywords: what a keyword does.
 ghost use Rattle.std.specs.Prelude.{◌≡◌, [], List, Option, Bool, false, ℕ};
 ghost use Rattle.js_doc.specs.Value.{Named, Value as JsonValue};
 ghost use Rattle.js_eval.specs.Applications.{asks_of};
@@ -6,57 +6,59 @@ ghost use Rattle.js_eval.specs.Keywords.{Keyword as Member};
 ghost use Rattle.js_eval.specs.SchemaSet.{SchemaSet, Text};
 ghost use Rattle.js_bundle.specs.Resource.{Site};
 
-/// What a keyword does (Core, sections 8, 10 and 11; Validation, section 6).
+/// What a keyword does (Core, sections 8, 10 and 11; Validation, section 6): a kind for each keyword that applies
+/// schemas, one for all assertions, and one for all other keywords. The numbers below are sections of Core.
 #[derive(Clone, Copy, Debug, PartialEq, Eq)]
 pub enum Kind {
-    /// `$ref`
+    /// `$ref` (8.2.3.1)
     Reference,
-    /// `$dynamicRef`
+    /// `$dynamicRef` (8.2.3.2)
     DynamicReference,
-    /// `allOf`
+    /// `allOf` (10.2.1.1)
     AllOf,
-    /// `anyOf`
+    /// `anyOf` (10.2.1.2)
     AnyOf,
-    /// `oneOf`
+    /// `oneOf` (10.2.1.3)
     OneOf,
-    /// `not`
+    /// `not` (10.2.1.4)
     Not,
-    /// `if`
+    /// `if` (10.2.2.1)
     If,
-    /// `then`
+    /// `then` (10.2.2.2)
     Then,
-    /// `else`
+    /// `else` (10.2.2.3)
     Else,
-    /// `dependentSchemas`
+    /// `dependentSchemas` (10.2.2.4)
     DependentSchemas,
-    /// `prefixItems`
+    /// `prefixItems` (10.3.1.1)
     PrefixItems,
-    /// `items`
+    /// `items` (10.3.1.2)
     Items,
-    /// `contains`
+    /// `contains` (10.3.1.3)
     Contains,
-    /// `properties`
+    /// `properties` (10.3.2.1)
     Properties,
-    /// `patternProperties`
+    /// `patternProperties` (10.3.2.2)
     PatternProperties,
-    /// `additionalProperties`
+    /// `additionalProperties` (10.3.2.3)
     AdditionalProperties,
-    /// `propertyNames`
+    /// `propertyNames` (10.3.2.4)
     PropertyNames,
-    /// `unevaluatedItems`
+    /// `unevaluatedItems` (11.2)
     UnevaluatedItems,
-    /// `unevaluatedProperties`
+    /// `unevaluatedProperties` (11.3)
     UnevaluatedProperties,
-    /// It judges the value by itself.
+    /// An assertion: it checks the value without applying a schema (Validation, section 6).
     Assertion,
-    /// It only annotates: each other keyword, known or not.
+    /// Any other keyword, whether the standard knows it or not: it only annotates (7.7).
     Annotation,
 }
 
 impl Kind {
     /// Whether a keyword of this kind applies schemas.
     pub(crate) fn is_applicator(self) -> bool
-        ensures { (S : SchemaSet Site) (path : List Site) (place : Site) (siblings : Named) (v : JsonValue) (condition : Option Bool) (names : List Text) (indexes : List ℕ) (k : Member)
+        ensures { (S : SchemaSet Site) (path : List Site) (place : Site) (siblings : Named) (v : JsonValue)
+            (condition : Option Bool) (names : List Text) (indexes : List ℕ) (k : Member)
             → result ≡ false → asks_of S path place siblings v condition names indexes k self ≡ [] }
     {
         match self {

@@ -1,4 +1,10 @@
-//! The result of JSON Schema: what each keyword asks for, verdicts, evaluated parts, notes, and the result tree.
+//! Evaluation of JSON Schema (JSON Schema Core 2020-12): what each keyword applies, verdicts, evaluated parts, notes,
+//! and the result tree.
+//!
+//! A *place* is a schema's position in the finished documents of `js_bundle`. An *application* is a subschema that a
+//! keyword applies to a value; a keyword *asks for* its applications one after another. A *walk* evaluates a value
+//! against the schema at a place, and reports each node of the result tree when it opens and, after the nodes below it,
+//! when it closes. These reports are the *events*.
 #![tactic(auto)]
 
 mod answers;

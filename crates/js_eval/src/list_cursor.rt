@@ -1,4 +1,4 @@
-//! What a keyword with a list of schemas asks for (Core, section 10.2.1): each of them, on the value itself.
+//! The applications of a keyword with a list of schemas (Core, section 10.2.1): each of them, on the value itself.
 ghost use Rattle.std.specs.Prelude.{◌≡◌, ◌∷◌, [], MatchOption};
 ghost use Rattle.js_eval.specs.code.Applied.{applied_of};
 ghost use Rattle.js_eval.specs.code.Asked.{IsApplied};
@@ -17,12 +17,12 @@ pub(crate) struct ListCursor<'a> {
     pub schema: &'a Doc,
     pub keyword: Keyword<'a>,
     pub list: &'a [Doc],
-    /// The index of the next one.
+    /// The index of the next schema.
     pub next: usize,
     pub value: Instance<'a>,
 }
 
-/// The next application.
+/// The next application, or None after the last.
 pub(crate) fn next_in_list<'a>(
     schemas: &Schemas,
     cursor: &mut ListCursor<'a>,

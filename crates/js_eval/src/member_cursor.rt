@@ -1,5 +1,5 @@
-//! What a keyword asks for member by member (Core, sections 10.2.2.4, 10.3.2 and 11.3): a schema on each of the members
-//! that it chooses by their names, or on the value, for each of its own names that is a member's.
+//! Applications member by member (Core, sections 10.2.2.4, 10.3.2 and 11.3): a schema on each member that the keyword
+//! chooses by name, or on the value itself for each of the keyword's names that a member has.
 ghost use Rattle.std.specs.Prelude.{◌≡◌, ◌||◌, ◌∷◌, [], IfOk, MatchOption, filter, map, not};
 ghost use Rattle.std.specs.List.{list_any};
 ghost use Rattle.std.specs.Option.{option_map_or};
@@ -30,19 +30,19 @@ use std::alloc::Global;
 use std::collections::BTreeSet;
 use std::collections::btree_map::Iter;
 
-/// Which members a keyword chooses.
+/// Which members a keyword chooses, by their names.
 #[derive(Drop)]
 pub(crate) enum Choice<'a> {
     All,
-    /// Those that these members name.
+    /// Those whose name is also a name of these.
     Named(&'a Members),
-    /// Those of which the adjacent keywords don't speak.
+    /// Those that the adjacent `properties` and `patternProperties` don't cover.
     Additional(Adjacent<'a>),
-    /// Those that aren't among these.
+    /// Those whose name isn't in this set.
     Except(BTreeSet<&'a str>),
 }
 
-/// The arguments of the adjacent `properties` and `patternProperties`, where they are objects.
+/// The arguments of the adjacent `properties` and `patternProperties`, if they are objects, and the schema's place.
 #[derive(Clone, Copy)]
 pub(crate) struct Adjacent<'a> {
     pub place: Place,
@@ -50,7 +50,7 @@ pub(crate) struct Adjacent<'a> {
     pub patterns: Option<&'a Members>,
 }
 
-/// The members that a keyword is still to ask for.
+/// The applications that a keyword still has to ask for, one for each chosen member.
 #[derive(Drop)]
 pub(crate) struct MemberCursor<'a> {
     pub held: Held<'a>,
@@ -59,7 +59,7 @@ pub(crate) struct MemberCursor<'a> {
     pub choice: Choice<'a>,
 }
 
-/// The schema of each name that is a member's, on the member: the members are gone through.
+/// The schema of each name that a member has, applied to the member. It goes through the members.
 pub(crate) fn each_named<'a>(
     place: Place,
     schema: &'a Doc,
@@ -68,9 +68,11 @@ pub(crate) fn each_named<'a>(
     members: &'a Members,
 ) -> MemberCursor<'a>
     ensures asked { (documents : Documents) → members_asked documents result
-        ≡ map (λ m. application (schemas_of documents) (numbered_site documents place) keyword.now (spec.Name m.0) (spec.Name m.0) m.1)
+        ≡ map (λ m. application (schemas_of documents) (numbered_site documents place) keyword.now (spec.Name m.0)
+        (spec.Name m.0) m.1)
         (filter (λ m. has m.0 named.now) members.now) }
-    ensures held { (documents : Documents) → StandsAt documents place (value_of schema.now) → IsHeld documents result.held }
+    ensures held { (documents : Documents) → StandsAt documents place (value_of schema.now)
+        → IsHeld documents result.held }
 {
     MemberCursor {
         held: Held::Each(place, schema, keyword),
@@ -80,7 +82,7 @@ pub(crate) fn each_named<'a>(
     }
 }
 
-/// The schema of each name that is a member's, on the value itself.
+/// The schema of each name that a member has, applied to the value itself.
 pub(crate) fn each_in_place<'a>(
     place: Place,
     schema: &'a Doc,
@@ -90,9 +92,11 @@ pub(crate) fn each_in_place<'a>(
     value: Instance<'a>,
 ) -> MemberCursor<'a>
     ensures asked { (documents : Documents) → members_asked documents result
-        ≡ map (λ m. application (schemas_of documents) (numbered_site documents place) keyword.now (spec.Name m.0) spec.Alone (instance_of value.entry))
+        ≡ map (λ m. application (schemas_of documents) (numbered_site documents place) keyword.now
+        (spec.Name m.0) spec.Alone (instance_of value.entry))
         (filter (λ m. has m.0 members.now) named.now) }
-    ensures held { (documents : Documents) → StandsAt documents place (value_of schema.now) → IsHeld documents result.held }
+    ensures held { (documents : Documents) → StandsAt documents place (value_of schema.now)
+        → IsHeld documents result.held }
 {
     MemberCursor {
         held: Held::Each(place, schema, keyword),
@@ -102,12 +106,15 @@ pub(crate) fn each_in_place<'a>(
     }
 }
 
-/// The schema at a place, on each name, as a string.
+/// The schema at a place, applied to each member's name, as a string.
 #[tactic(auto, using(crate::proofs::MembersLeft::all_chosen))]
 pub(crate) fn each_name<'a>(below: Place, schema: &'a Doc, members: &'a Members) -> MemberCursor<'a>
     ensures asked { (documents : Documents) → members_asked documents result
-        ≡ map (λ m. record { place = numbered_site documents below; step = spec.Alone; at = spec.Name m.0; value = text m.0 }) members.now }
-    ensures held { (documents : Documents) → StandsAt documents below (value_of schema.now) → IsHeld documents result.held }
+        ≡ map (λ m.
+        record { place = numbered_site documents below; step = spec.Alone; at = spec.Name m.0; value = text m.0 })
+        members.now }
+    ensures held { (documents : Documents) → StandsAt documents below (value_of schema.now)
+        → IsHeld documents result.held }
 {
     MemberCursor {
         held: Held::One(below, schema),
@@ -117,7 +124,7 @@ pub(crate) fn each_name<'a>(below: Place, schema: &'a Doc, members: &'a Members)
     }
 }
 
-/// The schema at a place, on each member of which the adjacent keywords don't speak.
+/// The schema at a place, applied to each member that the adjacent keywords don't cover.
 pub(crate) fn each_additional<'a>(
     below: Place,
     schema: &'a Doc,
@@ -127,9 +134,11 @@ pub(crate) fn each_additional<'a>(
     members: &'a Members,
 ) -> MemberCursor<'a>
     ensures asked { (documents : Documents) → members_asked documents result
-        ≡ map (λ m. record { place = numbered_site documents below; step = spec.Alone; at = spec.Name m.0; value = m.1 })
+        ≡ map (λ m.
+        record { place = numbered_site documents below; step = spec.Alone; at = spec.Name m.0; value = m.1 })
         (filter (λ m. not (is_named properties.entry m.0 || is_matched patterns.entry m.0)) members.now) }
-    ensures held { (documents : Documents) → StandsAt documents below (value_of schema.now) → IsHeld documents result.held }
+    ensures held { (documents : Documents) → StandsAt documents below (value_of schema.now)
+        → IsHeld documents result.held }
 {
     MemberCursor {
         held: Held::One(below, schema),
@@ -143,10 +152,10 @@ pub(crate) fn each_additional<'a>(
     }
 }
 
-/// The schema at a place, on each member that isn't among these.
+/// The schema at a place, applied to each member whose name isn't one of these.
 ///
 /// # Errors
-/// `Memory`.
+/// `Memory` if an allocation fails.
 pub(crate) fn each_other<'a>(
     alloc: Global,
     below: Place,
@@ -155,9 +164,11 @@ pub(crate) fn each_other<'a>(
     members: &'a Members,
 ) -> Result<MemberCursor<'a>, Memory>
     ensures asked { IfOk result (λ c. (documents : Documents) → members_asked documents c
-        ≡ map (λ m. record { place = numbered_site documents below; step = spec.Alone; at = spec.Name m.0; value = m.1 })
+        ≡ map (λ m.
+        record { place = numbered_site documents below; step = spec.Alone; at = spec.Name m.0; value = m.1 })
         (filter (λ m. not (among_names m.0 (texts_of names.now))) members.now)) }
-    ensures held { IfOk result (λ c. (documents : Documents) → StandsAt documents below (value_of schema.now) → IsHeld documents c.held) }
+    ensures held { IfOk result (λ c. (documents : Documents) → StandsAt documents below (value_of schema.now)
+        → IsHeld documents c.held) }
 {
     let set = set_of(alloc, names)?;
     Ok(MemberCursor {
@@ -168,7 +179,7 @@ pub(crate) fn each_other<'a>(
     })
 }
 
-/// The argument of the keyword of this name, where it is an object.
+/// The argument of the keyword with this name, if it is an object.
 pub(crate) fn object_at<'a>(schema: &'a Doc, keyword: &str) -> Option<&'a Members>
     ensures { named_in result ≡ option_map_or entries (get keyword.now (entries (value_of schema.now))) [] }
 {
@@ -178,10 +189,10 @@ pub(crate) fn object_at<'a>(schema: &'a Doc, keyword: &str) -> Option<&'a Member
     }
 }
 
-/// The next application.
+/// The next application, or None after the last.
 ///
 /// # Errors
-/// `Memory`: a pattern is searched for.
+/// `Memory` if an allocation fails; a search with a pattern may need one.
 pub(crate) fn next_on_member<'a>(
     alloc: Global,
     schemas: &'a Schemas,
@@ -212,7 +223,7 @@ pub(crate) fn next_on_member<'a>(
     }
 }
 
-// The next member that is chosen.
+// The next chosen member.
 fn next_member<'a>(
     alloc: Global,
     schemas: &'a Schemas,
@@ -221,7 +232,8 @@ fn next_member<'a>(
     members: &mut Iter<'a, String, Doc>,
 ) -> Result<Option<(&'a str, &'a Doc)>, Memory>
     ensures { IfOk result (λ o. MatchOption o (members_left choice.now members.old ≡ [])
-        (λ m. members_left choice.now members.old ≡ (m.0.now, value_of m.1.now) ∷ members_left choice.now members.new)) }
+        (λ m. members_left choice.now members.old
+        ≡ (m.0.now, value_of m.1.now) ∷ members_left choice.now members.new)) }
 {
     while let Some((name, member)) = members.next() {
         let name = name.as_str();
@@ -251,7 +263,7 @@ fn is_chosen<'a>(
     }
 }
 
-// The adjacent keywords speak of the name.
+// Whether one of the adjacent keywords covers the name.
 fn is_spoken_of<'a>(
     alloc: Global,
     schemas: &'a Schemas,
@@ -259,7 +271,8 @@ fn is_spoken_of<'a>(
     adjacent: &Adjacent<'a>,
     name: &str,
 ) -> Result<bool, Memory>
-    ensures { IfOk result (λ b. b ≡ (is_named adjacent.now.properties name.now || is_matched adjacent.now.patterns name.now)) }
+    ensures { IfOk result (λ b. b ≡ (is_named adjacent.now.properties name.now
+        || is_matched adjacent.now.patterns name.now)) }
 {
     if is_named(adjacent.properties, name) {
         return Ok(true);
@@ -301,7 +314,7 @@ fn matches_any<'a>(
     Ok(false)
 }
 
-// Whether a pattern of the place's `patternProperties` matches somewhere in a name.
+// Whether a pattern of the place's `patternProperties` matches somewhere in the name.
 fn matches<'a>(
     alloc: Global,
     schemas: &'a Schemas,
@@ -318,7 +331,7 @@ fn matches<'a>(
     }
 }
 
-/// The pattern of this name among the `patternProperties` of the place.
+/// The pattern with this text in the `patternProperties` of the place.
 pub(crate) fn pattern_of<'a>(
     schemas: &'a Schemas,
     place: Place,

@@ -1,4 +1,5 @@
-//! What `properties` asks for name by name (Core, section 10.3.2.1): the schema of each name that is a member's, on the member.
+//! The applications of `properties`, name by name (Core, section 10.3.2.1): the schema of each name that a member has,
+//! on the member.
 ghost use Rattle.std.specs.Prelude.{◌≡◌, ◌∷◌, ◌+◌, ◌<◌, ◌^◌, [], MatchOption, Some, filter, length, map, slice_get};
 ghost use Rattle.js_assert.specs.Argument.{entries, has};
 ghost use Rattle.js_bundle.specs.Document.{Documents};
@@ -24,19 +25,19 @@ use js_bundle::{Place, Schemas, Step};
 use js_doc::{Doc, Members};
 use std::collections::btree_map::Iter;
 
-/// The names of a `properties` that are still to come, and the members that they are to be found among.
+/// The names in `properties` that are still to come, and the members to look them up in.
 #[derive(Drop)]
 pub(crate) struct NameCursor<'a> {
     pub place: Place,
     pub schema: &'a Doc,
     pub keyword: Keyword<'a>,
     pub names: Iter<'a, String, Doc>,
-    /// How many names came before.
+    /// The number of names before the next one.
     pub rank: usize,
     pub members: &'a Members,
 }
 
-/// The schema of each name that is a member's, on the member.
+/// The schema of each name that a member has, applied to the member. It goes through the names.
 pub(crate) fn each_of_names<'a>(
     place: Place,
     schema: &'a Doc,
@@ -48,7 +49,8 @@ pub(crate) fn each_of_names<'a>(
     requires keyword { IsIn (value_of schema.now) (keyword_of keyword) }
     requires named { named.now ≡ entries (value_of keyword.argument.now) }
     ensures asked { (documents : Documents) → names_asked documents result
-        ≡ map (λ m. application (schemas_of documents) (numbered_site documents place) keyword.entry.name.now (spec.Name m.0) (spec.Name m.0) m.1)
+        ≡ map (λ m. application (schemas_of documents) (numbered_site documents place) keyword.entry.name.now
+        (spec.Name m.0) (spec.Name m.0) m.1)
         (filter (λ m. has m.0 named.now) members.now) }
     ensures is { (documents : Documents) → StandsAt documents place (value_of schema.now) → IsNames documents result }
 {
@@ -69,7 +71,7 @@ fn names_ascend(members: &Members)
     let _ = members.pairs();
 }
 
-/// The next application.
+/// The next application, or None after the last.
 pub(crate) fn next_of_names<'a>(
     schemas: &Schemas,
     cursor: &mut NameCursor<'a>,
@@ -104,7 +106,7 @@ pub(crate) fn next_of_names<'a>(
     })
 }
 
-// The next name that is a member's, with its rank among all names, its schema and the member.
+// The next name that a member has: its rank among all names, the name, its schema and the member.
 fn next_name<'a>(
     members: &'a Members,
     names: &mut Iter<'a, String, Doc>,

@@ -1,4 +1,4 @@
-//! A set of names, in which each name is looked up at once.
+//! A set of names, for fast look-ups.
 ghost use Rattle.std.specs.Prelude.{◌≡◌, ◌++◌, ◌∷◌, [], IfOk, List, OnOk};
 ghost use Rattle.js_eval.specs.code.Cursors.{HasNames, is_key};
 ghost use Rattle.js_eval.specs.SchemaSet.{Text};
@@ -11,7 +11,7 @@ use std::collections::BTreeSet;
 /// The set of these names.
 ///
 /// # Errors
-/// `Memory`.
+/// `Memory` if an allocation fails.
 pub(crate) fn set_of<'a>(alloc: Global, names: &[&'a str]) -> Result<BTreeSet<&'a str>, Memory>
     ensures { IfOk result (λ s. HasNames s.keys (texts_of names.now)) }
 {
@@ -23,7 +23,8 @@ pub(crate) fn set_of<'a>(alloc: Global, names: &[&'a str]) -> Result<BTreeSet<&'
 }
 
 fn insert<'a>(set: &mut BTreeSet<&'a str>, name: &'a str) -> Result<(), Memory>
-    ensures { OnOk result ((names : List Text) → HasNames set.old.keys names → HasNames set.new.keys (names ++ name.now ∷ [])) }
+    ensures { OnOk result ((names : List Text) → HasNames set.old.keys names
+        → HasNames set.new.keys (names ++ name.now ∷ [])) }
 {
     set.insert(name)?;
     Ok(())

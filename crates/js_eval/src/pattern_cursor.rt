@@ -1,5 +1,5 @@
-//! What `patternProperties` asks for (Core, section 10.3.2.2): for each pattern, its schema on each member whose name it
-//! matches.
+//! The applications of `patternProperties` (Core, section 10.3.2.2): for each pattern, its schema on each member whose
+//! name it matches.
 ghost use Rattle.std.specs.Prelude.{◌≡◌, ◌∷◌, [], IfOk, MatchOption, filter, map};
 ghost use Rattle.std.specs.List.{flat_map};
 ghost use Rattle.js_assert.specs.Pattern.{matches};
@@ -20,7 +20,7 @@ use js_doc::{Doc, Members, Memory};
 use std::alloc::Global;
 use std::collections::btree_map::Iter;
 
-/// The patterns that are still to come, and the members that are left of the present one.
+/// The patterns that are still to come, and the members that are left for the present one.
 #[derive(Drop)]
 pub(crate) struct PatternCursor<'a> {
     pub place: Place,
@@ -28,17 +28,18 @@ pub(crate) struct PatternCursor<'a> {
     pub keyword: &'a str,
     pub patterns: Iter<'a, String, Doc>,
     pub members: &'a Members,
-    /// The present pattern, where there is one, its text, its schema and the place of that.
+    /// The present pattern, or None at the start. Then come its text, the place of its schema, and that schema.
     pub present: Option<NamedPattern<'a>>,
     pub name: &'a str,
     pub below: Place,
     pub schema_below: &'a Doc,
     pub left: Iter<'a, String, Doc>,
-    /// Whether what the patterns say of the names is kept, since another keyword of the schema has asked them.
+    /// Whether the matches of the patterns are stored, because `additionalProperties` of the same schema has needed
+    /// them.
     pub is_kept: bool,
 }
 
-/// What `patternProperties` asks for on these members.
+/// The applications of `patternProperties` to these members. `is_kept`: see the field.
 pub(crate) fn each_matching<'a>(
     place: Place,
     schema: &'a Doc,
@@ -48,8 +49,10 @@ pub(crate) fn each_matching<'a>(
     is_kept: bool,
 ) -> PatternCursor<'a>
     ensures asked { (documents : Documents) → patterns_asked documents result
-        ≡ flat_map (λ p. matching_asked documents (numbered_site documents place) keyword.now p.0 members.now) patterns.now }
-    ensures are { (documents : Documents) → StandsAt documents place (value_of schema.now) → ArePatterns documents result }
+        ≡ flat_map (λ p. matching_asked documents
+        (numbered_site documents place) keyword.now p.0 members.now) patterns.now }
+    ensures are { (documents : Documents) → StandsAt documents place (value_of schema.now)
+        → ArePatterns documents result }
 {
     PatternCursor {
         place,
@@ -66,10 +69,10 @@ pub(crate) fn each_matching<'a>(
     }
 }
 
-/// The next application.
+/// The next application, or None after the last.
 ///
 /// # Errors
-/// `Memory`: a pattern is searched for.
+/// `Memory` if an allocation fails; a search with a pattern may need one.
 pub(crate) fn next_matching<'a>(
     alloc: Global,
     schemas: &'a Schemas,
@@ -78,7 +81,8 @@ pub(crate) fn next_matching<'a>(
 ) -> Result<Option<Applied<'a>>, Memory>
     requires { ArePatterns schemas.now cursor.old }
     ensures next { IfOk result (λ o. MatchOption o (patterns_asked schemas.now cursor.old ≡ [])
-        (λ a. patterns_asked schemas.now cursor.old ≡ applied_of schemas.now a ∷ patterns_asked schemas.now cursor.new)) }
+        (λ a. patterns_asked schemas.now cursor.old
+        ≡ applied_of schemas.now a ∷ patterns_asked schemas.now cursor.new)) }
     ensures is { IfOk result (λ o. MatchOption o (Unit {0}) (λ a. IsApplied schemas.now a)) }
     ensures are { IfOk result (λ _. ArePatterns schemas.now cursor.new) }
 {
@@ -99,7 +103,7 @@ pub(crate) fn next_matching<'a>(
     }
 }
 
-// The next member that a pattern matches, which is then the present one.
+// The next member that a pattern matches. That pattern is then the present one.
 fn next_match<'a>(
     alloc: Global,
     schemas: &'a Schemas,
@@ -108,7 +112,9 @@ fn next_match<'a>(
 ) -> Result<Option<(&'a str, &'a Doc)>, Memory>
     requires { ArePatterns schemas.now cursor.old }
     ensures next { IfOk result (λ o. MatchOption o (patterns_asked schemas.now cursor.old ≡ [])
-        (λ m. patterns_asked schemas.now cursor.old ≡ on_matched_member schemas.now cursor.new.below cursor.new.name.now (m.0.now, value_of m.1.now) ∷ patterns_asked schemas.now cursor.new)) }
+        (λ m. patterns_asked schemas.now cursor.old
+        ≡ on_matched_member schemas.now cursor.new.below cursor.new.name.now
+        (m.0.now, value_of m.1.now) ∷ patterns_asked schemas.now cursor.new)) }
     ensures are { IfOk result (λ _. ArePatterns schemas.now cursor.new) }
 {
     if let Some(pattern) = cursor.present {
@@ -163,8 +169,11 @@ fn next_member<'a>(
     is_kept: bool,
     members: &mut Iter<'a, String, Doc>,
 ) -> Result<Option<(&'a str, &'a Doc)>, Memory>
-    ensures { IfOk result (λ o. MatchOption o (filter (λ m. matches pattern.entry.text.now m.0) (map pair_of members.old) ≡ [])
-        (λ m. filter (λ m. matches pattern.entry.text.now m.0) (map pair_of members.old) ≡ (m.0.now, value_of m.1.now) ∷ filter (λ m. matches pattern.entry.text.now m.0) (map pair_of members.new))) }
+    ensures { IfOk result (λ o. MatchOption o
+        (filter (λ m. matches pattern.entry.text.now m.0) (map pair_of members.old) ≡ [])
+        (λ m. filter (λ m. matches pattern.entry.text.now m.0) (map pair_of members.old)
+        ≡ (m.0.now, value_of m.1.now) ∷ filter (λ m. matches pattern.entry.text.now m.0)
+        (map pair_of members.new))) }
 {
     while let Some((name, member)) = members.next() {
         let name = name.as_str();

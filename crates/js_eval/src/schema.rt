@@ -1,4 +1,4 @@
-//! What is looked at of a schema as a whole.
+//! Questions about a schema as a whole.
 ghost use Rattle.std.specs.Prelude.{◌≡◌, option_map};
 ghost use Rattle.js_assert.specs.Argument.{entries};
 ghost use Rattle.js_doc.specs.Members.{get};
@@ -8,7 +8,7 @@ ghost use Rattle.js_eval.specs.Verdict.{accepts};
 use crate::instance::object_in;
 use js_doc::Doc;
 
-/// The argument of the keyword of this name, where the schema has one.
+/// The argument of the keyword with this name, if the schema has it.
 pub(crate) fn argument_in<'a>(schema: &'a Doc, name: &str) -> Option<&'a Doc>
     ensures { option_map (λ d. value_of d.now) result ≡ get name.now (entries (value_of schema.now)) }
 {
@@ -18,7 +18,7 @@ pub(crate) fn argument_in<'a>(schema: &'a Doc, name: &str) -> Option<&'a Doc>
     }
 }
 
-/// The schema isn't `false`.
+/// Whether the schema isn't `false`.
 pub(crate) fn is_accepting(schema: &Doc) -> bool
     ensures { result ≡ accepts (value_of schema.now) }
 {

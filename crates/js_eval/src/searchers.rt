@@ -1,4 +1,4 @@
-//! Searching with patterns, for a whole walk.
+//! Searches with patterns during a walk, with what is kept between them.
 ghost use Rattle.std.specs.Prelude.{◌≡◌, IfOk, MatchOption};
 ghost use Rattle.std.specs.List.{list_any};
 ghost use Rattle.js_assert.specs.Pattern.{matches};
@@ -9,11 +9,11 @@ use js_doc::{Members, Memory};
 use std::alloc::Global;
 use std::cell::RefCell;
 
-/// How many searchers are kept at most.
+/// The maximal number of searchers kept.
 const MOST_KEPT: usize = 2_048;
 
-/// How many bytes are searched at most with those that are kept. What a searcher works with grows with the bytes that it has searched:
-/// so all together stay within some tens of megabytes, but for patterns made to take more.
+/// The number of bytes searched after which all kept searchers are dropped. The memory of a searcher grows with the
+/// bytes that it has searched, so this limits the sum to some tens of megabytes, except for patterns made to take more.
 const MOST_SEARCHED: usize = 1 << 20;
 
 /// A pattern of finished schemas, and its text.
@@ -24,17 +24,19 @@ pub(crate) struct NamedPattern<'p> {
     ghost named: { pattern.now ≡ text.now },
 }
 
-/// Searches with patterns. What it searched with is kept for the next search with the same pattern: to make it takes longer than
-/// most searches. What patterns said of the names of an object is kept while two keywords of one schema ask them.
+/// Searches with patterns. A searcher is kept for the next search with the same pattern, because making one takes
+/// longer than most searches. Which names of an object the patterns of a schema match is stored while two of its
+/// keywords need it.
 #[derive(Drop)]
 pub(crate) struct Searchers<'p> {
     kept: RefCell<Kept<'p>>,
-    /// Of each schema on the way that has both keywords, those of its patterns.
+    /// The stored matches: an entry for each schema being applied that has `additionalProperties` and
+    /// `patternProperties`, the innermost last.
     answers: RefCell<Vec<AllAnswers<'p>>>,
 }
 
-/// The searchers that are kept, in the order of their patterns' texts, and how many bytes they have searched. Where that is too
-/// much, or there are too many, all go.
+/// The kept searchers, sorted by the text of their patterns, and the number of bytes searched. If either limit is
+/// exceeded, all searchers are dropped.
 #[derive(Drop)]
 struct Kept<'p> {
     all: Vec<Marked<'p>>,
@@ -50,7 +52,7 @@ struct Marked<'p> {
 }
 
 impl<'p> NamedPattern<'p> {
-    /// The pattern of this text.
+    /// The pattern with its text.
     pub fn new(pattern: &'p Pattern, text: &'p str) -> NamedPattern<'p>
         requires { pattern.now ≡ text.now }
         ensures { result.text.now ≡ text.now }
@@ -60,7 +62,7 @@ impl<'p> NamedPattern<'p> {
 }
 
 impl<'p> Searchers<'p> {
-    /// With none kept.
+    /// Without kept searchers.
     pub fn new(alloc: Global) -> Searchers<'p> {
         Searchers {
             kept: RefCell::new(Kept {
@@ -74,7 +76,7 @@ impl<'p> Searchers<'p> {
     /// Whether the pattern matches somewhere in a name.
     ///
     /// # Errors
-    /// `Memory`.
+    /// `Memory` if an allocation fails.
     #[inline(never)]
     pub fn matches(
         &self,
@@ -93,10 +95,10 @@ impl<'p> Searchers<'p> {
 }
 
 impl<'p> Searchers<'p> {
-    /// Keeps what the patterns of a schema say.
+    /// Stores which names the patterns of a schema match.
     ///
     /// # Errors
-    /// `Memory`.
+    /// `Memory` if an allocation fails.
     pub fn keep_answers(&self, answers: AllAnswers<'p>) -> Result<(), Memory> {
         match self.answers.try_borrow_mut() {
             Ok(mut kept) => Ok(kept.push(answers)?),
@@ -104,14 +106,14 @@ impl<'p> Searchers<'p> {
         }
     }
 
-    /// Lets go what was kept last.
+    /// Drops the entry that was stored last.
     pub fn drop_answers(&self) {
         if let Ok(mut kept) = self.answers.try_borrow_mut() {
             let _ = kept.pop();
         }
     }
 
-    /// Whether one of the patterns matches the name, as what was kept last says.
+    /// Whether one of the patterns matches the name, by the entry stored last; None if it doesn't tell.
     pub fn any_kept(&self, patterns: &Members, name: &str) -> Option<bool>
         ensures { MatchOption result (Unit {0}) (λ b. b ≡ list_any (λ p. matches p.0 name.now) patterns.now) }
     {
@@ -121,7 +123,7 @@ impl<'p> Searchers<'p> {
         }
     }
 
-    /// Goes on to this pattern in what was kept last.
+    /// Selects this pattern in the entry stored last.
     pub fn begin_kept(&self, pattern: &str) {
         if let Ok(mut kept) = self.answers.try_borrow_mut() {
             if let Some(answers) = kept.last_mut() {
@@ -130,10 +132,10 @@ impl<'p> Searchers<'p> {
         }
     }
 
-    /// Whether the pattern matches the name, as what was kept last says if it does.
+    /// Whether the pattern matches the name, by the entry stored last or, if it doesn't tell, by a search.
     ///
     /// # Errors
-    /// `Memory`.
+    /// `Memory` if an allocation fails.
     pub fn matches_as_kept(
         &self,
         alloc: Global,
@@ -158,7 +160,7 @@ impl<'p> Searchers<'p> {
     }
 }
 
-// Searches with the searcher that is kept, or with a new one.
+// Searches with the kept searcher, or with a new one.
 fn search<'p>(
     alloc: Global,
     kept: &mut Kept<'p>,
@@ -176,7 +178,7 @@ fn search<'p>(
     }
 }
 
-// So many bytes more are searched.
+// Counts the bytes of one more search. Above the limit, drops all searchers first.
 fn count(kept: &mut Kept<'_>, bytes: usize) {
     if kept.searched > MOST_SEARCHED {
         kept.all.clear();
@@ -185,7 +187,7 @@ fn count(kept: &mut Kept<'_>, bytes: usize) {
     kept.searched = kept.searched.saturating_add(bytes);
 }
 
-// Searches with the searcher that is kept of the pattern with this text, if there is one.
+// Searches with the kept searcher for the pattern with this text, if there is one.
 fn search_again(kept: &mut [Marked<'_>], text: &str, name: &str) -> Option<bool>
     ensures { MatchOption result (Unit {0}) (λ b. b ≡ matches text.now name.now) }
 {
@@ -197,13 +199,13 @@ fn search_again(kept: &mut [Marked<'_>], text: &str, name: &str) -> Option<bool>
     None
 }
 
-// Where the searcher of the pattern with this text stands, if it is there.
+// The index of the searcher for the pattern with this text, or where it belongs.
 fn place_of(kept: &[Marked<'_>], text: &str) -> usize {
     kept.partition_point(|marked| marked.text < text)
 }
 
-// Searches with a new searcher, and keeps it if there is memory for that. What it works with is large until it is boxed: that takes
-// a frame of its own, which a search with a kept one doesn't pay for.
+// Searches with a new searcher, and keeps it if there is memory. It isn't inlined: until it is boxed, a searcher takes
+// much of the stack, and searches with a kept one shouldn't pay for that.
 #[inline(never)]
 fn search_first<'p>(
     alloc: Global,
@@ -221,7 +223,7 @@ fn search_first<'p>(
     Ok(found)
 }
 
-// Keeps a searcher, if there is memory for it. Where there are as many as may be, those go.
+// Keeps a searcher, if there is memory. If there are too many, drops the others first.
 fn keep<'p>(kept: &mut Kept<'p>, marked: Marked<'p>) {
     if kept.all.len() >= MOST_KEPT {
         kept.all.clear();

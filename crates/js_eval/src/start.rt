@@ -1,4 +1,4 @@
-//! What a keyword begins to ask for, by its kind (Core, sections 8.2.3, 10 and 11).
+//! The applications that a keyword asks for, by its kind (Core, sections 8.2.3, 10 and 11).
 ghost use Rattle.std.specs.Prelude.{◌≡◌, ◌∷◌, [], IfOk, map, nat_eq, true};
 ghost use Rattle.std.specs.List.{dedup, list_all};
 ghost use Rattle.js_assert.specs.Argument.{entries};
@@ -25,36 +25,36 @@ use js_bundle::{Place, Schemas};
 use js_doc::{Doc, Memory};
 use std::alloc::Global;
 
-/// Where a keyword is judged, and on what.
+/// Where a keyword is evaluated, and on what value.
 #[derive(Clone, Copy)]
 pub(crate) struct Scene<'s, 'a> {
-    /// All places that were applied, the present one being the last.
+    /// The places of the schemas being applied, from the root's to that of the keyword's schema.
     pub path: &'s Path,
-    /// Their resources, of equal neighbours one.
+    /// The numbers of their schema resources, without consecutive repeats.
     pub scope: &'s [usize],
-    /// The present place.
+    /// The place of the keyword's schema.
     pub place: Place,
-    /// The schema there.
+    /// That schema.
     pub schema: &'a Doc,
     /// The value.
     pub value: Instance<'a>,
 }
 
-/// What a keyword looks at of the other keywords of its schema.
+/// What a keyword depends on among the other keywords of its schema.
 #[derive(Clone, Copy)]
 pub(crate) struct Facts<'s, 'a> {
-    /// The verdict of the adjacent `if`, if there is one.
+    /// Whether the adjacent `if` succeeds, or None without an `if`.
     pub condition: Option<bool>,
-    /// The members that the others have evaluated.
+    /// The names of the members that the others have evaluated.
     pub names: &'s [&'a str],
-    /// The items that the others have evaluated.
+    /// The indexes of the items that the others have evaluated.
     pub indexes: &'s [usize],
 }
 
-/// What a keyword asks for.
+/// The applications that a keyword asks for.
 ///
 /// # Errors
-/// `Memory`.
+/// `Memory` if an allocation fails.
 pub(crate) fn start<'a>(
     alloc: Global,
     schemas: &'a Schemas,
@@ -67,8 +67,10 @@ pub(crate) fn start<'a>(
     requires resources { scene.scope.now ≡ dedup nat_eq (map (resource_of schemas.now) scene.path.now) }
     requires keyword { IsIn (value_of scene.schema.now) (keyword_of keyword) }
     ensures asked { IfOk result (λ a. asked schemas.now a
-        ≡ asks_of (schemas_of schemas.now) (map (numbered_site schemas.now) scene.entry.path.now) (numbered_site schemas.now scene.entry.place) (entries (value_of scene.entry.schema.now))
-        (instance_of scene.entry.value) facts.entry.condition (texts_of facts.entry.names.now) facts.entry.indexes.now (keyword_of keyword.entry) keyword.entry.kind) }
+        ≡ asks_of (schemas_of schemas.now) (map (numbered_site schemas.now) scene.entry.path.now)
+        (numbered_site schemas.now scene.entry.place) (entries (value_of scene.entry.schema.now))
+        (instance_of scene.entry.value) facts.entry.condition (texts_of facts.entry.names.now) facts.entry.indexes.now
+        (keyword_of keyword.entry) keyword.entry.kind) }
     ensures is { IfOk result (λ a. IsAsking schemas.now a) }
 {
     let Scene {
@@ -129,7 +131,7 @@ pub(crate) fn start<'a>(
     }
 }
 
-// What `$ref` names, on the value itself.
+// The schema that `$ref` refers to, applied to the value itself.
 fn referred<'a>(
     schemas: &'a Schemas,
     place: Place,
@@ -149,7 +151,7 @@ fn referred<'a>(
     alone(place, schema, value)
 }
 
-// What `$dynamicRef` names, on the value itself.
+// The schema that `$dynamicRef` refers to, applied to the value itself.
 fn referred_dynamically<'a>(
     schemas: &'a Schemas,
     place: Place,
@@ -163,7 +165,8 @@ fn referred_dynamically<'a>(
     requires resources { resources.now ≡ dedup nat_eq (map (resource_of schemas.now) path.now) }
     ensures asked { asked schemas.now result
         ≡ record {
-          place = (schemas_of schemas.now).dynamic_target (map (numbered_site schemas.now) path.now) (numbered_site schemas.now place);
+          place = (schemas_of schemas.now).dynamic_target (map (numbered_site schemas.now) path.now)
+              (numbered_site schemas.now place);
           step = spec.Alone;
           at = spec.Alone;
           value = instance_of value.entry;
@@ -174,7 +177,7 @@ fn referred_dynamically<'a>(
     alone(place, schema, value)
 }
 
-// The keyword's schema, on the value itself.
+// The keyword's schema, applied to the value itself.
 fn held<'a>(
     schemas: &'a Schemas,
     place: Place,
@@ -186,14 +189,16 @@ fn held<'a>(
     requires kind { held_at keyword.kind ≡ is_alone }
     requires keyword { IsIn (value_of schema.now) (keyword_of keyword) }
     ensures asked { asked schemas.now result
-        ≡ application (schemas_of schemas.now) (numbered_site schemas.now place) keyword.entry.name.now spec.Alone spec.Alone (instance_of value.entry) ∷ [] }
+        ≡ application (schemas_of schemas.now)
+        (numbered_site schemas.now place) keyword.entry.name.now spec.Alone spec.Alone
+        (instance_of value.entry) ∷ [] }
     ensures is { IsAsking schemas.now result }
 {
     let (place, schema) = held_below(schemas, place, schema, keyword);
     alone(place, schema, value)
 }
 
-// The schema of `then`. `condition`: the verdict of the adjacent `if`, if there is one.
+// The schema of `then`, applied if the adjacent `if` succeeds. `condition`: whether it does, or None without an `if`.
 fn held_then<'a>(
     schemas: &'a Schemas,
     place: Place,
@@ -206,7 +211,9 @@ fn held_then<'a>(
     requires kind { held_at keyword.kind ≡ is_alone }
     requires keyword { IsIn (value_of schema.now) (keyword_of keyword) }
     ensures asked { asked schemas.now result ≡ if_holds condition
-        (application (schemas_of schemas.now) (numbered_site schemas.now place) keyword.entry.name.now spec.Alone spec.Alone (instance_of value.entry) ∷ []) }
+        (application (schemas_of schemas.now)
+        (numbered_site schemas.now place) keyword.entry.name.now spec.Alone spec.Alone
+        (instance_of value.entry) ∷ []) }
     ensures is { IsAsking schemas.now result }
 {
     match condition {
@@ -216,7 +223,7 @@ fn held_then<'a>(
     }
 }
 
-// The schema of `else`. `condition`: the verdict of the adjacent `if`, if there is one.
+// The schema of `else`, applied if the adjacent `if` fails. `condition`: whether it succeeds, or None without an `if`.
 fn held_else<'a>(
     schemas: &'a Schemas,
     place: Place,
@@ -229,7 +236,9 @@ fn held_else<'a>(
     requires kind { held_at keyword.kind ≡ is_alone }
     requires keyword { IsIn (value_of schema.now) (keyword_of keyword) }
     ensures asked { asked schemas.now result ≡ if_fails condition
-        (application (schemas_of schemas.now) (numbered_site schemas.now place) keyword.entry.name.now spec.Alone spec.Alone (instance_of value.entry) ∷ []) }
+        (application (schemas_of schemas.now)
+        (numbered_site schemas.now place) keyword.entry.name.now spec.Alone spec.Alone
+        (instance_of value.entry) ∷ []) }
     ensures is { IsAsking schemas.now result }
 {
     match condition {

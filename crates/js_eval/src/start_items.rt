@@ -1,4 +1,4 @@
-//! What the keywords for arrays, and those with a list of schemas, begin to ask for (Core, sections 10.2.1, 10.3.1 and
+//! The applications of keywords for arrays, and of those with a list of schemas (Core, sections 10.2.1, 10.3.1 and
 //! 11.2).
 ghost use Rattle.std.specs.Prelude.{◌≡◌, IfOk, filter, length, map, nat_le, nat_lt, not};
 ghost use Rattle.js_assert.specs.Argument.{entries, values};
@@ -25,7 +25,7 @@ use js_bundle::{Place, Schemas};
 use js_doc::{Doc, Memory};
 use std::alloc::Global;
 
-/// Each schema of a keyword's list, on the value itself.
+/// Each schema of a keyword's list, applied to the value itself.
 pub(crate) fn listed<'a>(
     place: Place,
     schema: &'a Doc,
@@ -35,7 +35,8 @@ pub(crate) fn listed<'a>(
     requires kind { held_at keyword.kind ≡ is_index }
     requires keyword { IsIn (value_of schema.now) (keyword_of keyword) }
     ensures asked { (documents : Documents) → asked documents result
-        ≡ map (λ e. application (schemas_of documents) (numbered_site documents place) keyword.entry.name.now (spec.Index e.0) spec.Alone (instance_of value.entry))
+        ≡ map (λ e. application (schemas_of documents) (numbered_site documents place) keyword.entry.name.now
+        (spec.Index e.0) spec.Alone (instance_of value.entry))
         (indexed (value_of keyword.entry.argument.now)) }
     ensures is { (documents : Documents) → StandsAt documents place (value_of schema.now) → IsAsking documents result }
 {
@@ -49,7 +50,7 @@ pub(crate) fn listed<'a>(
     })
 }
 
-/// Each schema of `prefixItems`, on the item at the same index.
+/// Each schema of `prefixItems`, applied to the item at the same index.
 pub(crate) fn prefix<'a>(
     alloc: Global,
     schemas: &'a Schemas,
@@ -60,8 +61,10 @@ pub(crate) fn prefix<'a>(
 ) -> Asking<'a>
     requires { StandsAt schemas.now place (value_of schema.now) }
     ensures asked { asked schemas.now result
-        ≡ map (λ e. application (schemas_of schemas.now) (numbered_site schemas.now place) keyword.entry.name.now (spec.Index e.0) (spec.Index e.0) e.1)
-        (filter (λ e. nat_lt e.0 (length (values (value_of keyword.entry.argument.now)))) (indexed (instance_of value.entry))) }
+        ≡ map (λ e. application (schemas_of schemas.now) (numbered_site schemas.now place) keyword.entry.name.now
+        (spec.Index e.0) (spec.Index e.0) e.1)
+        (filter (λ e. nat_lt e.0 (length (values (value_of keyword.entry.argument.now))))
+        (indexed (instance_of value.entry))) }
     ensures is { IsAsking schemas.now result }
 {
     Asking::Items(each_in_step(
@@ -74,7 +77,7 @@ pub(crate) fn prefix<'a>(
     ))
 }
 
-/// The schema of `items`, on each item behind those that the adjacent `prefixItems` has schemas for.
+/// The schema of `items`, applied to each item after those that the adjacent `prefixItems` has schemas for.
 pub(crate) fn following<'a>(
     alloc: Global,
     schemas: &'a Schemas,
@@ -87,7 +90,8 @@ pub(crate) fn following<'a>(
     requires kind { held_at keyword.kind ≡ is_alone }
     requires keyword { IsIn (value_of schema.now) (keyword_of keyword) }
     ensures asked { asked schemas.now result
-        ≡ map (λ e. application (schemas_of schemas.now) (numbered_site schemas.now place) keyword.entry.name.now spec.Alone (spec.Index e.0) e.1)
+        ≡ map (λ e. application (schemas_of schemas.now)
+        (numbered_site schemas.now place) keyword.entry.name.now spec.Alone (spec.Index e.0) e.1)
         (filter (λ e. nat_le (prefix_length (entries (value_of schema.now))) e.0) (indexed (instance_of value.entry))) }
     ensures is { IsAsking schemas.now result }
 {
@@ -102,7 +106,7 @@ pub(crate) fn following<'a>(
     )
 }
 
-/// The schema of `contains`, on each item.
+/// The schema of `contains`, applied to each item.
 pub(crate) fn every<'a>(
     alloc: Global,
     schemas: &'a Schemas,
@@ -115,7 +119,8 @@ pub(crate) fn every<'a>(
     requires kind { held_at keyword.kind ≡ is_alone }
     requires keyword { IsIn (value_of schema.now) (keyword_of keyword) }
     ensures asked { asked schemas.now result
-        ≡ map (λ e. application (schemas_of schemas.now) (numbered_site schemas.now place) keyword.entry.name.now spec.Alone (spec.Index e.0) e.1)
+        ≡ map (λ e. application (schemas_of schemas.now)
+        (numbered_site schemas.now place) keyword.entry.name.now spec.Alone (spec.Index e.0) e.1)
         (indexed (instance_of value.entry)) }
     ensures is { IsAsking schemas.now result }
 {
@@ -135,7 +140,8 @@ fn from_index<'a>(
     requires kind { held_at keyword.kind ≡ is_alone }
     requires keyword { IsIn (value_of schema.now) (keyword_of keyword) }
     ensures asked { asked schemas.now result
-        ≡ map (λ e. application (schemas_of schemas.now) (numbered_site schemas.now place) keyword.entry.name.now spec.Alone (spec.Index e.0) e.1)
+        ≡ map (λ e. application (schemas_of schemas.now)
+        (numbered_site schemas.now place) keyword.entry.name.now spec.Alone (spec.Index e.0) e.1)
         (filter (λ e. nat_le first e.0) (indexed (instance_of value.entry))) }
     ensures is { IsAsking schemas.now result }
 {
@@ -143,7 +149,7 @@ fn from_index<'a>(
     Asking::Items(each_from(alloc, below, held, value.array(), first))
 }
 
-// How many schemas the adjacent `prefixItems` holds.
+// The number of schemas in the adjacent `prefixItems`, or 0 without it.
 fn prefix_length_in(schema: &Doc) -> usize
     ensures { result ≡ prefix_length (entries (value_of schema.now)) }
 {
@@ -153,10 +159,10 @@ fn prefix_length_in(schema: &Doc) -> usize
     }
 }
 
-/// The schema of `unevaluatedItems`, on each item that isn't at one of these indexes.
+/// The schema of `unevaluatedItems`, applied to each item that isn't at one of these indexes.
 ///
 /// # Errors
-/// `Memory`.
+/// `Memory` if an allocation fails.
 pub(crate) fn unevaluated_items<'a>(
     alloc: Global,
     schemas: &'a Schemas,
@@ -170,7 +176,8 @@ pub(crate) fn unevaluated_items<'a>(
     requires kind { held_at keyword.kind ≡ is_alone }
     requires keyword { IsIn (value_of schema.now) (keyword_of keyword) }
     ensures asked { IfOk result (λ a. asked schemas.now a
-        ≡ map (λ e. application (schemas_of schemas.now) (numbered_site schemas.now place) keyword.entry.name.now spec.Alone (spec.Index e.0) e.1)
+        ≡ map (λ e. application (schemas_of schemas.now)
+        (numbered_site schemas.now place) keyword.entry.name.now spec.Alone (spec.Index e.0) e.1)
         (filter (λ e. not (among_indexes e.0 indexes.now)) (indexed (instance_of value.entry)))) }
     ensures is { IfOk result (λ a. IsAsking schemas.now a) }
 {

@@ -1,5 +1,5 @@
-//! What the keywords for objects begin to ask for on any value, with any argument (Core, sections 10.2.2.4, 10.3.2 and
-//! 11.3): nothing, where it is no object.
+//! The applications of keywords for objects (Core, sections 10.2.2.4, 10.3.2 and 11.3). There are none if the value, or
+//! an argument that should be an object, isn't one.
 ghost use Rattle.std.specs.Prelude.{◌≡◌, ◌||◌, IfOk, filter, map, not};
 ghost use Rattle.std.specs.List.{flat_map};
 ghost use Rattle.js_assert.specs.Argument.{entries, has};
@@ -31,11 +31,11 @@ use js_bundle::{Place, Schemas};
 use js_doc::{Doc, Members, Memory};
 use std::alloc::Global;
 
-/// How many times as many names as members are many more: to go through the names takes a look-up for each of them, and through
-/// the members several for each.
+/// `properties` looks up its names among the members, one look-up each. If it has more names than this number times the
+/// members, it goes through the members instead, with several look-ups each.
 const MANY_MORE: usize = 4;
 
-/// What `dependentSchemas` asks for.
+/// The applications of `dependentSchemas`.
 pub(crate) fn dependent<'a>(
     schemas: &'a Schemas,
     place: Place,
@@ -45,7 +45,8 @@ pub(crate) fn dependent<'a>(
 ) -> Asking<'a>
     requires { StandsAt schemas.now place (value_of schema.now) }
     ensures asked { asked schemas.now result
-        ≡ map (λ m. application (schemas_of schemas.now) (numbered_site schemas.now place) keyword.entry.name.now (spec.Name m.0) spec.Alone (instance_of value.entry))
+        ≡ map (λ m. application (schemas_of schemas.now) (numbered_site schemas.now place) keyword.entry.name.now
+        (spec.Name m.0) spec.Alone (instance_of value.entry))
         (filter (λ m. has m.0 (entries (instance_of value.entry))) (entries (value_of keyword.entry.argument.now))) }
     ensures is { IsAsking schemas.now result }
 {
@@ -65,7 +66,7 @@ pub(crate) fn dependent<'a>(
     }
 }
 
-/// What `properties` asks for: its names are gone through, unless there are many more of them than members.
+/// The applications of `properties`. It goes through its names, unless there are many more of them than members.
 pub(crate) fn properties<'a>(
     place: Place,
     schema: &'a Doc,
@@ -75,7 +76,8 @@ pub(crate) fn properties<'a>(
     requires kind { held_at keyword.kind ≡ is_name }
     requires keyword { IsIn (value_of schema.now) (keyword_of keyword) }
     ensures asked { (documents : Documents) → asked documents result
-        ≡ map (λ m. application (schemas_of documents) (numbered_site documents place) keyword.entry.name.now (spec.Name m.0) (spec.Name m.0) m.1)
+        ≡ map (λ m. application (schemas_of documents) (numbered_site documents place) keyword.entry.name.now
+        (spec.Name m.0) (spec.Name m.0) m.1)
         (filter (λ m. has m.0 (entries (value_of keyword.entry.argument.now))) (entries (instance_of value.entry))) }
     ensures is { (documents : Documents) → StandsAt documents place (value_of schema.now) → IsAsking documents result }
 {
@@ -99,7 +101,8 @@ fn named_members<'a>(
     requires keyword { IsIn (value_of schema.now) (keyword_of keyword) }
     requires named { named.now ≡ entries (value_of keyword.argument.now) }
     ensures asked { (documents : Documents) → asked documents result
-        ≡ map (λ m. application (schemas_of documents) (numbered_site documents place) keyword.entry.name.now (spec.Name m.0) (spec.Name m.0) m.1)
+        ≡ map (λ m. application (schemas_of documents) (numbered_site documents place) keyword.entry.name.now
+        (spec.Name m.0) (spec.Name m.0) m.1)
         (filter (λ m. has m.0 named.now) members.now) }
     ensures is { (documents : Documents) → StandsAt documents place (value_of schema.now) → IsAsking documents result }
 {
@@ -110,10 +113,10 @@ fn named_members<'a>(
     }
 }
 
-/// What `patternProperties` asks for.
+/// The applications of `patternProperties`.
 ///
 /// # Errors
-/// `Memory`.
+/// `Memory` if an allocation fails.
 pub(crate) fn patterns<'a>(
     alloc: Global,
     schemas: &'a Schemas,
@@ -124,8 +127,10 @@ pub(crate) fn patterns<'a>(
 ) -> Result<Asking<'a>, Memory>
     requires { StandsAt schemas.now place (value_of schema.now) }
     ensures asked { IfOk result (λ a. asked schemas.now a
-        ≡ flat_map (λ p. map (λ m. application (schemas_of schemas.now) (numbered_site schemas.now place) keyword.entry.name.now (spec.Name p.0) (spec.Name m.0) m.1)
-        (filter (λ m. matches p.0 m.0) (entries (instance_of value.entry)))) (entries (value_of keyword.entry.argument.now))) }
+        ≡ flat_map (λ p. map (λ m. application (schemas_of schemas.now)
+        (numbered_site schemas.now place) keyword.entry.name.now (spec.Name p.0) (spec.Name m.0) m.1)
+        (filter (λ m. matches p.0 m.0) (entries (instance_of value.entry))))
+        (entries (value_of keyword.entry.argument.now))) }
     ensures is { IfOk result (λ a. IsAsking schemas.now a) }
 {
     let Some(patterns) = object_in(keyword.argument) else {
@@ -147,7 +152,7 @@ pub(crate) fn patterns<'a>(
     }
 }
 
-/// What `additionalProperties` asks for.
+/// The applications of `additionalProperties`.
 pub(crate) fn additional<'a>(
     schemas: &'a Schemas,
     place: Place,
@@ -159,8 +164,10 @@ pub(crate) fn additional<'a>(
     requires kind { held_at keyword.kind ≡ is_alone }
     requires keyword { IsIn (value_of schema.now) (keyword_of keyword) }
     ensures asked { asked schemas.now result
-        ≡ map (λ m. application (schemas_of schemas.now) (numbered_site schemas.now place) keyword.entry.name.now spec.Alone (spec.Name m.0) m.1)
-        (filter (λ m. not (is_property (entries (value_of schema.now)) m.0 || matches_pattern (entries (value_of schema.now)) m.0)) (entries (instance_of value.entry))) }
+        ≡ map (λ m. application (schemas_of schemas.now)
+        (numbered_site schemas.now place) keyword.entry.name.now spec.Alone (spec.Name m.0) m.1)
+        (filter (λ m. not (is_property (entries (value_of schema.now)) m.0
+        || matches_pattern (entries (value_of schema.now)) m.0)) (entries (instance_of value.entry))) }
     ensures is { IsAsking schemas.now result }
 {
     let (below, held) = held_below(schemas, place, schema, keyword);
@@ -174,7 +181,7 @@ pub(crate) fn additional<'a>(
     }
 }
 
-/// What `propertyNames` asks for.
+/// The applications of `propertyNames`.
 pub(crate) fn property_names<'a>(
     schemas: &'a Schemas,
     place: Place,
@@ -186,7 +193,9 @@ pub(crate) fn property_names<'a>(
     requires kind { held_at keyword.kind ≡ is_alone }
     requires keyword { IsIn (value_of schema.now) (keyword_of keyword) }
     ensures asked { asked schemas.now result
-        ≡ map (λ m. application (schemas_of schemas.now) (numbered_site schemas.now place) keyword.entry.name.now spec.Alone (spec.Name m.0) (text m.0)) (entries (instance_of value.entry)) }
+        ≡ map (λ m. application (schemas_of schemas.now)
+        (numbered_site schemas.now place) keyword.entry.name.now spec.Alone (spec.Name m.0) (text m.0))
+        (entries (instance_of value.entry)) }
     ensures is { IsAsking schemas.now result }
 {
     let (below, held) = held_below(schemas, place, schema, keyword);
@@ -196,10 +205,10 @@ pub(crate) fn property_names<'a>(
     }
 }
 
-/// What `unevaluatedProperties` asks for, where these members are evaluated.
+/// The applications of `unevaluatedProperties`, if members with these names are evaluated.
 ///
 /// # Errors
-/// `Memory`.
+/// `Memory` if an allocation fails.
 pub(crate) fn unevaluated_properties<'a>(
     alloc: Global,
     schemas: &'a Schemas,
@@ -213,7 +222,8 @@ pub(crate) fn unevaluated_properties<'a>(
     requires kind { held_at keyword.kind ≡ is_alone }
     requires keyword { IsIn (value_of schema.now) (keyword_of keyword) }
     ensures asked { IfOk result (λ a. asked schemas.now a
-        ≡ map (λ m. application (schemas_of schemas.now) (numbered_site schemas.now place) keyword.entry.name.now spec.Alone (spec.Name m.0) m.1)
+        ≡ map (λ m. application (schemas_of schemas.now)
+        (numbered_site schemas.now place) keyword.entry.name.now spec.Alone (spec.Name m.0) m.1)
         (filter (λ m. not (among_names m.0 (texts_of evaluated.now))) (entries (instance_of value.entry)))) }
     ensures is { IfOk result (λ a. IsAsking schemas.now a) }
 {

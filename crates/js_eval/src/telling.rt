@@ -1,5 +1,4 @@
-//! What the node of a keyword, and the node of a schema, have to say (Core, sections 7.7, 10, 11 and 12.3.4), by what the
-//! keyword was applied to.
+//! The notes of keywords and of schemas: annotations and errors (Core, sections 7.7, 10, 11 and 12.3.4).
 ghost use Rattle.std.specs.Prelude.{◌≡◌, ◌++◌, ◌∷◌, [], ℕ, true, false, IfOk, List, None, OnOk, codes, cond, decimal, filter, map, option_map, string_bytes};
 ghost use Rattle.std.specs.Option.{option_map_or};
 ghost use Rattle.js_assert.specs.Argument.{entries};
@@ -36,11 +35,12 @@ use js_tree::{Indexes, Names, Note};
 use std::alloc::Global;
 use std::collections::BTreeSet;
 
-/// The note of a keyword of a place: of its applications so many hold, so many items match the adjacent `contains`, and where it
-/// passes it gives these members and items.
+/// The note of a keyword. `judged`: whether it passes, and how many of its applications succeed; `matching`: the number
+/// of items that match the adjacent `contains`; `names`, `indexes`: the members and items that it has evaluated if it
+/// passes.
 ///
 /// # Errors
-/// `Memory`.
+/// `Memory` if an allocation fails.
 #[tactic(auto, unfolding(crate::specs::Walk::Told::says_at))]
 pub(crate) fn keyword_note<'a>(
     alloc: Global,
@@ -54,8 +54,10 @@ pub(crate) fn keyword_note<'a>(
     indexes: &[usize],
 ) -> Result<Note<'a>, Memory>
     requires place { is_place here.now.schemas.now place ≡ true }
-    requires keyword { IsKeywordAt (schemas_of here.now.schemas.now) (numbered_site here.now.schemas.now place) (keyword_of keyword) }
-    ensures { IfOk result (λ n. note_of n ≡ says_at (schemas_of here.now.schemas.now) (numbered_site here.now.schemas.now place) (instance_of value.entry) matching (keyword_of keyword.entry)
+    requires keyword { IsKeywordAt (schemas_of here.now.schemas.now) (numbered_site here.now.schemas.now place)
+        (keyword_of keyword) }
+    ensures { IfOk result (λ n. note_of n ≡ says_at (schemas_of here.now.schemas.now)
+        (numbered_site here.now.schemas.now place) (instance_of value.entry) matching (keyword_of keyword.entry)
         judged.held (texts_of names.now) indexes.now judged.passes) }
 {
     let kind = keyword.kind;
@@ -67,10 +69,10 @@ pub(crate) fn keyword_note<'a>(
     }
 }
 
-/// The note of a schema's node.
+/// The note of a schema: an error for the schema `false`, and none for any other.
 ///
 /// # Errors
-/// `Memory`.
+/// `Memory` if an allocation fails.
 pub(crate) fn schema_note<'a>(alloc: Global, schema: &Doc) -> Result<Note<'a>, Memory>
     ensures { IfOk result (λ n. note_of n ≡ spec.schema_note (value_of schema.now)) }
 {
@@ -80,10 +82,10 @@ pub(crate) fn schema_note<'a>(alloc: Global, schema: &Doc) -> Result<Note<'a>, M
     }
 }
 
-/// The note of a keyword that passes and gives these members and items.
+/// The annotation of a keyword that passes. `names`, `indexes`: the members and items that it has evaluated.
 ///
 /// # Errors
-/// `Memory`.
+/// `Memory` if an allocation fails.
 fn annotation_of<'a>(
     alloc: Global,
     kind: Kind,
@@ -93,7 +95,8 @@ fn annotation_of<'a>(
     indexes: &[usize],
 ) -> Result<Note<'a>, Memory>
     ensures { (siblings : Named) (matching held : ℕ)
-        → IfOk result (λ n. note_of n ≡ keyword_says siblings (instance_of value.entry) matching (keyword_of keyword.entry) held (texts_of names.now) indexes.now true kind) }
+        → IfOk result (λ n. note_of n ≡ keyword_says siblings (instance_of value.entry) matching
+        (keyword_of keyword.entry) held (texts_of names.now) indexes.now true kind) }
 {
     match kind {
         Kind::PrefixItems => Ok(true_or_largest(value, indexes)),
@@ -109,18 +112,19 @@ fn annotation_of<'a>(
     }
 }
 
-/// The note of a keyword that fails, of whose applications so many hold. `error`: the error of the assertion that it makes, if it
-/// makes one and the value doesn't hold.
+/// The note of a keyword that fails. `held`: the number of its applications that succeed; `error`: the error of its
+/// assertion, if it makes one and the value doesn't satisfy it.
 ///
 /// # Errors
-/// `Memory`.
+/// `Memory` if an allocation fails.
 fn failure_of<'a>(
     alloc: Global,
     kind: Kind,
     held: usize,
     error: Option<String>,
 ) -> Result<Note<'a>, Memory>
-    ensures { (siblings : Named) (v : JsonValue) (matching : ℕ) (k : table.Keyword) (names : List Bytes) (indexes : List ℕ)
+    ensures { (siblings : Named) (v : JsonValue) (matching : ℕ) (k : table.Keyword) (names : List Bytes)
+        (indexes : List ℕ)
         → option_map string_bytes error ≡ option_map_or (λ a. texts.error a v matching) (asserted k.0 k.1 siblings) None
         → IfOk result (λ n. note_of n ≡ keyword_says siblings v matching k held names indexes false kind) }
 {
@@ -159,9 +163,10 @@ fn error_or_none<'a>(error: Option<String>) -> Note<'a>
     }
 }
 
-// `true` where a schema was applied to every item, else the largest index.
+// `true` if a schema was applied to every item, else the largest index that one was applied to.
 fn true_or_largest<'a>(value: Instance<'a>, indexes: &[usize]) -> Note<'a>
-    ensures { note_of result ≡ spec.true_or (spec.are_all_items (instance_of value.entry) indexes.now) (spec.largest indexes.now) }
+    ensures { note_of result ≡ spec.true_or (spec.are_all_items (instance_of value.entry) indexes.now)
+        (spec.largest indexes.now) }
 {
     if are_all_items(value, indexes) {
         Note::Truth
@@ -170,7 +175,7 @@ fn true_or_largest<'a>(value: Instance<'a>, indexes: &[usize]) -> Note<'a>
     }
 }
 
-// Whether these are all items of an array that isn't empty.
+// Whether these are the indexes of all items of a nonempty array.
 fn are_all_items(value: Instance<'_>, indexes: &[usize]) -> bool
     ensures { result ≡ spec.are_all_items (instance_of value.entry) indexes.now }
 {
@@ -180,7 +185,7 @@ fn are_all_items(value: Instance<'_>, indexes: &[usize]) -> bool
     }
 }
 
-// The largest index that a schema was applied to, which is the last.
+// The largest index that a schema was applied to. It is the last.
 fn largest<'a>(indexes: &[usize]) -> Note<'a>
     ensures { note_of result ≡ spec.largest indexes.now }
 {
@@ -190,7 +195,7 @@ fn largest<'a>(indexes: &[usize]) -> Note<'a>
     }
 }
 
-// Whether a schema was applied to any item.
+// `true` if a schema was applied to any item, else nothing.
 fn if_any<'a>(indexes: &[usize]) -> Note<'a>
     ensures { note_of result ≡ spec.if_any indexes.now }
 {
@@ -200,7 +205,7 @@ fn if_any<'a>(indexes: &[usize]) -> Note<'a>
     }
 }
 
-// `true` where every item of an array matches, else the indexes of those that do.
+// For an array: `true` if every item matches, else the indexes of the items that match.
 fn matching_items<'a>(
     alloc: Global,
     value: Instance<'a>,
@@ -235,13 +240,14 @@ fn as_numbers(alloc: Global, indexes: &[usize]) -> Result<Vec<u64>, Memory>
     Ok(numbers)
 }
 
-// The names of the members that a schema was applied to, as it was.
+// For an object: the names of the members that a schema was applied to, in that order.
 fn members_applied<'a>(
     alloc: Global,
     value: Instance<'a>,
     names: &[&'a str],
 ) -> Result<Note<'a>, Memory>
-    ensures { IfOk result (λ n. note_of n ≡ spec.said_of_object (instance_of value.entry) (spec.names (texts_of names.now))) }
+    ensures { IfOk result (λ n. note_of n ≡ spec.said_of_object (instance_of value.entry)
+        (spec.names (texts_of names.now))) }
 {
     match value {
         Instance::Doc(Doc::Members(_)) => Ok(Note::Names(Names::new(copies(alloc, names)?))),
@@ -259,7 +265,7 @@ fn copies<'a>(alloc: Global, names: &[&'a str]) -> Result<Vec<&'a str>, Memory>
     Ok(all)
 }
 
-// The names of the members that a schema was applied to, ascending, each once.
+// For an object: the names of the members that a schema was applied to, ascending, each once.
 fn members_in_order<'a>(
     alloc: Global,
     value: Instance<'a>,
@@ -287,7 +293,8 @@ fn members_among<'a>(
     value: Instance<'a>,
     among: &[&'a str],
 ) -> Result<Vec<&'a str>, Memory>
-    ensures { IfOk result (λ ns. texts_of ns.items ≡ spec.members_among (instance_of value.entry) (texts_of among.now)) }
+    ensures { IfOk result (λ ns. texts_of ns.items
+        ≡ spec.members_among (instance_of value.entry) (texts_of among.now)) }
 {
     match value.object() {
         Some(members) => names_among(alloc, members, among),
@@ -301,7 +308,8 @@ fn names_among<'a>(
     members: &'a Members,
     among: &[&'a str],
 ) -> Result<Vec<&'a str>, Memory>
-    ensures { IfOk result (λ ns. texts_of ns.items ≡ filter (λ name. among_names name (texts_of among.now)) (map (λ m. m.0) members.now)) }
+    ensures { IfOk result (λ ns. texts_of ns.items
+        ≡ filter (λ name. among_names name (texts_of among.now)) (map (λ m. m.0) members.now)) }
 {
     let set = set_of(alloc, among)?;
     names_in(alloc, members, &set)
@@ -313,7 +321,8 @@ fn names_in<'a>(
     members: &'a Members,
     set: &BTreeSet<&'a str>,
 ) -> Result<Vec<&'a str>, Memory>
-    ensures { IfOk result (λ ns. texts_of ns.items ≡ filter (λ name. is_key set.now.keys name) (map (λ m. m.0) members.now)) }
+    ensures { IfOk result (λ ns. texts_of ns.items
+        ≡ filter (λ name. is_key set.now.keys name) (map (λ m. m.0) members.now)) }
 {
     let mut names = Vec::new(alloc);
     for (name, _) in members.pairs() {
@@ -332,7 +341,7 @@ fn add_name_if<'a>(names: &mut Vec<&'a str>, wanted: bool, name: &'a str) -> Res
     Ok(())
 }
 
-// The error that a value makes under the assertion that the keyword is, if it is one and the value doesn't hold.
+// The error of the keyword's assertion, if it makes one and the value doesn't satisfy it.
 fn error_at(
     alloc: Global,
     here: &Here<'_>,
@@ -342,9 +351,12 @@ fn error_at(
     matching: u64,
 ) -> Result<Option<String>, Memory>
     requires place { is_place here.now.schemas.now place ≡ true }
-    requires keyword { IsKeywordAt (schemas_of here.now.schemas.now) (numbered_site here.now.schemas.now place) (keyword_of keyword) }
-    ensures { IfOk result (λ e. option_map string_bytes e ≡ option_map_or (λ a. texts.error a (instance_of value.entry) matching)
-        (asserted keyword.entry.name.now (value_of keyword.entry.argument.now) (entries (numbered_site here.now.schemas.now place).schema)) None) }
+    requires keyword { IsKeywordAt (schemas_of here.now.schemas.now) (numbered_site here.now.schemas.now place)
+        (keyword_of keyword) }
+    ensures { IfOk result (λ e. option_map string_bytes e
+        ≡ option_map_or (λ a. texts.error a (instance_of value.entry) matching)
+        (asserted keyword.entry.name.now (value_of keyword.entry.argument.now)
+        (entries (numbered_site here.now.schemas.now place).schema)) None) }
 {
     error_of(
         alloc,
@@ -355,7 +367,7 @@ fn error_at(
     )
 }
 
-// The error that a value makes under an assertion, if there is one and the value doesn't hold.
+// The error of an assertion, if there is one and the value doesn't satisfy it.
 fn error_of<'a>(
     alloc: Global,
     searchers: &Searchers<'a>,
@@ -363,7 +375,8 @@ fn error_of<'a>(
     value: Instance<'_>,
     matching: u64,
 ) -> Result<Option<String>, Memory>
-    ensures { IfOk result (λ e. option_map string_bytes e ≡ option_map_or (λ a. texts.error a (instance_of value.entry) matching)
+    ensures { IfOk result (λ e. option_map string_bytes e
+        ≡ option_map_or (λ a. texts.error a (instance_of value.entry) matching)
         (option_map (λ a. a.now) assertion.entry) None) }
 {
     match assertion {
@@ -372,7 +385,8 @@ fn error_of<'a>(
     }
 }
 
-// The verdict has been found before, with the same searcher: a kept one finds it again at little cost.
+// The error of an assertion, if the value doesn't satisfy it. This repeats the check that gave the verdict; with a kept
+// searcher that costs little.
 fn checked<'a>(
     alloc: Global,
     searchers: &Searchers<'a>,
@@ -380,7 +394,8 @@ fn checked<'a>(
     value: Instance<'_>,
     matching: u64,
 ) -> Result<Option<String>, Memory>
-    ensures { IfOk result (λ e. option_map string_bytes e ≡ texts.error assertion.now (instance_of value.entry) matching) }
+    ensures { IfOk result (λ e. option_map string_bytes e
+        ≡ texts.error assertion.now (instance_of value.entry) matching) }
 {
     if holds(alloc, searchers, assertion, value, matching)? {
         return Ok(None);

@@ -1,4 +1,5 @@
-//! When a keyword has its turn among the nodes of its schema.
+//! When a keyword has its turn among the nodes of its schema. They ascend by name, except that `else` comes right after
+//! `if`.
 ghost use Rattle.std.specs.Prelude.{◌≡◌};
 ghost use Rattle.js_bundle.specs.KeywordName.{keyword_name};
 ghost use Rattle.js_eval.specs.code.Standard.{turn_by_name};
@@ -6,20 +7,21 @@ ghost use Rattle.js_eval.specs.code.Turns.{is_ever, turn_of};
 
 use js_bundle::KeywordName;
 
-/// When a keyword has its turn among the nodes of its schema.
+/// When a keyword has its turn among the nodes of its schema. They ascend by name, except that `else` comes right after
+/// `if`.
 #[derive(Clone, Copy)]
 pub(crate) enum Turn {
     /// It has no node.
     Never,
-    /// It has one, and its name stands up to `if`, but isn't `else`.
+    /// Before `else`: its name is `if` or before it, and isn't `else`.
     First,
-    /// It is `else`, whose turn is then.
+    /// It is `else`.
     Second,
-    /// It has one, and its name stands behind `if`.
+    /// After `else`: its name comes after `if`.
     Last,
 }
 
-/// When a keyword of this name has its turn.
+/// The turn of the keyword with this name. `which`: which keyword of the standard it is.
 #[tactic(auto, using(crate::proofs::Standard::turn_if_named))]
 pub(crate) fn turn_of(which: KeywordName, _name: &str) -> Turn
     requires { which ≡ keyword_name _name.now }

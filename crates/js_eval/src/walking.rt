@@ -1,4 +1,5 @@
-//! The walk: a value is judged at a place, once, and each node of its result is reported as it opens and as it closes.
+//! The walk: evaluates a value against the schema at a place. It evaluates each application once, and reports each node
+//! of the result when it opens and when it closes.
 
 mod dynamic_scope;
 mod fault;

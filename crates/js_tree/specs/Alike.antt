@@ -1,4 +1,4 @@
--- Which units are equal once their keyword locations are ignored, as a test that computes.
+-- Which units are equal except for their keyword locations, as a function.
 use Rattle.std.specs.Prelude.{Bool, true, false, ◌&&◌, ◌==◌, nat_eq, []}
 use Rattle.std.specs.Bool.{beq}
 use Rattle.std.specs.Cmp.Lexicographic.{pointwise}
@@ -17,10 +17,10 @@ same_note (indexes a) (indexes b) = pointwise nat_eq a b
 same_note truly truly = true
 same_note _ _ = false
 
--- the units are equal once their keyword locations are ignored
+-- whether the units are equal except for their keyword locations
 abbrev pub same_but_keyword : OutputUnit → OutputUnit → Bool
 same_but_keyword u v = beq u.valid v.valid && (pointwise nat_eq u.instance v.instance && (pointwise nat_eq u.absolute v.absolute && same_note u.note v.note))
 
--- the unit with no keyword location
+-- the unit without its keyword location
 abbrev pub without_keyword : OutputUnit → OutputUnit
 without_keyword u = record { valid = u.valid; keyword = []; absolute = u.absolute; instance = u.instance; note = u.note }

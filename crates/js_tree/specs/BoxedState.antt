@@ -1,4 +1,4 @@
--- What a collector of the whole tree holds.
+-- The state of a collector of the whole tree.
 use Rattle.std.specs.Prelude.{ℕ, Bool, List, [], ◌∷◌, Option, Some, None}
 use Rattle.js_tree.specs.Events.{Event, opening, closing}
 use Rattle.js_tree.specs.Forest.{Forest, empty, tree, forest_of, ◌⊹◌}
@@ -8,7 +8,7 @@ use Rattle.js_tree.specs.Result.{ResultTree}
 use Rattle.js_tree.specs.declared.boxed.OpenNode.{OpenNode}
 use Rattle.js_tree.specs.declared.boxed.Boxed.{Boxed}
 
--- a node that is open: its locations, and the trees below it that have closed
+-- an open node: its locations, and the closed trees below it
 pub record Frame : Type 0 where
   pub keyword : List ℕ
   pub absolute : List ℕ
@@ -26,7 +26,7 @@ boxed_start = record { frames = []; found = None }
 abbrev pub unit_of : Frame → Bool → Note → OutputUnit
 unit_of f valid note = record { valid = valid; keyword = f.keyword; absolute = f.absolute; instance = f.instance; note = note }
 
--- one tree more below
+-- with one more tree below
 abbrev pub with_tree : Frame → OutputUnit → Forest OutputUnit → Frame
 with_tree f u below = record { keyword = f.keyword; absolute = f.absolute; instance = f.instance; below = f.below ⊹ tree u below empty }
 
@@ -35,7 +35,7 @@ abbrev pub boxed_opened : Option ResultTree → List Frame → List ℕ → List
 boxed_opened None frames keyword absolute instance = record { frames = record { keyword = keyword; absolute = absolute; instance = instance; below = empty } ∷ frames; found = None }
 boxed_opened (Some t) frames keyword absolute instance = record { frames = frames; found = Some t }
 
--- where nothing is open nothing closes
+-- without an open node nothing closes
 abbrev pub boxed_closed : Option ResultTree → List Frame → Bool → Note → BoxedState
 boxed_closed found [] valid note = record { frames = []; found = found }
 boxed_closed found (f ∷ []) valid note = record { frames = []; found = Some (record { root = unit_of f valid note; below = f.below }) }

@@ -1,4 +1,4 @@
--- How a forest is written down as a list, and read back: by this a proof tells forests apart.
+-- How a forest is written as a list, and read back; so proofs can tell forests apart.
 use Rattle.std.specs.Prelude.{◌≡◌, ◌⊎◌, ℕ, Bool, List, [], ◌∷◌, Option, Some, None, refl}
 use mathlib.Core.Logic.{inl, inr}
 use Rattle.std.proofs.Common.{ap}
@@ -9,7 +9,7 @@ use Rattle.js_tree.specs.Forest.{Forest, empty, tree, Rose}
 use Rattle.js_tree.specs.Note.{Note, silent, error, value, names, index, indexes, truly}
 use Rattle.js_tree.specs.OutputUnit.{OutputUnit}
 
--- the forest read so far, from the back, and those that wait to stand after what is read next
+-- the forest read so far, from the back, and those that will come after what is read next
 abbrev Reading : Type 0 → Type 0
 Reading A = Forest A × List (Forest A)
 

@@ -1,13 +1,13 @@
--- A tree told node by node: each node opens, then its children are told in their order, and then it closes.
+-- A tree as events: each node opens, then its children's events follow in order, and then it closes.
 use Rattle.std.specs.Prelude.{◌≡◌, ℕ, List, [], ◌∷◌, ◌++◌, Bool}
 use Rattle.js_tree.specs.Forest.{Forest, empty, tree, Rose}
 use Rattle.js_tree.specs.Note.{Note}
 use Rattle.js_tree.specs.OutputUnit.{OutputUnit}
 
--- ---- over any label: what is told when a node opens, and when it closes
+-- ---- over any label, with an event for a node that opens and one for a node that closes
 
 module _ {A Event : Type 0} (opened closed : A → Event) where
-  -- the events of trees side by side
+  -- the events of sibling trees
   abbrev pub told : Forest A → List Event
   told empty = []
   told (tree a below after) = opened a ∷ (told below ++ (closed a ∷ told after))
@@ -17,7 +17,7 @@ module _ {A Event : Type 0} (opened closed : A → Event) where
 pub data Event : Type 0 where
   -- a node opens: its keyword location, its absolute keyword location and its instance location
   opening : List ℕ → List ℕ → List ℕ → Event
-  -- the last node that opened and hasn't closed closes: its verdict and its note
+  -- the innermost open node closes: its verdict and its note
   closing : Bool → Note → Event
 
 abbrev pub opening_of : OutputUnit → Event
@@ -26,7 +26,7 @@ opening_of u = opening u.keyword u.absolute u.instance
 abbrev pub closing_of : OutputUnit → Event
 closing_of u = closing u.valid u.note
 
--- the events of trees side by side
+-- the events of sibling trees
 abbrev pub events_of : Forest OutputUnit → List Event
 events_of = told opening_of closing_of
 
@@ -36,12 +36,12 @@ events t = events_of (tree t.root t.below empty)
 
 -- ---- states
 
--- Over the events, one after another, `takes` leads from the state c to the state d.
+-- `takes`, over the events one after another, leads from the state c to the state d.
 abbrev pub Passes : {C E : Type 0} → (C → E → C → Type 0) → List E → C → C → Type 0
 Passes takes [] c d = c ≡ d
 Passes takes (e ∷ es) c d = (m : _) × takes c e m × Passes takes es m d
 
--- the state after the events, where each event leads from each state to one
+-- the state after the events, for a function `after` from a state and an event to the next state
 abbrev pub after_all : {S E : Type 0} → (S → E → S) → S → List E → S
 after_all after s [] = s
 after_all after s (e ∷ es) = after_all after (after s e) es

@@ -3,7 +3,7 @@ use Rattle.std.specs.Prelude.{ℕ, suc, List, [], ◌∷◌, ◌++◌}
 use Rattle.js_tree.specs.Forest.{Forest, empty, tree, Rose, node_count}
 
 module _ {A : Type 0} where
-  -- of trees side by side
+  -- the flat form of sibling trees
   abbrev pub flat_of : Forest A → List (A × ℕ)
   flat_of empty = []
   flat_of (tree a below after) = (a, suc (node_count below)) ∷ (flat_of below ++ flat_of after)

@@ -1,4 +1,4 @@
--- What a collector of the flat form holds.
+-- The state of a collector of the flat form.
 use Rattle.std.specs.Prelude.{◌≡◌, ℕ, zero, suc, ◌-◌, Bool, false, if◌then◌else◌, List, [], ◌∷◌, ◌++◌, length, map}
 use Rattle.js_tree.specs.Events.{Event, opening, closing}
 use Rattle.js_tree.specs.Flat.{flat}
@@ -11,7 +11,7 @@ use Rattle.js_tree.specs.declared.flat.Flat.{Flat}
 abbrev pub FlatRow : Type 0
 FlatRow = OutputUnit × ℕ
 
--- the rows, and the numbers of those whose nodes are open, the innermost first
+-- the rows, and the indexes of those whose nodes are open, the innermost first
 pub record FlatState : Type 0 where
   pub rows : List FlatRow
   pub numbers : List ℕ
@@ -19,24 +19,24 @@ pub record FlatState : Type 0 where
 abbrev pub flat_start : FlatState
 flat_start = record { rows = []; numbers = [] }
 
--- a whole tree's
+-- the state after a whole tree
 abbrev pub whole_tree : ResultTree → FlatState
 whole_tree t = record { rows = flat t; numbers = [] }
 
--- it is a whole tree's
+-- it is the state after some whole tree
 abbrev pub IsWholeTree : FlatState → Type 0
 IsWholeTree s = (t : ResultTree) × (s ≡ whole_tree t)
 
--- the units with a note
+-- the noted units
 abbrev pub noted_of : List FlatRow → List OutputUnit
 noted_of [] = []
 noted_of (r ∷ rows) = if noted r.0 then r.0 ∷ noted_of rows else noted_of rows
 
--- of a node that is open: nothing is known yet but where it is
+-- the row of an open node, of which only the locations are known
 abbrev pub opening_row : List ℕ → List ℕ → List ℕ → FlatRow
 opening_row keyword absolute instance = (record { valid = false; keyword = keyword; absolute = absolute; instance = instance; note = silent }, 0)
 
--- no node opens after the root has closed: when there are rows, and none is open
+-- no node opens after the root has closed, that is if there are rows and none is open
 abbrev pub flat_opened : List FlatRow → List ℕ → FlatRow → FlatState
 flat_opened [] [] row = record { rows = row ∷ []; numbers = 0 ∷ [] }
 flat_opened (r ∷ rows) [] row = record { rows = r ∷ rows; numbers = [] }
@@ -48,13 +48,13 @@ closed_unit u valid note = record { valid = valid; keyword = u.keyword; absolute
 abbrev pub closed_row : FlatRow → Bool → Note → ℕ → FlatRow
 closed_row row valid note size = (closed_unit row.0 valid note, size)
 
--- the row of that number is closed
+-- with the row of this index closed
 abbrev pub with_closed : ℕ → Bool → Note → ℕ → List FlatRow → List FlatRow
 with_closed n valid note size [] = []
 with_closed zero valid note size (r ∷ rows) = closed_row r valid note size ∷ rows
 with_closed (suc n) valid note size (r ∷ rows) = r ∷ with_closed n valid note size rows
 
--- where nothing is open nothing closes
+-- without an open node nothing closes
 abbrev pub flat_closed : List FlatRow → List ℕ → Bool → Note → FlatState
 flat_closed rows [] valid note = record { rows = rows; numbers = [] }
 flat_closed rows (n ∷ numbers) valid note = record { rows = with_closed n valid note (length rows - n) rows; numbers = numbers }

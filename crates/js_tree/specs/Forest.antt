@@ -1,9 +1,9 @@
--- Ordered trees over any label, and trees side by side.
+-- Ordered trees with labels of any type, and forests: lists of sibling trees.
 use Rattle.std.specs.Prelude.{ℕ, suc, ◌+◌, ◌≤◌, max, List, [], ◌∷◌}
 use Rattle.std.proofs.Common.{arith}
 use denote.Param.Weighed.{most}
 
--- trees side by side: the first tree's label, the forest below it, and the trees after it
+-- sibling trees: the first tree's label, the forest below it, and the trees after it
 pub data Forest (A : Type 0) : Type 0 where
   empty : Forest A
   tree : A → Forest A → Forest A → Forest A
@@ -29,17 +29,17 @@ abbrev pub node_count : {A : Type 0} → Forest A → ℕ
 node_count empty = 0
 node_count (tree a below after) = suc (node_count below + node_count after)
 
--- how many trees stand side by side
+-- how many sibling trees there are
 abbrev pub tree_count : {A : Type 0} → Forest A → ℕ
 tree_count empty = 0
 tree_count (tree a below after) = suc (tree_count after)
 
--- how many nodes stand on the longest way down
+-- how many nodes the longest path down has
 abbrev pub height : {A : Type 0} → Forest A → ℕ
 height empty = 0
 height (tree a below after) = max (suc (height below)) (height after)
 
--- a tree is smaller than the forest that it stands in
+-- a tree is smaller than the forest that it is in
 pub most_le-node_count : {A : Type 0} → (ts : List (Rose A)) → most (λ t. (node_count t.below + node_count t.below + 2) + 1) ts ≤ node_count (forest_of ts) + node_count (forest_of ts) + 1
 most_le-node_count [] = omega arith
 most_le-node_count (t ∷ ts) = omega (arith, most_le-node_count ts)

@@ -1,5 +1,5 @@
--- The output formats as JSON values: the four of the standard (JSON Schema Core, section 12.4; the members of a node are those
--- of 12.3), and merged, which is this project's own.
+-- The output formats as JSON values: the four of the standard (JSON Schema Core, section 12.4; the members of a node
+-- are those of 12.3), and merged, which is this project's own.
 use Rattle.std.specs.Prelude.{ℕ, pos, Bool, true, false, not, List, [], ◌∷◌, ◌++◌, map, Option, Some, None, codes}
 use Rattle.js_doc.specs.Value.{Value, truth, whole, text, list, object, items, members}
 use Rattle.js_tree.specs.Forest.{Forest, empty, tree}
@@ -42,7 +42,7 @@ abbrev pub array_of_some : List Value → Option Value
 array_of_some [] = None
 array_of_some (v ∷ vs) = Some (list (items (v ∷ vs)))
 
--- a node over the values of its children, which stand under `annotations` where it passes, and under `errors` where it fails
+-- a node with the values of its children, which are its `annotations` if it passes, and its `errors` if it fails
 abbrev pub node_value : OutputUnit → List Value → Value
 node_value u children =
     object (members (
@@ -72,12 +72,12 @@ abbrev pub list_name : Bool → List ℕ
 list_name true = codes "annotations"
 list_name false = codes "errors"
 
--- the verdict, and the units, each as a node without children, in an array, which is there when empty too
+-- the verdict, and an array of the units, each without children; the array is there even if it is empty
 abbrev pub unit_list : ResultTree → Value
 unit_list t = object (members ((list_name t.root.valid, list (items (map (λ u. node_value u []) (units t)))) ∷ (codes "valid", truth t.root.valid) ∷ []))
 
--- what a format shows of a tree: of the pruned tree for basic, of the condensed one for detailed, of the merged one for merged,
--- and of the whole tree else
+-- what a format shows, given the tree that it shows: the pruned tree for basic, the condensed one for detailed, the
+-- merged one for merged, and else the whole tree
 abbrev pub shown : Format → ResultTree → Value
 shown Flag t = flag t.root.valid
 shown Basic t = unit_list t
@@ -85,7 +85,7 @@ shown Detailed t = verbose t
 shown Merged t = verbose t
 shown Verbose t = verbose t
 
--- that tree, made of the whole one: a format shows of it what `form` says (only private functions cite it)
+-- that tree, made from the whole one: the format shows of it what `form` says (only private functions cite it)
 abbrev pub tree_of_format : Format → ResultTree → ResultTree
 tree_of_format Flag t = t
 tree_of_format Basic t = pruned t

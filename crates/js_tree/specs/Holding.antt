@@ -1,4 +1,4 @@
--- What each collector holds after the events of a tree.
+-- The state of each collector after the events of a tree.
 use Rattle.std.specs.Prelude.{◌≡◌, suc, ◌<◌, ◌^◌, [], Some}
 use Rattle.js_tree.specs.BoxedState.{boxed_after, boxed_start, boxed_state}
 use Rattle.js_tree.specs.Events.{events, Passes}

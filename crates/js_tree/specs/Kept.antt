@@ -1,16 +1,16 @@
--- The one tree in which every run of the two condensing rules ends, with no word on runs or steps.
--- `noted` tells which labels have a note.
+-- The kept tree: the one in which every run of the two condensing rules ends, defined without runs or steps. `noted` is
+-- true of the labels with a note.
 use Rattle.std.specs.Prelude.{ℕ, suc, Bool, ◌||◌, if◌then◌else◌}
 use Rattle.js_tree.specs.Forest.{Forest, empty, tree, Rose, ◌⊹◌}
 use Rattle.js_tree.specs.Step.{at_least_one, at_least_two}
 
 module _ {A : Type 0} (noted : A → Bool) where
-  -- how many of the trees hold a note
+  -- how many of the trees contain a note
   abbrev pub noted_trees : Forest A → ℕ
   noted_trees empty = 0
   noted_trees (tree a below after) = if (noted a || at_least_one (noted_trees below)) then suc (noted_trees after) else noted_trees after
 
-  -- a node is kept if it has a note, or if the trees of at least two of its children hold one
+  -- a node is kept if it has a note, or if the trees of at least two of its children contain one
   abbrev pub is_kept : A → Forest A → Bool
   is_kept a below = noted a || at_least_two (noted_trees below)
 

@@ -1,6 +1,6 @@
--- A third rule beside the two that condense: a node goes, with all below it, where an earlier sibling is alike. And the
--- one tree in which every run of the three rules ends, with no word on runs or steps.
--- `noted` tells which labels have a note, and `same` which are equal once what doesn't count is ignored.
+-- A third rule besides the two that condense: a node is dropped with its subtree if an earlier sibling is alike. And
+-- the merged tree: the one in which every run of the three rules ends, defined without runs or steps. `noted` is true
+-- of the labels with a note, and `same` of labels that are equal in all that counts.
 use Rattle.std.specs.Prelude.{◌≡◌, Bool, true, false, not, ◌||◌, ◌&&◌, if◌then◌else◌}
 use Rattle.js_tree.specs.Forest.{Forest, empty, tree, Rose, ◌⊹◌}
 use Rattle.js_tree.specs.Step.{ForestStep, stands}
@@ -8,14 +8,14 @@ use Rattle.js_tree.specs.Step.{ForestStep, stands}
 -- ---- alike trees
 
 module _ {A : Type 0} (same : A → A → Bool) where
-  -- the trees are equal once what doesn't count is ignored in each node
+  -- the trees are equal in all that counts, node by node
   abbrev pub alike : Forest A → Forest A → Bool
   alike empty empty = true
   alike empty (tree b under others) = false
   alike (tree a below after) empty = false
   alike (tree a below after) (tree b under others) = (same a b && alike below under) && alike after others
 
-  -- so are the tree of a over the one and the tree of b over the other
+  -- the tree of a over the one forest and the tree of b over the other are alike
   abbrev pub alike_trees : A → Forest A → A → Forest A → Bool
   alike_trees a below b under = same a b && alike below under
 
@@ -52,7 +52,7 @@ module _ {A : Type 0} (same : A → A → Bool) where
 module _ {A : Type 0} (noted : A → Bool) (same : A → A → Bool) where
   -- ---- the merged tree
 
-  -- the node over the trees, if it has a note or there are at least two of them, else the trees themselves
+  -- the node over the trees if it has a note or there are at least two of them, else the trees themselves
   abbrev pub over : A → Forest A → Forest A
   over a trees = if stands noted a trees then tree a trees empty else trees
 
@@ -70,7 +70,7 @@ module _ {A : Type 0} (noted : A → Bool) (same : A → A → Bool) where
 
   -- ---- steps and runs
 
-  -- A step of one of the three rules, at one node of trees that stand after others, which stay as they are.
+  -- A step of one of the three rules at one node of trees, after other trees that stay as they are.
   pub data MergeStep : Forest A → Forest A → Forest A → Type 0 where
     condensed : {before f g : Forest A} → ForestStep noted f g → MergeStep before f g
     doubled : {before below after : Forest A} {a : A} → has_alike same before a below ≡ true → MergeStep before (tree a below after) after
@@ -82,11 +82,11 @@ module _ {A : Type 0} (noted : A → Bool) (same : A → A → Bool) where
     ended : {before f : Forest A} → MergeRun before f f
     then_on : {before f g h : Forest A} → MergeStep before f g → MergeRun before g h → MergeRun before f h
 
-  -- each node stands over trees of which none are alike
+  -- no condensing step is possible at any node, and no node has children that are alike
   abbrev pub all_merged : Forest A → Bool
   all_merged empty = true
   all_merged (tree a below after) = (stands noted a below && none_alike same empty below) && (all_merged below && all_merged after)
 
-  -- no step leaves the trees, where none stand before them
+  -- no step is possible in the trees, if there are none before them
   abbrev pub MergeNormal : Forest A → Type 0
   MergeNormal f = (g : Forest A) → MergeStep empty f g → ⊥

@@ -1,4 +1,4 @@
--- The third rule said of result trees, where keyword locations don't count.
+-- The third rule on result trees. It ignores keyword locations.
 use Rattle.std.specs.Prelude.{◌≡◌}
 use Rattle.js_tree.specs.Alike.{same_but_keyword, without_keyword}
 use Rattle.js_tree.specs.Forest.{Forest, empty, tree}
@@ -6,7 +6,7 @@ use Rattle.js_tree.specs.Merged.{merged_by, MergeStep, MergeRun, MergeNormal}
 use Rattle.js_tree.specs.OutputUnit.{OutputUnit, noted}
 use Rattle.js_tree.specs.Result.{ResultTree}
 
--- the trees with no keyword locations
+-- the trees without keyword locations
 abbrev pub without_keywords : Forest OutputUnit → Forest OutputUnit
 without_keywords empty = empty
 without_keywords (tree u below after) = tree (without_keyword u) (without_keywords below) (without_keywords after)
@@ -23,6 +23,6 @@ StepOfThree t u = (u.root ≡ t.root) × MergeStep noted same_but_keyword empty 
 abbrev pub RunOfThree : ResultTree → ResultTree → Type 0
 RunOfThree t u = (u.root ≡ t.root) × MergeRun noted same_but_keyword empty t.below u.below
 
--- no step of the three rules leaves the tree
+-- no step of the three rules is possible in the tree
 abbrev pub NormalOfThree : ResultTree → Type 0
 NormalOfThree t = MergeNormal noted same_but_keyword t.below

@@ -1,4 +1,4 @@
--- Moves: a rule at a node, which is named by its number in preorder, the root's 0.
+-- Moves: a rule, and the node that it is applied to, given by its index in preorder. The root's index is 0.
 use Rattle.std.specs.Prelude.{ℕ, zero, suc, ◌-◌, Bool, true, false, ltb, if◌then◌else◌, List, [], ◌∷◌, Option, Some, None}
 use Rattle.std.specs.List.{list_all}
 use Rattle.js_tree.specs.Forest.{Forest, empty, tree, Rose, ◌⊹◌, node_count}
@@ -22,24 +22,24 @@ module _ {A : Type 0} (noted : A → Bool) where
   without_leaf a empty after = if noted a then None else Some after
   without_leaf a (tree b below others) after = None
 
-  -- with its only child in the first node's place, if that has no note
+  -- with the first node replaced by its only child, if the node has no note
   abbrev pub with_only_child : A → Forest A → Forest A → Option (Forest A)
   with_only_child a empty after = None
   with_only_child a (tree b below empty) after = if noted a then None else Some (tree b below after)
   with_only_child a (tree b below (tree c under others)) after = None
 
--- without the first tree, if one of those before it is alike
+-- without the first tree, if an earlier one is alike
 abbrev pub without_alike : {A : Type 0} → (A → A → Bool) → Forest A → A → Forest A → Forest A → Option (Forest A)
 without_alike same before a below after = if has_alike same before a below then Some after else None
 
 module _ {A : Type 0} (noted : A → Bool) (same : A → A → Bool) where
-  -- the rule at the first node of `tree a below after`, which stand after other trees
+  -- the rule at the first node of `tree a below after`, with these other trees before it
   abbrev pub moved_first : Rule → Forest A → A → Forest A → Forest A → Option (Forest A)
   moved_first Drop before = without_leaf noted
   moved_first Lift before = with_only_child noted
   moved_first Merge before = without_alike same before
 
-  -- the rule at the node of that number, the first node's being 0, of trees that stand after others
+  -- the rule at the node with this index, with other trees before; the first node's index is 0
   abbrev pub moved_at : Rule → Forest A → Forest A → ℕ → Option (Forest A)
   moved_at rule before empty n = None
   moved_at rule before (tree a below after) zero = moved_first rule before a below after
@@ -47,26 +47,26 @@ module _ {A : Type 0} (noted : A → Bool) (same : A → A → Bool) where
       if ltb n (node_count below) then mapped (λ f. tree a f after) (moved_at rule empty below n)
       else mapped (λ f. tree a below f) (moved_at rule (before ⊹ tree a below empty) after (n - node_count below))
 
-  -- the same in a tree, whose root has the number 0 and stays
+  -- the same in a tree; its root has the index 0 and stays
   abbrev pub moved_below_root : Rule → ℕ → Rose A → Option (Rose A)
   moved_below_root rule zero t = None
   moved_below_root rule (suc n) t = mapped (λ f. record { root = t.root; below = f }) (moved_at rule empty t.below n)
 
-  -- the tree after the move, where it is possible
+  -- the tree after the move, if it is possible
   abbrev pub moved_by : Move → Rose A → Option (Rose A)
   moved_by m t = moved_below_root m.rule m.position t
 
-  -- the tree after the moves, where each is possible in its turn
+  -- the tree after the moves, if each is possible when it is made
   abbrev pub replayed_by : List Move → Rose A → Option (Rose A)
   replayed_by [] t = Some t
   replayed_by (m ∷ ms) t = chained (replayed_by ms) (moved_by m t)
 
--- it is one of the two rules that condense
+-- whether it is one of the two rules that condense
 abbrev pub of_two : Rule → Bool
 of_two Drop = true
 of_two Lift = true
 of_two Merge = false
 
--- each move is by one of the two
+-- whether each move is by one of the two
 abbrev pub all_of_two : List Move → Bool
 all_of_two = list_all (λ m. of_two m.rule)

@@ -1,13 +1,12 @@
--- What a node of a result says: an error where it fails, an annotation where it passes, or nothing
--- (JSON Schema Core, section 12.3.4).
+-- The note of a node: an error if it fails, an annotation if it passes, or nothing (JSON Schema Core, section 12.3.4).
 use Rattle.std.specs.Prelude.{ℕ, List, Bool, true, false}
 use Rattle.js_doc.specs.Value.{Value}
 
--- an annotation that is an empty list of names or of indexes is one
+-- an empty list of names or of indexes is an annotation too
 pub data Note : Type 0 where
   silent : Note
   error : List ℕ → Note
-  -- the keyword's argument, as the schema has it
+  -- the keyword's value in the schema
   value : Value → Note
   -- names of members, the largest index, indexes of items, and `true`
   names : List (List ℕ) → Note

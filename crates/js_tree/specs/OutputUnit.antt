@@ -1,4 +1,4 @@
--- An output unit: what stands at a node of a result (JSON Schema Core, section 12.3).
+-- An output unit: the content of a node of a result tree (JSON Schema Core, section 12.3).
 use Rattle.std.specs.Prelude.{ℕ, List, Bool}
 use Rattle.js_tree.specs.Note.{Note, speaks}
 

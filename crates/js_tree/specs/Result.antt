@@ -1,5 +1,5 @@
--- Result trees: trees whose labels are output units (JSON Schema Core, section 12.4.4). The definitions of this crate,
--- said of them.
+-- Result trees: trees whose labels are output units (JSON Schema Core, section 12.4.4), and this crate's definitions
+-- for them.
 use Rattle.std.specs.Prelude.{Bool, true, false, not, List, Option}
 use Rattle.js_tree.specs.Alike.{same_but_keyword}
 use Rattle.js_tree.specs.Forest.{Rose}
@@ -35,7 +35,7 @@ units = units_by noted
 
 -- ---- pruning
 
--- the unit has the verdict
+-- whether the unit has this verdict
 abbrev pub has_verdict : Bool → OutputUnit → Bool
 has_verdict true u = u.valid
 has_verdict false u = not u.valid

@@ -1,4 +1,4 @@
--- What the notes of the code are seen as.
+-- What contracts see of the code's notes.
 use Rattle.js_doc.specs.Seen.{value_of}
 use Rattle.js_tree.specs.Note as spec
 use Rattle.js_tree.specs.declared.note.Note.{Note}

@@ -1,5 +1,5 @@
 -- The two rules that condense a tree, applied at one node anywhere below its root, and runs of them.
--- `noted` tells which labels have a note. Nothing here knows in which order or where rules are applied.
+-- `noted` is true of the labels with a note. Rules may be applied in any order, anywhere.
 use Rattle.std.specs.Prelude.{◌≡◌, ℕ, zero, suc, Bool, true, false, ◌||◌, ◌&&◌}
 use Rattle.js_tree.specs.Forest.{Forest, empty, tree, Rose, tree_count}
 
@@ -26,7 +26,7 @@ module _ {A : Type 0} (noted : A → Bool) where
     done : {f : Forest A} → ForestRun f f
     next : {f g h : Forest A} → ForestStep f g → ForestRun g h → ForestRun f h
 
-  -- no step leaves the forest
+  -- no step is possible in the forest
   abbrev pub NormalForest : Forest A → Type 0
   NormalForest f = (g : Forest A) → ForestStep f g → ⊥
 
@@ -42,7 +42,7 @@ module _ {A : Type 0} (noted : A → Bool) where
   abbrev pub stands : A → Forest A → Bool
   stands a below = noted a || at_least_two (tree_count below)
 
-  -- each node stands: the test of a normal forest
+  -- no step is possible at any node: the test of a normal forest
   abbrev pub all_stand : Forest A → Bool
   all_stand empty = true
   all_stand (tree a below after) = stands a below && (all_stand below && all_stand after)

@@ -1,4 +1,4 @@
--- What only private functions speak of: no public clause cites it.
+-- Definitions for private functions only: no public clause cites them.
 pub mod Compacting
 pub mod Nesting
 pub mod NodeText

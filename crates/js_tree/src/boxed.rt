@@ -1,4 +1,4 @@
-//! The whole tree of a result.
+//! A collector that builds the whole result tree.
 ghost use Rattle.std.specs.Prelude.{◌≡◌};
 ghost use Rattle.js_tree.specs.BoxedState.{frame_of, unit_of};
 ghost use Rattle.js_tree.specs.Seen.{note_of};
@@ -10,19 +10,19 @@ use crate::unit::Unit;
 use js_doc::Memory;
 use std::alloc::Global;
 
-// A node that is open, and the trees below it that have closed.
+// A node that has opened and not closed yet, with the finished subtrees below it.
 #[derive(Debug, Drop)]
 struct OpenNode<'a> {
     head: Head,
     children: Vec<Tree<'a>>,
 }
 
-/// Collects the whole tree. A call that is refused leaves what is held as it was. Opening a node after the root has
-/// closed, or closing one where none is open, changes nothing and answers Ok.
+/// A collector that builds the whole tree. After an error it is as it was. `enter` after the root has closed, and
+/// `leave` without an open node, change nothing and return Ok.
 #[derive(Drop)]
 pub struct Boxed<'a> {
     alloc: Global,
-    // The innermost is the last.
+    // The open nodes, from the root down.
     nodes: Vec<OpenNode<'a>>,
     found: Option<Tree<'a>>,
 }
@@ -30,7 +30,7 @@ pub struct Boxed<'a> {
 impl<'a> Boxed<'a> {
     ghost use Rattle.js_tree.specs.BoxedState.{boxed_start, boxed_state};
 
-    /// Of nothing yet. Takes no memory.
+    /// A collector without a tree. Allocates nothing.
     pub fn new(alloc: Global) -> Boxed<'a>
         ensures { boxed_state result ≡ boxed_start }
     {
@@ -41,7 +41,7 @@ impl<'a> Boxed<'a> {
         }
     }
 
-    /// The tree; None before its root has closed.
+    /// The tree, or None if its root hasn't closed.
     pub fn tree(self) -> Option<Tree<'a>>
         ensures { result ≡ (boxed_state self.entry).found }
     {
@@ -63,7 +63,8 @@ impl<'a> Collector<'a> for Boxed<'a> {
     ghost takes = { λ a e b. boxed_state b ≡ boxed_after (boxed_state a) e };
 
     fn enter(&mut self, head: Head) -> Result<(), Memory>
-        ensures takes { IfOk result (λ _. boxed_state self.new ≡ boxed_after (boxed_state self.old) (opening head.keyword head.absolute head.instance)) }
+        ensures takes { IfOk result (λ _. boxed_state self.new
+            ≡ boxed_after (boxed_state self.old) (opening head.keyword head.absolute head.instance)) }
         ensures kept { IfErr result (λ _. boxed_state self.new ≡ boxed_state self.old) }
         ensures ok { IsSome (boxed_state self.old).found → IsOk result }
     {
@@ -78,7 +79,8 @@ impl<'a> Collector<'a> for Boxed<'a> {
     }
 
     fn leave(&mut self, valid: bool, note: Note<'a>) -> Result<(), Memory>
-        ensures takes { IfOk result (λ _. boxed_state self.new ≡ boxed_after (boxed_state self.old) (closing valid (note_of note.entry))) }
+        ensures takes { IfOk result (λ _. boxed_state self.new
+            ≡ boxed_after (boxed_state self.old) (closing valid (note_of note.entry))) }
         ensures kept { IfErr result (λ _. boxed_state self.new ≡ boxed_state self.old) }
         ensures ok { (boxed_state self.old).frames ≡ [] → IsOk result }
     {
@@ -91,7 +93,7 @@ impl<'a> Collector<'a> for Boxed<'a> {
                 }
                 Some(mut parent) => match parent.children.reserve(1) {
                     Ok(()) => {
-                        // There is room for both.
+                        // Both pushes succeed, because there is room.
                         let _ = parent.children.push(closed(node, valid, note));
                         let _ = self.nodes.push(parent);
                         Ok(())
@@ -107,9 +109,12 @@ impl<'a> Collector<'a> for Boxed<'a> {
     }
 }
 
-/// The tree of a node that closes.
+/// The tree of a node that closes with this verdict and this note.
 fn closed<'a>(node: OpenNode<'a>, valid: bool, note: Note<'a>) -> Tree<'a>
-    ensures { result ≡ record { root = unit_of (frame_of node.entry) valid (note_of note.entry); below = (frame_of node.entry).below } }
+    ensures { result ≡ record {
+      root = unit_of (frame_of node.entry) valid (note_of note.entry);
+      below = (frame_of node.entry).below;
+    } }
 {
     let OpenNode { head, children } = node;
     Tree {

@@ -12,23 +12,26 @@ ghost use Rattle.js_tree.specs.declared.flat.Row.{Row as OfRow};
 use crate::flat::{Flat, Row};
 use crate::unit::Unit;
 
-/// Which nodes below the root are left.
+/// Which nodes below the root stay.
 #[derive(Clone, Copy)]
 enum Keep {
-    /// Those that have the verdict, as all between them and the root have.
+    /// Those with this verdict, if every node between them and the root has it too.
     Verdict(bool),
-    /// Those that condensing keeps.
+    /// Those that condensing keeps: each has a note, or at least two children of whose subtrees something is left.
     Noted,
 }
 
-/// What is left of the trees of a node's children: of how many trees something, and how many nodes.
+/// What is left of the subtrees of a node's children.
 #[derive(Clone, Copy)]
 struct Remaining {
+    /// The number of subtrees of which something is left.
     trees: usize,
+    /// The number of nodes that are left of all of them.
     nodes: usize,
 }
 
 impl Keep {
+    /// Whether a node stays, if something is left of this many of its children's subtrees.
     fn stays(self, unit: &Unit, trees: usize) -> bool
         ensures { result ≡ stays self unit.now trees }
     {
@@ -38,6 +41,8 @@ impl Keep {
         }
     }
 
+    /// The number of nodes that are left of a subtree. `here`: whether its root stays; `below`: how many are left below
+    /// it.
     fn room(self, here: bool, below: usize) -> usize
         requires { suc below < 2 ^ 64 }
         ensures { result ≡ room self here below }
@@ -51,6 +56,7 @@ impl Keep {
         }
     }
 
+    /// The number of rows that are dropped with the root of a subtree. `size`: the number of rows of the subtree.
     fn gone_with(self, size: usize) -> usize
         ensures { result ≡ gone_with self size }
     {
@@ -61,8 +67,8 @@ impl Keep {
     }
 }
 
-/// The rows of the pruned tree: see `prune`. The rows have to be a whole tree's. Takes no memory, and time linear in
-/// the rows.
+/// The flat form of the pruned tree: see `prune`. The rows must be those of a whole tree. Takes linear time, and
+/// allocates nothing.
 pub fn flat_prune(flat: Flat) -> Flat
     requires { IsWholeTree (flat_state flat) }
     ensures { (t : ResultTree) → flat_state flat.entry ≡ whole_tree t → flat_state result ≡ whole_tree (pruned t) }
@@ -73,8 +79,8 @@ pub fn flat_prune(flat: Flat) -> Flat
     flat
 }
 
-/// The rows of the condensed tree: see `condense`. The rows have to be a whole tree's. Takes no memory, and time linear
-/// in the rows.
+/// The flat form of the condensed tree: see `condense`. The rows must be those of a whole tree. Takes linear time, and
+/// allocates nothing.
 pub fn flat_condense(flat: Flat) -> Flat
     requires { IsWholeTree (flat_state flat) }
     ensures kept { (t : ResultTree) → flat_state flat.entry ≡ whole_tree t → flat_state result ≡ whole_tree (kept t) }
@@ -87,7 +93,8 @@ pub fn flat_condense(flat: Flat) -> Flat
 
 fn keep_rows(rows: &mut Vec<Row>, keep: Keep)
     requires { (t : ResultTree) × (map row_of rows.old.items ≡ flat t) }
-    ensures { (t : ResultTree) → map row_of rows.old.items ≡ flat t → map row_of rows.new.items ≡ flat (left_of keep t) }
+    ensures { (t : ResultTree) → map row_of rows.old.items ≡ flat t
+        → map row_of rows.new.items ≡ flat (left_of keep t) }
 {
     mark(rows, keep);
     let count = gather(rows, keep);
@@ -95,7 +102,7 @@ fn keep_rows(rows: &mut Vec<Row>, keep: Keep)
     rows[0].size = count;
 }
 
-/// Marks each row, from the back, so that what stands below a node is marked before it.
+/// Records in each row what is left of its subtree. It goes from the back, because a node depends on the rows below it.
 fn mark(rows: &mut [Row], keep: Keep)
     requires { (f : Forest OutputUnit) × (map row_of rows.old ≡ flat_of f) }
     ensures same { map row_of rows.new ≡ map row_of rows.old }
@@ -111,11 +118,12 @@ fn mark(rows: &mut [Row], keep: Keep)
     }
 }
 
-/// What is left of the trees whose rows stand from `first` to `end`.
+/// What is left of the trees whose rows are `first..end`.
 fn children(rows: &[Row], first: usize, end: usize) -> Remaining
     requires within { end ≤ length rows.now }
     requires marked { AreMarkedTrees rows.now first end }
-    ensures { (k : OfKeep) (f : Forest OutputUnit) (rest : List OfRow) → drop first rows.now ≡ marked k f ++ rest → first + node_count f ≡ end
+    ensures { (k : OfKeep) (f : Forest OutputUnit) (rest : List OfRow) → drop first rows.now ≡ marked k f ++ rest
+        → first + node_count f ≡ end
         → (result.trees ≡ left_trees k f) × (result.nodes ≡ node_count (left k f)) }
 {
     let mut remaining = Remaining { trees: 0, nodes: 0 };
@@ -131,15 +139,16 @@ fn children(rows: &[Row], first: usize, end: usize) -> Remaining
     remaining
 }
 
-/// Moves the root's row and those that are left to the front, with their new sizes but the root's, and answers how many
-/// they are.
+/// Moves the root's row and the rows that stay to the front, and returns their number. Each but the root's gets its new
+/// size.
 fn gather(rows: &mut [Row], keep: Keep) -> usize
     requires { 0 < length rows.old }
     ensures at_most { result ≤ length rows.old }
-    ensures gathered { map row_of (take result rows.new) ≡ map row_of (take 1 rows.old) ++ gathered keep 0 (drop 1 rows.old) }
+    ensures gathered { map row_of (take result rows.new)
+        ≡ map row_of (take 1 rows.old) ++ gathered keep 0 (drop 1 rows.old) }
 {
     let mut count = 1;
-    // How many rows go with one before them.
+    // The number of rows still to be dropped with a node above them.
     let mut gone = 0;
     for i in 1..rows.len() {
         if gone > 0 {

@@ -1,4 +1,4 @@
-//! Condensing: nodes without a note go where they only pass on what stands below them.
+//! Condensing: removes nodes that have no note and only pass on what is below them.
 ghost use Rattle.std.specs.Prelude.{◌≡◌, ◌≤◌, ◌↔◌, IsTrue, if◌then◌else◌, length, take};
 ghost use Rattle.js_tree.specs.Forest.{empty, tree as node, forest_of};
 ghost use Rattle.js_tree.specs.Kept.{kept_below};
@@ -8,11 +8,15 @@ ghost use Rattle.js_tree.specs.Step.{all_stand};
 
 use crate::tree::{Tree, Trees};
 
-/// The one tree in which every run of the two rules ends that can't be continued: the root, each node with a note,
-/// and each node of which the trees of at least two children hold one. Takes no memory, and time linear in the tree.
+/// Condenses a tree, as for the detailed format (Core, section 12.4.3). Two rules apply to any node below the root that
+/// has no note:
 ///
-/// The rules (Core, section 12.4.3), at any node below the root that has no note: drop it, if it has no child; put its
-/// child in its place, if it has exactly one.
+/// - a node without children is dropped;
+/// - a node with exactly one child is replaced by that child.
+///
+/// They are applied until neither is possible. The order doesn't matter: every order ends in the same tree. It has the
+/// root, each node with a note, and each node of which the subtrees of at least two children contain a note. Takes
+/// linear time, and allocates nothing.
 pub fn condense(tree: Tree) -> Tree
     ensures kept { result ≡ kept tree.entry }
     ensures normal { Normal result }
@@ -34,7 +38,7 @@ fn condense_children(children: &mut Trees)
     trees.truncate(count);
 }
 
-/// Condenses each tree, moves those that are left to the front, and answers how many they are.
+/// Condenses each tree, moves those that are left to the front, and returns their number.
 #[cycle(condense)]
 fn condense_all(trees: &mut [Tree]) -> usize
     ensures at_most { result ≤ length trees.old }
@@ -50,13 +54,14 @@ fn condense_all(trees: &mut [Tree]) -> usize
     count
 }
 
-/// Condenses below the node; then its only child takes its place, if it has no note. Answers whether a tree is left.
+/// Condenses below the root, and then replaces a root without a note by its only child. Returns whether a tree is left.
 #[cycle(condense)]
 fn condense_one(tree: &mut Tree) -> bool
-    ensures { kept_below noted (node tree.old.root tree.old.below empty) ≡ (if result then node tree.new.root tree.new.below empty else empty) }
+    ensures { kept_below noted (node tree.old.root tree.old.below empty)
+        ≡ (if result then node tree.new.root tree.new.below empty else empty) }
 {
     condense_children(&mut tree.children);
-    // Only now: what stood below the node may be gone.
+    // Checked after the children are condensed, because some may be gone.
     let stays = tree.stands();
     if stays {
         return true;
@@ -70,7 +75,7 @@ fn condense_one(tree: &mut Tree) -> bool
     }
 }
 
-/// No step of the two rules is possible anywhere below the root.
+/// Whether neither rule of `condense` is possible anywhere below the root.
 pub fn is_normal(tree: &Tree) -> bool
     ensures { IsTrue result ↔ Normal tree.now }
 {

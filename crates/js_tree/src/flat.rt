@@ -1,4 +1,4 @@
-//! A result as rows, in preorder.
+//! The flat form of a result tree: a row for each node, in preorder.
 ghost use Rattle.std.specs.Prelude.{◌≡◌, ◌↔◌, IsTrue, map};
 
 use crate::collector::{Collector, Head};
@@ -11,30 +11,29 @@ use std::alloc::Global;
 /// A node of a tree in its flat form.
 #[derive(Debug, Drop)]
 pub struct Row<'a> {
-    /// What stands at the node.
+    /// The node's unit.
     pub unit: Unit<'a>,
-    /// How many nodes its subtree has, itself included; 0 while it is open.
+    /// The number of nodes of its subtree, the node included; 0 while the node is open.
     pub size: usize,
-    // Room for how many nodes of the subtree are kept, so that condensing takes no memory.
+    // Scratch space, so that condensing allocates nothing: how many nodes of the subtree stay.
     pub(crate) room: usize,
-    // Room for whether the node itself is kept.
+    // Scratch space too: whether the node itself stays.
     pub(crate) stays: bool,
 }
 
-/// Collects the flat form of a tree: its nodes in preorder. A call that is refused leaves what is held as it was. Opening
-/// a node after the root has closed, or closing one where none is open, changes nothing and answers Ok. `leave` always
-/// answers Ok, and takes no memory.
+/// A collector that builds the flat form of a tree. After an error it is as it was. `enter` after the root has closed,
+/// and `leave` without an open node, change nothing and return Ok. `leave` always returns Ok, and allocates nothing.
 #[derive(Debug, Drop)]
 pub struct Flat<'a> {
     pub(crate) rows: Vec<Row<'a>>,
-    // The numbers of the rows whose nodes are open. The innermost is the last.
+    // The indexes of the rows whose nodes are open, from the root down.
     numbers: Vec<usize>,
 }
 
 impl<'a> Flat<'a> {
     ghost use Rattle.js_tree.specs.FlatState.{IsWholeTree, row_of, flat_start, flat_state};
 
-    /// Of nothing yet. Takes no memory.
+    /// A flat form without rows. Allocates nothing.
     pub fn new(alloc: Global) -> Flat<'a>
         ensures { flat_state result ≡ flat_start }
     {
@@ -51,7 +50,7 @@ impl<'a> Flat<'a> {
         self.rows.as_slice()
     }
 
-    /// The rows are those of a whole tree, and no node is open. Takes no memory, and time linear in the rows.
+    /// Whether the rows are those of a whole tree, and no node is open. Takes linear time, and allocates nothing.
     pub fn whole(&self) -> bool
         ensures { IsTrue result ↔ IsWholeTree (flat_state self.now) }
     {
@@ -68,11 +67,12 @@ impl<'a> Collector<'a> for Flat<'a> {
     ghost takes = { λ a e b. flat_state b ≡ flat_after (flat_state a) e };
 
     fn enter(&mut self, head: Head) -> Result<(), Memory>
-        ensures takes { IfOk result (λ _. flat_state self.new ≡ flat_after (flat_state self.old) (opening head.keyword head.absolute head.instance)) }
+        ensures takes { IfOk result (λ _. flat_state self.new
+            ≡ flat_after (flat_state self.old) (opening head.keyword head.absolute head.instance)) }
         ensures kept { IfErr result (λ _. flat_state self.new ≡ flat_state self.old) }
         ensures ok { (flat_state self.old).rows ≢ [] → (flat_state self.old).numbers ≡ [] → IsOk result }
     {
-        // Without an open node there is either no row yet, or the root has closed.
+        // If no node is open, there are no rows yet, or the root has closed.
         if !self.numbers.is_empty() || self.rows.is_empty() {
             self.numbers.reserve(1)?;
             let number = self.rows.len();
@@ -95,7 +95,8 @@ impl<'a> Collector<'a> for Flat<'a> {
     }
 
     fn leave(&mut self, valid: bool, note: Note<'a>) -> Result<(), Memory>
-        ensures takes { IfOk result (λ _. flat_state self.new ≡ flat_after (flat_state self.old) (closing valid (note_of note.entry))) }
+        ensures takes { IfOk result (λ _. flat_state self.new
+            ≡ flat_after (flat_state self.old) (closing valid (note_of note.entry))) }
         ensures kept { IfErr result (λ _. flat_state self.new ≡ flat_state self.old) }
         ensures ok { IsOk result }
     {

@@ -21,34 +21,37 @@ use crate::unit::Unit;
 use js_doc::{Doc, Items, Members, Memory, Text, Whole};
 use std::alloc::Global;
 
-/// What of a result is shown (Core, section 12.4).
+/// An output format: what of a result is shown (Core, section 12.4).
 #[derive(Clone, Copy, Debug, PartialEq, Eq)]
 pub enum Format {
     /// The verdict alone (12.4.1).
     Flag,
-    /// The verdict and the units of the pruned tree, in preorder (12.4.2).
+    /// The verdict, and the noted units of the pruned tree, in preorder (12.4.2).
     Basic,
     /// The condensed pruned tree (12.4.3).
     Detailed,
-    /// The pruned tree, condensed and without siblings that are alike: this project's own.
+    /// The pruned tree, condensed, and without nodes that are equal to an earlier sibling except for keyword locations.
+    /// The standard has no such format.
     Merged,
     /// The whole tree (12.4.4).
     Verbose,
 }
 
-/// The document of a format (Core, section 12.4), from the whole result tree.
+/// The JSON document of a format, from the whole result tree (Core, section 12.4).
 ///
 /// # Errors
-/// `Memory`.
+/// `Memory` if an allocation fails; the tree is dropped.
 pub fn form(alloc: Global, tree: Tree, format: Format) -> Result<Doc, Memory>
     ensures form { IfOk result (λ doc. value_of doc ≡ form format tree.entry) }
-    ensures one_normal_form { format ≡ Detailed → IfOk result (λ doc. (end : ResultTree) → Run (pruned tree.entry) end → Normal end → value_of doc ≡ verbose end) }
+    ensures one_normal_form { format ≡ Detailed
+        → IfOk result (λ doc. (end : ResultTree) → Run (pruned tree.entry) end → Normal end
+        → value_of doc ≡ verbose end) }
 {
     let tree = tree_of_format(tree, format);
     shown(alloc, &tree, format)
 }
 
-// The tree that the format tells of.
+// The tree that the format shows.
 fn tree_of_format(tree: Tree, format: Format) -> Tree
     ensures { result ≡ tree_of_format format tree.entry }
 {
@@ -74,10 +77,10 @@ fn shown(alloc: Global, tree: &Tree, format: Format) -> Result<Doc, Memory>
     }
 }
 
-/// The root node of the tree, with all its nodes below it (Core, section 12.4.4).
+/// The JSON document of a tree: its root's node, with the nodes of its children inside (Core, section 12.4.4).
 ///
 /// # Errors
-/// `Memory`.
+/// `Memory` if an allocation fails.
 #[cycle(tree_doc)]
 pub fn tree_doc(alloc: Global, tree: &Tree) -> Result<Doc, Memory>
     ensures { IfOk result (λ doc. value_of doc ≡ verbose tree.now) }
@@ -116,9 +119,11 @@ fn unit_list(alloc: Global, tree: &Tree) -> Result<Doc, Memory>
     list_doc(alloc, tree.unit.valid, docs)
 }
 
-/// The list of units, over the documents of the units.
+/// The document of a list of units: the verdict, and the documents of the units.
 pub(crate) fn list_doc(alloc: Global, valid: bool, docs: Vec<Doc>) -> Result<Doc, Memory>
-    ensures { IfOk result (λ doc. value_of doc ≡ object (members ((list_name valid, list (items (map value_of docs.items))) ∷ (codes "valid", truth valid) ∷ []))) }
+    ensures { IfOk result (λ doc. value_of doc
+        ≡ object (members ((list_name valid, list (items (map value_of docs.items))) ∷
+        (codes "valid", truth valid) ∷ []))) }
 {
     let mut members = Members::new(alloc);
     put_member(
@@ -131,9 +136,10 @@ pub(crate) fn list_doc(alloc: Global, valid: bool, docs: Vec<Doc>) -> Result<Doc
     Ok(Doc::Members(members))
 }
 
-/// Adds the units with a note, in preorder, each as a node without children.
+/// Adds the documents of the noted units, in preorder, without children.
 fn add_unit_docs(alloc: Global, trees: &[Tree], docs: &mut Vec<Doc>) -> Result<(), Memory>
-    ensures { IfOk result (λ _. map value_of docs.new.items ≡ map value_of docs.old.items ++ map (λ u. node_value u []) (units_below noted (forest_of trees.now))) }
+    ensures { IfOk result (λ _. map value_of docs.new.items
+        ≡ map value_of docs.old.items ++ map (λ u. node_value u []) (units_below noted (forest_of trees.now))) }
 {
     for tree in trees {
         if tree.unit.is_noted() {
@@ -144,7 +150,7 @@ fn add_unit_docs(alloc: Global, trees: &[Tree], docs: &mut Vec<Doc>) -> Result<(
     Ok(())
 }
 
-/// A node over the documents of its children.
+/// The document of a node, with those of its children inside.
 pub(crate) fn node_doc(alloc: Global, unit: &Unit, children: Vec<Doc>) -> Result<Doc, Memory>
     ensures { IfOk result (λ doc. value_of doc ≡ node_value unit.now (map value_of children.items)) }
 {
@@ -164,7 +170,8 @@ pub(crate) fn node_doc(alloc: Global, unit: &Unit, children: Vec<Doc>) -> Result
 }
 
 fn put_note(alloc: Global, members: &mut Members, note: &Note) -> Result<(), Memory>
-    ensures { OnOk result (members.new ≡ put_some (codes "error") (error_value (note_of note.now)) (put_some (codes "annotation") (annotation_value (note_of note.now)) members.old)) }
+    ensures { OnOk result (members.new ≡ put_some (codes "error") (error_value (note_of note.now))
+        (put_some (codes "annotation") (annotation_value (note_of note.now)) members.old)) }
 {
     match note {
         Note::Silent => Ok(()),
@@ -192,14 +199,16 @@ fn put_note(alloc: Global, members: &mut Members, note: &Note) -> Result<(), Mem
     }
 }
 
-/// Puts the children, if there are any, under the name that the verdict wants.
+/// Adds the children, if there are any: as `annotations` if the node passes, as `errors` if it fails.
 fn put_children(
     alloc: Global,
     members: &mut Members,
     valid: bool,
     children: Vec<Doc>,
 ) -> Result<(), Memory>
-    ensures { OnOk result (members.new ≡ put_some (codes "errors") (value_if (not valid) (array_of_some (map value_of children.items))) (put_some (codes "annotations") (value_if valid (array_of_some (map value_of children.items))) members.old)) }
+    ensures { OnOk result (members.new ≡ put_some (codes "errors")
+        (value_if (not valid) (array_of_some (map value_of children.items)))
+        (put_some (codes "annotations") (value_if valid (array_of_some (map value_of children.items))) members.old)) }
 {
     if children.is_empty() {
         return Ok(());

@@ -1,5 +1,13 @@
 //! Laws of result trees. Each is the contract of a function that does nothing.
+<<<<<<< HEAD
 ghost use Rattle.std.specs.Prelude.{◌≡◌, [], ◌+◌, ◌<◌, ◌↔◌, IsTrue, Some, false, true};
+=======
+//!
+//! A *step* applies a rule once, at one node below the root; a *run* is a sequence of steps. A tree is *normal* if no
+//! step is possible. The *kept tree* of a tree is what `condense` makes of it, and its *merged tree* what
+//! `merge_condense` makes of it.
+ghost use Rattle.std.specs.Prelude.{◌≡◌, ◌+◌, ◌<◌, ◌↔◌, IsTrue, Some, false, true};
+>>>>>>> d1
 ghost use Rattle.js_tree.specs.Alike.{same_but_keyword};
 ghost use Rattle.js_tree.specs.Forest.{Forest, ◌⊹◌, node_count, tree};
 ghost use Rattle.js_tree.specs.Holding.{BoxedClosesAll, BoxedHolds, FlatHolds, RelativeHolds, VerdictHolds};
@@ -13,7 +21,7 @@ ghost use Rattle.js_tree.specs.OutputUnit.{OutputUnit};
 
 use crate::tree::Tree;
 
-/// A step anywhere leaves the kept tree as it was.
+/// A step, wherever it is made, doesn't change the kept tree.
 pub fn a_step_leaves_the_kept_tree()
     ensures { (t u : ResultTree) → Step t u → kept u ≡ kept t }
 {}
@@ -23,12 +31,12 @@ pub fn a_normal_tree_is_its_kept_tree()
     ensures { (t : ResultTree) → Normal t → kept t ≡ t }
 {}
 
-/// The steps of a tree are its possible moves by the two rules that condense.
+/// The steps are exactly the possible moves by the two rules of `condense`.
 pub fn steps_are_moves()
     ensures { (t u : ResultTree) → Step t u ↔ ((m : Move) × IsTrue (of_two m.rule) × (moved m t ≡ Some u)) }
 {}
 
-/// A step takes one node away.
+/// A step removes exactly one node.
 pub fn a_step_takes_one_node()
     ensures { (t u : ResultTree) → Step t u → node_count u.below + 1 ≡ node_count t.below }
 {}
@@ -44,73 +52,81 @@ pub fn normal_ends_are_the_kept_tree()
     ensures { (t u : ResultTree) → Run t u → Normal u → u ≡ kept t }
 {}
 
-/// The kept tree has the units of the tree, one by one and in their order.
+/// The kept tree has the noted units of the tree, in the same order.
 pub fn the_kept_tree_has_the_same_units()
     ensures { (t : ResultTree) → units (kept t) ≡ units t }
 {}
 
-/// A step of the three rules anywhere leaves the merged tree as it was.
+/// A step of the three rules, wherever it is made, doesn't change the merged tree.
 pub fn a_step_of_three_leaves_the_merged_tree()
     ensures { (t u : ResultTree) → StepOfThree t u → merged u ≡ merged t }
 {}
 
-/// A tree that no step of the three rules leaves is its own merged tree.
+/// A tree from which no step of the three rules is possible is its own merged tree.
 pub fn a_tree_normal_under_three_is_its_merged_tree()
     ensures { (t : ResultTree) → NormalOfThree t → merged t ≡ t }
 {}
 
-/// A step of the three rules leaves fewer nodes, so a run has at most as many steps as there are nodes below the root.
+/// A step of the three rules removes at least one node. So a run has at most as many steps as there are nodes below the
+/// root.
 pub fn a_step_of_three_leaves_fewer_nodes()
     ensures { (t u : ResultTree) → StepOfThree t u → node_count u.below < node_count t.below }
 {}
 
-/// From each tree a run of the three rules leads to its merged tree, which no step leaves.
+/// From each tree a run of the three rules leads to its merged tree, from which no step is possible.
 pub fn the_merged_tree_is_reached()
     ensures reached { (t : ResultTree) → RunOfThree t (merged t) }
     ensures normal { (t : ResultTree) → NormalOfThree (merged t) }
 {}
 
-/// Every run of the three rules that ends in a tree which no step leaves ends in the merged tree.
+/// Every run of the three rules that can't be continued ends in the merged tree.
 pub fn normal_ends_of_three_are_the_merged_tree()
     ensures { (t u : ResultTree) → RunOfThree t u → NormalOfThree u → u ≡ merged t }
 {}
 
-/// The steps of the three rules are the possible moves.
+/// The steps of the three rules are exactly the possible moves.
 pub fn steps_of_three_are_moves()
     ensures { (t u : ResultTree) → StepOfThree t u ↔ ((m : Move) × (moved m t ≡ Some u)) }
 {}
 
-/// Trees are alike exactly where they are equal without their keyword locations.
+/// Trees are alike exactly if they are equal without their keyword locations.
 pub fn alike_trees_are_equal_without_keywords()
-    ensures { (f g : Forest OutputUnit) → IsTrue (alike same_but_keyword f g) ↔ (without_keywords f ≡ without_keywords g) }
+    ensures { (f g : Forest OutputUnit) → IsTrue (alike same_but_keyword f g)
+        ↔ (without_keywords f ≡ without_keywords g) }
 {}
 
-/// Of alike trees side by side the earliest stays, with its own keyword locations, and the later ones go.
+/// Of siblings that are alike the first stays, with its own keyword locations, and the later ones go.
 pub fn the_earliest_of_alike_trees_stays()
-    ensures stays { (f : Forest OutputUnit) (u : OutputUnit) (below g : Forest OutputUnit) → has_alike same_but_keyword f u below ≡ false → (h : Forest OutputUnit) × (firsts same_but_keyword (f ⊹ tree u below g) ≡ (firsts same_but_keyword f ⊹ tree u below h)) }
-    ensures goes { (f : Forest OutputUnit) (u : OutputUnit) (below g : Forest OutputUnit) → has_alike same_but_keyword f u below ≡ true → firsts same_but_keyword (f ⊹ tree u below g) ≡ firsts same_but_keyword (f ⊹ g) }
+    ensures stays { (f : Forest OutputUnit) (u : OutputUnit) (below g : Forest OutputUnit)
+        → has_alike same_but_keyword f u below ≡ false
+        → (h : Forest OutputUnit) × (firsts same_but_keyword (f ⊹ tree u below g)
+        ≡ (firsts same_but_keyword f ⊹ tree u below h)) }
+    ensures goes { (f : Forest OutputUnit) (u : OutputUnit) (below g : Forest OutputUnit)
+        → has_alike same_but_keyword f u below ≡ true
+        → firsts same_but_keyword (f ⊹ tree u below g) ≡ firsts same_but_keyword (f ⊹ g) }
 {}
 
-/// After the events of a tree whose nodes stand on fewer than 2^64 levels, `Verdict` holds its root's verdict.
+/// After the events of a tree with fewer than 2^64 levels, `Verdict` holds its root's verdict.
 pub fn a_verdict_is_the_roots()
     ensures { VerdictHolds }
 {}
 
-/// After the events of a tree `Boxed` holds the tree.
+/// After the events of a tree, `Boxed` holds the tree.
 pub fn a_boxed_tree_is_the_tree()
     ensures { BoxedHolds }
 {}
 
-/// After the events of a tree no node is open in `Boxed`, so any further call changes nothing and answers Ok.
+/// After the events of a tree, no node is open in `Boxed`, so further calls change nothing and return Ok.
 pub fn a_boxed_tree_is_closed()
     ensures { BoxedClosesAll }
 {}
 
-/// After the events of a tree `Flat` holds its flat form, and no node is open.
+/// After the events of a tree, `Flat` holds its flat form, and no node is open.
 pub fn rows_are_the_flat_form()
     ensures { FlatHolds }
 {}
 
+<<<<<<< HEAD
 /// After the events of a tree whose locations go on from those above, the rows of `RelativeRows` are the tree's.
 pub fn relative_rows_are_those_of_the_tree()
     ensures { RelativeHolds }
@@ -122,6 +138,9 @@ pub fn a_located_tree_is_placed_again()
 {}
 
 /// The root alone, which is normal: so a contract that asks for no more than a normal answer lets it through.
+=======
+/// Returns the bare root, which is normal. It shows that a contract which promises just a normal tree is too weak.
+>>>>>>> d1
 pub fn empty_root(tree: Tree) -> Tree
     ensures { Normal result }
 {

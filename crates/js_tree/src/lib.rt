@@ -1,4 +1,9 @@
-//! Result trees of JSON Schema: pruning, condensing to one normal form, merging, and the five output formats.
+//! Result trees of JSON Schema (JSON Schema Core 2020-12, section 12): pruning, condensing to a normal form, merging,
+//! and the five output formats.
+//!
+//! A node of a result tree stands for one application of a schema, or for one of its keywords. It holds an output unit:
+//! a verdict, three locations, and a *note*, which is an error, an annotation or nothing. A unit is *noted* if it has
+//! an error or an annotation.
 #![tactic(auto)]
 
 mod boxed;

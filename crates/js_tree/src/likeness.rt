@@ -1,4 +1,4 @@
-//! Which trees are alike: equal once every keyword location is ignored.
+//! Which trees are *alike*: equal except for their keyword locations.
 ghost use Rattle.std.specs.Prelude.{◌≡◌, ◌≤◌, ◌<◌, IsTrue, true, length, take, get_or};
 ghost use Rattle.js_tree.specs.Alike.{same_but_keyword, same_note};
 ghost use Rattle.js_tree.specs.Forest.{forest_of};
@@ -11,7 +11,7 @@ use crate::tree::Tree;
 use crate::unit::Unit;
 
 impl<'a> Note<'a> {
-    /// The notes are equal.
+    /// Whether the notes are equal.
     pub(crate) fn is_same(&self, other: &Note) -> bool
         ensures { result ≡ same_note (note_of self.now) (note_of other.now) }
     {
@@ -48,7 +48,7 @@ impl<'a> Note<'a> {
 }
 
 impl<'a> Unit<'a> {
-    /// The units are equal once their keyword locations are ignored.
+    /// Whether the units are equal except for their keyword locations.
     pub(crate) fn is_same_but_keyword(&self, other: &Unit) -> bool
         ensures { result ≡ same_but_keyword self.now other.now }
     {
@@ -59,7 +59,7 @@ impl<'a> Unit<'a> {
     }
 }
 
-/// The trees are equal once every keyword location is ignored. The first node that differs ends the search.
+/// Whether the trees are alike. It stops at the first node that differs.
 #[cycle(alike)]
 pub(crate) fn are_alike(a: &Tree, b: &Tree) -> bool
     ensures { result ≡ alike_trees same_but_keyword a.now.root a.now.below b.now.root b.now.below }
@@ -82,7 +82,7 @@ fn all_alike(a: &[Tree], b: &[Tree]) -> bool
     true
 }
 
-/// One of the trees is alike to the tree.
+/// Whether one of the trees is alike to `tree`.
 fn has_alike(trees: &[Tree], tree: &Tree) -> bool
     ensures { result ≡ has_alike same_but_keyword (forest_of trees.now) tree.now.root tree.now.below }
 {
@@ -94,18 +94,21 @@ fn has_alike(trees: &[Tree], tree: &Tree) -> bool
     false
 }
 
-/// The tree at the index is alike to one of the first, so many of them as `count` says.
+/// Whether the tree at `index` is alike to one of the first `count` trees.
 pub(crate) fn comes_again(trees: &[Tree], count: usize, index: usize) -> bool
     requires { (count ≤ index) × (index < length trees.now) }
-    ensures { (d : ResultTree) → result ≡ has_alike same_but_keyword (forest_of (take count trees.now)) (get_or trees.now index d).root (get_or trees.now index d).below }
+    ensures { (d : ResultTree) → result ≡ has_alike same_but_keyword (forest_of (take count trees.now))
+        (get_or trees.now index d).root (get_or trees.now index d).below }
 {
     has_alike(&trees[..count], &trees[index])
 }
 
-/// The tree at the index is alike to the one that its mark names, of so many first ones as `count` says.
+/// Whether the tree at `index` is alike to the tree that its mark names, and that one is among the first `count`.
 pub(crate) fn comes_again_at_mark(trees: &[Tree], count: usize, index: usize) -> bool
     requires { (count ≤ index) × (index < length trees.now) }
-    ensures { (d : ResultTree) → IsTrue result → has_alike same_but_keyword (forest_of (take count trees.now)) (get_or trees.now index d).root (get_or trees.now index d).below ≡ true }
+    ensures { (d : ResultTree) → IsTrue result
+        → has_alike same_but_keyword (forest_of (take count trees.now)) (get_or trees.now index d).root
+        (get_or trees.now index d).below ≡ true }
 {
     let tree = &trees[index];
     let place = tree.mark();

@@ -1,4 +1,4 @@
-//! What a row shows of its node, however it keeps its texts.
+//! What the JSON text of a row needs of the row, however it stores its texts.
 ghost use Rattle.std.specs.Prelude.{◌≡◌};
 ghost use Rattle.js_doc.specs.BytesOut.{Puts};
 ghost use Rattle.js_tree.specs.FlatState.{FlatRow};
@@ -13,27 +13,27 @@ use js_doc::{Out, Stopped};
 pub(crate) trait Line {
     ghost flat_row: { Self → FlatRow };
 
-    /// How many nodes the subtree has.
+    /// The number of nodes of the subtree, the node included.
     fn size(&self) -> usize
         ensures { result ≡ (flat_row self.now).1 };
 
-    /// The node passes.
+    /// Whether the node passes.
     fn is_valid(&self) -> bool
         ensures { result ≡ (flat_row self.now).0.valid };
 
-    /// The node has a note.
+    /// Whether the node has a note.
     fn is_noted(&self) -> bool
         ensures { result ≡ noted (flat_row self.now).0 };
 
-    /// Puts the node's members before `annotations`.
+    /// Writes the node's members before `annotations`.
     fn put_head<O: Out>(&self, out: &mut O) -> Result<(), Stopped>
         ensures { Puts (O.progress out.old) (O.progress out.new) (head_text (flat_row self.now).0) result };
 
-    /// Puts the node's error, if its note is one.
+    /// Writes the node's error, if it has one.
     fn put_error<O: Out>(&self, out: &mut O) -> Result<(), Stopped>
         ensures { Puts (O.progress out.old) (O.progress out.new) (error_part (flat_row self.now).0.note) result };
 
-    /// Puts the node's members after `errors`.
+    /// Writes the node's members after `errors`.
     fn put_tail<O: Out>(&self, out: &mut O) -> Result<(), Stopped>
         ensures { Puts (O.progress out.old) (O.progress out.new) (tail_text (flat_row self.now).0) result };
 }

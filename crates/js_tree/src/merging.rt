@@ -1,4 +1,4 @@
-//! Condensing with a third rule: a node goes where an earlier sibling is alike.
+//! Condensing with a third rule: a node goes if an earlier sibling is alike.
 ghost use Rattle.std.specs.Prelude.{◌≡◌, ◌≤◌, ◌↔◌, ◌&&◌, IsTrue, if◌then◌else◌, length, take};
 ghost use Rattle.js_tree.specs.Alike.{same_but_keyword};
 ghost use Rattle.js_tree.specs.Forest.{empty, tree as node, forest_of};
@@ -12,14 +12,17 @@ use crate::likeness::{comes_again, comes_again_at_mark};
 use crate::sorting::{are_shown_to_differ, differ_by_list, list_in_order, mark_alike};
 use crate::tree::{Tree, Trees};
 
-/// From so many siblings on they are listed in order.
+/// From this number of siblings on, they are sorted before they are compared.
 const MANY: usize = 32;
 
-/// The one tree in which every run of the three rules ends that can't be continued. Takes no memory.
+/// Condenses a tree by three rules. They apply to any node below the root:
 ///
-/// The rules, at any node below the root: drop it, if it has no note and no child; put its child in its place, if it has
-/// no note and exactly one (Core, section 12.4.3); take it away with all below it, if an earlier sibling is alike, which
-/// means equal once every keyword location is ignored.
+/// - a node without a note and without children is dropped;
+/// - a node without a note and with exactly one child is replaced by that child (Core, section 12.4.3);
+/// - a node is dropped, with its subtree, if an earlier sibling is *alike*: equal except for keyword locations.
+///
+/// They are applied until none is possible. The order doesn't matter: every order ends in the same tree. Allocates
+/// nothing.
 pub fn merge_condense(tree: Tree) -> Tree
     ensures merged { result ≡ merged tree.entry }
     ensures normal { NormalOfThree result }
@@ -43,7 +46,7 @@ fn merge_children(children: &mut Trees)
     keep_firsts(trees);
 }
 
-/// Merges below each tree, moves what is left to the front, and answers how many trees that are.
+/// Merges below each tree, moves what is left to the front, and returns the number of trees there.
 #[cycle(merge)]
 fn merge_all(trees: &mut [Tree]) -> usize
     ensures at_most { result ≤ length trees.old }
@@ -59,13 +62,14 @@ fn merge_all(trees: &mut [Tree]) -> usize
     count
 }
 
-/// Merges below the node; then its only child takes its place, if it has no note. Answers whether a tree is left.
+/// Merges below the root, and then replaces a root without a note by its only child. Returns whether a tree is left.
 #[cycle(merge)]
 fn merge_one(tree: &mut Tree) -> bool
-    ensures { given_trees noted same_but_keyword (node tree.old.root tree.old.below empty) ≡ (if result then node tree.new.root tree.new.below empty else empty) }
+    ensures { given_trees noted same_but_keyword (node tree.old.root tree.old.below empty)
+        ≡ (if result then node tree.new.root tree.new.below empty else empty) }
 {
     merge_children(&mut tree.children);
-    // Only now: what stood below the node may be gone.
+    // Checked after the children are merged, because some may be gone.
     let stays = tree.stands();
     if stays {
         return true;
@@ -79,7 +83,7 @@ fn merge_one(tree: &mut Tree) -> bool
     }
 }
 
-/// Takes away each tree that is alike to an earlier one.
+/// Drops each tree that is alike to an earlier one.
 fn keep_firsts(trees: &mut Vec<Tree>)
     ensures { forest_of trees.new.items ≡ firsts same_but_keyword (forest_of trees.old.items) }
 {
@@ -100,9 +104,10 @@ fn keep_few(trees: &mut Vec<Tree>)
     trees.truncate(count);
 }
 
-/// Takes away trees that are alike to an earlier one. Answers whether all of them are gone for sure.
+/// Drops trees that are alike to an earlier one. Returns true only if none of them is left.
 fn keep_firsts_by_list(trees: &mut Vec<Tree>) -> bool
-    ensures left { firsts same_but_keyword (forest_of trees.new.items) ≡ firsts same_but_keyword (forest_of trees.old.items) }
+    ensures left { firsts same_but_keyword (forest_of trees.new.items)
+        ≡ firsts same_but_keyword (forest_of trees.old.items) }
     ensures gone { IsTrue result → firsts same_but_keyword (forest_of trees.new.items) ≡ forest_of trees.new.items }
 {
     let first = list_in_order(trees, 0, trees.len());
@@ -116,11 +121,12 @@ fn keep_firsts_by_list(trees: &mut Vec<Tree>) -> bool
     are_shown_to_differ(trees, first)
 }
 
-/// Moves to the front, in their order, the trees that aren't alike to the one that their mark names among these. Answers how
-/// many they are.
+/// Moves the trees to the front that aren't alike to the one that their mark names, and returns their number. They keep
+/// their order.
 fn drop_marked(trees: &mut [Tree]) -> usize
     ensures at_most { result ≤ length trees.old }
-    ensures left { firsts same_but_keyword (forest_of (take result trees.new)) ≡ firsts same_but_keyword (forest_of trees.old) }
+    ensures left { firsts same_but_keyword (forest_of (take result trees.new))
+        ≡ firsts same_but_keyword (forest_of trees.old) }
 {
     let mut count = 0;
     for i in 0..trees.len() {
@@ -132,7 +138,7 @@ fn drop_marked(trees: &mut [Tree]) -> usize
     count
 }
 
-/// Moves the trees that aren't alike to an earlier one to the front, in their order, and answers how many they are.
+/// Moves the trees to the front that aren't alike to an earlier one, and returns their number. They keep their order.
 fn keep_firsts_of_few(trees: &mut [Tree]) -> usize
     ensures at_most { result ≤ length trees.old }
     ensures firsts { forest_of (take result trees.new) ≡ firsts same_but_keyword (forest_of trees.old) }
@@ -147,16 +153,17 @@ fn keep_firsts_of_few(trees: &mut [Tree]) -> usize
     count
 }
 
-/// No step of the three rules is possible anywhere below the root. Takes no memory.
+/// Whether none of the three rules of `merge_condense` is possible anywhere below the root. Allocates nothing.
 pub fn is_merged(tree: &Tree) -> bool
     ensures { IsTrue result ↔ NormalOfThree tree.now }
 {
     are_merged(tree.children.as_slice())
 }
 
-/// No step is possible among the trees or below them.
+/// Whether no rule is possible among the trees, or below them.
 fn are_merged(trees: &[Tree]) -> bool
-    ensures { result ≡ (none_alike same_but_keyword empty (forest_of trees.now) && all_merged noted same_but_keyword (forest_of trees.now)) }
+    ensures { result ≡ (none_alike same_but_keyword empty (forest_of trees.now)
+        && all_merged noted same_but_keyword (forest_of trees.now)) }
 {
     siblings_differ(trees) && all_merged(trees)
 }
@@ -178,7 +185,7 @@ fn all_merged(trees: &[Tree]) -> bool
     true
 }
 
-/// None of the trees is alike to an earlier one.
+/// Whether no tree is alike to an earlier one.
 fn siblings_differ(trees: &[Tree]) -> bool
     ensures { result ≡ none_alike same_but_keyword empty (forest_of trees.now) }
 {

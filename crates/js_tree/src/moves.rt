@@ -1,4 +1,4 @@
-//! Single moves of the two condensing rules and of the one that merges, and runs of them.
+//! Single steps by the rules that condense and merge, and runs of them.
 ghost use Rattle.std.specs.Prelude.{false, ◌≡◌, ◌+◌, ◌<◌, ◌≤◌, if◌then◌else◌, length, take, vec_len, MatchResult, IfOk, IsTrue};
 ghost use Rattle.js_tree.specs.Alike.{same_but_keyword};
 ghost use Rattle.js_tree.specs.Forest.{forest_of, node_count, empty, tree as node};
@@ -12,45 +12,46 @@ ghost use Rattle.js_tree.specs.declared.moves.Rule.TheVariants.{Drop, Merge};
 use crate::likeness::comes_again;
 use crate::tree::Tree;
 
-/// What may be done to a node below the root.
+/// A rule that may be applied to a node below the root.
 #[derive(Clone, Copy, Debug, PartialEq, Eq)]
 pub enum Rule {
-    /// The node goes, if it has no note and no child (Core, section 12.4.3).
+    /// The node is dropped, if it has no note and no child (Core, section 12.4.3).
     Drop,
-    /// The node's child takes its place, if it has no note and exactly one child (Core, section 12.4.3).
+    /// The node is replaced by its child, if it has no note and exactly one child (Core, section 12.4.3).
     Lift,
-    /// The node goes with all below it, if an earlier sibling is alike: equal once every keyword location is ignored.
+    /// The node is dropped with its subtree, if an earlier sibling is alike: equal except for keyword locations.
     Merge,
 }
 
-/// A rule at a node, which is named by its number in preorder, the root's 0.
+/// A rule, and the node that it is applied to. `position` is the node's index in preorder; the root's is 0.
 #[derive(Clone, Copy, Debug, PartialEq, Eq)]
 pub struct Move {
     pub rule: Rule,
     pub position: usize,
 }
 
-/// The rule isn't possible at the node, or no node below the root has the number.
+/// The rule isn't possible at the node, or the tree has no such node below the root.
 #[derive(Clone, Copy, Debug, PartialEq, Eq)]
 pub struct NoMove;
 
-/// What became of a move that looks for its node in preorder.
+/// The outcome of a move on sibling trees.
 #[derive(Clone, Copy)]
 enum Search {
     Made,
     NotPossible,
-    /// The node is not among these: so many nodes after them it comes.
+    /// The trees don't have the node. It comes this many nodes after them.
     Further(usize),
 }
 
-/// Makes the move. Takes no memory, and time linear in the nodes up to its position and the siblings after it; `Merge`
-/// also looks at the siblings before it.
+/// Makes the move. Allocates nothing. Takes time linear in the nodes up to its position and the siblings after it;
+/// `Merge` also compares the node with the siblings before it.
 ///
 /// # Errors
-/// `NoMove` with the tree as it was, exactly where the rule isn't possible there or no node below the root has the
-/// number.
+/// `NoMove`, with the unchanged tree, if the rule isn't possible at the node or no node below the root has this
+/// position.
 pub fn apply<'a>(tree: Tree<'a>, chosen: &Move) -> Result<Tree<'a>, (NoMove, Tree<'a>)>
-    ensures moved { MatchResult result (λ made. moved chosen.now tree.entry ≡ Some made) (λ refused. (moved chosen.now tree.entry ≡ None) × (refused.1 ≡ tree.entry)) }
+    ensures moved { MatchResult result (λ made. moved chosen.now tree.entry ≡ Some made)
+        (λ refused. (moved chosen.now tree.entry ≡ None) × (refused.1 ≡ tree.entry)) }
     ensures step { IfOk result (λ made. IsTrue (of_two chosen.now.rule) → Step tree.entry made) }
     ensures step_of_three { IfOk result (λ made. StepOfThree tree.entry made) }
 {
@@ -64,14 +65,17 @@ pub fn apply<'a>(tree: Tree<'a>, chosen: &Move) -> Result<Tree<'a>, (NoMove, Tre
     }
 }
 
-/// Makes the moves one after another. Takes no memory.
+/// Makes the moves one after another. Allocates nothing.
 ///
 /// # Errors
-/// The number of the first that isn't possible, the first move's being 0, and the tree that it met.
+/// The index of the first move that isn't possible, and the tree as the moves before it left it.
 pub fn replay<'a>(tree: Tree<'a>, moves: &[Move]) -> Result<Tree<'a>, (usize, Tree<'a>)>
-    ensures run { MatchResult result (λ end. replayed moves.now tree.entry ≡ Some end) (λ stop. (stop.0 < length moves.now) × (replayed (take stop.0 moves.now) tree.entry ≡ Some stop.1) × (replayed (take (stop.0 + 1) moves.now) tree.entry ≡ None)) }
+    ensures run { MatchResult result (λ end. replayed moves.now tree.entry ≡ Some end)
+        (λ stop. (stop.0 < length moves.now) × (replayed (take stop.0 moves.now) tree.entry ≡ Some stop.1)
+        × (replayed (take (stop.0 + 1) moves.now) tree.entry ≡ None)) }
     ensures at_most { IfOk result (λ end. length moves.now + node_count end.below ≤ node_count tree.entry.below) }
-    ensures length { IfOk result (λ end. IsTrue (all_of_two moves.now) → length moves.now + node_count end.below ≡ node_count tree.entry.below) }
+    ensures length { IfOk result (λ end. IsTrue (all_of_two moves.now)
+        → length moves.now + node_count end.below ≡ node_count tree.entry.below) }
     ensures one_normal_form { IfOk result (λ end. IsTrue (all_of_two moves.now) → Normal end → end ≡ kept tree.entry) }
     ensures one_merged_form { IfOk result (λ end. NormalOfThree end → end ≡ merged tree.entry) }
 {
@@ -82,13 +86,14 @@ pub fn replay<'a>(tree: Tree<'a>, moves: &[Move]) -> Result<Tree<'a>, (usize, Tr
     Ok(tree)
 }
 
-/// Makes the move, or answers its number with the tree as it was.
+/// Makes the move, or returns its number and the unchanged tree.
 fn apply_numbered<'a>(
     tree: Tree<'a>,
     chosen: &Move,
     number: usize,
 ) -> Result<Tree<'a>, (usize, Tree<'a>)>
-    ensures { MatchResult result (λ made. moved chosen.now tree.entry ≡ Some made) (λ stop. (stop.0 ≡ number) × (moved chosen.now tree.entry ≡ None) × (stop.1 ≡ tree.entry)) }
+    ensures { MatchResult result (λ made. moved chosen.now tree.entry ≡ Some made) (λ stop. (stop.0 ≡ number)
+        × (moved chosen.now tree.entry ≡ None) × (stop.1 ≡ tree.entry)) }
 {
     match apply(tree, chosen) {
         Ok(made) => Ok(made),
@@ -131,10 +136,12 @@ fn move_among(trees: &mut Vec<Tree>, rule: Rule, position: usize) -> Search
     Search::Further(position)
 }
 
-/// Takes the tree at the index away, if it is a leaf without a note.
+/// Drops the tree at the index, if it is a leaf without a note. Returns whether it did.
 fn drop_leaf(trees: &mut Vec<Tree>, i: usize) -> bool
     requires { i < vec_len trees.old }
-    ensures dropped { moved_at noted same_but_keyword Drop empty (forest_of trees.old.items) (node_count (forest_of (take i trees.old.items))) ≡ (if result then Some (forest_of trees.new.items) else None) }
+    ensures dropped { moved_at noted same_but_keyword Drop empty (forest_of trees.old.items)
+        (node_count (forest_of (take i trees.old.items)))
+        ≡ (if result then Some (forest_of trees.new.items) else None) }
     ensures unchanged { result ≡ false → trees.new.items ≡ trees.old.items }
 {
     let tree = &trees[i];
@@ -145,10 +152,12 @@ fn drop_leaf(trees: &mut Vec<Tree>, i: usize) -> bool
     true
 }
 
-/// Takes the tree at the index away, if one before it is alike.
+/// Drops the tree at the index, if an earlier one is alike. Returns whether it did.
 fn drop_alike(trees: &mut Vec<Tree>, i: usize) -> bool
     requires { i < vec_len trees.old }
-    ensures merged { moved_at noted same_but_keyword Merge empty (forest_of trees.old.items) (node_count (forest_of (take i trees.old.items))) ≡ (if result then Some (forest_of trees.new.items) else None) }
+    ensures merged { moved_at noted same_but_keyword Merge empty (forest_of trees.old.items)
+        (node_count (forest_of (take i trees.old.items)))
+        ≡ (if result then Some (forest_of trees.new.items) else None) }
     ensures unchanged { result ≡ false → trees.new.items ≡ trees.old.items }
 {
     if !comes_again(trees.as_slice(), i, i) {
@@ -158,9 +167,10 @@ fn drop_alike(trees: &mut Vec<Tree>, i: usize) -> bool
     true
 }
 
-/// Puts the node's only child in its place, if it has exactly one and no note.
+/// Replaces the tree by its only child, if the root has exactly one and no note. Returns whether it did.
 fn lift_child(tree: &mut Tree) -> bool
-    ensures lifted { with_only_child noted tree.old.root tree.old.below empty ≡ (if result then Some (node tree.new.root tree.new.below empty) else None) }
+    ensures lifted { with_only_child noted tree.old.root tree.old.below empty
+        ≡ (if result then Some (node tree.new.root tree.new.below empty) else None) }
     ensures unchanged { result ≡ false → tree.new ≡ tree.old }
 {
     if tree.unit.is_noted() || tree.children.len() != 1 {

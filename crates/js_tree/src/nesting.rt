@@ -1,4 +1,4 @@
-//! Whether rows are those of trees.
+//! Whether rows are the flat form of trees.
 ghost use Rattle.std.specs.Prelude.{◌≡◌, ◌<◌, ◌≤◌, ◌+◌, ◌↔◌, IsTrue, drop, length, map};
 ghost use Rattle.js_tree.specs.Flat.{flat, flat_of};
 ghost use Rattle.js_tree.specs.FlatState.{row_of};
@@ -9,7 +9,7 @@ ghost use Rattle.js_tree.specs.Result.{ResultTree};
 
 use crate::flat::Row;
 
-/// The rows are those of one tree. Takes no memory, and time linear in the rows.
+/// Whether the rows are those of one tree. Takes linear time, and allocates nothing.
 pub(crate) fn are_of_a_tree(rows: &[Row]) -> bool
     ensures { IsTrue result ↔ ((t : ResultTree) × (map row_of rows.now ≡ flat t)) }
 {
@@ -23,7 +23,8 @@ pub(crate) fn are_of_a_tree(rows: &[Row]) -> bool
     are_of_trees(rows)
 }
 
-/// The rows are those of trees side by side. From the back, so that what stands after a row is known to be.
+/// Whether the rows are those of sibling trees. It goes from the back, because a row is checked against the rows after
+/// it.
 fn are_of_trees(rows: &[Row]) -> bool
     ensures { IsTrue result ↔ ((f : Forest OutputUnit) × (map row_of rows.now ≡ flat_of f)) }
 {
@@ -35,7 +36,7 @@ fn are_of_trees(rows: &[Row]) -> bool
     true
 }
 
-/// The row of that number is a tree's root, where those after it are of trees.
+/// Whether the row with this index is a tree's root, if the rows after it are those of trees.
 fn is_root(rows: &[Row], number: usize) -> bool
     requires within { number < length rows.now }
     requires trees { (f : Forest OutputUnit) × (map row_of (drop (number + 1) rows.now) ≡ flat_of f) }
@@ -48,7 +49,7 @@ fn is_root(rows: &[Row], number: usize) -> bool
     ends_after(rows, number + 1, row.size - 1)
 }
 
-/// The first trees from that row on, so many of them as it takes, have `count` nodes together.
+/// Whether the `count` rows from `first` on are whole trees, if all rows from there on are those of trees.
 fn ends_after(rows: &[Row], first: usize, count: usize) -> bool
     requires within { first ≤ length rows.now }
     requires trees { (f : Forest OutputUnit) × (map row_of (drop first rows.now) ≡ flat_of f) }

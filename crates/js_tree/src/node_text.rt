@@ -1,4 +1,4 @@
-//! The text of a node piece by piece, in the ascending order of its members (Core, section 12.3).
+//! The JSON text of a node, written piece by piece. Its members ascend by name (Core, section 12.3).
 ghost use Rattle.std.specs.Prelude.{◌++◌, codes, false, map, pos, true};
 ghost use Rattle.js_doc.specs.BytesOut.{Puts};
 ghost use Rattle.js_doc.specs.Compact.{comma_if, compact, quoted};
@@ -11,14 +11,14 @@ use crate::note::Note;
 use crate::unit::Unit;
 use js_doc::{Doc, Out, Stopped, Whole, put_number, put_string, put_text};
 
-/// Puts the members before `annotations`.
+/// Writes the members before `annotations`.
 pub(crate) fn put_head<O: Out>(unit: &Unit, out: &mut O) -> Result<(), Stopped>
     ensures { Puts (O.progress out.old) (O.progress out.new) (head_text unit.now) result }
 {
     put_beginning(unit.absolute.as_str(), &unit.note, out)
 }
 
-/// Puts the members before `annotations`: the absolute location, and the annotation, if the note is one.
+/// Writes the members before `annotations`: the absolute keyword location, and the annotation if the note is one.
 pub(crate) fn put_beginning<O: Out>(absolute: &str, note: &Note, out: &mut O) -> Result<(), Stopped>
     ensures { Puts (O.progress out.old) (O.progress out.new) (beginning_text absolute.now (note_of note.now)) result }
 {
@@ -26,7 +26,7 @@ pub(crate) fn put_beginning<O: Out>(absolute: &str, note: &Note, out: &mut O) ->
     put_annotation(note, out)
 }
 
-/// Puts the members after `errors`.
+/// Writes the members after `errors`.
 pub(crate) fn put_tail<O: Out>(unit: &Unit, out: &mut O) -> Result<(), Stopped>
     ensures { Puts (O.progress out.old) (O.progress out.new) (tail_text unit.now) result }
 {
@@ -38,7 +38,7 @@ pub(crate) fn put_tail<O: Out>(unit: &Unit, out: &mut O) -> Result<(), Stopped>
     )
 }
 
-/// Puts the members after `errors`: the instance location, the keyword location and the verdict.
+/// Writes the members after `errors`: the instance location, the keyword location and the verdict.
 pub(crate) fn put_end<O: Out>(
     instance: &str,
     keyword: &str,
@@ -52,7 +52,7 @@ pub(crate) fn put_end<O: Out>(
     put_valid(valid, out)
 }
 
-/// Puts the last member.
+/// Writes the verdict, which is the last member, and the closing brace.
 pub(crate) fn put_valid<O: Out>(valid: bool, out: &mut O) -> Result<(), Stopped>
     ensures { Puts (O.progress out.old) (O.progress out.new) (valid_text valid) result }
 {
@@ -63,7 +63,7 @@ pub(crate) fn put_valid<O: Out>(valid: bool, out: &mut O) -> Result<(), Stopped>
     }
 }
 
-/// Puts the error, if the note is one.
+/// Writes the error, if the note is one.
 pub(crate) fn put_error<O: Out>(note: &Note, out: &mut O) -> Result<(), Stopped>
     ensures { Puts (O.progress out.old) (O.progress out.new) (error_part (note_of note.now)) result }
 {
@@ -78,7 +78,7 @@ pub(crate) fn put_error<O: Out>(note: &Note, out: &mut O) -> Result<(), Stopped>
     }
 }
 
-/// Puts the annotation, if the note is one.
+/// Writes the annotation, if the note is one.
 pub(crate) fn put_annotation<O: Out>(note: &Note, out: &mut O) -> Result<(), Stopped>
     ensures { Puts (O.progress out.old) (O.progress out.new) (annotation_part (note_of note.now)) result }
 {
@@ -94,21 +94,24 @@ pub(crate) fn put_annotation<O: Out>(note: &Note, out: &mut O) -> Result<(), Sto
 }
 
 fn put_value<O: Out>(value: &Doc, out: &mut O) -> Result<(), Stopped>
-    ensures { Puts (O.progress out.old) (O.progress out.new) (codes ",\"annotation\":" ++ compact (value_of value.now)) result }
+    ensures { Puts (O.progress out.old) (O.progress out.new)
+        (codes ",\"annotation\":" ++ compact (value_of value.now)) result }
 {
     out.put(b",\"annotation\":")?;
     put_text(value, out)
 }
 
 fn put_index<O: Out>(index: u64, out: &mut O) -> Result<(), Stopped>
-    ensures { Puts (O.progress out.old) (O.progress out.new) (codes ",\"annotation\":" ++ compact (whole (pos index))) result }
+    ensures { Puts (O.progress out.old) (O.progress out.new)
+        (codes ",\"annotation\":" ++ compact (whole (pos index))) result }
 {
     out.put(b",\"annotation\":")?;
     put_number(Whole::from_u64(index), out)
 }
 
 fn put_names<O: Out>(names: &[&str], out: &mut O) -> Result<(), Stopped>
-    ensures { Puts (O.progress out.old) (O.progress out.new) (codes ",\"annotation\":" ++ compact (list (items (map text (map (λ name. name.now) names.now))))) result }
+    ensures { Puts (O.progress out.old) (O.progress out.new)
+        (codes ",\"annotation\":" ++ compact (list (items (map text (map (λ name. name.now) names.now))))) result }
 {
     out.put(b",\"annotation\":[")?;
     let mut later = false;
@@ -121,7 +124,8 @@ fn put_names<O: Out>(names: &[&str], out: &mut O) -> Result<(), Stopped>
 }
 
 fn put_indexes<O: Out>(indexes: &[u64], out: &mut O) -> Result<(), Stopped>
-    ensures { Puts (O.progress out.old) (O.progress out.new) (codes ",\"annotation\":" ++ compact (list (items (map (λ index. whole (pos index)) indexes.now)))) result }
+    ensures { Puts (O.progress out.old) (O.progress out.new)
+        (codes ",\"annotation\":" ++ compact (list (items (map (λ index. whole (pos index)) indexes.now)))) result }
 {
     out.put(b",\"annotation\":[")?;
     let mut later = false;
@@ -133,7 +137,7 @@ fn put_indexes<O: Out>(indexes: &[u64], out: &mut O) -> Result<(), Stopped>
     out.put(b"]")
 }
 
-/// Puts a member whose value is a text, after what stands before it.
+/// Writes a member whose value is a string. `start`: the text before that string.
 fn put_member<O: Out>(start: &[u8], value: &str, out: &mut O) -> Result<(), Stopped>
     ensures { Puts (O.progress out.old) (O.progress out.new) (start.now ++ quoted value.now) result }
 {
@@ -141,7 +145,7 @@ fn put_member<O: Out>(start: &[u8], value: &str, out: &mut O) -> Result<(), Stop
     put_string(value, out)
 }
 
-/// Puts a comma, where something stands before.
+/// Writes a comma, unless this is the first item.
 pub(crate) fn put_comma<O: Out>(later: bool, out: &mut O) -> Result<(), Stopped>
     ensures { Puts (O.progress out.old) (O.progress out.new) (comma_if later) result }
 {

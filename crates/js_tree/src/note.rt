@@ -1,4 +1,4 @@
-//! What a node of a result tree has to say: its error or its annotation.
+//! Notes: the error or the annotation of a node.
 ghost use Rattle.std.specs.Prelude.{◌≡◌, List, ℕ, map};
 ghost use Rattle.js_tree.specs.Note.{speaks};
 ghost use Rattle.js_tree.specs.Seen.{note_of};
@@ -6,26 +6,27 @@ ghost use Rattle.js_tree.specs.Seen.{note_of};
 use js_doc::{Doc, Text};
 use std::marker::Model;
 
-/// An error or an annotation (Core, section 12.3.4), or neither.
+/// The error or the annotation of a node, or neither (Core, section 12.3.4).
 #[derive(Debug, Drop)]
 pub enum Note<'a> {
-    /// Nothing.
+    /// Neither an error nor an annotation.
     Silent,
-    /// Why the node fails.
+    /// An error: why the node fails.
     Error(Text),
-    /// A keyword's value, as the schema has it.
+    /// An annotation: the keyword's value in the schema (Core, section 7.7).
     Value(&'a Doc),
-    /// The names of the members that a schema was applied to.
+    /// An annotation: the names of the members that a schema was applied to (Core, sections 10.3.2 and 11.3).
     Names(Names<'a>),
-    /// The largest index of an item that a schema was applied to.
+    /// An annotation: the largest index of an item that a schema was applied to (Core, section 10.3.1.1).
     Index(u64),
-    /// The indexes of the items that match.
+    /// An annotation: the indexes of the items that match `contains` (Core, section 10.3.1.3).
     Indexes(Indexes),
-    /// A schema was applied to every item.
+    /// The annotation `true`: a schema was applied to every item, or every item matches `contains` (Core, sections
+    /// 10.3.1 and 11.2).
     Truth,
 }
 
-/// Names of members, lent by a document. Contracts see the list of the names' bytes.
+/// Names of members, borrowed from a document. Contracts see a list: the bytes of each name.
 #[derive(Debug, Drop)]
 pub struct Names<'a> {
     names: Vec<&'a str>,
@@ -39,7 +40,7 @@ impl<'a> Model for Names<'a> {
     ghost view = { λ n. map (λ name. name.now) n.names.items };
 }
 
-/// Indexes of items. Contracts see their list.
+/// Indexes of items. Contracts see a list of numbers.
 #[derive(Debug, Drop)]
 pub struct Indexes {
     indexes: Vec<u64>,
@@ -54,21 +55,21 @@ impl Model for Indexes {
 }
 
 impl<'a> Names<'a> {
-    /// These names, in this order. Takes no memory.
+    /// These names, in this order. Allocates nothing.
     pub fn new(names: Vec<&'a str>) -> Names<'a>
         ensures { result ≡ map (λ name. name.now) names.entry.items }
     {
         Names { names }
     }
 
-    /// The names, in their order.
+    /// The names, in order.
     pub fn as_slice(&self) -> &[&'a str]
         ensures { map (λ name. name.now) result.now ≡ self.now }
     {
         self.names.as_slice()
     }
 
-    /// Gives the names back.
+    /// The vector that the names were made from.
     pub fn into_vec(self) -> Vec<&'a str>
         ensures { map (λ name. name.now) result.items ≡ self.entry }
     {
@@ -77,21 +78,21 @@ impl<'a> Names<'a> {
 }
 
 impl Indexes {
-    /// These indexes, in this order. Takes no memory.
+    /// These indexes, in this order. Allocates nothing.
     pub fn new(indexes: Vec<u64>) -> Indexes
         ensures { result ≡ indexes.items }
     {
         Indexes { indexes }
     }
 
-    /// The indexes, in their order.
+    /// The indexes, in order.
     pub fn as_slice(&self) -> &[u64]
         ensures { result.now ≡ self.now }
     {
         self.indexes.as_slice()
     }
 
-    /// Gives the indexes back.
+    /// The vector that the indexes were made from.
     pub fn into_vec(self) -> Vec<u64>
         ensures { result.items ≡ self }
     {
@@ -100,7 +101,7 @@ impl Indexes {
 }
 
 impl<'a> Note<'a> {
-    /// There is an error or an annotation; an annotation that is an empty list is one.
+    /// Whether there is an error or an annotation. An annotation that is an empty list counts.
     pub fn is_some(&self) -> bool
         ensures { result ≡ speaks (note_of self.now) }
     {

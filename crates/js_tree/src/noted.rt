@@ -1,4 +1,4 @@
-//! The units of a tree that have a note.
+//! The noted units of a tree.
 ghost use Rattle.std.specs.Prelude.{◌≡◌, ◌++◌, IfOk, map};
 ghost use Rattle.js_tree.specs.Forest.{forest_of};
 ghost use Rattle.js_tree.specs.OutputUnit.{noted};
@@ -10,10 +10,11 @@ use crate::unit::Unit;
 use js_doc::Memory;
 use std::alloc::Global;
 
-/// The units with a note, in preorder, the root's among them: what basic lists (Core, section 12.4.2).
+/// The units that have a note, in preorder and including the root's: what the basic format lists (Core, section
+/// 12.4.2).
 ///
 /// # Errors
-/// `Memory`.
+/// `Memory` if an allocation fails.
 pub fn units<'t, 'a>(alloc: Global, tree: &'t Tree<'a>) -> Result<Vec<&'t Unit<'a>>, Memory>
     ensures { IfOk result (λ found. map (λ unit. unit.now) found.items ≡ units tree.now) }
 {
@@ -26,7 +27,8 @@ pub fn units<'t, 'a>(alloc: Global, tree: &'t Tree<'a>) -> Result<Vec<&'t Unit<'
 }
 
 fn add_units<'t, 'a>(trees: &'t [Tree<'a>], found: &mut Vec<&'t Unit<'a>>) -> Result<(), Memory>
-    ensures { IfOk result (λ _. map (λ unit. unit.now) found.new.items ≡ map (λ unit. unit.now) found.old.items ++ units_below noted (forest_of trees.now)) }
+    ensures { IfOk result (λ _. map (λ unit. unit.now) found.new.items
+        ≡ map (λ unit. unit.now) found.old.items ++ units_below noted (forest_of trees.now)) }
 {
     for tree in trees {
         if tree.unit.is_noted() {

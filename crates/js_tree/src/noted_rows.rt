@@ -1,4 +1,4 @@
-//! The units of a flat form that have a note.
+//! The noted units of a flat form.
 ghost use Rattle.std.specs.Prelude.{◌≡◌, IfOk, map};
 ghost use Rattle.js_tree.specs.FlatState.{IsWholeTree, noted_of, row_of, flat_state, whole_tree};
 ghost use Rattle.js_tree.specs.Result.{ResultTree, units};
@@ -8,13 +8,14 @@ use crate::unit::Unit;
 use js_doc::Memory;
 use std::alloc::Global;
 
-/// The units with a note of a whole tree's rows, in their order: see `units`.
+/// The units that have a note, in preorder: see `units`. The rows must be those of a whole tree.
 ///
 /// # Errors
-/// `Memory`.
+/// `Memory` if an allocation fails.
 pub fn flat_units<'t, 'a>(alloc: Global, flat: &'t Flat<'a>) -> Result<Vec<&'t Unit<'a>>, Memory>
     requires { IsWholeTree (flat_state flat.now) }
-    ensures { IfOk result (λ found. (t : ResultTree) → flat_state flat.now ≡ whole_tree t → map (λ unit. unit.now) found.items ≡ units t) }
+    ensures { IfOk result (λ found. (t : ResultTree) → flat_state flat.now ≡ whole_tree t
+        → map (λ unit. unit.now) found.items ≡ units t) }
 {
     noted_units(alloc, flat.rows())
 }

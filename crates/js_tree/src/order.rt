@@ -1,4 +1,4 @@
-//! An order of trees. Alike trees are those that it doesn't tell apart, since keyword locations don't count.
+//! An order of trees that ignores keyword locations. Alike trees are equal in it.
 ghost use Rattle.std.specs.Prelude.{◌≡◌};
 ghost use Rattle.js_tree.specs.Forest.{forest_of};
 ghost use Rattle.js_tree.specs.Seen.{note_of};
@@ -10,7 +10,7 @@ use crate::unit::Unit;
 use std::cmp::Ordering;
 
 impl<'a> Note<'a> {
-    /// Where its kind stands among the kinds.
+    /// The rank of the note's kind.
     fn kind(&self) -> u8
         ensures { result ≡ kind (note_of self.now) }
     {
@@ -25,7 +25,8 @@ impl<'a> Note<'a> {
         }
     }
 
-    /// Kind by kind, and of one kind by what they say. Values aren't told apart: at one place of a schema there is one.
+    /// Orders notes by kind, and notes of one kind by content. Annotations that are a keyword's value count as equal:
+    /// the absolute keyword location already decides that value.
     fn compare(&self, other: &Note) -> Ordering
         ensures { result ≡ note_order (note_of self.now) (note_of other.now) }
     {
@@ -56,6 +57,7 @@ impl<'a> Note<'a> {
 }
 
 impl<'a> Unit<'a> {
+    /// Orders units by verdict, instance location, absolute keyword location and note.
     fn compare(&self, other: &Unit) -> Ordering
         ensures { result ≡ unit_order self.now other.now }
     {
@@ -75,7 +77,7 @@ impl<'a> Unit<'a> {
     }
 }
 
-/// Roots first, and then the trees below them, one by one. The first node that differs ends the search.
+/// Orders trees by their roots, and then by their children one by one. It stops at the first node that differs.
 #[cycle(compare)]
 pub(crate) fn compare(a: &Tree, b: &Tree) -> Ordering
     ensures { result ≡ tree_order a.now b.now }

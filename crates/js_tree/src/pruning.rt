@@ -1,4 +1,4 @@
-//! Pruning: what of a result tree bears on its verdict.
+//! Pruning: keeps what bears on the verdict of a result tree.
 ghost use Rattle.std.specs.Prelude.{◌≡◌, ◌≤◌, if◌then◌else◌, length, take};
 ghost use Rattle.js_tree.specs.Forest.{empty, tree as node, forest_of};
 ghost use Rattle.js_tree.specs.Pruned.{pruned_below};
@@ -6,8 +6,8 @@ ghost use Rattle.js_tree.specs.Result.{has_verdict, pruned};
 
 use crate::tree::{Tree, Trees};
 
-/// The nodes for which every node from the root down to them has the root's verdict, in time linear in the tree.
-/// Takes no memory.
+/// Keeps each node that has the root's verdict, if every node above it has it too; drops the others. Takes linear time,
+/// and allocates nothing.
 pub fn prune(tree: Tree) -> Tree
     ensures { result ≡ pruned tree.entry }
 {
@@ -26,7 +26,7 @@ fn prune_children(children: &mut Trees, verdict: bool)
     trees.truncate(count);
 }
 
-/// Prunes each tree, moves those that are left to the front, and answers how many they are.
+/// Prunes each tree, moves those that are left to the front, and returns their number.
 #[cycle(prune)]
 fn prune_all(trees: &mut [Tree], verdict: bool) -> usize
     ensures at_most { result ≤ length trees.old }
@@ -42,10 +42,11 @@ fn prune_all(trees: &mut [Tree], verdict: bool) -> usize
     count
 }
 
-/// Prunes below the node, if it has the verdict, and answers whether it has.
+/// Prunes below the root, if the root has the verdict. Returns whether it has.
 #[cycle(prune)]
 fn prune_one(tree: &mut Tree, verdict: bool) -> bool
-    ensures { pruned_below (has_verdict verdict) (node tree.old.root tree.old.below empty) ≡ (if result then node tree.new.root tree.new.below empty else empty) }
+    ensures { pruned_below (has_verdict verdict) (node tree.old.root tree.old.below empty)
+        ≡ (if result then node tree.new.root tree.new.below empty else empty) }
 {
     if tree.unit.valid != verdict {
         return false;

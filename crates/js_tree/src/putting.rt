@@ -1,4 +1,4 @@
-//! Forms put out piece by piece.
+//! The JSON text of a format, written piece by piece.
 ghost use Rattle.std.specs.Prelude.{◌≡◌, map};
 ghost use Rattle.js_doc.specs.BytesOut.{Puts};
 ghost use Rattle.js_doc.specs.Compact.{compact};
@@ -13,21 +13,24 @@ use crate::line::Line;
 use crate::row_text::{put_root, put_units};
 use js_doc::{Out, Stopped};
 
-/// Puts the compact text of what the format shows of the rows' tree (Core, section 12.4): for basic the rows have to be
-/// the pruned tree's, for detailed the condensed one's, for merged the merged one's, and else the whole tree's. It takes no memory.
+/// Writes the compact JSON text of a format (Core, section 12.4), from the rows of the tree that it shows: the pruned
+/// tree for basic, the condensed one for detailed, the merged one for merged, and the whole one for flag and verbose.
+/// The rows must be those of a whole tree. Allocates nothing.
 ///
 /// # Errors
-/// `Stopped`; then a beginning of the text has gone out.
+/// `Stopped` if the output takes no more; then a beginning of the text has been written.
 pub fn put_flat<O: Out>(flat: &Flat, format: Format, out: &mut O) -> Result<(), Stopped>
     requires { IsWholeTree (flat_state flat.now) }
-    ensures { (t : ResultTree) → flat_state flat.now ≡ whole_tree t → Puts (O.progress out.old) (O.progress out.new) (compact (shown format t)) result }
+    ensures { (t : ResultTree) → flat_state flat.now ≡ whole_tree t
+        → Puts (O.progress out.old) (O.progress out.new) (compact (shown format t)) result }
 {
     put_rows(flat.rows(), format, out)
 }
 
 fn put_rows<L: Line, O: Out>(rows: &[L], format: Format, out: &mut O) -> Result<(), Stopped>
     requires { (t : ResultTree) × (map L.flat_row rows.now ≡ flat t) }
-    ensures { (t : ResultTree) → map L.flat_row rows.now ≡ flat t → Puts (O.progress out.old) (O.progress out.new) (compact (shown format t)) result }
+    ensures { (t : ResultTree) → map L.flat_row rows.now ≡ flat t
+        → Puts (O.progress out.old) (O.progress out.new) (compact (shown format t)) result }
 {
     let root = &rows[0];
     match format {
@@ -39,10 +42,10 @@ fn put_rows<L: Line, O: Out>(rows: &[L], format: Format, out: &mut O) -> Result<
     }
 }
 
-/// Puts the compact text of the flag format (Core, section 12.4.1). It takes no memory.
+/// Writes the compact JSON text of the flag format (Core, section 12.4.1). Allocates nothing.
 ///
 /// # Errors
-/// `Stopped`; then a beginning of the text has gone out.
+/// `Stopped` if the output takes no more; then a beginning of the text has been written.
 pub fn put_flag<O: Out>(valid: bool, out: &mut O) -> Result<(), Stopped>
     ensures { Puts (O.progress out.old) (O.progress out.new) (compact (flag valid)) result }
 {

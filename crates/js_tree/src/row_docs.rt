@@ -1,4 +1,4 @@
-//! The documents of a flat form.
+//! JSON documents made from a flat form.
 ghost use Rattle.std.specs.Prelude.{◌≡◌, [], IfOk, map};
 ghost use Rattle.js_doc.specs.Seen.{value_of};
 ghost use Rattle.js_tree.specs.Flat.{flat, flat_of};
@@ -13,14 +13,16 @@ use crate::forms::{Format, flag, list_doc, node_doc};
 use js_doc::{Doc, Memory};
 use std::alloc::Global;
 
-/// The document of what the format shows of the rows' tree (Core, section 12.4): for basic the rows have to be the
-/// pruned tree's, for detailed the condensed one's, for merged the merged one's, and else the whole tree's.
+/// The JSON document of a format (Core, section 12.4), from the rows of the tree that it shows: the pruned tree for
+/// basic, the condensed one for detailed, the merged one for merged, and the whole one for flag and verbose. The rows
+/// must be those of a whole tree.
 ///
 /// # Errors
-/// `Memory`.
+/// `Memory` if an allocation fails.
 pub fn flat_doc(alloc: Global, flat: &Flat, format: Format) -> Result<Doc, Memory>
     requires { IsWholeTree (flat_state flat.now) }
-    ensures { IfOk result (λ doc. (t : ResultTree) → flat_state flat.now ≡ whole_tree t → value_of doc ≡ shown format t) }
+    ensures { IfOk result (λ doc. (t : ResultTree) → flat_state flat.now ≡ whole_tree t
+        → value_of doc ≡ shown format t) }
 {
     let rows = flat.rows();
     match format {
@@ -51,9 +53,10 @@ fn unit_list_doc(alloc: Global, rows: &[Row]) -> Result<Doc, Memory>
     list_doc(alloc, root.valid, docs)
 }
 
-/// The units with a note, each as a node without children.
+/// The documents of the noted units, without children.
 fn noted_docs(alloc: Global, rows: &[Row]) -> Result<Vec<Doc>, Memory>
-    ensures { IfOk result (λ docs. map value_of docs.items ≡ map (λ u. node_value u []) (noted_of (map row_of rows.now))) }
+    ensures { IfOk result (λ docs. map value_of docs.items
+        ≡ map (λ u. node_value u []) (noted_of (map row_of rows.now))) }
 {
     let mut docs = Vec::new(alloc);
     for row in rows {
@@ -64,7 +67,7 @@ fn noted_docs(alloc: Global, rows: &[Row]) -> Result<Vec<Doc>, Memory>
     Ok(docs)
 }
 
-/// The document of the rows' tree.
+/// The document of the tree with these rows.
 #[cycle(root_doc)]
 fn root_doc(alloc: Global, rows: &[Row]) -> Result<Doc, Memory>
     requires { (t : ResultTree) × (map row_of rows.now ≡ flat t) }
@@ -75,11 +78,12 @@ fn root_doc(alloc: Global, rows: &[Row]) -> Result<Doc, Memory>
     node_doc(alloc, &row.unit, children)
 }
 
-/// The documents of the rows' trees.
+/// The documents of the trees with these rows.
 #[cycle(root_doc)]
 fn root_docs(alloc: Global, rows: &[Row]) -> Result<Vec<Doc>, Memory>
     requires { (f : Forest OutputUnit) × (map row_of rows.now ≡ flat_of f) }
-    ensures { IfOk result (λ docs. (f : Forest OutputUnit) → map row_of rows.now ≡ flat_of f → map value_of docs.items ≡ node_values f) }
+    ensures { IfOk result (λ docs. (f : Forest OutputUnit) → map row_of rows.now ≡ flat_of f
+        → map value_of docs.items ≡ node_values f) }
 {
     let mut docs = Vec::new(alloc);
     let mut next = 0;

@@ -1,4 +1,4 @@
-//! The text of a flat form, piece by piece.
+//! The JSON text of a flat form, written piece by piece.
 ghost use Rattle.std.specs.Prelude.{◌≡◌, [], false, map, true};
 ghost use Rattle.js_doc.specs.BytesOut.{Puts};
 ghost use Rattle.js_doc.specs.Compact.{compact};
@@ -15,11 +15,12 @@ use crate::line::Line;
 use crate::node_text::{put_comma, put_valid};
 use js_doc::{Out, Stopped};
 
-/// Puts the tree of the rows.
+/// Writes the tree with these rows.
 #[cycle(put_root)]
 pub(crate) fn put_root<L: Line, O: Out>(rows: &[L], out: &mut O) -> Result<(), Stopped>
     requires { (t : ResultTree) × (map L.flat_row rows.now ≡ flat t) }
-    ensures { (t : ResultTree) → map L.flat_row rows.now ≡ flat t → Puts (O.progress out.old) (O.progress out.new) (compact (verbose t)) result }
+    ensures { (t : ResultTree) → map L.flat_row rows.now ≡ flat t
+        → Puts (O.progress out.old) (O.progress out.new) (compact (verbose t)) result }
 {
     let row = &rows[0];
     let below = &rows[1..];
@@ -31,7 +32,8 @@ pub(crate) fn put_root<L: Line, O: Out>(rows: &[L], out: &mut O) -> Result<(), S
     row.put_tail(out)
 }
 
-/// Puts the trees of the rows, if there are any and they belong here, after what stands before their list.
+/// Writes the trees with these rows as the node's `annotations` or `errors`, if `here` and if there are any. `start`:
+/// the text before their list.
 #[cycle(put_root)]
 fn put_children<L: Line, O: Out>(
     here: bool,
@@ -40,7 +42,9 @@ fn put_children<L: Line, O: Out>(
     out: &mut O,
 ) -> Result<(), Stopped>
     requires { (f : Forest OutputUnit) × (map L.flat_row rows.now ≡ flat_of f) }
-    ensures { (f : Forest OutputUnit) → map L.flat_row rows.now ≡ flat_of f → Puts (O.progress out.old) (O.progress out.new) (given_text start.now (value_if here (array_of_some (node_values f)))) result }
+    ensures { (f : Forest OutputUnit) → map L.flat_row rows.now ≡ flat_of f
+        → Puts (O.progress out.old) (O.progress out.new)
+        (given_text start.now (value_if here (array_of_some (node_values f)))) result }
 {
     if !here {
         return Ok(());
@@ -52,11 +56,12 @@ fn put_children<L: Line, O: Out>(
     put_roots(rows, out)
 }
 
-/// Puts the trees of the rows as an array.
+/// Writes the trees with these rows as an array.
 #[cycle(put_root)]
 fn put_roots<L: Line, O: Out>(rows: &[L], out: &mut O) -> Result<(), Stopped>
     requires { (f : Forest OutputUnit) × (map L.flat_row rows.now ≡ flat_of f) }
-    ensures { (f : Forest OutputUnit) → map L.flat_row rows.now ≡ flat_of f → Puts (O.progress out.old) (O.progress out.new) (compact (list (items (node_values f)))) result }
+    ensures { (f : Forest OutputUnit) → map L.flat_row rows.now ≡ flat_of f
+        → Puts (O.progress out.old) (O.progress out.new) (compact (list (items (node_values f)))) result }
 {
     out.put(b"[")?;
     let mut later = false;
@@ -72,10 +77,11 @@ fn put_roots<L: Line, O: Out>(rows: &[L], out: &mut O) -> Result<(), Stopped>
     out.put(b"]")
 }
 
-/// Puts the verdict and the units with a note, each as a node without children, as an object.
+/// Writes an object with the verdict and with the noted units, each without children.
 pub(crate) fn put_units<L: Line, O: Out>(rows: &[L], out: &mut O) -> Result<(), Stopped>
     requires { (t : ResultTree) × (map L.flat_row rows.now ≡ flat t) }
-    ensures { (t : ResultTree) → map L.flat_row rows.now ≡ flat t → Puts (O.progress out.old) (O.progress out.new) (compact (unit_list t)) result }
+    ensures { (t : ResultTree) → map L.flat_row rows.now ≡ flat t
+        → Puts (O.progress out.old) (O.progress out.new) (compact (unit_list t)) result }
 {
     let root = &rows[0];
     let valid = root.is_valid();
@@ -94,9 +100,10 @@ fn put_list_name<O: Out>(valid: bool, out: &mut O) -> Result<(), Stopped>
     }
 }
 
-/// Puts the units with a note, each as a node without children, as an array.
+/// Writes the noted units as an array, each without children.
 fn put_noted<L: Line, O: Out>(rows: &[L], out: &mut O) -> Result<(), Stopped>
-    ensures { Puts (O.progress out.old) (O.progress out.new) (compact (list (items (map (λ u. node_value u []) (noted_of (map L.flat_row rows.now)))))) result }
+    ensures { Puts (O.progress out.old) (O.progress out.new)
+        (compact (list (items (map (λ u. node_value u []) (noted_of (map L.flat_row rows.now)))))) result }
 {
     out.put(b"[")?;
     let mut later = false;
@@ -111,7 +118,7 @@ fn put_noted<L: Line, O: Out>(rows: &[L], out: &mut O) -> Result<(), Stopped>
     out.put(b"]")
 }
 
-/// Puts a node without children.
+/// Writes a node without children.
 fn put_leaf<L: Line, O: Out>(row: &L, out: &mut O) -> Result<(), Stopped>
     ensures { Puts (O.progress out.old) (O.progress out.new) (compact (node_value (L.flat_row row.now).0 [])) result }
 {

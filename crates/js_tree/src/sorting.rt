@@ -1,4 +1,5 @@
-//! Siblings in order, as a list in their marks: what is found by it is compared, so no contract has to speak of marks.
+//! Sorts siblings, as a linked list in their marks: a tree's mark is the index of another one. What the list suggests
+//! is checked by comparing trees, so no contract depends on the marks.
 ghost use Rattle.std.specs.Prelude.{◌≡◌, ◌≤◌, ◌<◌, ◌+◌, MatchOption, IsTrue, true, false, length};
 ghost use Rattle.js_tree.specs.Alike.{same_but_keyword};
 ghost use Rattle.js_tree.specs.Forest.{empty, forest_of};
@@ -9,11 +10,11 @@ use crate::likeness::are_alike;
 use crate::order::compare;
 use crate::tree::Tree;
 
-/// No tree has this place.
+/// An index that no tree has.
 const NOWHERE: usize = usize::MAX;
 
-/// Makes a list of so many trees as `count` says, from `first` on: each tree's mark is the place of the one that follows
-/// in order, and alike ones follow one another as they stand. Answers the place of the first.
+/// Makes a sorted list of `count` trees, from `first` on: each tree's mark becomes the index of the next in order.
+/// Trees that are equal in the order stay in sequence. Returns the index of the list's first tree.
 pub(crate) fn list_in_order(trees: &[Tree], first: usize, count: usize) -> usize
     requires { first + count ≤ length trees.now }
 {
@@ -27,7 +28,7 @@ pub(crate) fn list_in_order(trees: &[Tree], first: usize, count: usize) -> usize
     join(trees, left, right, count)
 }
 
-/// Makes one list of two, which have so many trees as `count` says. Answers the place of the first.
+/// Merges two sorted lists, which have `count` trees together. Returns the index of the first.
 fn join(trees: &[Tree], left: usize, right: usize, count: usize) -> usize {
     let mut left = left;
     let mut right = right;
@@ -55,7 +56,7 @@ fn join(trees: &[Tree], left: usize, right: usize, count: usize) -> usize {
     first
 }
 
-/// The tree on the left comes first, or isn't told apart, or there is none on the right.
+/// Whether the tree at `left` comes next: it isn't after the one at `right` in the order, or there is none at `right`.
 fn stays_first(trees: &[Tree], left: usize, right: usize) -> bool {
     match (trees.get(left), trees.get(right)) {
         (Some(a), Some(b)) => compare(a, b).is_le(),
@@ -76,9 +77,10 @@ fn set_mark(trees: &[Tree], place: usize, mark: usize) {
     }
 }
 
-/// Whether none of the trees is alike to an earlier one, if the list that begins at `first` shows it.
+/// Whether no tree is alike to an earlier one, or None if the list that begins at `first` doesn't show it.
 pub(crate) fn differ_by_list(trees: &[Tree], first: usize) -> Option<bool>
-    ensures { MatchOption result (Unit {0}) (λ differ. differ ≡ none_alike same_but_keyword empty (forest_of trees.now)) }
+    ensures { MatchOption result (Unit {0})
+        (λ differ. differ ≡ none_alike same_but_keyword empty (forest_of trees.now)) }
 {
     if first >= trees.len() {
         return None;
@@ -98,7 +100,7 @@ pub(crate) fn differ_by_list(trees: &[Tree], first: usize) -> Option<bool>
     Some(true)
 }
 
-/// None of the trees is alike to an earlier one, as the list that begins at `first` shows.
+/// Whether the list that begins at `first` shows that no tree is alike to an earlier one.
 pub(crate) fn are_shown_to_differ(trees: &[Tree], first: usize) -> bool
     ensures { IsTrue result → firsts same_but_keyword (forest_of trees.now) ≡ forest_of trees.now }
 {
@@ -108,7 +110,7 @@ pub(crate) fn are_shown_to_differ(trees: &[Tree], first: usize) -> bool
     }
 }
 
-/// The tree at `next` follows that at `place` in order, and isn't alike.
+/// Whether the tree at `next` comes after the one at `place` in the order, and so isn't alike to it.
 fn is_before(trees: &[Tree], place: usize, next: usize) -> bool
     requires { place < length trees.now }
     ensures { IsTrue result → (next < length trees.now) × IsBefore trees.now place next }
@@ -116,7 +118,7 @@ fn is_before(trees: &[Tree], place: usize, next: usize) -> bool
     next < trees.len() && compare(&trees[place], &trees[next]).is_lt()
 }
 
-/// The tree at `next` stands after that at `place`, and is alike.
+/// Whether the tree at `next` is a later sibling of the one at `place`, and alike to it.
 fn are_alike_at(trees: &[Tree], place: usize, next: usize) -> bool
     requires { place < length trees.now }
     ensures { IsTrue result → none_alike same_but_keyword empty (forest_of trees.now) ≡ false }
@@ -127,8 +129,9 @@ fn are_alike_at(trees: &[Tree], place: usize, next: usize) -> bool
     next < trees.len() && are_alike(&trees[place], &trees[next])
 }
 
-/// Marks each tree that is alike to an earlier one with the place that the first of these has among those that stay, by
-/// the list that begins at `first`; and each other tree with its own.
+/// Sets the marks by the list that begins at `first`. If a tree is alike to an earlier one, its mark becomes the index
+/// that the first such tree will have once the repeated trees are dropped. Otherwise its mark becomes its own index
+/// then.
 pub(crate) fn mark_alike(trees: &[Tree], first: usize) {
     mark_firsts(trees, first);
     let mut count = 0_usize;
@@ -143,7 +146,7 @@ pub(crate) fn mark_alike(trees: &[Tree], first: usize) {
     }
 }
 
-/// Marks each tree with the place of the first that is alike to it, by the list that begins at `first`.
+/// Sets each tree's mark to the index of the first tree that is alike to it, by the list that begins at `first`.
 fn mark_firsts(trees: &[Tree], first: usize) {
     let mut earliest = first;
     let mut place = first;

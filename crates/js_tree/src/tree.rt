@@ -7,23 +7,24 @@ use crate::unit::Unit;
 use std::cell::Cell;
 use std::marker::Model;
 
-/// A node of a result tree with all that stands below it (Core, section 12.4.4). Contracts see a rose tree of units:
-/// its root's unit, and the forest of its children.
+/// A node of a result tree, with its subtree (Core, section 12.4.4). Contracts see a rose tree of units: the root's
+/// unit, and the forest of the children.
 #[cycle(tree)]
 #[derive(Debug, Drop)]
 pub struct Tree<'a> {
-    /// What stands at the node.
+    /// The node's unit.
     pub unit: Unit<'a>,
-    /// The nodes directly below it, in order.
+    /// The node's children, in order.
     pub children: Trees<'a>,
 }
 
-/// Trees side by side. Contracts see their list.
+/// Sibling trees. Contracts see a list of trees.
 #[cycle(tree)]
 #[derive(Debug, Drop)]
 pub struct Trees<'a> {
     pub(crate) trees: Vec<Tree<'a>>,
-    /// For the tree that these stand below, the place of another of its siblings. Merging notes it; no contract sees it.
+    /// Scratch space of merging, for the node that these are the children of: the index of one of its siblings.
+    /// Contracts don't see it.
     mark: Cell<usize>,
 }
 
@@ -66,7 +67,7 @@ impl<'a> Model for Trees<'a> {
 }
 
 impl<'a> Trees<'a> {
-    /// These trees, in this order. Takes no memory.
+    /// These trees, in this order. Allocates nothing.
     pub fn new(trees: Vec<Tree<'a>>) -> Trees<'a>
         ensures { result ≡ trees.entry.items }
     {
@@ -76,35 +77,35 @@ impl<'a> Trees<'a> {
         }
     }
 
-    /// The trees, in their order.
+    /// The trees, in order.
     pub fn as_slice(&self) -> &[Tree<'a>]
         ensures { result.now ≡ self.now }
     {
         self.trees.as_slice()
     }
 
-    /// How many there are.
+    /// The number of trees.
     pub fn len(&self) -> usize
         ensures { result ≡ length self.now }
     {
         self.trees.len()
     }
 
-    /// There is none.
+    /// Whether there are no trees.
     pub fn is_empty(&self) -> bool
         ensures { IsTrue result ↔ (self.now ≡ []) }
     {
         self.trees.is_empty()
     }
 
-    /// Takes the last tree away.
+    /// Removes and returns the last tree.
     pub(crate) fn pop(&mut self) -> Option<Tree<'a>>
         ensures { MatchOption result (self.old ≡ []) (λ last. self.old ≡ self.new ++ last ∷ []) }
     {
         self.trees.pop()
     }
 
-    /// Gives the trees back.
+    /// The vector that the trees were made from.
     pub fn into_vec(self) -> Vec<Tree<'a>>
         ensures { result.items ≡ self.entry }
     {
@@ -113,18 +114,18 @@ impl<'a> Trees<'a> {
 }
 
 impl<'a> Tree<'a> {
-    /// Neither condensing rule is possible at the node: it has a note or at least two children.
+    /// Whether condensing leaves the node in place: it has a note, or at least two children.
     pub(crate) fn stands(&self) -> bool
         ensures { result ≡ stands noted self.now.root self.now.below }
     {
         self.unit.is_noted() || self.children.len() >= 2
     }
-    /// The place that was noted last.
+    /// The mark that was set last.
     pub(crate) fn mark(&self) -> usize {
         self.children.mark.get()
     }
 
-    /// Notes the place of a sibling.
+    /// Sets the mark: the index of a sibling.
     pub(crate) fn set_mark(&self, place: usize) {
         self.children.mark.set(place);
     }

@@ -1,4 +1,4 @@
-//! A tree's text, piece by piece.
+//! The JSON text of a tree, written piece by piece.
 ghost use Rattle.js_doc.specs.BytesOut.{Puts};
 ghost use Rattle.js_doc.specs.Compact.{compact};
 ghost use Rattle.js_doc.specs.Value.{items, list};
@@ -10,10 +10,10 @@ use crate::node_text::{put_comma, put_error, put_head, put_tail};
 use crate::tree::Tree;
 use js_doc::{Out, Stopped};
 
-/// Puts the compact text of the tree's document (Core, section 12.4.4): see `tree_doc`. It takes no memory.
+/// Writes the compact JSON text of a tree (Core, section 12.4.4), which is that of `tree_doc`. Allocates nothing.
 ///
 /// # Errors
-/// `Stopped`; then a beginning of the text has gone out.
+/// `Stopped` if the output takes no more; then a beginning of the text has been written.
 #[cycle(put_tree)]
 pub fn put_tree<O: Out>(tree: &Tree, out: &mut O) -> Result<(), Stopped>
     ensures { Puts (O.progress out.old) (O.progress out.new) (compact (verbose tree.now)) result }
@@ -27,7 +27,8 @@ pub fn put_tree<O: Out>(tree: &Tree, out: &mut O) -> Result<(), Stopped>
     put_tail(unit, out)
 }
 
-/// Puts the children, if there are any and they belong here, after what stands before their list.
+/// Writes the children as the node's `annotations` or `errors`, if `here` and if there are any. `start`: the text
+/// before their list.
 #[cycle(put_tree)]
 fn put_children<O: Out>(
     here: bool,
@@ -35,7 +36,8 @@ fn put_children<O: Out>(
     trees: &[Tree],
     out: &mut O,
 ) -> Result<(), Stopped>
-    ensures { Puts (O.progress out.old) (O.progress out.new) (given_text start.now (value_if here (array_of_some (node_values (forest_of trees.now))))) result }
+    ensures { Puts (O.progress out.old) (O.progress out.new)
+        (given_text start.now (value_if here (array_of_some (node_values (forest_of trees.now))))) result }
 {
     if !here {
         return Ok(());
@@ -47,10 +49,11 @@ fn put_children<O: Out>(
     put_trees(trees, out)
 }
 
-/// Puts the trees as an array.
+/// Writes the trees as an array.
 #[cycle(put_tree)]
 fn put_trees<O: Out>(trees: &[Tree], out: &mut O) -> Result<(), Stopped>
-    ensures { Puts (O.progress out.old) (O.progress out.new) (compact (list (items (node_values (forest_of trees.now))))) result }
+    ensures { Puts (O.progress out.old) (O.progress out.new)
+        (compact (list (items (node_values (forest_of trees.now))))) result }
 {
     out.put(b"[")?;
     let mut later = false;

@@ -1,4 +1,4 @@
-//! What stands at a node of a result tree.
+//! Output units, which are the content of a result tree's nodes.
 ghost use Rattle.std.specs.Prelude.{◌≡◌};
 ghost use Rattle.js_tree.specs.FlatState.{closed_unit};
 ghost use Rattle.js_tree.specs.OutputUnit.{noted};
@@ -8,19 +8,19 @@ use crate::note::Note;
 use js_doc::Text;
 use std::marker::Model;
 
-/// An output unit (Core, section 12.3): a verdict, where it was reached, and what there is to say of it. Contracts see
-/// the same with its texts as their bytes, and its note without references.
+/// An output unit (Core, section 12.3): a verdict, three locations and a note. Contracts see its texts as bytes, and
+/// its note without references.
 #[derive(Debug, Drop)]
 pub struct Unit<'a> {
-    /// The node passes.
+    /// Whether the schema or the keyword passes.
     pub valid: bool,
-    /// The keyword location: the way through the schema, references included.
+    /// The keyword location, a JSON Pointer: the path of evaluation through the schema, references included (12.3.1).
     pub keyword: Text,
-    /// The absolute keyword location: the keyword's own place, as a URI with a fragment.
+    /// The absolute keyword location, a URI with a fragment: the position of the keyword or schema itself (12.3.2).
     pub absolute: Text,
-    /// The instance location: the place of the value that is judged.
+    /// The instance location, a JSON Pointer: the position of the value that is validated (12.3.3).
     pub instance: Text,
-    /// The error or the annotation.
+    /// The error or the annotation, if there is one (12.3.4).
     pub note: Note<'a>,
 }
 
@@ -33,18 +33,24 @@ impl<'a> Model for Unit<'a> {
 
     ghost coded = { unit_code };
 
-    ghost view = { λ u. record { valid = u.valid; keyword = u.keyword; absolute = u.absolute; instance = u.instance; note = note_of u.note } };
+    ghost view = { λ u. record {
+      valid = u.valid;
+      keyword = u.keyword;
+      absolute = u.absolute;
+      instance = u.instance;
+      note = note_of u.note;
+    } };
 }
 
 impl<'a> Unit<'a> {
-    /// The unit has a note.
+    /// Whether the unit has a note.
     pub fn is_noted(&self) -> bool
         ensures { result ≡ noted self.now }
     {
         self.note.is_some()
     }
 
-    /// Takes the verdict and the note, which a node tells when it closes.
+    /// Sets the verdict and the note, which are known when the node closes.
     pub(crate) fn close(&mut self, valid: bool, note: Note<'a>)
         ensures { self.new ≡ closed_unit self.old valid (note_of note.entry) }
     {

@@ -1,14 +1,14 @@
-//! The verdict of a result.
+//! A collector that keeps the verdict alone.
 ghost use Rattle.std.specs.Prelude.{◌≡◌};
 
 use crate::collector::{Collector, Head};
 use crate::note::Note;
 use js_doc::Memory;
 
-/// Collects the root's verdict. No call takes memory, and each answers Ok.
+/// A collector that keeps the root's verdict. No call allocates, and each returns Ok.
 #[derive(Debug, Drop)]
 pub struct Verdict {
-    // How many nodes are open.
+    // The number of open nodes.
     depth: u64,
     valid: Option<bool>,
 }
@@ -16,7 +16,7 @@ pub struct Verdict {
 impl Verdict {
     ghost use Rattle.js_tree.specs.VerdictState.{verdict_start, verdict_state};
 
-    /// Of nothing yet.
+    /// A collector without a verdict.
     pub fn new() -> Verdict
         ensures { verdict_state result ≡ verdict_start }
     {
@@ -26,7 +26,7 @@ impl Verdict {
         }
     }
 
-    /// The root's verdict; None before the root has closed.
+    /// The root's verdict, or None if the root hasn't closed.
     pub fn valid(&self) -> Option<bool>
         ensures { result ≡ (verdict_state self.now).valid }
     {
@@ -43,7 +43,8 @@ impl<'a> Collector<'a> for Verdict {
     ghost takes = { λ a e b. verdict_state b ≡ verdict_after (verdict_state a) e };
 
     fn enter(&mut self, head: Head) -> Result<(), Memory>
-        ensures takes { IfOk result (λ _. verdict_state self.new ≡ verdict_after (verdict_state self.old) (opening head.keyword head.absolute head.instance)) }
+        ensures takes { IfOk result (λ _. verdict_state self.new
+            ≡ verdict_after (verdict_state self.old) (opening head.keyword head.absolute head.instance)) }
         ensures ok { IsOk result }
     {
         drop(head);
@@ -54,7 +55,8 @@ impl<'a> Collector<'a> for Verdict {
     }
 
     fn leave(&mut self, valid: bool, note: Note<'a>) -> Result<(), Memory>
-        ensures takes { IfOk result (λ _. verdict_state self.new ≡ verdict_after (verdict_state self.old) (closing valid (note_of note.entry))) }
+        ensures takes { IfOk result (λ _. verdict_state self.new
+            ≡ verdict_after (verdict_state self.old) (closing valid (note_of note.entry))) }
         ensures ok { IsOk result }
     {
         drop(note);

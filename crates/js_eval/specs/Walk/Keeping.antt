@@ -1,4 +1,4 @@
--- What of an instance a keyword has evaluated, application by application.
+-- What a keyword has evaluated of an instance, application by application.
 use Rattle.std.specs.Prelude.{ℕ, ◌==◌, List, [], Bool, cond, Option, Some}
 use Rattle.js_eval.specs.declared.kind.Kind.{Kind}
 use Rattle.js_eval.specs.declared.kind.Kind.TheVariants.{Reference, DynamicReference, AllOf, AnyOf, OneOf, If, Then, Else, DependentSchemas, PrefixItems, Items, Contains, Properties, PatternProperties, AdditionalProperties, UnevaluatedItems, UnevaluatedProperties}
@@ -37,14 +37,14 @@ indexes_origin Else = Below
 indexes_origin DependentSchemas = Below
 indexes_origin _ = Nowhere
 
--- of one application, made to `own`, whose schema gave `given`
+-- what it has evaluated by one application to `own`, whose schema has evaluated `given`
 abbrev pub keeps : {A : Type 0} → Origin → Bool → List A → List A → List A
 keeps Applied holds own given = own
 keeps Holding holds own given = cond holds own []
 keeps Below holds own given = given
 keeps Nowhere holds own given = []
 
--- the verdict of `if`, and how many items match `contains`, after a keyword of which so many applications hold
+-- the verdict of `if`, and how many items match `contains`, after a keyword of which this many applications hold
 abbrev pub condition_step : Kind → ℕ → Option Bool → Option Bool
 condition_step If held before = Some (held == 1)
 condition_step _ held before = before

@@ -1,4 +1,4 @@
--- What the steps of a walk do to its way and to what takes its events.
+-- What the steps of a walk do to its state and to its reporter.
 use Rattle.std.specs.Prelude.{◌≡◌, ℕ, ◌+◌, ◌<◌, ◌≤◌, Bool, cond, List, [], ◌∷◌, ◌++◌, Some, None, map, take, drop, length}
 use Rattle.js_doc.specs.Value.{Value}
 use Rattle.js_eval.specs.Applications.{Application}
@@ -18,13 +18,13 @@ use Rattle.js_eval.specs.declared.walking.tally.Tally.{Tally}
 use Rattle.js_eval.specs.declared.walking.tally.Judged.{Judged}
 use Rattle.js_eval.specs.declared.walking.way.Way.{Way}
 
--- how long the lists and the dynamic scope of a way are
+-- the lengths of the lists and of the dynamic scope
 pub record StartOf {M H K : Type 0} (w : Way M H K) (start : Start) : Type 0 where
   pub names : start.names ≡ length w.names.items
   pub indexes : start.indexes ≡ length w.indexes.items
   pub scope : start.scope ≡ length w.scope
 
--- how long its lists and its trails are
+-- the lengths of the lists and of the trails
 pub record MarkOf {M H K : Type 0} (len : K → ℕ) (w : Way M H K) (mark : Mark K) : Type 0 where
   pub names : mark.names ≡ length w.names.items
   pub indexes : mark.indexes ≡ length w.indexes.items
@@ -91,7 +91,7 @@ module _ {M H K C P : Type 0} (S : SchemaSet P) (text_of : M → Text) (takes : 
     pub left : w'.left ≡ w.left
     pub told : takes c (closing passes (says_at S site v matching k tally.held (map text_of (drop here.names w.names.items)) (drop here.indexes w.indexes.items) passes)) d
 
-  -- ---- what the three functions of the walk promise
+  -- ---- what the three recursive functions of the walk ensure
 
   pub record NodeDone (n : ℕ) (above : List P) (place : P) (v : Value) (valid : Bool) (w w' : Way M H K) (c d : C) : Type 0 where
     pub walked : NodeWalked S n above place v valid (map text_of w.names.items) (map text_of w'.names.items) w.indexes.items w'.indexes.items w.left w'.left

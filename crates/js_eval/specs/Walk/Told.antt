@@ -1,4 +1,4 @@
--- What a walk knows of what it has walked, and what it has told of it.
+-- What a walk knows of what it has evaluated, and what it has reported of it.
 use Rattle.std.specs.Prelude.{◌≡◌, ℕ, ◌+◌, ◌<◌, ◌⊎◌, List, [], ◌∷◌, ◌++◌, Bool, true, false, cond, Option, Some, map, filter, length, sum_by}
 use Rattle.std.specs.List.{list_all, flat_map}
 use Rattle.js_doc.specs.Pointer.{pointer_text}
@@ -22,12 +22,12 @@ use Rattle.js_eval.specs.Walk.Said.{keyword_says}
 use Rattle.js_tree.specs.Events.{Event, Passes, events, events_of}
 use Rattle.js_eval.specs.declared.walking.way.Way.{Way}
 
--- the texts of a walk's two trails are those of a location
+-- the texts of a walk's two trails are those of this location
 pub record IsAt (at : Location) (keyword instance : Text) : Type 0 where
   pub schemas : keyword ≡ pointer_text at.keyword
   pub value : instance ≡ pointer_text at.instance
 
--- what stands at a place, in words that stay closed in the goals of the walk
+-- what is at a place, in definitions that stay folded in the goals of the walk
 module _ {Place : Type 0} (S : SchemaSet Place) (place : Place) where
   unfoldable pub keywords_at : List Keyword
   keywords_at = keywords (S.schema place)
@@ -35,7 +35,7 @@ module _ {Place : Type 0} (S : SchemaSet Place) (place : Place) where
   unfoldable pub accepts_at : Bool
   accepts_at = accepts (S.schema place)
 
-  -- the keyword stands in the schema
+  -- the schema has this keyword
   unfoldable pub IsKeywordAt : Keyword → Type 0
   IsKeywordAt k = get k.0 (entries (S.schema place)) ≡ Some k.1
 
@@ -58,7 +58,7 @@ at_name trail k = trail ++ pointer_text (k.0 ∷ [])
 unfoldable pub at_step : Text → Step → Text
 at_step trail s = trail ++ pointer_text (step_tokens s)
 
--- the path is that of before, and so are its resources and the trails
+-- the path, its resources and the trails are as before
 pub record IsBack {M H K : Type 0} (w w' : Way M H K) : Type 0 where
   pub path : w'.path ≡ w.path
   pub scope : w'.scope ≡ w.scope
@@ -66,7 +66,7 @@ pub record IsBack {M H K : Type 0} (w w' : Way M H K) : Type 0 where
   pub instance : w'.instance ≡ w.instance
 
 module _ {Place : Type 0} (S : SchemaSet Place) (n : ℕ) where
-  -- ---- applications to which a path led, by what is known within n
+  -- ---- applications at the end of a path, by what is known within n
 
   module _ (path : List Place) where
     abbrev pub settled_at : Application Place → Bool
@@ -78,14 +78,15 @@ module _ {Place : Type 0} (S : SchemaSet Place) (n : ℕ) where
     abbrev pub nodes_at : Application Place → ℕ
     nodes_at a = node_total S n path a.place a.value
 
-    -- what a keyword of this kind, if it passes, gives of members and of items where it asks for these
+    -- the members and the items that a keyword of this kind with these applications has evaluated if it passes
     unfoldable pub names_given : Kind → List (Application Place) → List Text
     names_given κ apps = names_of apps (filter holds_at apps) (flat_map (λ a. (within S n).names path a.place a.value) (filter holds_at apps)) κ
 
     unfoldable pub indexes_given : Kind → List (Application Place) → List ℕ
     indexes_given κ apps = indexes_of apps (filter holds_at apps) (flat_map (λ a. (within S n).indexes path a.place a.value) (filter holds_at apps)) κ
 
-    -- they are walked: names and indexes grow by what they give, and so many nodes less are left
+    -- they are evaluated: names and indexes grow by what they have evaluated, and their nodes are subtracted from those
+    -- left
     pub record EachWalked (κ : Kind) (apps : List (Application Place)) (asked held : ℕ) (names names' : List Text) (indexes indexes' : List ℕ) (old left : ℕ) : Type 0 where
       pub settled : list_all settled_at apps ≡ true
       pub many : asked ≡ length apps
@@ -102,7 +103,7 @@ module _ {Place : Type 0} (S : SchemaSet Place) (n : ℕ) where
     abbrev pub SomeHasNone : List (Application Place) → ℕ → Type 0
     SomeHasNone apps old = (list_all settled_at apps ≡ false) ⊎ (old < sum_by nodes_at apps)
 
-    -- ---- a keyword of the place at the path's end, where these facts are known of those before it
+    -- ---- a keyword of the place at the path's end, given these facts about the keywords before it
 
     module _ (place : Place) (v : Value) (k : Keyword) where
       unfoldable pub asked_by : Option Bool → List Text → List ℕ → List (Application Place)
@@ -136,7 +137,7 @@ module _ {Place : Type 0} (S : SchemaSet Place) (n : ℕ) where
       abbrev pub KeywordHasNone : List (Application Place) → ℕ → Type 0
       KeywordHasNone apps old = (list_all settled_at apps ≡ false) ⊎ (old < sum_by nodes_at apps + 1)
 
-  -- ---- a place on a value, to which these places led
+  -- ---- a value at a place, at the end of these places
 
   module _ (above : List Place) (place : Place) (v : Value) where
     pub record NodeWalked (valid : Bool) (names names' : List Text) (indexes indexes' : List ℕ) (old left : ℕ) : Type 0 where

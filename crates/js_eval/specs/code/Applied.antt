@@ -1,4 +1,4 @@
--- What the walk's applications are seen as: places told by their numbers stand for what they are the places of.
+-- What contracts see of the walk's applications: a place's number stands for the place.
 use Rattle.std.specs.Prelude.{ℕ, unwrap_or}
 use Rattle.js_doc.specs.Seen.{value_of}
 use Rattle.js_doc.specs.Members.{get}
@@ -22,7 +22,7 @@ applied_of documents a = record { place = numbered_site documents a.place; step 
 
 -- ---- the schema for the part of a value to which a step leads
 
--- the place that is kept of it, and what stands there
+-- the stored place, and the schema there
 abbrev pub kept_place : Held → ℕ
 kept_place (One place schema) = place
 kept_place (Each place schema keyword) = place
@@ -44,7 +44,7 @@ step_in (Each place schema keyword) step = step
 
 -- ---- what it is applied to
 
--- of the members the one that has the name; the part itself, where none has
+-- the member with this name; the part itself, if no member has it
 abbrev pub namesake : Named → Step → Value → Value
 namesake members (Name name) part = unwrap_or (get name members) part
 namesake members Alone part = part

@@ -1,4 +1,4 @@
--- What an asking has still to ask for, of the schemas that it was made for.
+-- The applications that an `Asking` still has to ask for, of the schemas that it was made for.
 use Rattle.std.specs.Prelude.{[], ◌∷◌, Option, Some, None}
 use Rattle.std.specs.Prelude as prelude
 use Rattle.js_doc.specs.Seen.{value_of}

@@ -1,4 +1,4 @@
--- What the cursors of a walk have still to ask for.
+-- The applications that the cursors of a walk still have to ask for.
 use Rattle.std.specs.Prelude.{◌≡◌, ℕ, ◌<◌, Bool, true, false, not, ◌||◌, List, [], ◌++◌, Option, Some, None, String, map, filter, drop, get_or}
 use Rattle.std.specs.Borrow.{Bor}
 use Rattle.std.specs.Global.{Global}
@@ -31,7 +31,7 @@ use Rattle.js_eval.specs.declared.searchers.NamedPattern.{NamedPattern}
 abbrev pub is_marked : List Bool → ℕ → Bool
 is_marked marks i = get_or marks i false
 
--- of so many, those at these indexes are marked
+-- of this many, those at these indexes are marked
 abbrev pub AreMarked : List Bool → ℕ → List ℕ → Type 0
 AreMarked marks count indexes = (i : ℕ) → i < count → is_marked marks i ≡ among_indexes i indexes
 
@@ -92,14 +92,14 @@ abbrev pub present_asked : Documents → Option NamedPattern → ℕ → Text �
 present_asked documents None place name left = []
 present_asked documents (Some pattern) place name left = map (on_matched_member documents place name) (filter (λ m. matches pattern.text.now m.0) (map pair_of left))
 
--- what the patterns that are still to come ask for
+-- the applications of the patterns that are still to come
 abbrev pub coming_asked : Documents → PatternCursor → List (String Global × Doc) → List (Application Site)
 coming_asked documents c patterns = flat_map (λ p. matching_asked documents (numbered_site documents c.place) c.keyword.now p.0 c.members.now) (map pair_of patterns)
 
 abbrev pub patterns_asked : Documents → PatternCursor → List (Application Site)
 patterns_asked documents c = present_asked documents c.present c.below c.name.now c.left ++ coming_asked documents c c.patterns
 
--- this pattern is the present one, and all members are left of it
+-- this pattern is the present one, and all members are left for it
 pub record IsBegun (documents : Documents) (name : Text) (pattern : NamedPattern) (c d : PatternCursor) : Type 0 where
   pub present : d.present ≡ Some pattern
   pub pattern_is : pattern.text.now ≡ name

@@ -1,4 +1,4 @@
--- How a keyword's argument holds schemas, by what the keyword does (of private functions).
+-- How a keyword's argument holds schemas, by the keyword's kind (of private functions).
 use Rattle.std.specs.Prelude.{◌≡◌, Bool, Some}
 use Rattle.js_assert.specs.Argument.{entries}
 use Rattle.js_bundle.specs.Ranked.{is_alone, is_index, is_name, is_none}
@@ -30,6 +30,6 @@ held_at Properties = is_name
 held_at PatternProperties = is_name
 held_at _ = is_none
 
--- the keyword stands in the schema
+-- the schema has this keyword
 abbrev pub IsIn : Value → Keyword → Type 0
 IsIn schema k = get k.0 (entries schema) ≡ Some k.1

@@ -1,4 +1,4 @@
--- What a keyword with a list of schemas has still to ask for (of private functions).
+-- The applications that a keyword with a list of schemas still has to ask for (of private functions).
 use Rattle.std.specs.Prelude.{◌≡◌, List, drop, map}
 use Rattle.js_assert.specs.Argument.{values}
 use Rattle.js_bundle.specs.Document.{Documents}

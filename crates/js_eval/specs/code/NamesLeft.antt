@@ -1,4 +1,4 @@
--- What `properties` has still to ask for, name by name (of private functions).
+-- The applications that `properties` still has to ask for, name by name (of private functions).
 use Rattle.std.specs.Prelude.{◌≡◌, ℕ, ◌+◌, ◌<◌, ◌^◌, List, String, drop, filter, length, map}
 use Rattle.std.specs.Global.{Global}
 use Rattle.js_assert.specs.Argument.{entries, has}
@@ -23,14 +23,14 @@ abbrev pub on_member : Documents → ℕ → Text → doc.Named → Text × doc.
 on_member documents place keyword members m =
     application (schemas_of documents) (numbered_site documents place) keyword (Name m.0) (Name m.0) (namesake members (Name m.0) m.1)
 
--- of the names those that are a member's, with their schemas
+-- the names that a member has, with their schemas
 abbrev pub names_left : doc.Named → List (String Global × Doc) → doc.Named
 names_left members names = filter (λ m. has m.0 members) (map pair_of names)
 
 abbrev pub names_asked : Documents → NameCursor → List (Application Site)
 names_asked documents c = map (on_member documents c.place c.keyword.name.now c.members.now) (names_left c.members.now c.names)
 
--- of all names, these are left behind so many
+-- of all names, these are left after this many
 abbrev pub AreLeft : doc.Named → ℕ → List (String Global × Doc) → Type 0
 AreLeft all rank names = map pair_of names ≡ drop rank all
 

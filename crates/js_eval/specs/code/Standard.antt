@@ -1,4 +1,4 @@
--- What a keyword does and when it has its turn, by which keyword of the standard it is (of private functions).
+-- The kind of a keyword and its turn, by which keyword of the standard it is (of private functions).
 use Rattle.std.specs.Prelude.{List, map}
 use Rattle.js_doc.specs.Value.{Named}
 use Rattle.js_bundle.specs.KeywordName.{keyword_name}

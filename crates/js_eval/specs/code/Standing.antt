@@ -1,4 +1,4 @@
--- A place of documents with what stands there (of private functions).
+-- A place of documents with the schema there (of private functions).
 use Rattle.std.specs.Prelude.{◌≡◌, ℕ, true}
 use Rattle.js_doc.specs.Value.{Value}
 use Rattle.js_bundle.specs.Document.{Documents}

@@ -1,11 +1,11 @@
--- When the keywords of a schema have their turns, told in one pass over ascending members (of private functions).
+-- When the keywords of a schema have their turns, in one pass over ascending members (of private functions).
 use Rattle.std.specs.Prelude.{ℕ, List, [], ◌∷◌, ◌++◌, Bool, true, false, filter}
 use Rattle.js_doc.specs.Value.{Named}
 use Rattle.js_eval.specs.Keywords.{Keyword, has_node, is_else, is_after_if, comes_before_else, comes_after_else}
 use Rattle.js_eval.specs.declared.turn.Turn.{Turn}
 use Rattle.js_eval.specs.declared.turn.Turn.TheVariants.{Never, First, Second, Last}
 
--- by whether it has a node, stands behind `if`, is `else`
+-- by whether it has a node, comes after `if`, is `else`
 abbrev pub turn_by : Bool → Bool → Bool → Turn
 turn_by false after otherwise = Never
 turn_by true true otherwise = Last
@@ -21,7 +21,7 @@ is_ever First = true
 is_ever Second = true
 is_ever Last = true
 
--- ---- a keyword before those behind it
+-- ---- a keyword before those after it
 
 abbrev pub if_first : Turn → Keyword → List Keyword → List Keyword
 if_first First k ks = k ∷ ks
@@ -47,17 +47,17 @@ if_last Last k after ks = k ∷ after
 abbrev pub ever : Named → List Keyword
 ever ms = filter (λ k. is_ever (turn_of k.0)) ms
 
--- those that have the first turn: no one behind the first that has the last
+-- those that have the first turn: none after the first one that has the last turn
 abbrev pub first_turn : Named → List Keyword
 first_turn [] = []
 first_turn (m ∷ ms) = if_first (turn_of m.0) m (first_turn ms)
 
--- the one that has the second
+-- the one that has the second turn
 abbrev pub second_turn : Named → List Keyword
 second_turn [] = []
 second_turn (m ∷ ms) = if_second (turn_of m.0) m (second_turn ms)
 
--- those that have the last: all from the first of them on
+-- those that have the last turn: all from the first of them on
 abbrev pub last_turn : Named → List Keyword
 last_turn [] = []
 last_turn (m ∷ ms) = if_last (turn_of m.0) m (ever ms) (last_turn ms)

@@ -1,4 +1,4 @@
-//! The resources that a walk has come through.
+//! The dynamic scope of a walk (Core, section 7.1).
 ghost use Rattle.std.specs.Prelude.{◌≡◌, [], OnOk, length, take};
 ghost use Rattle.js_eval.specs.Walk.Scope.{HasGrown, ends_with};
 
@@ -6,7 +6,8 @@ use js_doc::Memory;
 use std::alloc::Global;
 use std::marker::Model;
 
-/// The numbers of the resources of a path's places, of equal neighbours one. Contracts see them as a list.
+/// The numbers of the schema resources of a path's places, from the root's on, without consecutive repeats. Contracts
+/// see a list of numbers.
 #[derive(Drop)]
 pub(crate) struct DynamicScope {
     numbers: Vec<usize>,
@@ -21,7 +22,7 @@ impl Model for DynamicScope {
 }
 
 impl DynamicScope {
-    /// That of an empty path.
+    /// The dynamic scope of an empty path.
     pub fn new(alloc: Global) -> DynamicScope
         ensures { result ≡ [] }
     {
@@ -30,14 +31,14 @@ impl DynamicScope {
         }
     }
 
-    /// How many numbers there are.
+    /// The number of resources.
     pub fn len(&self) -> usize
         ensures { result ≡ length self.now }
     {
         self.numbers.len()
     }
 
-    /// Goes to a place of the resource with this number.
+    /// Enters a place of the resource with this number.
     pub fn push(&mut self, resource: usize) -> Result<(), Memory>
         ensures { OnOk result (HasGrown self.old resource self.new) }
     {
@@ -47,14 +48,14 @@ impl DynamicScope {
         Ok(())
     }
 
-    /// Goes back to where there were so many.
+    /// Goes back to the first `len` resources.
     pub fn cut(&mut self, len: usize)
         ensures { self.new ≡ take len self.old }
     {
         self.numbers.truncate(len);
     }
 
-    /// The numbers.
+    /// The numbers of the resources.
     pub fn resources(&self) -> &[usize]
         ensures { result.now ≡ self.now }
     {

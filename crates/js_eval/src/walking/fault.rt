@@ -1,13 +1,14 @@
-//! What a walk is refused for.
+//! Why a walk fails.
 use js_doc::Memory;
 use std::alloc::{AllocError, AllocFailed};
 
-/// What a walk is refused for.
+/// Why a walk fails.
 #[derive(Clone, Copy, Debug, PartialEq, Eq)]
 pub enum WalkFault {
-    /// Memory was wanted and there was none.
+    /// An allocation failed.
     Memory,
-    /// No result stands within the limits.
+    /// No result is within the limits: 512 nested schema applications, and 1,000,000 nodes. Infinite recursion ends so
+    /// too (Core, section 9.4.1).
     TooLarge,
 }
 

@@ -1,23 +1,26 @@
-//! What a keyword keeps of what its applications have evaluated.
+//! What a keyword has evaluated, given what its applications have.
 ghost use Rattle.std.specs.Prelude.{◌≡◌, ◌++◌, OnOk, take, drop, cond, option_to_list};
 ghost use Rattle.js_eval.specs.Walk.Keeping.{keeps, names_origin, indexes_origin};
 
 use crate::kind::Kind;
 use js_doc::Memory;
 
-/// Where what a keyword has evaluated comes from.
+/// Which members or items a keyword has evaluated.
 #[derive(Clone, Copy, Debug, PartialEq, Eq)]
 pub(crate) enum Origin {
-    /// From what it was applied to.
+    /// Those that it applies a schema to.
     Applied,
-    /// From what it was applied to and holds.
+    /// Those that it successfully applies a schema to.
     Holding,
-    /// From what the schemas that it applied have evaluated.
+    /// Those that the schemas which it applies have evaluated.
     Below,
+    /// None.
     Nowhere,
 }
 
-/// Of what stands behind `from`, which a schema gave, what the keyword keeps.
+/// After an application, replaces the entries from index `from` on, which the applied schema has evaluated, by those
+/// that the keyword has. `own`: the member or item that the schema was applied to; `holds`: whether the application
+/// succeeded.
 pub(crate) fn keep<M: Copy>(
     list: &mut Vec<M>,
     from: usize,
@@ -25,7 +28,8 @@ pub(crate) fn keep<M: Copy>(
     holds: bool,
     own: Option<M>,
 ) -> Result<(), Memory>
-    ensures { OnOk result (list.new.items ≡ take from list.old.items ++ keeps source holds (option_to_list own) (drop from list.old.items)) }
+    ensures { OnOk result (list.new.items ≡ take from list.old.items
+        ++ keeps source holds (option_to_list own) (drop from list.old.items)) }
 {
     match source {
         Origin::Below => Ok(()),
@@ -53,7 +57,7 @@ fn push_given<M: Copy>(list: &mut Vec<M>, own: Option<M>) -> Result<(), Memory>
     Ok(())
 }
 
-/// Lets go what stands behind `from`, unless it is to stay.
+/// Drops the entries from index `from` on, unless they stay.
 pub(crate) fn cut_unless<M: Copy>(list: &mut Vec<M>, from: usize, stays: bool)
     ensures { list.new.items ≡ cond stays list.old.items (take from list.old.items) }
 {
@@ -62,7 +66,7 @@ pub(crate) fn cut_unless<M: Copy>(list: &mut Vec<M>, from: usize, stays: bool)
     }
 }
 
-/// Where the members that a keyword of this kind has evaluated come from.
+/// Which members a keyword of this kind has evaluated.
 pub(crate) fn names_origin(kind: Kind) -> Origin
     ensures { result ≡ names_origin kind }
 {
@@ -84,7 +88,7 @@ pub(crate) fn names_origin(kind: Kind) -> Origin
     }
 }
 
-/// Where the items that a keyword of this kind has evaluated come from.
+/// Which items a keyword of this kind has evaluated.
 pub(crate) fn indexes_origin(kind: Kind) -> Origin
     ensures { result ≡ indexes_origin kind }
 {

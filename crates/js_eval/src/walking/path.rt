@@ -1,12 +1,12 @@
-//! The places that a walk has come through.
+//! The places of the schemas that a walk is applying.
 ghost use Rattle.std.specs.Prelude.{◌≡◌, ◌++◌, ◌∷◌, [], List, ℕ};
 
 use crate::walking::unseen::Unseen;
 use js_bundle::Place;
 use std::marker::Model;
 
-/// The places that were applied, one below another. Contracts alone see them: what compiled code asks of them, the walk's
-/// dynamic scope answers.
+/// The places of the schemas being applied, each nested in the one before. Only contracts see them: compiled code uses
+/// the walk's dynamic scope instead.
 #[derive(Drop)]
 pub(crate) struct Path {
     places: Unseen,
@@ -21,7 +21,7 @@ impl Model for Path {
 }
 
 impl Path {
-    /// No places.
+    /// An empty path.
     pub fn new() -> Path
         ensures { result ≡ [] }
     {
@@ -30,7 +30,7 @@ impl Path {
         }
     }
 
-    /// Goes to a place.
+    /// Enters a place.
     #[inline(always)]
     pub fn push(&mut self, place: Place)
         ensures { self.new ≡ self.old ++ place ∷ [] }
@@ -38,7 +38,7 @@ impl Path {
         self.places = self.places.with_place(&place);
     }
 
-    /// Goes back from the last place.
+    /// Leaves the last place.
     #[inline(always)]
     pub fn pop(&mut self)
         ensures { (base : List ℕ) (last : ℕ) → self.old ≡ base ++ last ∷ [] → self.new ≡ base }

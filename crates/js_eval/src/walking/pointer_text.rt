@@ -1,4 +1,4 @@
-//! How the text of a trail is held, or that it isn't.
+//! The text of a trail, stored or not.
 ghost use Rattle.std.specs.Prelude.{◌≡◌, ◌++◌, ◌∷◌, [], List, OnOk, decimal, length, string_bytes, take, ℕ};
 ghost use Rattle.std.specs.String.Boundary.{IsSplitPoint};
 ghost use Rattle.js_doc.specs.Pointer.{escape};
@@ -8,9 +8,9 @@ use js_doc::Memory;
 use std::alloc::Global;
 use std::snapshot::Snapshot;
 
-/// The text of a pointer (RFC 6901), which grows at its end and is cut again.
+/// The text of a JSON Pointer (RFC 6901), which grows and shrinks at its end.
 pub(crate) trait PointerText {
-    /// How long it was.
+    /// A length that the text had.
     type Mark: Drop;
 
     ghost text: { Self → List ℕ };
@@ -21,25 +21,31 @@ pub(crate) trait PointerText {
     fn root(alloc: Global) -> Self
         ensures { text result ≡ [] };
 
-    /// Goes one token further.
+    /// Appends a token.
+    ///
+    /// # Errors
+    /// `Memory` if an allocation fails.
     fn push_name(&mut self, token: &str) -> Result<(), Memory>
         ensures { OnOk result (text self.new ≡ text self.old ++ 47 ∷ escape token.now) };
 
-    /// Goes one token further, to an item.
+    /// Appends an item's index as a token.
+    ///
+    /// # Errors
+    /// `Memory` if an allocation fails.
     fn push_index(&mut self, index: usize) -> Result<(), Memory>
         ensures { OnOk result (text self.new ≡ text self.old ++ 47 ∷ escape (decimal index)) };
 
-    /// How long it is.
+    /// The present length.
     fn mark(&self) -> Self::Mark
         ensures { length_at result ≡ length (text self.now) };
 
-    /// Goes back to where it was so long.
+    /// Cuts the text back to a length that it had.
     fn cut(&mut self, mark: Self::Mark)
         requires { IsSplitPoint (text self.old) (length_at mark) }
         ensures { text self.new ≡ take (length_at mark) (text self.old) };
 }
 
-/// A text that is held.
+/// A stored text.
 #[derive(Debug, Drop)]
 pub(crate) struct HeldText {
     pub text: String,
@@ -92,7 +98,7 @@ fn push_escaped(out: &mut String, token: &str) -> Result<(), Memory>
     Ok(())
 }
 
-/// A text that nobody reads, and that contracts alone see: for a walk of which no location is wanted.
+/// A text that only contracts see, for a walk that needs no locations.
 #[derive(Drop)]
 pub(crate) struct UnseenText {
     text: Unseen,

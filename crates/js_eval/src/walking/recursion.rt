@@ -1,7 +1,6 @@
-//! The recursion: the node of a schema, of a keyword, and those of what a keyword asks for.
+//! The recursion of a walk. Three functions evaluate a schema, a keyword, and the applications of a keyword.
 //!
-//! No bound of it names a lifetime, so that it may call itself. It goes down by one call of each of the three functions for each
-//! schema on the way.
+//! No bound names a lifetime, so that they may be recursive. A nested schema application takes one call of each.
 ghost use Rattle.std.specs.Prelude.{◌≡◌, ◌≤◌, true, map, length, drop, nat_eq, MatchResult};
 ghost use Rattle.std.specs.List.{dedup, list_all};
 ghost use Rattle.js_eval.specs.Walk.Steps.{NodeDone, KeywordDone, EachDone};
@@ -22,7 +21,11 @@ use crate::walking::world::World;
 use js_bundle::Place;
 use std::alloc::Global;
 
-/// The node of a place on a value, with all that stands below it.
+/// Evaluates a value against the schema at a place, and reports the schema's node and the nodes below it. Returns the
+/// verdict.
+///
+/// # Errors
+/// `Memory` if an allocation fails; `TooLarge` if no result is within the limits that are left.
 #[cycle(walk)]
 pub(crate) fn node<W: World, H: PointerText + Drop, R: Reporter<W, H>>(
     alloc: Global,
@@ -39,8 +42,10 @@ pub(crate) fn node<W: World, H: PointerText + Drop, R: Reporter<W, H>>(
     requires place { W.is_place world.now place ≡ true }
     requires schema { W.stands_at world.now place schema }
     ensures { MatchResult result
-        (λ valid. NodeDone (W.schemas world.now) W.text_of R.takes depth (map (W.site world.now) way.old.path) (W.site world.now place) (W.value_of value) valid way.old way.new into.old into.new)
-        (λ e. OnTooLarge e (HasNone (W.schemas world.now) depth (map (W.site world.now) way.old.path) (W.site world.now place) (W.value_of value) way.old.left)) }
+        (λ valid. NodeDone (W.schemas world.now) W.text_of R.takes depth (map (W.site world.now) way.old.path)
+        (W.site world.now place) (W.value_of value) valid way.old way.new into.old into.new)
+        (λ e. OnTooLarge e (HasNone (W.schemas world.now) depth (map (W.site world.now) way.old.path)
+        (W.site world.now place) (W.value_of value) way.old.left)) }
 {
     if depth == 0 {
         return Err(WalkFault::TooLarge);
@@ -82,7 +87,11 @@ pub(crate) fn node<W: World, H: PointerText + Drop, R: Reporter<W, H>>(
     Ok(valid)
 }
 
-/// The node of a keyword of the place that the path ends in.
+/// Evaluates a keyword, and reports its node and the nodes below it. `start`: how much was evaluated when the schema's
+/// node opened; `known`: what the keywords before have shown.
+///
+/// # Errors
+/// `Memory` if an allocation fails; `TooLarge` if no result is within the limits that are left.
 #[cycle(walk)]
 pub(crate) fn keyword_node<W: World, H: PointerText + Drop, R: Reporter<W, H>>(
     alloc: Global,
@@ -102,12 +111,18 @@ pub(crate) fn keyword_node<W: World, H: PointerText + Drop, R: Reporter<W, H>>(
     requires indexes { start.indexes ≤ length way.old.indexes.items }
     requires keyword { IsKeywordAt (W.schemas world.now) (W.site world.now case.place) (W.keyword_of case.keyword) }
     ensures { MatchResult result
-        (λ j. KeywordDone (W.schemas world.now) W.text_of R.takes depth (map (W.site world.now) way.old.path) (W.site world.now case.place) (W.value_of case.value) (W.keyword_of case.keyword) known.matching
-        (asked_by (W.schemas world.now) depth (map (W.site world.now) way.old.path) (W.site world.now case.place) (W.value_of case.value) (W.keyword_of case.keyword)
-        known.condition (map W.text_of (drop start.names way.old.names.items)) (drop start.indexes way.old.indexes.items)) j way.old way.new into.old into.new)
-        (λ e. OnTooLarge e (KeywordHasNone (W.schemas world.now) depth (map (W.site world.now) way.old.path) (W.site world.now case.place) (W.value_of case.value) (W.keyword_of case.keyword)
-        (asked_by (W.schemas world.now) depth (map (W.site world.now) way.old.path) (W.site world.now case.place) (W.value_of case.value) (W.keyword_of case.keyword)
-        known.condition (map W.text_of (drop start.names way.old.names.items)) (drop start.indexes way.old.indexes.items)) way.old.left)) }
+        (λ j. KeywordDone (W.schemas world.now) W.text_of R.takes depth (map (W.site world.now) way.old.path)
+        (W.site world.now case.place) (W.value_of case.value) (W.keyword_of case.keyword) known.matching
+        (asked_by (W.schemas world.now) depth (map (W.site world.now) way.old.path) (W.site world.now case.place)
+        (W.value_of case.value) (W.keyword_of case.keyword)
+        known.condition (map W.text_of (drop start.names way.old.names.items))
+        (drop start.indexes way.old.indexes.items)) j way.old way.new into.old into.new)
+        (λ e. OnTooLarge e (KeywordHasNone (W.schemas world.now) depth (map (W.site world.now) way.old.path)
+        (W.site world.now case.place) (W.value_of case.value) (W.keyword_of case.keyword)
+        (asked_by (W.schemas world.now) depth (map (W.site world.now) way.old.path) (W.site world.now case.place)
+        (W.value_of case.value) (W.keyword_of case.keyword)
+        known.condition (map W.text_of (drop start.names way.old.names.items))
+        (drop start.indexes way.old.indexes.items)) way.old.left)) }
 {
     if way.left == 0 {
         return Err(WalkFault::TooLarge);
@@ -135,7 +150,11 @@ pub(crate) fn keyword_node<W: World, H: PointerText + Drop, R: Reporter<W, H>>(
     })
 }
 
-/// The nodes of what a keyword asks for, in order.
+/// Evaluates the applications that a keyword asks for, in order, and reports their nodes. Returns how many there are,
+/// and how many succeed.
+///
+/// # Errors
+/// `Memory` if an allocation fails; `TooLarge` if no result is within the limits that are left.
 #[cycle(walk)]
 pub(crate) fn applications<W: World, H: PointerText + Drop, R: Reporter<W, H>>(
     alloc: Global,
@@ -150,8 +169,10 @@ pub(crate) fn applications<W: World, H: PointerText + Drop, R: Reporter<W, H>>(
     requires scope { way.old.scope ≡ dedup nat_eq (map (W.resource world.now) way.old.path) }
     requires asking { W.is_asking world.now asking.old }
     ensures { MatchResult result
-        (λ t. EachDone (W.schemas world.now) W.text_of R.takes depth (map (W.site world.now) way.old.path) kind (W.asked world.now asking.old) t way.old way.new into.old into.new)
-        (λ e. OnTooLarge e (SomeHasNone (W.schemas world.now) depth (map (W.site world.now) way.old.path) (W.asked world.now asking.old) way.old.left)) }
+        (λ t. EachDone (W.schemas world.now) W.text_of R.takes depth (map (W.site world.now) way.old.path) kind
+        (W.asked world.now asking.old) t way.old way.new into.old into.new)
+        (λ e. OnTooLarge e (SomeHasNone (W.schemas world.now) depth (map (W.site world.now) way.old.path)
+        (W.asked world.now asking.old) way.old.left)) }
 {
     let _left = way.left;
     let mut tally = Tally { asked: 0, held: 0 };

@@ -1,4 +1,4 @@
-//! What a walk reports to.
+//! Reporters: they receive the events of a walk.
 ghost use Rattle.std.specs.Prelude.{◌≡◌, true, Some, None, map, OnOk};
 ghost use Rattle.js_tree.specs.Events.{Event, opening, closing};
 ghost use Rattle.js_eval.specs.Walk.Told.{IsKeywordAt, says_at, schema_says};
@@ -11,10 +11,10 @@ use js_bundle::Place;
 use js_doc::Memory;
 use std::alloc::Global;
 
-/// What a walk reports to: each node of the result as it opens, and as it closes, after those below it. It is lent where the walk
-/// stands and what is known there, and makes a location or a note of it only where it wants one.
+/// A receiver of a walk's events: each node of the result opens, and closes after the nodes below it. It borrows the
+/// position of the walk and what is known there, and makes locations and notes only if it needs them.
 pub(crate) trait Reporter<W: World, H: PointerText + Drop> {
-    /// One event leads from this reporter to that one.
+    /// Whether an event leads from one state of the reporter to another. It holds of each call that returns Ok.
     ghost takes: { Self → Event → Self → Type 0 };
 
     /// The node of a schema opens.
@@ -27,7 +27,10 @@ pub(crate) trait Reporter<W: World, H: PointerText + Drop> {
         instance_location: &Trail<H>,
     ) -> Result<(), Memory>
         requires { W.is_place world.now place ≡ true }
-        ensures { OnOk result (takes self.old (opening keyword_location.now ((W.schemas world.now).absolute (W.site world.now place) None) instance_location.now) self.new) };
+        ensures { OnOk result (takes self.old
+            (opening keyword_location.now
+            ((W.schemas world.now).absolute (W.site world.now place) None)
+            instance_location.now) self.new) };
 
     /// The node of a keyword opens.
     fn open_keyword(
@@ -40,10 +43,14 @@ pub(crate) trait Reporter<W: World, H: PointerText + Drop> {
         instance_location: &Trail<H>,
     ) -> Result<(), Memory>
         requires { W.is_place world.now place ≡ true }
-        ensures { OnOk result (takes self.old (opening keyword_location.now ((W.schemas world.now).absolute (W.site world.now place) (Some ((W.keyword_of keyword).0))) instance_location.now) self.new) };
+        ensures { OnOk result (takes self.old
+            (opening keyword_location.now
+            ((W.schemas world.now).absolute (W.site world.now place) (Some ((W.keyword_of keyword).0)))
+            instance_location.now) self.new) };
 
-    /// The node of a keyword closes, which was judged on this value: of its applications so many hold, so many items match the
-    /// adjacent `contains`, and where it passes it gives these members and items.
+    /// The node of a keyword closes. `judged`: whether it passes, and how many of its applications succeed; `matching`:
+    /// the number of items that match the adjacent `contains`; `names`, `indexes`: the members and items that it has
+    /// evaluated if it passes.
     fn close_keyword(
         &mut self,
         alloc: Global,
@@ -58,7 +65,9 @@ pub(crate) trait Reporter<W: World, H: PointerText + Drop> {
     ) -> Result<(), Memory>
         requires place { W.is_place world.now place ≡ true }
         requires keyword { IsKeywordAt (W.schemas world.now) (W.site world.now place) (W.keyword_of keyword) }
-        ensures { OnOk result (takes self.old (closing judged.passes (says_at (W.schemas world.now) (W.site world.now place) (W.value_of value) matching (W.keyword_of keyword)
+        ensures { OnOk result (takes self.old
+            (closing judged.passes (says_at (W.schemas world.now) (W.site world.now place) (W.value_of value) matching
+            (W.keyword_of keyword)
             judged.held (map W.text_of names.now) indexes.now judged.passes)) self.new) };
 
     /// The node of a schema closes.
@@ -72,5 +81,6 @@ pub(crate) trait Reporter<W: World, H: PointerText + Drop> {
     ) -> Result<(), Memory>
         requires place { W.is_place world.now place ≡ true }
         requires schema { W.stands_at world.now place schema }
-        ensures { OnOk result (takes self.old (closing valid (schema_says (W.schemas world.now) (W.site world.now place))) self.new) };
+        ensures { OnOk result (takes self.old
+            (closing valid (schema_says (W.schemas world.now) (W.site world.now place))) self.new) };
 }

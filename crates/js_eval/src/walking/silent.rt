@@ -1,4 +1,4 @@
-//! A reporter that wants nothing.
+//! A reporter that ignores every event.
 use crate::walking::pointer_text::PointerText;
 use crate::walking::reporter::Reporter;
 use crate::walking::tally::Judged;
@@ -8,7 +8,7 @@ use js_bundle::Place;
 use js_doc::Memory;
 use std::alloc::Global;
 
-/// It makes nothing of what is reported to it: for a walk of which the verdict alone is wanted.
+/// Ignores every event, for a walk that only needs the verdict.
 #[derive(Clone, Copy)]
 pub(crate) struct Silent;
 

@@ -1,4 +1,4 @@
-//! A walk from its beginning.
+//! The start of a walk.
 ghost use Rattle.std.specs.Prelude.{◌≡◌, [], true, MatchResult};
 ghost use Rattle.js_eval.specs.Location.{at_root};
 ghost use Rattle.js_eval.specs.Result.{ResultTree, IsResult, IsWithinLimits};
@@ -17,16 +17,16 @@ use crate::walking::world::World;
 use js_bundle::Place;
 use std::alloc::Global;
 
-/// How many nodes of schemas may stand on a way from the root.
+/// The maximal number of nested schema applications, the root's schema included.
 const MOST_LEVELS: usize = 512;
 
-/// How many nodes a result may have.
+/// The maximal number of nodes of a result.
 const MOST_NODES: usize = 1_000_000;
 
-/// Judges a value at a place, and reports the result node by node.
+/// Evaluates a value against the schema at a place, and reports the result node by node. Returns the verdict.
 ///
 /// # Errors
-/// `Memory`; `TooLarge` exactly where no result stands within the limits.
+/// `Memory` if an allocation fails; `TooLarge` if no result is within the limits.
 pub(crate) fn walk_from<W: World, H: PointerText + Drop, R: Reporter<W, H>>(
     alloc: Global,
     world: &W,
@@ -38,8 +38,11 @@ pub(crate) fn walk_from<W: World, H: PointerText + Drop, R: Reporter<W, H>>(
     requires place { W.is_place world.now place ≡ true }
     requires schema { W.stands_at world.now place schema }
     ensures { MatchResult result
-        (λ valid. Reported (W.schemas world.now) (W.site world.now place) (W.value_of value) R.takes valid into.old into.new)
-        (λ e. OnTooLarge e ((t : ResultTree) → IsResult (W.schemas world.now) [] (W.site world.now place) at_root (W.value_of value) t → IsWithinLimits t → ⊥)) }
+        (λ valid. Reported (W.schemas world.now) (W.site world.now place) (W.value_of value)
+        R.takes valid into.old into.new)
+        (λ e. OnTooLarge e ((t : ResultTree)
+        → IsResult (W.schemas world.now) [] (W.site world.now place) at_root (W.value_of value) t
+        → IsWithinLimits t → ⊥)) }
 {
     let mut way: Way<W::Name, H> = Way {
         path: Path::new(),

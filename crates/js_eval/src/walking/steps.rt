@@ -1,4 +1,4 @@
-//! The steps of a walk, each of which may want memory.
+//! The single steps of the recursion. Each that returns a `Result` fails with `Memory` if an allocation fails.
 ghost use Rattle.std.specs.Prelude.{◌≡◌, ◌∷◌, [], ◌<◌, ◌≤◌, List, true, map, length, drop, nat_eq, IfOk, OnOk, MatchOption, ℕ};
 ghost use Rattle.std.specs.List.{dedup, list_all};
 ghost use Rattle.std.specs.String.Boundary.{IsSplitPoint};
@@ -17,7 +17,7 @@ use js_bundle::Place;
 use js_doc::Memory;
 use std::alloc::Global;
 
-/// Opens the node of a schema, which may have one.
+/// Opens the node of a schema. The limit must allow one more node.
 pub(crate) fn open_schema<W: World, H: PointerText + Drop, R: Reporter<W, H>>(
     alloc: Global,
     world: &W,
@@ -27,7 +27,8 @@ pub(crate) fn open_schema<W: World, H: PointerText + Drop, R: Reporter<W, H>>(
 ) -> Result<(), Memory>
     requires place { W.is_place world.now place ≡ true }
     requires left { 0 < way.old.left }
-    ensures { OnOk result (SchemaOpened (W.schemas world.now) W.text_of R.takes (W.site world.now place) place (W.resource world.now place) way.old way.new into.old into.new) }
+    ensures { OnOk result (SchemaOpened (W.schemas world.now) W.text_of R.takes (W.site world.now place) place
+        (W.resource world.now place) way.old way.new into.old into.new) }
 {
     way.left -= 1;
     into.open_schema(alloc, world, place, &way.keyword, &way.instance)?;
@@ -36,7 +37,7 @@ pub(crate) fn open_schema<W: World, H: PointerText + Drop, R: Reporter<W, H>>(
     Ok(())
 }
 
-/// Closes the node of a schema. What it has evaluated goes, if it fails.
+/// Closes the node of a schema. If it fails, drops what it has evaluated.
 pub(crate) fn close_schema<W: World, H: PointerText + Drop, R: Reporter<W, H>>(
     alloc: Global,
     world: &W,
@@ -49,7 +50,8 @@ pub(crate) fn close_schema<W: World, H: PointerText + Drop, R: Reporter<W, H>>(
 ) -> Result<(), Memory>
     requires place { W.is_place world.now place ≡ true }
     requires schema { W.stands_at world.now place schema }
-    ensures { OnOk result (SchemaClosed (W.schemas world.now) W.text_of R.takes (W.site world.now place) start valid way.old way.new into.old into.new) }
+    ensures { OnOk result (SchemaClosed (W.schemas world.now) W.text_of R.takes
+        (W.site world.now place) start valid way.old way.new into.old into.new) }
 {
     into.close_schema(alloc, world, place, schema, valid)?;
     way.path.pop();
@@ -59,18 +61,19 @@ pub(crate) fn close_schema<W: World, H: PointerText + Drop, R: Reporter<W, H>>(
     Ok(())
 }
 
-/// The next keyword of a schema, whatever those before it say.
+/// The next keyword of a schema. Keywords are evaluated even if one before them has failed.
 pub(crate) fn next_keyword<W: World>(
     world: &W,
     judging: &mut Judging<W::Keywords>,
 ) -> Option<W::Keyword>
-    ensures next { MatchOption result (W.listed judging.old.keywords ≡ []) (λ k. W.listed judging.old.keywords ≡ W.keyword_of k ∷ W.listed judging.new.keywords) }
+    ensures next { MatchOption result (W.listed judging.old.keywords ≡ [])
+        (λ k. W.listed judging.old.keywords ≡ W.keyword_of k ∷ W.listed judging.new.keywords) }
     ensures known { judging.new.known ≡ judging.old.known }
 {
     world.next_keyword(&mut judging.keywords)
 }
 
-/// Opens the node of a keyword, which may have one.
+/// Opens the node of a keyword. The limit must allow one more node.
 #[inline(always)]
 pub(crate) fn open_keyword<W: World, H: PointerText + Drop, R: Reporter<W, H>>(
     alloc: Global,
@@ -82,15 +85,16 @@ pub(crate) fn open_keyword<W: World, H: PointerText + Drop, R: Reporter<W, H>>(
 ) -> Result<(), Memory>
     requires place { W.is_place world.now place ≡ true }
     requires left { 0 < way.old.left }
-    ensures { OnOk result (KeywordOpened (W.schemas world.now) W.text_of R.takes (W.site world.now place) (W.keyword_of keyword) way.old way.new into.old into.new) }
+    ensures { OnOk result (KeywordOpened (W.schemas world.now) W.text_of R.takes (W.site world.now place)
+        (W.keyword_of keyword) way.old way.new into.old into.new) }
 {
     way.left -= 1;
     world.go_to_keyword(keyword, &mut way.keyword)?;
     into.open_keyword(alloc, world, place, keyword, &way.keyword, &way.instance)
 }
 
-/// What a keyword asks for, by what has been evaluated since the schema's node opened. What it works with stands in no
-/// frame of the recursion.
+/// The applications that a keyword asks for, given what has been evaluated since the schema's node opened. It isn't
+/// inlined, to keep its locals out of the recursive function's stack frame.
 #[inline(never)]
 pub(crate) fn asked<W: World, H: PointerText + Drop>(
     alloc: Global,
@@ -107,7 +111,9 @@ pub(crate) fn asked<W: World, H: PointerText + Drop>(
     requires names { start.names ≤ length way.now.names.items }
     requires indexes { start.indexes ≤ length way.now.indexes.items }
     requires keyword { IsKeywordAt (W.schemas world.now) (W.site world.now case.place) (W.keyword_of case.keyword) }
-    ensures asked { IfOk result (λ a. W.asked world.now a ≡ asked_by (W.schemas world.now) 0 (map (W.site world.now) way.now.path) (W.site world.now case.place) (W.value_of case.value) (W.keyword_of case.keyword)
+    ensures asked { IfOk result (λ a. W.asked world.now a
+        ≡ asked_by (W.schemas world.now) 0 (map (W.site world.now) way.now.path) (W.site world.now case.place)
+        (W.value_of case.value) (W.keyword_of case.keyword)
         condition (map W.text_of (drop start.names way.now.names.items)) (drop start.indexes way.now.indexes.items)) }
     ensures is { IfOk result (λ a. W.is_asking world.now a) }
 {
@@ -127,7 +133,7 @@ pub(crate) fn asked<W: World, H: PointerText + Drop>(
     )
 }
 
-/// Closes the node of a keyword. What it has evaluated goes, if it fails.
+/// Closes the node of a keyword, and returns whether it passes. If it fails, drops what it has evaluated.
 #[inline(always)]
 pub(crate) fn close_keyword<W: World, H: PointerText + Drop, R: Reporter<W, H>>(
     alloc: Global,
@@ -145,7 +151,9 @@ pub(crate) fn close_keyword<W: World, H: PointerText + Drop, R: Reporter<W, H>>(
     requires indexes { here.indexes ≤ length way.old.indexes.items }
     requires trail { IsSplitPoint way.old.keyword (H.length_at here.keyword) }
     requires keyword { IsKeywordAt (W.schemas world.now) (W.site world.now case.place) (W.keyword_of case.keyword) }
-    ensures { IfOk result (λ passes. KeywordClosed (W.schemas world.now) W.text_of R.takes H.length_at (W.site world.now case.place) (W.value_of case.value) (W.keyword_of case.keyword) matching tally here passes way.old way.new into.old into.new) }
+    ensures { IfOk result (λ passes. KeywordClosed (W.schemas world.now) W.text_of R.takes H.length_at
+        (W.site world.now case.place) (W.value_of case.value)
+        (W.keyword_of case.keyword) matching tally here passes way.old way.new into.old into.new) }
 {
     let Case {
         place,
@@ -169,7 +177,8 @@ pub(crate) fn close_keyword<W: World, H: PointerText + Drop, R: Reporter<W, H>>(
     Ok(passes)
 }
 
-/// The node of a keyword that applies no schema. What it works with stands in no frame of the recursion.
+/// Evaluates a keyword that applies no schema, and reports its node. It isn't inlined, to keep its locals out of the
+/// recursive function's stack frame.
 #[inline(never)]
 pub(crate) fn childless_node<W: World, H: PointerText + Drop, R: Reporter<W, H>>(
     alloc: Global,
@@ -183,7 +192,9 @@ pub(crate) fn childless_node<W: World, H: PointerText + Drop, R: Reporter<W, H>>
     requires schema { W.stands_at world.now case.place case.schema }
     requires keyword { IsKeywordAt (W.schemas world.now) (W.site world.now case.place) (W.keyword_of case.keyword) }
     requires left { 0 < way.old.left }
-    ensures { IfOk result (λ j. (depth : ℕ) (path : List Site) → KeywordDone (W.schemas world.now) W.text_of R.takes depth path (W.site world.now case.place) (W.value_of case.value) (W.keyword_of case.keyword) matching [] j
+    ensures { IfOk result (λ j. (depth : ℕ) (path : List Site)
+        → KeywordDone (W.schemas world.now) W.text_of R.takes depth path (W.site world.now case.place)
+        (W.value_of case.value) (W.keyword_of case.keyword) matching [] j
         way.old way.new into.old into.new) }
 {
     let here = way.mark();
@@ -193,7 +204,7 @@ pub(crate) fn childless_node<W: World, H: PointerText + Drop, R: Reporter<W, H>>
     Ok(Judged { passes, held: 0 })
 }
 
-/// Goes to where a schema is applied to a value.
+/// Moves both trails down to an application.
 pub(crate) fn go_down<W: World, H: PointerText + Drop>(
     world: &W,
     way: &mut Way<W::Name, H>,
@@ -205,7 +216,7 @@ pub(crate) fn go_down<W: World, H: PointerText + Drop>(
     world.go_to_value(application, &mut way.instance)
 }
 
-/// Comes back from there, with what the keyword keeps of what was evaluated.
+/// Moves both trails back up, and replaces what the applied schema has evaluated by what the keyword has.
 pub(crate) fn come_back<W: World, H: PointerText + Drop>(
     world: &W,
     way: &mut Way<W::Name, H>,
@@ -216,7 +227,8 @@ pub(crate) fn come_back<W: World, H: PointerText + Drop>(
 ) -> Result<(), Memory>
     requires keyword { IsSplitPoint way.old.keyword (H.length_at here.keyword) }
     requires instance { IsSplitPoint way.old.instance (H.length_at here.instance) }
-    ensures { OnOk result (CameBack W.text_of H.length_at kind (W.application_of world.now application) here holds way.old way.new) }
+    ensures { OnOk result (CameBack W.text_of H.length_at kind
+        (W.application_of world.now application) here holds way.old way.new) }
 {
     way.keyword.cut(here.keyword);
     way.instance.cut(here.instance);

@@ -1,11 +1,11 @@
-//! What is judged, what is known of a keyword from its applications, and of a schema from its keywords.
+//! What a walk knows of a keyword from its applications, and of a schema from its keywords.
 ghost use Rattle.std.specs.Prelude.{◌≡◌, ◌&&◌, ◌≤◌, ◌<◌, ◌+◌, cond};
 ghost use Rattle.js_eval.specs.Walk.Keeping.{condition_step, matching_step};
 
 use crate::kind::Kind;
 use js_bundle::Place;
 
-/// What is judged: a keyword of a place, on a value.
+/// What is evaluated: a keyword of the schema at a place, on a value.
 #[derive(Clone, Copy)]
 pub(crate) struct Case<S, V, K> {
     pub place: Place,
@@ -14,22 +14,22 @@ pub(crate) struct Case<S, V, K> {
     pub keyword: K,
 }
 
-/// How many applications a keyword asked for, and how many of them hold.
+/// The number of applications that a keyword has asked for, and the number of those that succeed.
 #[derive(Clone, Copy)]
 pub(crate) struct Tally {
     pub asked: usize,
     pub held: usize,
 }
 
-/// Whether a keyword passes, and how many of its applications hold.
+/// Whether a keyword passes, and how many of its applications succeed.
 #[derive(Clone, Copy)]
 pub(crate) struct Judged {
     pub passes: bool,
     pub held: usize,
 }
 
-/// What is known of a schema from the keywords that are walked: whether it is valid so far, the verdict of its `if`, and how many
-/// items match its `contains`.
+/// What the keywords evaluated so far show of a schema: whether it is valid so far, whether its `if` succeeds, and how
+/// many items match its `contains`.
 #[derive(Clone, Copy)]
 pub(crate) struct Known {
     pub valid: bool,
@@ -37,7 +37,7 @@ pub(crate) struct Known {
     pub matching: u64,
 }
 
-/// The keywords of a schema that are still to be judged, and what is known from those before.
+/// The keywords of a schema that are still to be evaluated, and what those before them have shown.
 #[derive(Drop)]
 pub(crate) struct Judging<K> {
     pub keywords: K,
@@ -45,7 +45,7 @@ pub(crate) struct Judging<K> {
 }
 
 impl Tally {
-    /// One application more.
+    /// The tally with one more application.
     pub fn with_application(self, holds: bool) -> Tally
         requires few { self.asked < usize.MAX }
         requires held { self.held ≤ self.asked }
@@ -60,7 +60,7 @@ impl Tally {
 }
 
 impl Known {
-    /// One keyword more.
+    /// What is known with one more keyword.
     pub fn with_keyword(self, kind: Kind, passes: bool, held: usize) -> Known
         ensures valid { result.valid ≡ (self.valid && passes) }
         ensures condition { result.condition ≡ condition_step kind held self.condition }

@@ -1,4 +1,4 @@
-//! Where a walk is in the schemas, or in the instance.
+//! The position of a walk in the schemas, or in the instance.
 ghost use Rattle.std.specs.Prelude.{◌≡◌, ◌++◌, ◌∷◌, [], IfOk, OnOk, decimal, length, take};
 ghost use Rattle.std.specs.String.Boundary.{IsSplitPoint};
 ghost use Rattle.js_doc.specs.Pointer.{escape};
@@ -8,7 +8,8 @@ use js_doc::{Memory, Text};
 use std::alloc::Global;
 use std::marker::Model;
 
-/// Where a walk is, as the text of a pointer. Contracts see its bytes, whether the text is held or not.
+/// The position of a walk, as the text of a JSON Pointer (RFC 6901): its keyword location or its instance location.
+/// Contracts see the bytes of the text, whether it is stored or not.
 #[derive(Drop)]
 pub(crate) struct Trail<H: PointerText + Drop> {
     held: H,
@@ -23,7 +24,7 @@ impl<H: PointerText + Drop> Model for Trail<H> {
 }
 
 impl<H: PointerText + Drop> Trail<H> {
-    /// At the root.
+    /// The trail at the root.
     pub fn new(alloc: Global) -> Trail<H>
         ensures { result ≡ [] }
     {
@@ -32,7 +33,10 @@ impl<H: PointerText + Drop> Trail<H> {
         }
     }
 
-    /// Goes one token further.
+    /// Appends a token.
+    ///
+    /// # Errors
+    /// `Memory` if an allocation fails.
     #[inline(always)]
     pub fn push_name(&mut self, token: &str) -> Result<(), Memory>
         ensures { OnOk result (self.new ≡ self.old ++ 47 ∷ escape token.now) }
@@ -40,7 +44,10 @@ impl<H: PointerText + Drop> Trail<H> {
         self.held.push_name(token)
     }
 
-    /// Goes one token further, to an item.
+    /// Appends an item's index as a token.
+    ///
+    /// # Errors
+    /// `Memory` if an allocation fails.
     #[inline(always)]
     pub fn push_index(&mut self, index: usize) -> Result<(), Memory>
         ensures { OnOk result (self.new ≡ self.old ++ 47 ∷ escape (decimal index)) }
@@ -48,7 +55,7 @@ impl<H: PointerText + Drop> Trail<H> {
         self.held.push_index(index)
     }
 
-    /// Where it is.
+    /// A mark of the present position.
     #[inline(always)]
     pub fn mark(&self) -> H::Mark
         ensures { H.length_at result ≡ length self.now }
@@ -56,7 +63,7 @@ impl<H: PointerText + Drop> Trail<H> {
         self.held.mark()
     }
 
-    /// Goes back to where it was.
+    /// Goes back to a marked position.
     #[inline(always)]
     pub fn cut(&mut self, mark: H::Mark)
         requires { IsSplitPoint self.old (H.length_at mark) }
@@ -67,7 +74,10 @@ impl<H: PointerText + Drop> Trail<H> {
 }
 
 impl Trail<HeldText> {
-    /// The text as it is now.
+    /// A copy of the text.
+    ///
+    /// # Errors
+    /// `Memory` if an allocation fails.
     pub fn copy(&self) -> Result<Text, Memory>
         ensures { IfOk result (λ t. t ≡ self.now) }
     {

@@ -1,4 +1,4 @@
-//! A list of numbers that contracts alone see.
+//! A list of numbers that only contracts see.
 ghost use Rattle.std.specs.Prelude.{◌≡◌, ◌++◌, ◌-◌, ◌∷◌, [], List, ℕ, decimal, length, take};
 ghost use Rattle.std.specs.Borrow.{ftrue};
 ghost use Rattle.js_doc.specs.Pointer.{escape};
@@ -7,7 +7,7 @@ use js_bundle::Place;
 use std::marker::Model;
 use std::snapshot::Snapshot;
 
-/// A list of numbers that contracts alone see. It takes no memory, and no compiled code does anything with it.
+/// A list of numbers that only contracts see. It takes no memory, and compiled code does nothing with it.
 #[derive(Drop)]
 pub(crate) struct Unseen {
     pub ghost items: { List ℕ },
@@ -25,7 +25,7 @@ impl Unseen {
         Unseen {}
     }
 
-    /// With a place's number behind it.
+    /// The list with a place's number at its end.
     #[inline(always)]
     pub fn with_place(&self, _place: &Place) -> Unseen
         ensures { result.items ≡ self.now.items ++ _place.now ∷ [] }
@@ -33,7 +33,7 @@ impl Unseen {
         Unseen {}
     }
 
-    /// With a pointer's token behind it.
+    /// The list with `/` and a token of a pointer at its end.
     #[inline(always)]
     pub fn with_name(&self, _token: &str) -> Unseen
         ensures { result.items ≡ self.now.items ++ 47 ∷ escape _token.now }
@@ -41,7 +41,7 @@ impl Unseen {
         Unseen {}
     }
 
-    /// With an index as a pointer's token behind it.
+    /// The list with `/` and an index, as a token of a pointer, at its end.
     #[inline(always)]
     pub fn with_index(&self, _index: usize) -> Unseen
         ensures { result.items ≡ self.now.items ++ 47 ∷ escape (decimal _index) }
@@ -49,7 +49,7 @@ impl Unseen {
         Unseen {}
     }
 
-    /// As far as this one goes.
+    /// The first numbers of the list: as many as there are in the mark.
     #[inline(always)]
     pub fn until(&self, _mark: &Snapshot<Unseen>) -> Unseen
         ensures { result.items ≡ take (length _mark.now.value.items) self.now.items }
@@ -57,7 +57,7 @@ impl Unseen {
         Unseen {}
     }
 
-    /// Without its last number.
+    /// The list without its last number.
     #[inline(always)]
     pub fn without_last(&self) -> Unseen
         ensures { result.items ≡ take (length self.now.items - 1) self.now.items }

@@ -1,4 +1,4 @@
-//! Where a walk stands, and what it carries along.
+//! The state of a walk.
 ghost use Rattle.js_eval.specs.Walk.Steps.{MarkOf, StartOf};
 
 use crate::walking::dynamic_scope::DynamicScope;
@@ -6,8 +6,8 @@ use crate::walking::path::Path;
 use crate::walking::pointer_text::PointerText;
 use crate::walking::trail::Trail;
 
-/// Where a walk stands: the places applied and their resources, where it is in the schemas and in the instance, how many nodes may still come, and what
-/// has been evaluated so far.
+/// The state of a walk: the places of the schemas being applied and their schema resources, the keyword location and
+/// the instance location, how many more nodes the result may have, and the members and items evaluated so far.
 #[derive(Drop)]
 pub(crate) struct Way<M, H: PointerText + Drop> {
     pub path: Path,
@@ -19,7 +19,7 @@ pub(crate) struct Way<M, H: PointerText + Drop> {
     pub indexes: Vec<usize>,
 }
 
-/// How much had been evaluated, and how long the dynamic scope was, where a schema began.
+/// How much had been evaluated, and how long the dynamic scope was, when a schema's node opened.
 #[derive(Clone, Copy)]
 pub(crate) struct Start {
     pub names: usize,
@@ -27,7 +27,7 @@ pub(crate) struct Start {
     pub scope: usize,
 }
 
-/// How much had been evaluated, and where the trails were.
+/// How much had been evaluated, and where the trails were, before a keyword's node or an application.
 #[derive(Drop)]
 pub(crate) struct Mark<K: Drop> {
     pub names: usize,
@@ -37,7 +37,7 @@ pub(crate) struct Mark<K: Drop> {
 }
 
 impl<M, H: PointerText + Drop> Way<M, H> {
-    /// How long its lists and its dynamic scope are.
+    /// The present lengths of the lists and of the dynamic scope.
     pub fn start(&self) -> Start
         ensures { StartOf self.now result }
     {
@@ -48,7 +48,7 @@ impl<M, H: PointerText + Drop> Way<M, H> {
         }
     }
 
-    /// How long its lists are, and where its trails are.
+    /// The present lengths of the lists and positions of the trails.
     pub fn mark(&self) -> Mark<H::Mark>
         ensures { MarkOf H.length_at self.now result }
     {

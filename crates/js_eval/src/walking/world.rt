@@ -1,4 +1,4 @@
-//! What a walk asks of schemas and of an instance.
+//! What a walk needs to know of schemas and of an instance.
 ghost use Rattle.std.specs.Prelude.{◌≡◌, ◌∷◌, [], List, ℕ, Bool, Option, false, true, map, length, nat_eq, option_to_list, IfOk, OnOk, MatchOption};
 ghost use Rattle.std.specs.List.{dedup, list_all};
 ghost use Rattle.js_doc.specs.Members.{IsAscending};
@@ -21,36 +21,39 @@ use js_bundle::Place;
 use js_doc::Memory;
 use std::alloc::Global;
 
-/// What a walk asks of schemas and of an instance. No type of it has a lifetime's name, so that a walk over it may call itself.
+/// What a walk needs to know of schemas and of an instance. No type names a lifetime, so that a walk over a `World` may
+/// be recursive.
 pub(crate) trait World {
     /// A value of the instance, or the name of a member.
     type Value: Copy;
     /// The name of a member.
     type Name: Copy;
 
-    /// What stands at a place.
+    /// The schema at a place.
     type Schema: Copy;
 
     type Keyword: Copy;
     /// The keywords of a schema that are still to come.
     type Keywords: Drop;
 
+    /// A subschema that a keyword applies to a value.
     type Application: Copy;
-    /// What a keyword is still to ask for.
+    /// The applications that a keyword still has to ask for.
     type Asking: Drop;
 
-    /// The set of schemas, over the places of documents.
+    /// The schemas, as the definitions see them: over the places of documents.
     ghost schemas: { Self → SchemaSet Site };
 
-    /// Whether a place's number is one of them, and the place of that number.
+    /// Whether a number is that of a place.
     ghost is_place: { Self → ℕ → Bool };
 
+    /// The place with this number.
     ghost site: { Self → ℕ → Site };
 
-    /// At the place of a number stands this schema.
+    /// Whether this is the schema at the place with this number.
     ghost stands_at: { Self → ℕ → Self.Schema → Type 0 };
 
-    /// The number of the resource of the place of a number.
+    /// The number of the schema resource of the place with this number.
     ghost resource: { Self → ℕ → ℕ };
 
     ghost value_of: { Self.Value → JsonValue };
@@ -69,16 +72,16 @@ pub(crate) trait World {
 
     ghost asked: { Self → Self.Asking → List (Applied Site) };
 
-    /// What is asked for are schemas of these.
+    /// Whether what is asked for are applications of these schemas.
     ghost is_asking: { Self → Self.Asking → Type 0 };
 
-    /// The schema isn't `false`.
+    /// Whether the schema isn't `false`.
     fn accepts(&self, place: Place, schema: Self::Schema) -> bool
         requires place { is_place self.now place ≡ true }
         requires schema { stands_at self.now place schema }
         ensures { result ≡ accepts_at (schemas self.now) (site self.now place) };
 
-    /// The number of a place's resource.
+    /// The number of the schema resource that a place is in.
     fn resource(&self, place: Place) -> usize
         requires { is_place self.now place ≡ true }
         ensures { result ≡ resource self.now place };
@@ -91,18 +94,22 @@ pub(crate) trait World {
         ensures ascending { IsAscending (entries ((schemas self.now).schema (site self.now place))) };
 
     fn next_keyword(&self, keywords: &mut Self::Keywords) -> Option<Self::Keyword>
-        ensures { MatchOption result (listed keywords.old ≡ []) (λ k. listed keywords.old ≡ keyword_of k ∷ listed keywords.new) };
+        ensures { MatchOption result (listed keywords.old ≡ [])
+            (λ k. listed keywords.old ≡ keyword_of k ∷ listed keywords.new) };
 
     fn kind(&self, keyword: Self::Keyword) -> Kind
         ensures { result ≡ kind_at (keyword_of keyword) };
 
-    /// Whether a keyword may ask for anything.
+    /// Whether a keyword may ask for applications.
     fn asks(&self, keyword: Self::Keyword) -> bool
-        ensures { (depth : ℕ) (path : List Site) (place : Site) (v : JsonValue) (condition : Option Bool) (names : List Bytes) (indexes : List ℕ)
-            → result ≡ false → asked_by (schemas self.now) depth path place v (keyword_of keyword) condition names indexes ≡ [] };
+        ensures { (depth : ℕ) (path : List Site) (place : Site) (v : JsonValue) (condition : Option Bool)
+            (names : List Bytes) (indexes : List ℕ)
+            → result ≡ false → asked_by (schemas self.now) depth path place v
+            (keyword_of keyword) condition names indexes ≡ [] };
 
-    /// What a keyword asks for, where these facts are known of the keywords before it: the verdict of `if`, and what has been
-    /// evaluated. `resources`: those of the path, of equal neighbours one.
+    /// The applications that a keyword asks for. `condition`, `names`, `indexes`: what the keywords before it have
+    /// shown, which is whether `if` succeeds, and the members and items evaluated; `resources`: the numbers of the
+    /// schema resources of the path, without consecutive repeats.
     fn asking(
         &self,
         alloc: Global,
@@ -121,27 +128,32 @@ pub(crate) trait World {
         requires place { is_place self.now place ≡ true }
         requires schema { stands_at self.now place schema }
         requires keyword { IsKeywordAt (schemas self.now) (site self.now place) (keyword_of keyword) }
-        ensures asked { IfOk result (λ a. asked self.now a ≡ asked_by (schemas self.now) 0 (map (site self.now) path.now) (site self.now place) (value_of value) (keyword_of keyword)
+        ensures asked { IfOk result (λ a. asked self.now a
+            ≡ asked_by (schemas self.now) 0 (map (site self.now) path.now) (site self.now place) (value_of value)
+            (keyword_of keyword)
             condition (map text_of names.now) indexes.now) }
         ensures is { IfOk result (λ a. is_asking self.now a) };
 
+    /// The next application, or None after the last.
     fn next(
         &self,
         alloc: Global,
         asking: &mut Self::Asking,
     ) -> Result<Option<Self::Application>, Memory>
         requires { is_asking self.now asking.old }
-        ensures next { IfOk result (λ o. MatchOption o (asked self.now asking.old ≡ []) (λ a. asked self.now asking.old ≡ application_of self.now a ∷ asked self.now asking.new)) }
+        ensures next { IfOk result (λ o. MatchOption o (asked self.now asking.old ≡ [])
+            (λ a. asked self.now asking.old ≡ application_of self.now a ∷ asked self.now asking.new)) }
         ensures is { IfOk result (λ o. MatchOption o (Unit {0}) (λ a. is_place self.now (place_of a) ≡ true)) }
-        ensures schema { IfOk result (λ o. MatchOption o (Unit {0}) (λ a. stands_at self.now (place_of a) (schema_of a))) }
+        ensures schema { IfOk result (λ o. MatchOption o (Unit {0})
+            (λ a. stands_at self.now (place_of a) (schema_of a))) }
         ensures asking { IfOk result (λ _. is_asking self.now asking.new) };
 
-    /// The place of the schema that is applied.
+    /// The place of the applied schema.
     fn place(&self, application: Self::Application) -> Place
         ensures number { result ≡ place_of application }
         ensures site { site self.now result ≡ (application_of self.now application).place };
 
-    /// What stands there.
+    /// The applied schema.
     fn schema(&self, application: Self::Application) -> Self::Schema
         ensures { result ≡ schema_of application };
 
@@ -149,16 +161,16 @@ pub(crate) trait World {
     fn value(&self, application: Self::Application) -> Self::Value
         ensures { value_of result ≡ (application_of self.now application).value };
 
-    /// The member that it is applied to.
+    /// The name of the member that it is applied to, if it is applied to one.
     fn member(&self, application: Self::Application) -> Option<Self::Name>
         ensures { map text_of (option_to_list result) ≡ name_in (application_of self.now application).at };
 
-    /// The item that it is applied to.
+    /// The index of the item that it is applied to, if it is applied to one.
     fn item(&self, application: Self::Application) -> Option<usize>
         ensures { option_to_list result ≡ index_in (application_of self.now application).at };
 
-    /// Whether a keyword passes, which asked for so many applications of which so many hold, where so many items match the adjacent
-    /// `contains`.
+    /// Whether a keyword passes. `tally`: the number of its applications, and of those that succeed; `matching`: the
+    /// number of items that match the adjacent `contains`.
     fn passes(
         &self,
         alloc: Global,
@@ -172,10 +184,12 @@ pub(crate) trait World {
         requires place { is_place self.now place ≡ true }
         requires schema { stands_at self.now place schema }
         requires keyword { IsKeywordAt (schemas self.now) (site self.now place) (keyword_of keyword) }
-        ensures { IfOk result (λ b. (verdicts : List Bool) → length verdicts ≡ tally.asked → how_many verdicts ≡ tally.held
-            → b ≡ passes_at (schemas self.now) (site self.now place) (value_of value) matching (keyword_of keyword) verdicts) };
+        ensures { IfOk result (λ b. (verdicts : List Bool) → length verdicts ≡ tally.asked
+            → how_many verdicts ≡ tally.held
+            → b ≡ passes_at (schemas self.now) (site self.now place) (value_of value) matching
+            (keyword_of keyword) verdicts) };
 
-    /// Goes from a schema to its keyword.
+    /// Moves a trail from a schema to its keyword.
     fn go_to_keyword<H: PointerText + Drop>(
         &self,
         keyword: Self::Keyword,
@@ -183,7 +197,7 @@ pub(crate) trait World {
     ) -> Result<(), Memory>
         ensures { OnOk result (trail.new ≡ at_name trail.old (keyword_of keyword)) };
 
-    /// Goes from a keyword to the schema that it applies.
+    /// Moves a trail from a keyword to the schema that it applies.
     fn go_to_schema<H: PointerText + Drop>(
         &self,
         application: Self::Application,
@@ -191,7 +205,7 @@ pub(crate) trait World {
     ) -> Result<(), Memory>
         ensures { OnOk result (trail.new ≡ at_step trail.old (application_of self.now application).step) };
 
-    /// Goes from an instance to the value that the schema is applied to.
+    /// Moves a trail from the keyword's value to the value that the schema is applied to.
     fn go_to_value<H: PointerText + Drop>(
         &self,
         application: Self::Application,

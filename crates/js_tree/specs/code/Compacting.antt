@@ -24,12 +24,12 @@ abbrev pub left_trees : Keep → Forest OutputUnit → ℕ
 left_trees k empty = 0
 left_trees k (tree u below after) = if at_least_one (node_count (left k (tree u below empty))) then suc (left_trees k after) else left_trees k after
 
--- the node is left, where something is left of so many of its children's trees
+-- whether a node is left, if something is left of this many of its children's trees
 abbrev pub stays : Keep → OutputUnit → ℕ → Bool
 stays (Verdict v) u trees = has_verdict v u
 stays Noted u trees = noted u || at_least_two trees
 
--- how many nodes are left of its tree, where so many are left below it
+-- how many nodes are left of its tree, if this many are left below it
 abbrev pub room : Keep → Bool → ℕ → ℕ
 room (Verdict v) here below = if here then suc below else 0
 room Noted here below = if here then suc below else below
@@ -40,18 +40,18 @@ marked k empty = []
 marked k (tree u below after) =
     record { unit = u; size = suc (node_count below); room = node_count (left k (tree u below empty)); stays = stays k u (left_trees k below) } ∷ (marked k below ++ marked k after)
 
--- how many rows go with one of that size that goes
+-- how many rows go with a dropped row of this size
 abbrev pub gone_with : Keep → ℕ → ℕ
 gone_with (Verdict v) size = size - 1
 gone_with Noted size = 0
 
--- what marked rows leave, when so many go with one before them
+-- what is left of marked rows, if this many of them go with an earlier one
 abbrev pub gathered : Keep → ℕ → List Row → List FlatRow
 gathered k n [] = []
 gathered k zero (r ∷ rs) = if r.stays then (r.unit, r.room) ∷ gathered k zero rs else gathered k (gone_with k r.size) rs
 gathered k (suc n) (r ∷ rs) = gathered k n rs
 
--- The rows from first to end are those of marked trees, and `trees` and `nodes` count what is left of those before next.
+-- The rows from first to end are those of marked trees; `trees` and `nodes` count what is left of those before next.
 abbrev pub IsRemaining : List Row → ℕ → ℕ → ℕ → ℕ → ℕ → Type 0
 IsRemaining rows first end next trees nodes =
     (k : Keep) (f : Forest OutputUnit) (rest : List Row) → drop first rows ≡ marked k f ++ rest → first + node_count f ≡ end

@@ -2,7 +2,7 @@
 use Rattle.std.specs.Prelude.{ℕ, zero, suc, ◌-◌, Bool, true, false, ltb, if◌then◌else◌}
 use Rattle.js_tree.specs.Forest.{Forest, empty, tree, node_count}
 
--- the first trees, so many of them as it takes, have that number of nodes together
+-- some of the first trees have exactly this number of nodes together
 abbrev pub ends_after : {A : Type 0} → ℕ → Forest A → Bool
 ends_after zero f = true
 ends_after (suc n) empty = false

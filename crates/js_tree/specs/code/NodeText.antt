@@ -1,4 +1,4 @@
--- The text of a node in the pieces in which it is put out (of private functions).
+-- The text of a node, in the pieces in which it is written (of private functions).
 use Rattle.std.specs.Prelude.{ℕ, Bool, true, false, not, List, [], ◌++◌, Option, Some, None, codes}
 use Rattle.js_doc.specs.Compact.{compact, quoted}
 use Rattle.js_doc.specs.Value.{Value}
@@ -6,7 +6,7 @@ use Rattle.js_tree.specs.Form.{annotation_value, array_of_some, error_value, val
 use Rattle.js_tree.specs.Note.{Note}
 use Rattle.js_tree.specs.OutputUnit.{OutputUnit}
 
--- the value after what stands before it, if there is one
+-- the value, after the text before it, if there is one
 abbrev pub given_text : List ℕ → Option Value → List ℕ
 given_text start None = []
 given_text start (Some value) = start ++ compact value
@@ -20,7 +20,7 @@ error_part note = given_text (codes ",\"error\":") (error_value note)
 abbrev pub beginning_text : List ℕ → Note → List ℕ
 beginning_text absolute note = codes "{\"absoluteKeywordLocation\":" ++ (quoted absolute ++ annotation_part note)
 
--- up to where the annotations of a passing node's children stand
+-- up to the annotations of a passing node's children
 abbrev pub head_text : OutputUnit → List ℕ
 head_text u = beginning_text u.absolute u.note
 
@@ -31,7 +31,7 @@ valid_text false = codes ",\"valid\":false}"
 abbrev pub end_text : List ℕ → List ℕ → Bool → List ℕ
 end_text instance keyword valid = codes ",\"instanceLocation\":" ++ (quoted instance ++ (codes ",\"keywordLocation\":" ++ (quoted keyword ++ valid_text valid)))
 
--- from where the errors of a failing node's children have stood
+-- from after the errors of a failing node's children
 abbrev pub tail_text : OutputUnit → List ℕ
 tail_text u = end_text u.instance u.keyword u.valid
 
@@ -43,7 +43,7 @@ node_text u children =
     ++ (given_text (codes ",\"errors\":") (value_if (not u.valid) (array_of_some children))
     ++ tail_text u)))
 
--- what stands before the array of units
+-- the text before the array of units
 abbrev pub list_start : Bool → List ℕ
 list_start true = codes "{\"annotations\":"
 list_start false = codes "{\"errors\":"

@@ -18,7 +18,7 @@ kind (index i) = 4
 kind (indexes is) = 5
 kind truly = 6
 
--- kind by kind, and of one kind by what they say; but values aren't told apart
+-- by kind, and within a kind by content; but values are all equal
 abbrev pub note_order : Note → Note → Ordering
 note_order (error a) (error b) = slice_cmp nat_cmp a b
 note_order (names a) (names b) = slice_cmp (slice_cmp nat_cmp) a b
@@ -30,7 +30,7 @@ note_order m n = nat_cmp (kind m) (kind n)
 abbrev pub unit_order : OutputUnit → OutputUnit → Ordering
 unit_order u v = ordering_then (bool_cmp u.valid v.valid) (ordering_then (slice_cmp nat_cmp u.instance v.instance) (ordering_then (slice_cmp nat_cmp u.absolute v.absolute) (note_order u.note v.note)))
 
--- tree by tree, and in a tree by its root and then by what stands below it
+-- tree by tree; in a tree by its root, and then by the trees below it
 abbrev pub forest_order : Forest OutputUnit → Forest OutputUnit → Ordering
 forest_order empty empty = Equal
 forest_order empty (tree v under others) = Less

@@ -1,4 +1,4 @@
--- Members that are put where there is a value to put.
+-- Members that are added if there is a value.
 use Rattle.std.specs.Prelude.{ℕ, List, Option, Some, None}
 use Rattle.js_doc.specs.Members.{put}
 use Rattle.js_doc.specs.Value.{Value}

@@ -1,4 +1,4 @@
--- What a move that looks for its node among some trees, in preorder, has found.
+-- The outcome of a move that looks for its node among trees, in preorder.
 use Rattle.std.specs.Prelude.{◌≡◌, ℕ, ◌+◌, ◌<◌, Some, None}
 use Rattle.js_tree.specs.Alike.{same_but_keyword}
 use Rattle.js_tree.specs.Forest.{Forest, empty, node_count}
