@@ -6,7 +6,7 @@ ghost use Rattle.js_tree.specs.FlatState.{IsWholeTree, flat_state, whole_tree};
 ghost use Rattle.js_tree.specs.Form.{flag, form, verbose};
 ghost use Rattle.js_tree.specs.RelativeState.{AreRowsOf, AreWhole};
 ghost use Rattle.js_tree.specs.Result.{ResultTree};
-ghost use Rattle.js_tree.specs.Room.{HasRoomFor};
+ghost use Rattle.js_tree.specs.Locations.{HasRoomFor};
 ghost use Rattle.js_output.specs.Device.{SendsOrFails, Unflushed};
 ghost use Rattle.js_output.specs.Outcome.{IsOfRows};
 
