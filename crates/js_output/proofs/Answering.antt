@@ -3,15 +3,13 @@ use Rattle.std.proofs.Common.{◌≡◌, ℕ, ◌<◌, ◌≤◌, List, [], ◌�
 use Rattle.std.proofs.lemmas.Bool.{lt-ltb, le-ltb}
 use Rattle.std.specs.Io.KnownBytes.{Consumes, IsAtEnd}
 use Rattle.js_doc.specs.Value.{Value}
-use Rattle.js_tree.specs.Form.{form, shown}
-use Rattle.js_tree.specs.declared.forms.Format.TheVariants.{Flag, Basic, Detailed, Merged, Verbose}
 use Rattle.js_eval.specs.Result.{ResultTree, IsWithinLimits}
 use Rattle.js_bundle.specs.Document as bundle
 use Rattle.js_bundle.specs.Resource.{Site}
 use Rattle.js_output.specs.Cause.{Causes, MayGoOn, IsFirstFault, FailsBy}
 use Rattle.js_output.specs.Device.{Tracked, input_limit, IsLeft, Sends, SendsBeginning}
 use Rattle.js_output.specs.Input.{IsInputFault}
-use Rattle.js_output.specs.Outcome.{output_of, ValueOutcome, telling_output, IsLateOrMemory, IsResultOf, IsWalkFault, trimmed}
+use Rattle.js_output.specs.Outcome.{output_of, ValueOutcome, telling_output, IsLateOrMemory, IsResultOf, IsWalkFault}
 use Rattle.js_output.specs.Telling.{Telling, Tells, Answers, After, OfInput}
 use Rattle.js_output.proofs.CauseLists.{clear-append, clear-apart, first-append, first-apart, first-later}
 use Rattle.js_output.specs.declared.fault.Fault.{Fault}
@@ -160,21 +158,6 @@ module _ (docs : bundle.Documents) (entry : Option Site) (v : Value) (format : F
   tells-fault taken old new fault.Memory h = tt
   tells-fault taken old new fault.TooLarge h = (refl, h)
   tells-fault taken old new _ h = absurd h
-
--- of what is left of it the format shows its form, and the same verdict
-pub shown-trimmed : (format : Format) (t : ResultTree) → shown format (trimmed format t) ≡ form format t
-shown-trimmed Flag t = refl
-shown-trimmed Basic t = refl
-shown-trimmed Detailed t = refl
-shown-trimmed Merged t = refl
-shown-trimmed Verbose t = refl
-
-pub root-trimmed : (format : Format) (t : ResultTree) → (trimmed format t).root ≡ t.root
-root-trimmed Flag t = refl
-root-trimmed Basic t = refl
-root-trimmed Detailed t = refl
-root-trimmed Merged t = refl
-root-trimmed Verbose t = refl
 
 pub walk-late : (docs : bundle.Documents) (entry : Option Site) (v : Value) (e : Fault) → IsWalkFault docs entry v e → IsLateOrMemory e
 walk-late docs entry v fault.Memory h = tt

@@ -7,4 +7,3 @@ pub mod FinishedSchemas
 pub mod SuiteLists
 pub mod SuiteTold
 pub mod Told
-pub mod Trimming

@@ -7,10 +7,12 @@ use Rattle.js_doc.specs.declared.reading.ReadFault.{ReadFault}
 use Rattle.js_tree.specs.FlatState.{flat_state, whole_tree}
 use Rattle.js_tree.specs.Form.{form}
 use Rattle.js_tree.specs.MergedResult.{merged}
+use Rattle.js_tree.specs.RelativeState.{AreRowsOf}
 use Rattle.js_tree.specs.Result.{pruned, kept}
 use Rattle.js_tree.specs.declared.flat.Flat.{Flat}
 use Rattle.js_tree.specs.declared.forms.Format.{Format}
-use Rattle.js_tree.specs.declared.forms.Format.TheVariants.{Flag, Basic, Detailed, Merged, Verbose}
+use Rattle.js_tree.specs.declared.forms.Format.TheVariants.{Flag, Basic, Verbose}
+use Rattle.js_tree.specs.declared.relative.RelativeRows.{RelativeRows}
 use Rattle.js_bundle.specs.Document as bundle
 use Rattle.js_bundle.specs.Resource.{Site}
 use Rattle.js_eval.specs.Bundle.{schemas_of}
@@ -152,23 +154,25 @@ IsInstanceFault f = IsLateOrMemory f
 abbrev pub IsJudged : bundle.Documents → Option Site → Value → Bool → Type 0
 IsJudged documents entry v valid = (t : ResultTree) × IsResultOf documents entry v t × IsWithinLimits t × (valid ≡ t.root.valid)
 
--- the tree that a format shows
-abbrev pub trimmed : Format → ResultTree → ResultTree
-trimmed Flag t = t
-trimmed Basic t = pruned t
-trimmed Detailed t = kept (pruned t)
-trimmed Merged t = merged (pruned t)
-trimmed Verbose t = t
+-- the rows are those of the result within the limits
+abbrev pub AreResultRows : bundle.Documents → Option Site → Value → RelativeRows → Type 0
+AreResultRows documents entry v rows = (t : ResultTree) × IsResultOf documents entry v t × IsWithinLimits t × AreRowsOf rows t
 
--- the rows are those of what the format shows of the result within the limits
-abbrev pub AreRows : bundle.Documents → Option Site → Value → Format → Flat → Type 0
-AreRows documents entry v format flat =
-    (t : ResultTree) × IsResultOf documents entry v t × IsWithinLimits t × (flat_state flat ≡ whole_tree (trimmed format t))
+-- the rows are those of what detailed shows of it
+abbrev pub AreCondensed : bundle.Documents → Option Site → Value → Flat → Type 0
+AreCondensed documents entry v flat =
+    (t : ResultTree) × IsResultOf documents entry v t × IsWithinLimits t × (flat_state flat ≡ whole_tree (kept (pruned t)))
 
--- the tree is what the format shows of the result within the limits
-abbrev pub IsTrimmed : bundle.Documents → Option Site → Value → Format → ResultTree → Type 0
-IsTrimmed documents entry v format tree =
-    (t : ResultTree) × IsResultOf documents entry v t × IsWithinLimits t × (tree ≡ trimmed format t)
+-- the tree is what merged shows of it
+abbrev pub IsMerged : bundle.Documents → Option Site → Value → ResultTree → Type 0
+IsMerged documents entry v tree =
+    (t : ResultTree) × IsResultOf documents entry v t × IsWithinLimits t × (tree ≡ merged (pruned t))
+
+-- a format that is written from rows of the whole tree
+abbrev pub IsOfRows : Format → Type 0
+IsOfRows Basic = ⊤
+IsOfRows Verbose = ⊤
+IsOfRows _ = ⊥
 
 -- why there is none: none is within them, or lack of memory
 abbrev pub IsWalkFault : bundle.Documents → Option Site → Value → Fault → Type 0

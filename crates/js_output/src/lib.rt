@@ -1,6 +1,7 @@
 //! Bytes in, bytes out.
 #![tactic(auto)]
 
+mod condensed;
 mod documents;
 mod entry;
 mod fault;

@@ -1,9 +1,8 @@
 //! The result for an instance as a tree, as far as the merged format shows it.
 ghost use Rattle.std.specs.Prelude.{◌≡◌, true, IfErr, IfOk};
 ghost use Rattle.js_doc.specs.Seen.{value_of};
-ghost use Rattle.js_tree.specs.declared.forms.Format.TheVariants.{Merged};
 ghost use Rattle.js_bundle.specs.Schemas.{is_place, place_at};
-ghost use Rattle.js_output.specs.Outcome.{IsTrimmed, IsWalkFault};
+ghost use Rattle.js_output.specs.Outcome.{IsMerged, IsWalkFault};
 
 use crate::fault::Fault;
 use js_bundle::{Place, Schemas};
@@ -20,8 +19,8 @@ pub(crate) fn merged_of<'a>(
     instance: &'a Doc,
 ) -> Result<Tree<'a>, Fault>
     requires { is_place schemas.now place ≡ true }
-    ensures tree { IfOk result (IsTrimmed schemas.now
-        (place_at schemas.now place) (value_of instance.now) Merged) }
+    ensures tree { IfOk result (IsMerged schemas.now
+        (place_at schemas.now place) (value_of instance.now)) }
     ensures fault { IfErr result (IsWalkFault schemas.now
         (place_at schemas.now place) (value_of instance.now)) }
 {

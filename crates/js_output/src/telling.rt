@@ -1,22 +1,24 @@
 //! From the instance's text to the verdict and the output.
 ghost use Rattle.std.specs.Prelude.{◌≡◌, ◌≢◌, true, IfErr, IfOk};
 ghost use Rattle.js_doc.specs.Seen.{value_of};
-ghost use Rattle.js_tree.specs.declared.forms.Format.TheVariants.{Flag, Merged};
+ghost use Rattle.js_tree.specs.declared.forms.Format.TheVariants.{Detailed, Flag, Merged};
 ghost use Rattle.js_bundle.specs.Schemas.{is_place, place_at};
 ghost use Rattle.js_output.specs.Device.{Unflushed};
-ghost use Rattle.js_output.specs.Outcome.{ValueOutcome, TextOutcome, telling_output, IsLateOrMemory, IsJudged, IsWalkFault};
+ghost use Rattle.js_output.specs.Outcome.{ValueOutcome, TextOutcome, telling_output, IsLateOrMemory, IsJudged, IsOfRows, IsWalkFault};
 ghost use Rattle.js_output.specs.Telling.{Tells};
 
+use crate::condensed::{condensed_of, root_row_is_valid};
 use crate::fault::Fault;
 use crate::merged::{merged_of, root_is_valid};
-use crate::rows::{is_valid, rows_of};
+use crate::rows::rows_of;
 use crate::sink::Sink;
 use crate::text::value_from;
-use crate::writing::{write_flag, write_rows, write_tree};
+use crate::writing::{write_condensed, write_flag, write_rows, write_tree};
+use bumpalo::Bump;
 use js_bundle::{Place, Schemas};
 use js_doc::{Doc, ReadFault};
 use js_eval::verdict;
-use js_tree::Format;
+use js_tree::{Format, Locations};
 use std::alloc::Global;
 use std::io::Write;
 
@@ -65,10 +67,10 @@ fn tell_value<W: Write>(
 {
     match format {
         Format::Flag => tell_verdict(alloc, schemas, place, instance, out),
-        Format::Basic => tell_form(alloc, schemas, place, Format::Basic, instance, out),
-        Format::Detailed => tell_form(alloc, schemas, place, Format::Detailed, instance, out),
+        Format::Basic => tell_rows(alloc, schemas, place, Format::Basic, instance, out),
+        Format::Detailed => tell_detailed(alloc, schemas, place, instance, out),
         Format::Merged => tell_merged(alloc, schemas, place, instance, out),
-        Format::Verbose => tell_form(alloc, schemas, place, Format::Verbose, instance, out),
+        Format::Verbose => tell_rows(alloc, schemas, place, Format::Verbose, instance, out),
     }
 }
 
@@ -95,7 +97,7 @@ fn tell_verdict<W: Write>(
 }
 
 // All allocations come before the first byte is written.
-fn tell_form<W: Write>(
+fn tell_rows<W: Write>(
     alloc: Global,
     schemas: &Schemas,
     place: Place,
@@ -104,7 +106,7 @@ fn tell_form<W: Write>(
     out: &mut Sink<W>,
 ) -> Result<bool, Fault>
     requires place { is_place schemas.now place ≡ true }
-    requires rows { format ≢ Merged }
+    requires format { IsOfRows format }
     ensures answer { Tells telling_output (ValueOutcome schemas.now
         (place_at schemas.now place) (value_of instance.now) format)
         W.contents out.old out.new result }
@@ -113,9 +115,34 @@ fn tell_form<W: Write>(
     ensures unflushed { Unflushed out.old out.new }
     ensures sink_stays { out.old.failed ≡ true → out.new ≡ out.old }
 {
-    let flat = rows_of(alloc, schemas, place, format, instance)?;
-    let valid = is_valid(&flat);
-    write_rows(&flat, format, out)?;
+    let arena = Bump::new(alloc);
+    let rows = rows_of(alloc, &arena, schemas, place, instance)?;
+    let locations = Locations::new(alloc, &rows)?;
+    let valid = rows.is_valid();
+    write_rows(&rows, locations, format, out)?;
+    Ok(valid)
+}
+
+// What the format doesn't show is removed before the first byte is written.
+fn tell_detailed<W: Write>(
+    alloc: Global,
+    schemas: &Schemas,
+    place: Place,
+    instance: &Doc,
+    out: &mut Sink<W>,
+) -> Result<bool, Fault>
+    requires { is_place schemas.now place ≡ true }
+    ensures answer { Tells telling_output (ValueOutcome schemas.now
+        (place_at schemas.now place) (value_of instance.now) Detailed)
+        W.contents out.old out.new result }
+    ensures late { IfErr result IsLateOrMemory }
+    ensures nothing { IfErr result (λ e. e ≢ Fault.Write → out.new ≡ out.old) }
+    ensures unflushed { Unflushed out.old out.new }
+    ensures sink_stays { out.old.failed ≡ true → out.new ≡ out.old }
+{
+    let flat = condensed_of(alloc, schemas, place, instance)?;
+    let valid = root_row_is_valid(&flat);
+    write_condensed(&flat, out)?;
     Ok(valid)
 }
 

@@ -3,14 +3,20 @@ ghost use Rattle.std.specs.Prelude.{◌≡◌, ◌∷◌, ◌++◌, [], true};
 ghost use Rattle.js_doc.specs.BytesOut.{Puts};
 ghost use Rattle.js_doc.specs.Compact.{compact};
 ghost use Rattle.js_tree.specs.FlatState.{IsWholeTree, flat_state, whole_tree};
-ghost use Rattle.js_tree.specs.Form.{flag, shown, verbose};
+ghost use Rattle.js_tree.specs.Form.{flag, form, verbose};
+ghost use Rattle.js_tree.specs.RelativeState.{AreRowsOf, AreWhole};
 ghost use Rattle.js_tree.specs.Result.{ResultTree};
+ghost use Rattle.js_tree.specs.Locations.{HasRoomFor};
 ghost use Rattle.js_output.specs.Device.{SendsOrFails, Unflushed};
+ghost use Rattle.js_output.specs.Outcome.{IsOfRows};
 
 use crate::fault::Fault;
 use crate::sink::Sink;
 use js_doc::{Out, Stopped};
-use js_tree::{Flat, Format, Tree, put_flag, put_flat, put_tree};
+use js_tree::{
+    Flat, Format, Locations, RelativeRows, Tree, put_basic, put_flag, put_flat, put_tree,
+    put_verbose,
+};
 use std::io::Write;
 
 /// Writes a verdict in the flag format (JSON Schema Core, section 12.4.1), and a line feed. It
@@ -28,23 +34,41 @@ pub(crate) fn write_flag<W: Write>(valid: bool, out: &mut Sink<W>) -> Result<(),
     Ok(())
 }
 
-/// Writes the compact text of what the format shows of the rows' tree, and a line feed. It allocates
-/// nothing.
+/// Writes the compact text of the format, and a line feed: for basic the units with a note, for
+/// verbose the root node. It allocates nothing.
 pub(crate) fn write_rows<W: Write>(
-    flat: &Flat,
+    rows: &RelativeRows,
+    locations: Locations,
     format: Format,
     out: &mut Sink<W>,
 ) -> Result<(), Fault>
-    requires { IsWholeTree (flat_state flat.now) }
-    ensures sent { (t : ResultTree) → flat_state flat.now ≡ whole_tree t
-        → SendsOrFails W.contents out.old out.new (compact (shown format t) ++ 10 ∷ []) result }
+    requires whole { AreWhole rows.now }
+    requires room { HasRoomFor locations rows.now }
+    requires format { IsOfRows format }
+    ensures sent { (t : ResultTree) → AreRowsOf rows.now t
+        → SendsOrFails W.contents out.old out.new (compact (form format t) ++ 10 ∷ []) result }
     ensures unflushed { Unflushed out.old out.new }
     ensures stays { out.old.failed ≡ true → out.new ≡ out.old }
 {
     if out.failed() {
         return Err(Fault::Write);
     }
-    put_rows_line(flat, format, &mut out.writing)?;
+    put_rows_line(rows, locations, format, &mut out.writing)?;
+    Ok(())
+}
+
+/// Writes the compact text of the rows' root node, and a line feed. It allocates nothing.
+pub(crate) fn write_condensed<W: Write>(flat: &Flat, out: &mut Sink<W>) -> Result<(), Fault>
+    requires { IsWholeTree (flat_state flat.now) }
+    ensures sent { (t : ResultTree) → flat_state flat.now ≡ whole_tree t
+        → SendsOrFails W.contents out.old out.new (compact (verbose t) ++ 10 ∷ []) result }
+    ensures unflushed { Unflushed out.old out.new }
+    ensures stays { out.old.failed ≡ true → out.new ≡ out.old }
+{
+    if out.failed() {
+        return Err(Fault::Write);
+    }
+    put_condensed_line(flat, &mut out.writing)?;
     Ok(())
 }
 
@@ -70,13 +94,49 @@ fn put_flag_line<O: Out>(valid: bool, out: &mut O) -> Result<(), Stopped>
     put_line_feed(out)
 }
 
-fn put_rows_line<O: Out>(flat: &Flat, format: Format, out: &mut O) -> Result<(), Stopped>
-    requires { IsWholeTree (flat_state flat.now) }
-    ensures { (t : ResultTree) → flat_state flat.now ≡ whole_tree t
-        → Puts (O.progress out.old) (O.progress out.new) (compact (shown format t) ++ 10 ∷ [])
+fn put_rows_line<O: Out>(
+    rows: &RelativeRows,
+    locations: Locations,
+    format: Format,
+    out: &mut O,
+) -> Result<(), Stopped>
+    requires whole { AreWhole rows.now }
+    requires room { HasRoomFor locations rows.now }
+    requires format { IsOfRows format }
+    ensures { (t : ResultTree) → AreRowsOf rows.now t
+        → Puts (O.progress out.old) (O.progress out.new) (compact (form format t) ++ 10 ∷ [])
         result }
 {
-    put_flat(flat, format, out)?;
+    put_rows(rows, locations, format, out)?;
+    put_line_feed(out)
+}
+
+fn put_rows<O: Out>(
+    rows: &RelativeRows,
+    locations: Locations,
+    format: Format,
+    out: &mut O,
+) -> Result<(), Stopped>
+    requires whole { AreWhole rows.now }
+    requires room { HasRoomFor locations rows.now }
+    requires format { IsOfRows format }
+    ensures { (t : ResultTree) → AreRowsOf rows.now t
+        → Puts (O.progress out.old) (O.progress out.new) (compact (form format t)) result }
+{
+    match format {
+        Format::Basic => put_basic(rows, locations, out),
+        Format::Verbose => put_verbose(rows, locations, out),
+        Format::Flag | Format::Detailed | Format::Merged => Ok(()),
+    }
+}
+
+fn put_condensed_line<O: Out>(flat: &Flat, out: &mut O) -> Result<(), Stopped>
+    requires { IsWholeTree (flat_state flat.now) }
+    ensures { (t : ResultTree) → flat_state flat.now ≡ whole_tree t
+        → Puts (O.progress out.old) (O.progress out.new) (compact (verbose t) ++ 10 ∷ [])
+        result }
+{
+    put_flat(flat, Format::Detailed, out)?;
     put_line_feed(out)
 }
 

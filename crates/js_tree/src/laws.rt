@@ -1,13 +1,9 @@
 //! Laws of result trees. Each is the contract of a function that does nothing.
-<<<<<<< HEAD
-ghost use Rattle.std.specs.Prelude.{◌≡◌, [], ◌+◌, ◌<◌, ◌↔◌, IsTrue, Some, false, true};
-=======
 //!
 //! A *step* applies a rule once, at one node below the root; a *run* is a sequence of steps. A tree is *normal* if no
 //! step is possible. The *kept tree* of a tree is what `condense` makes of it, and its *merged tree* what
 //! `merge_condense` makes of it.
-ghost use Rattle.std.specs.Prelude.{◌≡◌, ◌+◌, ◌<◌, ◌↔◌, IsTrue, Some, false, true};
->>>>>>> d1
+ghost use Rattle.std.specs.Prelude.{◌≡◌, [], ◌+◌, ◌<◌, ◌↔◌, IsTrue, Some, false, true};
 ghost use Rattle.js_tree.specs.Alike.{same_but_keyword};
 ghost use Rattle.js_tree.specs.Forest.{Forest, ◌⊹◌, node_count, tree};
 ghost use Rattle.js_tree.specs.Holding.{BoxedClosesAll, BoxedHolds, FlatHolds, RelativeHolds, VerdictHolds};
@@ -126,7 +122,6 @@ pub fn rows_are_the_flat_form()
     ensures { FlatHolds }
 {}
 
-<<<<<<< HEAD
 /// After the events of a tree whose locations go on from those above, the rows of `RelativeRows` are the tree's.
 pub fn relative_rows_are_those_of_the_tree()
     ensures { RelativeHolds }
@@ -137,10 +132,7 @@ pub fn a_located_tree_is_placed_again()
     ensures { (t : ResultTree) → IsLocated t → placed_tree [] [] (relative_tree t) ≡ t }
 {}
 
-/// The root alone, which is normal: so a contract that asks for no more than a normal answer lets it through.
-=======
 /// Returns the bare root, which is normal. It shows that a contract which promises just a normal tree is too weak.
->>>>>>> d1
 pub fn empty_root(tree: Tree) -> Tree
     ensures { Normal result }
 {
