@@ -20,6 +20,7 @@ pub mod Nested
 pub mod NodeTexts
 pub mod NotedRows
 pub mod Pieces
+pub mod Placing
 pub mod QuotedParts
 pub mod RelativeTexts
 pub mod Searching

@@ -39,8 +39,8 @@ room_for_part l m rows n k h b = record {
 -- ---- the pieces of a tree
 
 pieces_at : (later : Bool) (k i : List ℕ) (u : OutputUnit) (below : Forest OutputUnit) → let children = node_values (placed (k ++ u.keyword) (i ++ u.instance) below) in
-  (comma_if later ++ beginning_text u.absolute u.note) ++ (annotations u.valid children ++ (error_part u.note ++ (errors u.valid children ++ end_text (i ++ u.instance) (k ++ u.keyword) u.valid)))
-  ≡ comma_if later ++ compact (verbose (placed_tree k i (record { root = u; below = below })))
+    (comma_if later ++ beginning_text u.absolute u.note) ++ (annotations u.valid children ++ (error_part u.note ++ (errors u.valid children ++ end_text (i ++ u.instance) (k ++ u.keyword) u.valid)))
+    ≡ comma_if later ++ compact (verbose (placed_tree k i (record { root = u; below = below })))
 pieces_at later k i u below =
     let children = node_values (placed (k ++ u.keyword) (i ++ u.instance) below) in
     append_assoc (comma_if later) (beginning_text u.absolute u.note) (annotations u.valid children ++ (error_part u.note ++ (errors u.valid children ++ end_text (i ++ u.instance) (k ++ u.keyword) u.valid)))
@@ -48,12 +48,12 @@ pieces_at later k i u below =
 
 -- the locations of the node are those of the locations that are at hand, and they are still after its children
 pub tree_pieces : (later : Bool) (k i : List ℕ) (x : RelativeRow) (t : ResultTree) (l m n : Locations) → (relative_row x).0 ≡ t.root → l.keyword.items ≡ k ++ x.keyword.now → l.instance.items ≡ i ++ x.instance.now → IsBack l m → IsBack m n →
-  (comma_if later ++ beginning_text (x.schema.now ++ x.absolute.now) (relative_row x).0.note)
-  ++ (annotations x.valid (node_values (placed l.keyword.items l.instance.items t.below))
-  ++ (error_part (relative_row x).0.note
-  ++ (errors x.valid (node_values (placed m.keyword.items m.instance.items t.below))
-  ++ end_text n.instance.items n.keyword.items x.valid)))
-  ≡ comma_if later ++ compact (verbose (placed_tree k i t))
+    (comma_if later ++ beginning_text (x.schema.now ++ x.absolute.now) (relative_row x).0.note)
+    ++ (annotations x.valid (node_values (placed l.keyword.items l.instance.items t.below))
+    ++ (error_part (relative_row x).0.note
+    ++ (errors x.valid (node_values (placed m.keyword.items m.instance.items t.below))
+    ++ end_text n.instance.items n.keyword.items x.valid)))
+    ≡ comma_if later ++ compact (verbose (placed_tree k i t))
 tree_pieces later k i x t l m n root_is ke ie b c =
     let u = (relative_row x).0 in
     let text = λ (k1 i1 k2 i2 k3 i3 : List ℕ). (comma_if later ++ beginning_text u.absolute u.note) ++ (annotations u.valid (node_values (placed k1 i1 t.below)) ++ (error_part u.note ++ (errors u.valid (node_values (placed k2 i2 t.below)) ++ end_text i3 k3 u.valid))) in

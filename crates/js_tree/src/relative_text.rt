@@ -109,7 +109,11 @@ fn put_trees<O: Out>(
 }
 
 /// Puts the node's members before `annotations`, after a comma where something stands before.
-pub(crate) fn put_beginning<O: Out>(later: bool, row: &RelativeRow, out: &mut O) -> Result<(), Stopped>
+pub(crate) fn put_beginning<O: Out>(
+    later: bool,
+    row: &RelativeRow,
+    out: &mut O,
+) -> Result<(), Stopped>
     ensures { Puts (O.progress out.old) (O.progress out.new) (comma_if later ++ beginning_text (row.now.schema.now ++ row.now.absolute.now) (note_of row.now.note)) result }
 {
     put_start(later, out)?;

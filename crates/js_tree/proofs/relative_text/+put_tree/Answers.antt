@@ -277,8 +277,7 @@ put_trees-loop-next-preserved g t c =
     let rows = c.args.rows.now in
     let x = c.index-rows-next.result in
     let w = l.invariant.2 c.requires.0 c.requires.1 in
-    let t0 = first_tree relative_row rows l.next w.0 x w.1 c.loop-next-test.true c.index-rows-next.is in
-    (
+    let t0 = first_tree relative_row rows l.next w.0 x w.1 c.loop-next-test.true c.index-rows-next.is in (
       omega (arith, t0.fits),
       back_again c.args.locations.now l.locations c.put_tree.new.locations l.invariant.1 c.in_ok-put_tree.ensures.back,
       λ f e.
