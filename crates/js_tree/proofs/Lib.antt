@@ -11,6 +11,7 @@ pub mod Giving
 pub mod Marks
 pub mod Forests
 pub mod KeptTree
+pub mod ListedUnits
 pub mod MergedLaws
 pub mod MergedTest
 pub mod MergedTree

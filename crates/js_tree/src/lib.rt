@@ -21,6 +21,7 @@ mod order;
 mod pruning;
 mod putting;
 mod relative;
+mod relative_units;
 mod row_docs;
 mod row_text;
 mod sorting;
