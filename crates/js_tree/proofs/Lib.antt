@@ -11,6 +11,7 @@ pub mod Giving
 pub mod Marks
 pub mod Forests
 pub mod KeptTree
+pub mod ListedRows
 pub mod ListedUnits
 pub mod MergedLaws
 pub mod MergedTest
@@ -21,6 +22,9 @@ pub mod Nested
 pub mod NodeTexts
 pub mod NotedRows
 pub mod Pieces
+pub mod Placing
+pub mod QuotedParts
+pub mod RoomLeft
 pub mod Searching
 pub mod Siblings
 pub mod Steps

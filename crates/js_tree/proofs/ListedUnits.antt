@@ -1,5 +1,6 @@
 -- The units that basic lists, tree by tree, and their text.
 use Rattle.std.proofs.Common.{◌≡◌, ℕ, Bool, true, false, not, List, [], ◌∷◌, ◌++◌, if◌then◌else◌, codes, refl, ap, sym, ◌∙◌, append_assoc, append-nil, map}
+use mathlib.Core.Bool.{beq}
 use Rattle.js_doc.specs.Compact.{comma_if, compact, compact_items}
 use Rattle.js_doc.specs.Value.{items, list}
 use Rattle.js_tree.specs.Form.{node_value}
@@ -58,9 +59,22 @@ gone_through verdict keyword instance u below after e =
     let p = agrees_placed verdict keyword instance u ∙ e in
     rw p (ap (λ us. us ++ listed verdict keyword instance after) (noted_first (noted u) (placed_unit keyword instance u) (listed verdict (keyword ++ u.keyword) (instance ++ u.instance) below)))
 
-pub same_verdict : (verdict : Bool) (u : OutputUnit) → u.valid ≡ verdict → has_verdict verdict u ≡ true
+same_verdict : (verdict : Bool) (u : OutputUnit) → u.valid ≡ verdict → has_verdict verdict u ≡ true
 same_verdict true u e = e
 same_verdict false u e = rw e refl
+
+-- the verdict compared
+pub other_verdict : (valid verdict : Bool) (u : OutputUnit) → u.valid ≡ valid → not (beq valid verdict) ≡ true → has_verdict verdict u ≡ false
+other_verdict true true u e h = absurd cc
+other_verdict true false u e h = rw e refl
+other_verdict false true u e h = e
+other_verdict false false u e h = absurd cc
+
+pub its_verdict : (valid verdict : Bool) (u : OutputUnit) → u.valid ≡ valid → not (beq valid verdict) ≡ false → has_verdict verdict u ≡ true
+its_verdict true true u e h = e
+its_verdict true false u e h = absurd cc
+its_verdict false true u e h = absurd cc
+its_verdict false false u e h = rw e refl
 
 -- ---- of a whole tree
 

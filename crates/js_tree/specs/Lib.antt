@@ -8,6 +8,7 @@ pub mod Forest
 pub mod Form
 pub mod Holding
 pub mod Kept
+pub mod Locations
 pub mod Merged
 pub mod MergedResult
 pub mod Moves

@@ -79,7 +79,7 @@ pub(crate) fn put_error<O: Out>(note: &Note, out: &mut O) -> Result<(), Stopped>
 }
 
 /// Puts the annotation, if the note is one.
-fn put_annotation<O: Out>(note: &Note, out: &mut O) -> Result<(), Stopped>
+pub(crate) fn put_annotation<O: Out>(note: &Note, out: &mut O) -> Result<(), Stopped>
     ensures { Puts (O.progress out.old) (O.progress out.new) (annotation_part (note_of note.now)) result }
 {
     match note {

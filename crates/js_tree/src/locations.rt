@@ -1,0 +1,87 @@
+//! The locations of a node, made from what each node on the way down to it adds.
+ghost use Rattle.std.specs.Prelude.{◌≡◌, ◌∷◌, [], IfOk};
+ghost use Rattle.js_doc.specs.BytesOut.{Puts};
+ghost use Rattle.js_tree.specs.Locations.{HasRoom, HasRoomFor, IsDown, IsUp, instances_added, keywords_added};
+ghost use Rattle.js_tree.specs.code.NodeText.{end_text, valid_text};
+
+use crate::relative::{RelativeRow, RelativeRows};
+use js_doc::{Memory, Out, Stopped, put_escaped};
+use std::alloc::Global;
+
+/// The keyword location and the instance location of a node, while rows are gone through from the root on.
+#[derive(Drop)]
+pub struct Locations {
+    pub(crate) keyword: Vec<u8>,
+    pub(crate) instance: Vec<u8>,
+}
+
+impl Locations {
+    /// Those above the root, which are empty. All memory that the locations of the rows' nodes can need is taken here: what
+    /// the rows add, all together. That is more than the longest of them, but memory that no byte is written to costs nothing.
+    ///
+    /// # Errors
+    /// `Memory`.
+    pub fn new(alloc: Global, rows: &RelativeRows) -> Result<Locations, Memory>
+        ensures { IfOk result (λ at. HasRoomFor at rows.now) }
+    {
+        let (keyword, instance) = added(rows.rows.as_slice())?;
+        Ok(Locations {
+            keyword: Vec::with_capacity(alloc, keyword)?,
+            instance: Vec::with_capacity(alloc, instance)?,
+        })
+    }
+
+    /// From the node above to that of the row. Allocates nothing.
+    pub(crate) fn go_down(&mut self, row: &RelativeRow)
+        requires { HasRoom self.old (row.now ∷ []) }
+        ensures { IsDown self.old row.now self.new }
+    {
+        let _ = self.keyword.extend_from_slice(row.keyword);
+        let _ = self.instance.extend_from_slice(row.instance);
+    }
+
+    /// From the node of the row back to the one above.
+    pub(crate) fn go_back(&mut self, row: &RelativeRow)
+        ensures { IsUp self.old row.now self.new }
+    {
+        let keyword = self.keyword.len().saturating_sub(row.keyword.len());
+        self.keyword.truncate(keyword);
+        let instance = self.instance.len().saturating_sub(row.instance.len());
+        self.instance.truncate(instance);
+    }
+
+    /// Puts the last members of the node: its instance location, its keyword location and its verdict.
+    pub(crate) fn put_end<O: Out>(&self, valid: bool, out: &mut O) -> Result<(), Stopped>
+        ensures { Puts (O.progress out.old) (O.progress out.new) (end_text self.now.instance.items self.now.keyword.items valid) result }
+    {
+        out.put(b",\"instanceLocation\":\"")?;
+        put_escaped(self.instance.as_slice(), out)?;
+        out.put(b"\",\"keywordLocation\":\"")?;
+        put_escaped(self.keyword.as_slice(), out)?;
+        put_last(valid, out)
+    }
+}
+
+// How many bytes the rows add, all together, to the keyword locations and to the instance locations.
+fn added(rows: &[RelativeRow]) -> Result<(usize, usize), Memory>
+    ensures { IfOk result (λ sums. (sums.0 ≡ keywords_added rows.now) × (sums.1 ≡ instances_added rows.now)) }
+{
+    let mut keyword: usize = 0;
+    let mut instance: usize = 0;
+    for row in rows {
+        keyword = keyword.checked_add(row.keyword.len()).ok_or(Memory)?;
+        instance = instance.checked_add(row.instance.len()).ok_or(Memory)?;
+    }
+    Ok((keyword, instance))
+}
+
+// Puts the closing quotation mark of the keyword location, and the last member.
+fn put_last<O: Out>(valid: bool, out: &mut O) -> Result<(), Stopped>
+    ensures { Puts (O.progress out.old) (O.progress out.new) (34 ∷ valid_text valid) result }
+{
+    if valid {
+        out.put(b"\",\"valid\":true}")
+    } else {
+        out.put(b"\",\"valid\":false}")
+    }
+}

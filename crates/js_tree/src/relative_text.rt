@@ -1,0 +1,135 @@
+//! The text of a tree, from rows that have only what their locations add to those of the node above.
+ghost use Rattle.std.specs.Prelude.{◌≡◌, ◌++◌, ◌∷◌, [], List, ℕ, codes, false, map, OnOk};
+ghost use Rattle.js_doc.specs.BytesOut.{Puts};
+ghost use Rattle.js_doc.specs.Compact.{comma_if, compact, compact_items};
+ghost use Rattle.js_doc.specs.Value.{items};
+ghost use Rattle.js_tree.specs.Flat.{flat, flat_of};
+ghost use Rattle.js_tree.specs.Forest.{Forest};
+ghost use Rattle.js_tree.specs.Form.{array_of_some, node_values, value_if, verbose};
+ghost use Rattle.js_tree.specs.Locations.{HasRoom, HasRoomFor, IsBack};
+ghost use Rattle.js_tree.specs.OutputUnit.{OutputUnit};
+ghost use Rattle.js_tree.specs.Relative.{placed, placed_tree};
+ghost use Rattle.js_tree.specs.RelativeState.{AreRowsOf, AreWhole, relative_row};
+ghost use Rattle.js_tree.specs.Result.{ResultTree};
+ghost use Rattle.js_tree.specs.Seen.{note_of};
+ghost use Rattle.js_tree.specs.code.NodeText.{beginning_text, given_text};
+
+use crate::locations::Locations;
+use crate::node_text::{put_annotation, put_error};
+use crate::relative::{RelativeRow, RelativeRows};
+use js_doc::{Out, Stopped, put_escaped};
+
+/// Puts the compact text of the verbose format (Core, section 12.4.4) of the rows' tree, with each location whole. It takes no
+/// memory.
+///
+/// # Errors
+/// `Stopped`; then a beginning of the text has gone out.
+pub fn put_verbose<O: Out>(
+    rows: &RelativeRows,
+    locations: Locations,
+    out: &mut O,
+) -> Result<(), Stopped>
+    requires whole { AreWhole rows.now }
+    requires room { HasRoomFor locations rows.now }
+    ensures { (t : ResultTree) → AreRowsOf rows.now t → Puts (O.progress out.old) (O.progress out.new) (compact (verbose t)) result }
+{
+    let mut locations = locations;
+    put_tree(false, rows.rows.as_slice(), &mut locations, out)
+}
+
+/// Puts the tree of the rows, below a node with these locations, after a comma where something stands before.
+#[cycle(put_tree)]
+fn put_tree<O: Out>(
+    later: bool,
+    rows: &[RelativeRow],
+    locations: &mut Locations,
+    out: &mut O,
+) -> Result<(), Stopped>
+    requires { (r : ResultTree) × (map relative_row rows.now ≡ flat r) × HasRoom locations.old rows.now }
+    ensures text { (r : ResultTree) → map relative_row rows.now ≡ flat r → Puts (O.progress out.old) (O.progress out.new) (comma_if later ++ compact (verbose (placed_tree locations.old.keyword.items locations.old.instance.items r))) result }
+    ensures back { OnOk result (IsBack locations.old locations.new) }
+{
+    let row = &rows[0];
+    let below = &rows[1..];
+    let valid = row.valid;
+    locations.go_down(row);
+    put_beginning(later, row, out)?;
+    put_children(valid, b",\"annotations\":[", below, locations, out)?;
+    put_error(&row.note, out)?;
+    put_children(!valid, b",\"errors\":[", below, locations, out)?;
+    locations.put_end(valid, out)?;
+    locations.go_back(row);
+    Ok(())
+}
+
+/// Puts the trees of the rows, if there are any and they belong here, after what stands before their list.
+#[cycle(put_tree)]
+fn put_children<O: Out>(
+    here: bool,
+    start: &[u8],
+    rows: &[RelativeRow],
+    locations: &mut Locations,
+    out: &mut O,
+) -> Result<(), Stopped>
+    requires { (f : Forest OutputUnit) × (map relative_row rows.now ≡ flat_of f) × HasRoom locations.old rows.now }
+    ensures text { (f : Forest OutputUnit) (name : List ℕ) → map relative_row rows.now ≡ flat_of f → start.now ≡ name ++ 91 ∷ [] → Puts (O.progress out.old) (O.progress out.new) (given_text name (value_if here (array_of_some (node_values (placed locations.old.keyword.items locations.old.instance.items f))))) result }
+    ensures back { OnOk result (IsBack locations.old locations.new) }
+{
+    if !here {
+        return Ok(());
+    }
+    if rows.is_empty() {
+        return Ok(());
+    }
+    out.put(start)?;
+    put_trees(rows, locations, out)
+}
+
+/// Puts the trees of the rows, with the bracket behind them.
+#[cycle(put_tree)]
+fn put_trees<O: Out>(
+    rows: &[RelativeRow],
+    locations: &mut Locations,
+    out: &mut O,
+) -> Result<(), Stopped>
+    requires { (f : Forest OutputUnit) × (map relative_row rows.now ≡ flat_of f) × HasRoom locations.old rows.now }
+    ensures text { (f : Forest OutputUnit) → map relative_row rows.now ≡ flat_of f → Puts (O.progress out.old) (O.progress out.new) (compact_items false (items (node_values (placed locations.old.keyword.items locations.old.instance.items f)))) result }
+    ensures back { OnOk result (IsBack locations.old locations.new) }
+{
+    let mut later = false;
+    let mut next = 0;
+    while next < rows.len() {
+        let row = &rows[next];
+        let end = next + row.size;
+        put_tree(later, &rows[next..end], locations, out)?;
+        later = true;
+        next = end;
+    }
+    out.put(b"]")
+}
+
+/// Puts the node's members before `annotations`, after a comma where something stands before.
+pub(crate) fn put_beginning<O: Out>(
+    later: bool,
+    row: &RelativeRow,
+    out: &mut O,
+) -> Result<(), Stopped>
+    ensures { Puts (O.progress out.old) (O.progress out.new) (comma_if later ++ beginning_text (row.now.schema.now ++ row.now.absolute.now) (note_of row.now.note)) result }
+{
+    put_start(later, out)?;
+    put_escaped(row.schema.as_bytes(), out)?;
+    put_escaped(row.absolute, out)?;
+    out.put(b"\"")?;
+    put_annotation(&row.note, out)
+}
+
+/// Puts what stands before the absolute location, after a comma where something stands before.
+fn put_start<O: Out>(later: bool, out: &mut O) -> Result<(), Stopped>
+    ensures { Puts (O.progress out.old) (O.progress out.new) (comma_if later ++ codes "{\"absoluteKeywordLocation\":\"") result }
+{
+    if later {
+        out.put(b",{\"absoluteKeywordLocation\":\"")
+    } else {
+        out.put(b"{\"absoluteKeywordLocation\":\"")
+    }
+}
