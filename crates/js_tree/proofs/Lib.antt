@@ -11,6 +11,8 @@ pub mod Giving
 pub mod Marks
 pub mod Forests
 pub mod KeptTree
+pub mod ListedRows
+pub mod ListedUnits
 pub mod MergedLaws
 pub mod MergedTest
 pub mod MergedTree
@@ -24,6 +26,7 @@ pub mod Placing
 pub mod RelativeTold
 pub mod QuotedParts
 pub mod RelativeTexts
+pub mod RoomLeft
 pub mod Searching
 pub mod Siblings
 pub mod Steps

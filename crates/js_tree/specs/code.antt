@@ -5,3 +5,4 @@ pub mod NodeText
 pub mod Order
 pub mod Put
 pub mod Search
+pub mod UnitsText

@@ -1,0 +1,196 @@
+use Rattle.std.proofs.Common.{◌≡◌, ◌+◌, ◌-◌, ◌++◌, drop, take, map, sym, ap, subst, ◌∙◌, refl, arith}
+use Rattle.js_tree.specs.Locations.{HasRoom}
+use Rattle.js_tree.specs.RelativeState.{relative_row}
+use Rattle.js_tree.specs.Result.{ResultTree}
+use Rattle.js_tree.specs.code.UnitsText.{AllListed, AreListed, if_noted, listed, unit_at}
+use Rattle.js_tree.proofs.ChildTexts.{rest_of}
+use Rattle.js_tree.proofs.FlatRows.{first_tree, root_row, rows_below, shorter}
+use Rattle.js_tree.proofs.ListedRows.{both_listed, list_ends, list_goes_on, list_passes, list_starts, list_stops, listed_err, stops_first, stops_rest, tree_listed}
+use Rattle.js_tree.proofs.ListedUnits.{its_verdict, other_verdict}
+use Rattle.js_tree.proofs.Marks.{flat-flat_of}
+use Rattle.js_tree.proofs.RoomLeft.{back_after, back_itself, fewer_below, room_back, room_below, room_part, some_row}
+use Rattle.js_tree.proofs.relative_units.+put_trees.Goals as goal
+
+pub put_tree-returns-in_err-later-clause-listed : goal.put_tree-returns-in_err-later-clause-listed
+put_tree-returns-in_err-later-clause-listed g t c =
+    λ r e.
+    let o = g.O.Out.progress in
+    let v = c.args.verdict in
+    let x = c.index-rows-0.result in
+    let old = c.args.locations.now in
+    let at = c.go_down.new.self in
+    let root = root_row relative_row c.args.rows.now r x e c.index-rows-0.is in
+    let these = if_noted (unit_at at x) in
+    let below = listed v at.keyword.items at.instance.items r.below in
+    let res = c.from_residual.result in
+    subst (λ us. AreListed (o c.args.out.now) (o c.put_noted.new.out) c.args.later us res) (tree_listed v old at x r root c.go_down.ensures)
+    (listed_err (o c.args.out.now) (o c.put_noted.new.out) c.args.later (these ++ below) res c.from_residual.ensures.0
+    (stops_first (o c.args.out.now) (o c.put_noted.new.out) c.args.later these below c.in_err-later.ensures))
+
+pub put_tree-put_trees-requires : goal.put_tree-put_trees-requires
+put_tree-put_trees-requires g t c κs within =
+    let rows = c.args.rows.now in
+    let r = c.requires.0 in
+    let e = c.requires.1 in
+    let some = some_row rows r e in
+    let is = ap (map relative_row) (rest_of rows) ∙ rows_below relative_row rows r e in
+    let room = room_below c.args.locations.now c.go_down.new.self rows c.index-rows-0.result c.requires.2 some c.index-rows-0.is c.go_down.ensures in (
+      omega (arith, fewer_below rows some, c.decreases),
+      (within, (r.below, is, subst (HasRoom c.go_down.new.self) (sym (rest_of rows)) room)),
+    )
+
+pub put_tree-returns-in_err-later-2-clause-listed : goal.put_tree-returns-in_err-later-2-clause-listed
+put_tree-returns-in_err-later-2-clause-listed g t c =
+    λ r e.
+    let o = g.O.Out.progress in
+    let v = c.args.verdict in
+    let x = c.index-rows-0.result in
+    let rows = c.args.rows.now in
+    let old = c.args.locations.now in
+    let at = c.go_down.new.self in
+    let root = root_row relative_row rows r x e c.index-rows-0.is in
+    let is = ap (map relative_row) (rest_of rows) ∙ rows_below relative_row rows r e in
+    let these = if_noted (unit_at at x) in
+    let below = listed v at.keyword.items at.instance.items r.below in
+    let res = c.from_residual-in_err-later-2.result in
+    subst (λ us. AreListed (o c.args.out.now) (o c.put_trees.new.out) c.args.later us res) (tree_listed v old at x r root c.go_down.ensures)
+    (listed_err (o c.args.out.now) (o c.put_trees.new.out) c.args.later (these ++ below) res c.from_residual-in_err-later-2.ensures.0
+    (stops_rest (o c.args.out.now) (o c.put_noted.new.out) (o c.put_trees.new.out) c.args.later c.in_ok-later.later these below c.in_ok-later.ensures (c.in_err-later-2.ensures.listed r.below is)))
+
+pub put_tree-returns-clause-listed : goal.put_tree-returns-clause-listed
+put_tree-returns-clause-listed g t c =
+    λ r e.
+    let o = g.O.Out.progress in
+    let v = c.args.verdict in
+    let x = c.index-rows-0.result in
+    let rows = c.args.rows.now in
+    let old = c.args.locations.now in
+    let at = c.go_down.new.self in
+    let root = root_row relative_row rows r x e c.index-rows-0.is in
+    let is = ap (map relative_row) (rest_of rows) ∙ rows_below relative_row rows r e in
+    let these = if_noted (unit_at at x) in
+    let below = listed v at.keyword.items at.instance.items r.below in
+    subst (λ us. AllListed (o c.args.out.now) (o c.put_trees.new.out) c.args.later us c.in_ok-later-2.later) (tree_listed v old at x r root c.go_down.ensures)
+    (both_listed (o c.args.out.now) (o c.put_noted.new.out) (o c.put_trees.new.out) c.args.later c.in_ok-later.later c.in_ok-later-2.later these below c.in_ok-later.ensures (c.in_ok-later-2.ensures.listed r.below is))
+
+pub put_trees-loop-next-init : goal.put_trees-loop-next-init
+put_trees-loop-next-init g t c = (
+  omega arith,
+  back_itself c.args.locations.now,
+  λ f e. list_starts (g.O.Out.progress c.args.out.now) c.args.verdict c.args.later c.args.locations.now.keyword.items c.args.locations.now.instance.items c.args.rows.now f e,
+)
+
+pub put_trees-overflow_add-next : goal.put_trees-overflow_add-next
+put_trees-overflow_add-next g t c =
+    let l = c.loop-next in
+    let rows = c.args.rows.now in
+    let w = l.invariant.2 c.requires.0 c.requires.1 in
+    let t = first_tree relative_row rows l.next w.left c.index-rows-first.result w.left_is c.loop-next-test.true c.index-rows-first.is in
+    omega (arith, t.fits)
+
+pub put_trees-loop-next-smaller-then-row-verdict : goal.put_trees-loop-next-smaller-then-row-verdict
+put_trees-loop-next-smaller-then-row-verdict g t c =
+    let l = c.loop-next in
+    let rows = c.args.rows.now in
+    let w = l.invariant.2 c.requires.0 c.requires.1 in
+    let t = first_tree relative_row rows l.next w.left c.index-rows-first.result w.left_is c.loop-next-test.true c.index-rows-first.is in
+    omega (arith, t.size, t.fits)
+
+pub put_trees-loop-next-preserved-then-row-verdict : goal.put_trees-loop-next-preserved-then-row-verdict
+put_trees-loop-next-preserved-then-row-verdict g t c =
+    let l = c.loop-next in
+    let o = g.O.Out.progress in
+    let v = c.args.verdict in
+    let rows = c.args.rows.now in
+    let old = c.args.locations.now in
+    let x = c.index-rows-first.result in
+    let w0 = l.invariant.2 c.requires.0 c.requires.1 in
+    let t0 = first_tree relative_row rows l.next w0.left x w0.left_is c.loop-next-test.true c.index-rows-first.is in (
+      t0.fits,
+      l.invariant.1,
+      λ f e.
+          let w = l.invariant.2 f e in
+          let t = first_tree relative_row rows l.next w.left x w.left_is c.loop-next-test.true c.index-rows-first.is in
+          list_passes (o c.args.out.now) (o l.out) v c.args.later l.later old.keyword.items old.instance.items rows l.next f x w t (other_verdict x.valid v (relative_row x).0 refl c.if-row-verdict.true),
+    )
+
+pub put_trees-slice_bounds-put_tree-end : goal.put_trees-slice_bounds-put_tree-end
+put_trees-slice_bounds-put_tree-end g t c =
+    let l = c.loop-next in
+    let rows = c.args.rows.now in
+    let w = l.invariant.2 c.requires.0 c.requires.1 in
+    let t = first_tree relative_row rows l.next w.left c.index-rows-first.result w.left_is c.loop-next-test.true c.index-rows-first.is in
+    t.fits
+
+pub put_trees-put_tree-requires : goal.put_trees-put_tree-requires
+put_trees-put_tree-requires g t c κs within =
+    let l = c.loop-next in
+    let rows = c.args.rows.now in
+    let x = c.index-rows-first.result in
+    let w = l.invariant.2 c.requires.0 c.requires.1 in
+    let t = first_tree relative_row rows l.next w.left x w.left_is c.loop-next-test.true c.index-rows-first.is in
+    let one : ResultTree = record { root = t.unit; below = t.below } in
+    let size : l.next + x.size - l.next ≡ x.size = omega arith in
+    let all_is = ap (λ n. map relative_row (take n (drop l.next rows))) size ∙ (t.all ∙ sym (flat-flat_of one)) in
+    let room = room_part l.locations rows (l.next + x.size - l.next) l.next (room_back c.args.locations.now l.locations rows c.requires.2 l.invariant.1) in
+    (omega (arith, shorter (l.next + x.size - l.next) l.next rows, c.decreases), (within, (one, all_is, room)))
+
+pub put_trees-returns-in_err-later-clause-listed : goal.put_trees-returns-in_err-later-clause-listed
+put_trees-returns-in_err-later-clause-listed g t c =
+    λ f e.
+    let l = c.loop-next in
+    let o = g.O.Out.progress in
+    let v = c.args.verdict in
+    let rows = c.args.rows.now in
+    let old = c.args.locations.now in
+    let x = c.index-rows-first.result in
+    let w = l.invariant.2 f e in
+    let t = first_tree relative_row rows l.next w.left x w.left_is c.loop-next-test.true c.index-rows-first.is in
+    let one : ResultTree = record { root = t.unit; below = t.below } in
+    let size : l.next + x.size - l.next ≡ x.size = omega arith in
+    let all_is = ap (λ n. map relative_row (take n (drop l.next rows))) size ∙ (t.all ∙ sym (flat-flat_of one)) in
+    let has = its_verdict x.valid v (relative_row x).0 refl c.if-row-verdict.false in
+    let res = c.from_residual.result in
+    listed_err (o c.args.out.now) (o c.put_tree.new.out) c.args.later (listed v old.keyword.items old.instance.items f) res c.from_residual.ensures.0
+    (list_stops (o c.args.out.now) (o l.out) (o c.put_tree.new.out) v c.args.later l.later old l.locations rows l.next f x w t has l.invariant.1 (c.in_err-later.ensures.listed one all_is))
+
+pub put_trees-loop-next-smaller : goal.put_trees-loop-next-smaller
+put_trees-loop-next-smaller g t c =
+    let l = c.loop-next in
+    let rows = c.args.rows.now in
+    let w = l.invariant.2 c.requires.0 c.requires.1 in
+    let t = first_tree relative_row rows l.next w.left c.index-rows-first.result w.left_is c.loop-next-test.true c.index-rows-first.is in
+    omega (arith, t.size, t.fits)
+
+pub put_trees-loop-next-preserved : goal.put_trees-loop-next-preserved
+put_trees-loop-next-preserved g t c =
+    let l = c.loop-next in
+    let o = g.O.Out.progress in
+    let v = c.args.verdict in
+    let rows = c.args.rows.now in
+    let old = c.args.locations.now in
+    let x = c.index-rows-first.result in
+    let w0 = l.invariant.2 c.requires.0 c.requires.1 in
+    let t0 = first_tree relative_row rows l.next w0.left x w0.left_is c.loop-next-test.true c.index-rows-first.is in (
+      t0.fits,
+      back_after old l.locations c.put_tree.new.locations l.invariant.1 c.in_ok-later.ensures.back,
+      λ f e.
+          let w = l.invariant.2 f e in
+          let t = first_tree relative_row rows l.next w.left x w.left_is c.loop-next-test.true c.index-rows-first.is in
+          let one : ResultTree = record { root = t.unit; below = t.below } in
+          let size : l.next + x.size - l.next ≡ x.size = omega arith in
+          let all_is = ap (λ n. map relative_row (take n (drop l.next rows))) size ∙ (t.all ∙ sym (flat-flat_of one)) in
+          let has = its_verdict x.valid v (relative_row x).0 refl c.if-row-verdict.false in
+          list_goes_on (o c.args.out.now) (o l.out) (o c.put_tree.new.out) v c.args.later l.later c.in_ok-later.later old l.locations rows l.next f x w t has l.invariant.1 (c.in_ok-later.ensures.listed one all_is),
+    )
+
+pub put_trees-returns-clause-listed : goal.put_trees-returns-clause-listed
+put_trees-returns-clause-listed g t c =
+    λ f e.
+    let l = c.loop-next in
+    let o = g.O.Out.progress in
+    let old = c.args.locations.now in
+    list_ends (o c.args.out.now) (o l.out) c.args.verdict c.args.later l.later old.keyword.items old.instance.items c.args.rows.now l.next f (l.invariant.2 f e) (omega (arith, c.loop-next-test.false))
+
+pub put_trees-returns-clause-back : goal.put_trees-returns-clause-back
+put_trees-returns-clause-back g t c = c.loop-next.invariant.1

@@ -1,0 +1,143 @@
+//! The units that basic lists, written from rows that have only what their locations add to those of the node above.
+ghost use Rattle.std.specs.Prelude.{◌≡◌, ◌++◌, OnOk, [], codes, map};
+ghost use Rattle.js_doc.specs.BytesOut.{Puts};
+ghost use Rattle.js_doc.specs.Compact.{comma_if, compact};
+ghost use Rattle.js_tree.specs.Flat.{flat, flat_of};
+ghost use Rattle.js_tree.specs.Forest.{Forest};
+ghost use Rattle.js_tree.specs.Form.{node_value, unit_list};
+ghost use Rattle.js_tree.specs.Locations.{HasRoom, HasRoomFor, IsBack};
+ghost use Rattle.js_tree.specs.OutputUnit.{OutputUnit};
+ghost use Rattle.js_tree.specs.RelativeState.{AreRowsOf, AreWhole, relative_row};
+ghost use Rattle.js_tree.specs.Result.{ResultTree, pruned};
+ghost use Rattle.js_tree.specs.code.NodeText.{list_start, valid_text};
+ghost use Rattle.js_tree.specs.code.UnitsText.{AreListed, if_noted, listed, listed_tree, unit_at};
+
+use crate::locations::Locations;
+use crate::node_text::put_error;
+use crate::relative::{RelativeRow, RelativeRows};
+use crate::relative_text::put_beginning;
+use js_doc::{Out, Stopped};
+
+/// Puts the compact text of the basic format (Core, section 12.4.2) of the rows' tree. It prunes while it writes: a tree whose
+/// root has another verdict than the tree's is passed over. It takes no memory.
+///
+/// # Errors
+/// `Stopped`; then a beginning of the text has gone out.
+pub fn put_basic<O: Out>(
+    rows: &RelativeRows,
+    locations: Locations,
+    out: &mut O,
+) -> Result<(), Stopped>
+    requires whole { AreWhole rows.now }
+    requires room { HasRoomFor locations rows.now }
+    ensures { (t : ResultTree) → AreRowsOf rows.now t → Puts (O.progress out.old) (O.progress out.new) (compact (unit_list (pruned t))) result }
+{
+    let mut locations = locations;
+    let rows = rows.rows.as_slice();
+    let root = &rows[0];
+    let verdict = root.valid;
+    put_list_start(verdict, out)?;
+    put_trees(verdict, false, rows, &mut locations, out)?;
+    put_list_end(verdict, out)
+}
+
+/// Puts the units of the trees of the rows, below a node with these locations, with a comma before the first where something
+/// stands before. Answers whether something stands before what comes next.
+#[cycle(put_trees)]
+fn put_trees<O: Out>(
+    verdict: bool,
+    later: bool,
+    rows: &[RelativeRow],
+    locations: &mut Locations,
+    out: &mut O,
+) -> Result<bool, Stopped>
+    requires { (f : Forest OutputUnit) × (map relative_row rows.now ≡ flat_of f) × HasRoom locations.old rows.now }
+    ensures listed { (f : Forest OutputUnit) → map relative_row rows.now ≡ flat_of f → AreListed (O.progress out.old) (O.progress out.new) later (listed verdict locations.old.keyword.items locations.old.instance.items f) result }
+    ensures back { OnOk result (IsBack locations.old locations.new) }
+{
+    let mut later = later;
+    let mut next = 0;
+    while next < rows.len() {
+        let first = next;
+        let row = &rows[first];
+        next = first + row.size;
+        if row.valid != verdict {
+            continue;
+        }
+        later = put_tree(verdict, later, &rows[first..next], locations, out)?;
+    }
+    Ok(later)
+}
+
+/// Puts the units of the tree of the rows, whose root has the verdict.
+#[cycle(put_trees)]
+fn put_tree<O: Out>(
+    verdict: bool,
+    later: bool,
+    rows: &[RelativeRow],
+    locations: &mut Locations,
+    out: &mut O,
+) -> Result<bool, Stopped>
+    requires { (r : ResultTree) × (map relative_row rows.now ≡ flat r) × HasRoom locations.old rows.now }
+    ensures listed { (r : ResultTree) → map relative_row rows.now ≡ flat r → AreListed (O.progress out.old) (O.progress out.new) later (listed_tree verdict locations.old.keyword.items locations.old.instance.items r.root r.below) result }
+    ensures back { OnOk result (IsBack locations.old locations.new) }
+{
+    let row = &rows[0];
+    locations.go_down(row);
+    let later = put_noted(later, row, locations, out)?;
+    let later = put_trees(verdict, later, &rows[1..], locations, out)?;
+    locations.go_back(row);
+    Ok(later)
+}
+
+/// Puts the unit, if it has a note.
+fn put_noted<O: Out>(
+    later: bool,
+    row: &RelativeRow,
+    locations: &Locations,
+    out: &mut O,
+) -> Result<bool, Stopped>
+    ensures { AreListed (O.progress out.old) (O.progress out.new) later (if_noted (unit_at locations.now row.now)) result }
+{
+    if !row.note.is_some() {
+        return Ok(later);
+    }
+    put_unit(later, row, locations, out)?;
+    Ok(true)
+}
+
+/// Puts the unit as a node without children, after a comma where something stands before.
+fn put_unit<O: Out>(
+    later: bool,
+    row: &RelativeRow,
+    locations: &Locations,
+    out: &mut O,
+) -> Result<(), Stopped>
+    ensures { Puts (O.progress out.old) (O.progress out.new) (comma_if later ++ compact (node_value (unit_at locations.now row.now) [])) result }
+{
+    put_beginning(later, row, out)?;
+    put_error(&row.note, out)?;
+    locations.put_end(row.valid, out)
+}
+
+/// Puts what stands before the first unit.
+fn put_list_start<O: Out>(valid: bool, out: &mut O) -> Result<(), Stopped>
+    ensures { Puts (O.progress out.old) (O.progress out.new) (list_start valid ++ codes "[") result }
+{
+    if valid {
+        out.put(b"{\"annotations\":[")
+    } else {
+        out.put(b"{\"errors\":[")
+    }
+}
+
+/// Puts what stands after the last unit.
+fn put_list_end<O: Out>(valid: bool, out: &mut O) -> Result<(), Stopped>
+    ensures { Puts (O.progress out.old) (O.progress out.new) (codes "]" ++ valid_text valid) result }
+{
+    if valid {
+        out.put(b"],\"valid\":true}")
+    } else {
+        out.put(b"],\"valid\":false}")
+    }
+}
