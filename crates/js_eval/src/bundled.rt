@@ -1,5 +1,6 @@
 //! What the keywords of a place of finished schemas hold and name, as places. Where nothing is found the place itself
-//! stands for it, as in the definition; in finished schemas that never happens to a keyword that asks.
+//! stands for it, as in the definition; in finished schemas that never happens to a keyword that asks
+//! (`laws::nothing_stands_in`).
 ghost use Rattle.std.specs.Prelude.{◌≡◌, codes, map, nat_eq, option_and_then, true};
 ghost use Rattle.std.specs.List.{dedup, list_all};
 ghost use Rattle.js_bundle.specs.Resource.{sites};
