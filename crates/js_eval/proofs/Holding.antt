@@ -61,14 +61,14 @@ takes_is w κ name step e f h = ap (λ t. t step) (takes_by (keyword_name name))
 
 -- ---- its argument
 
-argument_is : (v : Value) (k : Keyword) → IsIn v k → get k.0 (keywords v) ≡ Some k.1
+pub argument_is : (v : Value) (k : Keyword) → IsIn v k → get k.0 (keywords v) ≡ Some k.1
 argument_is v k e = ap (get k.0) (same_members v) ∙ e
 
 values_are : (vs : Items) → bundle.values vs ≡ item_list vs
 values_are no_items = refl
 values_are (item v vs) = ap (λ us. v ∷ us) (values_are vs)
 
-items_are : (v : Value) → items_in v ≡ values v
+pub items_are : (v : Value) → items_in v ≡ values v
 items_are null = refl
 items_are (truth b) = refl
 items_are (whole z) = refl

@@ -28,3 +28,4 @@ pub mod NamesLeft
 pub mod Collected
 pub mod SaysThere
 pub mod ResultExamples
+pub mod NothingStandsIn

@@ -1,19 +1,28 @@
 -- Laws of the definitions: that they say what they seem to say.
-use Rattle.std.specs.Prelude.{◌≡◌, ◌↔◌, ℕ, ◌≤◌, List, [], ◌∷◌, Bool, false, not, filter, Option}
-use Rattle.std.specs.List.{flat_map, list_all}
+use Rattle.std.specs.Prelude.{◌≡◌, ◌↔◌, ℕ, ◌≤◌, List, [], ◌∷◌, Bool, false, not, filter, Option, Some}
+use Rattle.std.specs.List.{AllByRecursion, flat_map, list_all}
 use Rattle.js_doc.specs.Value.{Value, Named}
+use Rattle.js_assert.specs.Argument.{entries}
+use Rattle.js_bundle.specs.Candidate.{IsClear}
+use Rattle.js_bundle.specs.Document.{Documents}
+use Rattle.js_bundle.specs.Refusals.{candidates}
+use Rattle.js_bundle.specs.Resource.{Site, sites}
+use Rattle.js_bundle.specs.Schemas.{place_at, below}
+use Rattle.js_bundle.specs.Seen.{AreRead}
+use Rattle.js_bundle.specs.Target.{target, dynamic_target}
 use Rattle.js_eval.specs.Applications.{Application, asks_of, among_indexes, indexed}
+use Rattle.js_eval.specs.Bundle.{schemas_of}
 use Rattle.js_eval.specs.Evaluated.{indexes_applied}
 use Rattle.js_eval.specs.Keywords.{Keyword, keywords}
 use Rattle.js_eval.specs.Kind.{kind, is_unevaluated_items, is_unevaluated_properties}
 use Rattle.js_eval.specs.Location.{Location}
 use Rattle.js_eval.specs.Note.{are_all_items}
 use Rattle.js_eval.specs.Result.{ResultTree, IsResult, StandsWithin, depth, size}
-use Rattle.js_eval.specs.SchemaSet.{Text, SchemaSet}
+use Rattle.js_eval.specs.SchemaSet.{Text, SchemaSet, Step}
 use Rattle.js_eval.specs.Size.{node_total}
 use Rattle.js_eval.specs.Verdict.{Known, within, Settled, gives_names, gives_indexes, evaluated_names, evaluated_indexes}
 use Rattle.js_eval.specs.declared.kind.Kind.{Kind}
-use Rattle.js_eval.specs.declared.kind.Kind.TheVariants.{PrefixItems, Contains}
+use Rattle.js_eval.specs.declared.kind.Kind.TheVariants.{Reference, DynamicReference, PrefixItems, Contains}
 
 -- v is judged at a place, to which these places led
 
@@ -81,3 +90,33 @@ module _ {Place : Type 0} (S : SchemaSet Place) (path : List Place) (place : Pla
     pub matching :
         (holds : Application Place → Bool)
         → are_all_items v (indexes_applied (filter holds (asked_of_items Contains))) ≡ is_every_item v (indexes_applied (filter holds (asked_of_items Contains)))
+
+-- ---- nothing stands in for a place that isn't found
+
+-- where the place of an application is looked for: the reference names it (8.2.3), or the keyword holds it at the step
+-- (10, 11)
+abbrev pub looked_for : Documents → List Site → Site → Text → Step → Kind → Option Site
+looked_for documents path place keyword step Reference = target (sites documents) place
+looked_for documents path place keyword step DynamicReference = dynamic_target (sites documents) path place
+looked_for documents path place keyword step _ = below documents place keyword step
+
+-- this place is found, and it is one of the documents'
+pub record IsFound (documents : Documents) (found : Option Site) (place : Site) : Type 0 where
+  pub is : found ≡ Some place
+  pub number : ℕ
+  pub stands : place_at documents number ≡ Some place
+
+-- the keyword of a place asks for the application
+abbrev pub IsOfFound : Documents → List Site → Site → Keyword → Application Site → Type 0
+IsOfFound documents path place k a = IsFound documents (looked_for documents path place k.0 a.step (kind k.0)) a.place
+
+-- In documents that are accepted, each application that a keyword of a place asks for is of a place that is found,
+-- whatever value is judged, and whatever the dynamic scope. It is a place of the documents too, so the same holds there.
+-- `schemas_of` answers something else where nothing is found: no judgement comes to that.
+abbrev pub NothingStandsIn : Type 0
+NothingStandsIn =
+    (documents : Documents) → AreRead documents → IsClear (candidates documents) → (n : ℕ) (place : Site) → place_at documents n ≡ Some place
+    → (path : List Site) (v : Value) (condition : Option Bool) (names : List Text) (indexes : List ℕ)
+    → AllByRecursion
+    (λ k. AllByRecursion (IsOfFound documents path place k) (asks_of (schemas_of documents) path place (entries place.schema) v condition names indexes k (kind k.0)))
+    (keywords place.schema)

@@ -1,6 +1,6 @@
 //! Look-ups in finished schemas: the subschemas of keywords and the targets of references, with their places. If
 //! nothing is found, the place itself is returned, as in the definition. In finished schemas, that doesn't happen for a
-//! keyword that asks for applications.
+//! keyword that asks for applications (`laws::nothing_stands_in`).
 ghost use Rattle.std.specs.Prelude.{◌≡◌, codes, map, nat_eq, option_and_then, true};
 ghost use Rattle.std.specs.List.{dedup, list_all};
 ghost use Rattle.js_bundle.specs.Resource.{sites};

@@ -4,10 +4,12 @@ ghost use Rattle.js_doc.specs.Value.{Named, Value as JsonValue};
 ghost use Rattle.js_bundle.specs.Document.{Documents};
 ghost use Rattle.js_eval.specs.Collected.{RowsAreCollected, TreeIsCollected, VerdictIsCollected};
 ghost use Rattle.js_eval.specs.Examples.{Shown};
-ghost use Rattle.js_eval.specs.Laws.{AtMostOneResult, DepthIsLeast, LimitsAreExact, NoCircle, ResultExactlyIfSettled, SizeIsTotal, StaysSettled, TellsEveryItem};
+ghost use Rattle.js_eval.specs.Laws.{AtMostOneResult, DepthIsLeast, LimitsAreExact, NoCircle, NothingStandsIn, ResultExactlyIfSettled, SizeIsTotal, StaysSettled, TellsEveryItem};
 ghost use Rattle.js_eval.specs.Keywords.{Keyword};
 ghost use Rattle.js_eval.specs.ResultExamples.{GiveTheseResults};
 ghost use Rattle.js_eval.specs.SchemaSet.{SchemaSet, Text};
+
+use js_bundle::laws::what_is_held_and_named_is_found;
 
 /// What is settled within a number of schemas on a way is settled alike within each greater number.
 pub fn settled_stays<Place>()
@@ -39,6 +41,14 @@ pub fn every_item<Place>()
     ensures { (S : SchemaSet Place) (path : List Place) (place : Place) (v : JsonValue) (siblings : Named) (condition : Option Bool) (names : List Text) (indexes : List ℕ) (k : Keyword)
         → TellsEveryItem S path place v siblings condition names indexes k }
 {}
+
+/// In documents that are accepted no schema is looked for in vain: each application that a keyword of a place asks for is of
+/// a place that is found, so nothing stands in for one (JSON Schema Core, sections 8.2.3, 10 and 11).
+pub fn nothing_stands_in()
+    ensures { NothingStandsIn }
+{
+    what_is_held_and_named_is_found()
+}
 
 /// After a walk into a new collector of js_tree that answers Ok, `Verdict` holds the result's verdict, `Boxed` the result, and
 /// `Flat` its rows.
