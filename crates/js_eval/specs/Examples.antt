@@ -1,4 +1,4 @@
--- Schemas and instances on which the definitions are seen to say what was meant.
+-- Schemas and instances that show that the definitions say what was meant.
 use Rattle.std.specs.Prelude.{ℕ, pos, List, [], ◌∷◌, Bool, true, false, option_and_then, unwrap_or, get_or, drop, codes}
 use Rattle.js_doc.specs.PointerReading.{pointer_of}
 use Rattle.js_doc.specs.Lookup.{at}
@@ -12,8 +12,8 @@ use Rattle.js_eval.specs.Result.{OutputUnit, ResultTree, IsResult}
 use Rattle.js_eval.specs.SchemaSet.{Text, SchemaSet, Step, Alone, Index, Name}
 use Rattle.js_eval.specs.Verdict.{Settled, Succeeds, Fails}
 
--- ---- The schemas of one document. A place is told by the schema that stands there, which is enough without `$id`.
--- ---- A reference is `#` and a pointer.
+-- ---- The schemas of one document. A place is given by the schema there, which is enough without `$id`. A reference is
+-- `#` and a pointer.
 
 abbrev pub subschema : Value → Step → Value
 subschema argument Alone = argument
@@ -174,8 +174,8 @@ names_are_a = only (codes "propertyNames") (only (codes "const") (str (codes "a"
 abbrev pub dependent : Value
 dependent = only (codes "dependentSchemas") (only (codes "a") (requires (codes "b")))
 
--- ---- A tree whose nodes may be extended, and a strict one: two resources, and in each the root is named `node` by
--- ---- `$dynamicAnchor`. A place is told by its resource and its schema.
+-- ---- A tree whose nodes may be extended, and a strict one: two resources, in each of which `$dynamicAnchor` names the
+-- root `node`. A place is given by its resource and its schema.
 
 abbrev pub tree_schema : Value
 tree_schema = obj (
@@ -247,7 +247,7 @@ pub record Shown : Type 0 where
   -- an item that `contains` matches is evaluated
   pub contains_evaluates : Accepts unevaluated_after_contains 2 (arr (str (codes "x") ∷ num 1 ∷ []))
   pub contains_leaves_the_rest : Refuses unevaluated_after_contains 2 (arr (str (codes "x") ∷ null ∷ []))
-  -- `else` looks at `if`, though its name comes before; what `if` evaluates counts where it holds
+  -- `else` depends on `if`, though its name comes before; what `if` evaluates counts if it holds
   pub if_holds : Accepts if_else_unevaluated 3 (with_one (codes "a"))
   pub if_fails : Refuses if_else_unevaluated 3 (with_one (codes "b"))
   pub then_without_if : Accepts then_alone 1 (num 0)

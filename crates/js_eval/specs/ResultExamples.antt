@@ -19,7 +19,7 @@ use Rattle.js_eval.specs.Verdict.{Settled}
 abbrev pub document_at : Text → Value → Documents
 document_at uri root = option_map_or (λ u. record { uri = u; root = root } ∷ []) (uri_of uri) []
 
--- t is the result of judging v at the first of these places
+-- t is the result of evaluating v at the first of these places
 abbrev pub IsResultAtFirst : Documents → List Site → Value → ResultTree → Type 0
 IsResultAtFirst documents [] v t = ⊥
 IsResultAtFirst documents (place ∷ places) v t = IsResult (schemas_of documents) [] place at_root v t
@@ -30,7 +30,7 @@ IsResultOf documents v t = IsResultAtFirst documents (sites documents) v t
 abbrev pub unit : Bool → Text → Text → Text → Note → OutputUnit
 unit valid keyword absolute instance note = record { valid = valid; keyword = keyword; absolute = absolute; instance = instance; note = note }
 
--- ---- a name that a pointer escapes, and a fragment more
+-- ---- a name that needs escapes in a pointer, and more in a fragment
 
 abbrev pub escaped_name_schema : Documents
 escaped_name_schema = document_at (codes "https://a.example/s") (only (codes "properties") (only (codes "a/b %") (only (codes "type") (str (codes "null")))))
@@ -66,7 +66,7 @@ failing_properties_result = record {
       (tree (unit true (codes "/unevaluatedProperties/const") (codes "https://a.example/s#/unevaluatedProperties/const") (codes "/a") silent) empty empty) empty) empty));
 }
 
--- ---- `if`, `else`, and a keyword whose name stands between theirs
+-- ---- `if`, `else`, and a keyword whose name is between theirs
 
 abbrev pub if_before_else_schema : Documents
 if_before_else_schema = document_at (codes "https://a.example/s") (obj ((codes "else", only (codes "minimum") (num 2)) ∷ (codes "if", truth false) ∷ (codes "iff", num 1) ∷ []))
@@ -109,7 +109,7 @@ then_evaluates_result = record {
       (tree (unit true (codes "/unevaluatedProperties") (codes "https://a.example/s#/unevaluatedProperties") [] (names ([]))) empty empty)));
 }
 
--- ---- no `if` is there
+-- ---- `then` and `else` without `if`
 
 abbrev pub else_alone_schema : Documents
 else_alone_schema = document_at (codes "https://a.example/s") (obj ((codes "else", truth false) ∷ (codes "then", truth false) ∷ []))
@@ -125,7 +125,7 @@ else_alone_result = record {
       (tree (unit true (codes "/then") (codes "https://a.example/s#/then") [] silent) empty empty));
 }
 
--- ---- the keywords on members at once
+-- ---- the keywords for members together
 
 abbrev pub members_schema : Documents
 members_schema = document_at (codes "https://a.example/s") (obj ((codes "additionalProperties", only (codes "type") (str (codes "null"))) ∷ (codes "properties", only (codes "a") (truth true)) ∷ (codes "propertyNames", only (codes "maxLength") (num 1)) ∷ (codes "unevaluatedProperties", truth false) ∷ []))
@@ -151,7 +151,7 @@ members_result = record {
       (tree (unit false (codes "/unevaluatedProperties") (codes "https://a.example/s#/unevaluatedProperties") (codes "/bc") (error (codes "false schema"))) empty empty) empty))));
 }
 
--- ---- a schema of a member that is there, and one that is not
+-- ---- `dependentSchemas`: a name that a member has, and one that none has
 
 abbrev pub dependent_schema : Documents
 dependent_schema = document_at (codes "https://a.example/s") (only (codes "dependentSchemas") (obj ((codes "a", only (codes "maxProperties") (num 0)) ∷ (codes "b", truth false) ∷ [])))
@@ -168,7 +168,7 @@ dependent_result = record {
       (tree (unit false (codes "/dependentSchemas/a/maxProperties") (codes "https://a.example/s#/dependentSchemas/a/maxProperties") [] (error (codes "1 members, at most 0"))) empty empty) empty) empty);
 }
 
--- ---- the keywords on items at once
+-- ---- the keywords for items together
 
 abbrev pub items_at_once_schema : Documents
 items_at_once_schema = document_at (codes "https://a.example/s") (obj ((codes "contains", only (codes "const") (num 3)) ∷ (codes "items", only (codes "type") (str (codes "integer"))) ∷ (codes "maxContains", num 0) ∷ (codes "prefixItems", arr ((truth true) ∷ [])) ∷ []))
@@ -262,7 +262,7 @@ into_a_document_result = record {
       (tree (unit false (codes "/$ref/type") (codes "https://a.example/t#/$defs/i/type") [] (error (codes "type is string"))) empty empty) empty) empty);
 }
 
--- ---- schemas of `not`, one within another: 512 of them stand on the way, and no less
+-- ---- nested `not` schemas, which take exactly 512 nested schema applications
 
 abbrev pub chain : ℕ → Value
 chain zero = truth true

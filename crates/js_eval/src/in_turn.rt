@@ -67,6 +67,6 @@ fn first_name(names: &[KeywordName]) -> (KeywordName, &[KeywordName])
 {
     match names.split_first() {
         Some((first, others)) => (*first, others),
-        None => (KeywordName::OtherUpToIf, names), // never: each member has one
+        None => (KeywordName::OtherUpToIf, names), // never: each member has a name
     }
 }

@@ -327,7 +327,7 @@ fn matches<'a>(
 {
     match pattern_of(schemas, place, pattern) {
         Some(built) => searchers.matches(alloc, built, name),
-        None => Err(Memory), // never: each pattern of finished schemas is built
+        None => Err(Memory), // never: finished schemas have all their patterns
     }
 }
 

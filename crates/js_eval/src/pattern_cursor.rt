@@ -157,7 +157,7 @@ fn begin<'a>(
             }
             Ok(pattern)
         }
-        None => Err(Memory), // never: each pattern of finished schemas is built
+        None => Err(Memory), // never: finished schemas have all their patterns
     }
 }
 
