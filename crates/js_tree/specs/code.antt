@@ -4,4 +4,5 @@ pub mod Nesting
 pub mod NodeText
 pub mod Order
 pub mod Put
+pub mod RelativeText
 pub mod Search
