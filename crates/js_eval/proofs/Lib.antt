@@ -2,6 +2,7 @@ pub mod Lists
 pub mod Agree
 pub mod Results
 pub mod Limits
+pub mod Located
 pub mod NoCircle
 pub mod Examples
 pub mod AskedNothing

@@ -67,7 +67,14 @@ impl<H: PointerText + Drop> Trail<H> {
 }
 
 impl Trail<HeldText> {
-    /// The text as it is now.
+    /// The text as it is now, lent.
+    pub fn as_str(&self) -> &str
+        ensures { result.now ≡ self.now }
+    {
+        self.held.text.as_str()
+    }
+
+    /// A copy of the text as it is now.
     pub fn copy(&self) -> Result<Text, Memory>
         ensures { IfOk result (λ t. t ≡ self.now) }
     {
