@@ -20,6 +20,7 @@ pub mod Nested
 pub mod NodeTexts
 pub mod NotedRows
 pub mod Pieces
+pub mod RelativeTold
 pub mod Searching
 pub mod Siblings
 pub mod Steps

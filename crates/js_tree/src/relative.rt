@@ -1,7 +1,7 @@
 //! A result as rows that have only what their locations add to those of the node above.
-ghost use Rattle.std.specs.Prelude.{◌≡◌, ◌++◌, IfOk, drop};
+ghost use Rattle.std.specs.Prelude.{◌≡◌, [], ◌++◌, IfOk, drop};
 ghost use Rattle.js_tree.specs.Events.{opening, closing};
-ghost use Rattle.js_tree.specs.RelativeState.{AreRowsOf, AreWhole, relative_after, relative_start, relative_state};
+ghost use Rattle.js_tree.specs.RelativeState.{AreRowsOf, AreWhole, node_above, open_node, open_nodes, relative_after, relative_start, relative_state};
 ghost use Rattle.js_tree.specs.Result.{ResultTree};
 ghost use Rattle.js_tree.specs.Seen.{note_of};
 
@@ -123,8 +123,10 @@ impl<'a> RelativeRows<'a> {
 }
 
 // The innermost open node. Above the root nothing is known.
-fn innermost(open: &[OpenNode]) -> OpenNode {
-    match open.last() {
+fn innermost(nodes: &[OpenNode]) -> OpenNode
+    ensures { open_node result ≡ node_above (open_nodes nodes.now []) }
+{
+    match nodes.last() {
         Some(node) => *node,
         None => OpenNode {
             number: 0,
