@@ -12,6 +12,7 @@ pub mod HowMany
 pub mod JudgedDocuments
 pub mod Largest
 pub mod EveryItem
+pub mod OpeningsAlike
 pub mod Paths
 pub mod Scopes
 pub mod ItemsLeft

@@ -26,7 +26,6 @@ impl<'a> Reporter<Here<'a>, HeldText> for Recording<'a> {
     ghost takes = { λ c e d. relative_state d.rows ≡ relative_after (relative_state c.rows) e };
 
     #[inline(never)]
-    #[tactic(auto, using(crate::proofs::Paths::location_is))]
     fn open_schema(
         &mut self,
         _alloc: Global,
@@ -55,10 +54,10 @@ impl<'a> Reporter<Here<'a>, HeldText> for Recording<'a> {
         instance_location: &Trail<HeldText>,
     ) -> Result<(), Memory> {
         set_token(&mut self.token, keyword.name)?;
-        let absolute = world.schemas.absolute_of(place);
+        let schema = world.schemas.absolute_of(place);
         self.rows.enter(
             keyword_location.as_str(),
-            absolute,
+            schema,
             self.token.as_str(),
             instance_location.as_str(),
         )

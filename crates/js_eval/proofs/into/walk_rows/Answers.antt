@@ -17,7 +17,7 @@ returns-in-Ok-clause-ok c =
       h.result,
       record { is = h.is; stands = h.stands },
       record {
-        rows_are = relative_held h.result c.new-rows.result _ c.new-rows.ensures (passes-inside (λ o. o.rows) (λ a e b. relative_state b ≡ relative_after (relative_state a) e) (events h.result) _ c.walk_from-done.new.into h.passes);
+        rows_are = relative_held h.result c.new-2.result _ c.new-2.ensures (passes-inside (λ o. o.rows) (λ a e b. relative_state b ≡ relative_after (relative_state a) e) (events h.result) _ c.walk_from-done.new.into h.passes);
         located = result_is_located (schemas_of schemas) [] (numbered_site schemas c.args.place) (value_of c.args.value.now) at_root h.result h.is;
       },
     )
