@@ -2,6 +2,7 @@ pub mod Lists
 pub mod Agree
 pub mod Results
 pub mod Limits
+pub mod Located
 pub mod NoCircle
 pub mod Examples
 pub mod AskedNothing
@@ -11,6 +12,7 @@ pub mod HowMany
 pub mod JudgedDocuments
 pub mod Largest
 pub mod EveryItem
+pub mod OpeningsAlike
 pub mod Paths
 pub mod Scopes
 pub mod ItemsLeft

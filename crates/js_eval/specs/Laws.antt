@@ -10,6 +10,7 @@ use Rattle.js_bundle.specs.Resource.{Site, sites}
 use Rattle.js_bundle.specs.Schemas.{place_at, below}
 use Rattle.js_bundle.specs.Seen.{AreRead}
 use Rattle.js_bundle.specs.Target.{target, dynamic_target}
+use Rattle.js_tree.specs.Relative.{IsLocated}
 use Rattle.js_eval.specs.Applications.{Application, asks_of, among_indexes, indexed}
 use Rattle.js_eval.specs.Bundle.{schemas_of}
 use Rattle.js_eval.specs.Evaluated.{indexes_applied}
@@ -58,6 +59,10 @@ module _ {Place : Type 0} (S : SchemaSet Place) (above : List Place) (place : Pl
       (at : Location) (deepest most : ℕ)
       → ((t : ResultTree) × IsResult S above place at v t × StandsWithin deepest most t)
       ↔ (Settled S deepest above place v × (node_total S deepest above place v ≤ most))
+
+  -- the keyword location and the instance location of each node begin with those of the node above (Core, section 12.3)
+  abbrev pub LocationsGoOn : Type 0
+  LocationsGoOn = (at : Location) (t : ResultTree) → IsResult S above place at v t → IsLocated t
 
   -- The unevaluated keywords look at one another in no circle: what all keywords but `unevaluatedProperties` give of
   -- members, and all but `unevaluatedItems` of items, is what the others than those two give.

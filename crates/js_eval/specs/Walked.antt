@@ -2,6 +2,8 @@
 use Rattle.std.specs.Prelude.{◌≡◌, ℕ, Bool, []}
 use Rattle.js_doc.specs.Value.{Value}
 use Rattle.js_tree.specs.Events.{Event, Passes, events}
+use Rattle.js_tree.specs.RelativeState.{AreRowsOf}
+use Rattle.js_tree.specs.declared.relative.RelativeRows.{RelativeRows}
 use Rattle.js_bundle.specs.Document.{Documents}
 use Rattle.js_eval.specs.Bundle.{schemas_of}
 use Rattle.js_eval.specs.Location.{at_root}
@@ -34,6 +36,10 @@ module _ (documents : Documents) (place : ℕ) (v : Value) where
     pub result : ResultTree
     pub within : IsResultWithin result
     pub verdict : valid ≡ result.root.valid
+
+  -- the result is within the limits, and the rows are those of its tree
+  abbrev pub AreResultRows : RelativeRows → Type 0
+  AreResultRows rows = (t : ResultTree) × IsResultWithin t × AreRowsOf rows t
 
   -- the result is within the limits, and its events lead from c to d, one after another
   pub record LeadsTo {C : Type 0} (takes : C → Event → C → Type 0) (c d : C) : Type 0 where

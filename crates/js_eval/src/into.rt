@@ -1,18 +1,20 @@
-//! Walks over finished schemas: into a collector, into a tree, and for the verdict alone.
+//! Walks over finished schemas: into a collector, into a tree, into rows, and for the verdict alone.
 ghost use Rattle.std.specs.Prelude.{◌≡◌, true, IfOk, IfErr};
 ghost use Rattle.js_doc.specs.Seen.{value_of};
 ghost use Rattle.js_bundle.specs.Schemas.{is_place};
-ghost use Rattle.js_eval.specs.Walked.{IsResultWithin, IsVerdict, LeadsTo, NoneStands, OnTooLarge};
+ghost use Rattle.js_eval.specs.Walked.{AreResultRows, IsResultWithin, IsVerdict, LeadsTo, NoneStands, OnTooLarge};
 
 use crate::bundled::schema_at;
 use crate::collecting::Collecting;
 use crate::here::Here;
 use crate::instance::Instance;
+use crate::recording::Recording;
 use crate::searchers::Searchers;
 use crate::walking::{HeldText, Silent, UnseenText, WalkFault, walk_from};
+use bumpalo::Bump;
 use js_bundle::{Place, Schemas};
 use js_doc::Doc;
-use js_tree::{Boxed, Collector, Tree};
+use js_tree::{Boxed, Collector, RelativeRows, Tree};
 use std::alloc::Global;
 use std::marker::PhantomData;
 
@@ -78,6 +80,47 @@ pub fn walk<'a>(
     match walk_into(alloc, schemas, place, value, Boxed::new(alloc)) {
         Ok(boxed) => Ok(boxed.tree().unwrap()),
         Err((fault, _boxed)) => Err(fault),
+    }
+}
+
+/// The result of judging the value at the place, as rows that keep in the arena what their locations add to those of the node
+/// above. The absolute locations of schemas are lent by `schemas`.
+///
+/// # Errors
+/// As `walk`.
+pub fn walk_rows<'a>(
+    alloc: Global,
+    arena: &'a Bump,
+    schemas: &'a Schemas,
+    place: Place,
+    value: &'a Doc,
+) -> Result<RelativeRows<'a>, WalkFault>
+    requires { is_place schemas.now place ≡ true }
+    ensures ok { IfOk result (AreResultRows schemas.now place (value_of value.now)) }
+    ensures too_large { IfErr result (λ e. OnTooLarge e (NoneStands schemas.now place (value_of value.now))) }
+{
+    let here = Here {
+        schemas,
+        searchers: Searchers::new(alloc),
+    };
+    let mut recording = Recording {
+        rows: RelativeRows::new(alloc, arena),
+        token: String::new(alloc),
+    };
+    let schema = schema_at(schemas, place);
+    let value = Instance::Doc(value);
+    let done = walk_from::<Here<'a>, HeldText, Recording<'a>>(
+        alloc,
+        &here,
+        &mut recording,
+        place,
+        schema,
+        value,
+    );
+    let Recording { rows, token: _ } = recording;
+    match done {
+        Ok(_) => Ok(rows),
+        Err(fault) => Err(fault),
     }
 }
 

@@ -4,7 +4,7 @@ ghost use Rattle.js_doc.specs.Value.{Named, Value as JsonValue};
 ghost use Rattle.js_bundle.specs.Document.{Documents};
 ghost use Rattle.js_eval.specs.Collected.{RowsAreCollected, TreeIsCollected, VerdictIsCollected};
 ghost use Rattle.js_eval.specs.Examples.{Shown};
-ghost use Rattle.js_eval.specs.Laws.{AtMostOneResult, DepthIsLeast, LimitsAreExact, NoCircle, NothingStandsIn, ResultExactlyIfSettled, SizeIsTotal, StaysSettled, TellsEveryItem};
+ghost use Rattle.js_eval.specs.Laws.{AtMostOneResult, DepthIsLeast, LimitsAreExact, LocationsGoOn, NoCircle, NothingStandsIn, ResultExactlyIfSettled, SizeIsTotal, StaysSettled, TellsEveryItem};
 ghost use Rattle.js_eval.specs.Keywords.{Keyword};
 ghost use Rattle.js_eval.specs.ResultExamples.{GiveTheseResults};
 ghost use Rattle.js_eval.specs.SchemaSet.{SchemaSet, Text};
@@ -28,6 +28,11 @@ pub fn limits<Place>()
     ensures depth { (S : SchemaSet Place) (above : List Place) (place : Place) (v : JsonValue) → DepthIsLeast S above place v }
     ensures size { (S : SchemaSet Place) (above : List Place) (place : Place) (v : JsonValue) → SizeIsTotal S above place v }
     ensures exact { (S : SchemaSet Place) (above : List Place) (place : Place) (v : JsonValue) → LimitsAreExact S above place v }
+{}
+
+/// The keyword location and the instance location of each node of the result begin with those of the node above.
+pub fn locations_go_on_from_above<Place>()
+    ensures { (S : SchemaSet Place) (above : List Place) (place : Place) (v : JsonValue) → LocationsGoOn S above place v }
 {}
 
 /// Neither of the two unevaluated keywords hangs on what the other gives.

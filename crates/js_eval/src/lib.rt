@@ -28,6 +28,7 @@ mod member_cursor;
 mod name_cursor;
 mod name_set;
 mod pattern_cursor;
+mod recording;
 mod schema;
 mod searchers;
 mod start;
@@ -38,6 +39,6 @@ mod turn;
 mod walking;
 
 pub use by_name::kind_of;
-pub use into::{verdict, walk, walk_into};
+pub use into::{verdict, walk, walk_into, walk_rows};
 pub use kind::Kind;
 pub use walking::WalkFault;

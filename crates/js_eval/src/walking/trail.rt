@@ -74,6 +74,13 @@ impl<H: PointerText + Drop> Trail<H> {
 }
 
 impl Trail<HeldText> {
+    /// The text.
+    pub fn as_str(&self) -> &str
+        ensures { result.now ≡ self.now }
+    {
+        self.held.text.as_str()
+    }
+
     /// A copy of the text.
     ///
     /// # Errors
