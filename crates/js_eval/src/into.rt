@@ -38,16 +38,23 @@ pub fn walk_into<'a, C: Collector<'a>>(
     ensures ok { IfOk result (λ d. LeadsTo schemas.now place (value_of value.now) C.takes collector d) }
     ensures too_large { IfErr result (λ e. OnTooLarge (e.0) (NoneStands schemas.now place (value_of value.now))) }
 {
+    let here = Here {
+        schemas,
+        searchers: Searchers::new(alloc),
+    };
     let mut collecting = Collecting {
         collector,
         notes: PhantomData,
     };
-    let done = walk_to::<HeldText, Collecting<'a, C>>(
+    let schema = schema_at(schemas, place);
+    let value = Instance::Doc(value);
+    let done = walk_from::<Here<'a>, HeldText, Collecting<'a, C>>(
         alloc,
-        schemas,
-        place,
-        value,
+        &here,
         &mut collecting,
+        place,
+        schema,
+        value,
     );
     let Collecting {
         collector,

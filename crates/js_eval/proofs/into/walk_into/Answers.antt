@@ -8,5 +8,5 @@ returns-in-Ok-clause-ok g c =
     record {
       result = h.result;
       within = record { is = h.is; stands = h.stands };
-      passes = passes-inside (λ o. o.collector) g.C.Collector.takes (events h.result) _ c.walk_to-done.new.reporter h.passes;
+      passes = passes-inside (λ o. o.collector) g.C.Collector.takes (events h.result) _ c.walk_from-done.new.into h.passes;
     }
