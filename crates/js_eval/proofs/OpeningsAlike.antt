@@ -1,7 +1,7 @@
 -- Equal texts make the same event.
 use Rattle.std.specs.Prelude.{◌≡◌, ℕ, List, Result, IfOk}
 use Rattle.std.proofs.Common.{subst}
-use Rattle.js_tree.specs.Events.{Event, opening}
+use Rattle.js_tree.specs.Events.{opening}
 use Rattle.js_tree.specs.RelativeState.{RelativeState, relative_after}
 
 pub opening_alike : {A E : Type 0} (r : Result A E) (s t : RelativeState) {k l a b i j : List ℕ} → k ≡ l → a ≡ b → i ≡ j

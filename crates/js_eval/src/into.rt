@@ -1,7 +1,10 @@
 //! Walks over finished schemas: into a collector, into a tree, into rows, and for the verdict alone.
-ghost use Rattle.std.specs.Prelude.{◌≡◌, true, IfOk, IfErr};
+ghost use Rattle.std.specs.Prelude.{◌≡◌, true, IfOk, IfErr, MatchResult};
 ghost use Rattle.js_doc.specs.Seen.{value_of};
 ghost use Rattle.js_bundle.specs.Schemas.{is_place};
+ghost use Rattle.js_eval.specs.Bundle.{schemas_of};
+ghost use Rattle.js_eval.specs.Sited.{numbered_site};
+ghost use Rattle.js_eval.specs.Walk.Reported.{Reported};
 ghost use Rattle.js_eval.specs.Walked.{AreResultRows, IsResultWithin, IsVerdict, LeadsTo, NoneStands, OnTooLarge};
 
 use crate::bundled::schema_at;
@@ -10,7 +13,7 @@ use crate::here::Here;
 use crate::instance::Instance;
 use crate::recording::Recording;
 use crate::searchers::Searchers;
-use crate::walking::{HeldText, Silent, UnseenText, WalkFault, walk_from};
+use crate::walking::{HeldText, PointerText, Reporter, Silent, UnseenText, WalkFault, walk_from};
 use bumpalo::Bump;
 use js_bundle::{Place, Schemas};
 use js_doc::Doc;
@@ -99,24 +102,11 @@ pub fn walk_rows<'a>(
     ensures ok { IfOk result (AreResultRows schemas.now place (value_of value.now)) }
     ensures too_large { IfErr result (λ e. OnTooLarge e (NoneStands schemas.now place (value_of value.now))) }
 {
-    let here = Here {
-        schemas,
-        searchers: Searchers::new(alloc),
-    };
     let mut recording = Recording {
         rows: RelativeRows::new(alloc, arena),
         token: String::new(alloc),
     };
-    let schema = schema_at(schemas, place);
-    let value = Instance::Doc(value);
-    let done = walk_from::<Here<'a>, HeldText, Recording<'a>>(
-        alloc,
-        &here,
-        &mut recording,
-        place,
-        schema,
-        value,
-    );
+    let done = walk_to::<HeldText, Recording<'a>>(alloc, schemas, place, value, &mut recording);
     let Recording { rows, token: _ } = recording;
     match done {
         Ok(_) => Ok(rows),
@@ -138,20 +128,32 @@ pub fn verdict<'a>(
     ensures ok { IfOk result (λ b. IsVerdict schemas.now place (value_of value.now) b) }
     ensures too_large { IfErr result (λ e. OnTooLarge e (NoneStands schemas.now place (value_of value.now))) }
 {
+    match walk_to::<UnseenText, Silent>(alloc, schemas, place, value, &mut Silent) {
+        Ok(valid) => Ok(valid),
+        Err(fault) => Err(fault),
+    }
+}
+
+// Judges the value at the place, and reports the result node by node.
+fn walk_to<'a, H: PointerText + Drop, R: Reporter<Here<'a>, H>>(
+    alloc: Global,
+    schemas: &'a Schemas,
+    place: Place,
+    value: &'a Doc,
+    reporter: &mut R,
+) -> Result<bool, WalkFault>
+    requires { is_place schemas.now place ≡ true }
+    ensures { MatchResult result
+        (λ valid. Reported (schemas_of schemas.now) (numbered_site schemas.now place) (value_of value.now) R.takes valid reporter.old reporter.new)
+        (λ e. OnTooLarge e (NoneStands schemas.now place (value_of value.now))) }
+{
     let here = Here {
         schemas,
         searchers: Searchers::new(alloc),
     };
     let schema = schema_at(schemas, place);
     let value = Instance::Doc(value);
-    match walk_from::<Here<'a>, UnseenText, Silent>(
-        alloc,
-        &here,
-        &mut Silent,
-        place,
-        schema,
-        value,
-    ) {
+    match walk_from::<Here<'a>, H, R>(alloc, &here, reporter, place, schema, value) {
         Ok(valid) => Ok(valid),
         Err(fault) => Err(fault),
     }
