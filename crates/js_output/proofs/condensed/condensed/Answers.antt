@@ -1,4 +1,3 @@
-use Rattle.std.proofs.Common.{rules}
 use Rattle.js_tree.specs.Result.{pruned}
 use Rattle.js_output.proofs.condensed.condensed.Goals as goal
 
