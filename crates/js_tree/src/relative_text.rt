@@ -122,8 +122,8 @@ fn put_children<O: Out>(
     put_trees(rows, b"]", locations, out)
 }
 
-/// Puts a node without a note. Most nodes have none, and each call of `put` costs time: so quotation marks and brackets
-/// go out with what stands beside them.
+/// Puts a node without a note. Most nodes have none, and each call of `put` costs time: so quotation marks and
+/// brackets go out with what stands beside them.
 #[cycle(put_tree)]
 fn put_silent<O: Out>(
     later: bool,
