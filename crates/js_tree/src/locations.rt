@@ -17,8 +17,9 @@ pub struct Locations {
 }
 
 impl Locations {
-    /// Those above the root, which are empty. All memory that the locations of the rows' nodes can need is taken here: what
-    /// the rows add, all together. That is more than the longest of them, but memory that no byte is written to costs nothing.
+    /// Those above the root, which are empty. All memory that the locations of the rows' nodes can need is taken here,
+    /// so that writing takes none: as much as the rows add, all together. The longest location may be far shorter, but
+    /// memory that no byte is written to costs nothing.
     ///
     /// # Errors
     /// `Memory`.

@@ -21,8 +21,8 @@ use crate::node_text::{put_annotation, put_error};
 use crate::relative::{RelativeRow, RelativeRows};
 use js_doc::{Out, Stopped, put_escaped};
 
-/// Puts the compact text of the verbose format (Core, section 12.4.4) of the rows' tree, with each location whole. It takes no
-/// memory.
+/// Puts the compact text of the verbose format (Core, section 12.4.4) of the rows' tree, with each location whole. It
+/// takes no memory.
 ///
 /// # Errors
 /// `Stopped`; then a beginning of the text has gone out.
@@ -122,8 +122,8 @@ fn put_children<O: Out>(
     put_trees(rows, b"]", locations, out)
 }
 
-/// Puts a node without a note. Most nodes have none, and what takes the bytes is called as seldom as can be: so the marks
-/// and brackets go out with what stands beside them.
+/// Puts a node without a note. Most nodes have none, and each call of `put` costs time: so quotation marks and
+/// brackets go out with what stands beside them.
 #[cycle(put_tree)]
 fn put_silent<O: Out>(
     later: bool,
@@ -162,7 +162,7 @@ fn put_inside<O: Out>(
     put_trees(rows, b"],\"instanceLocation\":\"", locations, out)
 }
 
-/// Puts the trees of the rows, with a comma between any two, and what follows them: the bracket, and what stands behind it.
+/// Puts the trees of the rows, with a comma between any two, and then the closing bracket with what stands behind it.
 #[cycle(put_tree)]
 fn put_trees<O: Out>(
     rows: &[RelativeRow],
