@@ -86,8 +86,8 @@ pub fn walk<'a>(
     }
 }
 
-/// The result of judging the value at the place, as rows that keep in the arena what their locations add to those of the node
-/// above. The absolute locations of schemas are lent by `schemas`.
+/// The result of judging the value at the place (JSON Schema Core, section 12.4.4), as rows: a row keeps what its
+/// locations add to those of the node above, in the arena, and borrows the absolute location of its schema.
 ///
 /// # Errors
 /// As `walk`.
@@ -144,7 +144,8 @@ fn walk_to<'a, H: PointerText + Drop, R: Reporter<Here<'a>, H>>(
 ) -> Result<bool, WalkFault>
     requires { is_place schemas.now place ≡ true }
     ensures { MatchResult result
-        (λ valid. Reported (schemas_of schemas.now) (numbered_site schemas.now place) (value_of value.now) R.takes valid reporter.old reporter.new)
+        (λ valid. Reported (schemas_of schemas.now) (numbered_site schemas.now place) (value_of value.now)
+        R.takes valid reporter.old reporter.new)
         (λ e. OnTooLarge e (NoneStands schemas.now place (value_of value.now))) }
 {
     let here = Here {

@@ -32,7 +32,8 @@ pub fn limits<Place>()
 
 /// The keyword location and the instance location of each node of the result begin with those of the node above.
 pub fn locations_go_on_from_above<Place>()
-    ensures { (S : SchemaSet Place) (above : List Place) (place : Place) (v : JsonValue) → LocationsGoOn S above place v }
+    ensures { (S : SchemaSet Place) (above : List Place) (place : Place) (v : JsonValue)
+        → LocationsGoOn S above place v }
 {}
 
 /// Neither of the two unevaluated keywords hangs on what the other gives.

@@ -1,4 +1,4 @@
-//! Rows to which a walk over finished schemas reports.
+//! The reporter that keeps the result of a walk as rows.
 ghost use Rattle.std.specs.Prelude.{◌≡◌, OnOk, string_bytes};
 ghost use Rattle.js_doc.specs.Fragment.{fragment_token};
 ghost use Rattle.js_tree.specs.RelativeState.{relative_after, relative_state};
@@ -13,12 +13,12 @@ use js_doc::{Doc, Memory, push_fragment_token};
 use js_tree::RelativeRows;
 use std::alloc::Global;
 
-/// Rows to which each node of a result goes. Its methods aren't inlined, which keeps the notes that they make out of the stack
-/// frames of the recursion.
+/// Adds a row for each node of the result. Its methods aren't inlined: that keeps the notes that they make out of the
+/// recursive function's stack frame.
 #[derive(Drop)]
 pub(crate) struct Recording<'a> {
     pub rows: RelativeRows<'a>,
-    // What the absolute location of a keyword adds to that of its place. Kept to make no string for each keyword.
+    // What the absolute location of a keyword adds to that of its place. One string serves all keywords.
     pub token: String,
 }
 
@@ -98,7 +98,7 @@ impl<'a> Reporter<Here<'a>, HeldText> for Recording<'a> {
     }
 }
 
-// What the absolute location of the keyword of this name adds to that of its place.
+// Sets the token to what the absolute location of the keyword of this name adds to that of its place.
 fn set_token(token: &mut String, name: &str) -> Result<(), Memory>
     ensures { OnOk result (string_bytes token.new ≡ fragment_token name.now) }
 {
