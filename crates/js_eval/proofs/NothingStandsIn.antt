@@ -297,10 +297,10 @@ module _ (documents : Documents) (place : Site) (finds : FindsAll documents plac
         each_mapped _ (Found DependentSchemas) _ (λ m h. member_found DependentSchemas e m.0 refl h) (filter (λ m. has m.0 (entries v)) (entries k.1))
         (all_of_filter (λ m. has m.0 (entries k.1) ≡ true) (λ m. has m.0 (entries v)) (entries k.1) (each_has (entries k.1)))
     found_by PrefixItems e =
-        each_mapped _ (Found PrefixItems) _ (λ x h. item_found PrefixItems e x.0 refl (within_there (values k.1) x.0 h)) _ (each_passes (λ x. nat_lt x.0 (length (values k.1))) (indexed v))
+        each_mapped _ (Found PrefixItems) _ (λ x h. item_found PrefixItems e x.0 refl (within_there (values k.1) x.0 h)) _ (each_passes _ (indexed v))
     found_by Items e = each_mapped _ (Found Items) _ (λ x h. one_found Items e refl) _ (any_of _)
     found_by Contains e = each_mapped _ (Found Contains) _ (λ x h. one_found Contains e refl) _ (any_of _)
-    found_by Properties e = each_mapped _ (Found Properties) _ (λ m h. member_found Properties e m.0 refl h) _ (each_passes (λ m. has m.0 (entries k.1)) (entries v))
+    found_by Properties e = each_mapped _ (Found Properties) _ (λ m h. member_found Properties e m.0 refl h) _ (each_passes _ (entries v))
     found_by PatternProperties e =
         each_of_each _ (Found PatternProperties) _
         (λ p h. each_mapped _ (Found PatternProperties) _ (λ m _. member_found PatternProperties e p.0 refl h) (filter (λ m. matches p.0 m.0) (entries v)) (any_of _))
