@@ -13,6 +13,7 @@ pub mod AllPlaces
 pub mod Held
 pub mod SchemaBelow
 pub mod Named
+pub mod References
 pub mod Stopping
 pub mod Passes
 pub mod Indexed
