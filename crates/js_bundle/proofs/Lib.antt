@@ -2,6 +2,7 @@ pub mod Rows
 pub mod OnLiterals
 pub mod Added
 pub mod Keywords
+pub mod EachArgument
 pub mod Scanning
 pub mod Scanned
 pub mod Listing

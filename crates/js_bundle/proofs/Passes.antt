@@ -1,8 +1,8 @@
 -- A pass over the places, one place more.
-use Rattle.std.proofs.Common.{◌≡◌, ℕ, ◌+◌, ◌<◌, List, [], ◌∷◌, ◌++◌, map, take, drop, get_or, length, sym, ap, ap₂, ◌∙◌, subst, append_assoc, codes, Bool, true, false, is_none, inl, Ok, Option, Some, None, option_map}
+use Rattle.std.proofs.Common.{◌≡◌, ℕ, ◌+◌, ◌<◌, List, [], ◌∷◌, ◌++◌, map, take, drop, get_or, length, sym, ap, ◌∙◌, subst, append_assoc, true, false, is_none, inl, Ok, Some, None}
 use Rattle.std.specs.List.{flat_map}
 use Rattle.std.proofs.lemmas.List.{take_more, drop_more, map-append}
-use Rattle.js_bundle.specs.declared.scan.Site as rust
+use Rattle.js_bundle.specs.declared.site.Site as rust
 use Rattle.js_bundle.specs.declared.refusal.Refusal.{Refusal}
 use Rattle.js_bundle.specs.declared.refusal.RefusalKind.TheVariants.{Unresolved}
 use Rattle.js_bundle.specs.declared.fault.Fault.{Fault}

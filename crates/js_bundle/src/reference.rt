@@ -24,7 +24,7 @@ use crate::keyword_name::KeywordName;
 use crate::keyword_table::KeywordTable;
 use crate::names::{NameFault, number_named};
 use crate::refusal::RefusalKind;
-use crate::scan::Site;
+use crate::site::Site;
 use crate::uri::{self, LONGEST};
 use indexmap::IndexMap;
 use js_doc::Memory;

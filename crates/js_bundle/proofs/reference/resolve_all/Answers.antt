@@ -1,4 +1,4 @@
-use Rattle.std.proofs.Common.{◌+◌, ◌∙◌, codes, map, drop, nat_eq, arith}
+use Rattle.std.proofs.Common.{◌+◌, codes, map, drop, nat_eq, arith}
 use Rattle.std.specs.List.{flat_map}
 use Rattle.std.proofs.lemmas.Result.{err_from_is_err_and}
 use Rattle.indexmap.specs.IndexMap.{get}
