@@ -12,7 +12,7 @@ use Rattle.js_bundle.specs.Url.{longest_uri, fragment, parsed}
 use Rattle.js_bundle.proofs.Named.{found_at}
 
 -- a text that is joined to a URL
-pub joined_is : (base : Parts) (t : Text) (u : Parts) → nat_lt longest_uri (length t) ≡ false → parse_url (Some base) t ≡ Ok u → joined base t ≡ Some u
+joined_is : (base : Parts) (t : Text) (u : Parts) → nat_lt longest_uri (length t) ≡ false → parse_url (Some base) t ≡ Ok u → joined base t ≡ Some u
 joined_is base t u short read = ap (λ b. if b then None else parsed (parse_url (Some base) t)) short ∙ ap parsed read
 
 pub reference_is : (keyword : Text) (place : Site) (t : Text) (u : Parts) → Some t ≡ text_argument keyword place.schema → nat_lt longest_uri (length t) ≡ false
@@ -26,6 +26,3 @@ pub dynamic_found : (all : List Site) (uri : Parts) (n : ℕ) → number_named a
 dynamic_found all uri n e =
     let first : slice_get all n ≡ named all uri = ap (option_and_then (slice_get all)) (sym e) ∙ found_at (names all uri) all in
     ap₂ (λ o t. option_map (dynamic_as (option_map_or (makes (codes "$dynamicAnchor") (fragment uri)) o false)) t) first (sym e)
-
-pub dynamic_lost : (all : List Site) (uri : Parts) → number_named all uri ≡ None → None ≡ dynamic_by all (Some uri)
-dynamic_lost all uri e = ap (option_map (dynamic_as (option_map_or (makes (codes "$dynamicAnchor") (fragment uri)) (named all uri) false))) (sym e)
