@@ -2,6 +2,7 @@ pub mod Rows
 pub mod OnLiterals
 pub mod Added
 pub mod Keywords
+pub mod EachArgument
 pub mod Scanning
 pub mod Scanned
 pub mod Listing
@@ -13,6 +14,7 @@ pub mod AllPlaces
 pub mod Held
 pub mod SchemaBelow
 pub mod Named
+pub mod References
 pub mod Stopping
 pub mod Passes
 pub mod Indexed

@@ -1,23 +1,20 @@
 -- A schema has no keyword that none of its names is.
 use Rattle.std.proofs.Common.{◌≡◌, List, [], ◌∷◌, Bool, true, false, ◌||◌, ◌++◌, codes, map, Some, None, option_and_then, if◌then◌else◌, refl, sym, ap, ◌∙◌, subst}
 use Rattle.std.specs.List.{list_any}
-use Rattle.std.specs.Option.{option_map_or}
 use Rattle.std.specs.Str.{bytes_eq}
 use Rattle.js_doc.specs.Members.{get}
 use Rattle.js_doc.specs.Value.{Value, Named}
 use Rattle.js_doc.proofs.Named.{is_text-sound}
 use Rattle.js_assert.specs.Keyword as assertion
 use Rattle.js_bundle.specs.Candidate.{IsClear}
-use Rattle.js_bundle.specs.Finding.{number_named, number_of_target, goes_by_name}
+use Rattle.js_bundle.specs.Finding.{number_named, number_of_target, dynamic_by, dynamic_at}
 use Rattle.js_bundle.specs.declared.keyword_name.KeywordName.{KeywordName}
 use Rattle.js_bundle.specs.declared.keyword_name.KeywordName.TheVariants.{Ref, DynamicRef, DynamicAnchor}
 use Rattle.js_bundle.specs.contracts.keyword_name.KeywordNamePartialEq.TheImpl.{ghosts}
 use Rattle.js_bundle.specs.Keyword.{Text, keywords, text_argument, as_text}
 use Rattle.js_bundle.specs.KeywordName.{keyword_name, keyword_names}
-use Rattle.js_bundle.specs.Names.{named}
 use Rattle.js_bundle.specs.Refusals.{at_reference_text, at_references}
 use Rattle.js_bundle.specs.Resource.{Site, joined}
-use Rattle.js_bundle.specs.Target.{reference, is_dynamic}
 use Rattle.js_bundle.proofs.Numbers.{get_first}
 
 neither : (a b : Bool) → (a || b) ≡ false → (a ≡ false) × (b ≡ false)
@@ -67,9 +64,8 @@ no_dynamic_ref place names found same told h = no_text (codes "$dynamicRef") Dyn
 pub no_target : (all : List Site) (keyword : Text) (place : Site) → None ≡ text_argument keyword place.schema → None ≡ number_of_target all keyword place
 no_target all keyword place none = ap (λ t. option_and_then (number_named all) (option_and_then (joined place.own.base) t)) none
 
-pub goes_by_none : (all : List Site) (place : Site) → None ≡ text_argument (codes "$dynamicRef") place.schema → false ≡ goes_by_name all place
-goes_by_none all place none =
-    ap (λ t. option_map_or (is_dynamic (reference (codes "$dynamicRef") place)) (option_and_then (named all) (option_and_then (joined place.own.base) t)) false) none
+pub no_dynamic : (all : List Site) (place : Site) → None ≡ text_argument (codes "$dynamicRef") place.schema → None ≡ dynamic_at all place
+no_dynamic all place none = ap (λ t. dynamic_by all (option_and_then (joined place.own.base) t)) none
 
 pub clear_without : (all : List Site) (place : Site) → None ≡ text_argument (codes "$dynamicRef") place.schema → None ≡ text_argument (codes "$ref") place.schema → IsClear (at_references all place)
 clear_without all place dynamic plain =

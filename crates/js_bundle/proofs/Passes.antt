@@ -1,14 +1,14 @@
 -- A pass over the places, one place more.
-use Rattle.std.proofs.Common.{◌≡◌, ℕ, ◌+◌, ◌<◌, List, [], ◌∷◌, ◌++◌, map, take, drop, get_or, length, sym, ap, ap₂, ◌∙◌, subst, append_assoc, codes, Bool, true, false, is_none, inl, Ok, Option, Some, None, option_map}
+use Rattle.std.proofs.Common.{◌≡◌, ℕ, ◌+◌, ◌<◌, List, [], ◌∷◌, ◌++◌, map, take, drop, get_or, length, sym, ap, ◌∙◌, subst, append_assoc, true, false, is_none, inl, Ok, Some, None}
 use Rattle.std.specs.List.{flat_map}
 use Rattle.std.proofs.lemmas.List.{take_more, drop_more, map-append}
-use Rattle.js_bundle.specs.declared.scan.Site as rust
+use Rattle.js_bundle.specs.declared.site.Site as rust
 use Rattle.js_bundle.specs.declared.refusal.Refusal.{Refusal}
 use Rattle.js_bundle.specs.declared.refusal.RefusalKind.TheVariants.{Unresolved}
 use Rattle.js_bundle.specs.declared.fault.Fault.{Fault}
 use Rattle.js_bundle.specs.declared.fault.Fault.TheVariants.{Memory, Refused}
 use Rattle.js_bundle.specs.Candidate.{Candidate, IsClear, IsStopped}
-use Rattle.js_bundle.specs.Finding.{number_named, number_of_target, goes_by_name, dynamic_as, dynamic_at, IsRefusal}
+use Rattle.js_bundle.specs.Finding.{number_named, IsRefusal}
 use Rattle.js_bundle.specs.code.Leads.{Leads}
 use Rattle.js_bundle.specs.Names.{names, named, is_read}
 use Rattle.js_bundle.specs.Refusals.{at_joined_reference, refusal_at, at_site, first_pass}
@@ -57,10 +57,6 @@ pub place_next : {B : Type 0} (f : Site → B) (ss : List rust.Site) (i : ℕ) (
     → new ≡ old ++ b ∷ [] → b ≡ f (site_of x) → old ++ map f (map site_of (drop i ss)) ≡ all → new ++ map f (map site_of (drop (i + 1) ss)) ≡ all
 place_next f ss i x old new b all h e n m told =
     piece_next old new (f (site_of x) ∷ []) (map f (map site_of (drop (i + 1) ss))) all (n ∙ ap (λ y. old ++ y ∷ []) m) (subst (λ r. old ++ map f r ≡ all) (map_drop_more site_of ss i x h e) told)
-
-pub dynamic_same : (all : List Site) (place : Site) (b : Bool) (t : Option ℕ) → b ≡ goes_by_name all place → t ≡ number_of_target all (codes "$dynamicRef") place
-    → option_map (dynamic_as b) t ≡ dynamic_at all place
-dynamic_same all place b t e f = ap₂ (λ c o. option_map (dynamic_as c) o) e f
 
 -- ---- one reference
 

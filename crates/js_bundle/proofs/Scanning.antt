@@ -10,7 +10,7 @@ use Rattle.js_bundle.specs.declared.holding.Holding.TheVariants.{Nothing}
 use Rattle.js_bundle.specs.declared.scope.Scope.{Scope}
 use Rattle.std.specs.List.{take-map}
 use Rattle.js_bundle.specs.declared.document.Document as rust
-use Rattle.js_bundle.specs.declared.scan.Site as rust_scan
+use Rattle.js_bundle.specs.declared.site.Site as rust_scan
 use Rattle.js_bundle.specs.Keyword.{Text}
 use Rattle.js_bundle.specs.Resource.{Site, root_scope}
 use Rattle.js_bundle.specs.Seen.{document_of}

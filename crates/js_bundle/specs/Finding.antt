@@ -9,7 +9,7 @@ use Rattle.js_bundle.specs.declared.fault.Fault.{Fault}
 use Rattle.js_bundle.specs.declared.fault.Fault.TheVariants.{Memory, Refused}
 use Rattle.js_bundle.specs.declared.reference.DynamicReference.{DynamicReference}
 use Rattle.js_bundle.specs.Keyword.{Text, text_argument}
-use Rattle.js_bundle.specs.Names.{names, is_pointer}
+use Rattle.js_bundle.specs.Names.{names, named, is_pointer}
 use Rattle.js_bundle.specs.declared.names.NameFault.{NameFault}
 use Rattle.js_bundle.specs.declared.names.NameFault.TheVariants as fault
 use Rattle.js_doc.specs.PointerReading.{pointer_of}
@@ -33,7 +33,12 @@ goes_by_name all place =
 abbrev pub dynamic_as : Bool → ℕ → DynamicReference
 dynamic_as by_name target = record { target = target; by_name = by_name }
 
--- the first target of a place's `$dynamicRef`, and whether it goes by name
+-- the first target of a `$dynamicRef` that is this URI, and whether it goes by name
+abbrev pub dynamic_by : List Site → Option Parts → Option DynamicReference
+dynamic_by all uri =
+    option_map (dynamic_as (option_map_or (is_dynamic uri) (option_and_then (named all) uri) false)) (option_and_then (number_named all) uri)
+
+-- that of a place's `$dynamicRef`
 abbrev pub dynamic_at : List Site → Site → Option DynamicReference
 dynamic_at all place = option_map (dynamic_as (goes_by_name all place)) (number_of_target all (codes "$dynamicRef") place)
 

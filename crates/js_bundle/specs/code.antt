@@ -10,3 +10,4 @@ pub mod Grouped
 pub mod Patterns
 pub mod Column
 pub mod Held
+pub mod Identity

@@ -9,7 +9,7 @@ ghost use Rattle.js_bundle.specs.code.Scan.{site_of};
 
 use crate::fault::{Fault, refuse_member};
 use crate::refusal::RefusalKind;
-use crate::scan::Site;
+use crate::site::Site;
 use js_assert::{Assertion, Pattern, PatternFault};
 use js_doc::{Doc, Members, Memory, Text};
 use std::alloc::Global;

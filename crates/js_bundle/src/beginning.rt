@@ -3,7 +3,7 @@ ghost use Rattle.std.specs.Prelude.{◌≡◌, IfOk, option_map, string_bytes};
 ghost use Rattle.js_bundle.specs.code.Beginning as spec;
 ghost use Rattle.js_bundle.specs.code.Scan.{site_of};
 
-use crate::scan::Site;
+use crate::site::Site;
 use js_doc::{Memory, Token};
 use std::alloc::Global;
 

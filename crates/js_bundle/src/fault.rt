@@ -5,7 +5,7 @@ ghost use Rattle.js_bundle.specs.Refusals.{refusal_at};
 ghost use Rattle.js_bundle.specs.code.Scan.{site_of};
 
 use crate::refusal::{Refusal, RefusalKind};
-use crate::scan::Site;
+use crate::site::Site;
 use js_doc::Memory as NoMemory;
 use std::alloc::{AllocError, AllocFailed, Global};
 

@@ -8,7 +8,7 @@ use crate::keys::name_key;
 use crate::keyword::text_argument;
 use crate::names::is_root;
 use crate::numbering::Numbering;
-use crate::scan::Site;
+use crate::site::Site;
 use crate::uri;
 use js_doc::Memory;
 use std::alloc::Global;

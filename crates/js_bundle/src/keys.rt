@@ -6,7 +6,7 @@ ghost use Rattle.js_bundle.specs.code.Index.{place_key, name_key};
 ghost use Rattle.js_bundle.specs.code.Scan.{site_of};
 
 use crate::beginning::{Beginning, room_for};
-use crate::scan::Site;
+use crate::site::Site;
 use js_doc::{Memory, Pointer, Token, push_token};
 use std::alloc::Global;
 

@@ -7,8 +7,8 @@ ghost use Rattle.js_bundle.specs.Schemas.{is_place, place_at};
 use crate::grouped::part;
 use crate::keyword_name::KeywordName;
 use crate::place::Place;
-use crate::scan::Site;
 use crate::schemas::Schemas;
+use crate::site::Site;
 use js_doc::{Doc, Members, Memory};
 use std::alloc::Global;
 

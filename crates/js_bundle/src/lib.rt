@@ -37,6 +37,7 @@ mod rules;
 mod scan;
 mod schemas;
 mod scope;
+mod site;
 mod target;
 mod uri;
 mod whole_check;

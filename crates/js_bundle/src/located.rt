@@ -8,7 +8,7 @@ use crate::index::Index;
 use crate::keys::next_key;
 use crate::location::next_location;
 use crate::resource_table::begins_resource;
-use crate::scan::Site;
+use crate::site::Site;
 use js_doc::{Memory, Text};
 use std::alloc::Global;
 

@@ -8,8 +8,8 @@ ghost use Rattle.js_bundle.specs.Location.{location};
 ghost use Rattle.js_bundle.specs.Url.{printed};
 
 use crate::beginning::Beginning;
-use crate::scan::Site;
 use crate::scope::Scope;
+use crate::site::Site;
 use crate::uri;
 use js_doc::{Memory, Pointer, Token, push_fragment_token};
 use std::alloc::Global;

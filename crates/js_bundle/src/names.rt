@@ -11,7 +11,7 @@ ghost use Rattle.js_bundle.specs.Url as spec;
 use crate::index::Index;
 use crate::keys::{name_key, place_key};
 use crate::pointers::extended;
-use crate::scan::Site;
+use crate::site::Site;
 use crate::uri;
 use js_doc::{Memory, Pointer, PointerFault};
 use std::alloc::Global;

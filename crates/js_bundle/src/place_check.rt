@@ -1,7 +1,8 @@
 //! The first pass: each place and its keywords, in scan order.
-ghost use Rattle.std.specs.Prelude.{◌≡◌, ◌++◌, [], ◌∷◌, length, not, map, option_map, MatchOption, OnOk, IfOk, IfErr};
+ghost use Rattle.std.specs.Prelude.{◌≡◌, ◌++◌, [], ◌∷◌, Some, length, not, map, option_map, MatchOption, OnOk, IfOk, IfErr};
 ghost use Rattle.std.specs.List.{flat_map};
 ghost use Rattle.js_doc.specs.Seen.{value_of};
+ghost use Rattle.js_doc.specs.Value as spec;
 ghost use Rattle.js_bundle.specs.declared.refusal.RefusalKind.TheVariants.{BadKeyword};
 ghost use Rattle.js_bundle.specs.AssertionsAndPatterns.{assertion_at, assertions_at, patterns_of, patterns_at};
 ghost use Rattle.js_bundle.specs.Candidate.{IsClear, IsStopped};
@@ -9,7 +10,7 @@ ghost use Rattle.js_bundle.specs.Form.{is_formed};
 ghost use Rattle.js_bundle.specs.code.Grouped.{IsGrouped};
 ghost use Rattle.js_bundle.specs.code.Index.{IsIndex};
 ghost use Rattle.js_bundle.specs.code.Located.{BeginTextsOf, IsLast, IsLocated, IsLocatedNext};
-ghost use Rattle.js_bundle.specs.Keyword.{keywords};
+ghost use Rattle.js_bundle.specs.Keyword as words;
 ghost use Rattle.js_bundle.specs.KeywordName.{keyword_names};
 ghost use Rattle.js_bundle.specs.Refusals.{when, decided, on_text, text_rules, at_member, at_site, first_pass};
 ghost use Rattle.js_bundle.specs.code.Scan.{site_of};
@@ -21,7 +22,7 @@ use crate::keyword_table::KeywordTable;
 use crate::located::{Beginnings, Located};
 use crate::refusal::RefusalKind;
 use crate::rules::{check_anchor, check_dialect, check_id, check_place, is_formed, read_assertion};
-use crate::scan::Site;
+use crate::site::Site;
 use js_doc::{Doc, Members, Memory};
 use std::alloc::Global;
 
@@ -47,7 +48,8 @@ fn check_text(
     keyword: &str,
     text: &str,
 ) -> Result<(), Fault>
-    requires { IsIndex index.now (map site_of before.now) }
+    requires index { IsIndex index.now (map site_of before.now) }
+    requires argument { words.argument keyword.now (value_of site.now.schema.now) ≡ Some (spec.text text.now) }
     ensures ok { OnOk result (IsClear
         (text_rules (map site_of before.now) (site_of site.now) keyword.now text.now)) }
     ensures err { IfErr result (IsStopped
@@ -70,7 +72,8 @@ fn check_argument(
     keyword: &str,
     argument: &Doc,
 ) -> Result<(), Fault>
-    requires { IsIndex index.now (map site_of before.now) }
+    requires index { IsIndex index.now (map site_of before.now) }
+    requires argument { words.argument keyword.now (value_of site.now.schema.now) ≡ Some (value_of argument.now) }
     ensures ok { OnOk result (IsClear (on_text
         (text_rules (map site_of before.now) (site_of site.now) keyword.now) (value_of argument.now))) }
     ensures err { IfErr result (IsStopped (on_text
@@ -93,7 +96,8 @@ fn check_keyword(
     argument: &Doc,
     siblings: &Members,
 ) -> Result<(), Fault>
-    requires { IsIndex index.now (map site_of before.now) }
+    requires index { IsIndex index.now (map site_of before.now) }
+    requires argument { words.argument keyword.now (value_of site.now.schema.now) ≡ Some (value_of argument.now) }
     ensures clear { OnOk result (IsClear
         (at_member (map site_of before.now) (site_of site.now) (keyword.now, value_of argument.now))) }
     ensures assertions { OnOk result (built.new.assertions.items ≡ built.old.assertions.items
@@ -119,7 +123,8 @@ fn check_keywords(
     site: &Site<'_>,
     members: &Members,
 ) -> Result<(), Fault>
-    requires { IsIndex index.now (map site_of before.now) }
+    requires index { IsIndex index.now (map site_of before.now) }
+    requires members { value_of site.now.schema.now ≡ spec.object (spec.members members.now) }
     ensures clear { OnOk result (IsClear
         (flat_map (at_member (map site_of before.now) (site_of site.now)) members.now)) }
     ensures assertions { OnOk result (built.new.assertions.items ≡ built.old.assertions.items
@@ -153,13 +158,13 @@ fn check_schema(
 ) -> Result<(), Fault>
     requires { IsIndex index.now (map site_of before.now) }
     ensures clear { OnOk result (IsClear (flat_map
-        (at_member (map site_of before.now) (site_of site.now)) (keywords (site_of site.now).schema))) }
+        (at_member (map site_of before.now) (site_of site.now)) (words.keywords (site_of site.now).schema))) }
     ensures assertions { OnOk result (built.new.assertions.items ≡ built.old.assertions.items
         ++ assertions_at (site_of site.now)) }
     ensures patterns { OnOk result (built.new.patterns.items ≡ built.old.patterns.items
         ++ patterns_at (site_of site.now)) }
     ensures err { IfErr result (IsStopped (flat_map
-        (at_member (map site_of before.now) (site_of site.now)) (keywords (site_of site.now).schema))) }
+        (at_member (map site_of before.now) (site_of site.now)) (words.keywords (site_of site.now).schema))) }
 {
     match site.schema {
         Doc::Members(members) => check_keywords(alloc, built, index, before, site, members),

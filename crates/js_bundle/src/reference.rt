@@ -1,18 +1,19 @@
 //! The second pass: what references lead to.
-ghost use Rattle.std.specs.Prelude.{◌≡◌, [], ◌∷◌, None, Some, Ok, false, nat_eq, OnOk, IfOk, IfErr, codes, map, option_map, option_and_then, slice_get};
+ghost use Rattle.std.specs.Prelude.{◌≡◌, List, [], ◌∷◌, None, Some, Ok, false, nat_eq, nat_lt, length, OnOk, IfOk, IfErr, codes, map, slice_get};
 ghost use Rattle.indexmap.specs.IndexMap.{get};
 ghost use Rattle.js_bundle.specs.Candidate.{IsClear, IsStopped};
 ghost use Rattle.std.specs.Option.{option_map_or};
-ghost use Rattle.js_bundle.specs.Finding.{number_named, number_of_target, goes_by_name, dynamic_as, dynamic_at, under_number};
+ghost use Rattle.js_bundle.specs.Finding.{number_named, number_of_target, dynamic_as, dynamic_by, dynamic_at, under_number};
 ghost use Rattle.js_bundle.specs.code.Column.{IsColumn, IsTold};
 ghost use Rattle.js_bundle.specs.code.Grouped.{IsGrouped};
 ghost use Rattle.js_bundle.specs.code.Index.{IsIndex};
 ghost use Rattle.js_bundle.specs.KeywordName.{keyword_names};
 ghost use Rattle.js_bundle.specs.Names.{makes};
 ghost use Rattle.js_bundle.specs.Refusals.{at_joined_reference, at_reference_text, at_reference, at_references, second_pass};
-ghost use Rattle.js_bundle.specs.Resource.{joined};
+ghost use Rattle.js_bundle.specs.Resource as spec;
 ghost use Rattle.js_bundle.specs.code.Scan.{site_of};
-ghost use Rattle.js_bundle.specs.Target.{reference, is_dynamic};
+ghost use Rattle.js_bundle.specs.Url.{longest_uri};
+ghost use Rattle.url.specs.Parser.{parse_url};
 
 use crate::column::tell;
 use crate::fault::{Fault, refuse};
@@ -23,8 +24,7 @@ use crate::keyword_name::KeywordName;
 use crate::keyword_table::KeywordTable;
 use crate::names::{NameFault, number_named};
 use crate::refusal::RefusalKind;
-use crate::scan::Site;
-use crate::scope::joined;
+use crate::site::Site;
 use crate::uri::{self, LONGEST};
 use indexmap::IndexMap;
 use js_doc::Memory;
@@ -56,52 +56,43 @@ fn resolve_url(
     }
 }
 
-fn resolve_text(
-    alloc: Global,
-    index: &Index,
-    sites: &[Site<'_>],
-    site: &Site<'_>,
-    keyword: &str,
-    text: &str,
-) -> Result<Option<usize>, Fault>
-    requires { IsIndex index.now (map site_of sites.now) }
-    ensures clear { OnOk result (IsClear
-        (at_reference_text (map site_of sites.now) (site_of site.now) (keyword.now ∷ []) (Some text.now))) }
-    ensures target { IfOk result (λ t. t
-        ≡ option_and_then (number_named (map site_of sites.now)) (joined site.now.own.value.base text.now)) }
-    ensures err { IfErr result (IsStopped
-        (at_reference_text (map site_of sites.now) (site_of site.now) (keyword.now ∷ []) (Some text.now))) }
+// The URL that a reference is, joined with the base of its place.
+fn joined_reference(alloc: Global, site: &Site<'_>, keyword: &str, text: &str) -> Result<Url, Fault>
+    ensures short { OnOk result (nat_lt longest_uri (length text.now) ≡ false) }
+    ensures url { IfOk result (λ u. parse_url (Some site.now.own.value.base) text.now ≡ Ok u) }
+    ensures err { IfErr result (λ e. (all : List spec.Site) → IsStopped
+        (at_reference_text all (site_of site.now) (keyword.now ∷ []) (Some text.now)) e) }
 {
     if LONGEST < text.len() {
         return Err(refuse(alloc, site, Some(keyword), RefusalKind::UriTooLong));
     }
     match site.own.base.join(text) {
-        Ok(url) => resolve_url(alloc, index, sites, site, keyword, url),
+        Ok(url) => Ok(url),
         Err(ParseError::OutOfMemory) => Err(Fault::Memory),
         Err(ParseError::Overflow) => Err(Fault::Memory),
         Err(_) => Err(refuse(alloc, site, Some(keyword), RefusalKind::BadReference)),
     }
 }
 
-/// The number of the place that a keyword's reference names. None where the place has no such reference.
-fn resolve(
+// The number of the place that the `$ref` names. None where the place has no `$ref`.
+fn resolve_plain(
     alloc: Global,
     index: &Index,
     sites: &[Site<'_>],
     site: &Site<'_>,
-    keyword: &str,
 ) -> Result<Option<usize>, Fault>
     requires { IsIndex index.now (map site_of sites.now) }
-    ensures clear { OnOk result (IsClear (at_reference (map site_of sites.now) keyword.now (site_of site.now))) }
+    ensures clear { OnOk result (IsClear (at_reference (map site_of sites.now) (codes "$ref") (site_of site.now))) }
     ensures target { IfOk result
-        (λ t. t ≡ number_of_target (map site_of sites.now) keyword.now (site_of site.now)) }
+        (λ t. t ≡ number_of_target (map site_of sites.now) (codes "$ref") (site_of site.now)) }
     ensures err { IfErr result (IsStopped
-        (at_reference (map site_of sites.now) keyword.now (site_of site.now))) }
+        (at_reference (map site_of sites.now) (codes "$ref") (site_of site.now))) }
 {
-    match text_argument(site.schema, keyword) {
-        Some(text) => resolve_text(alloc, index, sites, site, keyword, text),
-        None => Ok(None),
-    }
+    let Some(text) = text_argument(site.schema, "$ref") else {
+        return Ok(None);
+    };
+    let url = joined_reference(alloc, site, "$ref", text)?;
+    resolve_url(alloc, index, sites, site, "$ref", url)
 }
 
 // Whether the place makes the name by `$dynamicAnchor`.
@@ -114,48 +105,65 @@ fn makes_dynamically(site: &Site<'_>, name: &[u8]) -> bool
     }
 }
 
-// Whether the reference's fragment is a name that `$dynamicAnchor` makes at its first target.
-fn is_dynamic(alloc: Global, site: &Site<'_>, first: &Site<'_>) -> Result<bool, Memory>
-    ensures { IfOk result (λ b. b
-        ≡ is_dynamic (reference (codes "$dynamicRef") (site_of site.now)) (site_of first.now)) }
+// The reference to the place with this number. It goes by name if the place makes the name by `$dynamicAnchor`.
+fn reference_to(sites: &[Site<'_>], target: usize, name: &[u8]) -> DynamicReference
+    ensures { result ≡ dynamic_as (option_map_or (makes (codes "$dynamicAnchor") name.now)
+        (slice_get (map site_of sites.now) target) false) target }
 {
-    let Some(text) = text_argument(site.schema, "$dynamicRef") else {
-        return Ok(false);
+    let by_name = match sites.get(target) {
+        Some(first) => makes_dynamically(first, name),
+        None => false,
     };
-    match joined(&site.own.base, text)? {
-        Some(url) => {
-            let name = uri::fragment(alloc, &url)?;
-            Ok(makes_dynamically(first, name.as_slice()))
-        }
-        None => Ok(false),
+    DynamicReference { target, by_name }
+}
+
+// What a `$dynamicRef` that is this URL leads to. None where it names no place.
+fn resolve_dynamic_url(
+    alloc: Global,
+    index: &Index,
+    sites: &[Site<'_>],
+    site: &Site<'_>,
+    url: Url,
+) -> Result<Option<DynamicReference>, Fault>
+    requires { IsIndex index.now (map site_of sites.now) }
+    ensures clear { OnOk result (IsClear
+        (at_joined_reference (map site_of sites.now) (site_of site.now) (codes "$dynamicRef" ∷ []) (Ok url))) }
+    ensures reference { IfOk result (λ r. r ≡ dynamic_by (map site_of sites.now) (Some url)) }
+    ensures err { IfErr result (IsStopped
+        (at_joined_reference (map site_of sites.now) (site_of site.now) (codes "$dynamicRef" ∷ []) (Ok url))) }
+{
+    let name = uri::fragment(alloc, &url)?;
+    match resolve_url(alloc, index, sites, site, "$dynamicRef", url)? {
+        Some(target) => Ok(Some(reference_to(sites, target, name.as_slice()))),
+        None => Ok(None),
     }
 }
 
-// The same for a first target given by its number.
-fn goes_by_name(
+// What the `$dynamicRef` of a place leads to. None where the place has no `$dynamicRef`.
+fn resolve_dynamic(
     alloc: Global,
+    index: &Index,
     sites: &[Site<'_>],
     site: &Site<'_>,
-    first: Option<usize>,
-) -> Result<bool, Memory>
-    ensures { IfOk result (λ b. b ≡ option_map_or
-        (is_dynamic (reference (codes "$dynamicRef") (site_of site.now)))
-        (option_and_then (slice_get (map site_of sites.now)) first) false) }
+) -> Result<Option<DynamicReference>, Fault>
+    requires { IsIndex index.now (map site_of sites.now) }
+    ensures clear { OnOk result (IsClear
+        (at_reference (map site_of sites.now) (codes "$dynamicRef") (site_of site.now))) }
+    ensures reference { IfOk result (λ r. r ≡ dynamic_at (map site_of sites.now) (site_of site.now)) }
+    ensures err { IfErr result (IsStopped
+        (at_reference (map site_of sites.now) (codes "$dynamicRef") (site_of site.now))) }
 {
-    let Some(first) = first else {
-        return Ok(false);
+    let Some(text) = text_argument(site.schema, "$dynamicRef") else {
+        return Ok(None);
     };
-    match sites.get(first) {
-        Some(first) => is_dynamic(alloc, site, first),
-        None => Ok(false),
-    }
+    let url = joined_reference(alloc, site, "$dynamicRef", text)?;
+    resolve_dynamic_url(alloc, index, sites, site, url)
 }
 
 /// What the two references of a place name.
 #[derive(Clone, Copy)]
 struct Targets {
-    dynamic: Option<usize>,
-    by_name: bool,
+    dynamic: Option<DynamicReference>,
     plain: Option<usize>,
 }
 
@@ -167,21 +175,14 @@ fn resolve_both(
 ) -> Result<Targets, Fault>
     requires { IsIndex index.now (map site_of sites.now) }
     ensures clear { OnOk result (IsClear (at_references (map site_of sites.now) (site_of site.now))) }
-    ensures dynamic { IfOk result
-        (λ t. t.dynamic ≡ number_of_target (map site_of sites.now) (codes "$dynamicRef") (site_of site.now)) }
-    ensures by_name { IfOk result (λ t. t.by_name ≡ goes_by_name (map site_of sites.now) (site_of site.now)) }
+    ensures dynamic { IfOk result (λ t. t.dynamic ≡ dynamic_at (map site_of sites.now) (site_of site.now)) }
     ensures plain { IfOk result
         (λ t. t.plain ≡ number_of_target (map site_of sites.now) (codes "$ref") (site_of site.now)) }
     ensures err { IfErr result (IsStopped (at_references (map site_of sites.now) (site_of site.now))) }
 {
-    let dynamic = resolve(alloc, index, sites, site, "$dynamicRef")?;
-    let by_name = goes_by_name(alloc, sites, site, dynamic)?;
-    let plain = resolve(alloc, index, sites, site, "$ref")?;
-    Ok(Targets {
-        dynamic,
-        by_name,
-        plain,
-    })
+    let dynamic = resolve_dynamic(alloc, index, sites, site)?;
+    let plain = resolve_plain(alloc, index, sites, site)?;
+    Ok(Targets { dynamic, plain })
 }
 
 // The same for a place whose keywords are these. Most have no reference: nothing is looked up for them.
@@ -195,9 +196,7 @@ fn targets_of(
     requires index { IsIndex index.now (map site_of sites.now) }
     requires names { names.now ≡ keyword_names (site_of site.now) }
     ensures clear { OnOk result (IsClear (at_references (map site_of sites.now) (site_of site.now))) }
-    ensures dynamic { IfOk result
-        (λ t. t.dynamic ≡ number_of_target (map site_of sites.now) (codes "$dynamicRef") (site_of site.now)) }
-    ensures by_name { IfOk result (λ t. t.by_name ≡ goes_by_name (map site_of sites.now) (site_of site.now)) }
+    ensures dynamic { IfOk result (λ t. t.dynamic ≡ dynamic_at (map site_of sites.now) (site_of site.now)) }
     ensures plain { IfOk result
         (λ t. t.plain ≡ number_of_target (map site_of sites.now) (codes "$ref") (site_of site.now)) }
     ensures err { IfErr result (IsStopped (at_references (map site_of sites.now) (site_of site.now))) }
@@ -210,7 +209,6 @@ fn targets_of(
     }
     Ok(Targets {
         dynamic: None,
-        by_name: false,
         plain: None,
     })
 }
@@ -230,15 +228,6 @@ pub(crate) struct References {
     pub(crate) dynamic: IndexMap<usize, DynamicReference>,
     /// The number of the target of each place's `$ref`, in scan order. It ends with the last place that has one.
     pub(crate) plain: Vec<Option<usize>>,
-}
-
-fn dynamic_of(target: Option<usize>, by_name: bool) -> Option<DynamicReference>
-    ensures { result ≡ option_map (dynamic_as by_name) target }
-{
-    match target {
-        Some(target) => Some(DynamicReference { target, by_name }),
-        None => None,
-    }
 }
 
 // Keeps the reference of a place, if it has one.
@@ -278,8 +267,7 @@ pub(crate) fn resolve_all(
     for i in 0..sites.len() {
         let names = part(keywords.names.as_slice(), keywords.ends.as_slice(), i);
         let targets = targets_of(alloc, index, sites, &sites[i], names)?;
-        let reference = dynamic_of(targets.dynamic, targets.by_name);
-        keep(&mut dynamic, i, reference)?;
+        keep(&mut dynamic, i, targets.dynamic)?;
         tell(&mut plain, i, targets.plain)?;
     }
     Ok(References { dynamic, plain })

@@ -20,7 +20,7 @@ use crate::keyword_table::KeywordTable;
 use crate::located::Located;
 use crate::names::place_at;
 use crate::numbering::Numbering;
-use crate::scan::Site;
+use crate::site::Site;
 use js_doc::{Memory, Pointer};
 use std::alloc::Global;
 

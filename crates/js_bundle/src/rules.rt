@@ -1,14 +1,15 @@
 //! The rules of the first pass, each by itself.
-ghost use Rattle.std.specs.Prelude.{◌≡◌, ◌&&◌, ◌||◌, [], ◌∷◌, Some, Ok, true, false, not, nat_le, length, map, OnOk, IfOk, IfErr};
+ghost use Rattle.std.specs.Prelude.{◌≡◌, ◌&&◌, ◌||◌, [], ◌∷◌, Some, true, false, not, nat_le, codes, length, map, OnOk, IfOk, IfErr};
 ghost use Rattle.std.specs.List.{list_all};
 ghost use Rattle.js_doc.specs.Seen.{value_of};
-ghost use Rattle.js_doc.specs.Value.{list, items};
+ghost use Rattle.js_doc.specs.Value as spec;
 ghost use Rattle.js_bundle.specs.declared.refusal.RefusalKind.TheVariants.{TooManyPlaces, NotASchema, DuplicateUri};
 ghost use Rattle.js_bundle.specs.Candidate.{IsClear, IsStopped};
 ghost use Rattle.js_bundle.specs.Form.{is_formed, is_filled_list, is_schema};
 ghost use Rattle.js_bundle.specs.code.Index.{IsIndex};
+ghost use Rattle.js_bundle.specs.Keyword.{argument};
 ghost use Rattle.js_bundle.specs.Names.{is_root, is_name, begins_name, continues_name};
-ghost use Rattle.js_bundle.specs.Refusals.{when, decided, is_taken, is_made, is_dialect, at_dialect, at_id, at_joined_id, at_anchor, at_place, assertion_rules};
+ghost use Rattle.js_bundle.specs.Refusals.{when, decided, is_taken, is_made, is_dialect, at_dialect, at_id, at_anchor, at_place, assertion_rules};
 ghost use Rattle.js_assert.specs.Assertion.{asserted};
 ghost use Rattle.js_bundle.specs.code.Scan.{site_of};
 
@@ -18,12 +19,12 @@ use crate::keys::name_key;
 use crate::keyword::as_text;
 use crate::names::is_root;
 use crate::refusal::RefusalKind;
-use crate::scan::Site;
+use crate::site::Site;
 use crate::uri::{self, LONGEST};
 use js_assert::{Assertion, KeywordFault};
 use js_doc::{Doc, Members, Memory};
 use std::alloc::Global;
-use url::{ParseError, Url};
+use url::Url;
 
 /// A bundle has no more places.
 const MOST_PLACES: usize = 100_000;
@@ -80,7 +81,7 @@ fn all_continue(bytes: &[u8]) -> bool
 }
 
 fn is_filled(docs: &[Doc]) -> bool
-    ensures { result ≡ is_filled_list (list (items (map value_of docs.now))) }
+    ensures { result ≡ is_filled_list (spec.list (spec.items (map value_of docs.now))) }
 {
     match docs.first() {
         Some(_) => true,
@@ -142,31 +143,7 @@ pub(crate) fn check_dialect(
     }
 }
 
-fn check_joined_id(
-    alloc: Global,
-    index: &Index,
-    before: &[Site<'_>],
-    site: &Site<'_>,
-    keyword: &str,
-    url: Url,
-) -> Result<(), Fault>
-    requires { IsIndex index.now (map site_of before.now) }
-    ensures ok { OnOk result (IsClear
-        (at_joined_id (map site_of before.now) (site_of site.now) (keyword.now ∷ []) (Ok url))) }
-    ensures err { IfErr result (IsStopped
-        (at_joined_id (map site_of before.now) (site_of site.now) (keyword.now ∷ []) (Ok url))) }
-{
-    if !uri::has_no_fragment(&url) {
-        return Err(refuse(alloc, site, Some(keyword), RefusalKind::BadId));
-    }
-    let base = uri::without_fragment(url)?;
-    if is_taken(index, before, &base) {
-        return Err(refuse(alloc, site, Some(keyword), RefusalKind::DuplicateUri));
-    }
-    Ok(())
-}
-
-/// The rules of `$id` (JSON Schema Core, section 8.2.1).
+/// The rules of `$id` (JSON Schema Core, section 8.2.1). The scan joined it.
 pub(crate) fn check_id(
     alloc: Global,
     index: &Index,
@@ -175,7 +152,8 @@ pub(crate) fn check_id(
     keyword: &str,
     text: &str,
 ) -> Result<(), Fault>
-    requires { IsIndex index.now (map site_of before.now) }
+    requires index { IsIndex index.now (map site_of before.now) }
+    requires id { argument (codes "$id") (value_of site.now.schema.now) ≡ Some (spec.text text.now) }
     ensures ok { OnOk result (IsClear
         (at_id (map site_of before.now) (site_of site.now) (keyword.now ∷ []) text.now)) }
     ensures err { IfErr result (IsStopped
@@ -184,12 +162,13 @@ pub(crate) fn check_id(
     if LONGEST < text.len() {
         return Err(refuse(alloc, site, Some(keyword), RefusalKind::UriTooLong));
     }
-    match site.above.base.join(text) {
-        Ok(url) => check_joined_id(alloc, index, before, site, keyword, url),
-        Err(ParseError::OutOfMemory) => Err(Fault::Memory),
-        Err(ParseError::Overflow) => Err(Fault::Memory),
-        Err(_) => Err(refuse(alloc, site, Some(keyword), RefusalKind::BadId)),
+    if !site.bare {
+        return Err(refuse(alloc, site, Some(keyword), RefusalKind::BadId));
     }
+    if is_taken(index, before, &site.own.base) {
+        return Err(refuse(alloc, site, Some(keyword), RefusalKind::DuplicateUri));
+    }
+    Ok(())
 }
 
 /// The rules of `$anchor` and of `$dynamicAnchor` (JSON Schema Core, section 8.2.2).

@@ -11,26 +11,13 @@ use crate::document::Document;
 use crate::holding::Holding;
 use crate::pointers::shared_further;
 use crate::scope::{Scope, Scopes, scopes_at};
+use crate::site::Site;
 use js_doc::{Doc, Members, Memory, Pointer};
 use std::alloc::Global;
 use std::sync::Arc;
 
 /// The scan lists no more places: one more than a bundle may have.
 const MOST_SITES: usize = 100_001;
-
-/// A place, as the scan finds it.
-#[derive(Drop)]
-pub(crate) struct Site<'a> {
-    pub(crate) document: usize,
-    pub(crate) pointer: Arc<Pointer>,
-    /// The scope that the place is in.
-    pub(crate) above: Arc<Scope>,
-    /// Its own.
-    pub(crate) own: Arc<Scope>,
-    /// Whether its `$id` makes a base.
-    pub(crate) identifies: bool,
-    pub(crate) schema: &'a Doc,
-}
 
 /// How a keyword's argument holds schemas.
 #[tactic(auto, unfolding(crate::specs::Place::holding))]
@@ -74,6 +61,7 @@ fn add_site<'a>(
         own,
         below,
         identifies,
+        bare,
     } = scopes_at(alloc, above, pointer, schema)?;
     out.push(Site {
         document,
@@ -81,6 +69,7 @@ fn add_site<'a>(
         above: above.clone()?,
         own,
         identifies,
+        bare,
         schema,
     })?;
     Ok(below)

@@ -1,12 +1,12 @@
 //! Scopes: the resource that a schema stands in, and its base.
-ghost use Rattle.std.specs.Prelude.{◌≡◌, IfOk, unwrap_or, is_some, option_copied, option_map, option_and_then};
+ghost use Rattle.std.specs.Prelude.{◌≡◌, IfOk, unwrap_or, is_some, option_copied, option_and_then};
 ghost use Rattle.js_doc.specs.Seen.{value_of};
 ghost use Rattle.js_bundle.specs.Resource.{joined, identified, identified_by, root_scope, scope_or};
 ghost use Rattle.js_bundle.specs.code.Scan.{handed_down, own_scope};
-ghost use Rattle.js_bundle.specs.Url as spec;
+ghost use Rattle.js_bundle.specs.code.Identity.{is_bare, is_bare_by};
 
 use crate::keyword::{argument, as_text};
-use crate::uri::{LONGEST, without_fragment};
+use crate::uri::{LONGEST, has_no_fragment, without_fragment};
 use js_doc::{Doc, Memory, Pointer};
 use std::alloc::Global;
 use std::sync::Arc;
@@ -26,6 +26,14 @@ pub(crate) struct Scopes {
     pub(crate) below: Arc<Scope>,
     /// Whether the `$id` makes a base.
     pub(crate) identifies: bool,
+    /// Whether the `$id` gives a URI without a fragment, or with an empty one.
+    pub(crate) bare: bool,
+}
+
+/// What an `$id` gives.
+struct Identity {
+    base: Option<Url>,
+    bare: bool,
 }
 
 impl Scope {
@@ -43,8 +51,8 @@ impl Scope {
     }
 }
 
-/// A text joined with a base. None if it is too long, or can't be joined.
-pub(crate) fn joined(base: &Url, text: &str) -> Result<Option<Url>, Memory>
+// A text joined with a base. None if it is too long, or can't be joined.
+fn joined(base: &Url, text: &str) -> Result<Option<Url>, Memory>
     ensures { IfOk result (λ u. u ≡ joined base.now text.now) }
 {
     if LONGEST < text.len() {
@@ -58,16 +66,6 @@ pub(crate) fn joined(base: &Url, text: &str) -> Result<Option<Url>, Memory>
     }
 }
 
-// A joined URL without its fragment.
-fn bare(url: Option<Url>) -> Result<Option<Url>, Memory>
-    ensures { IfOk result (λ u. u ≡ option_map spec.without_fragment url) }
-{
-    match url {
-        Some(url) => Ok(Some(without_fragment(url)?)),
-        None => Ok(None),
-    }
-}
-
 fn joined_text(base: &Url, text: Option<&str>) -> Result<Option<Url>, Memory>
     ensures { IfOk result (λ u. u ≡ option_and_then (joined base.now) (option_copied text.entry)) }
 {
@@ -77,26 +75,40 @@ fn joined_text(base: &Url, text: Option<&str>) -> Result<Option<Url>, Memory>
     }
 }
 
-// The base that an `$id` makes.
-fn identified_by(base: &Url, id: &Doc) -> Result<Option<Url>, Memory>
-    ensures { IfOk result (λ u. u ≡ identified_by base.now (value_of id.now)) }
+// What an `$id` gives under a base.
+fn identity_by(base: &Url, id: &Doc) -> Result<Identity, Memory>
+    ensures base { IfOk result (λ i. i.base ≡ identified_by base.now (value_of id.now)) }
+    ensures bare { IfOk result (λ i. i.bare ≡ is_bare_by base.now (value_of id.now)) }
 {
-    let url = joined_text(base, as_text(id))?;
-    bare(url)
+    match joined_text(base, as_text(id))? {
+        Some(url) => {
+            let bare = has_no_fragment(&url);
+            Ok(Identity {
+                base: Some(without_fragment(url)?),
+                bare,
+            })
+        }
+        None => Ok(Identity {
+            base: None,
+            bare: false,
+        }),
+    }
 }
 
-// The scopes at a place whose `$id` makes this base, or none.
+// The scopes at a place whose `$id` gives this.
 fn scopes_by(
     alloc: Global,
     above: &Arc<Scope>,
     pointer: &Pointer,
-    base: Option<Url>,
+    identity: Identity,
 ) -> Result<Scopes, Memory>
-    ensures own { IfOk result
-        (λ s. s.own.value ≡ record { resource = pointer.now; base = unwrap_or base above.now.value.base }) }
-    ensures below { IfOk result (λ s. s.below.value ≡ scope_or base pointer.now above.now.value) }
-    ensures identifies { IfOk result (λ s. s.identifies ≡ is_some base) }
+    ensures own { IfOk result (λ s. s.own.value
+        ≡ record { resource = pointer.now; base = unwrap_or identity.base above.now.value.base }) }
+    ensures below { IfOk result (λ s. s.below.value ≡ scope_or identity.base pointer.now above.now.value) }
+    ensures identifies { IfOk result (λ s. s.identifies ≡ is_some identity.base) }
+    ensures bare { IfOk result (λ s. s.bare ≡ identity.bare) }
 {
+    let Identity { base, bare } = identity;
     let resource = pointer.copy(alloc)?;
     match base {
         Some(base) => {
@@ -105,6 +117,7 @@ fn scopes_by(
                 own: scope.clone()?,
                 below: scope,
                 identifies: true,
+                bare,
             })
         }
         None => {
@@ -113,6 +126,7 @@ fn scopes_by(
                 own,
                 below: above.clone()?,
                 identifies: false,
+                bare,
             })
         }
     }
@@ -131,16 +145,18 @@ pub(crate) fn scopes_at(
         (λ s. s.below.value ≡ handed_down above.now.value pointer.now (value_of schema.now)) }
     ensures identifies { IfOk result
         (λ s. s.identifies ≡ is_some (identified above.now.value.base (value_of schema.now))) }
+    ensures bare { IfOk result (λ s. s.bare ≡ is_bare above.now.value.base (value_of schema.now)) }
 {
     match argument(schema, "$id") {
         Some(id) => {
-            let base = identified_by(&above.base, id)?;
-            scopes_by(alloc, above, pointer, base)
+            let identity = identity_by(&above.base, id)?;
+            scopes_by(alloc, above, pointer, identity)
         }
         None => Ok(Scopes {
             own: above.clone()?,
             below: above.clone()?,
             identifies: false,
+            bare: false,
         }),
     }
 }

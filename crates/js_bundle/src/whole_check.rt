@@ -28,8 +28,9 @@ use crate::located::Located;
 use crate::place_check::first_pass;
 use crate::reference::{References, resolve_all};
 use crate::resource_table::{Resources, resources_of};
-use crate::scan::{Site, scan};
+use crate::scan::scan;
 use crate::scope::Scope;
+use crate::site::Site;
 use js_doc::{Memory, Pointer, Text};
 use std::alloc::Global;
 use std::sync::Arc;
@@ -73,6 +74,7 @@ fn spots_of(alloc: Global, sites: Vec<Site<'_>>) -> Result<Vec<Spot>, Memory>
             above,
             own,
             identifies,
+            bare: _,
             schema: _,
         } = site;
         spots.push(Spot {

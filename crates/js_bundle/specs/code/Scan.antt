@@ -7,7 +7,7 @@ use Rattle.js_doc.specs.Value.{Value, list, object, Items, no_items, item, Membe
 use Rattle.js_bundle.specs.declared.holding.Holding.{Holding}
 use Rattle.js_bundle.specs.declared.holding.Holding.TheVariants.{One, Listed, Named, Nothing}
 use Rattle.js_bundle.specs.declared.scope.Scope.{Scope}
-use Rattle.js_bundle.specs.declared.scan.Site as rust
+use Rattle.js_bundle.specs.declared.site.Site as rust
 use Rattle.js_bundle.specs.Document.{Documents}
 use Rattle.js_bundle.specs.Keyword.{Text, has}
 use Rattle.js_bundle.specs.Place.{holding}

@@ -1,4 +1,4 @@
-use Rattle.std.proofs.Common.{◌+◌, ◌∙◌, codes, map, drop, nat_eq, arith}
+use Rattle.std.proofs.Common.{◌+◌, codes, map, drop, nat_eq, arith}
 use Rattle.std.specs.List.{flat_map}
 use Rattle.std.proofs.lemmas.Result.{err_from_is_err_and}
 use Rattle.indexmap.specs.IndexMap.{get}
@@ -8,7 +8,7 @@ use Rattle.js_bundle.specs.code.Scan.{site_of}
 use Rattle.js_bundle.proofs.Columns.{column_next, column_told, column_whole}
 use Rattle.js_bundle.proofs.NamesOf.{names_are}
 use Rattle.js_bundle.proofs.Stopping.{leads_past, leads_stop}
-use Rattle.js_bundle.proofs.Passes.{leads_next, dynamic_same}
+use Rattle.js_bundle.proofs.Passes.{leads_next}
 use Rattle.js_bundle.proofs.reference.resolve_all.Goals as goal
 
 pub returns-in_err-targets-clause-err : goal.returns-in_err-targets-clause-err
@@ -44,8 +44,8 @@ loop-i-preserved c =
     record {
       leads = leads_past (second_pass all) (at_references all (site_of x)) (flat_map (at_references all) (map site_of (drop (l.i + 1) ss)))
           (leads_next (at_references all) ss l.i x (second_pass all) (omega arith) c.index-sites-i.is l.invariant.leads) c.in_ok-targets.ensures.clear;
-      dynamic = column_told (dynamic_at all) ss l.i x (get nat_eq l.dynamic) (get nat_eq c.keep.new.dynamic) c.dynamic_of-reference.result (omega arith) c.index-sites-i.is c.in_ok-keep.ensures
-          (c.dynamic_of-reference.ensures ∙ dynamic_same all (site_of x) c.in_ok-targets.targets.by_name c.in_ok-targets.targets.dynamic c.in_ok-targets.ensures.by_name c.in_ok-targets.ensures.dynamic) l.invariant.dynamic;
+      dynamic = column_told (dynamic_at all) ss l.i x (get nat_eq l.dynamic) (get nat_eq c.keep.new.dynamic) c.in_ok-targets.targets.dynamic (omega arith) c.index-sites-i.is c.in_ok-keep.ensures
+          c.in_ok-targets.ensures.dynamic l.invariant.dynamic;
       plain = column_told (number_of_target all (codes "$ref")) ss l.i x (under_number l.plain.items) (under_number c.tell.new.column.items) c.in_ok-targets.targets.plain (omega arith) c.index-sites-i.is c.in_ok-tell.ensures.told
           c.in_ok-targets.ensures.plain l.invariant.plain;
       plain_long = c.in_ok-tell.ensures.long;

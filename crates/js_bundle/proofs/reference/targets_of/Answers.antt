@@ -1,6 +1,6 @@
 use Rattle.std.proofs.Common.{codes, map}
 use Rattle.js_bundle.specs.code.Scan.{site_of}
-use Rattle.js_bundle.proofs.NoKeyword.{no_ref, no_dynamic_ref, no_target, goes_by_none, clear_without}
+use Rattle.js_bundle.proofs.NoKeyword.{no_ref, no_dynamic_ref, no_target, no_dynamic, clear_without}
 use Rattle.js_bundle.proofs.reference.targets_of.Goals as goal
 
 pub returns-clause-clear : goal.returns-clause-clear
@@ -12,12 +12,7 @@ returns-clause-clear c =
 pub returns-clause-dynamic : goal.returns-clause-dynamic
 returns-clause-dynamic c =
     let place = site_of c.args.site.now in
-    no_target (map site_of c.args.sites.now) (codes "$dynamicRef") place (no_dynamic_ref place c.args.names.now c.contains-2.result c.requires.names c.contains-2.ensures.value c.if-contains-2.false)
-
-pub returns-clause-by_name : goal.returns-clause-by_name
-returns-clause-by_name c =
-    let place = site_of c.args.site.now in
-    goes_by_none (map site_of c.args.sites.now) place (no_dynamic_ref place c.args.names.now c.contains-2.result c.requires.names c.contains-2.ensures.value c.if-contains-2.false)
+    no_dynamic (map site_of c.args.sites.now) place (no_dynamic_ref place c.args.names.now c.contains-2.result c.requires.names c.contains-2.ensures.value c.if-contains-2.false)
 
 pub returns-clause-plain : goal.returns-clause-plain
 returns-clause-plain c =
