@@ -35,7 +35,7 @@ size_is rows row f = omega (arith, length-append (rows ++ row ∷ []) (flat_of f
 abbrev unknown : OutputUnit → FlatRow
 unknown u = opening_row u.keyword u.absolute u.instance
 
-closed_at : (rows : List FlatRow) (u : OutputUnit) (f : Forest OutputUnit) (numbers : List ℕ) → flat_closed ((rows ++ unknown u ∷ []) ++ flat_of f) (length rows ∷ numbers) u.valid u.note ≡ at (rows ++ (u, suc (node_count f)) ∷ flat_of f) numbers
+pub closed_at : (rows : List FlatRow) (u : OutputUnit) (f : Forest OutputUnit) (numbers : List ℕ) → flat_closed ((rows ++ unknown u ∷ []) ++ flat_of f) (length rows ∷ numbers) u.valid u.note ≡ at (rows ++ (u, suc (node_count f)) ∷ flat_of f) numbers
 closed_at rows u f numbers =
     ap (λ size. at (with_closed (length rows) u.valid u.note size ((rows ++ unknown u ∷ []) ++ flat_of f)) numbers) (size_is rows (unknown u) f)
     ∙ ap (λ zs. at zs numbers) (with_closed-at rows (unknown u) (flat_of f) u.valid u.note (suc (node_count f)))
@@ -65,12 +65,12 @@ open_numbers-append : (ns : List ℕ) (n : ℕ) (ms : List ℕ) → open_numbers
 open_numbers-append [] n ms = refl
 open_numbers-append (x ∷ ns) n ms = open_numbers-append ns n (x ∷ ms)
 
-with_closed-beyond : (n : ℕ) (valid : Bool) (note : Note) (size : ℕ) (rows : List FlatRow) → length rows ≤ n → with_closed n valid note size rows ≡ rows
+pub with_closed-beyond : (n : ℕ) (valid : Bool) (note : Note) (size : ℕ) (rows : List FlatRow) → length rows ≤ n → with_closed n valid note size rows ≡ rows
 with_closed-beyond n valid note size [] le = refl
 with_closed-beyond zero valid note size (r ∷ rows) le = absurd (omega (arith, le))
 with_closed-beyond (suc n) valid note size (r ∷ rows) le = ap (λ zs. r ∷ zs) (with_closed-beyond n valid note size rows (omega (arith, le)))
 
-row_closed : {R : Type 0} (row_of : R → FlatRow) (rows : List R) (n : ℕ) (old new : R) (valid : Bool) (note : Note) (size : ℕ) → n < length rows → old ≡ slice_index_or rows n old → row_of new ≡ closed_row (row_of old) valid note size
+pub row_closed : {R : Type 0} (row_of : R → FlatRow) (rows : List R) (n : ℕ) (old new : R) (valid : Bool) (note : Note) (size : ℕ) → n < length rows → old ≡ slice_index_or rows n old → row_of new ≡ closed_row (row_of old) valid note size
     → map row_of (slice_set rows n new) ≡ with_closed n valid note size (map row_of rows)
 row_closed row_of [] n old new valid note size lt e f = absurd (omega (arith, lt))
 row_closed row_of (y ∷ ys) zero old new valid note size lt e f = ap (λ z. z ∷ map row_of ys) (f ∙ ap (λ z. closed_row (row_of z) valid note size) e)

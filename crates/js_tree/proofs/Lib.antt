@@ -24,6 +24,8 @@ pub mod NotedRows
 pub mod Pieces
 pub mod Placing
 pub mod QuotedParts
+pub mod RelativeTexts
+pub mod RelativeTold
 pub mod RoomLeft
 pub mod Searching
 pub mod Siblings

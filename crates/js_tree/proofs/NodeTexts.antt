@@ -46,10 +46,10 @@ last_members : (u : OutputUnit) → compact_members true (members ((codes "insta
 unfolding escape_byte
 last_members u = rw (last_member u.valid) refl
 
-abbrev annotations : Bool → List Value → List ℕ
+abbrev pub annotations : Bool → List Value → List ℕ
 annotations valid children = given_text (codes ",\"annotations\":") (value_if valid (array_of_some children))
 
-abbrev errors : Bool → List Value → List ℕ
+abbrev pub errors : Bool → List Value → List ℕ
 errors valid children = given_text (codes ",\"errors\":") (value_if (not valid) (array_of_some children))
 
 node_text_is : (u : OutputUnit) (children : List Value) → node_text u children ≡ compact (node_value u children)
@@ -63,10 +63,10 @@ node_text_is u children =
     ap (λ l. codes "{\"absoluteKeywordLocation\":" ++ l) (append_assoc (quoted u.absolute) (annotation_part u.note) (annotations u.valid children ++ (error_part u.note ++ (errors u.valid children ++ tail_text u))) ∙ ap (λ l. quoted u.absolute ++ l) (sym first))
 
 -- with the verdict and the note by themselves
-pieces_are : (u : OutputUnit) (children : List Value) (v : Bool) (n : Note) → v ≡ u.valid → n ≡ u.note → head_text u ++ (annotations v children ++ (error_part n ++ (errors v children ++ tail_text u))) ≡ compact (node_value u children)
+pub pieces_are : (u : OutputUnit) (children : List Value) (v : Bool) (n : Note) → v ≡ u.valid → n ≡ u.note → head_text u ++ (annotations v children ++ (error_part n ++ (errors v children ++ tail_text u))) ≡ compact (node_value u children)
 pieces_are u children v n e f = rw (e, f) (node_text_is u children)
 
-no_children : (start : List ℕ) (b : Bool) → given_text start (value_if b None) ≡ []
+pub no_children : (start : List ℕ) (b : Bool) → given_text start (value_if b None) ≡ []
 no_children start true = refl
 no_children start false = refl
 

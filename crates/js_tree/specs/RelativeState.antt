@@ -32,6 +32,11 @@ whole_relative t = record { rows = flat (relative_tree t); nodes = [] }
 abbrev pub open_at : ℕ → List ℕ → List ℕ → OpenNode
 open_at number keyword instance = record { number = number; keyword = length keyword; instance = length instance }
 
+-- the innermost; above the root nothing is known
+abbrev pub node_above : List OpenNode → OpenNode
+node_above [] = open_at 0 [] []
+node_above (o ∷ nodes) = o
+
 -- no node opens after the root has closed: when there are rows, and none is open
 abbrev pub relative_opened : List FlatRow → List OpenNode → List ℕ → List ℕ → List ℕ → RelativeState
 relative_opened [] [] keyword absolute instance =

@@ -1,7 +1,7 @@
 //! A result as rows that have only what their locations add to those of the node above.
-ghost use Rattle.std.specs.Prelude.{◌≡◌, ◌++◌, IfOk, drop};
+ghost use Rattle.std.specs.Prelude.{◌≡◌, [], ◌++◌, IfOk, drop};
 ghost use Rattle.js_tree.specs.Events.{opening, closing};
-ghost use Rattle.js_tree.specs.RelativeState.{AreRowsOf, AreWhole, relative_after, relative_start, relative_state};
+ghost use Rattle.js_tree.specs.RelativeState.{AreRowsOf, AreWhole, node_above, open_node, open_nodes, relative_after, relative_start, relative_state};
 ghost use Rattle.js_tree.specs.Result.{ResultTree};
 ghost use Rattle.js_tree.specs.Seen.{note_of};
 
@@ -33,8 +33,8 @@ struct OpenNode {
     instance: usize,
 }
 
-/// Collects the flat form of a tree as `Flat` does. A location isn't kept whole, but only what it adds to that of the node
-/// above: so a node takes the memory of its row and of a few bytes in an arena, however deep it stands.
+/// Collects the flat form of a tree as `Flat` does. A location isn't kept whole, but only what it adds to that of the
+/// node above: so a node takes the memory of its row and of a few bytes in an arena, however deep it stands.
 #[derive(Drop)]
 pub struct RelativeRows<'a> {
     arena: &'a Bump,
@@ -55,8 +55,7 @@ impl<'a> RelativeRows<'a> {
         }
     }
 
-    /// A node opens: with its keyword location, the absolute location of its schema, what its own absolute location adds to
-    /// that, and its instance location (JSON Schema Core, section 12.3).
+    /// A node opens. `token` is what its absolute location adds to that of its schema (JSON Schema Core, section 12.3).
     ///
     /// # Errors
     /// `Memory`.
@@ -123,8 +122,10 @@ impl<'a> RelativeRows<'a> {
 }
 
 // The innermost open node. Above the root nothing is known.
-fn innermost(open: &[OpenNode]) -> OpenNode {
-    match open.last() {
+fn innermost(nodes: &[OpenNode]) -> OpenNode
+    ensures { open_node result ≡ node_above (open_nodes nodes.now []) }
+{
+    match nodes.last() {
         Some(node) => *node,
         None => OpenNode {
             number: 0,

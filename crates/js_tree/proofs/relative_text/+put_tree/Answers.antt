@@ -1,0 +1,311 @@
+use Rattle.std.proofs.Common.{◌≡◌, ◌+◌, ◌-◌, ◌<◌, ◌≤◌, ◌++◌, [], ◌∷◌, codes, length, drop, take, map, not, true, false, Result, Ok, sym, ap, subst, ◌∙◌, refl, arith}
+use Rattle.js_doc.specs.BytesOut.{Goes, Puts, Stops}
+use Rattle.js_doc.specs.Compact.{comma_if, compact, compact_items}
+use Rattle.js_doc.specs.Value.{items}
+use Rattle.js_doc.proofs.BytesGone.{goes_on, puts_err, puts_last, same_left}
+use Rattle.js_tree.specs.Flat.{flat_of}
+use Rattle.js_tree.specs.Forest.{Forest}
+use Rattle.js_tree.specs.Form.{node_values, verbose}
+use Rattle.js_tree.specs.OutputUnit.{OutputUnit}
+use Rattle.js_tree.specs.Relative.{placed, placed_tree}
+use Rattle.js_tree.specs.RelativeState.{relative_row}
+use Rattle.js_tree.specs.Result.{ResultTree}
+use Rattle.js_tree.specs.code.NodeText.{beginning_text, end_text, error_part}
+use Rattle.js_tree.proofs.ChildTexts.{rest_of}
+use Rattle.js_tree.proofs.FlatRows.{all_gone, first_tree, root_row, rows_below, shorter, some_tree}
+use Rattle.js_tree.proofs.Marks.{flat-flat_of}
+use Rattle.js_tree.proofs.Nested.{is_none, not_none}
+use Rattle.js_tree.proofs.NodeTexts.{annotations, errors}
+use Rattle.js_tree.proofs.Pieces.{nothing_goes, stops_in, then_puts}
+use Rattle.js_tree.proofs.RelativeTexts.{back_again, children_placed, no_children_placed, room_for_part, stays_there, stops_last, text_there, tree_next, tree_pieces}
+use Rattle.js_tree.proofs.relative_text.+put_tree.Goals as goal
+
+pub put_tree-returns-in_err-put_beginning-clause-text : goal.put_tree-returns-in_err-put_beginning-clause-text
+put_tree-returns-in_err-put_beginning-clause-text g t c =
+    λ t' e.
+    let o = g.O.Out.progress in
+    let a = o c.args.out.now in
+    let rows = c.args.rows.now in
+    let x = c.index-rows-0.result in
+    let u = (relative_row x).0 in
+    let k = c.args.locations.now.keyword.items in
+    let i = c.args.locations.now.instance.items in
+    let l = c.go_down.new.self in
+    let m = c.go_down.new.self in
+    let n = c.go_down.new.self in
+    let below = ap (map relative_row) (rest_of rows) ∙ rows_below relative_row rows t' e in
+    let p1 = comma_if c.args.later ++ beginning_text u.absolute u.note in
+    let p2 = annotations u.valid (node_values (placed l.keyword.items l.instance.items t'.below)) in
+    let p3 = error_part u.note in
+    let p4 = errors u.valid (node_values (placed m.keyword.items m.instance.items t'.below)) in
+    let p5 = end_text n.instance.items n.keyword.items u.valid in
+    let r = c.from_residual.result in
+    subst (λ l. Puts a (o c.put_beginning.new.out) l r) (tree_pieces c.args.later k i x t' l m n (root_row relative_row rows t' x e c.index-rows-0.is) c.go_down.ensures.longer_keyword c.go_down.ensures.longer_instance (stays_there l) (stays_there l))
+    (stops_in a (o c.put_beginning.new.out) p1 (p2 ++ (p3 ++ (p4 ++ (p5)))) r c.from_residual.ensures.0 c.in_err-put_beginning.ensures)
+
+pub put_tree-returns-in_err-put_children-clause-text : goal.put_tree-returns-in_err-put_children-clause-text
+put_tree-returns-in_err-put_children-clause-text g t c =
+    λ t' e.
+    let o = g.O.Out.progress in
+    let a = o c.args.out.now in
+    let rows = c.args.rows.now in
+    let x = c.index-rows-0.result in
+    let u = (relative_row x).0 in
+    let k = c.args.locations.now.keyword.items in
+    let i = c.args.locations.now.instance.items in
+    let l = c.go_down.new.self in
+    let m = c.go_down.new.self in
+    let n = c.go_down.new.self in
+    let below = ap (map relative_row) (rest_of rows) ∙ rows_below relative_row rows t' e in
+    let p1 = comma_if c.args.later ++ beginning_text u.absolute u.note in
+    let p2 = annotations u.valid (node_values (placed l.keyword.items l.instance.items t'.below)) in
+    let p3 = error_part u.note in
+    let p4 = errors u.valid (node_values (placed m.keyword.items m.instance.items t'.below)) in
+    let p5 = end_text n.instance.items n.keyword.items u.valid in
+    let r = c.from_residual-in_err-put_children.result in
+    subst (λ l. Puts a (o c.put_children.new.out) l r) (tree_pieces c.args.later k i x t' l m n (root_row relative_row rows t' x e c.index-rows-0.is) c.go_down.ensures.longer_keyword c.go_down.ensures.longer_instance (stays_there l) (stays_there l))
+    (then_puts a (o c.put_beginning.new.out) (o c.put_children.new.out) p1 (p2 ++ (p3 ++ (p4 ++ (p5)))) r c.in_ok-put_beginning.ensures
+    (stops_in (o c.put_beginning.new.out) (o c.put_children.new.out) p2 (p3 ++ (p4 ++ (p5))) r c.from_residual-in_err-put_children.ensures.0 (c.in_err-put_children.ensures.text t'.below (codes ",\"annotations\":") below refl)))
+
+pub put_tree-returns-in_err-put_error-clause-text : goal.put_tree-returns-in_err-put_error-clause-text
+put_tree-returns-in_err-put_error-clause-text g t c =
+    λ t' e.
+    let o = g.O.Out.progress in
+    let a = o c.args.out.now in
+    let rows = c.args.rows.now in
+    let x = c.index-rows-0.result in
+    let u = (relative_row x).0 in
+    let k = c.args.locations.now.keyword.items in
+    let i = c.args.locations.now.instance.items in
+    let l = c.go_down.new.self in
+    let m = c.put_children.new.locations in
+    let n = c.put_children.new.locations in
+    let below = ap (map relative_row) (rest_of rows) ∙ rows_below relative_row rows t' e in
+    let p1 = comma_if c.args.later ++ beginning_text u.absolute u.note in
+    let p2 = annotations u.valid (node_values (placed l.keyword.items l.instance.items t'.below)) in
+    let p3 = error_part u.note in
+    let p4 = errors u.valid (node_values (placed m.keyword.items m.instance.items t'.below)) in
+    let p5 = end_text n.instance.items n.keyword.items u.valid in
+    let r = c.from_residual-in_err-put_error.result in
+    subst (λ l. Puts a (o c.put_error.new.out) l r) (tree_pieces c.args.later k i x t' l m n (root_row relative_row rows t' x e c.index-rows-0.is) c.go_down.ensures.longer_keyword c.go_down.ensures.longer_instance c.in_ok-put_children.ensures.back (stays_there m))
+    (then_puts a (o c.put_beginning.new.out) (o c.put_error.new.out) p1 (p2 ++ (p3 ++ (p4 ++ (p5)))) r c.in_ok-put_beginning.ensures
+    (then_puts (o c.put_beginning.new.out) (o c.put_children.new.out) (o c.put_error.new.out) p2 (p3 ++ (p4 ++ (p5))) r (c.in_ok-put_children.ensures.text t'.below (codes ",\"annotations\":") below refl)
+    (stops_in (o c.put_children.new.out) (o c.put_error.new.out) p3 (p4 ++ (p5)) r c.from_residual-in_err-put_error.ensures.0 c.in_err-put_error.ensures)))
+
+pub put_tree-returns-in_err-put_children-2-clause-text : goal.put_tree-returns-in_err-put_children-2-clause-text
+put_tree-returns-in_err-put_children-2-clause-text g t c =
+    λ t' e.
+    let o = g.O.Out.progress in
+    let a = o c.args.out.now in
+    let rows = c.args.rows.now in
+    let x = c.index-rows-0.result in
+    let u = (relative_row x).0 in
+    let k = c.args.locations.now.keyword.items in
+    let i = c.args.locations.now.instance.items in
+    let l = c.go_down.new.self in
+    let m = c.put_children.new.locations in
+    let n = c.put_children.new.locations in
+    let below = ap (map relative_row) (rest_of rows) ∙ rows_below relative_row rows t' e in
+    let p1 = comma_if c.args.later ++ beginning_text u.absolute u.note in
+    let p2 = annotations u.valid (node_values (placed l.keyword.items l.instance.items t'.below)) in
+    let p3 = error_part u.note in
+    let p4 = errors u.valid (node_values (placed m.keyword.items m.instance.items t'.below)) in
+    let p5 = end_text n.instance.items n.keyword.items u.valid in
+    let r = c.from_residual-in_err-put_children-2.result in
+    subst (λ l. Puts a (o c.put_children-2.new.out) l r) (tree_pieces c.args.later k i x t' l m n (root_row relative_row rows t' x e c.index-rows-0.is) c.go_down.ensures.longer_keyword c.go_down.ensures.longer_instance c.in_ok-put_children.ensures.back (stays_there m))
+    (then_puts a (o c.put_beginning.new.out) (o c.put_children-2.new.out) p1 (p2 ++ (p3 ++ (p4 ++ (p5)))) r c.in_ok-put_beginning.ensures
+    (then_puts (o c.put_beginning.new.out) (o c.put_children.new.out) (o c.put_children-2.new.out) p2 (p3 ++ (p4 ++ (p5))) r (c.in_ok-put_children.ensures.text t'.below (codes ",\"annotations\":") below refl)
+    (then_puts (o c.put_children.new.out) (o c.put_error.new.out) (o c.put_children-2.new.out) p3 (p4 ++ (p5)) r c.in_ok-put_error.ensures
+    (stops_in (o c.put_error.new.out) (o c.put_children-2.new.out) p4 (p5) r c.from_residual-in_err-put_children-2.ensures.0 (c.in_err-put_children-2.ensures.text t'.below (codes ",\"errors\":") below refl)))))
+
+pub put_tree-returns-in_err-put_end-clause-text : goal.put_tree-returns-in_err-put_end-clause-text
+put_tree-returns-in_err-put_end-clause-text g t c =
+    λ t' e.
+    let o = g.O.Out.progress in
+    let a = o c.args.out.now in
+    let rows = c.args.rows.now in
+    let x = c.index-rows-0.result in
+    let u = (relative_row x).0 in
+    let k = c.args.locations.now.keyword.items in
+    let i = c.args.locations.now.instance.items in
+    let l = c.go_down.new.self in
+    let m = c.put_children.new.locations in
+    let n = c.put_children-2.new.locations in
+    let below = ap (map relative_row) (rest_of rows) ∙ rows_below relative_row rows t' e in
+    let p1 = comma_if c.args.later ++ beginning_text u.absolute u.note in
+    let p2 = annotations u.valid (node_values (placed l.keyword.items l.instance.items t'.below)) in
+    let p3 = error_part u.note in
+    let p4 = errors u.valid (node_values (placed m.keyword.items m.instance.items t'.below)) in
+    let p5 = end_text n.instance.items n.keyword.items u.valid in
+    let r = c.from_residual-in_err-put_end.result in
+    subst (λ l. Puts a (o c.put_end.new.out) l r) (tree_pieces c.args.later k i x t' l m n (root_row relative_row rows t' x e c.index-rows-0.is) c.go_down.ensures.longer_keyword c.go_down.ensures.longer_instance c.in_ok-put_children.ensures.back c.in_ok-put_children-2.ensures.back)
+    (then_puts a (o c.put_beginning.new.out) (o c.put_end.new.out) p1 (p2 ++ (p3 ++ (p4 ++ (p5)))) r c.in_ok-put_beginning.ensures
+    (then_puts (o c.put_beginning.new.out) (o c.put_children.new.out) (o c.put_end.new.out) p2 (p3 ++ (p4 ++ (p5))) r (c.in_ok-put_children.ensures.text t'.below (codes ",\"annotations\":") below refl)
+    (then_puts (o c.put_children.new.out) (o c.put_error.new.out) (o c.put_end.new.out) p3 (p4 ++ (p5)) r c.in_ok-put_error.ensures
+    (then_puts (o c.put_error.new.out) (o c.put_children-2.new.out) (o c.put_end.new.out) p4 (p5) r (c.in_ok-put_children-2.ensures.text t'.below (codes ",\"errors\":") below refl)
+    (stops_last (o c.put_children-2.new.out) (o c.put_end.new.out) p5 r c.from_residual-in_err-put_end.ensures.0 c.in_err-put_end.ensures)))))
+
+pub put_tree-returns-clause-text : goal.put_tree-returns-clause-text
+put_tree-returns-clause-text g t c =
+    λ t' e.
+    let o = g.O.Out.progress in
+    let a = o c.args.out.now in
+    let rows = c.args.rows.now in
+    let x = c.index-rows-0.result in
+    let u = (relative_row x).0 in
+    let k = c.args.locations.now.keyword.items in
+    let i = c.args.locations.now.instance.items in
+    let l = c.go_down.new.self in
+    let m = c.put_children.new.locations in
+    let n = c.put_children-2.new.locations in
+    let below = ap (map relative_row) (rest_of rows) ∙ rows_below relative_row rows t' e in
+    let p1 = comma_if c.args.later ++ beginning_text u.absolute u.note in
+    let p2 = annotations u.valid (node_values (placed l.keyword.items l.instance.items t'.below)) in
+    let p3 = error_part u.note in
+    let p4 = errors u.valid (node_values (placed m.keyword.items m.instance.items t'.below)) in
+    let p5 = end_text n.instance.items n.keyword.items u.valid in
+    let r : Result (Unit {0}) (Unit {0}) = Ok tt in
+    subst (λ l. Puts a (o c.put_end.new.out) l r) (tree_pieces c.args.later k i x t' l m n (root_row relative_row rows t' x e c.index-rows-0.is) c.go_down.ensures.longer_keyword c.go_down.ensures.longer_instance c.in_ok-put_children.ensures.back c.in_ok-put_children-2.ensures.back)
+    (then_puts a (o c.put_beginning.new.out) (o c.put_end.new.out) p1 (p2 ++ (p3 ++ (p4 ++ (p5)))) r c.in_ok-put_beginning.ensures
+    (then_puts (o c.put_beginning.new.out) (o c.put_children.new.out) (o c.put_end.new.out) p2 (p3 ++ (p4 ++ (p5))) r (c.in_ok-put_children.ensures.text t'.below (codes ",\"annotations\":") below refl)
+    (then_puts (o c.put_children.new.out) (o c.put_error.new.out) (o c.put_end.new.out) p3 (p4 ++ (p5)) r c.in_ok-put_error.ensures
+    (then_puts (o c.put_error.new.out) (o c.put_children-2.new.out) (o c.put_end.new.out) p4 (p5) r (c.in_ok-put_children-2.ensures.text t'.below (codes ",\"errors\":") below refl)
+    c.in_ok-put_end.ensures))))
+
+pub put_children-returns-then-is_empty-clause-text : goal.put_children-returns-then-is_empty-clause-text
+put_children-returns-then-is_empty-clause-text g t c =
+    λ f name e start.
+    let o = g.O.Out.progress in
+    let k = c.args.locations.now.keyword.items in
+    let i = c.args.locations.now.instance.items in
+    let none : length c.args.rows.now ≡ 0 = is_none (length c.args.rows.now) c.if-is_empty.ensures in
+    subst (Goes (o c.args.out.now) (o c.args.out.now)) (sym (no_children_placed name c.args.here k i c.args.rows.now f none e)) (nothing_goes (o c.args.out.now))
+
+pub put_children-returns-in_err-put-clause-text : goal.put_children-returns-in_err-put-clause-text
+put_children-returns-in_err-put-clause-text g t c =
+    λ f name e start.
+    let o = g.O.Out.progress in
+    let rows = c.args.rows.now in
+    let k = c.args.locations.now.keyword.items in
+    let i = c.args.locations.now.instance.items in
+    let here : c.args.here ≡ true = c.if-not-here.false in
+    let some : 0 < length rows = not_none (length rows) c.if-is_empty.ensures in
+    let rest = compact_items false (items (node_values (placed k i f))) in
+    let r = c.from_residual.result in
+    subst (λ l. Puts (o c.args.out.now) (o c.put.new.self) l r) (sym (children_placed name c.args.start.now c.args.here k i f (some_tree relative_row rows 0 f e some) here start))
+    (stops_in (o c.args.out.now) (o c.put.new.self) c.args.start.now rest r c.from_residual.ensures.0 c.in_err-put.ensures)
+
+pub put_children-returns-clause-text : goal.put_children-returns-clause-text
+put_children-returns-clause-text g t c =
+    λ f name e start.
+    let o = g.O.Out.progress in
+    let rows = c.args.rows.now in
+    let k = c.args.locations.now.keyword.items in
+    let i = c.args.locations.now.instance.items in
+    let here : c.args.here ≡ true = c.if-not-here.false in
+    let some : 0 < length rows = not_none (length rows) c.if-is_empty.ensures in
+    let rest = compact_items false (items (node_values (placed k i f))) in
+    let r = c.put_trees.result in
+    subst (λ l. Puts (o c.args.out.now) (o c.put_trees.new.out) l r) (sym (children_placed name c.args.start.now c.args.here k i f (some_tree relative_row rows 0 f e some) here start))
+    (then_puts (o c.args.out.now) (o c.put.new.self) (o c.put_trees.new.out) c.args.start.now rest r c.in_ok-put.ensures (c.put_trees.ensures.text f e))
+
+pub put_trees-overflow_add-end : goal.put_trees-overflow_add-end
+put_trees-overflow_add-end g t c =
+    let l = c.loop-next in
+    let rows = c.args.rows.now in
+    let x = c.index-rows-next.result in
+    let w = l.invariant.2 c.requires.0 c.requires.1 in
+    let t = first_tree relative_row rows l.next w.0 x w.1 c.loop-next-test.true c.index-rows-next.is in
+    omega (arith, t.fits)
+
+pub put_trees-slice_bounds-put_tree-end : goal.put_trees-slice_bounds-put_tree-end
+put_trees-slice_bounds-put_tree-end g t c =
+    let l = c.loop-next in
+    let rows = c.args.rows.now in
+    let x = c.index-rows-next.result in
+    let w = l.invariant.2 c.requires.0 c.requires.1 in
+    let t = first_tree relative_row rows l.next w.0 x w.1 c.loop-next-test.true c.index-rows-next.is in
+    t.fits
+
+pub put_trees-put_tree-requires : goal.put_trees-put_tree-requires
+put_trees-put_tree-requires g t c κs within =
+    let l = c.loop-next in
+    let rows = c.args.rows.now in
+    let x = c.index-rows-next.result in
+    let w = l.invariant.2 c.requires.0 c.requires.1 in
+    let t = first_tree relative_row rows l.next w.0 x w.1 c.loop-next-test.true c.index-rows-next.is in
+    let one : ResultTree = record { root = t.unit; below = t.below } in
+    let size : l.next + x.size - l.next ≡ x.size = omega arith in
+    let all_is = ap (λ n. map relative_row (take n (drop l.next rows))) size ∙ (t.all ∙ sym (flat-flat_of one)) in
+    let few : length (take (l.next + x.size - l.next) (drop l.next rows)) ≤ length rows = shorter (l.next + x.size - l.next) l.next rows in
+    let room = room_for_part c.args.locations.now l.locations rows l.next (l.next + x.size - l.next) c.requires.2 l.invariant.1 in
+    (omega (arith, few, c.decreases), (within, (one, all_is, room)))
+
+pub put_trees-loop-next-smaller : goal.put_trees-loop-next-smaller
+put_trees-loop-next-smaller g t c =
+    let l = c.loop-next in
+    let rows = c.args.rows.now in
+    let x = c.index-rows-next.result in
+    let w = l.invariant.2 c.requires.0 c.requires.1 in
+    let t = first_tree relative_row rows l.next w.0 x w.1 c.loop-next-test.true c.index-rows-next.is in
+    omega (arith, t.size, t.fits)
+
+pub put_trees-returns-in_err-put_tree-clause-text : goal.put_trees-returns-in_err-put_tree-clause-text
+put_trees-returns-in_err-put_tree-clause-text g t c =
+    λ f e.
+    let l = c.loop-next in
+    let rows = c.args.rows.now in
+    let x = c.index-rows-next.result in
+    let o = g.O.Out.progress in
+    let k = c.args.locations.now.keyword.items in
+    let i = c.args.locations.now.instance.items in
+    let all = compact_items false (items (node_values (placed k i f))) in
+    let w = l.invariant.2 f e in
+    let t = first_tree relative_row rows l.next w.0 x w.1 c.loop-next-test.true c.index-rows-next.is in
+    let one : ResultTree = record { root = t.unit; below = t.below } in
+    let size : l.next + x.size - l.next ≡ x.size = omega arith in
+    let all_is = ap (λ n. map relative_row (take n (drop l.next rows))) size ∙ (t.all ∙ sym (flat-flat_of one)) in
+    let text = comma_if l.later ++ compact (verbose (placed_tree k i one)) in
+    let same = text_there l.later c.args.locations.now l.locations one l.invariant.1 in
+    let rest = compact_items true (items (node_values (placed k i t.after))) in
+    let next = tree_next (o c.args.out.now) (o l.out) l.later k i w.0 t.unit t.below t.after all w.2 t.is in
+    puts_err (o c.args.out.now) (o l.out) (o c.put_tree.new.out) text rest all c.from_residual.result c.from_residual.ensures.0 next (subst (Stops (o l.out) (o c.put_tree.new.out)) same (c.in_err-put_tree.ensures.text one all_is))
+
+pub put_trees-loop-next-preserved : goal.put_trees-loop-next-preserved
+put_trees-loop-next-preserved g t c =
+    let l = c.loop-next in
+    let rows = c.args.rows.now in
+    let x = c.index-rows-next.result in
+    let w = l.invariant.2 c.requires.0 c.requires.1 in
+    let t0 = first_tree relative_row rows l.next w.0 x w.1 c.loop-next-test.true c.index-rows-next.is in (
+      omega (arith, t0.fits),
+      back_again c.args.locations.now l.locations c.put_tree.new.locations l.invariant.1 c.in_ok-put_tree.ensures.back,
+      λ f e.
+          let o = g.O.Out.progress in
+          let k = c.args.locations.now.keyword.items in
+          let i = c.args.locations.now.instance.items in
+          let all = compact_items false (items (node_values (placed k i f))) in
+          let w = l.invariant.2 f e in
+          let t = first_tree relative_row rows l.next w.0 x w.1 c.loop-next-test.true c.index-rows-next.is in
+          let one : ResultTree = record { root = t.unit; below = t.below } in
+          let size : l.next + x.size - l.next ≡ x.size = omega arith in
+          let all_is = ap (λ n. map relative_row (take n (drop l.next rows))) size ∙ (t.all ∙ sym (flat-flat_of one)) in
+          let text = comma_if l.later ++ compact (verbose (placed_tree k i one)) in
+          let same = text_there l.later c.args.locations.now l.locations one l.invariant.1 in
+          let rest = compact_items true (items (node_values (placed k i t.after))) in
+          let next = tree_next (o c.args.out.now) (o l.out) l.later k i w.0 t.unit t.below t.after all w.2 t.is in
+          (t.after, t.more, goes_on (o c.args.out.now) (o l.out) (o c.put_tree.new.out) text rest all next (subst (Goes (o l.out) (o c.put_tree.new.out)) same (c.in_ok-put_tree.ensures.text one all_is))),
+    )
+
+pub put_trees-returns-clause-text : goal.put_trees-returns-clause-text
+put_trees-returns-clause-text g t c =
+    λ f e.
+    let o = g.O.Out.progress in
+    let l = c.loop-next in
+    let rows = c.args.rows.now in
+    let k = c.args.locations.now.keyword.items in
+    let i = c.args.locations.now.instance.items in
+    let all = compact_items false (items (node_values (placed k i f))) in
+    let w = l.invariant.2 f e in
+    let none = all_gone relative_row rows l.next w.0 w.1 (omega (arith, c.loop-next-test.false)) in
+    puts_last (o c.args.out.now) (o l.out) (o c.put.new.self) (93 ∷ []) all c.put.result (same_left (o c.args.out.now) (o l.out) (compact_items l.later (items (node_values (placed k i w.0)))) (93 ∷ []) all w.2 (ap (λ f. compact_items l.later (items (node_values (placed k i f)))) none)) c.put.ensures
