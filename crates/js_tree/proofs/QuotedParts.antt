@@ -2,27 +2,62 @@
 use Rattle.std.proofs.Common.{◌≡◌, Bool, true, false, List, [], ◌∷◌, ◌++◌, ℕ, codes, refl, ap, sym, ◌∙◌, append_assoc}
 use Rattle.std.proofs.lemmas.Grind.{flat_map-append}
 use Rattle.json.specs.Print.{escape, escape_byte}
-use Rattle.js_doc.specs.Compact.{comma_if, quoted}
-use Rattle.js_tree.specs.Note.{Note}
-use Rattle.js_tree.specs.code.NodeText.{annotation_part, beginning_text, end_text, valid_text}
+use Rattle.js_doc.specs.Compact.{comma_if, compact, compact_items, quoted}
+use Rattle.js_doc.specs.Value.{Value, items}
+use Rattle.js_tree.specs.Form.{node_value}
+use Rattle.js_tree.specs.Note.{Note, silent}
+use Rattle.js_tree.specs.OutputUnit.{OutputUnit}
+use Rattle.js_tree.specs.code.NodeText.{annotation_part, beginning_text, end_text, error_part, valid_text}
+use Rattle.js_tree.specs.code.RelativeText.{children_start, closing_text, inside_text, opening_text}
+use Rattle.js_tree.proofs.NodeTexts.{annotations, errors, pieces_are}
 
 -- a quoted text, and what follows it
 quoted_then : (t rest : List ℕ) → 34 ∷ (escape t ++ 34 ∷ rest) ≡ quoted t ++ rest
 quoted_then t rest = ap (λ l. 34 ∷ l) (sym (append_assoc (escape t) (34 ∷ []) rest))
 
-pub end_in_parts : (instance keyword : List ℕ) (valid : Bool) → codes ",\"instanceLocation\":\"" ++ (escape instance ++ (codes "\",\"keywordLocation\":\"" ++ (escape keyword ++ 34 ∷ valid_text valid))) ≡ end_text instance keyword valid
+pub end_in_parts : (instance keyword : List ℕ) (valid : Bool) → codes ",\"instanceLocation\":\"" ++ closing_text instance keyword valid ≡ end_text instance keyword valid
 end_in_parts instance keyword valid =
     ap (λ l. codes ",\"instanceLocation\":" ++ l)
     (quoted_then instance (codes ",\"keywordLocation\":" ++ (34 ∷ (escape keyword ++ 34 ∷ valid_text valid)))
     ∙ ap (λ l. quoted instance ++ (codes ",\"keywordLocation\":" ++ l)) (quoted_then keyword (valid_text valid)))
 
-unquoted_beginning : (schema token : List ℕ) (note : Note) → codes "{\"absoluteKeywordLocation\":\"" ++ (escape schema ++ (escape token ++ 34 ∷ annotation_part note)) ≡ beginning_text (schema ++ token) note
-unquoted_beginning schema token note =
-    ap (λ l. codes "{\"absoluteKeywordLocation\":" ++ l)
-    (ap (λ l. 34 ∷ l) (sym (append_assoc (escape schema) (escape token) (34 ∷ annotation_part note)) ∙ ap (λ l. l ++ 34 ∷ annotation_part note) (sym (flat_map-append escape_byte schema token)))
-    ∙ quoted_then (schema ++ token) (annotation_part note))
+pub opening_in_parts : (later : Bool) (schema token : List ℕ) → (comma_if later ++ codes "{\"absoluteKeywordLocation\":\"") ++ (escape schema ++ escape token) ≡ opening_text later (schema ++ token)
+opening_in_parts later schema token =
+    append_assoc (comma_if later) (codes "{\"absoluteKeywordLocation\":\"") (escape schema ++ escape token)
+    ∙ ap (λ l. comma_if later ++ (codes "{\"absoluteKeywordLocation\":\"" ++ l)) (sym (flat_map-append escape_byte schema token))
 
-pub beginning_in_parts : (later : Bool) (schema token : List ℕ) (note : Note) → (comma_if later ++ codes "{\"absoluteKeywordLocation\":\"") ++ (escape schema ++ (escape token ++ 34 ∷ annotation_part note)) ≡ comma_if later ++ beginning_text (schema ++ token) note
-beginning_in_parts later schema token note =
-    append_assoc (comma_if later) (codes "{\"absoluteKeywordLocation\":\"") (escape schema ++ (escape token ++ 34 ∷ annotation_part note))
-    ∙ ap (λ l. comma_if later ++ l) (unquoted_beginning schema token note)
+opened_then : (later : Bool) (absolute rest : List ℕ) → opening_text later absolute ++ 34 ∷ rest ≡ comma_if later ++ (codes "{\"absoluteKeywordLocation\":" ++ (quoted absolute ++ rest))
+opened_then later absolute rest =
+    append_assoc (comma_if later) (codes "{\"absoluteKeywordLocation\":\"" ++ escape absolute) (34 ∷ rest)
+    ∙ ap (λ l. comma_if later ++ l) (ap (λ l. codes "{\"absoluteKeywordLocation\":" ++ l) (quoted_then absolute rest))
+
+pub beginning_in_parts : (later : Bool) (absolute : List ℕ) (note : Note) → opening_text later absolute ++ 34 ∷ annotation_part note ≡ comma_if later ++ beginning_text absolute note
+beginning_in_parts later absolute note = opened_then later absolute (annotation_part note)
+
+-- ---- a node that says nothing
+
+regrouped : (o a b q r : List ℕ) → o ++ ((34 ∷ (a ++ (b ++ q))) ++ r) ≡ o ++ 34 ∷ (a ++ (b ++ (q ++ r)))
+regrouped o a b q r = ap (λ l. o ++ 34 ∷ l) (append_assoc a (b ++ q) r ∙ ap (λ l. a ++ l) (append_assoc b q r))
+
+of_silent : (later : Bool) (u : OutputUnit) (children : List Value) → u.note ≡ silent → comma_if later ++ (codes "{\"absoluteKeywordLocation\":" ++ (quoted u.absolute ++ (annotations u.valid children ++ (errors u.valid children ++ end_text u.instance u.keyword u.valid)))) ≡ comma_if later ++ compact (node_value u children)
+of_silent later u children e =
+    let rest = annotations u.valid children ++ (errors u.valid children ++ end_text u.instance u.keyword u.valid) in
+    ap (λ l. comma_if later ++ (codes "{\"absoluteKeywordLocation\":" ++ l)) (sym (append_assoc (quoted u.absolute) [] rest))
+    ∙ ap (λ l. comma_if later ++ l) (ap (λ n. beginning_text u.absolute n ++ (annotations u.valid children ++ (error_part n ++ (errors u.valid children ++ end_text u.instance u.keyword u.valid)))) (sym e) ∙ pieces_are u children u.valid u.note refl refl)
+
+pub silent_in_parts : (later : Bool) (u : OutputUnit) (children : List Value) → u.note ≡ silent → opening_text later u.absolute ++ (inside_text u.valid children ++ closing_text u.instance u.keyword u.valid) ≡ comma_if later ++ compact (node_value u children)
+silent_in_parts later u children e =
+    let a = annotations u.valid children in
+    let b = errors u.valid children in
+    regrouped (opening_text later u.absolute) a b (codes ",\"instanceLocation\":\"") (closing_text u.instance u.keyword u.valid)
+    ∙ (opened_then later u.absolute (a ++ (b ++ (codes ",\"instanceLocation\":\"" ++ closing_text u.instance u.keyword u.valid)))
+    ∙ (ap (λ l. comma_if later ++ (codes "{\"absoluteKeywordLocation\":" ++ (quoted u.absolute ++ (a ++ (b ++ l))))) (end_in_parts u.instance u.keyword u.valid)
+    ∙ of_silent later u children e))
+
+pub none_inside : (valid : Bool) → codes "\",\"instanceLocation\":\"" ≡ inside_text valid []
+none_inside true = refl
+none_inside false = refl
+
+pub some_inside : (valid : Bool) (v : Value) (vs : List Value) → children_start valid ++ (compact_items false (items (v ∷ vs)) ++ codes ",\"instanceLocation\":\"") ≡ inside_text valid (v ∷ vs)
+some_inside true v vs = refl
+some_inside false v vs = refl

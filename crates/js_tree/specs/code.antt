@@ -4,5 +4,6 @@ pub mod Nesting
 pub mod NodeText
 pub mod Order
 pub mod Put
+pub mod RelativeText
 pub mod Search
 pub mod UnitsText

@@ -3,6 +3,7 @@ ghost use Rattle.std.specs.Prelude.{◌≡◌, ◌∷◌, [], IfOk};
 ghost use Rattle.js_doc.specs.BytesOut.{Puts};
 ghost use Rattle.js_tree.specs.Locations.{HasRoom, HasRoomFor, IsDown, IsUp, instances_added, keywords_added};
 ghost use Rattle.js_tree.specs.code.NodeText.{end_text, valid_text};
+ghost use Rattle.js_tree.specs.code.RelativeText.{closing_text};
 
 use crate::relative::{RelativeRow, RelativeRows};
 use js_doc::{Memory, Out, Stopped, put_escaped};
@@ -16,8 +17,9 @@ pub struct Locations {
 }
 
 impl Locations {
-    /// Those above the root, which are empty. All memory that the locations of the rows' nodes can need is taken here: what
-    /// the rows add, all together. That is more than the longest of them, but memory that no byte is written to costs nothing.
+    /// Those above the root, which are empty. All memory that the locations of the rows' nodes can need is taken here,
+    /// so that writing takes none: as much as the rows add, all together. The longest location may be far shorter, but
+    /// memory that no byte is written to costs nothing.
     ///
     /// # Errors
     /// `Memory`.
@@ -55,6 +57,13 @@ impl Locations {
         ensures { Puts (O.progress out.old) (O.progress out.new) (end_text self.now.instance.items self.now.keyword.items valid) result }
     {
         out.put(b",\"instanceLocation\":\"")?;
+        self.put_closing(valid, out)
+    }
+
+    /// Puts the same behind the opening quotation mark of the instance location.
+    pub(crate) fn put_closing<O: Out>(&self, valid: bool, out: &mut O) -> Result<(), Stopped>
+        ensures { Puts (O.progress out.old) (O.progress out.new) (closing_text self.now.instance.items self.now.keyword.items valid) result }
+    {
         put_escaped(self.instance.as_slice(), out)?;
         out.put(b"\",\"keywordLocation\":\"")?;
         put_escaped(self.keyword.as_slice(), out)?;

@@ -5,22 +5,24 @@ ghost use Rattle.js_doc.specs.Compact.{comma_if, compact, compact_items};
 ghost use Rattle.js_doc.specs.Value.{items};
 ghost use Rattle.js_tree.specs.Flat.{flat, flat_of};
 ghost use Rattle.js_tree.specs.Forest.{Forest};
-ghost use Rattle.js_tree.specs.Form.{array_of_some, node_values, value_if, verbose};
+ghost use Rattle.js_tree.specs.Form.{array_of_some, node_value, node_values, value_if, verbose};
 ghost use Rattle.js_tree.specs.Locations.{HasRoom, HasRoomFor, IsBack};
+ghost use Rattle.js_tree.specs.Note.{silent};
 ghost use Rattle.js_tree.specs.OutputUnit.{OutputUnit};
 ghost use Rattle.js_tree.specs.Relative.{placed, placed_tree};
 ghost use Rattle.js_tree.specs.RelativeState.{AreRowsOf, AreWhole, relative_row};
 ghost use Rattle.js_tree.specs.Result.{ResultTree};
 ghost use Rattle.js_tree.specs.Seen.{note_of};
 ghost use Rattle.js_tree.specs.code.NodeText.{beginning_text, given_text};
+ghost use Rattle.js_tree.specs.code.RelativeText.{children_start, inside_text, opening_text, unit_there};
 
 use crate::locations::Locations;
 use crate::node_text::{put_annotation, put_error};
 use crate::relative::{RelativeRow, RelativeRows};
 use js_doc::{Out, Stopped, put_escaped};
 
-/// Puts the compact text of the verbose format (Core, section 12.4.4) of the rows' tree, with each location whole. It takes no
-/// memory.
+/// Puts the compact text of the verbose format (Core, section 12.4.4) of the rows' tree, with each location whole. It
+/// takes no memory.
 ///
 /// # Errors
 /// `Stopped`; then a beginning of the text has gone out.
@@ -50,16 +52,51 @@ fn put_tree<O: Out>(
     ensures back { OnOk result (IsBack locations.old locations.new) }
 {
     let row = &rows[0];
-    let below = &rows[1..];
-    let valid = row.valid;
     locations.go_down(row);
+    put_node(later, row, &rows[1..], locations, out)?;
+    locations.go_back(row);
+    Ok(())
+}
+
+/// Puts the node with these locations, over the trees of the rows below it.
+#[cycle(put_tree)]
+fn put_node<O: Out>(
+    later: bool,
+    row: &RelativeRow,
+    below: &[RelativeRow],
+    locations: &mut Locations,
+    out: &mut O,
+) -> Result<(), Stopped>
+    requires { (f : Forest OutputUnit) × (map relative_row below.now ≡ flat_of f) × HasRoom locations.old below.now }
+    ensures text { (f : Forest OutputUnit) → map relative_row below.now ≡ flat_of f → Puts (O.progress out.old) (O.progress out.new) (comma_if later ++ compact (node_value (unit_there row.now locations.old) (node_values (placed locations.old.keyword.items locations.old.instance.items f)))) result }
+    ensures back { OnOk result (IsBack locations.old locations.new) }
+{
+    let note = &row.note;
+    if note.is_some() {
+        return put_noted(later, row, below, locations, out);
+    }
+    put_silent(later, row, below, locations, out)
+}
+
+/// Puts a node with a note.
+#[cycle(put_tree)]
+fn put_noted<O: Out>(
+    later: bool,
+    row: &RelativeRow,
+    below: &[RelativeRow],
+    locations: &mut Locations,
+    out: &mut O,
+) -> Result<(), Stopped>
+    requires { (f : Forest OutputUnit) × (map relative_row below.now ≡ flat_of f) × HasRoom locations.old below.now }
+    ensures text { (f : Forest OutputUnit) → map relative_row below.now ≡ flat_of f → Puts (O.progress out.old) (O.progress out.new) (comma_if later ++ compact (node_value (unit_there row.now locations.old) (node_values (placed locations.old.keyword.items locations.old.instance.items f)))) result }
+    ensures back { OnOk result (IsBack locations.old locations.new) }
+{
+    let valid = row.valid;
     put_beginning(later, row, out)?;
     put_children(valid, b",\"annotations\":[", below, locations, out)?;
     put_error(&row.note, out)?;
     put_children(!valid, b",\"errors\":[", below, locations, out)?;
-    locations.put_end(valid, out)?;
-    locations.go_back(row);
-    Ok(())
+    locations.put_end(valid, out)
 }
 
 /// Puts the trees of the rows, if there are any and they belong here, after what stands before their list.
@@ -82,30 +119,71 @@ fn put_children<O: Out>(
         return Ok(());
     }
     out.put(start)?;
-    put_trees(rows, locations, out)
+    put_trees(rows, b"]", locations, out)
 }
 
-/// Puts the trees of the rows, with the bracket behind them.
+/// Puts a node without a note. Most nodes have none, and each call of `put` costs time: so quotation marks and
+/// brackets go out with what stands beside them.
 #[cycle(put_tree)]
-fn put_trees<O: Out>(
+fn put_silent<O: Out>(
+    later: bool,
+    row: &RelativeRow,
+    below: &[RelativeRow],
+    locations: &mut Locations,
+    out: &mut O,
+) -> Result<(), Stopped>
+    requires silent { note_of row.now.note ≡ silent }
+    requires trees { (f : Forest OutputUnit) × (map relative_row below.now ≡ flat_of f) × HasRoom locations.old below.now }
+    ensures text { (f : Forest OutputUnit) → map relative_row below.now ≡ flat_of f → Puts (O.progress out.old) (O.progress out.new) (comma_if later ++ compact (node_value (unit_there row.now locations.old) (node_values (placed locations.old.keyword.items locations.old.instance.items f)))) result }
+    ensures back { OnOk result (IsBack locations.old locations.new) }
+{
+    let valid = row.valid;
+    put_opening(later, row, out)?;
+    put_inside(valid, below, locations, out)?;
+    locations.put_closing(valid, out)
+}
+
+/// Puts what stands between the absolute location and the instance location: the trees of the rows, if there are any.
+#[cycle(put_tree)]
+fn put_inside<O: Out>(
+    valid: bool,
     rows: &[RelativeRow],
     locations: &mut Locations,
     out: &mut O,
 ) -> Result<(), Stopped>
     requires { (f : Forest OutputUnit) × (map relative_row rows.now ≡ flat_of f) × HasRoom locations.old rows.now }
-    ensures text { (f : Forest OutputUnit) → map relative_row rows.now ≡ flat_of f → Puts (O.progress out.old) (O.progress out.new) (compact_items false (items (node_values (placed locations.old.keyword.items locations.old.instance.items f)))) result }
+    ensures text { (f : Forest OutputUnit) → map relative_row rows.now ≡ flat_of f → Puts (O.progress out.old) (O.progress out.new) (inside_text valid (node_values (placed locations.old.keyword.items locations.old.instance.items f))) result }
+    ensures back { OnOk result (IsBack locations.old locations.new) }
+{
+    if rows.is_empty() {
+        return out.put(b"\",\"instanceLocation\":\"");
+    }
+    put_children_start(valid, out)?;
+    put_trees(rows, b"],\"instanceLocation\":\"", locations, out)
+}
+
+/// Puts the trees of the rows, with a comma between any two, and then the closing bracket with what stands behind it.
+#[cycle(put_tree)]
+fn put_trees<O: Out>(
+    rows: &[RelativeRow],
+    end: &[u8],
+    locations: &mut Locations,
+    out: &mut O,
+) -> Result<(), Stopped>
+    requires { (f : Forest OutputUnit) × (map relative_row rows.now ≡ flat_of f) × HasRoom locations.old rows.now }
+    ensures text { (f : Forest OutputUnit) (rest : List ℕ) → map relative_row rows.now ≡ flat_of f → end.now ≡ 93 ∷ rest → Puts (O.progress out.old) (O.progress out.new) (compact_items false (items (node_values (placed locations.old.keyword.items locations.old.instance.items f))) ++ rest) result }
     ensures back { OnOk result (IsBack locations.old locations.new) }
 {
     let mut later = false;
     let mut next = 0;
     while next < rows.len() {
-        let row = &rows[next];
-        let end = next + row.size;
-        put_tree(later, &rows[next..end], locations, out)?;
+        let first = next;
+        let row = &rows[first];
+        next = first + row.size;
+        put_tree(later, &rows[first..next], locations, out)?;
         later = true;
-        next = end;
     }
-    out.put(b"]")
+    out.put(end)
 }
 
 /// Puts the node's members before `annotations`, after a comma where something stands before.
@@ -116,11 +194,18 @@ pub(crate) fn put_beginning<O: Out>(
 ) -> Result<(), Stopped>
     ensures { Puts (O.progress out.old) (O.progress out.new) (comma_if later ++ beginning_text (row.now.schema.now ++ row.now.absolute.now) (note_of row.now.note)) result }
 {
-    put_start(later, out)?;
-    put_escaped(row.schema.as_bytes(), out)?;
-    put_escaped(row.absolute, out)?;
+    put_opening(later, row, out)?;
     out.put(b"\"")?;
     put_annotation(&row.note, out)
+}
+
+/// Puts the absolute location and what stands before it, without its closing quotation mark.
+fn put_opening<O: Out>(later: bool, row: &RelativeRow, out: &mut O) -> Result<(), Stopped>
+    ensures { Puts (O.progress out.old) (O.progress out.new) (opening_text later (row.now.schema.now ++ row.now.absolute.now)) result }
+{
+    put_start(later, out)?;
+    put_escaped(row.schema.as_bytes(), out)?;
+    put_escaped(row.absolute, out)
 }
 
 /// Puts what stands before the absolute location, after a comma where something stands before.
@@ -131,5 +216,16 @@ fn put_start<O: Out>(later: bool, out: &mut O) -> Result<(), Stopped>
         out.put(b",{\"absoluteKeywordLocation\":\"")
     } else {
         out.put(b"{\"absoluteKeywordLocation\":\"")
+    }
+}
+
+/// Puts the closing quotation mark of the absolute location, and the beginning of the list of children.
+fn put_children_start<O: Out>(valid: bool, out: &mut O) -> Result<(), Stopped>
+    ensures { Puts (O.progress out.old) (O.progress out.new) (children_start valid) result }
+{
+    if valid {
+        out.put(b"\",\"annotations\":[")
+    } else {
+        out.put(b"\",\"errors\":[")
     }
 }

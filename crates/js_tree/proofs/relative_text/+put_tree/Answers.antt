@@ -1,176 +1,196 @@
-use Rattle.std.proofs.Common.{◌≡◌, ◌+◌, ◌-◌, ◌<◌, ◌≤◌, ◌++◌, [], ◌∷◌, codes, length, drop, take, map, not, true, false, Result, Ok, sym, ap, subst, ◌∙◌, refl, arith}
+use Rattle.std.proofs.Common.{◌≡◌, ◌+◌, ◌-◌, ◌<◌, ◌≤◌, ◌++◌, [], codes, length, drop, take, map, true, false, sym, ap, subst, ◌∙◌, refl, append-nil, arith}
 use Rattle.js_doc.specs.BytesOut.{Goes, Puts, Stops}
 use Rattle.js_doc.specs.Compact.{comma_if, compact, compact_items}
 use Rattle.js_doc.specs.Value.{items}
 use Rattle.js_doc.proofs.BytesGone.{goes_on, puts_err, puts_last, same_left}
-use Rattle.js_tree.specs.Flat.{flat_of}
-use Rattle.js_tree.specs.Forest.{Forest}
 use Rattle.js_tree.specs.Form.{node_values, verbose}
-use Rattle.js_tree.specs.OutputUnit.{OutputUnit}
 use Rattle.js_tree.specs.Relative.{placed, placed_tree}
 use Rattle.js_tree.specs.RelativeState.{relative_row}
 use Rattle.js_tree.specs.Result.{ResultTree}
 use Rattle.js_tree.specs.code.NodeText.{beginning_text, end_text, error_part}
+use Rattle.js_tree.specs.code.RelativeText.{children_start, closing_text, inside_text, opening_text, unit_there}
 use Rattle.js_tree.proofs.ChildTexts.{rest_of}
 use Rattle.js_tree.proofs.FlatRows.{all_gone, first_tree, root_row, rows_below, shorter, some_tree}
 use Rattle.js_tree.proofs.Marks.{flat-flat_of}
 use Rattle.js_tree.proofs.Nested.{is_none, not_none}
 use Rattle.js_tree.proofs.NodeTexts.{annotations, errors}
 use Rattle.js_tree.proofs.Pieces.{nothing_goes, stops_in, then_puts}
-use Rattle.js_tree.proofs.RelativeTexts.{back_again, children_placed, no_children_placed, room_for_part, stays_there, stops_last, text_there, tree_next, tree_pieces}
+use Rattle.js_tree.proofs.RelativeTexts.{back_again, children_placed, no_children_placed, none_there, noted_pieces, root_there, room_for_part, silent_pieces, some_there, stays_there, stops_last, text_there, tree_next}
 use Rattle.js_tree.proofs.relative_text.+put_tree.Goals as goal
 
-pub put_tree-returns-in_err-put_beginning-clause-text : goal.put_tree-returns-in_err-put_beginning-clause-text
-put_tree-returns-in_err-put_beginning-clause-text g t c =
+pub put_tree-returns-in_err-put_node-clause-text : goal.put_tree-returns-in_err-put_node-clause-text
+put_tree-returns-in_err-put_node-clause-text g t c =
     λ t' e.
     let o = g.O.Out.progress in
-    let a = o c.args.out.now in
     let rows = c.args.rows.now in
     let x = c.index-rows-0.result in
-    let u = (relative_row x).0 in
     let k = c.args.locations.now.keyword.items in
     let i = c.args.locations.now.instance.items in
-    let l = c.go_down.new.self in
-    let m = c.go_down.new.self in
-    let n = c.go_down.new.self in
     let below = ap (map relative_row) (rest_of rows) ∙ rows_below relative_row rows t' e in
-    let p1 = comma_if c.args.later ++ beginning_text u.absolute u.note in
-    let p2 = annotations u.valid (node_values (placed l.keyword.items l.instance.items t'.below)) in
-    let p3 = error_part u.note in
-    let p4 = errors u.valid (node_values (placed m.keyword.items m.instance.items t'.below)) in
-    let p5 = end_text n.instance.items n.keyword.items u.valid in
+    let is = root_there c.args.later k i x t' c.go_down.new.self (root_row relative_row rows t' x e c.index-rows-0.is) c.go_down.ensures.longer_keyword c.go_down.ensures.longer_instance in
     let r = c.from_residual.result in
-    subst (λ l. Puts a (o c.put_beginning.new.out) l r) (tree_pieces c.args.later k i x t' l m n (root_row relative_row rows t' x e c.index-rows-0.is) c.go_down.ensures.longer_keyword c.go_down.ensures.longer_instance (stays_there l) (stays_there l))
-    (stops_in a (o c.put_beginning.new.out) p1 (p2 ++ (p3 ++ (p4 ++ (p5)))) r c.from_residual.ensures.0 c.in_err-put_beginning.ensures)
-
-pub put_tree-returns-in_err-put_children-clause-text : goal.put_tree-returns-in_err-put_children-clause-text
-put_tree-returns-in_err-put_children-clause-text g t c =
-    λ t' e.
-    let o = g.O.Out.progress in
-    let a = o c.args.out.now in
-    let rows = c.args.rows.now in
-    let x = c.index-rows-0.result in
-    let u = (relative_row x).0 in
-    let k = c.args.locations.now.keyword.items in
-    let i = c.args.locations.now.instance.items in
-    let l = c.go_down.new.self in
-    let m = c.go_down.new.self in
-    let n = c.go_down.new.self in
-    let below = ap (map relative_row) (rest_of rows) ∙ rows_below relative_row rows t' e in
-    let p1 = comma_if c.args.later ++ beginning_text u.absolute u.note in
-    let p2 = annotations u.valid (node_values (placed l.keyword.items l.instance.items t'.below)) in
-    let p3 = error_part u.note in
-    let p4 = errors u.valid (node_values (placed m.keyword.items m.instance.items t'.below)) in
-    let p5 = end_text n.instance.items n.keyword.items u.valid in
-    let r = c.from_residual-in_err-put_children.result in
-    subst (λ l. Puts a (o c.put_children.new.out) l r) (tree_pieces c.args.later k i x t' l m n (root_row relative_row rows t' x e c.index-rows-0.is) c.go_down.ensures.longer_keyword c.go_down.ensures.longer_instance (stays_there l) (stays_there l))
-    (then_puts a (o c.put_beginning.new.out) (o c.put_children.new.out) p1 (p2 ++ (p3 ++ (p4 ++ (p5)))) r c.in_ok-put_beginning.ensures
-    (stops_in (o c.put_beginning.new.out) (o c.put_children.new.out) p2 (p3 ++ (p4 ++ (p5))) r c.from_residual-in_err-put_children.ensures.0 (c.in_err-put_children.ensures.text t'.below (codes ",\"annotations\":") below refl)))
-
-pub put_tree-returns-in_err-put_error-clause-text : goal.put_tree-returns-in_err-put_error-clause-text
-put_tree-returns-in_err-put_error-clause-text g t c =
-    λ t' e.
-    let o = g.O.Out.progress in
-    let a = o c.args.out.now in
-    let rows = c.args.rows.now in
-    let x = c.index-rows-0.result in
-    let u = (relative_row x).0 in
-    let k = c.args.locations.now.keyword.items in
-    let i = c.args.locations.now.instance.items in
-    let l = c.go_down.new.self in
-    let m = c.put_children.new.locations in
-    let n = c.put_children.new.locations in
-    let below = ap (map relative_row) (rest_of rows) ∙ rows_below relative_row rows t' e in
-    let p1 = comma_if c.args.later ++ beginning_text u.absolute u.note in
-    let p2 = annotations u.valid (node_values (placed l.keyword.items l.instance.items t'.below)) in
-    let p3 = error_part u.note in
-    let p4 = errors u.valid (node_values (placed m.keyword.items m.instance.items t'.below)) in
-    let p5 = end_text n.instance.items n.keyword.items u.valid in
-    let r = c.from_residual-in_err-put_error.result in
-    subst (λ l. Puts a (o c.put_error.new.out) l r) (tree_pieces c.args.later k i x t' l m n (root_row relative_row rows t' x e c.index-rows-0.is) c.go_down.ensures.longer_keyword c.go_down.ensures.longer_instance c.in_ok-put_children.ensures.back (stays_there m))
-    (then_puts a (o c.put_beginning.new.out) (o c.put_error.new.out) p1 (p2 ++ (p3 ++ (p4 ++ (p5)))) r c.in_ok-put_beginning.ensures
-    (then_puts (o c.put_beginning.new.out) (o c.put_children.new.out) (o c.put_error.new.out) p2 (p3 ++ (p4 ++ (p5))) r (c.in_ok-put_children.ensures.text t'.below (codes ",\"annotations\":") below refl)
-    (stops_in (o c.put_children.new.out) (o c.put_error.new.out) p3 (p4 ++ (p5)) r c.from_residual-in_err-put_error.ensures.0 c.in_err-put_error.ensures)))
-
-pub put_tree-returns-in_err-put_children-2-clause-text : goal.put_tree-returns-in_err-put_children-2-clause-text
-put_tree-returns-in_err-put_children-2-clause-text g t c =
-    λ t' e.
-    let o = g.O.Out.progress in
-    let a = o c.args.out.now in
-    let rows = c.args.rows.now in
-    let x = c.index-rows-0.result in
-    let u = (relative_row x).0 in
-    let k = c.args.locations.now.keyword.items in
-    let i = c.args.locations.now.instance.items in
-    let l = c.go_down.new.self in
-    let m = c.put_children.new.locations in
-    let n = c.put_children.new.locations in
-    let below = ap (map relative_row) (rest_of rows) ∙ rows_below relative_row rows t' e in
-    let p1 = comma_if c.args.later ++ beginning_text u.absolute u.note in
-    let p2 = annotations u.valid (node_values (placed l.keyword.items l.instance.items t'.below)) in
-    let p3 = error_part u.note in
-    let p4 = errors u.valid (node_values (placed m.keyword.items m.instance.items t'.below)) in
-    let p5 = end_text n.instance.items n.keyword.items u.valid in
-    let r = c.from_residual-in_err-put_children-2.result in
-    subst (λ l. Puts a (o c.put_children-2.new.out) l r) (tree_pieces c.args.later k i x t' l m n (root_row relative_row rows t' x e c.index-rows-0.is) c.go_down.ensures.longer_keyword c.go_down.ensures.longer_instance c.in_ok-put_children.ensures.back (stays_there m))
-    (then_puts a (o c.put_beginning.new.out) (o c.put_children-2.new.out) p1 (p2 ++ (p3 ++ (p4 ++ (p5)))) r c.in_ok-put_beginning.ensures
-    (then_puts (o c.put_beginning.new.out) (o c.put_children.new.out) (o c.put_children-2.new.out) p2 (p3 ++ (p4 ++ (p5))) r (c.in_ok-put_children.ensures.text t'.below (codes ",\"annotations\":") below refl)
-    (then_puts (o c.put_children.new.out) (o c.put_error.new.out) (o c.put_children-2.new.out) p3 (p4 ++ (p5)) r c.in_ok-put_error.ensures
-    (stops_in (o c.put_error.new.out) (o c.put_children-2.new.out) p4 (p5) r c.from_residual-in_err-put_children-2.ensures.0 (c.in_err-put_children-2.ensures.text t'.below (codes ",\"errors\":") below refl)))))
-
-pub put_tree-returns-in_err-put_end-clause-text : goal.put_tree-returns-in_err-put_end-clause-text
-put_tree-returns-in_err-put_end-clause-text g t c =
-    λ t' e.
-    let o = g.O.Out.progress in
-    let a = o c.args.out.now in
-    let rows = c.args.rows.now in
-    let x = c.index-rows-0.result in
-    let u = (relative_row x).0 in
-    let k = c.args.locations.now.keyword.items in
-    let i = c.args.locations.now.instance.items in
-    let l = c.go_down.new.self in
-    let m = c.put_children.new.locations in
-    let n = c.put_children-2.new.locations in
-    let below = ap (map relative_row) (rest_of rows) ∙ rows_below relative_row rows t' e in
-    let p1 = comma_if c.args.later ++ beginning_text u.absolute u.note in
-    let p2 = annotations u.valid (node_values (placed l.keyword.items l.instance.items t'.below)) in
-    let p3 = error_part u.note in
-    let p4 = errors u.valid (node_values (placed m.keyword.items m.instance.items t'.below)) in
-    let p5 = end_text n.instance.items n.keyword.items u.valid in
-    let r = c.from_residual-in_err-put_end.result in
-    subst (λ l. Puts a (o c.put_end.new.out) l r) (tree_pieces c.args.later k i x t' l m n (root_row relative_row rows t' x e c.index-rows-0.is) c.go_down.ensures.longer_keyword c.go_down.ensures.longer_instance c.in_ok-put_children.ensures.back c.in_ok-put_children-2.ensures.back)
-    (then_puts a (o c.put_beginning.new.out) (o c.put_end.new.out) p1 (p2 ++ (p3 ++ (p4 ++ (p5)))) r c.in_ok-put_beginning.ensures
-    (then_puts (o c.put_beginning.new.out) (o c.put_children.new.out) (o c.put_end.new.out) p2 (p3 ++ (p4 ++ (p5))) r (c.in_ok-put_children.ensures.text t'.below (codes ",\"annotations\":") below refl)
-    (then_puts (o c.put_children.new.out) (o c.put_error.new.out) (o c.put_end.new.out) p3 (p4 ++ (p5)) r c.in_ok-put_error.ensures
-    (then_puts (o c.put_error.new.out) (o c.put_children-2.new.out) (o c.put_end.new.out) p4 (p5) r (c.in_ok-put_children-2.ensures.text t'.below (codes ",\"errors\":") below refl)
-    (stops_last (o c.put_children-2.new.out) (o c.put_end.new.out) p5 r c.from_residual-in_err-put_end.ensures.0 c.in_err-put_end.ensures)))))
+    subst (λ l. Puts (o c.args.out.now) (o c.put_node.new.out) l r) is
+    (stops_last (o c.args.out.now) (o c.put_node.new.out) _ r c.from_residual.ensures.0 (c.in_err-put_node.ensures.text t'.below below))
 
 pub put_tree-returns-clause-text : goal.put_tree-returns-clause-text
 put_tree-returns-clause-text g t c =
     λ t' e.
     let o = g.O.Out.progress in
-    let a = o c.args.out.now in
     let rows = c.args.rows.now in
     let x = c.index-rows-0.result in
-    let u = (relative_row x).0 in
     let k = c.args.locations.now.keyword.items in
     let i = c.args.locations.now.instance.items in
-    let l = c.go_down.new.self in
+    let below = ap (map relative_row) (rest_of rows) ∙ rows_below relative_row rows t' e in
+    let is = root_there c.args.later k i x t' c.go_down.new.self (root_row relative_row rows t' x e c.index-rows-0.is) c.go_down.ensures.longer_keyword c.go_down.ensures.longer_instance in
+    subst (Goes (o c.args.out.now) (o c.put_node.new.out)) is (c.in_ok-put_node.ensures.text t'.below below)
+
+pub put_noted-returns-in_err-put_beginning-clause-text : goal.put_noted-returns-in_err-put_beginning-clause-text
+put_noted-returns-in_err-put_beginning-clause-text g t c =
+    λ f e.
+    let o = g.O.Out.progress in
+    let x = c.args.row.now in
+    let l = c.args.locations.now in
+    let u = unit_there x l in
+    let m = c.args.locations.now in
+    let n = c.args.locations.now in
+    let p1 = comma_if c.args.later ++ beginning_text u.absolute u.note in
+    let p2 = annotations u.valid (node_values (placed l.keyword.items l.instance.items f)) in
+    let p3 = error_part u.note in
+    let p4 = errors u.valid (node_values (placed m.keyword.items m.instance.items f)) in
+    let p5 = end_text n.instance.items n.keyword.items u.valid in
+    let r = c.from_residual.result in
+    subst (λ l. Puts (o c.args.out.now) (o c.put_beginning.new.out) l r) (noted_pieces c.args.later x l m n f (stays_there l) (stays_there l))
+    (stops_in (o c.args.out.now) (o c.put_beginning.new.out) p1 (p2 ++ (p3 ++ (p4 ++ (p5)))) r c.from_residual.ensures.0 c.in_err-put_beginning.ensures)
+
+pub put_noted-returns-in_err-put_children-clause-text : goal.put_noted-returns-in_err-put_children-clause-text
+put_noted-returns-in_err-put_children-clause-text g t c =
+    λ f e.
+    let o = g.O.Out.progress in
+    let x = c.args.row.now in
+    let l = c.args.locations.now in
+    let u = unit_there x l in
+    let m = c.args.locations.now in
+    let n = c.args.locations.now in
+    let p1 = comma_if c.args.later ++ beginning_text u.absolute u.note in
+    let p2 = annotations u.valid (node_values (placed l.keyword.items l.instance.items f)) in
+    let p3 = error_part u.note in
+    let p4 = errors u.valid (node_values (placed m.keyword.items m.instance.items f)) in
+    let p5 = end_text n.instance.items n.keyword.items u.valid in
+    let r = c.from_residual-in_err-put_children.result in
+    subst (λ l. Puts (o c.args.out.now) (o c.put_children.new.out) l r) (noted_pieces c.args.later x l m n f (stays_there l) (stays_there l))
+    (then_puts (o c.args.out.now) (o c.put_beginning.new.out) (o c.put_children.new.out) p1 (p2 ++ (p3 ++ (p4 ++ (p5)))) r c.in_ok-put_beginning.ensures
+    (stops_in (o c.put_beginning.new.out) (o c.put_children.new.out) p2 (p3 ++ (p4 ++ (p5))) r c.from_residual-in_err-put_children.ensures.0 (c.in_err-put_children.ensures.text f (codes ",\"annotations\":") e refl)))
+
+pub put_noted-returns-in_err-put_error-clause-text : goal.put_noted-returns-in_err-put_error-clause-text
+put_noted-returns-in_err-put_error-clause-text g t c =
+    λ f e.
+    let o = g.O.Out.progress in
+    let x = c.args.row.now in
+    let l = c.args.locations.now in
+    let u = unit_there x l in
+    let m = c.put_children.new.locations in
+    let n = c.put_children.new.locations in
+    let p1 = comma_if c.args.later ++ beginning_text u.absolute u.note in
+    let p2 = annotations u.valid (node_values (placed l.keyword.items l.instance.items f)) in
+    let p3 = error_part u.note in
+    let p4 = errors u.valid (node_values (placed m.keyword.items m.instance.items f)) in
+    let p5 = end_text n.instance.items n.keyword.items u.valid in
+    let r = c.from_residual-in_err-put_error.result in
+    subst (λ l. Puts (o c.args.out.now) (o c.put_error.new.out) l r) (noted_pieces c.args.later x l m n f c.in_ok-put_children.ensures.back (stays_there m))
+    (then_puts (o c.args.out.now) (o c.put_beginning.new.out) (o c.put_error.new.out) p1 (p2 ++ (p3 ++ (p4 ++ (p5)))) r c.in_ok-put_beginning.ensures
+    (then_puts (o c.put_beginning.new.out) (o c.put_children.new.out) (o c.put_error.new.out) p2 (p3 ++ (p4 ++ (p5))) r (c.in_ok-put_children.ensures.text f (codes ",\"annotations\":") e refl)
+    (stops_in (o c.put_children.new.out) (o c.put_error.new.out) p3 (p4 ++ (p5)) r c.from_residual-in_err-put_error.ensures.0 c.in_err-put_error.ensures)))
+
+pub put_noted-returns-in_err-put_children-2-clause-text : goal.put_noted-returns-in_err-put_children-2-clause-text
+put_noted-returns-in_err-put_children-2-clause-text g t c =
+    λ f e.
+    let o = g.O.Out.progress in
+    let x = c.args.row.now in
+    let l = c.args.locations.now in
+    let u = unit_there x l in
+    let m = c.put_children.new.locations in
+    let n = c.put_children.new.locations in
+    let p1 = comma_if c.args.later ++ beginning_text u.absolute u.note in
+    let p2 = annotations u.valid (node_values (placed l.keyword.items l.instance.items f)) in
+    let p3 = error_part u.note in
+    let p4 = errors u.valid (node_values (placed m.keyword.items m.instance.items f)) in
+    let p5 = end_text n.instance.items n.keyword.items u.valid in
+    let r = c.from_residual-in_err-put_children-2.result in
+    subst (λ l. Puts (o c.args.out.now) (o c.put_children-2.new.out) l r) (noted_pieces c.args.later x l m n f c.in_ok-put_children.ensures.back (stays_there m))
+    (then_puts (o c.args.out.now) (o c.put_beginning.new.out) (o c.put_children-2.new.out) p1 (p2 ++ (p3 ++ (p4 ++ (p5)))) r c.in_ok-put_beginning.ensures
+    (then_puts (o c.put_beginning.new.out) (o c.put_children.new.out) (o c.put_children-2.new.out) p2 (p3 ++ (p4 ++ (p5))) r (c.in_ok-put_children.ensures.text f (codes ",\"annotations\":") e refl)
+    (then_puts (o c.put_children.new.out) (o c.put_error.new.out) (o c.put_children-2.new.out) p3 (p4 ++ (p5)) r c.in_ok-put_error.ensures
+    (stops_in (o c.put_error.new.out) (o c.put_children-2.new.out) p4 (p5) r c.from_residual-in_err-put_children-2.ensures.0 (c.in_err-put_children-2.ensures.text f (codes ",\"errors\":") e refl)))))
+
+pub put_noted-returns-clause-text : goal.put_noted-returns-clause-text
+put_noted-returns-clause-text g t c =
+    λ f e.
+    let o = g.O.Out.progress in
+    let x = c.args.row.now in
+    let l = c.args.locations.now in
+    let u = unit_there x l in
     let m = c.put_children.new.locations in
     let n = c.put_children-2.new.locations in
-    let below = ap (map relative_row) (rest_of rows) ∙ rows_below relative_row rows t' e in
     let p1 = comma_if c.args.later ++ beginning_text u.absolute u.note in
-    let p2 = annotations u.valid (node_values (placed l.keyword.items l.instance.items t'.below)) in
+    let p2 = annotations u.valid (node_values (placed l.keyword.items l.instance.items f)) in
     let p3 = error_part u.note in
-    let p4 = errors u.valid (node_values (placed m.keyword.items m.instance.items t'.below)) in
+    let p4 = errors u.valid (node_values (placed m.keyword.items m.instance.items f)) in
     let p5 = end_text n.instance.items n.keyword.items u.valid in
-    let r : Result (Unit {0}) (Unit {0}) = Ok tt in
-    subst (λ l. Puts a (o c.put_end.new.out) l r) (tree_pieces c.args.later k i x t' l m n (root_row relative_row rows t' x e c.index-rows-0.is) c.go_down.ensures.longer_keyword c.go_down.ensures.longer_instance c.in_ok-put_children.ensures.back c.in_ok-put_children-2.ensures.back)
-    (then_puts a (o c.put_beginning.new.out) (o c.put_end.new.out) p1 (p2 ++ (p3 ++ (p4 ++ (p5)))) r c.in_ok-put_beginning.ensures
-    (then_puts (o c.put_beginning.new.out) (o c.put_children.new.out) (o c.put_end.new.out) p2 (p3 ++ (p4 ++ (p5))) r (c.in_ok-put_children.ensures.text t'.below (codes ",\"annotations\":") below refl)
+    let r = c.put_end.result in
+    subst (λ l. Puts (o c.args.out.now) (o c.put_end.new.out) l r) (noted_pieces c.args.later x l m n f c.in_ok-put_children.ensures.back c.in_ok-put_children-2.ensures.back)
+    (then_puts (o c.args.out.now) (o c.put_beginning.new.out) (o c.put_end.new.out) p1 (p2 ++ (p3 ++ (p4 ++ (p5)))) r c.in_ok-put_beginning.ensures
+    (then_puts (o c.put_beginning.new.out) (o c.put_children.new.out) (o c.put_end.new.out) p2 (p3 ++ (p4 ++ (p5))) r (c.in_ok-put_children.ensures.text f (codes ",\"annotations\":") e refl)
     (then_puts (o c.put_children.new.out) (o c.put_error.new.out) (o c.put_end.new.out) p3 (p4 ++ (p5)) r c.in_ok-put_error.ensures
-    (then_puts (o c.put_error.new.out) (o c.put_children-2.new.out) (o c.put_end.new.out) p4 (p5) r (c.in_ok-put_children-2.ensures.text t'.below (codes ",\"errors\":") below refl)
-    c.in_ok-put_end.ensures))))
+    (then_puts (o c.put_error.new.out) (o c.put_children-2.new.out) (o c.put_end.new.out) p4 (p5) r (c.in_ok-put_children-2.ensures.text f (codes ",\"errors\":") e refl)
+    c.put_end.ensures))))
+
+pub put_silent-returns-in_err-put_opening-clause-text : goal.put_silent-returns-in_err-put_opening-clause-text
+put_silent-returns-in_err-put_opening-clause-text g t c =
+    λ f e.
+    let o = g.O.Out.progress in
+    let x = c.args.row.now in
+    let l = c.args.locations.now in
+    let u = unit_there x l in
+    let m = c.args.locations.now in
+    let p1 = opening_text c.args.later u.absolute in
+    let p2 = inside_text u.valid (node_values (placed l.keyword.items l.instance.items f)) in
+    let p3 = closing_text m.instance.items m.keyword.items u.valid in
+    let r = c.from_residual.result in
+    subst (λ l. Puts (o c.args.out.now) (o c.put_opening.new.out) l r) (silent_pieces c.args.later x l m f c.requires.silent (stays_there l))
+    (stops_in (o c.args.out.now) (o c.put_opening.new.out) p1 (p2 ++ (p3)) r c.from_residual.ensures.0 c.in_err-put_opening.ensures)
+
+pub put_silent-returns-in_err-put_inside-clause-text : goal.put_silent-returns-in_err-put_inside-clause-text
+put_silent-returns-in_err-put_inside-clause-text g t c =
+    λ f e.
+    let o = g.O.Out.progress in
+    let x = c.args.row.now in
+    let l = c.args.locations.now in
+    let u = unit_there x l in
+    let m = c.args.locations.now in
+    let p1 = opening_text c.args.later u.absolute in
+    let p2 = inside_text u.valid (node_values (placed l.keyword.items l.instance.items f)) in
+    let p3 = closing_text m.instance.items m.keyword.items u.valid in
+    let r = c.from_residual-in_err-put_inside.result in
+    subst (λ l. Puts (o c.args.out.now) (o c.put_inside.new.out) l r) (silent_pieces c.args.later x l m f c.requires.silent (stays_there l))
+    (then_puts (o c.args.out.now) (o c.put_opening.new.out) (o c.put_inside.new.out) p1 (p2 ++ (p3)) r c.in_ok-put_opening.ensures
+    (stops_in (o c.put_opening.new.out) (o c.put_inside.new.out) p2 (p3) r c.from_residual-in_err-put_inside.ensures.0 (c.in_err-put_inside.ensures.text f e)))
+
+pub put_silent-returns-clause-text : goal.put_silent-returns-clause-text
+put_silent-returns-clause-text g t c =
+    λ f e.
+    let o = g.O.Out.progress in
+    let x = c.args.row.now in
+    let l = c.args.locations.now in
+    let u = unit_there x l in
+    let m = c.put_inside.new.locations in
+    let p1 = opening_text c.args.later u.absolute in
+    let p2 = inside_text u.valid (node_values (placed l.keyword.items l.instance.items f)) in
+    let p3 = closing_text m.instance.items m.keyword.items u.valid in
+    let r = c.put_closing.result in
+    subst (λ l. Puts (o c.args.out.now) (o c.put_closing.new.out) l r) (silent_pieces c.args.later x l m f c.requires.silent c.in_ok-put_inside.ensures.back)
+    (then_puts (o c.args.out.now) (o c.put_opening.new.out) (o c.put_closing.new.out) p1 (p2 ++ (p3)) r c.in_ok-put_opening.ensures
+    (then_puts (o c.put_opening.new.out) (o c.put_inside.new.out) (o c.put_closing.new.out) p2 (p3) r (c.in_ok-put_inside.ensures.text f e)
+    c.put_closing.ensures))
 
 pub put_children-returns-then-is_empty-clause-text : goal.put_children-returns-then-is_empty-clause-text
 put_children-returns-then-is_empty-clause-text g t c =
@@ -207,33 +227,69 @@ put_children-returns-clause-text g t c =
     let rest = compact_items false (items (node_values (placed k i f))) in
     let r = c.put_trees.result in
     subst (λ l. Puts (o c.args.out.now) (o c.put_trees.new.out) l r) (sym (children_placed name c.args.start.now c.args.here k i f (some_tree relative_row rows 0 f e some) here start))
-    (then_puts (o c.args.out.now) (o c.put.new.self) (o c.put_trees.new.out) c.args.start.now rest r c.in_ok-put.ensures (c.put_trees.ensures.text f e))
+    (then_puts (o c.args.out.now) (o c.put.new.self) (o c.put_trees.new.out) c.args.start.now rest r c.in_ok-put.ensures (subst (λ l. Puts (o c.put.new.self) (o c.put_trees.new.out) l r) (append-nil rest) (c.put_trees.ensures.text f [] e refl)))
 
-pub put_trees-overflow_add-end : goal.put_trees-overflow_add-end
-put_trees-overflow_add-end g t c =
+pub put_inside-returns-then-is_empty-clause-text : goal.put_inside-returns-then-is_empty-clause-text
+put_inside-returns-then-is_empty-clause-text g t c =
+    λ f e.
+    let o = g.O.Out.progress in
+    let rows = c.args.rows.now in
+    let k = c.args.locations.now.keyword.items in
+    let i = c.args.locations.now.instance.items in
+    let none : length rows ≡ 0 = is_none (length rows) c.if-is_empty.ensures in
+    subst (λ l. Puts (o c.args.out.now) (o c.put.new.self) l c.put.result) (none_there c.args.valid k i rows f none e) c.put.ensures
+
+pub put_inside-returns-in_err-put_children_start-clause-text : goal.put_inside-returns-in_err-put_children_start-clause-text
+put_inside-returns-in_err-put_children_start-clause-text g t c =
+    λ f e.
+    let o = g.O.Out.progress in
+    let rows = c.args.rows.now in
+    let k = c.args.locations.now.keyword.items in
+    let i = c.args.locations.now.instance.items in
+    let some : 0 < length rows = not_none (length rows) c.if-is_empty.ensures in
+    let rest = compact_items false (items (node_values (placed k i f))) ++ codes ",\"instanceLocation\":\"" in
+    let r = c.from_residual.result in
+    subst (λ l. Puts (o c.args.out.now) (o c.put_children_start.new.out) l r) (some_there c.args.valid k i f (some_tree relative_row rows 0 f e some))
+    (stops_in (o c.args.out.now) (o c.put_children_start.new.out) (children_start c.args.valid) rest r c.from_residual.ensures.0 c.in_err-put_children_start.ensures)
+
+pub put_inside-returns-clause-text : goal.put_inside-returns-clause-text
+put_inside-returns-clause-text g t c =
+    λ f e.
+    let o = g.O.Out.progress in
+    let rows = c.args.rows.now in
+    let k = c.args.locations.now.keyword.items in
+    let i = c.args.locations.now.instance.items in
+    let some : 0 < length rows = not_none (length rows) c.if-is_empty.ensures in
+    let rest = compact_items false (items (node_values (placed k i f))) ++ codes ",\"instanceLocation\":\"" in
+    let r = c.put_trees.result in
+    subst (λ l. Puts (o c.args.out.now) (o c.put_trees.new.out) l r) (some_there c.args.valid k i f (some_tree relative_row rows 0 f e some))
+    (then_puts (o c.args.out.now) (o c.put_children_start.new.out) (o c.put_trees.new.out) (children_start c.args.valid) rest r c.in_ok-put_children_start.ensures (c.put_trees.ensures.text f (codes ",\"instanceLocation\":\"") e refl))
+
+pub put_trees-overflow_add-next : goal.put_trees-overflow_add-next
+put_trees-overflow_add-next g t c =
     let l = c.loop-next in
     let rows = c.args.rows.now in
-    let x = c.index-rows-next.result in
-    let w = l.invariant.2 c.requires.0 c.requires.1 in
-    let t = first_tree relative_row rows l.next w.0 x w.1 c.loop-next-test.true c.index-rows-next.is in
+    let x = c.index-rows-first.result in
+    let w = l.invariant.2 c.requires.0 [] c.requires.1 in
+    let t = first_tree relative_row rows l.next w.0 x w.1 c.loop-next-test.true c.index-rows-first.is in
     omega (arith, t.fits)
 
 pub put_trees-slice_bounds-put_tree-end : goal.put_trees-slice_bounds-put_tree-end
 put_trees-slice_bounds-put_tree-end g t c =
     let l = c.loop-next in
     let rows = c.args.rows.now in
-    let x = c.index-rows-next.result in
-    let w = l.invariant.2 c.requires.0 c.requires.1 in
-    let t = first_tree relative_row rows l.next w.0 x w.1 c.loop-next-test.true c.index-rows-next.is in
+    let x = c.index-rows-first.result in
+    let w = l.invariant.2 c.requires.0 [] c.requires.1 in
+    let t = first_tree relative_row rows l.next w.0 x w.1 c.loop-next-test.true c.index-rows-first.is in
     t.fits
 
 pub put_trees-put_tree-requires : goal.put_trees-put_tree-requires
 put_trees-put_tree-requires g t c κs within =
     let l = c.loop-next in
     let rows = c.args.rows.now in
-    let x = c.index-rows-next.result in
-    let w = l.invariant.2 c.requires.0 c.requires.1 in
-    let t = first_tree relative_row rows l.next w.0 x w.1 c.loop-next-test.true c.index-rows-next.is in
+    let x = c.index-rows-first.result in
+    let w = l.invariant.2 c.requires.0 [] c.requires.1 in
+    let t = first_tree relative_row rows l.next w.0 x w.1 c.loop-next-test.true c.index-rows-first.is in
     let one : ResultTree = record { root = t.unit; below = t.below } in
     let size : l.next + x.size - l.next ≡ x.size = omega arith in
     let all_is = ap (λ n. map relative_row (take n (drop l.next rows))) size ∙ (t.all ∙ sym (flat-flat_of one)) in
@@ -245,67 +301,68 @@ pub put_trees-loop-next-smaller : goal.put_trees-loop-next-smaller
 put_trees-loop-next-smaller g t c =
     let l = c.loop-next in
     let rows = c.args.rows.now in
-    let x = c.index-rows-next.result in
-    let w = l.invariant.2 c.requires.0 c.requires.1 in
-    let t = first_tree relative_row rows l.next w.0 x w.1 c.loop-next-test.true c.index-rows-next.is in
+    let x = c.index-rows-first.result in
+    let w = l.invariant.2 c.requires.0 [] c.requires.1 in
+    let t = first_tree relative_row rows l.next w.0 x w.1 c.loop-next-test.true c.index-rows-first.is in
     omega (arith, t.size, t.fits)
 
 pub put_trees-returns-in_err-put_tree-clause-text : goal.put_trees-returns-in_err-put_tree-clause-text
 put_trees-returns-in_err-put_tree-clause-text g t c =
-    λ f e.
+    λ f rest e end.
     let l = c.loop-next in
     let rows = c.args.rows.now in
-    let x = c.index-rows-next.result in
+    let x = c.index-rows-first.result in
     let o = g.O.Out.progress in
     let k = c.args.locations.now.keyword.items in
     let i = c.args.locations.now.instance.items in
-    let all = compact_items false (items (node_values (placed k i f))) in
-    let w = l.invariant.2 f e in
-    let t = first_tree relative_row rows l.next w.0 x w.1 c.loop-next-test.true c.index-rows-next.is in
+    let all = compact_items false (items (node_values (placed k i f))) ++ rest in
+    let w = l.invariant.2 f rest e in
+    let t = first_tree relative_row rows l.next w.0 x w.1 c.loop-next-test.true c.index-rows-first.is in
     let one : ResultTree = record { root = t.unit; below = t.below } in
     let size : l.next + x.size - l.next ≡ x.size = omega arith in
     let all_is = ap (λ n. map relative_row (take n (drop l.next rows))) size ∙ (t.all ∙ sym (flat-flat_of one)) in
     let text = comma_if l.later ++ compact (verbose (placed_tree k i one)) in
     let same = text_there l.later c.args.locations.now l.locations one l.invariant.1 in
-    let rest = compact_items true (items (node_values (placed k i t.after))) in
-    let next = tree_next (o c.args.out.now) (o l.out) l.later k i w.0 t.unit t.below t.after all w.2 t.is in
-    puts_err (o c.args.out.now) (o l.out) (o c.put_tree.new.out) text rest all c.from_residual.result c.from_residual.ensures.0 next (subst (Stops (o l.out) (o c.put_tree.new.out)) same (c.in_err-put_tree.ensures.text one all_is))
+    let left = compact_items true (items (node_values (placed k i t.after))) ++ rest in
+    let next = tree_next (o c.args.out.now) (o l.out) l.later k i rest w.0 t.unit t.below t.after all w.2 t.is in
+    puts_err (o c.args.out.now) (o l.out) (o c.put_tree.new.out) text left all c.from_residual.result c.from_residual.ensures.0 next (subst (Stops (o l.out) (o c.put_tree.new.out)) same (c.in_err-put_tree.ensures.text one all_is))
 
 pub put_trees-loop-next-preserved : goal.put_trees-loop-next-preserved
 put_trees-loop-next-preserved g t c =
     let l = c.loop-next in
     let rows = c.args.rows.now in
-    let x = c.index-rows-next.result in
-    let w = l.invariant.2 c.requires.0 c.requires.1 in
-    let t0 = first_tree relative_row rows l.next w.0 x w.1 c.loop-next-test.true c.index-rows-next.is in (
+    let x = c.index-rows-first.result in
+    let w = l.invariant.2 c.requires.0 [] c.requires.1 in
+    let t0 = first_tree relative_row rows l.next w.0 x w.1 c.loop-next-test.true c.index-rows-first.is in (
       omega (arith, t0.fits),
       back_again c.args.locations.now l.locations c.put_tree.new.locations l.invariant.1 c.in_ok-put_tree.ensures.back,
-      λ f e.
+      λ f rest e.
           let o = g.O.Out.progress in
           let k = c.args.locations.now.keyword.items in
           let i = c.args.locations.now.instance.items in
-          let all = compact_items false (items (node_values (placed k i f))) in
-          let w = l.invariant.2 f e in
-          let t = first_tree relative_row rows l.next w.0 x w.1 c.loop-next-test.true c.index-rows-next.is in
+          let all = compact_items false (items (node_values (placed k i f))) ++ rest in
+          let w = l.invariant.2 f rest e in
+          let t = first_tree relative_row rows l.next w.0 x w.1 c.loop-next-test.true c.index-rows-first.is in
           let one : ResultTree = record { root = t.unit; below = t.below } in
           let size : l.next + x.size - l.next ≡ x.size = omega arith in
           let all_is = ap (λ n. map relative_row (take n (drop l.next rows))) size ∙ (t.all ∙ sym (flat-flat_of one)) in
           let text = comma_if l.later ++ compact (verbose (placed_tree k i one)) in
           let same = text_there l.later c.args.locations.now l.locations one l.invariant.1 in
-          let rest = compact_items true (items (node_values (placed k i t.after))) in
-          let next = tree_next (o c.args.out.now) (o l.out) l.later k i w.0 t.unit t.below t.after all w.2 t.is in
-          (t.after, t.more, goes_on (o c.args.out.now) (o l.out) (o c.put_tree.new.out) text rest all next (subst (Goes (o l.out) (o c.put_tree.new.out)) same (c.in_ok-put_tree.ensures.text one all_is))),
+          let left = compact_items true (items (node_values (placed k i t.after))) ++ rest in
+          let next = tree_next (o c.args.out.now) (o l.out) l.later k i rest w.0 t.unit t.below t.after all w.2 t.is in
+          (t.after, t.more, goes_on (o c.args.out.now) (o l.out) (o c.put_tree.new.out) text left all next (subst (Goes (o l.out) (o c.put_tree.new.out)) same (c.in_ok-put_tree.ensures.text one all_is))),
     )
 
 pub put_trees-returns-clause-text : goal.put_trees-returns-clause-text
 put_trees-returns-clause-text g t c =
-    λ f e.
+    λ f rest e end.
     let o = g.O.Out.progress in
     let l = c.loop-next in
     let rows = c.args.rows.now in
     let k = c.args.locations.now.keyword.items in
     let i = c.args.locations.now.instance.items in
-    let all = compact_items false (items (node_values (placed k i f))) in
-    let w = l.invariant.2 f e in
+    let all = compact_items false (items (node_values (placed k i f))) ++ rest in
+    let w = l.invariant.2 f rest e in
     let none = all_gone relative_row rows l.next w.0 w.1 (omega (arith, c.loop-next-test.false)) in
-    puts_last (o c.args.out.now) (o l.out) (o c.put.new.self) (93 ∷ []) all c.put.result (same_left (o c.args.out.now) (o l.out) (compact_items l.later (items (node_values (placed k i w.0)))) (93 ∷ []) all w.2 (ap (λ f. compact_items l.later (items (node_values (placed k i f)))) none)) c.put.ensures
+    let last = same_left (o c.args.out.now) (o l.out) (compact_items l.later (items (node_values (placed k i w.0))) ++ rest) c.args.end.now all w.2 (ap (λ f. compact_items l.later (items (node_values (placed k i f))) ++ rest) none ∙ sym end) in
+    puts_last (o c.args.out.now) (o l.out) (o c.put.new.self) c.args.end.now all c.put.result last c.put.ensures

@@ -1,84 +1,47 @@
-use Rattle.std.proofs.Common.{[], ◌∷◌, ◌++◌, codes, subst}
-use Rattle.json.specs.Print.{escape}
-use Rattle.js_doc.specs.BytesOut.{Goes, Stops, Puts}
-use Rattle.js_doc.specs.Compact.{comma_if}
+use Rattle.std.proofs.Common.{[], ◌∷◌, ◌++◌, subst}
+use Rattle.js_doc.specs.BytesOut.{Puts}
 use Rattle.js_tree.specs.Seen.{note_of}
 use Rattle.js_tree.specs.code.NodeText.{annotation_part}
+use Rattle.js_tree.specs.code.RelativeText.{opening_text}
 use Rattle.js_tree.proofs.Pieces.{then_puts, stops_in}
 use Rattle.js_tree.proofs.QuotedParts.{beginning_in_parts}
 use Rattle.js_tree.proofs.relative_text.put_beginning.Goals as goal
 
-pub returns-in_err-put_start : goal.returns-in_err-put_start
-returns-in_err-put_start g c =
+pub returns-in_err-put_opening : goal.returns-in_err-put_opening
+returns-in_err-put_opening g c =
     let o = g.O.Out.progress in
     let row = c.args.row.now in
-    let p1 = comma_if c.args.later ++ codes "{\"absoluteKeywordLocation\":\"" in
-    let p2 = escape row.schema.now in
-    let p3 = escape row.absolute.now in
-    let p4 = 34 ∷ [] in
-    let p5 = annotation_part (note_of row.note) in
+    let absolute = row.schema.now ++ row.absolute.now in
+    let p1 = opening_text c.args.later absolute in
+    let p2 = 34 ∷ [] in
+    let p3 = annotation_part (note_of row.note) in
     let r = c.from_residual.result in
-    subst (λ l. Puts (o c.args.out.now) (o c.put_start.new.out) l r) (beginning_in_parts c.args.later row.schema.now row.absolute.now (note_of row.note))
-    (stops_in (o c.args.out.now) (o c.put_start.new.out) p1 (p2 ++ (p3 ++ (p4 ++ (p5)))) r c.from_residual.ensures.0 c.in_err-put_start.ensures)
-
-pub returns-in_err-put_escaped : goal.returns-in_err-put_escaped
-returns-in_err-put_escaped g c =
-    let o = g.O.Out.progress in
-    let row = c.args.row.now in
-    let p1 = comma_if c.args.later ++ codes "{\"absoluteKeywordLocation\":\"" in
-    let p2 = escape row.schema.now in
-    let p3 = escape row.absolute.now in
-    let p4 = 34 ∷ [] in
-    let p5 = annotation_part (note_of row.note) in
-    let r = c.from_residual-in_err-put_escaped.result in
-    subst (λ l. Puts (o c.args.out.now) (o c.put_escaped.new.out) l r) (beginning_in_parts c.args.later row.schema.now row.absolute.now (note_of row.note))
-    (then_puts (o c.args.out.now) (o c.put_start.new.out) (o c.put_escaped.new.out) p1 (p2 ++ (p3 ++ (p4 ++ (p5)))) r c.in_ok-put_start.ensures
-    (stops_in (o c.put_start.new.out) (o c.put_escaped.new.out) p2 (p3 ++ (p4 ++ (p5))) r c.from_residual-in_err-put_escaped.ensures.0 (subst (λ t. Stops (o c.put_start.new.out) (o c.put_escaped.new.out) (escape t)) c.as_bytes.ensures.value c.in_err-put_escaped.ensures)))
-
-pub returns-in_err-put_escaped-2 : goal.returns-in_err-put_escaped-2
-returns-in_err-put_escaped-2 g c =
-    let o = g.O.Out.progress in
-    let row = c.args.row.now in
-    let p1 = comma_if c.args.later ++ codes "{\"absoluteKeywordLocation\":\"" in
-    let p2 = escape row.schema.now in
-    let p3 = escape row.absolute.now in
-    let p4 = 34 ∷ [] in
-    let p5 = annotation_part (note_of row.note) in
-    let r = c.from_residual-in_err-put_escaped-2.result in
-    subst (λ l. Puts (o c.args.out.now) (o c.put_escaped-2.new.out) l r) (beginning_in_parts c.args.later row.schema.now row.absolute.now (note_of row.note))
-    (then_puts (o c.args.out.now) (o c.put_start.new.out) (o c.put_escaped-2.new.out) p1 (p2 ++ (p3 ++ (p4 ++ (p5)))) r c.in_ok-put_start.ensures
-    (then_puts (o c.put_start.new.out) (o c.put_escaped.new.out) (o c.put_escaped-2.new.out) p2 (p3 ++ (p4 ++ (p5))) r (subst (λ t. Goes (o c.put_start.new.out) (o c.put_escaped.new.out) (escape t)) c.as_bytes.ensures.value c.in_ok-put_escaped.ensures)
-    (stops_in (o c.put_escaped.new.out) (o c.put_escaped-2.new.out) p3 (p4 ++ (p5)) r c.from_residual-in_err-put_escaped-2.ensures.0 c.in_err-put_escaped-2.ensures)))
+    subst (λ l. Puts (o c.args.out.now) (o c.put_opening.new.out) l r) (beginning_in_parts c.args.later absolute (note_of row.note))
+    (stops_in (o c.args.out.now) (o c.put_opening.new.out) p1 (p2 ++ (p3)) r c.from_residual.ensures.0 c.in_err-put_opening.ensures)
 
 pub returns-in_err-put : goal.returns-in_err-put
 returns-in_err-put g c =
     let o = g.O.Out.progress in
     let row = c.args.row.now in
-    let p1 = comma_if c.args.later ++ codes "{\"absoluteKeywordLocation\":\"" in
-    let p2 = escape row.schema.now in
-    let p3 = escape row.absolute.now in
-    let p4 = 34 ∷ [] in
-    let p5 = annotation_part (note_of row.note) in
+    let absolute = row.schema.now ++ row.absolute.now in
+    let p1 = opening_text c.args.later absolute in
+    let p2 = 34 ∷ [] in
+    let p3 = annotation_part (note_of row.note) in
     let r = c.from_residual-in_err-put.result in
-    subst (λ l. Puts (o c.args.out.now) (o c.put.new.self) l r) (beginning_in_parts c.args.later row.schema.now row.absolute.now (note_of row.note))
-    (then_puts (o c.args.out.now) (o c.put_start.new.out) (o c.put.new.self) p1 (p2 ++ (p3 ++ (p4 ++ (p5)))) r c.in_ok-put_start.ensures
-    (then_puts (o c.put_start.new.out) (o c.put_escaped.new.out) (o c.put.new.self) p2 (p3 ++ (p4 ++ (p5))) r (subst (λ t. Goes (o c.put_start.new.out) (o c.put_escaped.new.out) (escape t)) c.as_bytes.ensures.value c.in_ok-put_escaped.ensures)
-    (then_puts (o c.put_escaped.new.out) (o c.put_escaped-2.new.out) (o c.put.new.self) p3 (p4 ++ (p5)) r c.in_ok-put_escaped-2.ensures
-    (stops_in (o c.put_escaped-2.new.out) (o c.put.new.self) p4 (p5) r c.from_residual-in_err-put.ensures.0 c.in_err-put.ensures))))
+    subst (λ l. Puts (o c.args.out.now) (o c.put.new.self) l r) (beginning_in_parts c.args.later absolute (note_of row.note))
+    (then_puts (o c.args.out.now) (o c.put_opening.new.out) (o c.put.new.self) p1 (p2 ++ (p3)) r c.in_ok-put_opening.ensures
+    (stops_in (o c.put_opening.new.out) (o c.put.new.self) p2 (p3) r c.from_residual-in_err-put.ensures.0 c.in_err-put.ensures))
 
 pub returns : goal.returns
 returns g c =
     let o = g.O.Out.progress in
     let row = c.args.row.now in
-    let p1 = comma_if c.args.later ++ codes "{\"absoluteKeywordLocation\":\"" in
-    let p2 = escape row.schema.now in
-    let p3 = escape row.absolute.now in
-    let p4 = 34 ∷ [] in
-    let p5 = annotation_part (note_of row.note) in
+    let absolute = row.schema.now ++ row.absolute.now in
+    let p1 = opening_text c.args.later absolute in
+    let p2 = 34 ∷ [] in
+    let p3 = annotation_part (note_of row.note) in
     let r = c.put_annotation.result in
-    subst (λ l. Puts (o c.args.out.now) (o c.put_annotation.new.out) l r) (beginning_in_parts c.args.later row.schema.now row.absolute.now (note_of row.note))
-    (then_puts (o c.args.out.now) (o c.put_start.new.out) (o c.put_annotation.new.out) p1 (p2 ++ (p3 ++ (p4 ++ (p5)))) r c.in_ok-put_start.ensures
-    (then_puts (o c.put_start.new.out) (o c.put_escaped.new.out) (o c.put_annotation.new.out) p2 (p3 ++ (p4 ++ (p5))) r (subst (λ t. Goes (o c.put_start.new.out) (o c.put_escaped.new.out) (escape t)) c.as_bytes.ensures.value c.in_ok-put_escaped.ensures)
-    (then_puts (o c.put_escaped.new.out) (o c.put_escaped-2.new.out) (o c.put_annotation.new.out) p3 (p4 ++ (p5)) r c.in_ok-put_escaped-2.ensures
-    (then_puts (o c.put_escaped-2.new.out) (o c.put.new.self) (o c.put_annotation.new.out) p4 (p5) r c.in_ok-put.ensures
-    c.put_annotation.ensures))))
+    subst (λ l. Puts (o c.args.out.now) (o c.put_annotation.new.out) l r) (beginning_in_parts c.args.later absolute (note_of row.note))
+    (then_puts (o c.args.out.now) (o c.put_opening.new.out) (o c.put_annotation.new.out) p1 (p2 ++ (p3)) r c.in_ok-put_opening.ensures
+    (then_puts (o c.put_opening.new.out) (o c.put.new.self) (o c.put_annotation.new.out) p2 (p3) r c.in_ok-put.ensures
+    c.put_annotation.ensures))
