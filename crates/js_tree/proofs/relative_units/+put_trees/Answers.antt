@@ -8,7 +8,8 @@ use Rattle.js_tree.proofs.FlatRows.{first_tree, root_row, rows_below, shorter}
 use Rattle.js_tree.proofs.ListedRows.{both_listed, list_ends, list_goes_on, list_passes, list_starts, list_stops, listed_err, stops_first, stops_rest, tree_listed}
 use Rattle.js_tree.proofs.ListedUnits.{its_verdict, other_verdict}
 use Rattle.js_tree.proofs.Marks.{flat-flat_of}
-use Rattle.js_tree.proofs.RoomLeft.{back_after, back_itself, fewer_below, room_back, room_below, room_part, some_row}
+use Rattle.js_tree.proofs.RelativeTexts.{back_again, room_for_part, stays_there}
+use Rattle.js_tree.proofs.RoomLeft.{fewer_below, room_below, some_row}
 use Rattle.js_tree.proofs.relative_units.+put_trees.Goals as goal
 
 pub put_tree-returns-in_err-later-clause-listed : goal.put_tree-returns-in_err-later-clause-listed
@@ -76,7 +77,7 @@ put_tree-returns-clause-listed g t c =
 pub put_trees-loop-next-init : goal.put_trees-loop-next-init
 put_trees-loop-next-init g t c = (
   omega arith,
-  back_itself c.args.locations.now,
+  stays_there c.args.locations.now,
   λ f e. list_starts (g.O.Out.progress c.args.out.now) c.args.verdict c.args.later c.args.locations.now.keyword.items c.args.locations.now.instance.items c.args.rows.now f e,
 )
 
@@ -132,7 +133,7 @@ put_trees-put_tree-requires g t c κs within =
     let one : ResultTree = record { root = t.unit; below = t.below } in
     let size : l.next + x.size - l.next ≡ x.size = omega arith in
     let all_is = ap (λ n. map relative_row (take n (drop l.next rows))) size ∙ (t.all ∙ sym (flat-flat_of one)) in
-    let room = room_part l.locations rows (l.next + x.size - l.next) l.next (room_back c.args.locations.now l.locations rows c.requires.2 l.invariant.1) in
+    let room = room_for_part c.args.locations.now l.locations rows l.next (l.next + x.size - l.next) c.requires.2 l.invariant.1 in
     (omega (arith, shorter (l.next + x.size - l.next) l.next rows, c.decreases), (within, (one, all_is, room)))
 
 pub put_trees-returns-in_err-later-clause-listed : goal.put_trees-returns-in_err-later-clause-listed
@@ -173,7 +174,7 @@ put_trees-loop-next-preserved g t c =
     let w0 = l.invariant.2 c.requires.0 c.requires.1 in
     let t0 = first_tree relative_row rows l.next w0.left x w0.left_is c.loop-next-test.true c.index-rows-first.is in (
       t0.fits,
-      back_after old l.locations c.put_tree.new.locations l.invariant.1 c.in_ok-later.ensures.back,
+      back_again old l.locations c.put_tree.new.locations l.invariant.1 c.in_ok-later.ensures.back,
       λ f e.
           let w = l.invariant.2 f e in
           let t = first_tree relative_row rows l.next w.left x w.left_is c.loop-next-test.true c.index-rows-first.is in
