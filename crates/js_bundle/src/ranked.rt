@@ -13,8 +13,8 @@ use js_doc::Doc;
 
 impl Schemas {
     /// The place to which a step leads through a keyword of the place, where it is known what the keyword holds there.
-    /// `which`: which keyword of the standard it is. `rank`: how many schemas the keyword holds before this one, which is the
-    /// index in a list, and counts the names before it in an object.
+    /// `which`: which keyword of the standard it is. `rank`: how many schemas the keyword holds before this one. In a
+    /// list this is the index, in an object the number of names before it.
     pub fn ranked_below(
         &self,
         place: Place,
@@ -31,7 +31,8 @@ impl Schemas {
         requires held { HoldsAtRank (value_of _schema.now) _keyword.now (step_of _step) rank (value_of _held.now) }
         ensures found { Finds self.now result
             (option_and_then (λ s. below self.now s _keyword.now (step_of _step.entry)) (place_at self.now place)) }
-        ensures schema { MatchOption result (Unit {0}) (λ n. option_map (λ s. s.schema) (place_at self.now n) ≡ Some (value_of _held.now)) }
+        ensures schema { MatchOption result (Unit {0})
+            (λ n. option_map (λ s. s.schema) (place_at self.now n) ≡ Some (value_of _held.now)) }
     {
         let edges = self.kept.edges.as_slice();
         with_rank(places_under(edges, place.number, which), rank)

@@ -37,7 +37,7 @@ pub fn push_string(out: &mut String, text: &str) -> Result<(), Memory>
     Ok(())
 }
 
-/// Puts the text with these bytes between quotation marks, with its escapes. It takes no memory.
+/// Writes the text with these bytes between quotation marks, with its escapes. It allocates nothing.
 ///
 /// # Errors
 /// `Stopped`; then a beginning has gone out.
@@ -49,8 +49,8 @@ pub fn put_quoted<O: Out>(bytes: &[u8], out: &mut O) -> Result<(), Stopped>
     out.put(b"\"")
 }
 
-/// Puts these bytes of a text with their escapes, and no quotation marks: what stands between these may be put in parts.
-/// It takes no memory.
+/// Writes these bytes of a text with their escapes, but without quotation marks: a string can be written in parts. It
+/// allocates nothing.
 ///
 /// # Errors
 /// `Stopped`; then a beginning has gone out.

@@ -1,4 +1,4 @@
-//! A collector, to which a walk over finished schemas reports.
+//! The reporter that passes the result of a walk to a collector.
 ghost use Rattle.std.specs.Prelude.{◌≡◌, IfOk};
 
 use crate::here::Here;
@@ -12,8 +12,8 @@ use js_tree::{Collector, Head};
 use std::alloc::Global;
 use std::marker::PhantomData;
 
-/// A collector to which each node goes with its three locations and its note. What these are made with stands in no frame
-/// of the recursion.
+/// Passes each node to a collector, with its three locations and its note. Its methods aren't inlined: that keeps
+/// what they allocate out of the recursive function's stack frame.
 pub(crate) struct Collecting<'a, C> {
     pub collector: C,
     pub notes: PhantomData<&'a Doc>,
@@ -84,7 +84,7 @@ impl<'a, C: Collector<'a>> Reporter<Here<'a>, HeldText> for Collecting<'a, C> {
     }
 }
 
-// What tells a node: its keyword location, its absolute location, and its instance location.
+// The three locations of a node (JSON Schema Core, sections 12.3.1 to 12.3.3).
 fn head(
     keyword: &Trail<HeldText>,
     absolute: Text,

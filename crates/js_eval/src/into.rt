@@ -1,4 +1,5 @@
-//! Walks over finished schemas: into a collector, into a tree, into rows, and for the verdict alone.
+//! The public walks: each evaluates a schema of finished schemas on a value, and returns the result as a tree, as
+//! rows, in a collector, or as the verdict alone.
 ghost use Rattle.std.specs.Prelude.{◌≡◌, true, IfOk, IfErr, MatchResult};
 ghost use Rattle.js_doc.specs.Seen.{value_of};
 ghost use Rattle.js_bundle.specs.Schemas.{is_place};
@@ -21,12 +22,12 @@ use js_tree::{Boxed, Collector, RelativeRows, Tree};
 use std::alloc::Global;
 use std::marker::PhantomData;
 
-/// Judges the value at the place, and hands the result to the collector, node by node, as it is made: 512 schemas may stand on a
-/// way, and the result may have 1,000,000 nodes.
+/// Evaluates the schema at the place on the value (JSON Schema Core, section 12.4.4), and passes the result to the
+/// collector node by node: each node as it opens, and again as it closes, after those below it.
 ///
 /// # Errors
-/// `Memory`; `TooLarge` exactly where no result stands within the limits. The collector comes back with the fault; nothing is
-/// promised of what it holds then.
+/// `Memory` if an allocation fails. `TooLarge` exactly if the result would have more than 1,000,000 nodes or need more
+/// than 512 nested schema applications. The collector is returned with the fault; what it holds then is unspecified.
 pub fn walk_into<'a, C: Collector<'a>>(
     alloc: Global,
     schemas: &'a Schemas,
@@ -66,10 +67,11 @@ pub fn walk_into<'a, C: Collector<'a>>(
     }
 }
 
-/// The result of judging the value at the place (JSON Schema Core, section 12.4.4).
+/// Evaluates the schema at the place on the value, and returns the result as a tree (JSON Schema Core, section 12.4.4).
 ///
 /// # Errors
-/// `Memory`; `TooLarge` exactly where no result stands within 512 schemas on a way and 1,000,000 nodes.
+/// `Memory` if an allocation fails. `TooLarge` exactly if the result would have more than 1,000,000 nodes or need more
+/// than 512 nested schema applications.
 pub fn walk<'a>(
     alloc: Global,
     schemas: &'a Schemas,
@@ -86,11 +88,12 @@ pub fn walk<'a>(
     }
 }
 
-/// The result of judging the value at the place (JSON Schema Core, section 12.4.4), as rows: a row keeps what its
-/// locations add to those of the node above, in the arena, and borrows the absolute location of its schema.
+/// Evaluates the schema at the place on the value, and returns the result as rows (JSON Schema Core, section 12.4.4).
+/// A row keeps, in the arena, only what its locations add to those of the node above, and borrows the absolute
+/// location of its schema.
 ///
 /// # Errors
-/// As `walk`.
+/// Those of [`walk`].
 pub fn walk_rows<'a>(
     alloc: Global,
     arena: &'a Bump,
@@ -114,10 +117,11 @@ pub fn walk_rows<'a>(
     }
 }
 
-/// Whether the value is valid at the place: the verdict of the same result, of which nothing else is made.
+/// Whether the value is valid against the schema at the place (JSON Schema Core, section 12.4.1). This is the verdict
+/// of the root of [`walk`]'s result, of which nothing else is kept.
 ///
 /// # Errors
-/// As `walk`.
+/// Those of [`walk`]: the whole schema is evaluated, so every format fails on the same values.
 pub fn verdict<'a>(
     alloc: Global,
     schemas: &'a Schemas,
@@ -134,7 +138,7 @@ pub fn verdict<'a>(
     }
 }
 
-// Judges the value at the place, and reports the result node by node.
+// Evaluates the schema at the place on the value, and reports the result node by node.
 fn walk_to<'a, H: PointerText + Drop, R: Reporter<Here<'a>, H>>(
     alloc: Global,
     schemas: &'a Schemas,

@@ -1,4 +1,4 @@
-//! The locations of a node, made from what each node on the way down to it adds.
+//! The locations of a node, put together from the parts that it and the nodes above it add.
 ghost use Rattle.std.specs.Prelude.{◌≡◌, ◌∷◌, [], IfOk};
 ghost use Rattle.js_doc.specs.BytesOut.{Puts};
 ghost use Rattle.js_tree.specs.Locations.{HasRoom, HasRoomFor, IsDown, IsUp, instances_added, keywords_added};
@@ -9,7 +9,8 @@ use crate::relative::{RelativeRow, RelativeRows};
 use js_doc::{Memory, Out, Stopped, put_escaped};
 use std::alloc::Global;
 
-/// The keyword location and the instance location of a node, while rows are gone through from the root on.
+/// The keyword location and the instance location of one node, while relative rows are written (JSON Schema Core,
+/// sections 12.3.1 and 12.3.3).
 #[derive(Drop)]
 pub struct Locations {
     pub(crate) keyword: Vec<u8>,
@@ -17,12 +18,11 @@ pub struct Locations {
 }
 
 impl Locations {
-    /// Those above the root, which are empty. All memory that the locations of the rows' nodes can need is taken here,
-    /// so that writing takes none: as much as the rows add, all together. The longest location may be far shorter, but
-    /// memory that no byte is written to costs nothing.
+    /// Empty locations, with memory reserved for those of each node of the rows, so that writing allocates nothing. The
+    /// parts of all rows together are an upper limit of their length. Reserved memory that is never used costs nothing.
     ///
     /// # Errors
-    /// `Memory`.
+    /// `Memory` if an allocation fails.
     pub fn new(alloc: Global, rows: &RelativeRows) -> Result<Locations, Memory>
         ensures { IfOk result (λ at. HasRoomFor at rows.now) }
     {
@@ -33,7 +33,7 @@ impl Locations {
         })
     }
 
-    /// From the node above to that of the row. Allocates nothing.
+    /// Goes from the node above to the node of the row. It allocates nothing.
     pub(crate) fn go_down(&mut self, row: &RelativeRow)
         requires { HasRoom self.old (row.now ∷ []) }
         ensures { IsDown self.old row.now self.new }
@@ -42,7 +42,7 @@ impl Locations {
         let _ = self.instance.extend_from_slice(row.instance);
     }
 
-    /// From the node of the row back to the one above.
+    /// Goes back from the node of the row to the node above.
     pub(crate) fn go_back(&mut self, row: &RelativeRow)
         ensures { IsUp self.old row.now self.new }
     {
@@ -52,17 +52,19 @@ impl Locations {
         self.instance.truncate(instance);
     }
 
-    /// Puts the last members of the node: its instance location, its keyword location and its verdict.
+    /// Writes the last members of the node: its instance location, its keyword location and its verdict.
     pub(crate) fn put_end<O: Out>(&self, valid: bool, out: &mut O) -> Result<(), Stopped>
-        ensures { Puts (O.progress out.old) (O.progress out.new) (end_text self.now.instance.items self.now.keyword.items valid) result }
+        ensures { Puts (O.progress out.old) (O.progress out.new)
+            (end_text self.now.instance.items self.now.keyword.items valid) result }
     {
         out.put(b",\"instanceLocation\":\"")?;
         self.put_closing(valid, out)
     }
 
-    /// Puts the same behind the opening quotation mark of the instance location.
+    /// Writes the same, from behind the opening quotation mark of the instance location.
     pub(crate) fn put_closing<O: Out>(&self, valid: bool, out: &mut O) -> Result<(), Stopped>
-        ensures { Puts (O.progress out.old) (O.progress out.new) (closing_text self.now.instance.items self.now.keyword.items valid) result }
+        ensures { Puts (O.progress out.old) (O.progress out.new)
+            (closing_text self.now.instance.items self.now.keyword.items valid) result }
     {
         put_escaped(self.instance.as_slice(), out)?;
         out.put(b"\",\"keywordLocation\":\"")?;
@@ -71,7 +73,7 @@ impl Locations {
     }
 }
 
-// How many bytes the rows add, all together, to the keyword locations and to the instance locations.
+// The number of bytes in all parts that the rows add, to keyword locations and to instance locations.
 fn added(rows: &[RelativeRow]) -> Result<(usize, usize), Memory>
     ensures { IfOk result (λ sums. (sums.0 ≡ keywords_added rows.now) × (sums.1 ≡ instances_added rows.now)) }
 {
@@ -84,7 +86,7 @@ fn added(rows: &[RelativeRow]) -> Result<(usize, usize), Memory>
     Ok((keyword, instance))
 }
 
-// Puts the closing quotation mark of the keyword location, and the last member.
+// Writes the closing quotation mark of the keyword location, and the last member.
 fn put_last<O: Out>(valid: bool, out: &mut O) -> Result<(), Stopped>
     ensures { Puts (O.progress out.old) (O.progress out.new) (34 ∷ valid_text valid) result }
 {

@@ -1,4 +1,4 @@
-//! A result as rows that have only what their locations add to those of the node above.
+//! A result as relative rows: of each location a row keeps only what it adds to that of the node above.
 ghost use Rattle.std.specs.Prelude.{◌≡◌, [], ◌++◌, IfOk, drop};
 ghost use Rattle.js_tree.specs.Events.{opening, closing};
 ghost use Rattle.js_tree.specs.RelativeState.{AreRowsOf, AreWhole, node_above, open_node, open_nodes, relative_after, relative_start, relative_state};
@@ -10,14 +10,14 @@ use bumpalo::Bump;
 use js_doc::Memory;
 use std::alloc::Global;
 
-/// A node of a tree in its flat form, as `RelativeRows` keeps it.
+/// A row of `RelativeRows`: a node, without what the rows above it say of its locations.
 #[derive(Drop)]
 pub struct RelativeRow<'a> {
     pub(crate) valid: bool,
-    // What its keyword location and its instance location add to those of the node above.
+    // The parts that its keyword location and its instance location add to those of the node above.
     pub(crate) keyword: &'a [u8],
     pub(crate) instance: &'a [u8],
-    // The absolute location of its schema, and what its own adds to that.
+    // The absolute location of its schema, and the part that its own adds to it.
     pub(crate) schema: &'a str,
     pub(crate) absolute: &'a [u8],
     pub(crate) note: Note<'a>,
@@ -25,7 +25,7 @@ pub struct RelativeRow<'a> {
     pub(crate) size: usize,
 }
 
-// A node that is open: the number of its row, and the lengths of its locations.
+// An open node: the number of its row, and the lengths of its whole locations.
 #[derive(Clone, Copy)]
 struct OpenNode {
     number: usize,
@@ -33,18 +33,18 @@ struct OpenNode {
     instance: usize,
 }
 
-/// Collects the flat form of a tree as `Flat` does. A location isn't kept whole, but only what it adds to that of the
-/// node above: so a node takes the memory of its row and of a few bytes in an arena, however deep it stands.
+/// Collects the nodes of a tree in preorder, as `Flat` does, but with relative rows. A node takes the memory of its row
+/// and a few bytes of the arena, however deep it is.
 #[derive(Drop)]
 pub struct RelativeRows<'a> {
     arena: &'a Bump,
     pub(crate) rows: Vec<RelativeRow<'a>>,
-    // The innermost is the last.
+    // The open nodes, the innermost last.
     nodes: Vec<OpenNode>,
 }
 
 impl<'a> RelativeRows<'a> {
-    /// Without a node. Allocates nothing.
+    /// No nodes yet. It allocates nothing.
     pub fn new(alloc: Global, arena: &'a Bump) -> RelativeRows<'a>
         ensures { relative_state result ≡ relative_start }
     {
@@ -58,7 +58,7 @@ impl<'a> RelativeRows<'a> {
     /// A node opens. `token` is what its absolute location adds to that of its schema (JSON Schema Core, section 12.3).
     ///
     /// # Errors
-    /// `Memory`.
+    /// `Memory` if an allocation fails.
     pub fn enter(
         &mut self,
         keyword: &str,
@@ -66,7 +66,8 @@ impl<'a> RelativeRows<'a> {
         token: &str,
         instance: &str,
     ) -> Result<(), Memory>
-        ensures { IfOk result (λ _. relative_state self.new ≡ relative_after (relative_state self.old) (opening keyword.now (schema.now ++ token.now) instance.now)) }
+        ensures { IfOk result (λ _. relative_state self.new ≡ relative_after (relative_state self.old)
+            (opening keyword.now (schema.now ++ token.now) instance.now)) }
     {
         // Without an open node there is either no row yet, or the root has closed.
         if !self.nodes.is_empty() || self.rows.is_empty() {
@@ -94,9 +95,10 @@ impl<'a> RelativeRows<'a> {
         Ok(())
     }
 
-    /// The last node that opened and hasn't closed closes. Allocates nothing.
+    /// The innermost open node closes, with its verdict and its note. It allocates nothing.
     pub fn leave(&mut self, valid: bool, note: Note<'a>)
-        ensures { relative_state self.new ≡ relative_after (relative_state self.old) (closing valid (note_of note.entry)) }
+        ensures { relative_state self.new ≡ relative_after (relative_state self.old) (closing valid
+            (note_of note.entry)) }
     {
         if let Some(node) = self.nodes.pop() {
             let number = node.number;
@@ -110,7 +112,7 @@ impl<'a> RelativeRows<'a> {
         }
     }
 
-    /// The root's verdict. The rows have to be a whole tree's.
+    /// The verdict of the root. The rows must be those of a whole tree.
     pub fn is_valid(&self) -> bool
         requires { AreWhole self.now }
         ensures { (t : ResultTree) → AreRowsOf self.now t → result ≡ t.root.valid }
@@ -121,7 +123,7 @@ impl<'a> RelativeRows<'a> {
     }
 }
 
-// The innermost open node. Above the root nothing is known.
+// The innermost open node. If none is open, both lengths are 0.
 fn innermost(nodes: &[OpenNode]) -> OpenNode
     ensures { open_node result ≡ node_above (open_nodes nodes.now []) }
 {
@@ -135,7 +137,7 @@ fn innermost(nodes: &[OpenNode]) -> OpenNode
     }
 }
 
-// What stands in the text behind so many bytes.
+// The text without its first `length` bytes.
 fn behind(text: &[u8], length: usize) -> &[u8]
     ensures { result.now ≡ drop length text.now }
 {

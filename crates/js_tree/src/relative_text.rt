@@ -1,4 +1,4 @@
-//! The text of a tree, from rows that have only what their locations add to those of the node above.
+//! The text of the verbose format, from relative rows.
 ghost use Rattle.std.specs.Prelude.{◌≡◌, ◌++◌, ◌∷◌, [], List, ℕ, codes, false, map, OnOk};
 ghost use Rattle.js_doc.specs.BytesOut.{Puts};
 ghost use Rattle.js_doc.specs.Compact.{comma_if, compact, compact_items};
@@ -21,11 +21,11 @@ use crate::node_text::{put_annotation, put_error};
 use crate::relative::{RelativeRow, RelativeRows};
 use js_doc::{Out, Stopped, put_escaped};
 
-/// Puts the compact text of the verbose format (Core, section 12.4.4) of the rows' tree, with each location whole. It
-/// takes no memory.
+/// Writes the rows' tree as compact text in the verbose format (JSON Schema Core, section 12.4.4), with whole
+/// locations. It allocates nothing.
 ///
 /// # Errors
-/// `Stopped`; then a beginning of the text has gone out.
+/// `Stopped` if the output stops; then a beginning of the text was written.
 pub fn put_verbose<O: Out>(
     rows: &RelativeRows,
     locations: Locations,
@@ -33,13 +33,14 @@ pub fn put_verbose<O: Out>(
 ) -> Result<(), Stopped>
     requires whole { AreWhole rows.now }
     requires room { HasRoomFor locations rows.now }
-    ensures { (t : ResultTree) → AreRowsOf rows.now t → Puts (O.progress out.old) (O.progress out.new) (compact (verbose t)) result }
+    ensures { (t : ResultTree) → AreRowsOf rows.now t
+        → Puts (O.progress out.old) (O.progress out.new) (compact (verbose t)) result }
 {
     let mut locations = locations;
     put_tree(false, rows.rows.as_slice(), &mut locations, out)
 }
 
-/// Puts the tree of the rows, below a node with these locations, after a comma where something stands before.
+/// Writes the tree of the rows, below a node with these locations; after a comma, if it isn't the first in its list.
 #[cycle(put_tree)]
 fn put_tree<O: Out>(
     later: bool,
@@ -48,7 +49,9 @@ fn put_tree<O: Out>(
     out: &mut O,
 ) -> Result<(), Stopped>
     requires { (r : ResultTree) × (map relative_row rows.now ≡ flat r) × HasRoom locations.old rows.now }
-    ensures text { (r : ResultTree) → map relative_row rows.now ≡ flat r → Puts (O.progress out.old) (O.progress out.new) (comma_if later ++ compact (verbose (placed_tree locations.old.keyword.items locations.old.instance.items r))) result }
+    ensures text { (r : ResultTree) → map relative_row rows.now ≡ flat r
+        → Puts (O.progress out.old) (O.progress out.new) (comma_if later ++ compact (verbose
+        (placed_tree locations.old.keyword.items locations.old.instance.items r))) result }
     ensures back { OnOk result (IsBack locations.old locations.new) }
 {
     let row = &rows[0];
@@ -58,7 +61,7 @@ fn put_tree<O: Out>(
     Ok(())
 }
 
-/// Puts the node with these locations, over the trees of the rows below it.
+/// Writes a node with these locations, and the trees below it.
 #[cycle(put_tree)]
 fn put_node<O: Out>(
     later: bool,
@@ -68,7 +71,10 @@ fn put_node<O: Out>(
     out: &mut O,
 ) -> Result<(), Stopped>
     requires { (f : Forest OutputUnit) × (map relative_row below.now ≡ flat_of f) × HasRoom locations.old below.now }
-    ensures text { (f : Forest OutputUnit) → map relative_row below.now ≡ flat_of f → Puts (O.progress out.old) (O.progress out.new) (comma_if later ++ compact (node_value (unit_there row.now locations.old) (node_values (placed locations.old.keyword.items locations.old.instance.items f)))) result }
+    ensures text { (f : Forest OutputUnit) → map relative_row below.now ≡ flat_of f
+        → Puts (O.progress out.old) (O.progress out.new) (comma_if later ++ compact (node_value
+        (unit_there row.now locations.old) (node_values
+        (placed locations.old.keyword.items locations.old.instance.items f)))) result }
     ensures back { OnOk result (IsBack locations.old locations.new) }
 {
     let note = &row.note;
@@ -78,7 +84,7 @@ fn put_node<O: Out>(
     put_silent(later, row, below, locations, out)
 }
 
-/// Puts a node with a note.
+/// Writes a node with a note.
 #[cycle(put_tree)]
 fn put_noted<O: Out>(
     later: bool,
@@ -88,7 +94,10 @@ fn put_noted<O: Out>(
     out: &mut O,
 ) -> Result<(), Stopped>
     requires { (f : Forest OutputUnit) × (map relative_row below.now ≡ flat_of f) × HasRoom locations.old below.now }
-    ensures text { (f : Forest OutputUnit) → map relative_row below.now ≡ flat_of f → Puts (O.progress out.old) (O.progress out.new) (comma_if later ++ compact (node_value (unit_there row.now locations.old) (node_values (placed locations.old.keyword.items locations.old.instance.items f)))) result }
+    ensures text { (f : Forest OutputUnit) → map relative_row below.now ≡ flat_of f
+        → Puts (O.progress out.old) (O.progress out.new) (comma_if later ++ compact (node_value
+        (unit_there row.now locations.old) (node_values
+        (placed locations.old.keyword.items locations.old.instance.items f)))) result }
     ensures back { OnOk result (IsBack locations.old locations.new) }
 {
     let valid = row.valid;
@@ -99,7 +108,7 @@ fn put_noted<O: Out>(
     locations.put_end(valid, out)
 }
 
-/// Puts the trees of the rows, if there are any and they belong here, after what stands before their list.
+/// Writes `start` and the trees of the rows, if there are any and `here` says that they belong here.
 #[cycle(put_tree)]
 fn put_children<O: Out>(
     here: bool,
@@ -109,7 +118,10 @@ fn put_children<O: Out>(
     out: &mut O,
 ) -> Result<(), Stopped>
     requires { (f : Forest OutputUnit) × (map relative_row rows.now ≡ flat_of f) × HasRoom locations.old rows.now }
-    ensures text { (f : Forest OutputUnit) (name : List ℕ) → map relative_row rows.now ≡ flat_of f → start.now ≡ name ++ 91 ∷ [] → Puts (O.progress out.old) (O.progress out.new) (given_text name (value_if here (array_of_some (node_values (placed locations.old.keyword.items locations.old.instance.items f))))) result }
+    ensures text { (f : Forest OutputUnit) (name : List ℕ) → map relative_row rows.now ≡ flat_of f
+        → start.now ≡ name ++ 91 ∷ []
+        → Puts (O.progress out.old) (O.progress out.new) (given_text name (value_if here (array_of_some (node_values
+        (placed locations.old.keyword.items locations.old.instance.items f))))) result }
     ensures back { OnOk result (IsBack locations.old locations.new) }
 {
     if !here {
@@ -122,8 +134,8 @@ fn put_children<O: Out>(
     put_trees(rows, b"]", locations, out)
 }
 
-/// Puts a node without a note. Most nodes have none, and each call of `put` costs time: so quotation marks and
-/// brackets go out with what stands beside them.
+/// Writes a node without a note. Most nodes have none, and each call of `put` costs time, so quotation marks and
+/// brackets are written together with the text beside them.
 #[cycle(put_tree)]
 fn put_silent<O: Out>(
     later: bool,
@@ -133,8 +145,12 @@ fn put_silent<O: Out>(
     out: &mut O,
 ) -> Result<(), Stopped>
     requires silent { note_of row.now.note ≡ silent }
-    requires trees { (f : Forest OutputUnit) × (map relative_row below.now ≡ flat_of f) × HasRoom locations.old below.now }
-    ensures text { (f : Forest OutputUnit) → map relative_row below.now ≡ flat_of f → Puts (O.progress out.old) (O.progress out.new) (comma_if later ++ compact (node_value (unit_there row.now locations.old) (node_values (placed locations.old.keyword.items locations.old.instance.items f)))) result }
+    requires trees { (f : Forest OutputUnit) × (map relative_row below.now ≡ flat_of f)
+        × HasRoom locations.old below.now }
+    ensures text { (f : Forest OutputUnit) → map relative_row below.now ≡ flat_of f
+        → Puts (O.progress out.old) (O.progress out.new) (comma_if later ++ compact (node_value
+        (unit_there row.now locations.old) (node_values
+        (placed locations.old.keyword.items locations.old.instance.items f)))) result }
     ensures back { OnOk result (IsBack locations.old locations.new) }
 {
     let valid = row.valid;
@@ -143,7 +159,7 @@ fn put_silent<O: Out>(
     locations.put_closing(valid, out)
 }
 
-/// Puts what stands between the absolute location and the instance location: the trees of the rows, if there are any.
+/// Writes what is between the absolute location and the instance location: the trees of the rows, if there are any.
 #[cycle(put_tree)]
 fn put_inside<O: Out>(
     valid: bool,
@@ -152,7 +168,9 @@ fn put_inside<O: Out>(
     out: &mut O,
 ) -> Result<(), Stopped>
     requires { (f : Forest OutputUnit) × (map relative_row rows.now ≡ flat_of f) × HasRoom locations.old rows.now }
-    ensures text { (f : Forest OutputUnit) → map relative_row rows.now ≡ flat_of f → Puts (O.progress out.old) (O.progress out.new) (inside_text valid (node_values (placed locations.old.keyword.items locations.old.instance.items f))) result }
+    ensures text { (f : Forest OutputUnit) → map relative_row rows.now ≡ flat_of f
+        → Puts (O.progress out.old) (O.progress out.new) (inside_text valid (node_values
+        (placed locations.old.keyword.items locations.old.instance.items f))) result }
     ensures back { OnOk result (IsBack locations.old locations.new) }
 {
     if rows.is_empty() {
@@ -162,7 +180,7 @@ fn put_inside<O: Out>(
     put_trees(rows, b"],\"instanceLocation\":\"", locations, out)
 }
 
-/// Puts the trees of the rows, with a comma between any two, and then the closing bracket with what stands behind it.
+/// Writes the trees of the rows, with commas between them, and then `end`, which begins with the closing bracket.
 #[cycle(put_tree)]
 fn put_trees<O: Out>(
     rows: &[RelativeRow],
@@ -171,7 +189,10 @@ fn put_trees<O: Out>(
     out: &mut O,
 ) -> Result<(), Stopped>
     requires { (f : Forest OutputUnit) × (map relative_row rows.now ≡ flat_of f) × HasRoom locations.old rows.now }
-    ensures text { (f : Forest OutputUnit) (rest : List ℕ) → map relative_row rows.now ≡ flat_of f → end.now ≡ 93 ∷ rest → Puts (O.progress out.old) (O.progress out.new) (compact_items false (items (node_values (placed locations.old.keyword.items locations.old.instance.items f))) ++ rest) result }
+    ensures text { (f : Forest OutputUnit) (rest : List ℕ) → map relative_row rows.now ≡ flat_of f
+        → end.now ≡ 93 ∷ rest
+        → Puts (O.progress out.old) (O.progress out.new) (compact_items false (items (node_values
+        (placed locations.old.keyword.items locations.old.instance.items f))) ++ rest) result }
     ensures back { OnOk result (IsBack locations.old locations.new) }
 {
     let mut later = false;
@@ -186,31 +207,34 @@ fn put_trees<O: Out>(
     out.put(end)
 }
 
-/// Puts the node's members before `annotations`, after a comma where something stands before.
+/// Writes the members before `annotations`; after a comma, if the node isn't the first in its list.
 pub(crate) fn put_beginning<O: Out>(
     later: bool,
     row: &RelativeRow,
     out: &mut O,
 ) -> Result<(), Stopped>
-    ensures { Puts (O.progress out.old) (O.progress out.new) (comma_if later ++ beginning_text (row.now.schema.now ++ row.now.absolute.now) (note_of row.now.note)) result }
+    ensures { Puts (O.progress out.old) (O.progress out.new) (comma_if later ++ beginning_text
+        (row.now.schema.now ++ row.now.absolute.now) (note_of row.now.note)) result }
 {
     put_opening(later, row, out)?;
     out.put(b"\"")?;
     put_annotation(&row.note, out)
 }
 
-/// Puts the absolute location and what stands before it, without its closing quotation mark.
+/// Writes the beginning of a node, up to the end of its absolute location, without the closing quotation mark.
 fn put_opening<O: Out>(later: bool, row: &RelativeRow, out: &mut O) -> Result<(), Stopped>
-    ensures { Puts (O.progress out.old) (O.progress out.new) (opening_text later (row.now.schema.now ++ row.now.absolute.now)) result }
+    ensures { Puts (O.progress out.old) (O.progress out.new) (opening_text later
+        (row.now.schema.now ++ row.now.absolute.now)) result }
 {
     put_start(later, out)?;
     put_escaped(row.schema.as_bytes(), out)?;
     put_escaped(row.absolute, out)
 }
 
-/// Puts what stands before the absolute location, after a comma where something stands before.
+/// Writes what is before the absolute location; after a comma, if the node isn't the first in its list.
 fn put_start<O: Out>(later: bool, out: &mut O) -> Result<(), Stopped>
-    ensures { Puts (O.progress out.old) (O.progress out.new) (comma_if later ++ codes "{\"absoluteKeywordLocation\":\"") result }
+    ensures { Puts (O.progress out.old) (O.progress out.new)
+        (comma_if later ++ codes "{\"absoluteKeywordLocation\":\"") result }
 {
     if later {
         out.put(b",{\"absoluteKeywordLocation\":\"")
@@ -219,7 +243,7 @@ fn put_start<O: Out>(later: bool, out: &mut O) -> Result<(), Stopped>
     }
 }
 
-/// Puts the closing quotation mark of the absolute location, and the beginning of the list of children.
+/// Writes the closing quotation mark of the absolute location, and the beginning of the list of children.
 fn put_children_start<O: Out>(valid: bool, out: &mut O) -> Result<(), Stopped>
     ensures { Puts (O.progress out.old) (O.progress out.new) (children_start valid) result }
 {

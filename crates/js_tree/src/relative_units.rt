@@ -1,4 +1,4 @@
-//! The units that basic lists, written from rows that have only what their locations add to those of the node above.
+//! The text of the basic format, from relative rows.
 ghost use Rattle.std.specs.Prelude.{◌≡◌, ◌++◌, OnOk, [], codes, map};
 ghost use Rattle.js_doc.specs.BytesOut.{Puts};
 ghost use Rattle.js_doc.specs.Compact.{comma_if, compact};
@@ -18,11 +18,12 @@ use crate::relative::{RelativeRow, RelativeRows};
 use crate::relative_text::put_beginning;
 use js_doc::{Out, Stopped};
 
-/// Puts the compact text of the basic format (Core, section 12.4.2) of the rows' tree. It prunes while it writes: a tree whose
-/// root has another verdict than the tree's is passed over. It takes no memory.
+/// Writes the rows' tree as compact text in the basic format (JSON Schema Core, section 12.4.2). It prunes while it
+/// writes: a subtree is passed over if the verdict of its root differs from that of the whole tree. It allocates
+/// nothing.
 ///
 /// # Errors
-/// `Stopped`; then a beginning of the text has gone out.
+/// `Stopped` if the output stops; then a beginning of the text was written.
 pub fn put_basic<O: Out>(
     rows: &RelativeRows,
     locations: Locations,
@@ -30,7 +31,8 @@ pub fn put_basic<O: Out>(
 ) -> Result<(), Stopped>
     requires whole { AreWhole rows.now }
     requires room { HasRoomFor locations rows.now }
-    ensures { (t : ResultTree) → AreRowsOf rows.now t → Puts (O.progress out.old) (O.progress out.new) (compact (unit_list (pruned t))) result }
+    ensures { (t : ResultTree) → AreRowsOf rows.now t
+        → Puts (O.progress out.old) (O.progress out.new) (compact (unit_list (pruned t))) result }
 {
     let mut locations = locations;
     let rows = rows.rows.as_slice();
@@ -41,8 +43,8 @@ pub fn put_basic<O: Out>(
     put_list_end(verdict, out)
 }
 
-/// Puts the units of the trees of the rows, below a node with these locations, with a comma before the first where something
-/// stands before. Answers whether something stands before what comes next.
+/// Writes the units of the trees of the rows, below a node with these locations. `later` says whether a unit was
+/// written before, which needs a comma; the same is returned for what comes next.
 #[cycle(put_trees)]
 fn put_trees<O: Out>(
     verdict: bool,
@@ -52,7 +54,9 @@ fn put_trees<O: Out>(
     out: &mut O,
 ) -> Result<bool, Stopped>
     requires { (f : Forest OutputUnit) × (map relative_row rows.now ≡ flat_of f) × HasRoom locations.old rows.now }
-    ensures listed { (f : Forest OutputUnit) → map relative_row rows.now ≡ flat_of f → AreListed (O.progress out.old) (O.progress out.new) later (listed verdict locations.old.keyword.items locations.old.instance.items f) result }
+    ensures listed { (f : Forest OutputUnit) → map relative_row rows.now ≡ flat_of f
+        → AreListed (O.progress out.old) (O.progress out.new) later
+        (listed verdict locations.old.keyword.items locations.old.instance.items f) result }
     ensures back { OnOk result (IsBack locations.old locations.new) }
 {
     let mut later = later;
@@ -69,7 +73,7 @@ fn put_trees<O: Out>(
     Ok(later)
 }
 
-/// Puts the units of the tree of the rows, whose root has the verdict.
+/// Writes the units of the tree of the rows. Its root has the verdict.
 #[cycle(put_trees)]
 fn put_tree<O: Out>(
     verdict: bool,
@@ -79,7 +83,9 @@ fn put_tree<O: Out>(
     out: &mut O,
 ) -> Result<bool, Stopped>
     requires { (r : ResultTree) × (map relative_row rows.now ≡ flat r) × HasRoom locations.old rows.now }
-    ensures listed { (r : ResultTree) → map relative_row rows.now ≡ flat r → AreListed (O.progress out.old) (O.progress out.new) later (listed_tree verdict locations.old.keyword.items locations.old.instance.items r.root r.below) result }
+    ensures listed { (r : ResultTree) → map relative_row rows.now ≡ flat r
+        → AreListed (O.progress out.old) (O.progress out.new) later
+        (listed_tree verdict locations.old.keyword.items locations.old.instance.items r.root r.below) result }
     ensures back { OnOk result (IsBack locations.old locations.new) }
 {
     let row = &rows[0];
@@ -90,14 +96,15 @@ fn put_tree<O: Out>(
     Ok(later)
 }
 
-/// Puts the unit, if it has a note.
+/// Writes the unit, if it has a note.
 fn put_noted<O: Out>(
     later: bool,
     row: &RelativeRow,
     locations: &Locations,
     out: &mut O,
 ) -> Result<bool, Stopped>
-    ensures { AreListed (O.progress out.old) (O.progress out.new) later (if_noted (unit_at locations.now row.now)) result }
+    ensures { AreListed (O.progress out.old) (O.progress out.new) later (if_noted
+        (unit_at locations.now row.now)) result }
 {
     if !row.note.is_some() {
         return Ok(later);
@@ -106,21 +113,22 @@ fn put_noted<O: Out>(
     Ok(true)
 }
 
-/// Puts the unit as a node without children, after a comma where something stands before.
+/// Writes the unit as a node without children; after a comma, if a unit was written before.
 fn put_unit<O: Out>(
     later: bool,
     row: &RelativeRow,
     locations: &Locations,
     out: &mut O,
 ) -> Result<(), Stopped>
-    ensures { Puts (O.progress out.old) (O.progress out.new) (comma_if later ++ compact (node_value (unit_at locations.now row.now) [])) result }
+    ensures { Puts (O.progress out.old) (O.progress out.new) (comma_if later ++ compact (node_value
+        (unit_at locations.now row.now) [])) result }
 {
     put_beginning(later, row, out)?;
     put_error(&row.note, out)?;
     locations.put_end(row.valid, out)
 }
 
-/// Puts what stands before the first unit.
+/// Writes what is before the first unit.
 fn put_list_start<O: Out>(valid: bool, out: &mut O) -> Result<(), Stopped>
     ensures { Puts (O.progress out.old) (O.progress out.new) (list_start valid ++ codes "[") result }
 {
@@ -131,7 +139,7 @@ fn put_list_start<O: Out>(valid: bool, out: &mut O) -> Result<(), Stopped>
     }
 }
 
-/// Puts what stands after the last unit.
+/// Writes what is after the last unit.
 fn put_list_end<O: Out>(valid: bool, out: &mut O) -> Result<(), Stopped>
     ensures { Puts (O.progress out.old) (O.progress out.new) (codes "]" ++ valid_text valid) result }
 {
