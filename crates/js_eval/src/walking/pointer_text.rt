@@ -4,7 +4,7 @@ ghost use Rattle.std.specs.String.Boundary.{IsSplitPoint};
 ghost use Rattle.js_doc.specs.Pointer.{escape};
 
 use crate::walking::unseen::Unseen;
-use js_doc::Memory;
+use js_doc::{Memory, push_token};
 use std::alloc::Global;
 use std::snapshot::Snapshot;
 
@@ -66,8 +66,7 @@ impl PointerText for HeldText {
 
     #[inline(never)]
     fn push_name(&mut self, token: &str) -> Result<(), Memory> {
-        self.text.push('/')?;
-        push_escaped(&mut self.text, token)
+        push_token(&mut self.text, token)
     }
 
     #[inline(never)]
@@ -83,19 +82,6 @@ impl PointerText for HeldText {
     fn cut(&mut self, mark: usize) {
         self.text.truncate(mark);
     }
-}
-
-fn push_escaped(out: &mut String, token: &str) -> Result<(), Memory>
-    ensures { OnOk result (string_bytes out.new ≡ string_bytes out.old ++ escape token.now) }
-{
-    for c in token.chars() {
-        match c {
-            '~' => out.push_str("~0")?,
-            '/' => out.push_str("~1")?,
-            _ => out.push(c)?,
-        }
-    }
-    Ok(())
 }
 
 /// A text that only contracts see, for a walk that needs no locations.
