@@ -1,5 +1,5 @@
 -- Rows whose locations have JSON escapes, and the trees without them.
-use Rattle.std.proofs.Common.{◌≡◌, ℕ, suc, ◌+◌, ◌≤◌, ◌<◌, List, [], ◌∷◌, ◌++◌, length, take, drop, map, get_or, refl, ap, sym, ◌∙◌}
+use Rattle.std.proofs.Common.{◌≡◌, ℕ, suc, ◌+◌, ◌≤◌, ◌<◌, List, [], ◌++◌, length, take, drop, get_or, refl, ap, sym, ◌∙◌}
 use Rattle.std.proofs.lemmas.Grind.{flat_map-append}
 use Rattle.json.specs.Print.{escape, escape_byte}
 use Rattle.js_tree.specs.Flat.{flat_of}
@@ -13,7 +13,7 @@ use Rattle.js_tree.specs.code.RelativeText.{AreRowsOfTree, AreRowsOfTrees, IsAbs
 use Rattle.js_tree.specs.declared.locations.Locations.{Locations}
 use Rattle.js_tree.specs.declared.relative.RelativeRow.{RelativeRow}
 use Rattle.js_tree.specs.declared.relative.RelativeRows.{RelativeRows}
-use Rattle.js_tree.proofs.FlatRows.{SomeTree, all_gone, first_tree, root_row, some_tree}
+use Rattle.js_tree.proofs.FlatRows.{SomeTree, all_gone, first_tree, some_tree}
 use Rattle.js_tree.proofs.Marks.{flat-flat_of}
 
 -- ---- the trees of rows

@@ -1,4 +1,5 @@
--- The locations of a node, with JSON escapes, while the rows of its tree are gone through from the root on (JSON Schema Core, section 12.3).
+-- The locations of a node, with JSON escapes, while the rows of its tree are gone through from the root on (JSON Schema
+-- Core, section 12.3).
 use Rattle.std.specs.Prelude.{◌≡◌, ℕ, ◌+◌, ◌≤◌, List, [], ◌++◌, length, vec_capacity}
 use Rattle.std.specs.List.{sum_by}
 use Rattle.json.specs.Print.{escape}

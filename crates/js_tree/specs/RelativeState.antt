@@ -64,7 +64,8 @@ relative_after s (closing valid note) = relative_closed s.rows s.nodes valid not
 -- ---- of the code
 
 abbrev pub relative_row : RelativeRow → FlatRow
-relative_row r = (record { valid = r.valid; keyword = r.keyword.now; absolute = escape r.schema.now ++ r.absolute.now; instance = r.instance.now; note = note_of r.note }, r.size)
+relative_row r =
+    (record { valid = r.valid; keyword = r.keyword.now; absolute = escape r.schema.now ++ r.absolute.now; instance = r.instance.now; note = note_of r.note }, r.size)
 
 abbrev pub open_node : DeclaredOpen → OpenNode
 open_node o = record { number = o.number; keyword = o.keyword; instance = o.instance }

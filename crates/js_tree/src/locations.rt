@@ -9,7 +9,8 @@ use crate::relative::{RelativeRow, RelativeRows};
 use js_doc::{Memory, Out, Stopped};
 use std::alloc::Global;
 
-/// The keyword location and the instance location of a node, with JSON escapes, while rows are gone through from the root on.
+/// The keyword location and the instance location of a node, with JSON escapes, while rows are gone through from the
+/// root on.
 #[derive(Drop)]
 pub struct Locations {
     pub(crate) keyword: Vec<u8>,
@@ -54,7 +55,8 @@ impl Locations {
 
     /// Puts the last members of the node: its instance location, its keyword location and its verdict.
     pub(crate) fn put_end<O: Out>(&self, valid: bool, out: &mut O) -> Result<(), Stopped>
-        ensures { (keyword instance : List ℕ) → AreAt self.now keyword instance → Puts (O.progress out.old) (O.progress out.new) (end_text instance keyword valid) result }
+        ensures { (keyword instance : List ℕ) → AreAt self.now keyword instance
+            → Puts (O.progress out.old) (O.progress out.new) (end_text instance keyword valid) result }
     {
         out.put(b",\"instanceLocation\":\"")?;
         self.put_closing(valid, out)
@@ -62,7 +64,8 @@ impl Locations {
 
     /// Puts the same behind the opening quotation mark of the instance location.
     pub(crate) fn put_closing<O: Out>(&self, valid: bool, out: &mut O) -> Result<(), Stopped>
-        ensures { (keyword instance : List ℕ) → AreAt self.now keyword instance → Puts (O.progress out.old) (O.progress out.new) (closing_text instance keyword valid) result }
+        ensures { (keyword instance : List ℕ) → AreAt self.now keyword instance
+            → Puts (O.progress out.old) (O.progress out.new) (closing_text instance keyword valid) result }
     {
         out.put(self.instance.as_slice())?;
         out.put(b"\",\"keywordLocation\":\"")?;

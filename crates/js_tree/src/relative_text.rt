@@ -32,7 +32,8 @@ pub fn put_verbose<O: Out>(
 ) -> Result<(), Stopped>
     requires whole { AreWhole rows.now }
     requires room { HasRoomFor locations rows.now }
-    ensures { (t : ResultTree) → AreRowsOf rows.now t → Puts (O.progress out.old) (O.progress out.new) (compact (verbose t)) result }
+    ensures { (t : ResultTree) → AreRowsOf rows.now t
+        → Puts (O.progress out.old) (O.progress out.new) (compact (verbose t)) result }
 {
     let mut locations = locations;
     put_tree(false, rows.rows.as_slice(), &mut locations, out)
@@ -47,7 +48,10 @@ fn put_tree<O: Out>(
     out: &mut O,
 ) -> Result<(), Stopped>
     requires { (r : ResultTree) × AreRowsOfTree rows.now r × HasRoom locations.old rows.now }
-    ensures text { (r : ResultTree) (keyword instance : List ℕ) → AreAt locations.old keyword instance → AreRowsOfTree rows.now r → Puts (O.progress out.old) (O.progress out.new) (comma_if later ++ compact (verbose (placed_tree keyword instance r))) result }
+    ensures text { (r : ResultTree) (keyword instance : List ℕ) → AreAt locations.old keyword instance
+        → AreRowsOfTree rows.now r
+        → Puts (O.progress out.old) (O.progress out.new)
+        (comma_if later ++ compact (verbose (placed_tree keyword instance r))) result }
     ensures back { OnOk result (IsBack locations.old locations.new) }
 {
     let row = &rows[0];
@@ -67,7 +71,11 @@ fn put_node<O: Out>(
     out: &mut O,
 ) -> Result<(), Stopped>
     requires { (f : Forest OutputUnit) × AreRowsOfTrees below.now f × HasRoom locations.old below.now }
-    ensures text { (f : Forest OutputUnit) (keyword absolute instance : List ℕ) → AreAt locations.old keyword instance → IsAbsolute row.now absolute → AreRowsOfTrees below.now f → Puts (O.progress out.old) (O.progress out.new) (comma_if later ++ compact (node_value (unit_there row.now keyword absolute instance) (node_values (placed keyword instance f)))) result }
+    ensures text { (f : Forest OutputUnit) (keyword absolute instance : List ℕ) → AreAt locations.old keyword instance
+        → IsAbsolute row.now absolute → AreRowsOfTrees below.now f
+        → Puts (O.progress out.old) (O.progress out.new)
+        (comma_if later ++ compact (node_value (unit_there row.now keyword absolute instance)
+        (node_values (placed keyword instance f)))) result }
     ensures back { OnOk result (IsBack locations.old locations.new) }
 {
     let note = &row.note;
@@ -87,7 +95,11 @@ fn put_noted<O: Out>(
     out: &mut O,
 ) -> Result<(), Stopped>
     requires { (f : Forest OutputUnit) × AreRowsOfTrees below.now f × HasRoom locations.old below.now }
-    ensures text { (f : Forest OutputUnit) (keyword absolute instance : List ℕ) → AreAt locations.old keyword instance → IsAbsolute row.now absolute → AreRowsOfTrees below.now f → Puts (O.progress out.old) (O.progress out.new) (comma_if later ++ compact (node_value (unit_there row.now keyword absolute instance) (node_values (placed keyword instance f)))) result }
+    ensures text { (f : Forest OutputUnit) (keyword absolute instance : List ℕ) → AreAt locations.old keyword instance
+        → IsAbsolute row.now absolute → AreRowsOfTrees below.now f
+        → Puts (O.progress out.old) (O.progress out.new)
+        (comma_if later ++ compact (node_value (unit_there row.now keyword absolute instance)
+        (node_values (placed keyword instance f)))) result }
     ensures back { OnOk result (IsBack locations.old locations.new) }
 {
     let valid = row.valid;
@@ -108,7 +120,10 @@ fn put_children<O: Out>(
     out: &mut O,
 ) -> Result<(), Stopped>
     requires { (f : Forest OutputUnit) × AreRowsOfTrees rows.now f × HasRoom locations.old rows.now }
-    ensures text { (f : Forest OutputUnit) (name keyword instance : List ℕ) → AreAt locations.old keyword instance → AreRowsOfTrees rows.now f → start.now ≡ name ++ 91 ∷ [] → Puts (O.progress out.old) (O.progress out.new) (given_text name (value_if here (array_of_some (node_values (placed keyword instance f))))) result }
+    ensures text { (f : Forest OutputUnit) (name keyword instance : List ℕ) → AreAt locations.old keyword instance
+        → AreRowsOfTrees rows.now f → start.now ≡ name ++ 91 ∷ []
+        → Puts (O.progress out.old) (O.progress out.new)
+        (given_text name (value_if here (array_of_some (node_values (placed keyword instance f))))) result }
     ensures back { OnOk result (IsBack locations.old locations.new) }
 {
     if !here {
@@ -133,7 +148,11 @@ fn put_silent<O: Out>(
 ) -> Result<(), Stopped>
     requires silent { note_of row.now.note ≡ silent }
     requires trees { (f : Forest OutputUnit) × AreRowsOfTrees below.now f × HasRoom locations.old below.now }
-    ensures text { (f : Forest OutputUnit) (keyword absolute instance : List ℕ) → AreAt locations.old keyword instance → IsAbsolute row.now absolute → AreRowsOfTrees below.now f → Puts (O.progress out.old) (O.progress out.new) (comma_if later ++ compact (node_value (unit_there row.now keyword absolute instance) (node_values (placed keyword instance f)))) result }
+    ensures text { (f : Forest OutputUnit) (keyword absolute instance : List ℕ) → AreAt locations.old keyword instance
+        → IsAbsolute row.now absolute → AreRowsOfTrees below.now f
+        → Puts (O.progress out.old) (O.progress out.new)
+        (comma_if later ++ compact (node_value (unit_there row.now keyword absolute instance)
+        (node_values (placed keyword instance f)))) result }
     ensures back { OnOk result (IsBack locations.old locations.new) }
 {
     let valid = row.valid;
@@ -151,7 +170,10 @@ fn put_inside<O: Out>(
     out: &mut O,
 ) -> Result<(), Stopped>
     requires { (f : Forest OutputUnit) × AreRowsOfTrees rows.now f × HasRoom locations.old rows.now }
-    ensures text { (f : Forest OutputUnit) (keyword instance : List ℕ) → AreAt locations.old keyword instance → AreRowsOfTrees rows.now f → Puts (O.progress out.old) (O.progress out.new) (inside_text valid (node_values (placed keyword instance f))) result }
+    ensures text { (f : Forest OutputUnit) (keyword instance : List ℕ) → AreAt locations.old keyword instance
+        → AreRowsOfTrees rows.now f
+        → Puts (O.progress out.old) (O.progress out.new)
+        (inside_text valid (node_values (placed keyword instance f))) result }
     ensures back { OnOk result (IsBack locations.old locations.new) }
 {
     if rows.is_empty() {
@@ -170,7 +192,10 @@ fn put_trees<O: Out>(
     out: &mut O,
 ) -> Result<(), Stopped>
     requires { (f : Forest OutputUnit) × AreRowsOfTrees rows.now f × HasRoom locations.old rows.now }
-    ensures text { (f : Forest OutputUnit) (rest keyword instance : List ℕ) → AreAt locations.old keyword instance → AreRowsOfTrees rows.now f → end.now ≡ 93 ∷ rest → Puts (O.progress out.old) (O.progress out.new) (compact_items false (items (node_values (placed keyword instance f))) ++ rest) result }
+    ensures text { (f : Forest OutputUnit) (rest keyword instance : List ℕ) → AreAt locations.old keyword instance
+        → AreRowsOfTrees rows.now f → end.now ≡ 93 ∷ rest
+        → Puts (O.progress out.old) (O.progress out.new)
+        (compact_items false (items (node_values (placed keyword instance f))) ++ rest) result }
     ensures back { OnOk result (IsBack locations.old locations.new) }
 {
     let mut later = false;
@@ -191,7 +216,9 @@ pub(crate) fn put_beginning<O: Out>(
     row: &RelativeRow,
     out: &mut O,
 ) -> Result<(), Stopped>
-    ensures { (absolute : List ℕ) → IsAbsolute row.now absolute → Puts (O.progress out.old) (O.progress out.new) (comma_if later ++ beginning_text absolute (note_of row.now.note)) result }
+    ensures { (absolute : List ℕ) → IsAbsolute row.now absolute
+        → Puts (O.progress out.old) (O.progress out.new)
+        (comma_if later ++ beginning_text absolute (note_of row.now.note)) result }
 {
     put_opening(later, row, out)?;
     out.put(b"\"")?;
@@ -200,7 +227,8 @@ pub(crate) fn put_beginning<O: Out>(
 
 /// Puts the absolute location and what stands before it, without its closing quotation mark.
 fn put_opening<O: Out>(later: bool, row: &RelativeRow, out: &mut O) -> Result<(), Stopped>
-    ensures { (absolute : List ℕ) → IsAbsolute row.now absolute → Puts (O.progress out.old) (O.progress out.new) (opening_text later absolute) result }
+    ensures { (absolute : List ℕ) → IsAbsolute row.now absolute
+        → Puts (O.progress out.old) (O.progress out.new) (opening_text later absolute) result }
 {
     put_start(later, out)?;
     put_escaped(row.schema.as_bytes(), out)?;
@@ -209,7 +237,8 @@ fn put_opening<O: Out>(later: bool, row: &RelativeRow, out: &mut O) -> Result<()
 
 /// Puts what stands before the absolute location, after a comma where something stands before.
 fn put_start<O: Out>(later: bool, out: &mut O) -> Result<(), Stopped>
-    ensures { Puts (O.progress out.old) (O.progress out.new) (comma_if later ++ codes "{\"absoluteKeywordLocation\":\"") result }
+    ensures { Puts (O.progress out.old) (O.progress out.new)
+        (comma_if later ++ codes "{\"absoluteKeywordLocation\":\"") result }
 {
     if later {
         out.put(b",{\"absoluteKeywordLocation\":\"")

@@ -1,5 +1,5 @@
 use Rattle.std.proofs.Common.{◌≡◌, ◌+◌, ◌-◌, ◌<◌, ◌≤◌, ◌++◌, [], codes, length, drop, take, map, true, false, sym, ap, subst, ◌∙◌, refl, append-nil, arith}
-use Rattle.js_doc.specs.BytesOut.{Goes, Puts, Stops}
+use Rattle.js_doc.specs.BytesOut.{Goes, Puts}
 use Rattle.js_doc.specs.Compact.{comma_if, compact, compact_items}
 use Rattle.js_doc.specs.Value.{items}
 use Rattle.js_doc.proofs.BytesGone.{goes_on, puts_err, puts_last, same_left, starts}

@@ -1,4 +1,4 @@
-use Rattle.std.proofs.Common.{ℕ, List, ◌++◌, ◌≡◌, ◌≤◌, ◌+◌, ◌-◌, ◌*◌, false, drop, length}
+use Rattle.std.proofs.Common.{ℕ, List, ◌++◌, ◌≤◌, ◌+◌, ◌-◌, ◌*◌, false, drop, length}
 use Rattle.js_doc.specs.Compact.{compact_items}
 use Rattle.js_doc.specs.Value.{items}
 use Rattle.js_doc.proofs.BytesGone.{Wrote}
