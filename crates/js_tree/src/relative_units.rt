@@ -18,8 +18,8 @@ use crate::relative::{RelativeRow, RelativeRows};
 use crate::relative_text::put_beginning;
 use js_doc::{Out, Stopped};
 
-/// Puts the compact text of the basic format (Core, section 12.4.2) of the rows' tree. It prunes while it writes: a tree
-/// whose root has another verdict than the tree's is passed over. It takes no memory.
+/// Puts the compact text of the basic format (Core, section 12.4.2) of the rows' tree. It prunes while it writes: a
+/// tree whose root has another verdict than the tree's is passed over. It takes no memory.
 ///
 /// # Errors
 /// `Stopped`; then a beginning of the text has gone out.
