@@ -1,0 +1,167 @@
+//! The text of the condensed tree, from rows that have only what their locations add to those of the node above.
+ghost use Rattle.std.specs.Prelude.{◌≡◌, ◌++◌, Bool, OnOk, true};
+ghost use Rattle.js_doc.specs.BytesOut.{Puts};
+ghost use Rattle.js_doc.specs.Compact.{comma_if, compact};
+ghost use Rattle.js_tree.specs.Forest.{Forest, empty, tree};
+ghost use Rattle.js_tree.specs.Form.{verbose};
+ghost use Rattle.js_tree.specs.Locations.{HasRoom, HasRoomFor, IsBack};
+ghost use Rattle.js_tree.specs.Marks.{AreMarksOf};
+ghost use Rattle.js_tree.specs.OutputUnit.{OutputUnit};
+ghost use Rattle.js_tree.specs.RelativeState.{AreRowsOf, AreWhole};
+ghost use Rattle.js_tree.specs.Result.{ResultTree, has_verdict, kept, pruned};
+ghost use Rattle.js_tree.specs.code.Listing.{AreListed, AreMarkedRows, children_text, detailed, detailed_node};
+
+use crate::locations::Locations;
+use crate::node_text::put_error;
+use crate::relative::{RelativeRow, RelativeRows};
+use crate::relative_marks::{Mark, RelativeMarks};
+use crate::relative_text::put_beginning;
+use js_doc::{Out, Stopped};
+
+/// Puts the compact text of the detailed format (Core, section 12.4.3) of the rows' tree, with each location whole. It takes no
+/// memory.
+///
+/// # Errors
+/// `Stopped`; then a beginning of the text has gone out.
+pub fn put_detailed<O: Out>(
+    rows: &RelativeRows,
+    marks: &RelativeMarks,
+    locations: Locations,
+    out: &mut O,
+) -> Result<(), Stopped>
+    requires whole { AreWhole rows.now }
+    requires room { HasRoomFor locations rows.now }
+    requires marks { AreMarksOf marks.now rows.now }
+    ensures { (t : ResultTree) → AreRowsOf rows.now t → Puts (O.progress out.old) (O.progress out.new) (compact (verbose (kept (pruned t)))) result }
+{
+    let mut locations = locations;
+    let rows = rows.rows.as_slice();
+    let marks = marks.marks.as_slice();
+    put_node(false, rows, marks, &mut locations, out)
+}
+
+/// Puts the node of the first row over what is left below it, after a comma where something stands before.
+#[cycle(put_node)]
+fn put_node<O: Out>(
+    later: bool,
+    rows: &[RelativeRow],
+    marks: &[Mark],
+    locations: &mut Locations,
+    out: &mut O,
+) -> Result<(), Stopped>
+    requires { (v : Bool) × (u : OutputUnit) × (below : Forest OutputUnit) × AreMarkedRows rows.now marks.now v (tree u below empty) × HasRoom locations.old rows.now }
+    ensures text { (v : Bool) (u : OutputUnit) (below : Forest OutputUnit) → AreMarkedRows rows.now marks.now v (tree u below empty) → has_verdict v u ≡ true
+        → Puts (O.progress out.old) (O.progress out.new) (comma_if later ++ compact (detailed_node v locations.old.keyword.items locations.old.instance.items u below)) result }
+    ensures back { OnOk result (IsBack locations.old locations.new) }
+{
+    let row = &rows[0];
+    let mark = &marks[0];
+    let some = mark.below;
+    let valid = row.valid;
+    locations.go_down(row);
+    put_beginning(later, row, out)?;
+    put_children(valid, some, b",\"annotations\":[", &rows[1..], &marks[1..], locations, out)?;
+    put_error(&row.note, out)?;
+    put_children(!valid, some, b",\"errors\":[", &rows[1..], &marks[1..], locations, out)?;
+    locations.put_end(valid, out)?;
+    locations.go_back(row);
+    Ok(())
+}
+
+/// Puts what is left of the trees, if it belongs here and there is some, after what stands before its array.
+#[cycle(put_node)]
+fn put_children<O: Out>(
+    here: bool,
+    some: bool,
+    start: &[u8],
+    rows: &[RelativeRow],
+    marks: &[Mark],
+    locations: &mut Locations,
+    out: &mut O,
+) -> Result<(), Stopped>
+    requires { (v : Bool) × (f : Forest OutputUnit) × AreMarkedRows rows.now marks.now v f × HasRoom locations.old rows.now }
+    ensures text { (v : Bool) (f : Forest OutputUnit) → AreMarkedRows rows.now marks.now v f → Puts (O.progress out.old) (O.progress out.new) (children_text start.now here some (detailed v locations.old.keyword.items locations.old.instance.items f)) result }
+    ensures back { OnOk result (IsBack locations.old locations.new) }
+{
+    if !here {
+        return Ok(());
+    }
+    if !some {
+        return Ok(());
+    }
+    out.put(start)?;
+    put_trees(false, rows, marks, locations, out)?;
+    out.put(b"]")
+}
+
+/// Puts what is left of the trees of the rows, with a comma before the first node where something stands before. Answers
+/// whether something stands before what comes next.
+#[cycle(put_node)]
+fn put_trees<O: Out>(
+    later: bool,
+    rows: &[RelativeRow],
+    marks: &[Mark],
+    locations: &mut Locations,
+    out: &mut O,
+) -> Result<bool, Stopped>
+    requires { (v : Bool) × (f : Forest OutputUnit) × AreMarkedRows rows.now marks.now v f × HasRoom locations.old rows.now }
+    ensures listed { (v : Bool) (f : Forest OutputUnit) → AreMarkedRows rows.now marks.now v f → AreListed (O.progress out.old) (O.progress out.new) later (detailed v locations.old.keyword.items locations.old.instance.items f) result }
+    ensures back { OnOk result (IsBack locations.old locations.new) }
+{
+    let mut later = later;
+    let mut next = 0;
+    while next < rows.len() {
+        let first = next;
+        let row = &rows[first];
+        next = first + row.size;
+        later = put_tree(later, &rows[first..next], &marks[first..next], locations, out)?;
+    }
+    Ok(later)
+}
+
+/// Puts what is left of the tree of the rows.
+#[cycle(put_node)]
+fn put_tree<O: Out>(
+    later: bool,
+    rows: &[RelativeRow],
+    marks: &[Mark],
+    locations: &mut Locations,
+    out: &mut O,
+) -> Result<bool, Stopped>
+    requires { (v : Bool) × (u : OutputUnit) × (below : Forest OutputUnit) × AreMarkedRows rows.now marks.now v (tree u below empty) × HasRoom locations.old rows.now }
+    ensures listed { (v : Bool) (u : OutputUnit) (below : Forest OutputUnit) → AreMarkedRows rows.now marks.now v (tree u below empty) → AreListed (O.progress out.old) (O.progress out.new) later (detailed v locations.old.keyword.items locations.old.instance.items (tree u below empty)) result }
+    ensures back { OnOk result (IsBack locations.old locations.new) }
+{
+    let mark = &marks[0];
+    let stays = mark.stays;
+    let some = mark.below;
+    if stays {
+        put_node(later, rows, marks, locations, out)?;
+        return Ok(true);
+    }
+    if some {
+        return put_below(later, rows, marks, locations, out);
+    }
+    Ok(later)
+}
+
+/// Puts what is left below the node of the first row.
+#[cycle(put_node)]
+fn put_below<O: Out>(
+    later: bool,
+    rows: &[RelativeRow],
+    marks: &[Mark],
+    locations: &mut Locations,
+    out: &mut O,
+) -> Result<bool, Stopped>
+    requires { (v : Bool) × (u : OutputUnit) × (below : Forest OutputUnit) × AreMarkedRows rows.now marks.now v (tree u below empty) × HasRoom locations.old rows.now }
+    ensures listed { (v : Bool) (u : OutputUnit) (below : Forest OutputUnit) → AreMarkedRows rows.now marks.now v (tree u below empty)
+        → AreListed (O.progress out.old) (O.progress out.new) later (detailed v (locations.old.keyword.items ++ u.keyword) (locations.old.instance.items ++ u.instance) below) result }
+    ensures back { OnOk result (IsBack locations.old locations.new) }
+{
+    let row = &rows[0];
+    locations.go_down(row);
+    let later = put_trees(later, &rows[1..], &marks[1..], locations, out)?;
+    locations.go_back(row);
+    Ok(later)
+}
