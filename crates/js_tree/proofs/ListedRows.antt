@@ -10,7 +10,7 @@ use Rattle.js_tree.specs.Forest.{Forest, empty}
 use Rattle.js_tree.specs.Form.{node_value, unit_list}
 use Rattle.js_tree.specs.Locations.{HasRoomFor, IsBack, IsDown}
 use Rattle.js_tree.specs.Marks.{whole_of}
-use Rattle.js_tree.specs.OutputUnit.{OutputUnit}
+use Rattle.js_tree.specs.OutputUnit.{OutputUnit, noted}
 use Rattle.js_tree.specs.Relative.{placed_unit, relative_tree}
 use Rattle.js_tree.specs.RelativeState.{AreRowsOf, relative_row}
 use Rattle.js_tree.specs.Result.{ResultTree, has_verdict, pruned, units}
@@ -71,6 +71,10 @@ pub one_stops : (a b : Progress) (later : Bool) (x : Value) → Stops a b (comma
 one_stops a b later x s = subst (Stops a b) (one_text later x) s
 
 -- ---- a unit
+
+pub its_note : (u : OutputUnit) (some : Bool) → some ≡ noted u → some ≡ true → if_noted u ≡ node_value u [] ∷ []
+its_note u true e h = let s = sym e in rw s refl
+its_note u false e h = absurd cc
 
 pub unit_in_parts : (later : Bool) (u : OutputUnit) → (comma_if later ++ head_text u) ++ (error_part u.note ++ tail_text u) ≡ comma_if later ++ compact (node_value u [])
 unit_in_parts later u =

@@ -89,8 +89,9 @@ mark_set old p m more new n n_is new_is = ap (λ ms. slice_set ms n m) new_is �
 
 pub one_tree : (v : Bool) (u : OutputUnit) (below : Forest OutputUnit) (m : Mark) (n : ℕ) → m ≡ mark_of v u (left_trees v below) → n ≡ (if (m.stays || m.below) then 1 else 0) → n ≡ left_trees v (tree u below empty)
 one_tree v u below m n e k =
-    let count = λ (a : Mark). if (a.stays || a.below) then 1 else 0 in
-    omega (arith, k, ap count e, first_left v u below empty)
+    let count : Mark → ℕ = λ a. if (a.stays || a.below) then 1 else 0 in
+    let same : count m ≡ count (mark_of v u (left_trees v below)) = ap count e in
+    omega (arith, k, same, first_left v u below empty)
 
 -- ---- marks that are read tree by tree
 

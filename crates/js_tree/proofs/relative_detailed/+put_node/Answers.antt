@@ -305,8 +305,8 @@ put_trees-slice_bounds-put_tree-end g t' c =
     let t = first_tree relative_row rows l.next w.0.left x w.0.left_is c.loop-next-test.true c.index-rows-first.is in
     t.fits
 
-pub put_trees-slice_bounds-put_tree-end-2 : goal.put_trees-slice_bounds-put_tree-end-2
-put_trees-slice_bounds-put_tree-end-2 g t' c =
+pub put_trees-slice_bounds-put_tree-end-in-loop-next : goal.put_trees-slice_bounds-put_tree-end-in-loop-next
+put_trees-slice_bounds-put_tree-end-in-loop-next g t' c =
     let l = c.loop-next in
     let rows = c.args.rows.now in
     let marks = c.args.marks.now in
