@@ -107,7 +107,7 @@ pub record LeftToList (old : Progress) (new : Progress) (later : Bool) (now : Bo
   pub all : done ++ shown left ≡ shown f
   pub gone : AllListed old new later done now
 
-pub list_starts : (a : Progress) (later : Bool) (shown : Forest OutputUnit → List Value) (rows : List RelativeRow) (f : Forest OutputUnit) → map relative_row rows ≡ flat_of f → LeftToList a a later later shown rows 0 f
+abbrev pub list_starts : (a : Progress) (later : Bool) (shown : Forest OutputUnit → List Value) (rows : List RelativeRow) (f : Forest OutputUnit) → map relative_row rows ≡ flat_of f → LeftToList a a later later shown rows 0 f
 list_starts a later shown rows f e = record { done = []; left = f; left_is = e; all = refl; gone = none_listed a later }
 
 pub list_passes : (a b : Progress) (later now : Bool) (shown : Forest OutputUnit → List Value) (rows : List RelativeRow) (next : ℕ) (f : Forest OutputUnit) (x : RelativeRow)
@@ -116,7 +116,7 @@ pub list_passes : (a b : Progress) (later now : Bool) (shown : Forest OutputUnit
 list_passes a b later now shown rows next f x l t e =
     record { done = l.done; left = t.after; left_is = t.more; all = ap (λ us. l.done ++ us) (sym e) ∙ l.all; gone = l.gone }
 
-pub list_goes_on : (a b c : Progress) (later now then : Bool) (shown : Forest OutputUnit → List Value) (rows : List RelativeRow) (next : ℕ) (f : Forest OutputUnit) (x : RelativeRow) (these : List Value)
+abbrev pub list_goes_on : (a b c : Progress) (later now then : Bool) (shown : Forest OutputUnit → List Value) (rows : List RelativeRow) (next : ℕ) (f : Forest OutputUnit) (x : RelativeRow) (these : List Value)
     → (l : LeftToList a b later now shown rows next f) → (t : FirstTree relative_row rows next l.left x) → shown l.left ≡ these ++ shown t.after → AllListed b c now these then
     → LeftToList a c later then shown rows (next + x.size) f
 list_goes_on a b c later now then shown rows next f x these l t e w = record {

@@ -116,8 +116,11 @@ next_marks verdict marks rows next f x t e =
 
 -- ---- the rows and the marks of a tree
 
-pub root_mark : (rows : List RelativeRow) (marks : List Mark) (v : Bool) (u : OutputUnit) (below : Forest OutputUnit) (m : Mark) → AreMarkedRows rows marks v (tree u below empty) → m ≡ get_or marks 0 m → m ≡ mark_of v u (left_trees v below)
-root_mark rows marks v u below m h is = is ∙ ap (λ ms. get_or ms 0 m) h.marks_are
+abbrev pub first_mark : List Mark → Mark
+first_mark marks = get_or marks 0 (record { stays = false; below = false })
+
+pub root_mark : (rows : List RelativeRow) (marks : List Mark) (v : Bool) (u : OutputUnit) (below : Forest OutputUnit) → AreMarkedRows rows marks v (tree u below empty) → first_mark marks ≡ mark_of v u (left_trees v below)
+root_mark rows marks v u below h = ap first_mark h.marks_are
 
 pub flat_rows : (rows : List RelativeRow) (marks : List Mark) (v : Bool) (u : OutputUnit) (below : Forest OutputUnit) → AreMarkedRows rows marks v (tree u below empty) → map relative_row rows ≡ flat (record { root = u; below = below })
 flat_rows rows marks v u below h = h.rows_are ∙ sym (flat-flat_of (record { root = u; below = below }))

@@ -14,7 +14,7 @@ use Rattle.js_tree.proofs.ChildTexts.{rest_of}
 use Rattle.js_tree.proofs.DetailedTrees.{all_goes, below_there, children_there, next_detailed, node_goes, node_pieces, node_stays, some_below, stays_agreeing}
 use Rattle.js_tree.proofs.FlatRows.{first_tree, root_row, shorter}
 use Rattle.js_tree.proofs.ListedRows.{list_ends, list_goes_on, list_starts, list_stops, listed_err, none_listed, one_listed, one_stops}
-use Rattle.js_tree.proofs.MarkedRows.{as_many, flat_rows, marked_below, marked_next, next_marks, root_mark}
+use Rattle.js_tree.proofs.MarkedRows.{as_many, first_mark, flat_rows, marked_below, marked_next, next_marks, root_mark}
 use Rattle.js_tree.proofs.Pieces.{nothing_goes, stops_in, then_puts}
 use Rattle.js_tree.proofs.RelativeTexts.{back_again, room_for_part, stays_there, stops_last}
 use Rattle.js_tree.proofs.RoomLeft.{fewer_below, room_below, some_row}
@@ -33,9 +33,9 @@ put_node-returns-in_err-put_beginning-clause-text g t c =
     let l = c.go_down.new.self in
     let m = c.go_down.new.self in
     let n = c.go_down.new.self in
-    let some = c.index-marks-0.result.below in
+    let some = (first_mark marks).below in
     let root = root_row relative_row rows (record { root = u; below = below }) x (flat_rows rows marks v u below h) c.index-rows-0.is in
-    let some_is = some_below v u (left_trees v below) c.index-marks-0.result (root_mark rows marks v u below c.index-marks-0.result h c.index-marks-0.is) has in
+    let some_is = some_below v u (left_trees v below) (first_mark marks) (root_mark rows marks v u below h) has in
     let under = marked_below rows marks v u below h in
     let p1 = comma_if c.args.later ++ beginning_text w.absolute w.note in
     let p2 = children_text (codes ",\"annotations\":[") w.valid some (detailed v l.keyword.items l.instance.items below) in
@@ -59,9 +59,9 @@ put_node-returns-in_err-put_children-clause-text g t c =
     let l = c.go_down.new.self in
     let m = c.go_down.new.self in
     let n = c.go_down.new.self in
-    let some = c.index-marks-0.result.below in
+    let some = (first_mark marks).below in
     let root = root_row relative_row rows (record { root = u; below = below }) x (flat_rows rows marks v u below h) c.index-rows-0.is in
-    let some_is = some_below v u (left_trees v below) c.index-marks-0.result (root_mark rows marks v u below c.index-marks-0.result h c.index-marks-0.is) has in
+    let some_is = some_below v u (left_trees v below) (first_mark marks) (root_mark rows marks v u below h) has in
     let under = marked_below rows marks v u below h in
     let p1 = comma_if c.args.later ++ beginning_text w.absolute w.note in
     let p2 = children_text (codes ",\"annotations\":[") w.valid some (detailed v l.keyword.items l.instance.items below) in
@@ -86,9 +86,9 @@ put_node-returns-in_err-put_error-clause-text g t c =
     let l = c.go_down.new.self in
     let m = c.put_children.new.locations in
     let n = c.put_children.new.locations in
-    let some = c.index-marks-0.result.below in
+    let some = (first_mark marks).below in
     let root = root_row relative_row rows (record { root = u; below = below }) x (flat_rows rows marks v u below h) c.index-rows-0.is in
-    let some_is = some_below v u (left_trees v below) c.index-marks-0.result (root_mark rows marks v u below c.index-marks-0.result h c.index-marks-0.is) has in
+    let some_is = some_below v u (left_trees v below) (first_mark marks) (root_mark rows marks v u below h) has in
     let under = marked_below rows marks v u below h in
     let p1 = comma_if c.args.later ++ beginning_text w.absolute w.note in
     let p2 = children_text (codes ",\"annotations\":[") w.valid some (detailed v l.keyword.items l.instance.items below) in
@@ -114,9 +114,9 @@ put_node-returns-in_err-put_children-2-clause-text g t c =
     let l = c.go_down.new.self in
     let m = c.put_children.new.locations in
     let n = c.put_children.new.locations in
-    let some = c.index-marks-0.result.below in
+    let some = (first_mark marks).below in
     let root = root_row relative_row rows (record { root = u; below = below }) x (flat_rows rows marks v u below h) c.index-rows-0.is in
-    let some_is = some_below v u (left_trees v below) c.index-marks-0.result (root_mark rows marks v u below c.index-marks-0.result h c.index-marks-0.is) has in
+    let some_is = some_below v u (left_trees v below) (first_mark marks) (root_mark rows marks v u below h) has in
     let under = marked_below rows marks v u below h in
     let p1 = comma_if c.args.later ++ beginning_text w.absolute w.note in
     let p2 = children_text (codes ",\"annotations\":[") w.valid some (detailed v l.keyword.items l.instance.items below) in
@@ -143,9 +143,9 @@ put_node-returns-in_err-put_end-clause-text g t c =
     let l = c.go_down.new.self in
     let m = c.put_children.new.locations in
     let n = c.put_children-2.new.locations in
-    let some = c.index-marks-0.result.below in
+    let some = (first_mark marks).below in
     let root = root_row relative_row rows (record { root = u; below = below }) x (flat_rows rows marks v u below h) c.index-rows-0.is in
-    let some_is = some_below v u (left_trees v below) c.index-marks-0.result (root_mark rows marks v u below c.index-marks-0.result h c.index-marks-0.is) has in
+    let some_is = some_below v u (left_trees v below) (first_mark marks) (root_mark rows marks v u below h) has in
     let under = marked_below rows marks v u below h in
     let p1 = comma_if c.args.later ++ beginning_text w.absolute w.note in
     let p2 = children_text (codes ",\"annotations\":[") w.valid some (detailed v l.keyword.items l.instance.items below) in
@@ -173,9 +173,9 @@ put_node-returns-clause-text g t c =
     let l = c.go_down.new.self in
     let m = c.put_children.new.locations in
     let n = c.put_children-2.new.locations in
-    let some = c.index-marks-0.result.below in
+    let some = (first_mark marks).below in
     let root = root_row relative_row rows (record { root = u; below = below }) x (flat_rows rows marks v u below h) c.index-rows-0.is in
-    let some_is = some_below v u (left_trees v below) c.index-marks-0.result (root_mark rows marks v u below c.index-marks-0.result h c.index-marks-0.is) has in
+    let some_is = some_below v u (left_trees v below) (first_mark marks) (root_mark rows marks v u below h) has in
     let under = marked_below rows marks v u below h in
     let p1 = comma_if c.args.later ++ beginning_text w.absolute w.note in
     let p2 = children_text (codes ",\"annotations\":[") w.valid some (detailed v l.keyword.items l.instance.items below) in
@@ -418,8 +418,8 @@ put_tree-returns-in_err-put_node-clause-listed g t c =
     let marks = c.args.marks.now in
     let k = c.args.locations.now.keyword.items in
     let i = c.args.locations.now.instance.items in
-    let m = c.index-marks-0.result in
-    let mark_is = root_mark rows marks v u below m h c.index-marks-0.is in
+    let m = first_mark marks in
+    let mark_is = root_mark rows marks v u below h in
     let res = c.from_residual.result in
     let has = stays_agreeing v u (left_trees v below) m mark_is c.if-stays.true in
     subst (λ vs. AreListed (o c.args.out.now) (o c.put_node.new.out) c.args.later vs res) (sym (node_stays v k i u below m mark_is c.if-stays.true))
@@ -434,8 +434,8 @@ put_tree-returns-then-stays-clause-listed g t c =
     let marks = c.args.marks.now in
     let k = c.args.locations.now.keyword.items in
     let i = c.args.locations.now.instance.items in
-    let m = c.index-marks-0.result in
-    let mark_is = root_mark rows marks v u below m h c.index-marks-0.is in
+    let m = first_mark marks in
+    let mark_is = root_mark rows marks v u below h in
     let has = stays_agreeing v u (left_trees v below) m mark_is c.if-stays.true in
     subst (λ vs. AllListed (o c.args.out.now) (o c.put_node.new.out) c.args.later vs true) (sym (node_stays v k i u below m mark_is c.if-stays.true))
     (one_listed (o c.args.out.now) (o c.put_node.new.out) c.args.later (detailed_node v k i u below) (c.in_ok-put_node.ensures.text v u below h has))
@@ -448,8 +448,8 @@ put_tree-returns-then-some-clause-listed g t c =
     let marks = c.args.marks.now in
     let k = c.args.locations.now.keyword.items in
     let i = c.args.locations.now.instance.items in
-    let m = c.index-marks-0.result in
-    let mark_is = root_mark rows marks v u below m h c.index-marks-0.is in
+    let m = first_mark marks in
+    let mark_is = root_mark rows marks v u below h in
     subst (λ vs. AreListed (o c.args.out.now) (o c.put_below.new.out) c.args.later vs c.put_below.result) (sym (node_goes v k i u below m mark_is c.if-stays.false c.if-some.true))
     (c.put_below.ensures.listed v u below h)
 
@@ -461,7 +461,7 @@ put_tree-returns-clause-listed g t c =
     let marks = c.args.marks.now in
     let k = c.args.locations.now.keyword.items in
     let i = c.args.locations.now.instance.items in
-    let m = c.index-marks-0.result in
-    let mark_is = root_mark rows marks v u below m h c.index-marks-0.is in
+    let m = first_mark marks in
+    let mark_is = root_mark rows marks v u below h in
     subst (λ vs. AllListed (o c.args.out.now) (o c.args.out.now) c.args.later vs c.args.later) (sym (all_goes v k i u below m mark_is c.if-stays.false c.if-some.false))
     (none_listed (o c.args.out.now) c.args.later)
