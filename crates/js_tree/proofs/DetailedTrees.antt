@@ -1,13 +1,12 @@
 -- What pruning and condensing leave of trees that have only what their locations add, tree by tree.
-use Rattle.std.proofs.Common.{◌≡◌, ℕ, zero, suc, ◌+◌, ◌-◌, ◌≤◌, ◌<◌, Bool, true, false, not, ◌||◌, if◌then◌else◌, List, [], ◌∷◌, ◌++◌, length, take, drop, get_or, codes, refl, ap, sym, ◌∙◌, append_assoc, append-nil, arith}
-use Rattle.std.proofs.lemmas.List.{drop_more, length-append}
+use Rattle.std.proofs.Common.{◌≡◌, ℕ, zero, suc, ◌+◌, Bool, true, false, not, ◌||◌, if◌then◌else◌, List, [], ◌∷◌, ◌++◌, codes, refl, ap, sym, ◌∙◌, append_assoc, append-nil, arith}
 use Rattle.js_doc.specs.Compact.{comma_if, compact}
-use Rattle.js_doc.specs.Value.{Value, items, list}
+use Rattle.js_doc.specs.Value.{Value}
 use Rattle.js_tree.specs.Form.{array_of_some, node_value, node_values, value_if, verbose}
-use Rattle.js_tree.specs.Forest.{Forest, empty, tree, ◌⊹◌, node_count, tree_count}
-use Rattle.js_tree.specs.Kept.{is_kept, kept_below, noted_trees}
+use Rattle.js_tree.specs.Forest.{Forest, empty, tree, ◌⊹◌, tree_count}
+use Rattle.js_tree.specs.Kept.{kept_below}
 use Rattle.js_tree.specs.Locations.{IsBack, IsDown}
-use Rattle.js_tree.specs.Marks.{left_trees, mark_of, marked}
+use Rattle.js_tree.specs.Marks.{left_trees, mark_of}
 use Rattle.js_tree.specs.OutputUnit.{OutputUnit, noted}
 use Rattle.js_tree.specs.Pruned.{pruned_below}
 use Rattle.js_tree.specs.Relative.{IsLocated, placed, placed_unit, relative_tree}
@@ -129,8 +128,8 @@ children_is v k i f start name here some s o = children_at (left_trees v f) (con
 
 pieces_at : (later v : Bool) (k i : List ℕ) (u : OutputUnit) (below : Forest OutputUnit) (some : Bool) → some ≡ at_least_one (left_trees v below)
     → (let vs = detailed v (k ++ u.keyword) (i ++ u.instance) below in
-      (comma_if later ++ beginning_text u.absolute u.note)
-      ++ (children_text (codes ",\"annotations\":[") u.valid some vs ++ (error_part u.note ++ (children_text (codes ",\"errors\":[") (not u.valid) some vs ++ end_text (i ++ u.instance) (k ++ u.keyword) u.valid))))
+    (comma_if later ++ beginning_text u.absolute u.note)
+    ++ (children_text (codes ",\"annotations\":[") u.valid some vs ++ (error_part u.note ++ (children_text (codes ",\"errors\":[") (not u.valid) some vs ++ end_text (i ++ u.instance) (k ++ u.keyword) u.valid))))
     ≡ comma_if later ++ compact (detailed_node v k i u below)
 pieces_at later v k i u below some o =
     let k0 = k ++ u.keyword in

@@ -181,8 +181,8 @@ pub basic_in_parts : (at : Locations) (rows : RelativeRows) (t : ResultTree) (ve
 basic_in_parts at rows t verdict room h v =
     let vs = leaves (units (pruned t)) in
     let units_are =
-        ap (λ k. listed verdict k at.instance.items (whole_of t)) room.above_root.0
-        ∙ (ap (λ i. listed verdict [] i (whole_of t)) room.above_root.1 ∙ listed_all t (relative_tree t) verdict (placed_tree_again t h.located) v) in
+    ap (λ k. listed verdict k at.instance.items (whole_of t)) room.above_root.0
+    ∙ (ap (λ i. listed verdict [] i (whole_of t)) room.above_root.1 ∙ listed_all t (relative_tree t) verdict (placed_tree_again t h.located) v) in
     ap (λ us. (list_start verdict ++ codes "[") ++ (values_text false us ++ (codes "]" ++ valid_text verdict))) units_are
     ∙ (ap (λ b. (list_start b ++ codes "[") ++ (values_text false vs ++ (codes "]" ++ valid_text b))) v
     ∙ (list_in_parts t.root.valid vs ∙ list_text_is t.root.valid (list (items vs))))

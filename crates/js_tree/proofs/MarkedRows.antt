@@ -1,12 +1,11 @@
 -- The marks of the rows of trees, written and read tree by tree.
-use Rattle.std.proofs.Common.{◌≡◌, ℕ, zero, suc, ◌+◌, ◌-◌, ◌≤◌, ◌<◌, Bool, true, false, ◌||◌, if◌then◌else◌, List, [], ◌∷◌, ◌++◌, length, take, drop, map, get_or, slice_set, refl, ap, sym, subst, ◌∙◌, append_assoc, append-nil, arith}
-use Rattle.std.proofs.lemmas.List.{drop_more, length-append, length-drop, length-map}
+use Rattle.std.proofs.Common.{◌≡◌, ℕ, suc, ◌+◌, ◌-◌, ◌≤◌, Bool, true, false, ◌||◌, if◌then◌else◌, List, [], ◌∷◌, ◌++◌, length, take, drop, map, get_or, slice_set, refl, ap, sym, ◌∙◌, append_assoc, append-nil, arith}
+use Rattle.std.proofs.lemmas.List.{length-append, length-map}
 use Rattle.js_tree.specs.Flat.{flat, flat_of}
 use Rattle.js_tree.specs.Forest.{Forest, empty, tree, node_count}
 use Rattle.js_tree.specs.Marks.{left_trees, mark_of, marked}
 use Rattle.js_tree.specs.OutputUnit.{OutputUnit}
 use Rattle.js_tree.specs.RelativeState.{relative_row}
-use Rattle.js_tree.specs.Result.{ResultTree}
 use Rattle.js_tree.specs.code.Listing.{AreMarkedRows}
 use Rattle.js_tree.specs.declared.relative.RelativeRow.{RelativeRow}
 use Rattle.js_tree.specs.declared.relative_marks.Mark.{Mark}

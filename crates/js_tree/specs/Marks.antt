@@ -1,5 +1,5 @@
 -- What pruning and condensing leave of each node's tree (JSON Schema Core, section 12.4.3), row by row.
-use Rattle.std.specs.Prelude.{◌≡◌, ℕ, Bool, true, false, ◌||◌, List, [], ◌∷◌, ◌++◌, if◌then◌else◌}
+use Rattle.std.specs.Prelude.{◌≡◌, ℕ, Bool, false, ◌||◌, List, [], ◌∷◌, ◌++◌, if◌then◌else◌}
 use Rattle.js_tree.specs.Forest.{Forest, empty, tree}
 use Rattle.js_tree.specs.Kept.{noted_trees}
 use Rattle.js_tree.specs.OutputUnit.{OutputUnit, noted}

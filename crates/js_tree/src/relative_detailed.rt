@@ -60,9 +60,25 @@ fn put_node<O: Out>(
     let valid = row.valid;
     locations.go_down(row);
     put_beginning(later, row, out)?;
-    put_children(valid, some, b",\"annotations\":[", &rows[1..], &marks[1..], locations, out)?;
+    put_children(
+        valid,
+        some,
+        b",\"annotations\":[",
+        &rows[1..],
+        &marks[1..],
+        locations,
+        out,
+    )?;
     put_error(&row.note, out)?;
-    put_children(!valid, some, b",\"errors\":[", &rows[1..], &marks[1..], locations, out)?;
+    put_children(
+        !valid,
+        some,
+        b",\"errors\":[",
+        &rows[1..],
+        &marks[1..],
+        locations,
+        out,
+    )?;
     locations.put_end(valid, out)?;
     locations.go_back(row);
     Ok(())
@@ -114,7 +130,13 @@ fn put_trees<O: Out>(
         let first = next;
         let row = &rows[first];
         next = first + row.size;
-        later = put_tree(later, &rows[first..next], &marks[first..next], locations, out)?;
+        later = put_tree(
+            later,
+            &rows[first..next],
+            &marks[first..next],
+            locations,
+            out,
+        )?;
     }
     Ok(later)
 }

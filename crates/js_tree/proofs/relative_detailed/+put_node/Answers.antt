@@ -1,13 +1,10 @@
-use Rattle.std.proofs.Common.{◌≡◌, ◌+◌, ◌-◌, ◌<◌, ◌≤◌, ◌++◌, [], ◌∷◌, Bool, codes, length, drop, take, map, not, true, false, Result, Ok, sym, ap, subst, ◌∙◌, refl, arith}
-use Rattle.std.proofs.lemmas.List.{length-drop, length-take}
-use Rattle.js_doc.specs.BytesOut.{Goes, Puts}
+use Rattle.std.proofs.Common.{◌+◌, ◌-◌, ◌++◌, [], ◌∷◌, codes, length, drop, not, true, false, Result, Ok, sym, subst, refl, arith}
+use Rattle.js_doc.specs.BytesOut.{Puts}
 use Rattle.js_doc.specs.Compact.{comma_if}
-use Rattle.js_tree.specs.Forest.{Forest, empty, tree}
+use Rattle.js_tree.specs.Forest.{empty, tree}
 use Rattle.js_tree.specs.Locations.{HasRoom}
 use Rattle.js_tree.specs.Marks.{left_trees}
-use Rattle.js_tree.specs.OutputUnit.{OutputUnit}
 use Rattle.js_tree.specs.RelativeState.{relative_row}
-use Rattle.js_tree.specs.Result.{ResultTree}
 use Rattle.js_tree.specs.code.Listing.{AllListed, AreListed, children_text, detailed, detailed_node, values_text}
 use Rattle.js_tree.specs.code.NodeText.{beginning_text, end_text, error_part}
 use Rattle.js_tree.proofs.ChildTexts.{rest_of}
@@ -15,7 +12,7 @@ use Rattle.js_tree.proofs.DetailedTrees.{all_goes, below_there, children_there, 
 use Rattle.js_tree.proofs.FlatRows.{first_tree, root_row, shorter}
 use Rattle.js_tree.proofs.ListedRows.{list_ends, list_goes_on, list_starts, list_stops, listed_err, none_listed, one_listed, one_stops}
 use Rattle.js_tree.proofs.MarkedRows.{as_many, first_mark, flat_rows, marked_below, marked_next, next_marks, root_mark}
-use Rattle.js_tree.proofs.Pieces.{nothing_goes, stops_in, then_puts}
+use Rattle.js_tree.proofs.Pieces.{stops_in, then_puts}
 use Rattle.js_tree.proofs.RelativeTexts.{back_again, room_for_part, stays_there, stops_last}
 use Rattle.js_tree.proofs.RoomLeft.{fewer_below, room_below, some_row}
 use Rattle.js_tree.proofs.relative_detailed.+put_node.Goals as goal
@@ -199,8 +196,7 @@ put_node-put_children-requires g t c κs within =
     let below = c.requires.2 in
     let h = c.requires.3 in
     let some = some_row rows (record { root = u; below = below }) (flat_rows rows marks v u below h) in
-    let room = room_below c.args.locations.now c.go_down.new.self rows c.index-rows-0.result c.requires.4 some c.index-rows-0.is c.go_down.ensures in
-    (
+    let room = room_below c.args.locations.now c.go_down.new.self rows c.index-rows-0.result c.requires.4 some c.index-rows-0.is c.go_down.ensures in (
       omega (arith, fewer_below rows some, c.decreases),
       (within, (v, below, marked_below rows marks v u below h, subst (HasRoom c.go_down.new.self) (sym (rest_of rows)) room)),
     )
@@ -214,8 +210,7 @@ put_node-put_children-requires-2 g t c κs within =
     let below = c.requires.2 in
     let h = c.requires.3 in
     let some = some_row rows (record { root = u; below = below }) (flat_rows rows marks v u below h) in
-    let room = room_below c.args.locations.now c.go_down.new.self rows c.index-rows-0.result c.requires.4 some c.index-rows-0.is c.go_down.ensures in
-    (
+    let room = room_below c.args.locations.now c.go_down.new.self rows c.index-rows-0.result c.requires.4 some c.index-rows-0.is c.go_down.ensures in (
       omega (arith, fewer_below rows some, c.decreases),
       (within, (v, below, marked_below rows marks v u below h, room_for_part c.go_down.new.self c.put_children.new.locations (drop 1 rows) 0 (length rows - 1) room c.in_ok-put_children.ensures.back)),
     )
@@ -229,8 +224,7 @@ put_below-put_trees-requires g t c κs within =
     let below = c.requires.2 in
     let h = c.requires.3 in
     let some = some_row rows (record { root = u; below = below }) (flat_rows rows marks v u below h) in
-    let room = room_below c.args.locations.now c.go_down.new.self rows c.index-rows-0.result c.requires.4 some c.index-rows-0.is c.go_down.ensures in
-    (
+    let room = room_below c.args.locations.now c.go_down.new.self rows c.index-rows-0.result c.requires.4 some c.index-rows-0.is c.go_down.ensures in (
       omega (arith, fewer_below rows some, c.decreases),
       (within, (v, below, marked_below rows marks v u below h, subst (HasRoom c.go_down.new.self) (sym (rest_of rows)) room)),
     )
@@ -361,8 +355,7 @@ put_trees-loop-next-preserved g t' c =
           let t = first_tree relative_row rows l.next w.0.left x w.0.left_is c.loop-next-test.true c.index-rows-first.is in
           let these = detailed v l.locations.keyword.items l.locations.instance.items (tree t.unit t.below empty) in
           let next = next_detailed v old l.locations w.0.left t.unit t.below t.after t.is l.invariant.1 in
-          let told = c.in_ok-later.ensures.listed v t.unit t.below (marked_next v marks rows l.next w.0.left x t w.1) in
-          (
+          let told = c.in_ok-later.ensures.listed v t.unit t.below (marked_next v marks rows l.next w.0.left x t w.1) in (
             list_goes_on (o c.args.out.now) (o l.out) (o c.put_tree.new.out) c.args.later l.later c.in_ok-later.later (detailed v old.keyword.items old.instance.items) rows l.next f x these w.0 t next told,
             (next_marks v marks rows l.next w.0.left x t w.1).more,
           ),

@@ -1,4 +1,4 @@
-use Rattle.std.proofs.Common.{◌++◌, [], ap, sym, subst, ◌∙◌}
+use Rattle.std.proofs.Common.{[], ap, sym, subst, ◌∙◌}
 use Rattle.js_doc.specs.BytesOut.{Puts}
 use Rattle.js_doc.specs.Compact.{compact}
 use Rattle.js_tree.specs.Locations.{HasRoom}
@@ -34,7 +34,7 @@ returns g c =
       marks_are = c.as_slice-marks.ensures.value ∙ c.requires.marks t h;
     } in
     let value_is =
-        ap (λ k. detailed_node v k at.instance.items r.root r.below) c.requires.room.above_root.0
-        ∙ (ap (λ i. detailed_node v [] i r.root r.below) c.requires.room.above_root.1 ∙ whole_detailed t h.located) in
+    ap (λ k. detailed_node v k at.instance.items r.root r.below) c.requires.room.above_root.0
+    ∙ (ap (λ i. detailed_node v [] i r.root r.below) c.requires.room.above_root.1 ∙ whole_detailed t h.located) in
     subst (λ x. Puts (o c.args.out.now) (o c.put_node.new.out) (compact x) c.put_node.result) value_is
     (c.put_node.ensures.text v r.root r.below marked_rows (agrees_itself t.root))

@@ -1,4 +1,4 @@
-use Rattle.std.proofs.Common.{◌≡◌, ◌+◌, ◌-◌, ◌<◌, ◌≤◌, ◌++◌, ◌∷◌, append-nil, length, drop, take, map, true, false, sym, ap, subst, ◌∙◌, refl, arith}
+use Rattle.std.proofs.Common.{◌≡◌, ◌+◌, ◌-◌, ◌++◌, ◌∷◌, append-nil, drop, take, map, sym, ap, ◌∙◌, arith}
 use Rattle.js_tree.specs.Marks.{left_trees, mark_of, marked}
 use Rattle.js_tree.specs.RelativeState.{relative_row}
 use Rattle.js_tree.specs.Result.{ResultTree}
@@ -97,9 +97,8 @@ mark_tree-returns t' c =
     let old = c.args.marks.now.items in
     let more = marked v r.below in
     let mark_is = c.mark_of-mark.ensures ∙ (ap (λ u. mark_of v u c.in_ok-trees.trees) root ∙ ap (mark_of v r.root) told.1) in
-    let new_is = told.0 ∙ ap (λ ms. ms ++ more) c.in_ok-push.ensures.items in
-    (
+    let new_is = told.0 ∙ ap (λ ms. ms ++ more) c.in_ok-push.ensures.items in (
       mark_set old _ c.mark_of-mark.result more c.mark_trees.new.marks.items c.len-number.result (c.len-number.ensures ∙ c.args.marks.now.ok.0) new_is
-      ∙ ap (λ m. old ++ m ∷ more) mark_is ∙ ap (λ ms. old ++ mark_of v r.root (left_trees v r.below) ∷ ms) (sym (append-nil more)),
+          ∙ ap (λ m. old ++ m ∷ more) mark_is ∙ ap (λ ms. old ++ mark_of v r.root (left_trees v r.below) ∷ ms) (sym (append-nil more)),
       one_tree v r.root r.below c.mark_of-mark.result c.trees_of.result mark_is c.trees_of.ensures,
     )

@@ -1,6 +1,6 @@
-use Rattle.std.proofs.Common.{◌≡◌, ◌∷◌, [], Bool, true, false, sym, subst}
+use Rattle.std.proofs.Common.{◌∷◌, [], true, sym, subst}
 use Rattle.js_tree.specs.Form.{node_value}
-use Rattle.js_tree.specs.code.Listing.{AllListed, AreListed, if_noted, unit_at}
+use Rattle.js_tree.specs.code.Listing.{AllListed, AreListed, unit_at}
 use Rattle.js_tree.proofs.ListedRows.{its_note, listed_err, one_listed, one_stops}
 use Rattle.js_tree.proofs.relative_units.put_noted.Goals as goal
 

@@ -1,4 +1,4 @@
-use Rattle.std.proofs.Common.{◌≡◌, ◌++◌, [], ap, sym, ◌∙◌}
+use Rattle.std.proofs.Common.{◌++◌, ap, ◌∙◌}
 use Rattle.js_tree.specs.Marks.{marked, whole_of}
 use Rattle.js_tree.specs.Relative.{relative_tree}
 use Rattle.js_tree.specs.RelativeState.{relative_row}
