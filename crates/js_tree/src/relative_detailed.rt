@@ -18,8 +18,8 @@ use crate::relative_marks::{Mark, RelativeMarks};
 use crate::relative_text::put_beginning;
 use js_doc::{Out, Stopped};
 
-/// Puts the compact text of the detailed format (Core, section 12.4.3) of the rows' tree, with each location whole. It takes no
-/// memory.
+/// Puts the compact text of the detailed format (Core, section 12.4.3) of the rows' tree: what the marks say is left.
+/// It takes no memory.
 ///
 /// # Errors
 /// `Stopped`; then a beginning of the text has gone out.
@@ -32,7 +32,8 @@ pub fn put_detailed<O: Out>(
     requires whole { AreWhole rows.now }
     requires room { HasRoomFor locations rows.now }
     requires marks { AreMarksOf marks.now rows.now }
-    ensures { (t : ResultTree) → AreRowsOf rows.now t → Puts (O.progress out.old) (O.progress out.new) (compact (verbose (kept (pruned t)))) result }
+    ensures { (t : ResultTree) → AreRowsOf rows.now t
+        → Puts (O.progress out.old) (O.progress out.new) (compact (verbose (kept (pruned t)))) result }
 {
     let mut locations = locations;
     let rows = rows.rows.as_slice();
@@ -49,9 +50,13 @@ fn put_node<O: Out>(
     locations: &mut Locations,
     out: &mut O,
 ) -> Result<(), Stopped>
-    requires { (v : Bool) × (u : OutputUnit) × (below : Forest OutputUnit) × AreMarkedRows rows.now marks.now v (tree u below empty) × HasRoom locations.old rows.now }
-    ensures text { (v : Bool) (u : OutputUnit) (below : Forest OutputUnit) → AreMarkedRows rows.now marks.now v (tree u below empty) → has_verdict v u ≡ true
-        → Puts (O.progress out.old) (O.progress out.new) (comma_if later ++ compact (detailed_node v locations.old.keyword.items locations.old.instance.items u below)) result }
+    requires { (v : Bool) × (u : OutputUnit) × (below : Forest OutputUnit)
+        × AreMarkedRows rows.now marks.now v (tree u below empty) × HasRoom locations.old rows.now }
+    ensures text { (v : Bool) (u : OutputUnit) (below : Forest OutputUnit)
+        → AreMarkedRows rows.now marks.now v (tree u below empty) → has_verdict v u ≡ true
+        → Puts (O.progress out.old) (O.progress out.new)
+        (comma_if later ++ compact (detailed_node v locations.old.keyword.items locations.old.instance.items u below))
+        result }
     ensures back { OnOk result (IsBack locations.old locations.new) }
 {
     let row = &rows[0];
@@ -95,8 +100,11 @@ fn put_children<O: Out>(
     locations: &mut Locations,
     out: &mut O,
 ) -> Result<(), Stopped>
-    requires { (v : Bool) × (f : Forest OutputUnit) × AreMarkedRows rows.now marks.now v f × HasRoom locations.old rows.now }
-    ensures text { (v : Bool) (f : Forest OutputUnit) → AreMarkedRows rows.now marks.now v f → Puts (O.progress out.old) (O.progress out.new) (children_text start.now here some (detailed v locations.old.keyword.items locations.old.instance.items f)) result }
+    requires { (v : Bool) × (f : Forest OutputUnit)
+        × AreMarkedRows rows.now marks.now v f × HasRoom locations.old rows.now }
+    ensures text { (v : Bool) (f : Forest OutputUnit) → AreMarkedRows rows.now marks.now v f
+        → Puts (O.progress out.old) (O.progress out.new) (children_text start.now here some
+        (detailed v locations.old.keyword.items locations.old.instance.items f)) result }
     ensures back { OnOk result (IsBack locations.old locations.new) }
 {
     if !here {
@@ -110,8 +118,8 @@ fn put_children<O: Out>(
     out.put(b"]")
 }
 
-/// Puts what is left of the trees of the rows, with a comma before the first node where something stands before. Answers
-/// whether something stands before what comes next.
+/// Puts what is left of the trees of the rows, with a comma before the first node where something stands before.
+/// Answers whether something stands before what comes next.
 #[cycle(put_node)]
 fn put_trees<O: Out>(
     later: bool,
@@ -120,8 +128,11 @@ fn put_trees<O: Out>(
     locations: &mut Locations,
     out: &mut O,
 ) -> Result<bool, Stopped>
-    requires { (v : Bool) × (f : Forest OutputUnit) × AreMarkedRows rows.now marks.now v f × HasRoom locations.old rows.now }
-    ensures listed { (v : Bool) (f : Forest OutputUnit) → AreMarkedRows rows.now marks.now v f → AreListed (O.progress out.old) (O.progress out.new) later (detailed v locations.old.keyword.items locations.old.instance.items f) result }
+    requires { (v : Bool) × (f : Forest OutputUnit)
+        × AreMarkedRows rows.now marks.now v f × HasRoom locations.old rows.now }
+    ensures listed { (v : Bool) (f : Forest OutputUnit) → AreMarkedRows rows.now marks.now v f
+        → AreListed (O.progress out.old) (O.progress out.new) later
+        (detailed v locations.old.keyword.items locations.old.instance.items f) result }
     ensures back { OnOk result (IsBack locations.old locations.new) }
 {
     let mut later = later;
@@ -150,8 +161,12 @@ fn put_tree<O: Out>(
     locations: &mut Locations,
     out: &mut O,
 ) -> Result<bool, Stopped>
-    requires { (v : Bool) × (u : OutputUnit) × (below : Forest OutputUnit) × AreMarkedRows rows.now marks.now v (tree u below empty) × HasRoom locations.old rows.now }
-    ensures listed { (v : Bool) (u : OutputUnit) (below : Forest OutputUnit) → AreMarkedRows rows.now marks.now v (tree u below empty) → AreListed (O.progress out.old) (O.progress out.new) later (detailed v locations.old.keyword.items locations.old.instance.items (tree u below empty)) result }
+    requires { (v : Bool) × (u : OutputUnit) × (below : Forest OutputUnit)
+        × AreMarkedRows rows.now marks.now v (tree u below empty) × HasRoom locations.old rows.now }
+    ensures listed { (v : Bool) (u : OutputUnit) (below : Forest OutputUnit)
+        → AreMarkedRows rows.now marks.now v (tree u below empty)
+        → AreListed (O.progress out.old) (O.progress out.new) later
+        (detailed v locations.old.keyword.items locations.old.instance.items (tree u below empty)) result }
     ensures back { OnOk result (IsBack locations.old locations.new) }
 {
     let mark = &marks[0];
@@ -176,9 +191,13 @@ fn put_below<O: Out>(
     locations: &mut Locations,
     out: &mut O,
 ) -> Result<bool, Stopped>
-    requires { (v : Bool) × (u : OutputUnit) × (below : Forest OutputUnit) × AreMarkedRows rows.now marks.now v (tree u below empty) × HasRoom locations.old rows.now }
-    ensures listed { (v : Bool) (u : OutputUnit) (below : Forest OutputUnit) → AreMarkedRows rows.now marks.now v (tree u below empty)
-        → AreListed (O.progress out.old) (O.progress out.new) later (detailed v (locations.old.keyword.items ++ u.keyword) (locations.old.instance.items ++ u.instance) below) result }
+    requires { (v : Bool) × (u : OutputUnit) × (below : Forest OutputUnit)
+        × AreMarkedRows rows.now marks.now v (tree u below empty) × HasRoom locations.old rows.now }
+    ensures listed { (v : Bool) (u : OutputUnit) (below : Forest OutputUnit)
+        → AreMarkedRows rows.now marks.now v (tree u below empty)
+        → AreListed (O.progress out.old) (O.progress out.new) later
+        (detailed v (locations.old.keyword.items ++ u.keyword) (locations.old.instance.items ++ u.instance) below)
+        result }
     ensures back { OnOk result (IsBack locations.old locations.new) }
 {
     let row = &rows[0];

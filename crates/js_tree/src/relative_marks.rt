@@ -1,4 +1,4 @@
-//! What pruning and condensing leave of a tree whose rows have only what their locations add to those of the node above.
+//! What pruning and condensing leave of a tree whose rows have only what their locations add to those above.
 ghost use Rattle.std.specs.Prelude.{◌≡◌, ◌++◌, ◌||◌, IfOk, if◌then◌else◌, map};
 ghost use Rattle.js_tree.specs.Flat.{flat, flat_of};
 ghost use Rattle.js_tree.specs.Forest.{Forest, empty, tree};
@@ -66,7 +66,8 @@ fn mark_trees(verdict: bool, rows: &[RelativeRow], marks: &mut Vec<Mark>) -> Res
 fn mark_tree(verdict: bool, rows: &[RelativeRow], marks: &mut Vec<Mark>) -> Result<usize, Memory>
     requires { (r : ResultTree) × (map relative_row rows.now ≡ flat r) }
     ensures { IfOk result (λ trees. (r : ResultTree) → map relative_row rows.now ≡ flat r
-        → (marks.new.items ≡ marks.old.items ++ marked verdict (tree r.root r.below empty)) × (trees ≡ left_trees verdict (tree r.root r.below empty))) }
+        → (marks.new.items ≡ marks.old.items ++ marked verdict (tree r.root r.below empty))
+        × (trees ≡ left_trees verdict (tree r.root r.below empty))) }
 {
     let number = marks.len();
     marks.push(Mark {

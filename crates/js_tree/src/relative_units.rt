@@ -18,8 +18,8 @@ use crate::relative::{RelativeRow, RelativeRows};
 use crate::relative_text::put_beginning;
 use js_doc::{Out, Stopped};
 
-/// Puts the compact text of the basic format (Core, section 12.4.2) of the rows' tree. It prunes while it writes: a tree whose
-/// root has another verdict than the tree's is passed over. It takes no memory.
+/// Puts the compact text of the basic format (Core, section 12.4.2) of the rows' tree. It prunes while it writes: a
+/// tree whose root has another verdict than the tree's is passed over. It takes no memory.
 ///
 /// # Errors
 /// `Stopped`; then a beginning of the text has gone out.
@@ -30,7 +30,8 @@ pub fn put_basic<O: Out>(
 ) -> Result<(), Stopped>
     requires whole { AreWhole rows.now }
     requires room { HasRoomFor locations rows.now }
-    ensures { (t : ResultTree) → AreRowsOf rows.now t → Puts (O.progress out.old) (O.progress out.new) (compact (unit_list (pruned t))) result }
+    ensures { (t : ResultTree) → AreRowsOf rows.now t
+        → Puts (O.progress out.old) (O.progress out.new) (compact (unit_list (pruned t))) result }
 {
     let mut locations = locations;
     let rows = rows.rows.as_slice();
@@ -41,8 +42,8 @@ pub fn put_basic<O: Out>(
     put_list_end(verdict, out)
 }
 
-/// Puts the units of the trees of the rows, below a node with these locations, with a comma before the first where something
-/// stands before. Answers whether something stands before what comes next.
+/// Puts the units of the trees of the rows, below a node with these locations, with a comma before the first where
+/// something stands before. Answers whether something stands before what comes next.
 #[cycle(put_trees)]
 fn put_trees<O: Out>(
     verdict: bool,
@@ -52,7 +53,9 @@ fn put_trees<O: Out>(
     out: &mut O,
 ) -> Result<bool, Stopped>
     requires { (f : Forest OutputUnit) × (map relative_row rows.now ≡ flat_of f) × HasRoom locations.old rows.now }
-    ensures listed { (f : Forest OutputUnit) → map relative_row rows.now ≡ flat_of f → AreListed (O.progress out.old) (O.progress out.new) later (listed verdict locations.old.keyword.items locations.old.instance.items f) result }
+    ensures listed { (f : Forest OutputUnit) → map relative_row rows.now ≡ flat_of f
+        → AreListed (O.progress out.old) (O.progress out.new) later
+        (listed verdict locations.old.keyword.items locations.old.instance.items f) result }
     ensures back { OnOk result (IsBack locations.old locations.new) }
 {
     let mut later = later;
@@ -79,7 +82,9 @@ fn put_tree<O: Out>(
     out: &mut O,
 ) -> Result<bool, Stopped>
     requires { (r : ResultTree) × (map relative_row rows.now ≡ flat r) × HasRoom locations.old rows.now }
-    ensures listed { (r : ResultTree) → map relative_row rows.now ≡ flat r → AreListed (O.progress out.old) (O.progress out.new) later (listed_tree verdict locations.old.keyword.items locations.old.instance.items r.root r.below) result }
+    ensures listed { (r : ResultTree) → map relative_row rows.now ≡ flat r
+        → AreListed (O.progress out.old) (O.progress out.new) later
+        (listed_tree verdict locations.old.keyword.items locations.old.instance.items r.root r.below) result }
     ensures back { OnOk result (IsBack locations.old locations.new) }
 {
     let row = &rows[0];
@@ -97,7 +102,8 @@ fn put_noted<O: Out>(
     locations: &Locations,
     out: &mut O,
 ) -> Result<bool, Stopped>
-    ensures { AreListed (O.progress out.old) (O.progress out.new) later (if_noted (unit_at locations.now row.now)) result }
+    ensures { AreListed (O.progress out.old) (O.progress out.new) later
+        (if_noted (unit_at locations.now row.now)) result }
 {
     if !row.note.is_some() {
         return Ok(later);
@@ -113,7 +119,8 @@ fn put_unit<O: Out>(
     locations: &Locations,
     out: &mut O,
 ) -> Result<(), Stopped>
-    ensures { Puts (O.progress out.old) (O.progress out.new) (comma_if later ++ compact (node_value (unit_at locations.now row.now) [])) result }
+    ensures { Puts (O.progress out.old) (O.progress out.new)
+        (comma_if later ++ compact (node_value (unit_at locations.now row.now) [])) result }
 {
     put_beginning(later, row, out)?;
     put_error(&row.note, out)?;
