@@ -122,7 +122,7 @@ fn tell_rows<W: Write>(
     Ok(valid)
 }
 
-// As for the other rows. What pruning and condensing leave is known before the first byte is written.
+// What pruning and condensing leave is marked before the first byte is written.
 fn tell_detailed<W: Write>(
     alloc: Global,
     schemas: &Schemas,

@@ -5,6 +5,9 @@ use Rattle.js_bundle.specs.Schemas.{place_at}
 use Rattle.js_output.proofs.Answering.{tells-sent, tells-begun}
 use Rattle.js_output.proofs.telling.tell_detailed.Goals as goal
 
+pub new-requires : goal.new-requires
+new-requires g c = let (t, is, stands, rows) = c.in_ok-rows.ensures.rows in (t, rows)
+
 pub is_valid-valid-requires : goal.is_valid-valid-requires
 is_valid-valid-requires g c = let (t, is, stands, rows) = c.in_ok-rows.ensures.rows in (t, rows)
 
