@@ -1,6 +1,9 @@
 -- A text with its escapes in runs of bytes that stand as they are.
-use Rattle.std.proofs.Common.{◌≡◌, ℕ, ◌+◌, ◌-◌, ◌<◌, List, [], ◌∷◌, ◌++◌, length, take, drop, get_or, ap, sym, ◌∙◌, append-nil, arith}
-use Rattle.std.specs.List.{prefix_len}
+use Rattle.std.proofs.Common.{◌≡◌, ℕ, suc, ◌+◌, ◌-◌, ◌<◌, ◌==◌, Bool, true, false, cond, ◌&&◌, List, [], ◌∷◌, ◌++◌, length, take, drop, get_or, refl, ap, sym, ◌∙◌, append-nil, arith}
+use Rattle.std.proofs.lemmas.Bool.Decides.{nat_tests}
+use Rattle.std.proofs.lemmas.Bool.{eqb-true, ne_eqb}
+use Rattle.std.proofs.lemmas.List.{take_all}
+use Rattle.std.specs.List.{list_all, prefix_len}
 use Rattle.json.specs.Print.{escape, escape_byte}
 use Rattle.json.proofs.Printed.Strings.{escape_to_stop, escape_at, escape_end}
 use Rattle.js_doc.specs.Escapes.{stands}
@@ -24,3 +27,22 @@ escape_next bs i h =
 -- or the end
 pub none_left : (bs : List ℕ) (i : ℕ) → i ≡ length bs → escaped_from bs i ≡ []
 none_left bs i e = sym (append-nil (escaped_from bs i)) ∙ escape_end bs i [] (omega (arith, e))
+
+-- ---- a text that stands as it is
+
+one_more : (b : Bool) (n m : ℕ) → (cond b (1 + n) 0 == suc m) ≡ (b && (n == m))
+one_more true n m = grind (arith, nat_tests)
+one_more false n m = ne_eqb 0 (suc m) (λ (e : 0 ≡ suc m). omega (arith, e))
+
+pub all_stand : (bs : List ℕ) → (prefix_len stands bs == length bs) ≡ list_all stands bs
+all_stand [] = refl
+all_stand (b ∷ bs) = one_more (stands b) (prefix_len stands bs) (length bs) ∙ ap (λ k. stands b && k) (all_stand bs)
+
+-- it has no escapes
+pub nothing_escaped : (bs : List ℕ) → list_all stands bs ≡ true → escape bs ≡ bs
+nothing_escaped bs e =
+    let long : prefix_len stands bs ≡ length bs = eqb-true _ _ (all_stand bs ∙ e) in
+    let none : length bs - 0 ≡ length bs = omega arith in
+    run_first bs 0 (length bs) (omega (arith, long))
+    ∙ (ap (λ l. run bs 0 (length bs) ++ l) (none_left bs (length bs) refl)
+    ∙ (append-nil (run bs 0 (length bs)) ∙ (ap (λ n. take n bs) none ∙ take_all (length bs) bs (omega arith))))

@@ -33,6 +33,7 @@ pub use pointer_reading::PointerFault;
 pub use printing::{put_number, put_text, text};
 pub use quoting::{push_string, put_escaped, put_quoted, put_string};
 pub use reading::{ReadFault, from_value, read};
+pub use runs::stand_as_they_are;
 pub use string::Text;
 pub use token::{Token, push_fragment_token, push_token};
 pub use whole::Whole;

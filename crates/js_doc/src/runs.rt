@@ -1,10 +1,17 @@
 //! Runs of bytes that stand in a JSON string as they are (RFC 8259, section 7).
 ghost use Rattle.std.specs.Prelude.{◌≡◌, ◌+◌, ◌≤◌, drop, length, map};
-ghost use Rattle.std.specs.List.{prefix_len};
+ghost use Rattle.std.specs.List.{list_all, prefix_len};
 ghost use Rattle.std.specs.Simd.Lanes.{mask_l};
 ghost use Rattle.js_doc.specs.Escapes.{needs_escape, stands};
 
 use std::simd::prelude::*;
+
+/// Whether the bytes stand in a string as they are: none of them has to be escaped.
+pub fn stand_as_they_are(bytes: &[u8]) -> bool
+    ensures { result ≡ list_all stands bytes.now }
+{
+    run_end(bytes, 0) == bytes.len()
+}
 
 /// Where the run from `start` on ends: the place of the first byte that has to be escaped, or the length.
 pub(crate) fn run_end(bytes: &[u8], start: usize) -> usize
