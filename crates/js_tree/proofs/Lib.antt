@@ -4,6 +4,7 @@ pub mod BoxedTold
 pub mod ChildTexts
 pub mod Compaction
 pub mod Earliest
+pub mod EscapedRows
 pub mod FlagText
 pub mod FlatRows
 pub mod FlatTold

@@ -1,7 +1,6 @@
 -- Texts that are quoted in parts: the marks go out with what stands beside them.
 use Rattle.std.proofs.Common.{◌≡◌, Bool, true, false, List, [], ◌∷◌, ◌++◌, ℕ, codes, refl, ap, sym, ◌∙◌, append_assoc}
-use Rattle.std.proofs.lemmas.Grind.{flat_map-append}
-use Rattle.json.specs.Print.{escape, escape_byte}
+use Rattle.json.specs.Print.{escape}
 use Rattle.js_doc.specs.Compact.{comma_if, compact, compact_items, quoted}
 use Rattle.js_doc.specs.Value.{Value, items}
 use Rattle.js_tree.specs.Form.{node_value}
@@ -21,10 +20,10 @@ end_in_parts instance keyword valid =
     (quoted_then instance (codes ",\"keywordLocation\":" ++ (34 ∷ (escape keyword ++ 34 ∷ valid_text valid)))
     ∙ ap (λ l. quoted instance ++ (codes ",\"keywordLocation\":" ++ l)) (quoted_then keyword (valid_text valid)))
 
-pub opening_in_parts : (later : Bool) (schema token : List ℕ) → (comma_if later ++ codes "{\"absoluteKeywordLocation\":\"") ++ (escape schema ++ escape token) ≡ opening_text later (schema ++ token)
-opening_in_parts later schema token =
-    append_assoc (comma_if later) (codes "{\"absoluteKeywordLocation\":\"") (escape schema ++ escape token)
-    ∙ ap (λ l. comma_if later ++ (codes "{\"absoluteKeywordLocation\":\"" ++ l)) (sym (flat_map-append escape_byte schema token))
+pub opening_in_parts : (later : Bool) (schema token absolute : List ℕ) → escape schema ++ token ≡ escape absolute → (comma_if later ++ codes "{\"absoluteKeywordLocation\":\"") ++ (escape schema ++ token) ≡ opening_text later absolute
+opening_in_parts later schema token absolute e =
+    append_assoc (comma_if later) (codes "{\"absoluteKeywordLocation\":\"") (escape schema ++ token)
+    ∙ ap (λ l. comma_if later ++ (codes "{\"absoluteKeywordLocation\":\"" ++ l)) e
 
 opened_then : (later : Bool) (absolute rest : List ℕ) → opening_text later absolute ++ 34 ∷ rest ≡ comma_if later ++ (codes "{\"absoluteKeywordLocation\":" ++ (quoted absolute ++ rest))
 opened_then later absolute rest =

@@ -2,14 +2,15 @@
 use Rattle.std.specs.Prelude.{◌≡◌, ℕ, suc, ◌+◌, ◌-◌, ◌<◌, ◌≤◌, Bool, List, [], ◌∷◌, ◌++◌, drop, length, map, slice_get, slice_set, slice_index_or, Some, refl}
 use Rattle.std.proofs.Common.{arith, ap, sym, ◌∙◌, append-nil}
 use Rattle.std.proofs.lemmas.List.{append_assoc, length-map, map-append}
+use Rattle.json.specs.Print.{escape}
 use Rattle.js_tree.specs.Events.{closing, events, events_of, Passes, after_all}
 use Rattle.js_tree.specs.Flat.{flat_of}
 use Rattle.js_tree.specs.FlatState.{FlatRow, opening_row, closed_row, with_closed}
 use Rattle.js_tree.specs.Forest.{Forest, empty, tree, node_count}
 use Rattle.js_tree.specs.Note.{Note}
 use Rattle.js_tree.specs.OutputUnit.{OutputUnit}
-use Rattle.js_tree.specs.Relative.{relative, relative_unit}
-use Rattle.js_tree.specs.RelativeState.{OpenNode, RelativeState, relative_start, whole_relative, open_at, node_above, relative_opened, relative_closed, relative_after, relative_row, open_node, open_nodes, relative_state}
+use Rattle.js_tree.specs.Relative.{escaped, escaped_unit, relative, relative_unit}
+use Rattle.js_tree.specs.RelativeState.{OpenNode, RelativeState, escaped_row, relative_start, whole_relative, open_at, node_above, relative_opened, relative_closed, relative_after, relative_row, open_node, open_nodes, relative_state}
 use Rattle.js_tree.specs.Result.{ResultTree}
 use Rattle.js_tree.specs.declared.relative.OpenNode.{OpenNode as DeclaredOpen}
 use Rattle.js_tree.specs.declared.relative.RelativeRow.{RelativeRow}
@@ -23,7 +24,7 @@ abbrev at : List FlatRow → List OpenNode → RelativeState
 at rows nodes = record { rows = rows; nodes = nodes }
 
 opened_below : (rows : List FlatRow) (o : OpenNode) (nodes : List OpenNode) (keyword absolute instance : List ℕ)
-    → relative_opened rows (o ∷ nodes) keyword absolute instance ≡ at (rows ++ opening_row (drop o.keyword keyword) absolute (drop o.instance instance) ∷ []) (open_at (length rows) keyword instance ∷ o ∷ nodes)
+    → relative_opened rows (o ∷ nodes) keyword absolute instance ≡ at (rows ++ escaped_row (drop o.keyword keyword) absolute (drop o.instance instance) ∷ []) (open_at (length rows) keyword instance ∷ o ∷ nodes)
 opened_below [] o nodes keyword absolute instance = refl
 opened_below (r ∷ rows) o nodes keyword absolute instance = refl
 
@@ -34,24 +35,25 @@ relative_closed_at : (rows : List FlatRow) (u : OutputUnit) (f : Forest OutputUn
     → relative_closed ((rows ++ unknown u ∷ []) ++ flat_of f) (open_at (length rows) keyword instance ∷ nodes) u.valid u.note ≡ at (rows ++ (u, suc (node_count f)) ∷ flat_of f) nodes
 relative_closed_at rows u f keyword instance nodes = ap (λ s. at s.rows nodes) (closed_at rows u f [])
 
-told_below : (f : Forest OutputUnit) (rows : List FlatRow) (o : OpenNode) (nodes : List OpenNode) → after_all relative_after (at rows (o ∷ nodes)) (events_of f) ≡ at (rows ++ flat_of (relative o.keyword o.instance f)) (o ∷ nodes)
+told_below : (f : Forest OutputUnit) (rows : List FlatRow) (o : OpenNode) (nodes : List OpenNode) → after_all relative_after (at rows (o ∷ nodes)) (events_of f) ≡ at (rows ++ flat_of (escaped (relative o.keyword o.instance f))) (o ∷ nodes)
 told_below empty rows o nodes = ap (λ zs. at zs (o ∷ nodes)) (sym (append-nil rows))
 told_below (tree u below rest) rows o nodes =
-    let v : OutputUnit = relative_unit o.keyword o.instance u in
-    let g : Forest OutputUnit = relative (length u.keyword) (length u.instance) below in
+    let v : OutputUnit = escaped_unit (relative_unit o.keyword o.instance u) in
+    let g : Forest OutputUnit = escaped (relative (length u.keyword) (length u.instance) below) in
     ap (λ s. after_all relative_after s (events_of below ++ (closing u.valid u.note ∷ events_of rest))) (opened_below rows o nodes u.keyword u.absolute u.instance)
     ∙ (after_all-append relative_after (at (rows ++ unknown v ∷ []) (open_at (length rows) u.keyword u.instance ∷ o ∷ nodes)) (events_of below) (closing u.valid u.note ∷ events_of rest)
     ∙ (ap (λ s. after_all relative_after s (closing u.valid u.note ∷ events_of rest)) (told_below below (rows ++ unknown v ∷ []) (open_at (length rows) u.keyword u.instance) (o ∷ nodes))
     ∙ (ap (λ s. after_all relative_after s (events_of rest)) (relative_closed_at rows v g u.keyword u.instance (o ∷ nodes))
     ∙ (told_below rest (rows ++ (v, suc (node_count g)) ∷ flat_of g) o nodes
-    ∙ ap (λ zs. at zs (o ∷ nodes)) (append_assoc rows ((v, suc (node_count g)) ∷ flat_of g) (flat_of (relative o.keyword o.instance rest)))))))
+    ∙ ap (λ zs. at zs (o ∷ nodes)) (append_assoc rows ((v, suc (node_count g)) ∷ flat_of g) (flat_of (escaped (relative o.keyword o.instance rest))))))))
 
 told : (t : ResultTree) → after_all relative_after relative_start (events t) ≡ whole_relative t
 told t =
     let o : OpenNode = open_at 0 t.root.keyword t.root.instance in
-    after_all-append relative_after (at (unknown t.root ∷ []) (o ∷ [])) (events_of t.below) (closing t.root.valid t.root.note ∷ [])
-    ∙ (ap (λ s. relative_after s (closing t.root.valid t.root.note)) (told_below t.below (unknown t.root ∷ []) o [])
-    ∙ relative_closed_at [] t.root (relative o.keyword o.instance t.below) t.root.keyword t.root.instance [])
+    let u : OutputUnit = escaped_unit t.root in
+    after_all-append relative_after (at (unknown u ∷ []) (o ∷ [])) (events_of t.below) (closing t.root.valid t.root.note ∷ [])
+    ∙ (ap (λ s. relative_after s (closing t.root.valid t.root.note)) (told_below t.below (unknown u ∷ []) o [])
+    ∙ relative_closed_at [] u (escaped (relative o.keyword o.instance t.below)) t.root.keyword t.root.instance [])
 
 pub relative_held : (t : ResultTree) (c d : RelativeRows) → relative_state c ≡ relative_start → Passes (λ a e b. relative_state b ≡ relative_after (relative_state a) e) (events t) c d → relative_state d ≡ whole_relative t
 relative_held t c d h p = passes-after_all relative_state relative_after (events t) c d p ∙ (ap (λ s. after_all relative_after s (events t)) h ∙ told t)
@@ -88,29 +90,29 @@ closes_beyond rows os ps o valid note e le =
     popped (map relative_row rows) os ps o valid note _ e (sym (with_closed-beyond o.number valid note _ (map relative_row rows) (let l = length-map rows relative_row in omega (arith, le, l))))
 
 opened_there : (rows : List FlatRow) (nodes : List OpenNode) (keyword absolute instance : List ℕ) → (length nodes ≡ 0 → length rows ≡ 0)
-    → relative_opened rows nodes keyword absolute instance ≡ at (rows ++ opening_row (drop (node_above nodes).keyword keyword) absolute (drop (node_above nodes).instance instance) ∷ []) (open_at (length rows) keyword instance ∷ nodes)
+    → relative_opened rows nodes keyword absolute instance ≡ at (rows ++ escaped_row (drop (node_above nodes).keyword keyword) absolute (drop (node_above nodes).instance instance) ∷ []) (open_at (length rows) keyword instance ∷ nodes)
 opened_there [] [] keyword absolute instance h = refl
 opened_there (r ∷ rows) [] keyword absolute instance h = let a : suc (length rows) ≡ 0 = h refl in absurd (omega (arith, a))
 opened_there rows (o ∷ nodes) keyword absolute instance h = opened_below rows o nodes keyword absolute instance
 
 -- a row from what the code knows of its parts
-pub opening_is : (above found : OpenNode) (keyword absolute instance k a i added_keyword added_instance : List ℕ) → found ≡ above → k ≡ keyword → i ≡ instance → added_keyword ≡ drop found.keyword k → a ≡ absolute → added_instance ≡ drop found.instance i
-    → opening_row added_keyword a added_instance ≡ opening_row (drop above.keyword keyword) absolute (drop above.instance instance)
+pub opening_is : (above found : OpenNode) (keyword absolute instance k a i added_keyword added_instance : List ℕ) → found ≡ above → k ≡ keyword → i ≡ instance → added_keyword ≡ escape (drop found.keyword k) → a ≡ escape absolute → added_instance ≡ escape (drop found.instance i)
+    → opening_row added_keyword a added_instance ≡ escaped_row (drop above.keyword keyword) absolute (drop above.instance instance)
 opening_is above found keyword absolute instance k a i added_keyword added_instance n ke ie ka ae ia =
-    let x : added_keyword ≡ drop above.keyword keyword = ka ∙ (ap (drop found.keyword) ke ∙ ap (λ o. drop o.keyword keyword) n) in
-    let y : added_instance ≡ drop above.instance instance = ia ∙ (ap (drop found.instance) ie ∙ ap (λ o. drop o.instance instance) n) in
-    ap (λ z. opening_row z a added_instance) x ∙ (ap (λ z. opening_row (drop above.keyword keyword) z added_instance) ae ∙ ap (λ z. opening_row (drop above.keyword keyword) absolute z) y)
+    let x : added_keyword ≡ escape (drop above.keyword keyword) = ka ∙ (ap (λ z. escape (drop found.keyword z)) ke ∙ ap (λ o. escape (drop o.keyword keyword)) n) in
+    let y : added_instance ≡ escape (drop above.instance instance) = ia ∙ (ap (λ z. escape (drop found.instance z)) ie ∙ ap (λ o. escape (drop o.instance instance)) n) in
+    ap (λ z. opening_row z a added_instance) x ∙ (ap (λ z. opening_row (escape (drop above.keyword keyword)) z added_instance) ae ∙ ap (λ z. opening_row (escape (drop above.keyword keyword)) (escape absolute) z) y)
 
 pub open_is : (number rows : ℕ) (keyword instance k i : List ℕ) → number ≡ rows → k ≡ keyword → i ≡ instance → open_at number k i ≡ open_at rows keyword instance
 open_is number rows keyword instance k i n ke ie = ap (λ z. open_at z k i) n ∙ (ap (λ z. open_at rows z i) ke ∙ ap (λ z. open_at rows keyword z) ie)
 
 -- the row has what the locations add to those of the node above
 pub opens : (rows new : List RelativeRow) (os ps : List DeclaredOpen) (r : RelativeRow) (o : DeclaredOpen) (keyword absolute instance : List ℕ) → (length os ≡ 0 → length rows ≡ 0)
-    → relative_row r ≡ opening_row (drop (node_above (open_nodes os [])).keyword keyword) absolute (drop (node_above (open_nodes os [])).instance instance)
+    → relative_row r ≡ escaped_row (drop (node_above (open_nodes os [])).keyword keyword) absolute (drop (node_above (open_nodes os [])).instance instance)
     → new ≡ rows ++ r ∷ [] → ps ≡ os ++ o ∷ [] → open_node o ≡ open_at (length rows) keyword instance
     → at (map relative_row new) (open_nodes ps []) ≡ relative_opened (map relative_row rows) (open_nodes os []) keyword absolute instance
 opens rows new os ps r o keyword absolute instance h f e d l =
-    let row : FlatRow = opening_row (drop (node_above (open_nodes os [])).keyword keyword) absolute (drop (node_above (open_nodes os [])).instance instance) in
+    let row : FlatRow = escaped_row (drop (node_above (open_nodes os [])).keyword keyword) absolute (drop (node_above (open_nodes os [])).instance instance) in
     let n : length (map relative_row rows) ≡ length rows = length-map rows relative_row in
     let a : map relative_row new ≡ map relative_row rows ++ row ∷ [] = ap (map relative_row) e ∙ (map-append relative_row rows (r ∷ []) ∙ ap (λ q. map relative_row rows ++ q ∷ []) f) in
     let b : open_nodes ps [] ≡ open_at (length (map relative_row rows)) keyword instance ∷ open_nodes os [] =

@@ -1,6 +1,8 @@
--- The locations of a node, while the rows of its tree are gone through from the root on (JSON Schema Core, section 12.3).
+-- The locations of a node, with JSON escapes, while the rows of its tree are gone through from the root on (JSON Schema
+-- Core, section 12.3).
 use Rattle.std.specs.Prelude.{◌≡◌, ℕ, ◌+◌, ◌≤◌, List, [], ◌++◌, length, vec_capacity}
 use Rattle.std.specs.List.{sum_by}
+use Rattle.json.specs.Print.{escape}
 use Rattle.js_tree.specs.declared.locations.Locations.{Locations}
 use Rattle.js_tree.specs.declared.relative.RelativeRow.{RelativeRow}
 use Rattle.js_tree.specs.declared.relative.RelativeRows.{RelativeRows}
@@ -21,6 +23,11 @@ pub record HasRoom (at : Locations) (rows : List RelativeRow) : Type 0 where
 pub record HasRoomFor (at : Locations) (rows : RelativeRows) : Type 0 where
   pub above_root : (at.keyword.items ≡ []) × (at.instance.items ≡ [])
   pub room : HasRoom at rows.rows.items
+
+-- these are they, without the escapes
+pub record AreAt (at : Locations) (keyword : List ℕ) (instance : List ℕ) : Type 0 where
+  pub keyword_is : at.keyword.items ≡ escape keyword
+  pub instance_is : at.instance.items ≡ escape instance
 
 -- the same locations, and no less room
 pub record IsBack (old : Locations) (new : Locations) : Type 0 where

@@ -1,6 +1,7 @@
 -- Trees each of whose nodes has only what its locations add to those of the node above (JSON Schema Core,
 -- section 12.3: the keyword location and the instance location of a node begin with those of the node above).
 use Rattle.std.specs.Prelude.{◌≡◌, ℕ, List, ◌++◌, drop, length}
+use Rattle.json.specs.Print.{escape}
 use Rattle.js_tree.specs.Forest.{Forest, empty, tree}
 use Rattle.js_tree.specs.OutputUnit.{OutputUnit}
 use Rattle.js_tree.specs.Result.{ResultTree}
@@ -50,3 +51,16 @@ placed keyword instance (tree u below after) =
 abbrev pub placed_tree : List ℕ → List ℕ → ResultTree → ResultTree
 placed_tree keyword instance t =
     record { root = placed_unit keyword instance t.root; below = placed (keyword ++ t.root.keyword) (instance ++ t.root.instance) t.below }
+
+-- ---- as they stand in a text, with JSON escapes (RFC 8259, section 7)
+
+abbrev pub escaped_unit : OutputUnit → OutputUnit
+escaped_unit u =
+    record { valid = u.valid; keyword = escape u.keyword; absolute = escape u.absolute; instance = escape u.instance; note = u.note }
+
+abbrev pub escaped : Forest OutputUnit → Forest OutputUnit
+escaped empty = empty
+escaped (tree u below after) = tree (escaped_unit u) (escaped below) (escaped after)
+
+abbrev pub escaped_tree : ResultTree → ResultTree
+escaped_tree t = record { root = escaped_unit t.root; below = escaped t.below }

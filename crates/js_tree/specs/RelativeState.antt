@@ -1,10 +1,11 @@
--- What a collector of rows holds that have only what their locations add to those of the node above.
+-- What a collector of rows holds that have only what their locations add to those of the node above, with JSON escapes.
 use Rattle.std.specs.Prelude.{◌≡◌, ℕ, ◌-◌, Bool, List, [], ◌∷◌, ◌++◌, drop, length, map}
+use Rattle.json.specs.Print.{escape}
 use Rattle.js_tree.specs.Events.{Event, opening, closing}
 use Rattle.js_tree.specs.Flat.{flat}
 use Rattle.js_tree.specs.FlatState.{FlatRow, opening_row, with_closed}
 use Rattle.js_tree.specs.Note.{Note}
-use Rattle.js_tree.specs.Relative.{IsLocated, relative_tree}
+use Rattle.js_tree.specs.Relative.{IsLocated, escaped_tree, relative_tree}
 use Rattle.js_tree.specs.Result.{ResultTree}
 use Rattle.js_tree.specs.Seen.{note_of}
 use Rattle.js_tree.specs.declared.relative.OpenNode.{OpenNode as DeclaredOpen}
@@ -27,7 +28,7 @@ relative_start = record { rows = []; nodes = [] }
 
 -- a whole tree's
 abbrev pub whole_relative : ResultTree → RelativeState
-whole_relative t = record { rows = flat (relative_tree t); nodes = [] }
+whole_relative t = record { rows = flat (escaped_tree (relative_tree t)); nodes = [] }
 
 abbrev pub open_at : ℕ → List ℕ → List ℕ → OpenNode
 open_at number keyword instance = record { number = number; keyword = length keyword; instance = length instance }
@@ -37,14 +38,17 @@ abbrev pub node_above : List OpenNode → OpenNode
 node_above [] = open_at 0 [] []
 node_above (o ∷ nodes) = o
 
+abbrev pub escaped_row : List ℕ → List ℕ → List ℕ → FlatRow
+escaped_row keyword absolute instance = opening_row (escape keyword) (escape absolute) (escape instance)
+
 -- no node opens after the root has closed: when there are rows, and none is open
 abbrev pub relative_opened : List FlatRow → List OpenNode → List ℕ → List ℕ → List ℕ → RelativeState
 relative_opened [] [] keyword absolute instance =
-    record { rows = opening_row keyword absolute instance ∷ []; nodes = open_at 0 keyword instance ∷ [] }
+    record { rows = escaped_row keyword absolute instance ∷ []; nodes = open_at 0 keyword instance ∷ [] }
 relative_opened (r ∷ rows) [] keyword absolute instance = record { rows = r ∷ rows; nodes = [] }
 relative_opened rows (o ∷ nodes) keyword absolute instance =
     record {
-      rows = rows ++ opening_row (drop o.keyword keyword) absolute (drop o.instance instance) ∷ [];
+      rows = rows ++ escaped_row (drop o.keyword keyword) absolute (drop o.instance instance) ∷ [];
       nodes = open_at (length rows) keyword instance ∷ o ∷ nodes;
     }
 
@@ -60,7 +64,8 @@ relative_after s (closing valid note) = relative_closed s.rows s.nodes valid not
 -- ---- of the code
 
 abbrev pub relative_row : RelativeRow → FlatRow
-relative_row r = (record { valid = r.valid; keyword = r.keyword.now; absolute = r.schema.now ++ r.absolute.now; instance = r.instance.now; note = note_of r.note }, r.size)
+relative_row r =
+    (record { valid = r.valid; keyword = r.keyword.now; absolute = escape r.schema.now ++ r.absolute.now; instance = r.instance.now; note = note_of r.note }, r.size)
 
 abbrev pub open_node : DeclaredOpen → OpenNode
 open_node o = record { number = o.number; keyword = o.keyword; instance = o.instance }

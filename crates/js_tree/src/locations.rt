@@ -1,12 +1,12 @@
 //! The locations of a node, put together from the parts that it and the nodes above it add.
-ghost use Rattle.std.specs.Prelude.{◌≡◌, ◌∷◌, [], IfOk};
+ghost use Rattle.std.specs.Prelude.{◌≡◌, ◌∷◌, [], List, ℕ, IfOk};
 ghost use Rattle.js_doc.specs.BytesOut.{Puts};
-ghost use Rattle.js_tree.specs.Locations.{HasRoom, HasRoomFor, IsDown, IsUp, instances_added, keywords_added};
+ghost use Rattle.js_tree.specs.Locations.{AreAt, HasRoom, HasRoomFor, IsDown, IsUp, instances_added, keywords_added};
 ghost use Rattle.js_tree.specs.code.NodeText.{end_text, valid_text};
 ghost use Rattle.js_tree.specs.code.RelativeText.{closing_text};
 
 use crate::relative::{RelativeRow, RelativeRows};
-use js_doc::{Memory, Out, Stopped, put_escaped};
+use js_doc::{Memory, Out, Stopped};
 use std::alloc::Global;
 
 /// The keyword location and the instance location of one node, while relative rows are written (JSON Schema Core,
@@ -54,8 +54,8 @@ impl Locations {
 
     /// Writes the last members of the node: its instance location, its keyword location and its verdict.
     pub(crate) fn put_end<O: Out>(&self, valid: bool, out: &mut O) -> Result<(), Stopped>
-        ensures { Puts (O.progress out.old) (O.progress out.new)
-            (end_text self.now.instance.items self.now.keyword.items valid) result }
+        ensures { (keyword instance : List ℕ) → AreAt self.now keyword instance
+            → Puts (O.progress out.old) (O.progress out.new) (end_text instance keyword valid) result }
     {
         out.put(b",\"instanceLocation\":\"")?;
         self.put_closing(valid, out)
@@ -63,12 +63,12 @@ impl Locations {
 
     /// Writes the same, from behind the opening quotation mark of the instance location.
     pub(crate) fn put_closing<O: Out>(&self, valid: bool, out: &mut O) -> Result<(), Stopped>
-        ensures { Puts (O.progress out.old) (O.progress out.new)
-            (closing_text self.now.instance.items self.now.keyword.items valid) result }
+        ensures { (keyword instance : List ℕ) → AreAt self.now keyword instance
+            → Puts (O.progress out.old) (O.progress out.new) (closing_text instance keyword valid) result }
     {
-        put_escaped(self.instance.as_slice(), out)?;
+        out.put(self.instance.as_slice())?;
         out.put(b"\",\"keywordLocation\":\"")?;
-        put_escaped(self.keyword.as_slice(), out)?;
+        out.put(self.keyword.as_slice())?;
         put_last(valid, out)
     }
 }

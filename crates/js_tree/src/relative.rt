@@ -1,5 +1,6 @@
 //! A result as relative rows: of each location a row keeps only what it adds to that of the node above.
 ghost use Rattle.std.specs.Prelude.{◌≡◌, [], ◌++◌, IfOk, drop};
+ghost use Rattle.json.specs.Print.{escape};
 ghost use Rattle.js_tree.specs.Events.{opening, closing};
 ghost use Rattle.js_tree.specs.RelativeState.{AreRowsOf, AreWhole, node_above, open_node, open_nodes, relative_after, relative_start, relative_state};
 ghost use Rattle.js_tree.specs.Result.{ResultTree};
@@ -7,17 +8,18 @@ ghost use Rattle.js_tree.specs.Seen.{note_of};
 
 use crate::note::Note;
 use bumpalo::Bump;
-use js_doc::Memory;
+use js_doc::{Memory, put_escaped, stand_as_they_are};
 use std::alloc::Global;
 
 /// A row of `RelativeRows`: a node, without what the rows above it say of its locations.
 #[derive(Drop)]
 pub struct RelativeRow<'a> {
     pub(crate) valid: bool,
-    // The parts that its keyword location and its instance location add to those of the node above.
+    // The parts that its keyword location and its instance location add to those of the node above, with JSON escapes,
+    // since they are written more than once.
     pub(crate) keyword: &'a [u8],
     pub(crate) instance: &'a [u8],
-    // The absolute location of its schema, and the part that its own adds to it.
+    // The absolute location of its schema, and the part that its own adds to it, with JSON escapes.
     pub(crate) schema: &'a str,
     pub(crate) absolute: &'a [u8],
     pub(crate) note: Note<'a>,
@@ -41,6 +43,8 @@ pub struct RelativeRows<'a> {
     pub(crate) rows: Vec<RelativeRow<'a>>,
     // The open nodes, the innermost last.
     nodes: Vec<OpenNode>,
+    // What goes into the arena, while it is escaped.
+    scratch: Vec<u8>,
 }
 
 impl<'a> RelativeRows<'a> {
@@ -52,6 +56,7 @@ impl<'a> RelativeRows<'a> {
             arena,
             rows: Vec::new(alloc),
             nodes: Vec::new(alloc),
+            scratch: Vec::new(alloc),
         }
     }
 
@@ -76,12 +81,15 @@ impl<'a> RelativeRows<'a> {
             let above = innermost(self.nodes.as_slice());
             let keyword = keyword.as_bytes();
             let instance = instance.as_bytes();
+            let scratch = &mut self.scratch;
+            let added = behind(keyword, above.keyword);
+            let kept = in_arena(self.arena, scratch, added)?;
             let row = RelativeRow {
                 valid: false,
-                keyword: in_arena(self.arena, behind(keyword, above.keyword))?,
-                instance: in_arena(self.arena, behind(instance, above.instance))?,
+                keyword: kept,
+                instance: in_arena(self.arena, scratch, behind(instance, above.instance))?,
                 schema,
-                absolute: in_arena(self.arena, token.as_bytes())?,
+                absolute: token_in_arena(self.arena, scratch, token.as_bytes(), added, kept)?,
                 note: Note::Silent,
                 size: 0,
             };
@@ -148,12 +156,45 @@ fn behind(text: &[u8], length: usize) -> &[u8]
     }
 }
 
-fn in_arena<'a>(arena: &'a Bump, bytes: &[u8]) -> Result<&'a [u8], Memory>
-    ensures { IfOk result (λ b. b.now ≡ bytes.now) }
+// The bytes with their escapes, in the arena.
+fn in_arena<'a>(arena: &'a Bump, scratch: &mut Vec<u8>, bytes: &[u8]) -> Result<&'a [u8], Memory>
+    ensures { IfOk result (λ b. b.now ≡ escape bytes.now) }
 {
     if bytes.is_empty() {
         return Ok(&[]);
     }
+    if !stand_as_they_are(bytes) {
+        return escaped_in_arena(arena, scratch, bytes);
+    }
     let kept = arena.try_alloc_slice_copy(bytes)?;
+    Ok(kept)
+}
+
+// The token with its escapes, in the arena. Most keywords' names add the same to both locations, and that is kept once.
+fn token_in_arena<'a>(
+    arena: &'a Bump,
+    scratch: &mut Vec<u8>,
+    token: &[u8],
+    added: &[u8],
+    kept: &'a [u8],
+) -> Result<&'a [u8], Memory>
+    ensures { kept.now ≡ escape added.now → IfOk result (λ b. b.now ≡ escape token.now) }
+{
+    if token == added {
+        return Ok(kept);
+    }
+    in_arena(arena, scratch, token)
+}
+
+fn escaped_in_arena<'a>(
+    arena: &'a Bump,
+    scratch: &mut Vec<u8>,
+    bytes: &[u8],
+) -> Result<&'a [u8], Memory>
+    ensures { IfOk result (λ b. b.now ≡ escape bytes.now) }
+{
+    scratch.clear();
+    put_escaped(bytes, scratch)?;
+    let kept = arena.try_alloc_slice_copy(scratch.as_slice())?;
     Ok(kept)
 }

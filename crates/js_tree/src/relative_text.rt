@@ -1,20 +1,19 @@
 //! The text of the verbose format, from relative rows.
-ghost use Rattle.std.specs.Prelude.{◌≡◌, ◌++◌, ◌∷◌, [], List, ℕ, codes, false, map, OnOk};
+ghost use Rattle.std.specs.Prelude.{◌≡◌, ◌++◌, ◌∷◌, [], List, ℕ, codes, false, OnOk};
 ghost use Rattle.js_doc.specs.BytesOut.{Puts};
 ghost use Rattle.js_doc.specs.Compact.{comma_if, compact, compact_items};
 ghost use Rattle.js_doc.specs.Value.{items};
-ghost use Rattle.js_tree.specs.Flat.{flat, flat_of};
 ghost use Rattle.js_tree.specs.Forest.{Forest};
 ghost use Rattle.js_tree.specs.Form.{array_of_some, node_value, node_values, value_if, verbose};
-ghost use Rattle.js_tree.specs.Locations.{HasRoom, HasRoomFor, IsBack};
+ghost use Rattle.js_tree.specs.Locations.{AreAt, HasRoom, HasRoomFor, IsBack};
 ghost use Rattle.js_tree.specs.Note.{silent};
 ghost use Rattle.js_tree.specs.OutputUnit.{OutputUnit};
 ghost use Rattle.js_tree.specs.Relative.{placed, placed_tree};
-ghost use Rattle.js_tree.specs.RelativeState.{AreRowsOf, AreWhole, relative_row};
+ghost use Rattle.js_tree.specs.RelativeState.{AreRowsOf, AreWhole};
 ghost use Rattle.js_tree.specs.Result.{ResultTree};
 ghost use Rattle.js_tree.specs.Seen.{note_of};
 ghost use Rattle.js_tree.specs.code.NodeText.{beginning_text, given_text};
-ghost use Rattle.js_tree.specs.code.RelativeText.{children_start, inside_text, opening_text, unit_there};
+ghost use Rattle.js_tree.specs.code.RelativeText.{AreRowsOfTree, AreRowsOfTrees, IsAbsolute, children_start, inside_text, opening_text, unit_there};
 
 use crate::locations::Locations;
 use crate::node_text::{put_annotation, put_error};
@@ -48,10 +47,11 @@ fn put_tree<O: Out>(
     locations: &mut Locations,
     out: &mut O,
 ) -> Result<(), Stopped>
-    requires { (r : ResultTree) × (map relative_row rows.now ≡ flat r) × HasRoom locations.old rows.now }
-    ensures text { (r : ResultTree) → map relative_row rows.now ≡ flat r
-        → Puts (O.progress out.old) (O.progress out.new) (comma_if later ++ compact (verbose
-        (placed_tree locations.old.keyword.items locations.old.instance.items r))) result }
+    requires { (r : ResultTree) × AreRowsOfTree rows.now r × HasRoom locations.old rows.now }
+    ensures text { (r : ResultTree) (keyword instance : List ℕ) → AreAt locations.old keyword instance
+        → AreRowsOfTree rows.now r
+        → Puts (O.progress out.old) (O.progress out.new)
+        (comma_if later ++ compact (verbose (placed_tree keyword instance r))) result }
     ensures back { OnOk result (IsBack locations.old locations.new) }
 {
     let row = &rows[0];
@@ -70,11 +70,12 @@ fn put_node<O: Out>(
     locations: &mut Locations,
     out: &mut O,
 ) -> Result<(), Stopped>
-    requires { (f : Forest OutputUnit) × (map relative_row below.now ≡ flat_of f) × HasRoom locations.old below.now }
-    ensures text { (f : Forest OutputUnit) → map relative_row below.now ≡ flat_of f
-        → Puts (O.progress out.old) (O.progress out.new) (comma_if later ++ compact (node_value
-        (unit_there row.now locations.old) (node_values
-        (placed locations.old.keyword.items locations.old.instance.items f)))) result }
+    requires { (f : Forest OutputUnit) × AreRowsOfTrees below.now f × HasRoom locations.old below.now }
+    ensures text { (f : Forest OutputUnit) (keyword absolute instance : List ℕ) → AreAt locations.old keyword instance
+        → IsAbsolute row.now absolute → AreRowsOfTrees below.now f
+        → Puts (O.progress out.old) (O.progress out.new)
+        (comma_if later ++ compact (node_value (unit_there row.now keyword absolute instance)
+        (node_values (placed keyword instance f)))) result }
     ensures back { OnOk result (IsBack locations.old locations.new) }
 {
     let note = &row.note;
@@ -93,11 +94,12 @@ fn put_noted<O: Out>(
     locations: &mut Locations,
     out: &mut O,
 ) -> Result<(), Stopped>
-    requires { (f : Forest OutputUnit) × (map relative_row below.now ≡ flat_of f) × HasRoom locations.old below.now }
-    ensures text { (f : Forest OutputUnit) → map relative_row below.now ≡ flat_of f
-        → Puts (O.progress out.old) (O.progress out.new) (comma_if later ++ compact (node_value
-        (unit_there row.now locations.old) (node_values
-        (placed locations.old.keyword.items locations.old.instance.items f)))) result }
+    requires { (f : Forest OutputUnit) × AreRowsOfTrees below.now f × HasRoom locations.old below.now }
+    ensures text { (f : Forest OutputUnit) (keyword absolute instance : List ℕ) → AreAt locations.old keyword instance
+        → IsAbsolute row.now absolute → AreRowsOfTrees below.now f
+        → Puts (O.progress out.old) (O.progress out.new)
+        (comma_if later ++ compact (node_value (unit_there row.now keyword absolute instance)
+        (node_values (placed keyword instance f)))) result }
     ensures back { OnOk result (IsBack locations.old locations.new) }
 {
     let valid = row.valid;
@@ -117,11 +119,11 @@ fn put_children<O: Out>(
     locations: &mut Locations,
     out: &mut O,
 ) -> Result<(), Stopped>
-    requires { (f : Forest OutputUnit) × (map relative_row rows.now ≡ flat_of f) × HasRoom locations.old rows.now }
-    ensures text { (f : Forest OutputUnit) (name : List ℕ) → map relative_row rows.now ≡ flat_of f
-        → start.now ≡ name ++ 91 ∷ []
-        → Puts (O.progress out.old) (O.progress out.new) (given_text name (value_if here (array_of_some (node_values
-        (placed locations.old.keyword.items locations.old.instance.items f))))) result }
+    requires { (f : Forest OutputUnit) × AreRowsOfTrees rows.now f × HasRoom locations.old rows.now }
+    ensures text { (f : Forest OutputUnit) (name keyword instance : List ℕ) → AreAt locations.old keyword instance
+        → AreRowsOfTrees rows.now f → start.now ≡ name ++ 91 ∷ []
+        → Puts (O.progress out.old) (O.progress out.new)
+        (given_text name (value_if here (array_of_some (node_values (placed keyword instance f))))) result }
     ensures back { OnOk result (IsBack locations.old locations.new) }
 {
     if !here {
@@ -145,12 +147,12 @@ fn put_silent<O: Out>(
     out: &mut O,
 ) -> Result<(), Stopped>
     requires silent { note_of row.now.note ≡ silent }
-    requires trees { (f : Forest OutputUnit) × (map relative_row below.now ≡ flat_of f)
-        × HasRoom locations.old below.now }
-    ensures text { (f : Forest OutputUnit) → map relative_row below.now ≡ flat_of f
-        → Puts (O.progress out.old) (O.progress out.new) (comma_if later ++ compact (node_value
-        (unit_there row.now locations.old) (node_values
-        (placed locations.old.keyword.items locations.old.instance.items f)))) result }
+    requires trees { (f : Forest OutputUnit) × AreRowsOfTrees below.now f × HasRoom locations.old below.now }
+    ensures text { (f : Forest OutputUnit) (keyword absolute instance : List ℕ) → AreAt locations.old keyword instance
+        → IsAbsolute row.now absolute → AreRowsOfTrees below.now f
+        → Puts (O.progress out.old) (O.progress out.new)
+        (comma_if later ++ compact (node_value (unit_there row.now keyword absolute instance)
+        (node_values (placed keyword instance f)))) result }
     ensures back { OnOk result (IsBack locations.old locations.new) }
 {
     let valid = row.valid;
@@ -167,10 +169,11 @@ fn put_inside<O: Out>(
     locations: &mut Locations,
     out: &mut O,
 ) -> Result<(), Stopped>
-    requires { (f : Forest OutputUnit) × (map relative_row rows.now ≡ flat_of f) × HasRoom locations.old rows.now }
-    ensures text { (f : Forest OutputUnit) → map relative_row rows.now ≡ flat_of f
-        → Puts (O.progress out.old) (O.progress out.new) (inside_text valid (node_values
-        (placed locations.old.keyword.items locations.old.instance.items f))) result }
+    requires { (f : Forest OutputUnit) × AreRowsOfTrees rows.now f × HasRoom locations.old rows.now }
+    ensures text { (f : Forest OutputUnit) (keyword instance : List ℕ) → AreAt locations.old keyword instance
+        → AreRowsOfTrees rows.now f
+        → Puts (O.progress out.old) (O.progress out.new)
+        (inside_text valid (node_values (placed keyword instance f))) result }
     ensures back { OnOk result (IsBack locations.old locations.new) }
 {
     if rows.is_empty() {
@@ -188,11 +191,11 @@ fn put_trees<O: Out>(
     locations: &mut Locations,
     out: &mut O,
 ) -> Result<(), Stopped>
-    requires { (f : Forest OutputUnit) × (map relative_row rows.now ≡ flat_of f) × HasRoom locations.old rows.now }
-    ensures text { (f : Forest OutputUnit) (rest : List ℕ) → map relative_row rows.now ≡ flat_of f
-        → end.now ≡ 93 ∷ rest
-        → Puts (O.progress out.old) (O.progress out.new) (compact_items false (items (node_values
-        (placed locations.old.keyword.items locations.old.instance.items f))) ++ rest) result }
+    requires { (f : Forest OutputUnit) × AreRowsOfTrees rows.now f × HasRoom locations.old rows.now }
+    ensures text { (f : Forest OutputUnit) (rest keyword instance : List ℕ) → AreAt locations.old keyword instance
+        → AreRowsOfTrees rows.now f → end.now ≡ 93 ∷ rest
+        → Puts (O.progress out.old) (O.progress out.new)
+        (compact_items false (items (node_values (placed keyword instance f))) ++ rest) result }
     ensures back { OnOk result (IsBack locations.old locations.new) }
 {
     let mut later = false;
@@ -213,8 +216,9 @@ pub(crate) fn put_beginning<O: Out>(
     row: &RelativeRow,
     out: &mut O,
 ) -> Result<(), Stopped>
-    ensures { Puts (O.progress out.old) (O.progress out.new) (comma_if later ++ beginning_text
-        (row.now.schema.now ++ row.now.absolute.now) (note_of row.now.note)) result }
+    ensures { (absolute : List ℕ) → IsAbsolute row.now absolute
+        → Puts (O.progress out.old) (O.progress out.new)
+        (comma_if later ++ beginning_text absolute (note_of row.now.note)) result }
 {
     put_opening(later, row, out)?;
     out.put(b"\"")?;
@@ -223,12 +227,12 @@ pub(crate) fn put_beginning<O: Out>(
 
 /// Writes the beginning of a node, up to the end of its absolute location, without the closing quotation mark.
 fn put_opening<O: Out>(later: bool, row: &RelativeRow, out: &mut O) -> Result<(), Stopped>
-    ensures { Puts (O.progress out.old) (O.progress out.new) (opening_text later
-        (row.now.schema.now ++ row.now.absolute.now)) result }
+    ensures { (absolute : List ℕ) → IsAbsolute row.now absolute
+        → Puts (O.progress out.old) (O.progress out.new) (opening_text later absolute) result }
 {
     put_start(later, out)?;
     put_escaped(row.schema.as_bytes(), out)?;
-    put_escaped(row.absolute, out)
+    out.put(row.absolute)
 }
 
 /// Writes what is before the absolute location; after a comma, if the node isn't the first in its list.

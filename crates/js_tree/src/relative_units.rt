@@ -1,16 +1,16 @@
 //! The text of the basic format, from relative rows.
-ghost use Rattle.std.specs.Prelude.{◌≡◌, ◌++◌, OnOk, [], codes, map};
+ghost use Rattle.std.specs.Prelude.{◌≡◌, ◌++◌, OnOk, [], List, ℕ, codes};
 ghost use Rattle.js_doc.specs.BytesOut.{Puts};
 ghost use Rattle.js_doc.specs.Compact.{comma_if, compact};
-ghost use Rattle.js_tree.specs.Flat.{flat, flat_of};
 ghost use Rattle.js_tree.specs.Forest.{Forest};
 ghost use Rattle.js_tree.specs.Form.{node_value, unit_list};
-ghost use Rattle.js_tree.specs.Locations.{HasRoom, HasRoomFor, IsBack};
+ghost use Rattle.js_tree.specs.Locations.{AreAt, HasRoom, HasRoomFor, IsBack};
 ghost use Rattle.js_tree.specs.OutputUnit.{OutputUnit};
-ghost use Rattle.js_tree.specs.RelativeState.{AreRowsOf, AreWhole, relative_row};
+ghost use Rattle.js_tree.specs.RelativeState.{AreRowsOf, AreWhole};
 ghost use Rattle.js_tree.specs.Result.{ResultTree, pruned};
 ghost use Rattle.js_tree.specs.code.NodeText.{list_start, valid_text};
-ghost use Rattle.js_tree.specs.code.UnitsText.{AreListed, if_noted, listed, listed_tree, unit_at};
+ghost use Rattle.js_tree.specs.code.RelativeText.{AreRowsOfTree, AreRowsOfTrees, IsAbsolute, unit_there};
+ghost use Rattle.js_tree.specs.code.UnitsText.{AreListed, if_noted, listed, listed_tree};
 
 use crate::locations::Locations;
 use crate::node_text::put_error;
@@ -53,10 +53,10 @@ fn put_trees<O: Out>(
     locations: &mut Locations,
     out: &mut O,
 ) -> Result<bool, Stopped>
-    requires { (f : Forest OutputUnit) × (map relative_row rows.now ≡ flat_of f) × HasRoom locations.old rows.now }
-    ensures listed { (f : Forest OutputUnit) → map relative_row rows.now ≡ flat_of f
-        → AreListed (O.progress out.old) (O.progress out.new) later
-        (listed verdict locations.old.keyword.items locations.old.instance.items f) result }
+    requires { (f : Forest OutputUnit) × AreRowsOfTrees rows.now f × HasRoom locations.old rows.now }
+    ensures listed { (f : Forest OutputUnit) (keyword instance : List ℕ) → AreAt locations.old keyword instance
+        → AreRowsOfTrees rows.now f
+        → AreListed (O.progress out.old) (O.progress out.new) later (listed verdict keyword instance f) result }
     ensures back { OnOk result (IsBack locations.old locations.new) }
 {
     let mut later = later;
@@ -82,10 +82,11 @@ fn put_tree<O: Out>(
     locations: &mut Locations,
     out: &mut O,
 ) -> Result<bool, Stopped>
-    requires { (r : ResultTree) × (map relative_row rows.now ≡ flat r) × HasRoom locations.old rows.now }
-    ensures listed { (r : ResultTree) → map relative_row rows.now ≡ flat r
+    requires { (r : ResultTree) × AreRowsOfTree rows.now r × HasRoom locations.old rows.now }
+    ensures listed { (r : ResultTree) (keyword instance : List ℕ) → AreAt locations.old keyword instance
+        → AreRowsOfTree rows.now r
         → AreListed (O.progress out.old) (O.progress out.new) later
-        (listed_tree verdict locations.old.keyword.items locations.old.instance.items r.root r.below) result }
+        (listed_tree verdict keyword instance r.root r.below) result }
     ensures back { OnOk result (IsBack locations.old locations.new) }
 {
     let row = &rows[0];
@@ -103,8 +104,9 @@ fn put_noted<O: Out>(
     locations: &Locations,
     out: &mut O,
 ) -> Result<bool, Stopped>
-    ensures { AreListed (O.progress out.old) (O.progress out.new) later (if_noted
-        (unit_at locations.now row.now)) result }
+    ensures { (keyword absolute instance : List ℕ) → AreAt locations.now keyword instance → IsAbsolute row.now absolute
+        → AreListed (O.progress out.old) (O.progress out.new) later
+        (if_noted (unit_there row.now keyword absolute instance)) result }
 {
     if !row.note.is_some() {
         return Ok(later);
@@ -120,8 +122,9 @@ fn put_unit<O: Out>(
     locations: &Locations,
     out: &mut O,
 ) -> Result<(), Stopped>
-    ensures { Puts (O.progress out.old) (O.progress out.new) (comma_if later ++ compact (node_value
-        (unit_at locations.now row.now) [])) result }
+    ensures { (keyword absolute instance : List ℕ) → AreAt locations.now keyword instance → IsAbsolute row.now absolute
+        → Puts (O.progress out.old) (O.progress out.new)
+        (comma_if later ++ compact (node_value (unit_there row.now keyword absolute instance) [])) result }
 {
     put_beginning(later, row, out)?;
     put_error(&row.note, out)?;

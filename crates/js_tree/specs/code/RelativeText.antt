@@ -1,19 +1,34 @@
 -- The text of a node whose row has only what its locations add, in pieces (of private functions).
-use Rattle.std.specs.Prelude.{ℕ, Bool, true, false, not, List, ◌∷◌, ◌++◌, codes}
+use Rattle.std.specs.Prelude.{◌≡◌, ℕ, Bool, true, false, not, List, ◌∷◌, ◌++◌, codes, map}
 use Rattle.json.specs.Print.{escape}
 use Rattle.js_doc.specs.Compact.{comma_if}
 use Rattle.js_doc.specs.Value.{Value}
+use Rattle.js_tree.specs.Flat.{flat, flat_of}
+use Rattle.js_tree.specs.Forest.{Forest}
 use Rattle.js_tree.specs.Form.{array_of_some, value_if}
 use Rattle.js_tree.specs.OutputUnit.{OutputUnit}
+use Rattle.js_tree.specs.Relative.{escaped, escaped_tree}
+use Rattle.js_tree.specs.RelativeState.{relative_row}
+use Rattle.js_tree.specs.Result.{ResultTree}
 use Rattle.js_tree.specs.Seen.{note_of}
 use Rattle.js_tree.specs.code.NodeText.{given_text, valid_text}
-use Rattle.js_tree.specs.declared.locations.Locations.{Locations}
 use Rattle.js_tree.specs.declared.relative.RelativeRow.{RelativeRow}
 
--- the row's unit, at these locations
-abbrev pub unit_there : RelativeRow → Locations → OutputUnit
-unit_there r l =
-    record { valid = r.valid; keyword = l.keyword.items; absolute = r.schema.now ++ r.absolute.now; instance = l.instance.items; note = note_of r.note }
+-- the rows are those of the trees, whose locations have no escapes
+abbrev pub AreRowsOfTrees : List RelativeRow → Forest OutputUnit → Type 0
+AreRowsOfTrees rows f = map relative_row rows ≡ flat_of (escaped f)
+
+abbrev pub AreRowsOfTree : List RelativeRow → ResultTree → Type 0
+AreRowsOfTree rows t = map relative_row rows ≡ flat (escaped_tree t)
+
+-- it is the absolute location of the row's node, without the escapes
+abbrev pub IsAbsolute : RelativeRow → List ℕ → Type 0
+IsAbsolute r absolute = escape r.schema.now ++ r.absolute.now ≡ escape absolute
+
+-- the row's unit, with these locations
+abbrev pub unit_there : RelativeRow → List ℕ → List ℕ → List ℕ → OutputUnit
+unit_there r keyword absolute instance =
+    record { valid = r.valid; keyword = keyword; absolute = absolute; instance = instance; note = note_of r.note }
 
 -- up to the absolute location, whose closing quotation mark comes with what follows
 abbrev pub opening_text : Bool → List ℕ → List ℕ

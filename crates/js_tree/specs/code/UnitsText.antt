@@ -8,10 +8,7 @@ use Rattle.js_tree.specs.OutputUnit.{OutputUnit, noted}
 use Rattle.js_tree.specs.Pruned.{pruned_below}
 use Rattle.js_tree.specs.Relative.{placed, placed_unit}
 use Rattle.js_tree.specs.Result.{has_verdict}
-use Rattle.js_tree.specs.Seen.{note_of}
 use Rattle.js_tree.specs.Units.{units_below}
-use Rattle.js_tree.specs.declared.locations.Locations.{Locations}
-use Rattle.js_tree.specs.declared.relative.RelativeRow.{RelativeRow}
 
 -- each unit is a node without children, and commas stand between
 abbrev pub units_text : Bool → List OutputUnit → List ℕ
@@ -35,10 +32,6 @@ if_noted u = if noted u then u ∷ [] else []
 abbrev pub listed_tree : Bool → List ℕ → List ℕ → OutputUnit → Forest OutputUnit → List OutputUnit
 listed_tree verdict keyword instance u below =
     if_noted (placed_unit keyword instance u) ++ listed verdict (keyword ++ u.keyword) (instance ++ u.instance) below
-
--- the unit of the row, whose node has these locations
-abbrev pub unit_at : Locations → RelativeRow → OutputUnit
-unit_at at r = record { valid = r.valid; keyword = at.keyword.items; absolute = r.schema.now ++ r.absolute.now; instance = at.instance.items; note = note_of r.note }
 
 -- all of the units have gone out, and it is known whether something stands before what comes next
 pub record AllListed (old : Progress) (new : Progress) (later : Bool) (us : List OutputUnit) (now : Bool) : Type 0 where

@@ -1,14 +1,13 @@
-use Rattle.std.proofs.Common.{ℕ, List, ◌++◌, ◌≡◌, ◌≤◌, ◌+◌, ◌-◌, ◌*◌, false, drop, length, map}
+use Rattle.std.proofs.Common.{ℕ, List, ◌++◌, ◌≤◌, ◌+◌, ◌-◌, ◌*◌, false, drop, length}
 use Rattle.js_doc.specs.Compact.{compact_items}
 use Rattle.js_doc.specs.Value.{items}
 use Rattle.js_doc.proofs.BytesGone.{Wrote}
-use Rattle.js_tree.specs.Flat.{flat_of}
 use Rattle.js_tree.specs.Forest.{Forest}
 use Rattle.js_tree.specs.Form.{node_values}
-use Rattle.js_tree.specs.Locations.{IsBack}
+use Rattle.js_tree.specs.Locations.{AreAt, IsBack}
 use Rattle.js_tree.specs.OutputUnit.{OutputUnit}
 use Rattle.js_tree.specs.Relative.{placed}
-use Rattle.js_tree.specs.RelativeState.{relative_row}
+use Rattle.js_tree.specs.code.RelativeText.{AreRowsOfTrees}
 use Rattle.js_tree.proofs.relative_text.+put_tree.Given as goal
 
 abbrev pub decreases-put_tree : goal.decreases-put_tree
@@ -36,9 +35,10 @@ abbrev pub invariant-put_trees-loop-next : goal.invariant-put_trees-loop-next
 invariant-put_trees-loop-next g l =
     (l.next ≤ length l.rows)
     × IsBack l.fn.locations l.locations
-    × ((f : Forest OutputUnit) (rest : List ℕ) → map relative_row l.rows ≡ flat_of f
-    → (left : Forest OutputUnit) × (map relative_row (drop l.next l.rows) ≡ flat_of left)
-    × Wrote (g.O.Out.progress l.fn.out) (g.O.Out.progress l.out) (compact_items l.later (items (node_values (placed l.fn.locations.keyword.items l.fn.locations.instance.items left))) ++ rest) (compact_items false (items (node_values (placed l.fn.locations.keyword.items l.fn.locations.instance.items f))) ++ rest))
+    × ((f : Forest OutputUnit) (rest : List ℕ) → AreRowsOfTrees l.rows f
+    → (left : Forest OutputUnit) × AreRowsOfTrees (drop l.next l.rows) left
+    × ((keyword instance : List ℕ) → AreAt l.fn.locations keyword instance
+    → Wrote (g.O.Out.progress l.fn.out) (g.O.Out.progress l.out) (compact_items l.later (items (node_values (placed keyword instance left))) ++ rest) (compact_items false (items (node_values (placed keyword instance f))) ++ rest)))
 
 abbrev pub decreases-put_trees-loop-next : goal.decreases-put_trees-loop-next
 decreases-put_trees-loop-next g l = length l.rows - l.next

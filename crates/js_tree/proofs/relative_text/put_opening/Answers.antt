@@ -8,36 +8,39 @@ use Rattle.js_tree.proofs.relative_text.put_opening.Goals as goal
 
 pub returns-in_err-put_start : goal.returns-in_err-put_start
 returns-in_err-put_start g c =
+    λ absolute is.
     let o = g.O.Out.progress in
     let row = c.args.row.now in
     let p1 = comma_if c.args.later ++ codes "{\"absoluteKeywordLocation\":\"" in
     let p2 = escape row.schema.now in
-    let p3 = escape row.absolute.now in
+    let p3 = row.absolute.now in
     let r = c.from_residual.result in
-    subst (λ l. Puts (o c.args.out.now) (o c.put_start.new.out) l r) (opening_in_parts c.args.later row.schema.now row.absolute.now)
-    (stops_in (o c.args.out.now) (o c.put_start.new.out) p1 (p2 ++ (p3)) r c.from_residual.ensures.0 c.in_err-put_start.ensures)
+    subst (λ l. Puts (o c.args.out.now) (o c.put_start.new.out) l r) (opening_in_parts c.args.later row.schema.now p3 absolute is)
+    (stops_in (o c.args.out.now) (o c.put_start.new.out) p1 (p2 ++ p3) r c.from_residual.ensures.0 c.in_err-put_start.ensures)
 
 pub returns-in_err-put_escaped : goal.returns-in_err-put_escaped
 returns-in_err-put_escaped g c =
+    λ absolute is.
     let o = g.O.Out.progress in
     let row = c.args.row.now in
     let p1 = comma_if c.args.later ++ codes "{\"absoluteKeywordLocation\":\"" in
     let p2 = escape row.schema.now in
-    let p3 = escape row.absolute.now in
+    let p3 = row.absolute.now in
     let r = c.from_residual-in_err-put_escaped.result in
-    subst (λ l. Puts (o c.args.out.now) (o c.put_escaped.new.out) l r) (opening_in_parts c.args.later row.schema.now row.absolute.now)
-    (then_puts (o c.args.out.now) (o c.put_start.new.out) (o c.put_escaped.new.out) p1 (p2 ++ (p3)) r c.in_ok-put_start.ensures
-    (stops_in (o c.put_start.new.out) (o c.put_escaped.new.out) p2 (p3) r c.from_residual-in_err-put_escaped.ensures.0 (subst (λ t. Stops (o c.put_start.new.out) (o c.put_escaped.new.out) (escape t)) c.as_bytes.ensures.value c.in_err-put_escaped.ensures)))
+    subst (λ l. Puts (o c.args.out.now) (o c.put_escaped.new.out) l r) (opening_in_parts c.args.later row.schema.now p3 absolute is)
+    (then_puts (o c.args.out.now) (o c.put_start.new.out) (o c.put_escaped.new.out) p1 (p2 ++ p3) r c.in_ok-put_start.ensures
+    (stops_in (o c.put_start.new.out) (o c.put_escaped.new.out) p2 p3 r c.from_residual-in_err-put_escaped.ensures.0 (subst (λ t. Stops (o c.put_start.new.out) (o c.put_escaped.new.out) (escape t)) c.as_bytes.ensures.value c.in_err-put_escaped.ensures)))
 
 pub returns : goal.returns
 returns g c =
+    λ absolute is.
     let o = g.O.Out.progress in
     let row = c.args.row.now in
     let p1 = comma_if c.args.later ++ codes "{\"absoluteKeywordLocation\":\"" in
     let p2 = escape row.schema.now in
-    let p3 = escape row.absolute.now in
-    let r = c.put_escaped-2.result in
-    subst (λ l. Puts (o c.args.out.now) (o c.put_escaped-2.new.out) l r) (opening_in_parts c.args.later row.schema.now row.absolute.now)
-    (then_puts (o c.args.out.now) (o c.put_start.new.out) (o c.put_escaped-2.new.out) p1 (p2 ++ (p3)) r c.in_ok-put_start.ensures
-    (then_puts (o c.put_start.new.out) (o c.put_escaped.new.out) (o c.put_escaped-2.new.out) p2 (p3) r (subst (λ t. Goes (o c.put_start.new.out) (o c.put_escaped.new.out) (escape t)) c.as_bytes.ensures.value c.in_ok-put_escaped.ensures)
-    c.put_escaped-2.ensures))
+    let p3 = row.absolute.now in
+    let r = c.put.result in
+    subst (λ l. Puts (o c.args.out.now) (o c.put.new.self) l r) (opening_in_parts c.args.later row.schema.now p3 absolute is)
+    (then_puts (o c.args.out.now) (o c.put_start.new.out) (o c.put.new.self) p1 (p2 ++ p3) r c.in_ok-put_start.ensures
+    (then_puts (o c.put_start.new.out) (o c.put_escaped.new.out) (o c.put.new.self) p2 p3 r (subst (λ t. Goes (o c.put_start.new.out) (o c.put_escaped.new.out) (escape t)) c.as_bytes.ensures.value c.in_ok-put_escaped.ensures)
+    c.put.ensures))

@@ -3,8 +3,9 @@ use Rattle.js_doc.specs.BytesOut.{Puts}
 use Rattle.js_doc.specs.Compact.{compact}
 use Rattle.js_tree.specs.Form.{verbose}
 use Rattle.js_tree.specs.Locations.{HasRoom}
-use Rattle.js_tree.specs.Relative.{placed_tree, relative_tree}
+use Rattle.js_tree.specs.Relative.{relative_tree}
 use Rattle.js_tree.specs.RelativeState.{relative_row}
+use Rattle.js_tree.proofs.EscapedRows.{at_root}
 use Rattle.js_tree.proofs.Placing.{placed_tree_again}
 use Rattle.js_tree.proofs.relative_text.put_verbose.Goals as goal
 
@@ -22,10 +23,5 @@ returns g c =
     λ t are.
     let o = g.O.Out.progress in
     let r = relative_tree t in
-    let k = c.args.locations.keyword.items in
-    let i = c.args.locations.instance.items in
     let rows_are = ap (map relative_row) c.as_slice.ensures.value ∙ ap (λ s. s.rows) are.rows_are in
-    let placed_is =
-    ap (λ l. placed_tree l i r) c.requires.room.above_root.0
-    ∙ (ap (λ l. placed_tree [] l r) c.requires.room.above_root.1 ∙ placed_tree_again t are.located) in
-    subst (λ t. Puts (o c.args.out.now) (o c.put_tree.new.out) (compact (verbose t)) c.put_tree.result) placed_is (c.put_tree.ensures.text r rows_are)
+    subst (λ t. Puts (o c.args.out.now) (o c.put_tree.new.out) (compact (verbose t)) c.put_tree.result) (placed_tree_again t are.located) (c.put_tree.ensures.text r [] [] (at_root c.args.locations c.args.rows.now c.requires.room) rows_are)

@@ -1,9 +1,8 @@
-use Rattle.std.proofs.Common.{◌≡◌, ◌≤◌, ◌+◌, ◌-◌, ◌*◌, length, map}
-use Rattle.js_tree.specs.Flat.{flat_of}
+use Rattle.std.proofs.Common.{ℕ, List, ◌≤◌, ◌+◌, ◌-◌, ◌*◌, drop, length}
 use Rattle.js_tree.specs.Forest.{Forest}
-use Rattle.js_tree.specs.Locations.{IsBack}
+use Rattle.js_tree.specs.Locations.{AreAt, IsBack}
 use Rattle.js_tree.specs.OutputUnit.{OutputUnit}
-use Rattle.js_tree.specs.RelativeState.{relative_row}
+use Rattle.js_tree.specs.code.RelativeText.{AreRowsOfTrees}
 use Rattle.js_tree.proofs.ListedRows.{LeftToList}
 use Rattle.js_tree.proofs.relative_units.+put_trees.Given as goal
 
@@ -17,8 +16,9 @@ abbrev pub invariant-put_trees-loop-next : goal.invariant-put_trees-loop-next
 invariant-put_trees-loop-next g l =
     (l.next ≤ length l.rows)
     × IsBack l.fn.locations l.locations
-    × ((f : Forest OutputUnit) → map relative_row l.rows ≡ flat_of f
-    → LeftToList (g.O.Out.progress l.fn.out) (g.O.Out.progress l.out) l.verdict l.fn.later l.later l.fn.locations.keyword.items l.fn.locations.instance.items l.rows l.next f)
+    × ((f : Forest OutputUnit) → AreRowsOfTrees l.rows f → (left : Forest OutputUnit) × AreRowsOfTrees (drop l.next l.rows) left)
+    × ((f : Forest OutputUnit) (keyword instance : List ℕ) → AreAt l.fn.locations keyword instance → AreRowsOfTrees l.rows f
+    → LeftToList (g.O.Out.progress l.fn.out) (g.O.Out.progress l.out) l.verdict l.fn.later l.later keyword instance l.rows l.next f)
 
 abbrev pub decreases-put_trees-loop-next : goal.decreases-put_trees-loop-next
 decreases-put_trees-loop-next g l = length l.rows - l.next

@@ -7,9 +7,8 @@ use Rattle.js_tree.proofs.locations.Locations.put_end.Goals as goal
 
 pub returns-in_err-put : goal.returns-in_err-put
 returns-in_err-put g c =
+    λ k i at.
     let o = g.O.Out.progress in
-    let i = c.args.self.now.instance.items in
-    let k = c.args.self.now.keyword.items in
     let v = c.args.valid in
     let p1 = codes ",\"instanceLocation\":\"" in
     let p2 = closing_text i k v in
@@ -19,13 +18,12 @@ returns-in_err-put g c =
 
 pub returns : goal.returns
 returns g c =
+    λ k i at.
     let o = g.O.Out.progress in
-    let i = c.args.self.now.instance.items in
-    let k = c.args.self.now.keyword.items in
     let v = c.args.valid in
     let p1 = codes ",\"instanceLocation\":\"" in
     let p2 = closing_text i k v in
     let r = c.put_closing.result in
     subst (λ l. Puts (o c.args.out.now) (o c.put_closing.new.out) l r) (end_in_parts i k v)
     (then_puts (o c.args.out.now) (o c.put.new.self) (o c.put_closing.new.out) p1 (p2) r c.in_ok-put.ensures
-    c.put_closing.ensures)
+    (c.put_closing.ensures k i at))
