@@ -31,19 +31,3 @@ escape_encoded false false false c bs e f =
 pub escape_encode : (c : ℕ) (bs : List ℕ) → c == 126 ≡ false → c == 47 ≡ false → escape (encode c ++ bs) ≡ encode c ++ escape bs
 unfolding encode
 escape_encode c bs e f = escape_encoded (ltb c 128) (ltb c 2048) (ltb c 65536) c bs e f
-
-neither : (a b : Bool) → a || b ≡ false → (a ≡ false) × (b ≡ false)
-neither false b e = (refl, e)
-neither true b e = absurd (cc)
-
--- without `~` and `/` a token stands as it is
-pub escape_none : (bs : List ℕ) → list_any (λ b. b == 126) bs ≡ false → list_any (λ b. b == 47) bs ≡ false → escape bs ≡ bs
-escape_none [] e f = refl
-escape_none (b ∷ bs) e f =
-    let t = neither (b == 126) (list_any (λ c. c == 126) bs) e in
-    let s = neither (b == 47) (list_any (λ c. c == 47) bs) f in
-    escape_kept b bs t.0 s.0 ∙ ap (λ cs. b ∷ cs) (escape_none bs t.1 s.1)
-
-pub none_by : (found any : Bool) → found ≡ any → IsTrue (not found) → any ≡ false
-none_by false any e t = sym e
-none_by true any e t = absurd (cc)

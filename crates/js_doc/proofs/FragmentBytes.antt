@@ -21,7 +21,7 @@ any_high (k ∷ ks) b small high =
     let first : b == k ≡ false = grind (arith, nat_tests) in
     rw (first, rest)
 
-alphanumeric_high : (b : ℕ) → 128 ≤ b → is_ascii_alphanumeric b ≡ false
+pub alphanumeric_high : (b : ℕ) → 128 ≤ b → is_ascii_alphanumeric b ≡ false
 alphanumeric_high b high = grind (arith, nat_tests)
 
 no_char_high : (b : ℕ) → 128 ≤ b → is_fragment_char b ≡ false

@@ -16,6 +16,7 @@ pub mod PointerTexts
 pub mod TextBytes
 pub mod FragmentBytes
 pub mod TokenBytes
+pub mod PlainTokens
 pub mod Named
 pub mod FiniteMaps
 pub mod Smaller

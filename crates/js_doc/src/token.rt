@@ -1,8 +1,10 @@
 //! A pointer's tokens, and how they stand in its text and in a fragment, one at a time.
-ghost use Rattle.std.specs.Prelude.{◌≡◌, ◌++◌, IfOk, IsTrue, OnErr, OnOk, flat_map, string_bytes};
+ghost use Rattle.std.specs.Prelude.{◌≡◌, ◌++◌, IfOk, OnErr, OnOk, flat_map, string_bytes};
+ghost use Rattle.std.specs.List.{list_all};
 ghost use Rattle.js_doc.specs.Pointer.{escape, token_text};
 ghost use Rattle.js_doc.specs.Fragment.{fragment_byte, fragment_token};
 ghost use Rattle.js_doc.specs.code.Extends.{Extends};
+ghost use Rattle.js_doc.specs.code.Plain.{is_kept, is_plain};
 
 use crate::fragment::ESCAPED;
 use crate::memory::Memory;
@@ -126,10 +128,36 @@ fn push_pieces(out: &mut String, token: &str) -> Result<(), Memory>
         ≡ string_bytes out.old ++ flat_map fragment_byte (escape token.now)) }
     ensures grows { Extends (string_bytes out.old) (string_bytes out.new) }
 {
+    if is_plain(token.as_bytes()) {
+        out.push_str(token)?;
+        return Ok(());
+    }
+    push_encoded(out, token)
+}
+
+fn push_encoded(out: &mut String, token: &str) -> Result<(), Memory>
+    ensures ok { OnOk result (string_bytes out.new
+        ≡ string_bytes out.old ++ flat_map fragment_byte (escape token.now)) }
+    ensures grows { Extends (string_bytes out.old) (string_bytes out.new) }
+{
     for piece in utf8_percent_encode(token, ESCAPED) {
         push_escaped(out, piece)?;
     }
     Ok(())
+}
+
+// Whether the token is sure to be written as it is: most names have only letters and digits.
+fn is_plain(token: &[u8]) -> bool
+    ensures { result ≡ list_all is_plain token.now }
+{
+    token.iter().all(|byte| is_plain_byte(*byte))
+}
+
+fn is_plain_byte(byte: u8) -> bool
+    ensures { result ≡ is_plain byte }
+{
+    byte.is_ascii_alphanumeric()
+        || (byte == b'$' || (byte == b'-' || (byte == b'.' || byte == b'_')))
 }
 
 fn push_escaped(out: &mut String, token: &str) -> Result<(), Memory>
@@ -145,9 +173,15 @@ fn push_escaped(out: &mut String, token: &str) -> Result<(), Memory>
 
 // Whether nothing in it is escaped: most tokens are written in one piece.
 fn has_no_escape(token: &[u8]) -> bool
-    ensures { IsTrue result → escape token.now ≡ token.now }
+    ensures { result ≡ list_all is_kept token.now }
 {
-    !token.contains(&b'~') && !token.contains(&b'/')
+    token.iter().all(|byte| is_kept(*byte))
+}
+
+fn is_kept(byte: u8) -> bool
+    ensures { result ≡ is_kept byte }
+{
+    byte != b'~' && byte != b'/'
 }
 
 fn push_characters(out: &mut String, token: &str) -> Result<(), Memory>

@@ -4,7 +4,7 @@ use Rattle.js_doc.specs.Pointer.{escape}
 use Rattle.js_doc.proofs.Extending.{then}
 use Rattle.js_doc.proofs.PointerTexts.{escape-append}
 use Rattle.js_doc.proofs.TokenBytes.{escaped_token}
-use Rattle.js_doc.proofs.token.push_pieces.Goals as goal
+use Rattle.js_doc.proofs.token.push_encoded.Goals as goal
 
 pub loop-piece-preserved : goal.loop-piece-preserved
 loop-piece-preserved c =

@@ -4,7 +4,7 @@ use Rattle.percent_encoding.specs.Percent.{percent_encode}
 use Rattle.js_doc.specs.declared.fragment.TheConstants.{ESCAPED}
 use Rattle.js_doc.specs.Pointer.{escape}
 use Rattle.js_doc.specs.code.Extends.{Extends}
-use Rattle.js_doc.proofs.token.push_pieces.Given as goal
+use Rattle.js_doc.proofs.token.push_encoded.Given as goal
 
 abbrev pub invariant-loop-piece : goal.invariant-loop-piece
 invariant-loop-piece l =
