@@ -43,7 +43,7 @@ plain_is_both b e = cond_both (ltb b 128) true false (λ x. is_both b ≡ true)
     (λ l. decided (is_plain b) (is_both b) (agree_below_at (λ b. is_plain b && not (is_both b)) (λ b. false) 128 b below (grind (arith, nat_tests))) e)
     (λ l. let high : 128 ≤ b = grind (arith, nat_tests) in let no = plain_high b high in absurd cc)
 
-kept_too : (bs : List ℕ) → list_all is_plain bs ≡ true → list_all is_kept bs ≡ true
+pub kept_too : (bs : List ℕ) → list_all is_plain bs ≡ true → list_all is_kept bs ≡ true
 kept_too [] e = refl
 kept_too (b ∷ bs) e =
     let p = and_parts (is_plain b) (list_all is_plain bs) e in

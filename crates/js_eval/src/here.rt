@@ -16,7 +16,7 @@ use crate::bundled::names_at;
 use crate::counted;
 use crate::cursor::{Asking, next_asked};
 use crate::instance::{Applied, Instance};
-use crate::keyword::Keyword;
+use crate::keyword::{Keyword, is_written_as_it_is};
 use crate::keyword_cursor::Keywords;
 use crate::kind::Kind;
 use crate::schema::is_accepting;
@@ -205,7 +205,11 @@ impl<'a> World for Here<'a> {
         keyword: Keyword<'a>,
         trail: &mut Trail<H>,
     ) -> Result<(), Memory> {
-        trail.push_name(keyword.name)
+        if is_written_as_it_is(keyword.kind, keyword.name) {
+            trail.push_kept(keyword.name)
+        } else {
+            trail.push_name(keyword.name)
+        }
     }
 
     fn go_to_schema<H: PointerText + Drop>(

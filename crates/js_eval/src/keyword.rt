@@ -1,7 +1,8 @@
 //! A keyword of a schema.
-ghost use Rattle.std.specs.Prelude.{◌≡◌};
+ghost use Rattle.std.specs.Prelude.{◌≡◌, IsTrue};
 ghost use Rattle.js_bundle.specs.KeywordName.{keyword_name};
 ghost use Rattle.js_eval.specs.Kind as table;
+ghost use Rattle.js_eval.specs.code.Standard.{IsWrittenAsItIs};
 
 use crate::kind::Kind;
 use js_bundle::KeywordName;
@@ -16,4 +17,14 @@ pub(crate) struct Keyword<'a> {
     pub argument: &'a Doc,
     ghost known: { which ≡ keyword_name name.now },
     ghost named: { kind ≡ table.kind name.now },
+}
+
+/// Whether it is sure that a keyword's name is written as it is, in a pointer as in a fragment: those of the standard's
+/// applicators and assertions are.
+#[tactic(auto, using(crate::proofs::PlainNames::written_by_kind))]
+pub(crate) fn is_written_as_it_is(kind: Kind, _name: &str) -> bool
+    requires { kind ≡ table.kind _name.now }
+    ensures { IsTrue result → IsWrittenAsItIs _name.now }
+{
+    !matches!(kind, Kind::Annotation)
 }

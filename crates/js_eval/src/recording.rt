@@ -5,9 +5,9 @@ ghost use Rattle.js_tree.specs.RelativeState.{relative_after, relative_state};
 
 use crate::here::Here;
 use crate::instance::Instance;
-use crate::keyword::Keyword;
+use crate::keyword::{Keyword, is_written_as_it_is};
 use crate::telling::keyword_note;
-use crate::walking::{HeldText, Judged, Reporter, Trail};
+use crate::walking::{HeldText, Judged, Reporter, Trail, push_kept};
 use js_bundle::Place;
 use js_doc::{Doc, Memory, push_fragment_token};
 use js_tree::RelativeRows;
@@ -53,7 +53,7 @@ impl<'a> Reporter<Here<'a>, HeldText> for Recording<'a> {
         keyword_location: &Trail<HeldText>,
         instance_location: &Trail<HeldText>,
     ) -> Result<(), Memory> {
-        set_token(&mut self.token, keyword.name)?;
+        set_token(&mut self.token, keyword)?;
         let schema = world.schemas.absolute_of(place);
         self.rows.enter(
             keyword_location.as_str(),
@@ -98,10 +98,14 @@ impl<'a> Reporter<Here<'a>, HeldText> for Recording<'a> {
     }
 }
 
-// Sets the token to what the absolute location of the keyword of this name adds to that of its place.
-fn set_token(token: &mut String, name: &str) -> Result<(), Memory>
-    ensures { OnOk result (string_bytes token.new ≡ fragment_token name.now) }
+// Sets the token to what the absolute location of the keyword adds to that of its place.
+fn set_token(token: &mut String, keyword: Keyword<'_>) -> Result<(), Memory>
+    ensures { OnOk result (string_bytes token.new ≡ fragment_token keyword.entry.name.now) }
 {
     token.clear();
-    push_fragment_token(token, name)
+    if is_written_as_it_is(keyword.kind, keyword.name) {
+        push_kept(token, keyword.name)
+    } else {
+        push_fragment_token(token, keyword.name)
+    }
 }

@@ -1,5 +1,8 @@
--- The kind of a keyword and its turn, by which keyword of the standard it is (of private functions).
-use Rattle.std.specs.Prelude.{List, map}
+-- The kind of a keyword and its turn, by which keyword of the standard it is, and how its name is written (of private
+-- functions).
+use Rattle.std.specs.Prelude.{◌≡◌, ℕ, List, ◌∷◌, map}
+use Rattle.js_doc.specs.Fragment.{fragment_token}
+use Rattle.js_doc.specs.Pointer.{escape}
 use Rattle.js_doc.specs.Value.{Named}
 use Rattle.js_bundle.specs.KeywordName.{keyword_name}
 use Rattle.js_bundle.specs.declared.keyword_name.KeywordName.{KeywordName}
@@ -78,3 +81,7 @@ turn_by_name name.OtherBehindIf = turn.Last
 -- of each of a schema's keywords, which keyword of the standard it is
 abbrev pub keyword_names_of : Named → List KeywordName
 keyword_names_of ms = map (λ m. keyword_name m.0) ms
+
+-- the name is written as it is, in a pointer as in a fragment
+abbrev pub IsWrittenAsItIs : List ℕ → Type 0
+IsWrittenAsItIs name = (escape name ≡ name) × (fragment_token name ≡ 47 ∷ name)

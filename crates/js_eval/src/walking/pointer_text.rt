@@ -4,7 +4,7 @@ ghost use Rattle.std.specs.String.Boundary.{IsSplitPoint};
 ghost use Rattle.js_doc.specs.Pointer.{escape};
 
 use crate::walking::unseen::Unseen;
-use js_doc::Memory;
+use js_doc::{Memory, push_token};
 use std::alloc::Global;
 use std::snapshot::Snapshot;
 
@@ -26,6 +26,14 @@ pub(crate) trait PointerText {
     /// # Errors
     /// `Memory` if an allocation fails.
     fn push_name(&mut self, token: &str) -> Result<(), Memory>
+        ensures { OnOk result (text self.new ≡ text self.old ++ 47 ∷ escape token.now) };
+
+    /// Appends a token that is written as it is.
+    ///
+    /// # Errors
+    /// `Memory` if an allocation fails.
+    fn push_kept(&mut self, token: &str) -> Result<(), Memory>
+        requires { escape token.now ≡ token.now }
         ensures { OnOk result (text self.new ≡ text self.old ++ 47 ∷ escape token.now) };
 
     /// Appends an item's index as a token.
@@ -66,14 +74,18 @@ impl PointerText for HeldText {
 
     #[inline(never)]
     fn push_name(&mut self, token: &str) -> Result<(), Memory> {
-        self.text.push('/')?;
-        push_escaped(&mut self.text, token)
+        push_token(&mut self.text, token)
+    }
+
+    #[inline(never)]
+    fn push_kept(&mut self, token: &str) -> Result<(), Memory> {
+        push_kept(&mut self.text, token)
     }
 
     #[inline(never)]
     fn push_index(&mut self, index: usize) -> Result<(), Memory> {
         let mut buffer = itoa::Buffer::new();
-        self.push_name(buffer.format(index))
+        push_kept(&mut self.text, buffer.format(index))
     }
 
     fn mark(&self) -> usize {
@@ -85,16 +97,15 @@ impl PointerText for HeldText {
     }
 }
 
-fn push_escaped(out: &mut String, token: &str) -> Result<(), Memory>
-    ensures { OnOk result (string_bytes out.new ≡ string_bytes out.old ++ escape token.now) }
+/// Appends `/` and a token that is written as it is.
+///
+/// # Errors
+/// `Memory` if an allocation fails.
+pub(crate) fn push_kept(out: &mut String, token: &str) -> Result<(), Memory>
+    ensures { OnOk result (string_bytes out.new ≡ string_bytes out.old ++ 47 ∷ token.now) }
 {
-    for c in token.chars() {
-        match c {
-            '~' => out.push_str("~0")?,
-            '/' => out.push_str("~1")?,
-            _ => out.push(c)?,
-        }
-    }
+    out.push('/')?;
+    out.push_str(token)?;
     Ok(())
 }
 
@@ -119,6 +130,12 @@ impl PointerText for UnseenText {
 
     #[inline(always)]
     fn push_name(&mut self, token: &str) -> Result<(), Memory> {
+        self.text = self.text.with_name(token);
+        Ok(())
+    }
+
+    #[inline(always)]
+    fn push_kept(&mut self, token: &str) -> Result<(), Memory> {
         self.text = self.text.with_name(token);
         Ok(())
     }

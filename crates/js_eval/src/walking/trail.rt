@@ -44,6 +44,18 @@ impl<H: PointerText + Drop> Trail<H> {
         self.held.push_name(token)
     }
 
+    /// Appends a token that is written as it is.
+    ///
+    /// # Errors
+    /// `Memory` if an allocation fails.
+    #[inline(always)]
+    pub fn push_kept(&mut self, token: &str) -> Result<(), Memory>
+        requires { escape token.now ≡ token.now }
+        ensures { OnOk result (self.new ≡ self.old ++ 47 ∷ escape token.now) }
+    {
+        self.held.push_kept(token)
+    }
+
     /// Appends an item's index as a token.
     ///
     /// # Errors
