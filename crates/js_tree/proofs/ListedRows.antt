@@ -1,65 +1,80 @@
--- Rows whose units are listed tree by tree.
-use Rattle.std.proofs.Common.{◌≡◌, ℕ, ◌+◌, ◌≤◌, Bool, true, false, List, [], ◌++◌, length, drop, map, codes, Result, Ok, Err, refl, ap, sym, subst, ◌∙◌, append_assoc, append-nil}
+-- Values that go out in an array one after the other, and rows whose trees are gone through one after the other.
+use Rattle.std.proofs.Common.{◌≡◌, ℕ, ◌+◌, ◌≤◌, Bool, true, false, List, [], ◌∷◌, ◌++◌, length, drop, map, codes, Result, Ok, Err, refl, ap, sym, subst, ◌∙◌, append_assoc, append-nil}
 use Rattle.std.specs.Result.{IsErr}
-use Rattle.js_doc.specs.BytesOut.{Progress, Stops}
+use Rattle.js_doc.specs.BytesOut.{Goes, Progress, Stops}
 use Rattle.js_doc.specs.Compact.{comma_if, compact}
-use Rattle.js_doc.specs.Value.{items, list}
+use Rattle.js_doc.specs.Value.{Value, items, list}
 use Rattle.js_doc.proofs.BytesGone.{ends, goes_on, same_left, starts, stops}
 use Rattle.js_tree.specs.Flat.{flat, flat_of}
-use Rattle.js_tree.specs.Forest.{Forest, empty, tree}
+use Rattle.js_tree.specs.Forest.{Forest, empty}
 use Rattle.js_tree.specs.Form.{node_value, unit_list}
 use Rattle.js_tree.specs.Locations.{HasRoomFor, IsBack, IsDown}
-use Rattle.js_tree.specs.OutputUnit.{OutputUnit}
+use Rattle.js_tree.specs.Marks.{whole_of}
+use Rattle.js_tree.specs.OutputUnit.{OutputUnit, noted}
 use Rattle.js_tree.specs.Relative.{placed_unit, relative_tree}
 use Rattle.js_tree.specs.RelativeState.{AreRowsOf, relative_row}
 use Rattle.js_tree.specs.Result.{ResultTree, has_verdict, pruned, units}
 use Rattle.js_tree.specs.Seen.{note_of}
 use Rattle.js_tree.specs.code.NodeText.{error_part, head_text, list_start, tail_text, valid_text}
-use Rattle.js_tree.specs.code.UnitsText.{AllListed, AreListed, if_noted, later_after, listed, listed_tree, unit_at, units_text}
+use Rattle.js_tree.specs.code.Listing.{AllListed, AreListed, if_noted, later_after, leaves, listed, listed_tree, unit_at, values_text}
 use Rattle.js_tree.specs.declared.locations.Locations.{Locations}
 use Rattle.js_tree.specs.declared.relative.RelativeRow.{RelativeRow}
 use Rattle.js_tree.specs.declared.relative.RelativeRows.{RelativeRows}
 use Rattle.js_tree.proofs.FlatRows.{FirstTree, all_gone}
-use Rattle.js_tree.proofs.ListedUnits.{array_text, gone_through, later_after-append, listed_all, passed_over, units_text-append}
+use Rattle.js_tree.proofs.ListedUnits.{array_text, gone_through, later_after-append, listed_all, passed_over, values_text-append}
 use Rattle.js_tree.proofs.Marks.{flat-flat_of}
 use Rattle.js_tree.proofs.NodeTexts.{leaf_text_is, list_text_is}
 use Rattle.js_tree.proofs.Pieces.{nothing_goes}
 use Rattle.js_tree.proofs.Placing.{placed_tree_again}
 
--- ---- units after units
+-- ---- values after values
 
-text_then : (a b : Progress) (later now : Bool) (us vs : List OutputUnit) → AllListed a b later us now → units_text later (us ++ vs) ≡ units_text later us ++ units_text now vs
-text_then a b later now us vs w = units_text-append later us vs ∙ ap (λ n. units_text later us ++ units_text n vs) (sym w.now_is)
+text_then : (a b : Progress) (later now : Bool) (us vs : List Value) → AllListed a b later us now → values_text later (us ++ vs) ≡ values_text later us ++ values_text now vs
+text_then a b later now us vs w = values_text-append later us vs ∙ ap (λ n. values_text later us ++ values_text n vs) (sym w.now_is)
 
-pub stops_first : (a b : Progress) (later : Bool) (us vs : List OutputUnit) → Stops a b (units_text later us) → Stops a b (units_text later (us ++ vs))
+pub stops_first : (a b : Progress) (later : Bool) (us vs : List Value) → Stops a b (values_text later us) → Stops a b (values_text later (us ++ vs))
 stops_first a b later us vs s =
-    stops a a b (units_text later us) (units_text (later_after later us) vs) (units_text later (us ++ vs))
-    (same_left a a (units_text later (us ++ vs)) (units_text later us ++ units_text (later_after later us) vs) (units_text later (us ++ vs)) (starts a (units_text later (us ++ vs))) (units_text-append later us vs)) s
+    stops a a b (values_text later us) (values_text (later_after later us) vs) (values_text later (us ++ vs))
+    (same_left a a (values_text later (us ++ vs)) (values_text later us ++ values_text (later_after later us) vs) (values_text later (us ++ vs)) (starts a (values_text later (us ++ vs))) (values_text-append later us vs)) s
 
-pub stops_rest : (a b c : Progress) (later now : Bool) (us vs : List OutputUnit) → AllListed a b later us now → Stops b c (units_text now vs) → Stops a c (units_text later (us ++ vs))
+pub stops_rest : (a b c : Progress) (later now : Bool) (us vs : List Value) → AllListed a b later us now → Stops b c (values_text now vs) → Stops a c (values_text later (us ++ vs))
 stops_rest a b c later now us vs w s =
-    let all = units_text later (us ++ vs) in
-    let begun = same_left a a all (units_text later us ++ units_text now vs) all (starts a all) (text_then a b later now us vs w) in
-    let left = goes_on a a b (units_text later us) (units_text now vs) all begun w.goes in
-    stops a b c (units_text now vs) [] all (same_left a b (units_text now vs) (units_text now vs ++ []) all left (sym (append-nil (units_text now vs)))) s
+    let all = values_text later (us ++ vs) in
+    let begun = same_left a a all (values_text later us ++ values_text now vs) all (starts a all) (text_then a b later now us vs w) in
+    let left = goes_on a a b (values_text later us) (values_text now vs) all begun w.goes in
+    stops a b c (values_text now vs) [] all (same_left a b (values_text now vs) (values_text now vs ++ []) all left (sym (append-nil (values_text now vs)))) s
 
-pub both_listed : (a b c : Progress) (later now end : Bool) (us vs : List OutputUnit) → AllListed a b later us now → AllListed b c now vs end → AllListed a c later (us ++ vs) end
+pub both_listed : (a b c : Progress) (later now end : Bool) (us vs : List Value) → AllListed a b later us now → AllListed b c now vs end → AllListed a c later (us ++ vs) end
 both_listed a b c later now end us vs w v =
-    let all = units_text later (us ++ vs) in
-    let begun = same_left a a all (units_text later us ++ units_text now vs) all (starts a all) (text_then a b later now us vs w) in
+    let all = values_text later (us ++ vs) in
+    let begun = same_left a a all (values_text later us ++ values_text now vs) all (starts a all) (text_then a b later now us vs w) in
     record {
-      goes = ends a b c (units_text now vs) all (goes_on a a b (units_text later us) (units_text now vs) all begun w.goes) v.goes;
+      goes = ends a b c (values_text now vs) all (goes_on a a b (values_text later us) (values_text now vs) all begun w.goes) v.goes;
       now_is = v.now_is ∙ (ap (λ n. later_after n vs) w.now_is ∙ sym (later_after-append later us vs));
     }
 
 pub none_listed : (a : Progress) (later : Bool) → AllListed a a later [] later
 none_listed a later = record { goes = nothing_goes a; now_is = refl }
 
-pub listed_err : {E : Type 0} (a b : Progress) (later : Bool) (us : List OutputUnit) (r : Result Bool E) → IsErr r → Stops a b (units_text later us) → AreListed a b later us r
+pub listed_err : {E : Type 0} (a b : Progress) (later : Bool) (us : List Value) (r : Result Bool E) → IsErr r → Stops a b (values_text later us) → AreListed a b later us r
 listed_err a b later us (Ok x) h s = absurd (cc)
 listed_err a b later us (Err e) h s = s
 
+-- one value
+one_text : (later : Bool) (x : Value) → comma_if later ++ compact x ≡ values_text later (x ∷ [])
+one_text later x = ap (λ l. comma_if later ++ l) (sym (append-nil (compact x)))
+
+pub one_listed : (a b : Progress) (later : Bool) (x : Value) → Goes a b (comma_if later ++ compact x) → AllListed a b later (x ∷ []) true
+one_listed a b later x g = record { goes = subst (Goes a b) (one_text later x) g; now_is = refl }
+
+pub one_stops : (a b : Progress) (later : Bool) (x : Value) → Stops a b (comma_if later ++ compact x) → Stops a b (values_text later (x ∷ []))
+one_stops a b later x s = subst (Stops a b) (one_text later x) s
+
 -- ---- a unit
+
+pub its_note : (u : OutputUnit) (some : Bool) → some ≡ noted u → some ≡ true → if_noted u ≡ node_value u [] ∷ []
+its_note u true e h = let s = sym e in rw s refl
+its_note u false e h = absurd cc
 
 pub unit_in_parts : (later : Bool) (u : OutputUnit) → (comma_if later ++ head_text u) ++ (error_part u.note ++ tail_text u) ≡ comma_if later ++ compact (node_value u [])
 unit_in_parts later u =
@@ -84,79 +99,70 @@ tree_listed verdict old new x r e d =
 
 -- ---- tree by tree
 
-pub record LeftToList (old : Progress) (new : Progress) (verdict : Bool) (later : Bool) (now : Bool) (keyword : List ℕ) (instance : List ℕ) (rows : List RelativeRow) (next : ℕ) (f : Forest OutputUnit) : Type 0 where
-  -- the units that have gone out, and the trees whose units are still to go
-  pub done : List OutputUnit
+pub record LeftToList (old : Progress) (new : Progress) (later : Bool) (now : Bool) (shown : Forest OutputUnit → List Value) (rows : List RelativeRow) (next : ℕ) (f : Forest OutputUnit) : Type 0 where
+  -- the values that have gone out, and the trees whose values are still to go
+  pub done : List Value
   pub left : Forest OutputUnit
   pub left_is : map relative_row (drop next rows) ≡ flat_of left
-  pub all : done ++ listed verdict keyword instance left ≡ listed verdict keyword instance f
+  pub all : done ++ shown left ≡ shown f
   pub gone : AllListed old new later done now
 
-pub list_starts : (a : Progress) (verdict later : Bool) (keyword instance : List ℕ) (rows : List RelativeRow) (f : Forest OutputUnit) → map relative_row rows ≡ flat_of f → LeftToList a a verdict later later keyword instance rows 0 f
-list_starts a verdict later keyword instance rows f e = record { done = []; left = f; left_is = e; all = refl; gone = none_listed a later }
+abbrev pub list_starts : (a : Progress) (later : Bool) (shown : Forest OutputUnit → List Value) (rows : List RelativeRow) (f : Forest OutputUnit) → map relative_row rows ≡ flat_of f → LeftToList a a later later shown rows 0 f
+list_starts a later shown rows f e = record { done = []; left = f; left_is = e; all = refl; gone = none_listed a later }
 
-pub list_passes : (a b : Progress) (verdict later now : Bool) (keyword instance : List ℕ) (rows : List RelativeRow) (next : ℕ) (f : Forest OutputUnit) (x : RelativeRow)
-    → (l : LeftToList a b verdict later now keyword instance rows next f) → FirstTree relative_row rows next l.left x → has_verdict verdict (relative_row x).0 ≡ false
-    → LeftToList a b verdict later now keyword instance rows (next + x.size) f
-list_passes a b verdict later now keyword instance rows next f x l t e =
-    let v : has_verdict verdict t.unit ≡ false = ap (has_verdict verdict) (sym t.unit_is) ∙ e in
-    let skipped = ap (listed verdict keyword instance) t.is ∙ passed_over verdict keyword instance t.unit t.below t.after v in
-    record { done = l.done; left = t.after; left_is = t.more; all = ap (λ us. l.done ++ us) (sym skipped) ∙ l.all; gone = l.gone }
+pub list_passes : (a b : Progress) (later now : Bool) (shown : Forest OutputUnit → List Value) (rows : List RelativeRow) (next : ℕ) (f : Forest OutputUnit) (x : RelativeRow)
+    → (l : LeftToList a b later now shown rows next f) → (t : FirstTree relative_row rows next l.left x) → shown l.left ≡ shown t.after
+    → LeftToList a b later now shown rows (next + x.size) f
+list_passes a b later now shown rows next f x l t e =
+    record { done = l.done; left = t.after; left_is = t.more; all = ap (λ us. l.done ++ us) (sym e) ∙ l.all; gone = l.gone }
 
--- the units of the tree that comes next, and of those after it
-next_units : (verdict : Bool) (keyword instance : List ℕ) (rows : List RelativeRow) (next : ℕ) (f : Forest OutputUnit) (x : RelativeRow)
-    → (t : FirstTree relative_row rows next f x) → has_verdict verdict (relative_row x).0 ≡ true
-    → listed verdict keyword instance f ≡ listed_tree verdict keyword instance t.unit t.below ++ listed verdict keyword instance t.after
-next_units verdict keyword instance rows next f x t e =
-    let v : has_verdict verdict t.unit ≡ true = ap (has_verdict verdict) (sym t.unit_is) ∙ e in
-    ap (listed verdict keyword instance) t.is ∙ gone_through verdict keyword instance t.unit t.below t.after v
+abbrev pub list_goes_on : (a b c : Progress) (later now then : Bool) (shown : Forest OutputUnit → List Value) (rows : List RelativeRow) (next : ℕ) (f : Forest OutputUnit) (x : RelativeRow) (these : List Value)
+    → (l : LeftToList a b later now shown rows next f) → (t : FirstTree relative_row rows next l.left x) → shown l.left ≡ these ++ shown t.after → AllListed b c now these then
+    → LeftToList a c later then shown rows (next + x.size) f
+list_goes_on a b c later now then shown rows next f x these l t e w = record {
+  done = l.done ++ these;
+  left = t.after;
+  left_is = t.more;
+  all = append_assoc l.done these (shown t.after) ∙ (ap (λ us. l.done ++ us) (sym e) ∙ l.all);
+  gone = both_listed a b c later now then l.done these l.gone w;
+}
 
-same_tree_listed : (verdict : Bool) (old at : Locations) (u : OutputUnit) (below : Forest OutputUnit) → IsBack old at
-    → listed_tree verdict at.keyword.items at.instance.items u below ≡ listed_tree verdict old.keyword.items old.instance.items u below
-same_tree_listed verdict old at u below b =
-    ap (λ k. listed_tree verdict k at.instance.items u below) b.same_keyword ∙ ap (λ i. listed_tree verdict old.keyword.items i u below) b.same_instance
+pub list_stops : (a b c : Progress) (later now : Bool) (shown : Forest OutputUnit → List Value) (rows : List RelativeRow) (next : ℕ) (f : Forest OutputUnit) (x : RelativeRow) (these : List Value)
+    → (l : LeftToList a b later now shown rows next f) → (t : FirstTree relative_row rows next l.left x) → shown l.left ≡ these ++ shown t.after → Stops b c (values_text now these)
+    → Stops a c (values_text later (shown f))
+list_stops a b c later now shown rows next f x these l t e s =
+    let rest = subst (λ us. Stops b c (values_text now us)) (sym e) (stops_first b c now these (shown t.after) s) in
+    subst (λ us. Stops a c (values_text later us)) l.all (stops_rest a b c later now l.done (shown l.left) l.gone rest)
 
-pub list_goes_on : (a b c : Progress) (verdict later now then : Bool) (old at : Locations) (rows : List RelativeRow) (next : ℕ) (f : Forest OutputUnit) (x : RelativeRow)
-    → (l : LeftToList a b verdict later now old.keyword.items old.instance.items rows next f) → (t : FirstTree relative_row rows next l.left x) → has_verdict verdict (relative_row x).0 ≡ true
-    → IsBack old at → AllListed b c now (listed_tree verdict at.keyword.items at.instance.items t.unit t.below) then
-    → LeftToList a c verdict later then old.keyword.items old.instance.items rows (next + x.size) f
-list_goes_on a b c verdict later now then old at rows next f x l t e back w =
-    let k = old.keyword.items in
-    let i = old.instance.items in
-    let these = listed_tree verdict k i t.unit t.below in
-    let w' = subst (λ us. AllListed b c now us then) (same_tree_listed verdict old at t.unit t.below back) w in
-    record {
-      done = l.done ++ these;
-      left = t.after;
-      left_is = t.more;
-      all = append_assoc l.done these (listed verdict k i t.after) ∙ (ap (λ us. l.done ++ us) (sym (next_units verdict k i rows next l.left x t e)) ∙ l.all);
-      gone = both_listed a b c later now then l.done these l.gone w';
-    }
-
-pub list_stops : (a b c : Progress) (verdict later now : Bool) (old at : Locations) (rows : List RelativeRow) (next : ℕ) (f : Forest OutputUnit) (x : RelativeRow)
-    → (l : LeftToList a b verdict later now old.keyword.items old.instance.items rows next f) → (t : FirstTree relative_row rows next l.left x) → has_verdict verdict (relative_row x).0 ≡ true
-    → IsBack old at → Stops b c (units_text now (listed_tree verdict at.keyword.items at.instance.items t.unit t.below))
-    → Stops a c (units_text later (listed verdict old.keyword.items old.instance.items f))
-list_stops a b c verdict later now old at rows next f x l t e back s =
-    let k = old.keyword.items in
-    let i = old.instance.items in
-    let these = listed_tree verdict k i t.unit t.below in
-    let s' = subst (λ us. Stops b c (units_text now us)) (same_tree_listed verdict old at t.unit t.below back) s in
-    let more = stops_first b c now these (listed verdict k i t.after) s' in
-    let rest = subst (λ us. Stops b c (units_text now us)) (sym (next_units verdict k i rows next l.left x t e)) more in
-    subst (λ us. Stops a c (units_text later us)) l.all (stops_rest a b c later now l.done (listed verdict k i l.left) l.gone rest)
-
-pub list_ends : (a b : Progress) (verdict later now : Bool) (keyword instance : List ℕ) (rows : List RelativeRow) (next : ℕ) (f : Forest OutputUnit)
-    → LeftToList a b verdict later now keyword instance rows next f → length rows ≤ next → AllListed a b later (listed verdict keyword instance f) now
-list_ends a b verdict later now keyword instance rows next f l h =
+pub list_ends : (a b : Progress) (later now : Bool) (shown : Forest OutputUnit → List Value) (rows : List RelativeRow) (next : ℕ) (f : Forest OutputUnit)
+    → shown empty ≡ [] → LeftToList a b later now shown rows next f → length rows ≤ next → AllListed a b later (shown f) now
+list_ends a b later now shown rows next f e l h =
     let none = all_gone relative_row rows next l.left l.left_is h in
-    let all_is = sym (append-nil l.done) ∙ (ap (λ g. l.done ++ listed verdict keyword instance g) (sym none) ∙ l.all) in
+    let all_is = sym (append-nil l.done) ∙ (ap (λ us. l.done ++ us) (sym (ap shown none ∙ e)) ∙ l.all) in
     subst (λ us. AllListed a b later us now) all_is l.gone
 
--- ---- a whole tree
+-- ---- those that basic lists
 
-abbrev pub whole_of : ResultTree → Forest OutputUnit
-whole_of t = tree (relative_tree t).root (relative_tree t).below empty
+-- of the tree that comes next, and of those after it; the locations are as they were
+pub next_listed : (verdict : Bool) (old at : Locations) (rows : List RelativeRow) (next : ℕ) (f : Forest OutputUnit) (x : RelativeRow)
+    → (t : FirstTree relative_row rows next f x) → has_verdict verdict (relative_row x).0 ≡ true → IsBack old at
+    → listed verdict old.keyword.items old.instance.items f ≡ listed_tree verdict at.keyword.items at.instance.items t.unit t.below ++ listed verdict old.keyword.items old.instance.items t.after
+next_listed verdict old at rows next f x t e b =
+    let k = old.keyword.items in
+    let i = old.instance.items in
+    let v : has_verdict verdict t.unit ≡ true = ap (has_verdict verdict) (sym t.unit_is) ∙ e in
+    ap (listed verdict k i) t.is
+    ∙ (gone_through verdict k i t.unit t.below t.after v
+    ∙ ap (λ us. us ++ listed verdict k i t.after)
+    (ap (λ y. listed_tree verdict y i t.unit t.below) (sym b.same_keyword) ∙ ap (λ y. listed_tree verdict at.keyword.items y t.unit t.below) (sym b.same_instance)))
+
+pub next_passed : (verdict : Bool) (keyword instance : List ℕ) (rows : List RelativeRow) (next : ℕ) (f : Forest OutputUnit) (x : RelativeRow)
+    → (t : FirstTree relative_row rows next f x) → has_verdict verdict (relative_row x).0 ≡ false → listed verdict keyword instance f ≡ listed verdict keyword instance t.after
+next_passed verdict keyword instance rows next f x t e =
+    let v : has_verdict verdict t.unit ≡ false = ap (has_verdict verdict) (sym t.unit_is) ∙ e in
+    ap (listed verdict keyword instance) t.is ∙ passed_over verdict keyword instance t.unit t.below t.after v
+
+-- ---- a whole tree
 
 pub whole_rows : (rows : RelativeRows) (t : ResultTree) (found : List RelativeRow) → found ≡ rows.rows.items → AreRowsOf rows t → map relative_row found ≡ flat (relative_tree t)
 whole_rows rows t found e h = ap (map relative_row) e ∙ ap (λ s. s.rows) h.rows_are
@@ -164,18 +170,19 @@ whole_rows rows t found e h = ap (map relative_row) e ∙ ap (λ s. s.rows) h.ro
 pub whole_rows_of : (rows : RelativeRows) (t : ResultTree) (found : List RelativeRow) → found ≡ rows.rows.items → AreRowsOf rows t → map relative_row found ≡ flat_of (whole_of t)
 whole_rows_of rows t found e h = whole_rows rows t found e h ∙ flat-flat_of (relative_tree t)
 
-list_in_parts : (valid : Bool) (us : List OutputUnit) → (list_start valid ++ codes "[") ++ (units_text false us ++ (codes "]" ++ valid_text valid)) ≡ list_start valid ++ (compact (list (items (map (λ u. node_value u []) us))) ++ valid_text valid)
-list_in_parts valid us =
-    append_assoc (list_start valid) (codes "[") (units_text false us ++ (codes "]" ++ valid_text valid))
+list_in_parts : (valid : Bool) (vs : List Value) → (list_start valid ++ codes "[") ++ (values_text false vs ++ (codes "]" ++ valid_text valid)) ≡ list_start valid ++ (compact (list (items vs)) ++ valid_text valid)
+list_in_parts valid vs =
+    append_assoc (list_start valid) (codes "[") (values_text false vs ++ (codes "]" ++ valid_text valid))
     ∙ ap (λ l. list_start valid ++ l)
-    (sym (ap (λ l. l ++ valid_text valid) (array_text us) ∙ (append_assoc (codes "[") (units_text false us ++ codes "]") (valid_text valid) ∙ ap (λ l. codes "[" ++ l) (append_assoc (units_text false us) (codes "]") (valid_text valid)))))
+    (sym (ap (λ l. l ++ valid_text valid) (array_text vs) ∙ (append_assoc (codes "[") (values_text false vs ++ codes "]") (valid_text valid) ∙ ap (λ l. codes "[" ++ l) (append_assoc (values_text false vs) (codes "]") (valid_text valid)))))
 
 pub basic_in_parts : (at : Locations) (rows : RelativeRows) (t : ResultTree) (verdict : Bool) → HasRoomFor at rows → AreRowsOf rows t → verdict ≡ t.root.valid
-    → (list_start verdict ++ codes "[") ++ (units_text false (listed verdict at.keyword.items at.instance.items (whole_of t)) ++ (codes "]" ++ valid_text verdict)) ≡ compact (unit_list (pruned t))
+    → (list_start verdict ++ codes "[") ++ (values_text false (listed verdict at.keyword.items at.instance.items (whole_of t)) ++ (codes "]" ++ valid_text verdict)) ≡ compact (unit_list (pruned t))
 basic_in_parts at rows t verdict room h v =
+    let vs = leaves (units (pruned t)) in
     let units_are =
     ap (λ k. listed verdict k at.instance.items (whole_of t)) room.above_root.0
     ∙ (ap (λ i. listed verdict [] i (whole_of t)) room.above_root.1 ∙ listed_all t (relative_tree t) verdict (placed_tree_again t h.located) v) in
-    ap (λ us. (list_start verdict ++ codes "[") ++ (units_text false us ++ (codes "]" ++ valid_text verdict))) units_are
-    ∙ (ap (λ b. (list_start b ++ codes "[") ++ (units_text false (units (pruned t)) ++ (codes "]" ++ valid_text b))) v
-    ∙ (list_in_parts t.root.valid (units (pruned t)) ∙ list_text_is t.root.valid (list (items (map (λ u. node_value u []) (units (pruned t)))))))
+    ap (λ us. (list_start verdict ++ codes "[") ++ (values_text false us ++ (codes "]" ++ valid_text verdict))) units_are
+    ∙ (ap (λ b. (list_start b ++ codes "[") ++ (values_text false vs ++ (codes "]" ++ valid_text b))) v
+    ∙ (list_in_parts t.root.valid vs ∙ list_text_is t.root.valid (list (items vs))))

@@ -10,7 +10,7 @@ ghost use Rattle.js_tree.specs.OutputUnit.{OutputUnit};
 ghost use Rattle.js_tree.specs.RelativeState.{AreRowsOf, AreWhole, relative_row};
 ghost use Rattle.js_tree.specs.Result.{ResultTree, pruned};
 ghost use Rattle.js_tree.specs.code.NodeText.{list_start, valid_text};
-ghost use Rattle.js_tree.specs.code.UnitsText.{AreListed, if_noted, listed, listed_tree, unit_at};
+ghost use Rattle.js_tree.specs.code.Listing.{AreListed, if_noted, listed, listed_tree, unit_at};
 
 use crate::locations::Locations;
 use crate::node_text::put_error;

@@ -2,10 +2,10 @@ use Rattle.std.proofs.Common.{◌≡◌, ◌+◌, ◌-◌, ◌++◌, drop, take,
 use Rattle.js_tree.specs.Locations.{HasRoom}
 use Rattle.js_tree.specs.RelativeState.{relative_row}
 use Rattle.js_tree.specs.Result.{ResultTree}
-use Rattle.js_tree.specs.code.UnitsText.{AllListed, AreListed, if_noted, listed, unit_at}
+use Rattle.js_tree.specs.code.Listing.{AllListed, AreListed, if_noted, listed, listed_tree, unit_at}
 use Rattle.js_tree.proofs.ChildTexts.{rest_of}
 use Rattle.js_tree.proofs.FlatRows.{first_tree, root_row, rows_below, shorter}
-use Rattle.js_tree.proofs.ListedRows.{both_listed, list_ends, list_goes_on, list_passes, list_starts, list_stops, listed_err, stops_first, stops_rest, tree_listed}
+use Rattle.js_tree.proofs.ListedRows.{both_listed, list_ends, list_goes_on, list_passes, list_starts, list_stops, listed_err, next_listed, next_passed, stops_first, stops_rest, tree_listed}
 use Rattle.js_tree.proofs.ListedUnits.{its_verdict, other_verdict}
 use Rattle.js_tree.proofs.Marks.{flat-flat_of}
 use Rattle.js_tree.proofs.RelativeTexts.{back_again, room_for_part, stays_there}
@@ -78,7 +78,7 @@ pub put_trees-loop-next-init : goal.put_trees-loop-next-init
 put_trees-loop-next-init g t c = (
   omega arith,
   stays_there c.args.locations.now,
-  λ f e. list_starts (g.O.Out.progress c.args.out.now) c.args.verdict c.args.later c.args.locations.now.keyword.items c.args.locations.now.instance.items c.args.rows.now f e,
+  λ f e. list_starts (g.O.Out.progress c.args.out.now) c.args.later (listed c.args.verdict c.args.locations.now.keyword.items c.args.locations.now.instance.items) c.args.rows.now f e,
 )
 
 pub put_trees-overflow_add-next : goal.put_trees-overflow_add-next
@@ -112,7 +112,7 @@ put_trees-loop-next-preserved-then-row-verdict g t c =
       λ f e.
           let w = l.invariant.2 f e in
           let t = first_tree relative_row rows l.next w.left x w.left_is c.loop-next-test.true c.index-rows-first.is in
-          list_passes (o c.args.out.now) (o l.out) v c.args.later l.later old.keyword.items old.instance.items rows l.next f x w t (other_verdict x.valid v (relative_row x).0 refl c.if-row-verdict.true),
+          list_passes (o c.args.out.now) (o l.out) c.args.later l.later (listed v old.keyword.items old.instance.items) rows l.next f x w t (next_passed v old.keyword.items old.instance.items rows l.next w.left x t (other_verdict x.valid v (relative_row x).0 refl c.if-row-verdict.true)),
     )
 
 pub put_trees-slice_bounds-put_tree-end : goal.put_trees-slice_bounds-put_tree-end
@@ -153,7 +153,7 @@ put_trees-returns-in_err-later-clause-listed g t c =
     let has = its_verdict x.valid v (relative_row x).0 refl c.if-row-verdict.false in
     let res = c.from_residual.result in
     listed_err (o c.args.out.now) (o c.put_tree.new.out) c.args.later (listed v old.keyword.items old.instance.items f) res c.from_residual.ensures.0
-    (list_stops (o c.args.out.now) (o l.out) (o c.put_tree.new.out) v c.args.later l.later old l.locations rows l.next f x w t has l.invariant.1 (c.in_err-later.ensures.listed one all_is))
+    (list_stops (o c.args.out.now) (o l.out) (o c.put_tree.new.out) c.args.later l.later (listed v old.keyword.items old.instance.items) rows l.next f x (listed_tree v l.locations.keyword.items l.locations.instance.items t.unit t.below) w t (next_listed v old l.locations rows l.next w.left x t has l.invariant.1) (c.in_err-later.ensures.listed one all_is))
 
 pub put_trees-loop-next-smaller : goal.put_trees-loop-next-smaller
 put_trees-loop-next-smaller g t c =
@@ -182,7 +182,7 @@ put_trees-loop-next-preserved g t c =
           let size : l.next + x.size - l.next ≡ x.size = omega arith in
           let all_is = ap (λ n. map relative_row (take n (drop l.next rows))) size ∙ (t.all ∙ sym (flat-flat_of one)) in
           let has = its_verdict x.valid v (relative_row x).0 refl c.if-row-verdict.false in
-          list_goes_on (o c.args.out.now) (o l.out) (o c.put_tree.new.out) v c.args.later l.later c.in_ok-later.later old l.locations rows l.next f x w t has l.invariant.1 (c.in_ok-later.ensures.listed one all_is),
+          list_goes_on (o c.args.out.now) (o l.out) (o c.put_tree.new.out) c.args.later l.later c.in_ok-later.later (listed v old.keyword.items old.instance.items) rows l.next f x (listed_tree v l.locations.keyword.items l.locations.instance.items t.unit t.below) w t (next_listed v old l.locations rows l.next w.left x t has l.invariant.1) (c.in_ok-later.ensures.listed one all_is),
     )
 
 pub put_trees-returns-clause-listed : goal.put_trees-returns-clause-listed
@@ -191,7 +191,7 @@ put_trees-returns-clause-listed g t c =
     let l = c.loop-next in
     let o = g.O.Out.progress in
     let old = c.args.locations.now in
-    list_ends (o c.args.out.now) (o l.out) c.args.verdict c.args.later l.later old.keyword.items old.instance.items c.args.rows.now l.next f (l.invariant.2 f e) (omega (arith, c.loop-next-test.false))
+    list_ends (o c.args.out.now) (o l.out) c.args.later l.later (listed c.args.verdict old.keyword.items old.instance.items) c.args.rows.now l.next f refl (l.invariant.2 f e) (omega (arith, c.loop-next-test.false))
 
 pub put_trees-returns-clause-back : goal.put_trees-returns-clause-back
 put_trees-returns-clause-back g t c = c.loop-next.invariant.1

@@ -4,6 +4,7 @@ use Rattle.js_tree.specs.Forest.{Forest}
 use Rattle.js_tree.specs.Locations.{IsBack}
 use Rattle.js_tree.specs.OutputUnit.{OutputUnit}
 use Rattle.js_tree.specs.RelativeState.{relative_row}
+use Rattle.js_tree.specs.code.Listing.{listed}
 use Rattle.js_tree.proofs.ListedRows.{LeftToList}
 use Rattle.js_tree.proofs.relative_units.+put_trees.Given as goal
 
@@ -18,7 +19,7 @@ invariant-put_trees-loop-next g l =
     (l.next ≤ length l.rows)
     × IsBack l.fn.locations l.locations
     × ((f : Forest OutputUnit) → map relative_row l.rows ≡ flat_of f
-    → LeftToList (g.O.Out.progress l.fn.out) (g.O.Out.progress l.out) l.verdict l.fn.later l.later l.fn.locations.keyword.items l.fn.locations.instance.items l.rows l.next f)
+    → LeftToList (g.O.Out.progress l.fn.out) (g.O.Out.progress l.out) l.fn.later l.later (listed l.verdict l.fn.locations.keyword.items l.fn.locations.instance.items) l.rows l.next f)
 
 abbrev pub decreases-put_trees-loop-next : goal.decreases-put_trees-loop-next
 decreases-put_trees-loop-next g l = length l.rows - l.next

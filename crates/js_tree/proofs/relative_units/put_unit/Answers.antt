@@ -2,7 +2,7 @@ use Rattle.std.proofs.Common.{◌++◌, subst}
 use Rattle.js_doc.specs.BytesOut.{Puts}
 use Rattle.js_doc.specs.Compact.{comma_if}
 use Rattle.js_tree.specs.code.NodeText.{error_part, head_text, tail_text}
-use Rattle.js_tree.specs.code.UnitsText.{unit_at}
+use Rattle.js_tree.specs.code.Listing.{unit_at}
 use Rattle.js_tree.proofs.ListedRows.{unit_in_parts}
 use Rattle.js_tree.proofs.Pieces.{then_puts, stops_in}
 use Rattle.js_tree.proofs.relative_units.put_unit.Goals as goal
