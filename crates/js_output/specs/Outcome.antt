@@ -4,12 +4,10 @@ use Rattle.std.specs.Prelude.{◌≡◌, ℕ, List, [], ◌∷◌, ◌++◌, Opt
 use Rattle.js_doc.specs.Compact.{compact}
 use Rattle.js_doc.specs.Value.{Value}
 use Rattle.js_doc.specs.declared.reading.ReadFault.{ReadFault}
-use Rattle.js_tree.specs.FlatState.{flat_state, whole_tree}
 use Rattle.js_tree.specs.Form.{form}
 use Rattle.js_tree.specs.MergedResult.{merged}
 use Rattle.js_tree.specs.RelativeState.{AreRowsOf}
-use Rattle.js_tree.specs.Result.{pruned, kept}
-use Rattle.js_tree.specs.declared.flat.Flat.{Flat}
+use Rattle.js_tree.specs.Result.{pruned}
 use Rattle.js_tree.specs.declared.forms.Format.{Format}
 use Rattle.js_tree.specs.declared.forms.Format.TheVariants.{Flag, Basic, Verbose}
 use Rattle.js_tree.specs.declared.relative.RelativeRows.{RelativeRows}
@@ -158,17 +156,12 @@ IsJudged documents entry v valid = (t : ResultTree) × IsResultOf documents entr
 abbrev pub AreResultRows : bundle.Documents → Option Site → Value → RelativeRows → Type 0
 AreResultRows documents entry v rows = (t : ResultTree) × IsResultOf documents entry v t × IsWithinLimits t × AreRowsOf rows t
 
--- the rows are those of what detailed shows of it
-abbrev pub AreCondensed : bundle.Documents → Option Site → Value → Flat → Type 0
-AreCondensed documents entry v flat =
-    (t : ResultTree) × IsResultOf documents entry v t × IsWithinLimits t × (flat_state flat ≡ whole_tree (kept (pruned t)))
-
 -- the tree is what merged shows of it
 abbrev pub IsMerged : bundle.Documents → Option Site → Value → ResultTree → Type 0
 IsMerged documents entry v tree =
     (t : ResultTree) × IsResultOf documents entry v t × IsWithinLimits t × (tree ≡ merged (pruned t))
 
--- a format that is written from rows of the whole tree
+-- a format that is written from the rows alone
 abbrev pub IsOfRows : Format → Type 0
 IsOfRows Basic = ⊤
 IsOfRows Verbose = ⊤

@@ -1,7 +1,6 @@
 //! Bytes in, bytes out.
 #![tactic(auto)]
 
-mod condensed;
 mod documents;
 mod entry;
 mod fault;

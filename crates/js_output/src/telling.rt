@@ -7,18 +7,17 @@ ghost use Rattle.js_output.specs.Device.{Unflushed};
 ghost use Rattle.js_output.specs.Outcome.{ValueOutcome, TextOutcome, telling_output, IsLateOrMemory, IsJudged, IsOfRows, IsWalkFault};
 ghost use Rattle.js_output.specs.Telling.{Tells};
 
-use crate::condensed::{condensed_of, root_row_is_valid};
 use crate::fault::Fault;
 use crate::merged::{merged_of, root_is_valid};
 use crate::rows::rows_of;
 use crate::sink::Sink;
 use crate::text::value_from;
-use crate::writing::{write_condensed, write_flag, write_rows, write_tree};
+use crate::writing::{write_detailed, write_flag, write_rows, write_tree};
 use bumpalo::Bump;
 use js_bundle::{Place, Schemas};
 use js_doc::{Doc, ReadFault};
 use js_eval::verdict;
-use js_tree::{Format, Locations};
+use js_tree::{Format, Locations, RelativeMarks};
 use std::alloc::Global;
 use std::io::Write;
 
@@ -123,7 +122,7 @@ fn tell_rows<W: Write>(
     Ok(valid)
 }
 
-// What the format doesn't show is removed before the first byte is written.
+// What pruning and condensing leave is marked before the first byte is written.
 fn tell_detailed<W: Write>(
     alloc: Global,
     schemas: &Schemas,
@@ -140,9 +139,12 @@ fn tell_detailed<W: Write>(
     ensures unflushed { Unflushed out.old out.new }
     ensures sink_stays { out.old.failed ≡ true → out.new ≡ out.old }
 {
-    let flat = condensed_of(alloc, schemas, place, instance)?;
-    let valid = root_row_is_valid(&flat);
-    write_condensed(&flat, out)?;
+    let arena = Bump::new(alloc);
+    let rows = rows_of(alloc, &arena, schemas, place, instance)?;
+    let marks = RelativeMarks::new(alloc, &rows)?;
+    let locations = Locations::new(alloc, &rows)?;
+    let valid = rows.is_valid();
+    write_detailed(&rows, &marks, locations, out)?;
     Ok(valid)
 }
 

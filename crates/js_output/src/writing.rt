@@ -2,11 +2,12 @@
 ghost use Rattle.std.specs.Prelude.{◌≡◌, ◌∷◌, ◌++◌, [], true};
 ghost use Rattle.js_doc.specs.BytesOut.{Puts};
 ghost use Rattle.js_doc.specs.Compact.{compact};
-ghost use Rattle.js_tree.specs.FlatState.{IsWholeTree, flat_state, whole_tree};
+ghost use Rattle.js_tree.specs.declared.forms.Format.TheVariants.{Detailed};
 ghost use Rattle.js_tree.specs.Form.{flag, form, verbose};
 ghost use Rattle.js_tree.specs.RelativeState.{AreRowsOf, AreWhole};
 ghost use Rattle.js_tree.specs.Result.{ResultTree};
 ghost use Rattle.js_tree.specs.Locations.{HasRoomFor};
+ghost use Rattle.js_tree.specs.Marks.{AreMarksOf};
 ghost use Rattle.js_output.specs.Device.{SendsOrFails, Unflushed};
 ghost use Rattle.js_output.specs.Outcome.{IsOfRows};
 
@@ -14,8 +15,8 @@ use crate::fault::Fault;
 use crate::sink::Sink;
 use js_doc::{Out, Stopped};
 use js_tree::{
-    Flat, Format, Locations, RelativeRows, Tree, put_basic, put_flag, put_flat, put_tree,
-    put_verbose,
+    Format, Locations, RelativeMarks, RelativeRows, Tree, put_basic, put_detailed, put_flag,
+    put_tree, put_verbose,
 };
 use std::io::Write;
 
@@ -57,18 +58,25 @@ pub(crate) fn write_rows<W: Write>(
     Ok(())
 }
 
-/// Writes the compact text of the rows' root node, and a line feed. It allocates nothing.
-pub(crate) fn write_condensed<W: Write>(flat: &Flat, out: &mut Sink<W>) -> Result<(), Fault>
-    requires { IsWholeTree (flat_state flat.now) }
-    ensures sent { (t : ResultTree) → flat_state flat.now ≡ whole_tree t
-        → SendsOrFails W.contents out.old out.new (compact (verbose t) ++ 10 ∷ []) result }
+/// Writes the compact text of the detailed format, and a line feed. It allocates nothing.
+pub(crate) fn write_detailed<W: Write>(
+    rows: &RelativeRows,
+    marks: &RelativeMarks,
+    locations: Locations,
+    out: &mut Sink<W>,
+) -> Result<(), Fault>
+    requires whole { AreWhole rows.now }
+    requires room { HasRoomFor locations rows.now }
+    requires marks { AreMarksOf marks.now rows.now }
+    ensures sent { (t : ResultTree) → AreRowsOf rows.now t
+        → SendsOrFails W.contents out.old out.new (compact (form Detailed t) ++ 10 ∷ []) result }
     ensures unflushed { Unflushed out.old out.new }
     ensures stays { out.old.failed ≡ true → out.new ≡ out.old }
 {
     if out.failed() {
         return Err(Fault::Write);
     }
-    put_condensed_line(flat, &mut out.writing)?;
+    put_detailed_line(rows, marks, locations, &mut out.writing)?;
     Ok(())
 }
 
@@ -130,13 +138,20 @@ fn put_rows<O: Out>(
     }
 }
 
-fn put_condensed_line<O: Out>(flat: &Flat, out: &mut O) -> Result<(), Stopped>
-    requires { IsWholeTree (flat_state flat.now) }
-    ensures { (t : ResultTree) → flat_state flat.now ≡ whole_tree t
-        → Puts (O.progress out.old) (O.progress out.new) (compact (verbose t) ++ 10 ∷ [])
+fn put_detailed_line<O: Out>(
+    rows: &RelativeRows,
+    marks: &RelativeMarks,
+    locations: Locations,
+    out: &mut O,
+) -> Result<(), Stopped>
+    requires whole { AreWhole rows.now }
+    requires room { HasRoomFor locations rows.now }
+    requires marks { AreMarksOf marks.now rows.now }
+    ensures { (t : ResultTree) → AreRowsOf rows.now t
+        → Puts (O.progress out.old) (O.progress out.new) (compact (form Detailed t) ++ 10 ∷ [])
         result }
 {
-    put_flat(flat, Format::Detailed, out)?;
+    put_detailed(rows, marks, locations, out)?;
     put_line_feed(out)
 }
 

@@ -1,14 +1,15 @@
 -- Rows whose locations have JSON escapes, and the trees without them.
-use Rattle.std.proofs.Common.{◌≡◌, ℕ, suc, ◌+◌, ◌≤◌, ◌<◌, List, [], ◌++◌, length, take, drop, get_or, refl, ap, sym, ◌∙◌}
+use Rattle.std.proofs.Common.{◌≡◌, ℕ, suc, ◌+◌, ◌≤◌, ◌<◌, Bool, true, false, List, [], ◌∷◌, ◌++◌, length, take, drop, get_or, refl, ap, ap₂, sym, ◌∙◌}
 use Rattle.std.proofs.lemmas.Grind.{flat_map-append}
 use Rattle.json.specs.Print.{escape, escape_byte}
 use Rattle.js_tree.specs.Flat.{flat_of}
 use Rattle.js_tree.specs.Forest.{Forest, empty, tree, node_count}
+use Rattle.js_tree.specs.Marks.{left_trees, mark_of, marked}
 use Rattle.js_tree.specs.Locations.{AreAt, HasRoomFor, IsBack, IsDown}
 use Rattle.js_tree.specs.OutputUnit.{OutputUnit}
 use Rattle.js_tree.specs.Relative.{escaped, escaped_tree, escaped_unit}
 use Rattle.js_tree.specs.RelativeState.{relative_row}
-use Rattle.js_tree.specs.Result.{ResultTree}
+use Rattle.js_tree.specs.Result.{ResultTree, has_verdict}
 use Rattle.js_tree.specs.code.RelativeText.{AreRowsOfTree, AreRowsOfTrees, IsAbsolute}
 use Rattle.js_tree.specs.declared.locations.Locations.{Locations}
 use Rattle.js_tree.specs.declared.relative.RelativeRow.{RelativeRow}
@@ -69,6 +70,34 @@ next_tree rows n (tree u below after) x e h is =
       all = t.all ∙ (ap (λ v. flat_of (tree v t.below empty)) unit ∙ (ap (λ f. flat_of (tree (escaped_unit u) f empty)) forest ∙ sym (flat-flat_of (escaped_tree one))));
       more = t.more ∙ ap flat_of rest;
     }
+
+-- ---- what has nothing to do with locations
+
+pub count-escaped : (f : Forest OutputUnit) → node_count (escaped f) ≡ node_count f
+count-escaped empty = refl
+count-escaped (tree u below after) = ap₂ (λ n m. suc (n + m)) (count-escaped below) (count-escaped after)
+
+agrees_escaped : (v : Bool) (u : OutputUnit) → has_verdict v (escaped_unit u) ≡ has_verdict v u
+agrees_escaped true u = refl
+agrees_escaped false u = refl
+
+left_at : (b : Bool) (v : Bool) (u : OutputUnit) (below after : Forest OutputUnit) → has_verdict v u ≡ b → left_trees v (escaped below) ≡ left_trees v below → left_trees v (escaped after) ≡ left_trees v after
+    → left_trees v (escaped (tree u below after)) ≡ left_trees v (tree u below after)
+left_at true v u below after e p q = let a = agrees_escaped v u ∙ e in rw (a, e, p, q) refl
+left_at false v u below after e p q = let a = agrees_escaped v u ∙ e in rw (a, e, q) refl
+
+pub left-escaped : (v : Bool) (f : Forest OutputUnit) → left_trees v (escaped f) ≡ left_trees v f
+left-escaped v empty = refl
+left-escaped v (tree u below after) = left_at (has_verdict v u) v u below after refl (left-escaped v below) (left-escaped v after)
+
+mark_at : (b : Bool) (v : Bool) (u : OutputUnit) (n : ℕ) → has_verdict v u ≡ b → mark_of v (escaped_unit u) n ≡ mark_of v u n
+mark_at b v u n e = let a = agrees_escaped v u in rw a refl
+
+pub marked-escaped : (v : Bool) (f : Forest OutputUnit) → marked v (escaped f) ≡ marked v f
+marked-escaped v empty = refl
+marked-escaped v (tree u below after) =
+    ap₂ (λ m ms. m ∷ ms) (mark_at (has_verdict v u) v u (left_trees v (escaped below)) refl ∙ ap (mark_of v u) (left-escaped v below))
+    (ap₂ (λ ms ns. ms ++ ns) (marked-escaped v below) (marked-escaped v after))
 
 -- ---- locations
 

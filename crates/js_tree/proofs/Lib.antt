@@ -9,6 +9,7 @@ pub mod FlagText
 pub mod FlatRows
 pub mod FlatTold
 pub mod Giving
+pub mod MarkedRows
 pub mod Marks
 pub mod Forests
 pub mod KeptTree
@@ -33,6 +34,7 @@ pub mod Siblings
 pub mod Steps
 pub mod Telling
 pub mod VerdictTold
+pub mod DetailedTrees
 pub mod Differing
 pub mod Ordered
 pub mod Places

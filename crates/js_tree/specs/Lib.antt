@@ -9,6 +9,7 @@ pub mod Form
 pub mod Holding
 pub mod Kept
 pub mod Locations
+pub mod Marks
 pub mod Merged
 pub mod MergedResult
 pub mod Moves

@@ -1,9 +1,9 @@
 -- Definitions for private functions only: no public clause cites them.
 pub mod Compacting
+pub mod Listing
 pub mod Nesting
 pub mod NodeText
 pub mod Order
 pub mod Put
 pub mod RelativeText
 pub mod Search
-pub mod UnitsText

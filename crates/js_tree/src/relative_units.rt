@@ -6,11 +6,11 @@ ghost use Rattle.js_tree.specs.Forest.{Forest};
 ghost use Rattle.js_tree.specs.Form.{node_value, unit_list};
 ghost use Rattle.js_tree.specs.Locations.{AreAt, HasRoom, HasRoomFor, IsBack};
 ghost use Rattle.js_tree.specs.OutputUnit.{OutputUnit};
-ghost use Rattle.js_tree.specs.RelativeState.{AreRowsOf, AreWhole};
+ghost use Rattle.js_tree.specs.RelativeState.{AreRowsOf, AreWhole, relative_row};
 ghost use Rattle.js_tree.specs.Result.{ResultTree, pruned};
 ghost use Rattle.js_tree.specs.code.NodeText.{list_start, valid_text};
+ghost use Rattle.js_tree.specs.code.Listing.{AreListed, if_noted, listed, listed_tree, may_list};
 ghost use Rattle.js_tree.specs.code.RelativeText.{AreRowsOfTree, AreRowsOfTrees, IsAbsolute, unit_there};
-ghost use Rattle.js_tree.specs.code.UnitsText.{AreListed, if_noted, listed, listed_tree};
 
 use crate::locations::Locations;
 use crate::node_text::put_error;
@@ -65,7 +65,7 @@ fn put_trees<O: Out>(
         let first = next;
         let row = &rows[first];
         next = first + row.size;
-        if row.valid != verdict {
+        if !may_list(verdict, row) {
             continue;
         }
         later = put_tree(verdict, later, &rows[first..next], locations, out)?;
@@ -95,6 +95,16 @@ fn put_tree<O: Out>(
     let later = put_trees(verdict, later, &rows[1..], locations, out)?;
     locations.go_back(row);
     Ok(later)
+}
+
+// Whether the tree of this row can have units: its root has the verdict, and it is more than a node without a note.
+fn may_list(verdict: bool, row: &RelativeRow) -> bool
+    ensures { result ≡ may_list verdict (relative_row row.now) }
+{
+    if row.valid != verdict {
+        return false;
+    }
+    row.size > 1 || row.note.is_some()
 }
 
 /// Writes the unit, if it has a note.

@@ -3,13 +3,12 @@ use Rattle.js_tree.specs.Locations.{HasRoom}
 use Rattle.js_tree.specs.Relative.{escaped_tree}
 use Rattle.js_tree.specs.RelativeState.{relative_row}
 use Rattle.js_tree.specs.Result.{ResultTree}
+use Rattle.js_tree.specs.code.Listing.{AllListed, AreListed, if_noted, listed, listed_tree}
 use Rattle.js_tree.specs.code.RelativeText.{unit_there}
-use Rattle.js_tree.specs.code.UnitsText.{AllListed, AreListed, if_noted, listed}
 use Rattle.js_tree.proofs.ChildTexts.{rest_of}
 use Rattle.js_tree.proofs.EscapedRows.{at_below, is_absolute, next_tree, still_at}
 use Rattle.js_tree.proofs.FlatRows.{root_row, rows_below, shorter}
-use Rattle.js_tree.proofs.ListedRows.{both_listed, list_ends, list_goes_on, list_passes, list_starts, list_stops, listed_err, stops_first, stops_rest, tree_listed}
-use Rattle.js_tree.proofs.ListedUnits.{its_verdict, other_verdict}
+use Rattle.js_tree.proofs.ListedRows.{both_listed, list_ends, list_goes_on, list_passes, list_starts, list_stops, listed_err, may_agree, next_listed, next_passed, stops_first, stops_rest, tree_listed}
 use Rattle.js_tree.proofs.RelativeTexts.{back_again, room_for_part, stays_there}
 use Rattle.js_tree.proofs.RoomLeft.{fewer_below, room_below, some_row}
 use Rattle.js_tree.proofs.relative_units.+put_trees.Goals as goal
@@ -87,7 +86,7 @@ put_trees-loop-next-init g t c = (
   omega arith,
   stays_there c.args.locations.now,
   λ f e. (f, e),
-  λ f k i at e. list_starts (g.O.Out.progress c.args.out.now) c.args.verdict c.args.later k i c.args.rows.now f e,
+  λ f k i at e. list_starts (g.O.Out.progress c.args.out.now) c.args.later (listed c.args.verdict k i) c.args.rows.now f e,
 )
 
 pub put_trees-overflow_add-next : goal.put_trees-overflow_add-next
@@ -98,16 +97,16 @@ put_trees-overflow_add-next g t c =
     let t = next_tree rows l.next w.0 c.index-rows-first.result w.1 c.loop-next-test.true c.index-rows-first.is in
     omega (arith, t.fits)
 
-pub put_trees-loop-next-smaller-then-row-verdict : goal.put_trees-loop-next-smaller-then-row-verdict
-put_trees-loop-next-smaller-then-row-verdict g t c =
+pub put_trees-loop-next-smaller-then-not-may_list : goal.put_trees-loop-next-smaller-then-not-may_list
+put_trees-loop-next-smaller-then-not-may_list g t c =
     let l = c.loop-next in
     let rows = c.args.rows.now in
     let w = l.invariant.2 c.requires.0 c.requires.1 in
     let t = next_tree rows l.next w.0 c.index-rows-first.result w.1 c.loop-next-test.true c.index-rows-first.is in
     omega (arith, t.size, t.fits)
 
-pub put_trees-loop-next-preserved-then-row-verdict : goal.put_trees-loop-next-preserved-then-row-verdict
-put_trees-loop-next-preserved-then-row-verdict g t c =
+pub put_trees-loop-next-preserved-then-not-may_list : goal.put_trees-loop-next-preserved-then-not-may_list
+put_trees-loop-next-preserved-then-not-may_list g t c =
     let l = c.loop-next in
     let o = g.O.Out.progress in
     let v = c.args.verdict in
@@ -124,7 +123,7 @@ put_trees-loop-next-preserved-then-row-verdict g t c =
       λ f k i at e.
           let w = l.invariant.3 f k i at e in
           let t = next_tree rows l.next w.left x w.left_is c.loop-next-test.true c.index-rows-first.is in
-          list_passes (o c.args.out.now) (o l.out) v c.args.later l.later k i rows l.next f x w t (other_verdict x.valid v (relative_row x).0 refl c.if-row-verdict.true),
+          list_passes (o c.args.out.now) (o l.out) c.args.later l.later (listed v k i) rows l.next f x w t (next_passed v k i rows l.next w.left x t (sym c.may_list.ensures ∙ c.if-not-may_list.true)),
     )
 
 pub put_trees-slice_bounds-put_tree-end : goal.put_trees-slice_bounds-put_tree-end
@@ -162,10 +161,10 @@ put_trees-returns-in_err-later-clause-listed g t c =
     let one : ResultTree = record { root = t.unit; below = t.below } in
     let size : l.next + x.size - l.next ≡ x.size = omega arith in
     let all_is = ap (λ n. map relative_row (take n (drop l.next rows))) size ∙ t.all in
-    let has = its_verdict x.valid v (relative_row x).0 refl c.if-row-verdict.false in
+    let has = may_agree v x (sym c.may_list.ensures ∙ c.if-not-may_list.false) in
     let res = c.from_residual.result in
     listed_err (o c.args.out.now) (o c.put_tree.new.out) c.args.later (listed v k i f) res c.from_residual.ensures.0
-    (list_stops (o c.args.out.now) (o l.out) (o c.put_tree.new.out) v c.args.later l.later k i rows l.next f x w t has (c.in_err-later.ensures.listed one k i (still_at old l.locations k i at l.invariant.1) all_is))
+    (list_stops (o c.args.out.now) (o l.out) (o c.put_tree.new.out) c.args.later l.later (listed v k i) rows l.next f x (listed_tree v k i t.unit t.below) w t (next_listed v k i rows l.next w.left x t has) (c.in_err-later.ensures.listed one k i (still_at old l.locations k i at l.invariant.1) all_is))
 
 pub put_trees-loop-next-smaller : goal.put_trees-loop-next-smaller
 put_trees-loop-next-smaller g t c =
@@ -197,8 +196,8 @@ put_trees-loop-next-preserved g t c =
           let one : ResultTree = record { root = t.unit; below = t.below } in
           let size : l.next + x.size - l.next ≡ x.size = omega arith in
           let all_is = ap (λ n. map relative_row (take n (drop l.next rows))) size ∙ t.all in
-          let has = its_verdict x.valid v (relative_row x).0 refl c.if-row-verdict.false in
-          list_goes_on (o c.args.out.now) (o l.out) (o c.put_tree.new.out) v c.args.later l.later c.in_ok-later.later k i rows l.next f x w t has (c.in_ok-later.ensures.listed one k i (still_at old l.locations k i at l.invariant.1) all_is),
+          let has = may_agree v x (sym c.may_list.ensures ∙ c.if-not-may_list.false) in
+          list_goes_on (o c.args.out.now) (o l.out) (o c.put_tree.new.out) c.args.later l.later c.in_ok-later.later (listed v k i) rows l.next f x (listed_tree v k i t.unit t.below) w t (next_listed v k i rows l.next w.left x t has) (c.in_ok-later.ensures.listed one k i (still_at old l.locations k i at l.invariant.1) all_is),
     )
 
 pub put_trees-returns-clause-listed : goal.put_trees-returns-clause-listed
@@ -206,7 +205,7 @@ put_trees-returns-clause-listed g t c =
     λ f k i at e.
     let l = c.loop-next in
     let o = g.O.Out.progress in
-    list_ends (o c.args.out.now) (o l.out) c.args.verdict c.args.later l.later k i c.args.rows.now l.next f (l.invariant.3 f k i at e) (omega (arith, c.loop-next-test.false))
+    list_ends (o c.args.out.now) (o l.out) c.args.later l.later (listed c.args.verdict k i) c.args.rows.now l.next f refl (l.invariant.3 f k i at e) (omega (arith, c.loop-next-test.false))
 
 pub put_trees-returns-clause-back : goal.put_trees-returns-clause-back
 put_trees-returns-clause-back g t c = c.loop-next.invariant.1

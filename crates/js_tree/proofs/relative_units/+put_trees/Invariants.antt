@@ -2,6 +2,7 @@ use Rattle.std.proofs.Common.{ℕ, List, ◌≤◌, ◌+◌, ◌-◌, ◌*◌, d
 use Rattle.js_tree.specs.Forest.{Forest}
 use Rattle.js_tree.specs.Locations.{AreAt, IsBack}
 use Rattle.js_tree.specs.OutputUnit.{OutputUnit}
+use Rattle.js_tree.specs.code.Listing.{listed}
 use Rattle.js_tree.specs.code.RelativeText.{AreRowsOfTrees}
 use Rattle.js_tree.proofs.ListedRows.{LeftToList}
 use Rattle.js_tree.proofs.relative_units.+put_trees.Given as goal
@@ -18,7 +19,7 @@ invariant-put_trees-loop-next g l =
     × IsBack l.fn.locations l.locations
     × ((f : Forest OutputUnit) → AreRowsOfTrees l.rows f → (left : Forest OutputUnit) × AreRowsOfTrees (drop l.next l.rows) left)
     × ((f : Forest OutputUnit) (keyword instance : List ℕ) → AreAt l.fn.locations keyword instance → AreRowsOfTrees l.rows f
-    → LeftToList (g.O.Out.progress l.fn.out) (g.O.Out.progress l.out) l.verdict l.fn.later l.later keyword instance l.rows l.next f)
+    → LeftToList (g.O.Out.progress l.fn.out) (g.O.Out.progress l.out) l.fn.later l.later (listed l.verdict keyword instance) l.rows l.next f)
 
 abbrev pub decreases-put_trees-loop-next : goal.decreases-put_trees-loop-next
 decreases-put_trees-loop-next g l = length l.rows - l.next

@@ -1,12 +1,13 @@
 use Rattle.std.proofs.Common.{◌++◌, [], codes, false, ap, sym, subst}
 use Rattle.js_doc.specs.BytesOut.{Puts}
 use Rattle.js_tree.specs.Locations.{HasRoom}
+use Rattle.js_tree.specs.Marks.{whole_of}
 use Rattle.js_tree.specs.Relative.{escaped_tree, relative_tree}
 use Rattle.js_tree.specs.code.NodeText.{list_start, valid_text}
-use Rattle.js_tree.specs.code.UnitsText.{listed, units_text}
+use Rattle.js_tree.specs.code.Listing.{listed, values_text}
 use Rattle.js_tree.proofs.EscapedRows.{at_root}
 use Rattle.js_tree.proofs.FlatRows.{root_row}
-use Rattle.js_tree.proofs.ListedRows.{basic_in_parts, whole_of, whole_rows, whole_rows_of}
+use Rattle.js_tree.proofs.ListedRows.{basic_in_parts, whole_rows, whole_rows_of}
 use Rattle.js_tree.proofs.Pieces.{then_puts, stops_in}
 use Rattle.js_tree.specs.RelativeState.{relative_row}
 use Rattle.js_tree.proofs.relative_units.put_basic.Goals as goal
@@ -20,7 +21,7 @@ returns-in_err-put_list_start g c =
     let is = c.as_slice-rows.ensures.value in
     let v_is = ap (λ u. u.valid) (root_row relative_row c.as_slice-rows.result.now (escaped_tree (relative_tree t)) c.index-rows-0.result (whole_rows c.args.rows.now t c.as_slice-rows.result.now is h) c.index-rows-0.is) in
     let p1 = list_start v ++ codes "[" in
-    let p2 = units_text false (listed v [] [] (whole_of t)) in
+    let p2 = values_text false (listed v [] [] (whole_of t)) in
     let p3 = codes "]" ++ valid_text v in
     let r = c.from_residual.result in
     subst (λ l. Puts (o c.args.out.now) (o c.put_list_start.new.out) l r) (basic_in_parts c.args.rows.now t v h v_is)
@@ -42,7 +43,7 @@ returns-in_err-put_trees g c =
     let is = c.as_slice-rows.ensures.value in
     let v_is = ap (λ u. u.valid) (root_row relative_row c.as_slice-rows.result.now (escaped_tree (relative_tree t)) c.index-rows-0.result (whole_rows c.args.rows.now t c.as_slice-rows.result.now is h) c.index-rows-0.is) in
     let p1 = list_start v ++ codes "[" in
-    let p2 = units_text false (listed v [] [] (whole_of t)) in
+    let p2 = values_text false (listed v [] [] (whole_of t)) in
     let p3 = codes "]" ++ valid_text v in
     let r = c.from_residual-in_err-put_trees.result in
     let rows_are = whole_rows_of c.args.rows.now t c.as_slice-rows.result.now is h in
@@ -59,7 +60,7 @@ returns g c =
     let is = c.as_slice-rows.ensures.value in
     let v_is = ap (λ u. u.valid) (root_row relative_row c.as_slice-rows.result.now (escaped_tree (relative_tree t)) c.index-rows-0.result (whole_rows c.args.rows.now t c.as_slice-rows.result.now is h) c.index-rows-0.is) in
     let p1 = list_start v ++ codes "[" in
-    let p2 = units_text false (listed v [] [] (whole_of t)) in
+    let p2 = values_text false (listed v [] [] (whole_of t)) in
     let p3 = codes "]" ++ valid_text v in
     let r = c.put_list_end.result in
     let rows_are = whole_rows_of c.args.rows.now t c.as_slice-rows.result.now is h in
