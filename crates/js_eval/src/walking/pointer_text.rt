@@ -136,8 +136,7 @@ impl PointerText for UnseenText {
 
     #[inline(always)]
     fn push_kept(&mut self, token: &str) -> Result<(), Memory> {
-        self.text = self.text.with_name(token);
-        Ok(())
+        self.push_name(token)
     }
 
     #[inline(always)]
