@@ -37,13 +37,13 @@ pub(crate) struct KeywordCursor<'a> {
 
 impl<'a> Keywords<'a> {
     /// All keywords of a schema. `names`: which keyword of the standard each of its members is.
-    pub fn new(names: &'a [KeywordName], schema: &'a Doc) -> Keywords<'a>
+    pub fn new(names: &'a [KeywordName], schema: &'a Doc, quiet: bool) -> Keywords<'a>
         requires { names.now ≡ keyword_names_of (entries (value_of schema.now)) }
         ensures all { keywords_in result ≡ table.keywords (value_of schema.now) }
         ensures ascending { IsAscending (entries (value_of schema.now)) }
     {
         match object_in(schema) {
-            Some(members) => Keywords::Of(KeywordCursor::new(names, members)),
+            Some(members) => Keywords::Of(KeywordCursor::new(names, members, quiet)),
             None => Keywords::Nothing,
         }
     }
@@ -62,7 +62,7 @@ impl<'a> Keywords<'a> {
 }
 
 impl<'a> KeywordCursor<'a> {
-    fn new(names: &'a [KeywordName], members: &'a Members) -> KeywordCursor<'a>
+    fn new(names: &'a [KeywordName], members: &'a Members, quiet: bool) -> KeywordCursor<'a>
         requires { names.now ≡ keyword_names_of members.now }
         ensures all { keywords_left result ≡ in_order members.now }
         ensures ascending { IsAscending members.now }
@@ -70,7 +70,7 @@ impl<'a> KeywordCursor<'a> {
         KeywordCursor {
             is_past_if: false,
             kept: None,
-            left: InTurn::new(names, members),
+            left: InTurn::new(names, members, quiet),
         }
     }
 

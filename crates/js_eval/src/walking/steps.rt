@@ -7,10 +7,11 @@ ghost use Rattle.js_eval.specs.Walk.Steps.{SchemaOpened, SchemaClosed, KeywordOp
 ghost use Rattle.js_eval.specs.Walk.Told.{IsKeywordAt, asked_by};
 
 use crate::kind::Kind;
+use crate::walking::fault::WalkFault;
 use crate::walking::keeping::{cut_unless, indexes_origin, keep, names_origin};
 use crate::walking::pointer_text::PointerText;
 use crate::walking::reporter::Reporter;
-use crate::walking::tally::{Case, Judged, Judging, Tally};
+use crate::walking::tally::{Case, Judged, Judging, Known, Tally};
 use crate::walking::way::{Mark, Start, Way};
 use crate::walking::world::World;
 use js_bundle::Place;
@@ -246,4 +247,26 @@ pub(crate) fn come_back<W: World, H: PointerText + Drop>(
         holds,
         world.item(application),
     )
+}
+
+/// Judges the keywords that a quiet walk has passed over.
+#[inline(always)]
+pub(crate) fn judge_others<W: World, H: PointerText + Drop>(
+    alloc: Global,
+    world: &W,
+    way: &mut Way<W::Name, H>,
+    quiet: bool,
+    place: Place,
+    value: W::Value,
+    known: Known,
+) -> Result<bool, WalkFault> {
+    if !quiet {
+        return Ok(known.valid);
+    }
+    let others = world.others(alloc, place, value, known.matching)?;
+    if way.left < others.count {
+        return Err(WalkFault::TooLarge);
+    }
+    way.left -= others.count;
+    Ok(known.valid & others.pass)
 }
