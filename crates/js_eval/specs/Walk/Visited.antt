@@ -8,6 +8,7 @@ use Rattle.js_eval.specs.Kind.{kind}
 use Rattle.js_eval.specs.SchemaSet.{SchemaSet}
 use Rattle.js_eval.specs.declared.kind.Kind.{Kind}
 use Rattle.js_eval.specs.declared.kind.Kind.TheVariants.{Assertion, Annotation}
+use Rattle.js_eval.specs.declared.walking.tally.Others.{Others}
 use Rattle.js_eval.specs.Walk.Told.{keywords_at, passes_at}
 
 -- a keyword of this kind may apply schemas
@@ -28,3 +29,8 @@ module _ {Place : Type 0} (S : SchemaSet Place) (place : Place) where
   pub record AreJudged (v : Value) (matching : ℕ) (pass : Bool) (count : ℕ) : Type 0 where
     pub verdict : pass ≡ list_all (λ k. passes_at S place v matching k []) others_at
     pub many : count ≡ length others_at
+
+  -- what is judged after those that are visited: nothing, if all are
+  abbrev pub AreJudgedIf : Bool → Value → ℕ → Others → Type 0
+  AreJudgedIf true v matching o = AreJudged v matching o.pass o.count
+  AreJudgedIf false v matching o = (o.pass ≡ true) × (o.count ≡ 0)
