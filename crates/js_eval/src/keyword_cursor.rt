@@ -14,6 +14,7 @@ use crate::applying::{Applying, has_applicator};
 use crate::in_turn::{Every, InTurn};
 use crate::instance::object_in;
 use crate::keyword::Keyword;
+use crate::name_cursor::names_ascend;
 use crate::turn::{Turn, is_ever};
 use js_bundle::KeywordName;
 use js_doc::{Doc, Members};
@@ -55,10 +56,20 @@ impl<'a> Keywords<'a> {
         ensures all { keywords_in result ≡ in_order (filter (is_visited quiet) members.now) }
         ensures ascending { IsAscending members.now }
     {
-        let every = Every::new(names, members);
-        if !quiet {
-            Keywords::Of(KeywordCursor::new(InTurn::Every(every)))
-        } else if has_applicator(names) {
+        if quiet {
+            Keywords::applying(names, members)
+        } else {
+            Keywords::Of(KeywordCursor::new(InTurn::Every(Every::new(names, members))))
+        }
+    }
+
+    fn applying(names: &'a [KeywordName], members: &'a Members) -> Keywords<'a>
+        requires { names.now ≡ keyword_names_of members.now }
+        ensures all { keywords_in result ≡ in_order (filter (is_visited true) members.now) }
+        ensures ascending { IsAscending members.now }
+    {
+        names_ascend(members);
+        if has_applicator(names) {
             Keywords::Of(KeywordCursor::new(InTurn::Applying(Applying { names, members })))
         } else {
             Keywords::Nothing
