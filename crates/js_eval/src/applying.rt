@@ -1,5 +1,5 @@
 //! The members of a schema that apply schemas, one after another, each as a keyword with its turn (see `turn`).
-ghost use Rattle.std.specs.Prelude.{◌≡◌, ◌∷◌, [], MatchOption, option_map};
+ghost use Rattle.std.specs.Prelude.{◌≡◌, ◌∷◌, [], MatchOption, is_some, option_map};
 ghost use Rattle.js_bundle.specs.KeywordName.{keyword_name};
 ghost use Rattle.js_eval.specs.code.Applicators.{applicator_in, applicator_text, applicators_in, has_applicator};
 ghost use Rattle.js_eval.specs.code.Turns.{turn_of};
@@ -43,7 +43,13 @@ impl<'a> Applying<'a> {
 pub(crate) fn has_applicator(names: &[KeywordName]) -> bool
     ensures { result ≡ has_applicator names.now }
 {
-    names.iter().any(|which| applicator_text(*which).is_some())
+    names.iter().any(|which| applies(*which))
+}
+
+fn applies(which: KeywordName) -> bool
+    ensures { result ≡ is_some (applicator_text which) }
+{
+    applicator_text(which).is_some()
 }
 
 // The keyword, if it applies schemas and is one of these members.
