@@ -72,7 +72,7 @@ fn first_name(names: &[KeywordName]) -> (KeywordName, &[KeywordName])
     }
 }
 
-/// The members that are left.
+/// The members that are left: of all, or of those alone that apply schemas.
 #[derive(Drop)]
 pub(crate) enum InTurn<'a> {
     Every(Every<'a>),
@@ -80,15 +80,16 @@ pub(crate) enum InTurn<'a> {
 }
 
 impl<'a> InTurn<'a> {
-    pub fn new(names: &'a [KeywordName], members: &'a Members, quiet: bool) -> InTurn<'a> {
-        if quiet {
-            InTurn::Applying(Applying { names, members })
-        } else {
-            InTurn::Every(Every::new(names, members))
-        }
-    }
+    ghost use Rattle.js_eval.specs.Seen.{keyword_of};
+    ghost use Rattle.js_eval.specs.code.KeywordsLeft.{members_left};
+    ghost use Rattle.js_eval.specs.code.Turns.{turn_of};
 
-    pub fn next(&mut self) -> Option<(Turn, Keyword<'a>)> {
+    /// The next member, as a keyword, and its turn.
+    pub fn next(&mut self) -> Option<(Turn, Keyword<'a>)>
+        ensures { MatchOption result ((members_left self.old ≡ []) × (members_left self.new ≡ []))
+            (λ m. (members_left self.old ≡ keyword_of m.1 ∷ members_left self.new)
+            × (m.0 ≡ turn_of m.1.name.now)) }
+    {
         match self {
             InTurn::Every(every) => every.next(),
             InTurn::Applying(applying) => applying.next(),
