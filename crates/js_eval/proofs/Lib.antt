@@ -24,6 +24,7 @@ pub mod Recursion
 pub mod Counts
 pub mod AssertionThere
 pub mod Standard
+pub mod JudgedTogether
 pub mod Held
 pub mod Holding
 pub mod NamesLeft

@@ -9,3 +9,4 @@ pub mod Standing
 pub mod Holding
 pub mod NamesLeft
 pub mod ListLeft
+pub mod Leaves
