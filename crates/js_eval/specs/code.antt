@@ -10,3 +10,4 @@ pub mod Standing
 pub mod Holding
 pub mod NamesLeft
 pub mod ListLeft
+pub mod Leaves
