@@ -36,7 +36,7 @@ impl Schemas {
         }
     }
 
-    fn assertions(&self, place: Place) -> &[Assertion]
+    pub fn assertions(&self, place: Place) -> &[Assertion]
         requires { is_place self.now place ≡ true }
         ensures { option_map assertions_at (place_at self.now place) ≡ Some result.now }
     {

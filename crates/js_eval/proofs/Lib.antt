@@ -25,6 +25,8 @@ pub mod Counts
 pub mod AssertionThere
 pub mod Standard
 pub mod PlainNames
+pub mod Applicators
+pub mod JudgedTogether
 pub mod Held
 pub mod Holding
 pub mod NamesLeft

@@ -5,6 +5,7 @@ pub mod Telling
 pub mod Each
 pub mod KeywordTelling
 pub mod Order
+pub mod Visited
 pub mod NodeTelling
 pub mod Before
 pub mod Counted

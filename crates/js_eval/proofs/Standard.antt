@@ -37,18 +37,15 @@ kind_by_rows : (rows : TableOfNames) (otherwise : KeywordName) (name : List ℕ)
 kind_by_rows [] otherwise name e = e
 kind_by_rows (row ∷ rows) otherwise name e = row_by (bytes_eq name row.0) row.1 (name_in rows otherwise name) (kind_in (rows_of rows) name) (kind_by_rows rows otherwise name e)
 
-side_does : (b : Bool) (up_to behind : KeywordName) (κ : Kind) → kind_by up_to ≡ κ → kind_by behind ≡ κ → kind_by (cond b behind up_to) ≡ κ
-side_does true up_to behind κ u v = v
-side_does false up_to behind κ u v = u
+-- where all that a name may be have the same, so does what it is
+module _ {X : Type 0} (f : KeywordName → X) (x : X) where
+  pub side_has : (b : Bool) (up_to behind : KeywordName) → f up_to ≡ x → f behind ≡ x → f (cond b behind up_to) ≡ x
+  side_has true up_to behind u v = v
+  side_has false up_to behind u v = u
 
-none_does : (rows : TableOfNames) (otherwise : KeywordName) (name : List ℕ) → AllByRecursion (λ row. kind_by row.1 ≡ Annotation) rows → kind_by otherwise ≡ Annotation
-    → kind_by (name_in rows otherwise name) ≡ Annotation
-none_does [] otherwise name h e = e
-none_does (row ∷ rows) otherwise name h e = at (bytes_eq name row.0) (none_does rows otherwise name h.1 e)
-  where
-    at : (b : Bool) → kind_by (name_in rows otherwise name) ≡ Annotation → kind_by (cond b row.1 (name_in rows otherwise name)) ≡ Annotation
-    at true r = h.0
-    at false r = r
+  pub each_has : (rows : TableOfNames) (otherwise : KeywordName) (name : List ℕ) → AllByRecursion (λ row. f row.1 ≡ x) rows → f otherwise ≡ x → f (name_in rows otherwise name) ≡ x
+  each_has [] otherwise name h e = e
+  each_has (row ∷ rows) otherwise name h e = side_has (bytes_eq name row.0) (name_in rows otherwise name) row.1 (each_has rows otherwise name h.1 e) h.0
 
 other_kind : (b : Bool) (n m : KeywordName) → kind_by n ≡ Assertion → kind_by m ≡ Annotation → cond b Assertion Annotation ≡ kind_by (cond b n m)
 other_kind true n m g h = sym g
@@ -60,9 +57,9 @@ kind_is name =
     let behind = stands_behind_if name in
     sym (kind_by_rows applying (not_applying name) name
     (other_kind (is_some (keyword_named name)) (by_side AssertionUpToIf AssertionBehindIf name) (name_in identifying (by_side OtherUpToIf OtherBehindIf name) name)
-    (side_does behind AssertionUpToIf AssertionBehindIf Assertion refl refl)
-    (none_does identifying (by_side OtherUpToIf OtherBehindIf name) name (refl, (refl, (refl, (refl, (refl, (refl, (refl, (refl, tt))))))))
-    (side_does behind OtherUpToIf OtherBehindIf Annotation refl refl))))
+    (side_has kind_by Assertion behind AssertionUpToIf AssertionBehindIf refl refl)
+    (each_has kind_by Annotation identifying (by_side OtherUpToIf OtherBehindIf name) name (refl, (refl, (refl, (refl, (refl, (refl, (refl, (refl, tt))))))))
+    (side_has kind_by Annotation behind OtherUpToIf OtherBehindIf refl refl))))
 
 -- ---- when it has its turn
 

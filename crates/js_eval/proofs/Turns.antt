@@ -19,10 +19,10 @@ use Rattle.js_eval.proofs.FoundByName.{Below, below_all, its_own_reverse}
 is_named_else : (name : List ℕ) → is_else name ≡ true → name ≡ codes "else"
 is_named_else name h = (bytes_eq-Decides name (codes "else")).0 h
 
-else_has_node : (name : List ℕ) → is_else name ≡ true → has_node name ≡ true
+pub else_has_node : (name : List ℕ) → is_else name ≡ true → has_node name ≡ true
 else_has_node name h = ap has_node (is_named_else name h)
 
-else_before : (name : List ℕ) → is_else name ≡ true → is_after_if name ≡ false
+pub else_before : (name : List ℕ) → is_else name ≡ true → is_after_if name ≡ false
 else_before name h = ap is_after_if (is_named_else name h)
 
 -- ---- ascending names

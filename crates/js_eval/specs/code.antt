@@ -3,9 +3,11 @@ pub mod Asked
 pub mod Cursors
 pub mod Standard
 pub mod Turns
+pub mod Applicators
 pub mod KeywordsLeft
 pub mod Applied
 pub mod Standing
 pub mod Holding
 pub mod NamesLeft
 pub mod ListLeft
+pub mod Leaves

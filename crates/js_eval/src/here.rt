@@ -19,11 +19,12 @@ use crate::instance::{Applied, Instance};
 use crate::keyword::{Keyword, is_written_as_it_is};
 use crate::keyword_cursor::Keywords;
 use crate::kind::Kind;
+use crate::others::others_at;
 use crate::schema::is_accepting;
 use crate::searchers::Searchers;
 use crate::start::{Facts, Scene, start};
 use crate::telling::schema_note;
-use crate::walking::{Path, PointerText, Tally, Trail, World};
+use crate::walking::{Others, Path, PointerText, Tally, Trail, World};
 use js_bundle::{Place, Schemas, Step};
 use js_doc::{Doc, Memory, Text, push_fragment_token};
 use js_tree::Note;
@@ -97,9 +98,19 @@ impl<'a> World for Here<'a> {
         self.schemas.resource_number(place)
     }
 
+    fn others(
+        &self,
+        alloc: Global,
+        place: Place,
+        value: Instance<'a>,
+        matching: u64,
+    ) -> Result<Others, Memory> {
+        others_at(alloc, self.schemas, &self.searchers, place, value, matching)
+    }
+
     #[tactic(auto, unfolding(crate::specs::Walk::Told::keywords_at))]
-    fn keywords(&self, place: Place, schema: &'a Doc) -> Keywords<'a> {
-        Keywords::new(names_at(self.schemas, place), schema)
+    fn keywords(&self, place: Place, schema: &'a Doc, quiet: bool) -> Keywords<'a> {
+        Keywords::new(names_at(self.schemas, place), schema, quiet)
     }
 
     fn next_keyword(&self, keywords: &mut Keywords<'a>) -> Option<Keyword<'a>> {

@@ -4,6 +4,7 @@ ghost use Rattle.js_bundle.specs.declared.keyword_name.KeywordName.{KeywordName 
 ghost use Rattle.js_doc.specs.Seen.{pair_of};
 ghost use Rattle.js_eval.specs.code.Standard.{keyword_names_of};
 
+use crate::applying::Applying;
 use crate::by_name::kind_of_named;
 use crate::keyword::Keyword;
 use crate::turn::{Turn, turn_of};
@@ -13,24 +14,24 @@ use std::collections::btree_map::Iter;
 
 /// The members that are left, and which keyword of the standard each of them is.
 #[derive(Drop)]
-pub(crate) struct InTurn<'a> {
+pub(crate) struct Every<'a> {
     names: &'a [KeywordName],
     pub left: Iter<'a, String, Doc>,
     ghost in_step: { names.now ≡ keyword_names_of (map pair_of left) },
 }
 
-impl<'a> InTurn<'a> {
+impl<'a> Every<'a> {
     ghost use Rattle.js_doc.specs.Members.{IsAscending};
     ghost use Rattle.js_eval.specs.Seen.{keyword_of};
     ghost use Rattle.js_eval.specs.code.Turns.{turn_of};
 
     /// Starts with all members.
-    pub fn new(names: &'a [KeywordName], members: &'a Members) -> InTurn<'a>
+    pub fn new(names: &'a [KeywordName], members: &'a Members) -> Every<'a>
         requires { names.now ≡ keyword_names_of members.now }
         ensures all { map pair_of result.left ≡ members.now }
         ensures ascending { IsAscending members.now }
     {
-        InTurn {
+        Every {
             names,
             left: members.pairs(),
         }
@@ -68,5 +69,30 @@ fn first_name(names: &[KeywordName]) -> (KeywordName, &[KeywordName])
     match names.split_first() {
         Some((first, others)) => (*first, others),
         None => (KeywordName::OtherUpToIf, names), // never: each member has a name
+    }
+}
+
+/// The members that are left: of all, or of those alone that apply schemas.
+#[derive(Drop)]
+pub(crate) enum InTurn<'a> {
+    Every(Every<'a>),
+    Applying(Applying<'a>),
+}
+
+impl<'a> InTurn<'a> {
+    ghost use Rattle.js_eval.specs.Seen.{keyword_of};
+    ghost use Rattle.js_eval.specs.code.KeywordsLeft.{members_left};
+    ghost use Rattle.js_eval.specs.code.Turns.{turn_of};
+
+    /// The next member, as a keyword, and its turn.
+    pub fn next(&mut self) -> Option<(Turn, Keyword<'a>)>
+        ensures { MatchOption result ((members_left self.old ≡ []) × (members_left self.new ≡ []))
+            (λ m. (members_left self.old ≡ keyword_of m.1 ∷ members_left self.new)
+            × (m.0 ≡ turn_of m.1.name.now)) }
+    {
+        match self {
+            InTurn::Every(every) => every.next(),
+            InTurn::Applying(applying) => applying.next(),
+        }
     }
 }

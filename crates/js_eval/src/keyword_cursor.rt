@@ -1,17 +1,20 @@
-//! The keywords of a schema that have a node in the result tree, one after another, in the order of their nodes.
-ghost use Rattle.std.specs.Prelude.{◌≡◌, ◌++◌, ◌∷◌, [], List, MatchOption, false, map, true};
+//! The keywords of a schema that a walk visits, one after another, in the order of their nodes.
+ghost use Rattle.std.specs.Prelude.{◌≡◌, ◌++◌, ◌∷◌, [], List, MatchOption, false, filter, true};
 ghost use Rattle.js_assert.specs.Argument.{entries};
 ghost use Rattle.js_doc.specs.Members.{IsAscending};
-ghost use Rattle.js_doc.specs.Seen.{pair_of, value_of};
+ghost use Rattle.js_doc.specs.Seen.{value_of};
 ghost use Rattle.js_eval.specs.Keywords as table;
-ghost use Rattle.js_eval.specs.code.KeywordsLeft.{kept_or, keywords_in, keywords_left};
+ghost use Rattle.js_eval.specs.code.KeywordsLeft.{kept_or, keywords_in, keywords_left, members_left};
 ghost use Rattle.js_eval.specs.code.Standard.{keyword_names_of};
 ghost use Rattle.js_eval.specs.code.Turns.{ever, in_order};
 ghost use Rattle.js_eval.specs.Seen.{keyword_of};
+ghost use Rattle.js_eval.specs.Walk.Visited.{is_visited};
 
-use crate::in_turn::InTurn;
+use crate::applying::{Applying, has_applicator};
+use crate::in_turn::{Every, InTurn};
 use crate::instance::object_in;
 use crate::keyword::Keyword;
+use crate::name_cursor::names_ascend;
 use crate::turn::{Turn, is_ever};
 use js_bundle::KeywordName;
 use js_doc::{Doc, Members};
@@ -19,7 +22,7 @@ use js_doc::{Doc, Members};
 /// The keywords of a schema that are still to come.
 #[derive(Drop)]
 pub(crate) enum Keywords<'a> {
-    /// The schema is `true` or `false`, and has none.
+    /// There is none: the schema is `true` or `false`, or the walk visits none of its keywords.
     Nothing,
     /// The keywords of an object.
     Of(KeywordCursor<'a>),
@@ -36,15 +39,40 @@ pub(crate) struct KeywordCursor<'a> {
 }
 
 impl<'a> Keywords<'a> {
-    /// All keywords of a schema. `names`: which keyword of the standard each of its members is.
-    pub fn new(names: &'a [KeywordName], schema: &'a Doc) -> Keywords<'a>
+    /// The keywords of a schema that a walk visits. `names`: which keyword of the standard each of its members is.
+    pub fn new(names: &'a [KeywordName], schema: &'a Doc, quiet: bool) -> Keywords<'a>
         requires { names.now ≡ keyword_names_of (entries (value_of schema.now)) }
-        ensures all { keywords_in result ≡ table.keywords (value_of schema.now) }
+        ensures all { keywords_in result ≡ filter (is_visited quiet) (table.keywords (value_of schema.now)) }
         ensures ascending { IsAscending (entries (value_of schema.now)) }
     {
         match object_in(schema) {
-            Some(members) => Keywords::Of(KeywordCursor::new(names, members)),
+            Some(members) => Keywords::among(names, members, quiet),
             None => Keywords::Nothing,
+        }
+    }
+
+    fn among(names: &'a [KeywordName], members: &'a Members, quiet: bool) -> Keywords<'a>
+        requires { names.now ≡ keyword_names_of members.now }
+        ensures all { keywords_in result ≡ in_order (filter (is_visited quiet) members.now) }
+        ensures ascending { IsAscending members.now }
+    {
+        if quiet {
+            Keywords::applying(names, members)
+        } else {
+            Keywords::Of(KeywordCursor::new(InTurn::Every(Every::new(names, members))))
+        }
+    }
+
+    fn applying(names: &'a [KeywordName], members: &'a Members) -> Keywords<'a>
+        requires { names.now ≡ keyword_names_of members.now }
+        ensures all { keywords_in result ≡ in_order (filter (is_visited true) members.now) }
+        ensures ascending { IsAscending members.now }
+    {
+        names_ascend(members);
+        if has_applicator(names) {
+            Keywords::Of(KeywordCursor::new(InTurn::Applying(Applying { names, members })))
+        } else {
+            Keywords::Nothing
         }
     }
 
@@ -62,15 +90,14 @@ impl<'a> Keywords<'a> {
 }
 
 impl<'a> KeywordCursor<'a> {
-    fn new(names: &'a [KeywordName], members: &'a Members) -> KeywordCursor<'a>
-        requires { names.now ≡ keyword_names_of members.now }
-        ensures all { keywords_left result ≡ in_order members.now }
-        ensures ascending { IsAscending members.now }
+    fn new(left: InTurn<'a>) -> KeywordCursor<'a>
+        requires { IsAscending (members_left left) }
+        ensures { keywords_left result ≡ in_order (members_left left.entry) }
     {
         KeywordCursor {
             is_past_if: false,
             kept: None,
-            left: InTurn::new(names, members),
+            left,
         }
     }
 
@@ -147,8 +174,8 @@ fn kept_before<'a>(kept: &mut Option<Keyword<'a>>, keyword: Keyword<'a>) -> Keyw
 
 // The next member that has a node.
 fn next_ever<'a>(left: &mut InTurn<'a>) -> Option<Keyword<'a>>
-    ensures { MatchOption result (ever (map pair_of left.old.left) ≡ [])
-        (λ k. ever (map pair_of left.old.left) ≡ keyword_of k ∷ ever (map pair_of left.new.left)) }
+    ensures { MatchOption result (ever (members_left left.old) ≡ [])
+        (λ k. ever (members_left left.old) ≡ keyword_of k ∷ ever (members_left left.new)) }
 {
     while let Some((turn, keyword)) = left.next() {
         if is_ever(turn) {

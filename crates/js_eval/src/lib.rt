@@ -9,6 +9,7 @@
 
 mod answers;
 mod applied;
+mod applying;
 mod bundled;
 mod by_name;
 mod collecting;
@@ -27,6 +28,7 @@ mod list_cursor;
 mod member_cursor;
 mod name_cursor;
 mod name_set;
+mod others;
 mod pattern_cursor;
 mod recording;
 mod schema;

@@ -65,7 +65,8 @@ pub(crate) fn each_of_names<'a>(
     }
 }
 
-fn names_ascend(members: &Members)
+/// The names of members ascend.
+pub(crate) fn names_ascend(members: &Members)
     ensures { IsAscending members.now }
 {
     let _ = members.pairs();

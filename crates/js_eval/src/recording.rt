@@ -25,6 +25,11 @@ pub(crate) struct Recording<'a> {
 impl<'a> Reporter<Here<'a>, HeldText> for Recording<'a> {
     ghost takes = { λ c e d. relative_state d.rows ≡ relative_after (relative_state c.rows) e };
 
+    #[inline(always)]
+    fn is_quiet(&self) -> bool {
+        false
+    }
+
     #[inline(never)]
     fn open_schema(
         &mut self,

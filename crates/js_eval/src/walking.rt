@@ -23,6 +23,6 @@ pub(crate) use pointer_text::{HeldText, PointerText, UnseenText, push_kept};
 pub(crate) use reporter::Reporter;
 pub(crate) use silent::Silent;
 pub(crate) use start::walk_from;
-pub(crate) use tally::{Judged, Tally};
+pub(crate) use tally::{Judged, Others, Tally};
 pub(crate) use trail::Trail;
 pub(crate) use world::World;

@@ -101,6 +101,13 @@ found_before_at schema x None None done e f i j = refl
 found_before_at schema x None (Some z) done e f i j = absurd (let q = j z refl in cc)
 found_before_at schema x (Some y) p done e f i j = i y refl
 
+-- one that comes first is found among all keywords, if there is one
+pub found_in_all : (schema : Value) → IsAscending (entries schema) → (x : Text) → comes_before_else x ≡ true → get x (keywords schema) ≡ get x (entries schema)
+found_in_all schema ascending x h =
+    found_before_at schema x (get x (entries schema)) (get x (keywords schema)) (keywords schema) refl refl
+    (λ y e. found_first x (keywords_that comes_before_else schema) (keywords_that is_else schema ++ keywords_that comes_after_else schema) y (found_chosen comes_before_else x (entries schema) y h e))
+    (λ z e. found_among (entries schema) x (keywords schema) z (keywords_among schema ascending) e)
+
 module _ (schema : Value) (ascending : IsAscending (entries schema)) (done more : List Keyword) (k : Keyword) (split : done ++ k ∷ more ≡ keywords schema) where
   are_among : AreAmong (entries schema) done
   are_among = among_first (entries schema) done (k ∷ more) (subst (AreAmong (entries schema)) (sym split) (keywords_among schema ascending))

@@ -1,5 +1,5 @@
 -- The three functions of the walk, step by step.
-use Rattle.std.specs.Prelude.{◌≡◌, ℕ, suc, ◌+◌, ◌<◌, ◌≤◌, Bool, true, false, ◌&&◌, cond, List, [], ◌∷◌, ◌++◌, Option, Some, None, map, length, take, drop, refl}
+use Rattle.std.specs.Prelude.{◌≡◌, ℕ, suc, ◌+◌, ◌<◌, ◌≤◌, Bool, true, false, ◌&&◌, cond, List, [], ◌∷◌, ◌++◌, Option, Some, None, map, filter, length, take, drop, refl}
 use Rattle.std.proofs.Common.{sym, ◌∙◌, ap, subst, arith, append-nil}
 use Rattle.std.proofs.Math.Seq.{take-append_seam, drop-append_seam}
 use Rattle.std.proofs.lemmas.List.{length-map, take-map, drop-map}
@@ -31,7 +31,9 @@ use Rattle.js_eval.proofs.Recursion.Before.{CountsLater, is_as_before}
 use Rattle.js_eval.proofs.Recursion.Each.{EachSoFar, each_more, each_none}
 use Rattle.js_eval.proofs.Recursion.KeywordTelling.{keyword_walked, keyword_told}
 use Rattle.js_eval.proofs.Recursion.Sources.{names_of_none, indexes_of_none}
-use Rattle.js_eval.proofs.Recursion.NodeTelling.{KeywordsLoop, keywords_start, keyword_more, keyword_told_more, keyword_is_none, node_walked, node_told}
+use Rattle.js_eval.specs.Walk.Visited.{is_visited, AreJudgedIf}
+use Rattle.js_eval.specs.declared.walking.tally.Others.{Others}
+use Rattle.js_eval.proofs.Recursion.NodeTelling.{KeywordsLoop, at_next, at_end, keywords_start, keyword_more, keyword_told_more, keyword_is_none, node_walked, ended, ended_too_large, ended_told}
 
 pub asked_same : {P : Type 0} (S : SchemaSet P) (n : ℕ) (path : List P) (place : P) (v : Value) (k : Keyword) (c : Option Bool) (ns : List Text) (is : List ℕ) → asked_by S 0 path place v k c ns is ≡ asked_by S n path place v k c ns is
 unfolding asked_by
@@ -61,18 +63,18 @@ pub on_too_large : (P Q : Type 0) (e : WalkFault) → (P → Q) → OnTooLarge e
 on_too_large P Q Memory f h = tt
 on_too_large P Q TooLarge f h = f h
 
-module _ {C P : Type 0} (S : SchemaSet P) (takes : C → Event → C → Type 0) (n : ℕ) (above : List P) (place : P) (v : Value) where
+module _ {C P : Type 0} (S : SchemaSet P) (takes : C → Event → C → Type 0) (n : ℕ) (above : List P) (place : P) (v : Value) (quiet : Bool) where
   pub loop_as : (k : Keyword) (rest : List Keyword) (valid b valid' : Bool) (branch branch' : Option Bool) (count count' held : ℕ) (κ : Kind) (names names' : List Text) (indexes indexes' : List ℕ) (old left : ℕ) (keyword instance : Text) (c d : C)
       → valid' ≡ (valid && b) → branch' ≡ condition_step κ held branch → count' ≡ matching_step κ held count → κ ≡ kind_at k
-      → KeywordsLoop S n above place v takes rest (valid && b) (condition_step (kind k.0) held branch) (matching_step (kind k.0) held count) names names' indexes indexes' old left keyword instance c d
-      → KeywordsLoop S n above place v takes rest valid' branch' count' names names' indexes indexes' old left keyword instance c d
+      → KeywordsLoop S n above place v quiet takes rest (valid && b) (condition_step (kind k.0) held branch) (matching_step (kind k.0) held count) names names' indexes indexes' old left keyword instance c d
+      → KeywordsLoop S n above place v quiet takes rest valid' branch' count' names names' indexes indexes' old left keyword instance c d
   unfolding kind_at
   loop_as k rest valid b valid' branch branch' count count' held κ names names' indexes indexes' old left keyword instance c d e f g h loop =
       let f' : branch' ≡ condition_step (kind k.0) held branch = f ∙ ap (λ q. condition_step q held branch) h in
       let g' : count' ≡ matching_step (kind k.0) held count = g ∙ ap (λ q. matching_step q held count) h in
-      subst (λ x. KeywordsLoop S n above place v takes rest x branch' count' names names' indexes indexes' old left keyword instance c d) (sym e)
-      (subst (λ x. KeywordsLoop S n above place v takes rest (valid && b) x count' names names' indexes indexes' old left keyword instance c d) (sym f')
-      (subst (λ x. KeywordsLoop S n above place v takes rest (valid && b) (condition_step (kind k.0) held branch) x names names' indexes indexes' old left keyword instance c d) (sym g') loop))
+      subst (λ x. KeywordsLoop S n above place v quiet takes rest x branch' count' names names' indexes indexes' old left keyword instance c d) (sym e)
+      (subst (λ x. KeywordsLoop S n above place v quiet takes rest (valid && b) x count' names names' indexes indexes' old left keyword instance c d) (sym f')
+      (subst (λ x. KeywordsLoop S n above place v quiet takes rest (valid && b) (condition_step (kind k.0) held branch) x names names' indexes indexes' old left keyword instance c d) (sym g') loop))
 
 module _ {M H K C P : Type 0} (S : SchemaSet P) (text_of : M → Text) (takes : C → Event → C → Type 0) (n : ℕ) where
   -- ---- applications
@@ -157,62 +159,80 @@ module _ {M H K C P : Type 0} (S : SchemaSet P) (text_of : M → Text) (takes : 
 
   -- ---- a schema
 
-  module _ (above : List P) (place : P) (v : Value) where
-    pub node_start : (w w₁ : Way M H K) (p r : ℕ) (c d : C) (valid : Bool) (listed : List Keyword) → SchemaOpened S text_of takes place p r w w₁ c d → valid ≡ accepts_at S place → listed ≡ keywords_at S place
-        → KeywordsLoop S n above place v takes listed valid None 0 (map text_of w.names.items) (map text_of w₁.names.items) w.indexes.items w₁.indexes.items w.left w₁.left w.keyword w.instance c d
+  module _ (above : List P) (place : P) (v : Value) (quiet : Bool) where
+    pub node_start : (w w₁ : Way M H K) (p r : ℕ) (c d : C) (valid : Bool) (listed : List Keyword) → SchemaOpened S text_of takes place p r w w₁ c d → valid ≡ accepts_at S place → listed ≡ filter (is_visited quiet) (keywords_at S place)
+        → KeywordsLoop S n above place v quiet takes listed valid None 0 (map text_of w.names.items) (map text_of w₁.names.items) w.indexes.items w₁.indexes.items w.left w₁.left w.keyword w.instance c d
     unfolding accepts_at keywords_at
     node_start w w₁ p r c d valid listed opened a l =
-        rw (l, opened.names, opened.indexes) (record {
+        rw (opened.names, opened.indexes) (record {
           done = [];
-          so = keywords_start S n above place v valid (map text_of w.names.items) w.indexes.items w.left w₁.left a opened.left;
-          told = λ at h. record { forest = empty; nodes = tt; passes = (d, subst (λ x. takes c x d) (let i = h.schemas in let j = h.value in let q : opening w.keyword (S.absolute place None) w.instance ≡ opening (pointer_text at.keyword) (S.absolute place None) (pointer_text at.instance) = cc in q) opened.told, refl) };
+          rest = keywords (S.schema place);
+          are = l;
+          so = keywords_start S n above place v quiet valid (map text_of w.names.items) w.indexes.items w.left w₁.left a opened.left;
+          told = λ q at h. record { forest = empty; nodes = tt; passes = (d, subst (λ x. takes c x d) (let i = h.schemas in let j = h.value in let q : opening w.keyword (S.absolute place None) w.instance ≡ opening (pointer_text at.keyword) (S.absolute place None) (pointer_text at.instance) = cc in q) opened.told, refl) };
         })
 
     pub node_more : CountsLater → IsAscending (entries (S.schema place)) → (k : Keyword) (rest : List Keyword) (valid : Bool) (branch : Option Bool) (count : ℕ) (w w₁ w₂ : Way M H K) (start : Start) (j : Judged) (path' : List P) (c d e : C)
         → StartOf w start → path' ≡ above ++ place ∷ [] → w₁.keyword ≡ w.keyword → w₁.instance ≡ w.instance
-        → KeywordsLoop S n above place v takes (k ∷ rest) valid branch count (map text_of w.names.items) (map text_of w₁.names.items) w.indexes.items w₁.indexes.items w.left w₁.left w.keyword w.instance c d
+        → KeywordsLoop S n above place v quiet takes (k ∷ rest) valid branch count (map text_of w.names.items) (map text_of w₁.names.items) w.indexes.items w₁.indexes.items w.left w₁.left w.keyword w.instance c d
         → KeywordDone S text_of takes n path' place v k count (asked_by S n path' place v k branch (map text_of (drop start.names w₁.names.items)) (drop start.indexes w₁.indexes.items)) j w₁ w₂ d e
-        → KeywordsLoop S n above place v takes rest (valid && j.passes) (condition_step (kind k.0) j.held branch) (matching_step (kind k.0) j.held count) (map text_of w.names.items) (map text_of w₂.names.items) w.indexes.items w₂.indexes.items w.left w₂.left w.keyword w.instance c e
+        → KeywordsLoop S n above place v quiet takes rest (valid && j.passes) (condition_step (kind k.0) j.held branch) (matching_step (kind k.0) j.held count) (map text_of w.names.items) (map text_of w₂.names.items) w.indexes.items w₂.indexes.items w.left w₂.left w.keyword w.instance c e
     node_more later ascending k rest valid branch count w w₁ w₂ start j path' c d e m ep ek ei loop done =
-        let before = is_as_before later S n above place v ascending loop.done rest k loop.so.split in
+        let next = at_next S n above place v quiet takes valid branch count (map text_of w.names.items) (map text_of w₁.names.items) w.indexes.items w₁.indexes.items w.left w₁.left w.keyword w.instance c d k rest loop in
+        let before = is_as_before later S n above place v ascending next.done next.rest k next.so.split in
         let x : map text_of (drop start.names w₁.names.items) ≡ drop (length (map text_of w.names.items)) (map text_of w₁.names.items) =
         sym (drop-map text_of start.names w₁.names.items) ∙ ap (λ i. drop i (map text_of w₁.names.items)) (m.names ∙ sym (length-map w.names.items text_of)) in
         let y : drop start.indexes w₁.indexes.items ≡ drop (length w.indexes.items) w₁.indexes.items = ap (λ i. drop i w₁.indexes.items) m.indexes in
         record {
-          done = loop.done ++ k ∷ [];
-          so = keyword_more S n above place v k loop.done rest valid branch count (map text_of w.names.items) (map text_of w₁.names.items) w.indexes.items w₁.indexes.items w.left w₁.left loop.so before j.passes j.held (map text_of w₂.names.items) w₂.indexes.items w₂.left
+          done = next.done ++ k ∷ [];
+          rest = next.rest;
+          are = next.are;
+          so = keyword_more S n above place v quiet k next.done next.rest valid branch count (map text_of w.names.items) (map text_of w₁.names.items) w.indexes.items w₁.indexes.items w.left w₁.left next.so before next.here j.passes j.held (map text_of w₂.names.items) w₂.indexes.items w₂.left
               (rw (ep, x, y) at done.walked);
-          told = λ at h. keyword_told_more S n above place v k loop.done rest valid branch count (map text_of w.names.items) (map text_of w₁.names.items) w.indexes.items w₁.indexes.items w.left w₁.left loop.so before takes at c d e (loop.told at h)
+          told = λ q at h. keyword_told_more S n above place v quiet k next.done next.rest valid branch count (map text_of w.names.items) (map text_of w₁.names.items) w.indexes.items w₁.indexes.items w.left w₁.left next.so before takes at c d e (next.told q at h)
               (rw (ep, x, y) at (done.told at (record { schemas = ek ∙ h.schemas; value = ei ∙ h.value })));
         }
 
     pub node_failed : CountsLater → IsAscending (entries (S.schema place)) → (k : Keyword) (rest : List Keyword) (valid : Bool) (branch : Option Bool) (count : ℕ) (w w₁ : Way M H K) (start : Start) (path' : List P) (c d : C)
         → StartOf w start → path' ≡ above ++ place ∷ []
-        → KeywordsLoop S n above place v takes (k ∷ rest) valid branch count (map text_of w.names.items) (map text_of w₁.names.items) w.indexes.items w₁.indexes.items w.left w₁.left w.keyword w.instance c d
+        → KeywordsLoop S n above place v quiet takes (k ∷ rest) valid branch count (map text_of w.names.items) (map text_of w₁.names.items) w.indexes.items w₁.indexes.items w.left w₁.left w.keyword w.instance c d
         → KeywordHasNone S n path' place v k (asked_by S n path' place v k branch (map text_of (drop start.names w₁.names.items)) (drop start.indexes w₁.indexes.items)) w₁.left
         → HasNone S (suc n) above place v w.left
     node_failed later ascending k rest valid branch count w w₁ start path' c d m ep loop none =
-        let before = is_as_before later S n above place v ascending loop.done rest k loop.so.split in
+        let next = at_next S n above place v quiet takes valid branch count (map text_of w.names.items) (map text_of w₁.names.items) w.indexes.items w₁.indexes.items w.left w₁.left w.keyword w.instance c d k rest loop in
+        let before = is_as_before later S n above place v ascending next.done next.rest k next.so.split in
         let x : map text_of (drop start.names w₁.names.items) ≡ drop (length (map text_of w.names.items)) (map text_of w₁.names.items) =
         sym (drop-map text_of start.names w₁.names.items) ∙ ap (λ i. drop i (map text_of w₁.names.items)) (m.names ∙ sym (length-map w.names.items text_of)) in
         let y : drop start.indexes w₁.indexes.items ≡ drop (length w.indexes.items) w₁.indexes.items = ap (λ i. drop i w₁.indexes.items) m.indexes in
-        keyword_is_none S n above place v k loop.done rest valid branch count (map text_of w.names.items) (map text_of w₁.names.items) w.indexes.items w₁.indexes.items w.left w₁.left loop.so before (rw (ep, x, y) at none)
+        keyword_is_none S n above place v quiet k next.done next.rest valid branch count (map text_of w.names.items) (map text_of w₁.names.items) w.indexes.items w₁.indexes.items w.left w₁.left next.so before (rw (ep, x, y) at none)
 
-    pub node_end : (valid : Bool) (branch : Option Bool) (count : ℕ) (w w₁ w₂ : Way M H K) (start : Start) (base : List ℕ) (p r : ℕ) (c d e : C)
+    pub node_too_large : (o : Others) (valid : Bool) (branch : Option Bool) (count : ℕ) (w w₁ : Way M H K) (c d : C)
+        → KeywordsLoop S n above place v quiet takes [] valid branch count (map text_of w.names.items) (map text_of w₁.names.items) w.indexes.items w₁.indexes.items w.left w₁.left w.keyword w.instance c d
+        → AreJudgedIf S place quiet v count o → w₁.left < o.count → HasNone S (suc n) above place v w.left
+    node_too_large o valid branch count w w₁ c d loop judged few =
+        let last = at_end S n above place v quiet takes valid branch count (map text_of w.names.items) (map text_of w₁.names.items) w.indexes.items w₁.indexes.items w.left w₁.left w.keyword w.instance c d loop in
+        ended_too_large S n above place v quiet quiet refl o branch count valid (map text_of w.names.items) (map text_of w₁.names.items) w.indexes.items w₁.indexes.items w.left w₁.left last.so judged few
+
+    pub node_end : IsAscending (entries (S.schema place)) → (quiet ≡ true → (c d : C) (e : Event) → takes c e d) → (o : Others) (valid valid' : Bool) (branch : Option Bool) (count : ℕ) (w w₁ w₂ w₃ : Way M H K) (start : Start) (p r : ℕ) (c d e : C)
         → StartOf w start → w₁.path ≡ w.path ++ p ∷ [] → HasGrown w.scope r w₁.scope → w₁.keyword ≡ w.keyword → w₁.instance ≡ w.instance → w₁.left < w.left
-        → KeywordsLoop S n above place v takes [] valid branch count (map text_of w.names.items) (map text_of w₁.names.items) w.indexes.items w₁.indexes.items w.left w₁.left w.keyword w.instance c d
-        → SchemaClosed S text_of takes place start valid w₁ w₂ d e
-        → NodeDone S text_of takes (suc n) above place v valid w w₂ c e
+        → KeywordsLoop S n above place v quiet takes [] valid branch count (map text_of w.names.items) (map text_of w₁.names.items) w.indexes.items w₁.indexes.items w.left w₁.left w.keyword w.instance c d
+        → AreJudgedIf S place quiet v count o → valid' ≡ (valid && o.pass)
+        → w₂.path ≡ w₁.path → w₂.scope ≡ w₁.scope → w₂.keyword ≡ w₁.keyword → w₂.instance ≡ w₁.instance → w₂.names.items ≡ w₁.names.items → w₂.indexes.items ≡ w₁.indexes.items → w₂.left + o.count ≡ w₁.left
+        → SchemaClosed S text_of takes place start valid' w₂ w₃ d e
+        → NodeDone S text_of takes (suc n) above place v valid' w w₃ c e
     unfolding schema_says
-    node_end valid branch count w w₁ w₂ start base p r c d e m ep es ek ei fl loop close =
-        let cut : map text_of w₂.names.items ≡ cond valid (map text_of w₁.names.items) (take (length (map text_of w.names.items)) (map text_of w₁.names.items)) =
-        map_cut text_of valid start.names w₁.names.items w₂.names.items close.names ∙ ap (λ i. cond valid (map text_of w₁.names.items) (take i (map text_of w₁.names.items))) (m.names ∙ sym (length-map w.names.items text_of)) in
-        let cut' = rw m.indexes at close.indexes in
-        let walked = node_walked S n above place v loop.done valid branch count (map text_of w.names.items) (map text_of w₁.names.items) (map text_of w₂.names.items) w.indexes.items w₁.indexes.items w₂.indexes.items w.left w₁.left loop.so cut cut' in
-        let all : loop.done ≡ keywords (S.schema place) = sym (append-nil loop.done) ∙ loop.so.split in
+    node_end ascending any o valid valid' branch count w w₁ w₂ w₃ start p r c d e m ep es ek ei fl loop judged f sp ss sk si sn sx sl close =
+        let last = at_end S n above place v quiet takes valid branch count (map text_of w.names.items) (map text_of w₁.names.items) w.indexes.items w₁.indexes.items w.left w₁.left w.keyword w.instance c d loop in
+        let all = rw (sym f) at (ended S n above place v quiet quiet refl ascending o branch count valid (map text_of w.names.items) (map text_of w₁.names.items) w.indexes.items w₁.indexes.items w.left w₁.left w₂.left last.so judged sl) in
+        let names' = rw sn at close.names in
+        let indexes' = rw sx at close.indexes in
+        let cut : map text_of w₃.names.items ≡ cond valid' (map text_of w₁.names.items) (take (length (map text_of w.names.items)) (map text_of w₁.names.items)) =
+        map_cut text_of valid' start.names w₁.names.items w₃.names.items names' ∙ ap (λ i. cond valid' (map text_of w₁.names.items) (take i (map text_of w₁.names.items))) (m.names ∙ sym (length-map w.names.items text_of)) in
+        let cut' = rw m.indexes at indexes' in
+        let walked = node_walked S n above place v valid' (map text_of w.names.items) (map text_of w₁.names.items) (map text_of w₃.names.items) w.indexes.items w₁.indexes.items w₃.indexes.items w.left w₂.left all cut cut' in
         record {
-          walked = subst (λ l. NodeWalked S (suc n) above place v valid (map text_of w.names.items) (map text_of w₂.names.items) w.indexes.items w₂.indexes.items w.left l) (sym close.left) walked;
-          told = λ at h. node_told S n above place v takes at valid _ c d e (rw all at loop.so.settled) (rw all at (loop.told at h)) walked.verdict refl close.told;
-          back = record { path = close.path w.path p ep; scope = close.scope ∙ (ap (λ i. take i w₁.scope) m.scope ∙ es.kept); keyword = close.keyword ∙ ek; instance = close.instance ∙ ei };
-          falls = omega (arith, close.left, fl);
+          walked = subst (λ l. NodeWalked S (suc n) above place v valid' (map text_of w.names.items) (map text_of w₃.names.items) w.indexes.items w₃.indexes.items w.left l) (sym close.left) walked;
+          told = λ at h. ended_told S n above place v quiet takes quiet refl any at valid' _ c d e all.settled walked.settled (λ q. last.told q at h) walked.verdict refl close.told;
+          back = record { path = close.path w.path p (sp ∙ ep); scope = close.scope ∙ (ap (take start.scope) ss ∙ (ap (λ i. take i w₁.scope) m.scope ∙ es.kept)); keyword = close.keyword ∙ (sk ∙ ek); instance = close.instance ∙ (si ∙ ei) };
+          falls = let l = close.left in omega (arith, l, fl, sl);
         }

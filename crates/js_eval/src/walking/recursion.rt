@@ -13,7 +13,7 @@ use crate::walking::pointer_text::PointerText;
 use crate::walking::reporter::Reporter;
 use crate::walking::steps::{
     asked, childless_node, close_keyword, close_schema, come_back, go_down, next_keyword,
-    open_keyword, open_schema,
+    open_keyword, open_schema, others_of,
 };
 use crate::walking::tally::{Case, Judged, Judging, Known, Tally};
 use crate::walking::way::{Start, Way};
@@ -60,7 +60,8 @@ pub(crate) fn node<W: World, H: PointerText + Drop, R: Reporter<W, H>>(
         condition: None,
         matching: 0,
     };
-    let keywords = world.keywords(place, schema);
+    let quiet = into.is_quiet();
+    let keywords = world.keywords(place, schema, quiet);
     let mut judging = Judging { keywords, known };
     'keywords: while let Some(keyword) = next_keyword(world, &mut judging) {
         let case = Case {
@@ -82,7 +83,12 @@ pub(crate) fn node<W: World, H: PointerText + Drop, R: Reporter<W, H>>(
         let known = judging.known;
         judging.known = known.with_keyword(world.kind(keyword), judged.passes, judged.held);
     }
-    let valid = judging.known.valid;
+    let others = others_of(alloc, world, quiet, place, value, judging.known.matching)?;
+    if way.left < others.count {
+        return Err(WalkFault::TooLarge);
+    }
+    way.left -= others.count;
+    let valid = judging.known.valid & others.pass;
     close_schema(alloc, world, way, into, place, schema, start, valid)?;
     Ok(valid)
 }

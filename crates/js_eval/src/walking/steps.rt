@@ -5,12 +5,13 @@ ghost use Rattle.std.specs.String.Boundary.{IsSplitPoint};
 ghost use Rattle.js_bundle.specs.Resource.{Site};
 ghost use Rattle.js_eval.specs.Walk.Steps.{SchemaOpened, SchemaClosed, KeywordOpened, KeywordClosed, KeywordDone, WentDown, CameBack};
 ghost use Rattle.js_eval.specs.Walk.Told.{IsKeywordAt, asked_by};
+ghost use Rattle.js_eval.specs.Walk.Visited.{AreJudgedIf};
 
 use crate::kind::Kind;
 use crate::walking::keeping::{cut_unless, indexes_origin, keep, names_origin};
 use crate::walking::pointer_text::PointerText;
 use crate::walking::reporter::Reporter;
-use crate::walking::tally::{Case, Judged, Judging, Tally};
+use crate::walking::tally::{Case, Judged, Judging, Others, Tally};
 use crate::walking::way::{Mark, Start, Way};
 use crate::walking::world::World;
 use js_bundle::Place;
@@ -246,4 +247,29 @@ pub(crate) fn come_back<W: World, H: PointerText + Drop>(
         holds,
         world.item(application),
     )
+}
+
+/// What the keywords show that the walk hasn't visited: all those that apply no schemas, if it is quiet. `matching`:
+/// the number of items that match the adjacent `contains`.
+#[inline(always)]
+pub(crate) fn others_of<W: World>(
+    alloc: Global,
+    world: &W,
+    quiet: bool,
+    place: Place,
+    value: W::Value,
+    matching: u64,
+) -> Result<Others, Memory>
+    requires { W.is_place world.now place ≡ true }
+    ensures { IfOk result (λ o. AreJudgedIf (W.schemas world.now) (W.site world.now place) quiet (W.value_of value)
+        matching o) }
+{
+    if quiet {
+        world.others(alloc, place, value, matching)
+    } else {
+        Ok(Others {
+            pass: true,
+            count: 0,
+        })
+    }
 }

@@ -44,6 +44,13 @@ pub(crate) struct Judging<K> {
     pub known: Known,
 }
 
+/// The keywords of a schema that a quiet walk doesn't visit: whether all of them pass, and how many there are.
+#[derive(Clone, Copy)]
+pub(crate) struct Others {
+    pub pass: bool,
+    pub count: usize,
+}
+
 impl Tally {
     /// The tally with one more application.
     pub fn with_application(self, holds: bool) -> Tally

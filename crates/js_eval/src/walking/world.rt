@@ -1,5 +1,5 @@
 //! What a walk needs to know of schemas and of an instance.
-ghost use Rattle.std.specs.Prelude.{◌≡◌, ◌∷◌, [], List, ℕ, Bool, Option, false, true, map, length, nat_eq, option_to_list, IfOk, OnOk, MatchOption};
+ghost use Rattle.std.specs.Prelude.{◌≡◌, ◌∷◌, [], List, ℕ, Bool, Option, false, true, filter, map, length, nat_eq, option_to_list, IfOk, OnOk, MatchOption};
 ghost use Rattle.std.specs.List.{dedup, list_all};
 ghost use Rattle.js_doc.specs.Members.{IsAscending};
 ghost use Rattle.js_doc.specs.Value.{Value as JsonValue};
@@ -10,12 +10,13 @@ ghost use Rattle.js_eval.specs.Evaluated.{name_in, index_in};
 ghost use Rattle.js_eval.specs.Keywords as table;
 ghost use Rattle.js_eval.specs.Passes.{how_many};
 ghost use Rattle.js_eval.specs.SchemaSet.{Text as Bytes, SchemaSet};
+ghost use Rattle.js_eval.specs.Walk.Visited.{AreJudged, is_visited};
 ghost use Rattle.js_eval.specs.Walk.Told.{IsKeywordAt, asked_by, accepts_at, keywords_at, kind_at, passes_at, at_name, at_step};
 
 use crate::kind::Kind;
 use crate::walking::path::Path;
 use crate::walking::pointer_text::PointerText;
-use crate::walking::tally::Tally;
+use crate::walking::tally::{Others, Tally};
 use crate::walking::trail::Trail;
 use js_bundle::Place;
 use js_doc::Memory;
@@ -86,12 +87,27 @@ pub(crate) trait World {
         requires { is_place self.now place ≡ true }
         ensures { result ≡ resource self.now place };
 
-    /// The keywords of a schema that have a node, in the order of their nodes.
-    fn keywords(&self, place: Place, schema: Self::Schema) -> Self::Keywords
+    /// The keywords of a schema that a walk visits, in the order of their nodes: all that have a node, or, if it is
+    /// quiet, those alone that may apply schemas.
+    fn keywords(&self, place: Place, schema: Self::Schema, quiet: bool) -> Self::Keywords
         requires place { is_place self.now place ≡ true }
         requires schema { stands_at self.now place schema }
-        ensures listed { listed result ≡ keywords_at (schemas self.now) (site self.now place) }
+        ensures listed { listed result
+            ≡ filter (is_visited quiet) (keywords_at (schemas self.now) (site self.now place)) }
         ensures ascending { IsAscending (entries ((schemas self.now).schema (site self.now place))) };
+
+    /// Judges the keywords that a quiet walk doesn't visit. `matching`: the number of items that match the adjacent
+    /// `contains`.
+    fn others(
+        &self,
+        alloc: Global,
+        place: Place,
+        value: Self::Value,
+        matching: u64,
+    ) -> Result<Others, Memory>
+        requires { is_place self.now place ≡ true }
+        ensures { IfOk result (λ o. AreJudged (schemas self.now) (site self.now place) (value_of value) matching
+            o.pass o.count) };
 
     fn next_keyword(&self, keywords: &mut Self::Keywords) -> Option<Self::Keyword>
         ensures { MatchOption result (listed keywords.old ≡ [])

@@ -1,10 +1,10 @@
-use Rattle.std.proofs.Common.{◌≡◌, length, map}
-use Rattle.js_doc.specs.Seen.{pair_of}
+use Rattle.std.proofs.Common.{◌≡◌, length}
+use Rattle.js_eval.specs.code.KeywordsLeft.{members_left}
 use Rattle.js_eval.specs.code.Turns.{ever}
 use Rattle.js_eval.proofs.keyword_cursor.next_ever.Given as goal
 
 abbrev pub invariant-loop-turn : goal.invariant-loop-turn
-invariant-loop-turn l = ever (map pair_of l.left.left) ≡ ever (map pair_of l.fn.left.left)
+invariant-loop-turn l = ever (members_left l.left) ≡ ever (members_left l.fn.left)
 
 abbrev pub decreases-loop-turn : goal.decreases-loop-turn
-decreases-loop-turn l = length l.left.left
+decreases-loop-turn l = length (members_left l.left)
