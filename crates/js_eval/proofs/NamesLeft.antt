@@ -1,11 +1,12 @@
--- The names that are left of a keyword's.
-use Rattle.std.proofs.Common.{◌≡◌, ℕ, zero, suc, ◌+◌, List, [], ◌∷◌, Some, None, String, drop, slice_get, ap, subst, sym, arith}
-use Rattle.std.specs.Global.{Global}
-use Rattle.js_doc.specs.Members.{get}
-use Rattle.js_doc.specs.Seen.{pair_of}
-use Rattle.js_doc.specs.Value.{Named}
-use Rattle.js_doc.specs.declared.doc.Doc.{Doc}
-use Rattle.js_eval.specs.code.NamesLeft.{names_left}
+-- The names that are left of a keyword's, and the members that are left.
+use Rattle.std.proofs.Common.{◌≡◌, ℕ, zero, suc, ◌+◌, List, [], ◌∷◌, Some, None, Ordering, Less, Equal, Greater, drop, filter, slice_get, ap, subst, sym, ◌∙◌, arith}
+use Rattle.std.proofs.lemmas.Cmp.{nat_list_cmp_total}
+use Rattle.std.specs.Ordering.{ordering_reverse}
+use Rattle.js_assert.specs.Argument.{has}
+use Rattle.js_doc.specs.Members.{get, name_cmp, IsAscending, IsBelowHead}
+use Rattle.js_doc.specs.Value.{Named, Value}
+use Rattle.js_doc.proofs.FiniteMaps.{get_below, name_equal}
+use Rattle.js_eval.proofs.Shared.{later_names, member_first, one_more}
 
 -- the first that is left has the rank, and the others are left behind it
 pub next_left : {A : Type 0} (all : List A) (r : ℕ) (x : A) (xs : List A) → x ∷ xs ≡ drop r all → (xs ≡ drop (r + 1) all) × (slice_get all r ≡ Some x)
@@ -20,6 +21,39 @@ next_left (y ∷ ys) (suc r) x xs e =
     let number : suc (r + 1) ≡ suc r + 1 = omega arith in
     (subst (λ n. xs ≡ drop n (y ∷ ys)) number more.0, more.1)
 
--- a name that is no member's is left out
-pub pass_left : (members : Named) (x : String Global × Doc) (xs : List (String Global × Doc)) → get (pair_of x).0 members ≡ None → names_left members (x ∷ xs) ≡ names_left members xs
-pass_left members x xs e = cc
+-- ---- of names and members that ascend, the first name looked up
+
+-- the member that has it is the first to come
+pub look_up : (n : List ℕ × Value) (ns ms : Named) (v : Value) → get n.0 ms ≡ Some v → IsAscending (n ∷ ns) → IsAscending ms
+    → filter (λ m. has m.0 (n ∷ ns)) ms ≡ (n.0, v) ∷ filter (λ m. has m.0 ns) ms
+look_up n ns ms v e a b = one_more n ns ms a.0 a.1 b ∙ ap (λ o. member_first n.0 o (filter (λ m. has m.0 ns) ms)) e
+
+-- a name that no member has changes nothing
+pub pass_by : (n : List ℕ × Value) (ns ms : Named) → get n.0 ms ≡ None → IsAscending (n ∷ ns) → IsAscending ms
+    → filter (λ m. has m.0 (n ∷ ns)) ms ≡ filter (λ m. has m.0 ns) ms
+pass_by n ns ms e a b = one_more n ns ms a.0 a.1 b ∙ ap (λ o. member_first n.0 o (filter (λ m. has m.0 ns) ms)) e
+
+-- ---- or a step on either side
+
+-- a name below the first member is no member's
+pub pass_name : (n m : List ℕ × Value) (ns ms : Named) → name_cmp n.0 m.0 ≡ Less → IsAscending (m ∷ ms)
+    → filter (λ x. has x.0 (n ∷ ns)) (m ∷ ms) ≡ filter (λ x. has x.0 ns) (m ∷ ms)
+pass_name n m ns ms e a = later_names n ns (m ∷ ms) e a
+
+-- a member below the first name has none of them
+pub pass_member : (n m : List ℕ × Value) (ns ms : Named) → name_cmp n.0 m.0 ≡ Greater → IsAscending (n ∷ ns)
+    → filter (λ x. has x.0 (n ∷ ns)) (m ∷ ms) ≡ filter (λ x. has x.0 (n ∷ ns)) ms
+pass_member n m ns ms e a =
+    let below : name_cmp m.0 n.0 ≡ Less = nat_list_cmp_total.antisymm m.0 n.0 ∙ ap ordering_reverse e in
+    let none : get m.0 (n ∷ ns) ≡ None = get_below m.0 (n ∷ ns) below a in
+    cc
+
+-- where both names are equal, it is the first to come
+pub take_both : (n m : List ℕ × Value) (ns ms : Named) → name_cmp n.0 m.0 ≡ Equal → IsAscending (m ∷ ms)
+    → filter (λ x. has x.0 (n ∷ ns)) (m ∷ ms) ≡ (n.0, m.1) ∷ filter (λ x. has x.0 ns) ms
+take_both n m ns ms e a =
+    let same : m.0 ≡ n.0 = sym (name_equal n.0 m.0 e) in
+    let at : name_cmp m.0 n.0 ≡ Equal = nat_list_cmp_total.antisymm m.0 n.0 ∙ ap ordering_reverse e in
+    let later = later_names n ns ms (subst (λ x. IsBelowHead x ms) same a.0) a.1 in
+    let first : m ∷ filter (λ x. has x.0 ns) ms ≡ (n.0, m.1) ∷ filter (λ x. has x.0 ns) ms = ap (λ x. (x, m.1) ∷ filter (λ x. has x.0 ns) ms) same in
+    cc

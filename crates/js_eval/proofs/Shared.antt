@@ -1,4 +1,4 @@
--- The members that have some names, found name by name, are those that are found member by member.
+-- The members that have some names: one name more.
 use Rattle.std.proofs.Common.{◌≡◌, ℕ, List, [], ◌∷◌, Option, Some, None, Ordering, Less, Equal, Greater, filter, map, refl, sym, ap, subst, ◌∙◌}
 use Rattle.std.specs.Ordering.{ordering_reverse}
 use Rattle.std.proofs.lemmas.Cmp.{nat_list_cmp_total}
@@ -6,26 +6,18 @@ use Rattle.js_assert.specs.Argument.{has}
 use Rattle.js_doc.specs.Members.{get, name_cmp, IsBelowHead, IsAscending}
 use Rattle.js_doc.specs.Value.{Value, Named}
 use Rattle.js_doc.proofs.FiniteMaps.{get_below, name_equal}
-use Rattle.js_eval.specs.code.Applied.{namesake}
-use Rattle.js_eval.specs.SchemaSet.{Name}
-use Rattle.js_eval.proofs.AskedNothing.{none_named}
 
 -- in front, the member of this name, where there is one
-abbrev member_first : List ℕ → Option Value → Named → Named
+abbrev pub member_first : List ℕ → Option Value → Named → Named
 member_first name None rest = rest
 member_first name (Some v) rest = (name, v) ∷ rest
-
--- the members that have these names, name by name
-abbrev members_named : Named → Named → Named
-members_named [] ms = []
-members_named (n ∷ ns) ms = member_first n.0 (get n.0 ms) (members_named ns ms)
 
 below_head : (k l : List ℕ) (ms : Named) → name_cmp k l ≡ Less → IsBelowHead l ms → IsBelowHead k ms
 below_head k l [] h s = tt
 below_head k l (m ∷ ms) h s = nat_list_cmp_total.trans k l m.0 h s
 
 -- members behind a name don't have it
-later_names : (n : List ℕ × Value) (ns ms : Named) → IsBelowHead n.0 ms → IsAscending ms → filter (λ m. has m.0 (n ∷ ns)) ms ≡ filter (λ m. has m.0 ns) ms
+pub later_names : (n : List ℕ × Value) (ns ms : Named) → IsBelowHead n.0 ms → IsAscending ms → filter (λ m. has m.0 (n ∷ ns)) ms ≡ filter (λ m. has m.0 ns) ms
 later_names n ns [] h a = refl
 later_names n ns (m ∷ ms) h a =
     let g : name_cmp m.0 n.0 ≡ Greater = nat_list_cmp_total.antisymm m.0 n.0 ∙ ap ordering_reverse h in
@@ -51,26 +43,7 @@ one_at n m ns ms Greater e h a k b r =
     let l : name_cmp n.0 m.0 ≡ Less = nat_list_cmp_total.antisymm n.0 m.0 ∙ ap ordering_reverse e in
     later_names n ns (m ∷ ms) l (k, b) ∙ sym (ap (λ o. member_first n.0 o (filter (λ m. has m.0 ns) (m ∷ ms))) (get_below n.0 (m ∷ ms) l (k, b)))
 
-one_more : (n : List ℕ × Value) (ns ms : Named) → IsBelowHead n.0 ns → IsAscending ns → IsAscending ms
+pub one_more : (n : List ℕ × Value) (ns ms : Named) → IsBelowHead n.0 ns → IsAscending ns → IsAscending ms
     → filter (λ m. has m.0 (n ∷ ns)) ms ≡ member_first n.0 (get n.0 ms) (filter (λ m. has m.0 ns) ms)
 one_more n ns [] h a b = refl
 one_more n ns (m ∷ ms) h a b = one_at n m ns ms (name_cmp m.0 n.0) refl h a b.0 b.1 (one_more n ns ms h a b.1)
-
-shared : (ns ms : Named) → IsAscending ns → IsAscending ms → members_named ns ms ≡ filter (λ m. has m.0 ns) ms
-shared [] ms a b = sym (none_named ms)
-shared (n ∷ ns) ms a b = ap (member_first n.0 (get n.0 ms)) (shared ns ms a.1 b) ∙ sym (one_more n ns ms a.0 a.1 b)
-
-module _ {B : Type 0} (app : List ℕ × Value → B) (ms : Named) where
-  found_more : (n : List ℕ × Value) (ns : Named) (o : Option Value) → get n.0 ms ≡ o
-      → map (λ m. app (m.0, namesake ms (Name m.0) m.1)) (filter (λ m. has m.0 ms) ns) ≡ map app (members_named ns ms)
-      → map (λ m. app (m.0, namesake ms (Name m.0) m.1)) (filter (λ m. has m.0 ms) (n ∷ ns)) ≡ map app (member_first n.0 o (members_named ns ms))
-  found_more n ns None e r = cc
-  found_more n ns (Some v) e r = cc
-
-  found : (ns : Named) → map (λ m. app (m.0, namesake ms (Name m.0) m.1)) (filter (λ m. has m.0 ms) ns) ≡ map app (members_named ns ms)
-  found [] = refl
-  found (n ∷ ns) = found_more n ns (get n.0 ms) refl (found ns)
-
-  pub by_name : (ns : Named) → IsAscending ns → IsAscending ms
-      → map (λ m. app (m.0, namesake ms (Name m.0) m.1)) (filter (λ m. has m.0 ms) ns) ≡ map app (filter (λ m. has m.0 ns) ms)
-  by_name ns a b = found ns ∙ ap (map app) (shared ns ms a b)

@@ -98,7 +98,7 @@ pub(crate) fn start<'a>(
         Kind::PrefixItems => Ok(start_items::prefix(alloc, schemas, place, schema, keyword, value)),
         Kind::Items => Ok(start_items::following(alloc, schemas, place, schema, keyword, value)),
         Kind::Contains => Ok(start_items::every(alloc, schemas, place, schema, keyword, value)),
-        Kind::Properties => Ok(start_members::properties(place, schema, keyword, value)),
+        Kind::Properties => start_members::properties(alloc, place, schema, keyword, value),
         Kind::PatternProperties => {
             start_members::patterns(alloc, schemas, place, schema, keyword, value)
         }

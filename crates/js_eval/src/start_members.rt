@@ -24,16 +24,21 @@ use crate::keyword::Keyword;
 use crate::member_cursor::{
     each_additional, each_in_place, each_name, each_named, each_other, object_at,
 };
-use crate::name_cursor::each_of_names;
+use crate::name_cursor::{each_in_step, each_of_names};
 use crate::pattern_cursor::each_matching;
 use crate::schema::argument_in;
 use js_bundle::{Place, Schemas};
 use js_doc::{Doc, Members, Memory};
 use std::alloc::Global;
 
-/// `properties` looks up its names among the members, one look-up each. If it has more names than this number times the
-/// members, it goes through the members instead, with several look-ups each.
-const MANY_MORE: usize = 4;
+/// `properties` goes through the members, and looks each up among its names, if it has more names than this number times
+/// the members.
+const MANY_MORE: usize = 32;
+
+/// It looks its names up among the members if there are at most this many members, or more than `TWICE` for each name.
+const FEW: usize = 4;
+
+const TWICE: usize = 2;
 
 /// The applications of `dependentSchemas`.
 pub(crate) fn dependent<'a>(
@@ -66,50 +71,60 @@ pub(crate) fn dependent<'a>(
     }
 }
 
-/// The applications of `properties`. It goes through its names, unless there are many more of them than members.
+/// The applications of `properties`.
+///
+/// # Errors
+/// `Memory` if an allocation fails.
 pub(crate) fn properties<'a>(
+    alloc: Global,
     place: Place,
     schema: &'a Doc,
     keyword: Keyword<'a>,
     value: Instance<'a>,
-) -> Asking<'a>
+) -> Result<Asking<'a>, Memory>
     requires kind { held_at keyword.kind ≡ is_name }
     requires keyword { IsIn (value_of schema.now) (keyword_of keyword) }
-    ensures asked { (documents : Documents) → asked documents result
+    ensures asked { IfOk result (λ a. (documents : Documents) → asked documents a
         ≡ map (λ m. application (schemas_of documents) (numbered_site documents place) keyword.entry.name.now
         (spec.Name m.0) (spec.Name m.0) m.1)
-        (filter (λ m. has m.0 (entries (value_of keyword.entry.argument.now))) (entries (instance_of value.entry))) }
-    ensures is { (documents : Documents) → StandsAt documents place (value_of schema.now) → IsAsking documents result }
+        (filter (λ m. has m.0 (entries (value_of keyword.entry.argument.now))) (entries (instance_of value.entry)))) }
+    ensures is { IfOk result (λ a. (documents : Documents) → StandsAt documents place (value_of schema.now)
+        → IsAsking documents a) }
 {
     let Some(named) = object_in(keyword.argument) else {
-        return Asking::One(None);
+        return Ok(Asking::One(None));
     };
     match value.object() {
-        Some(members) => named_members(place, schema, keyword, named, members),
-        None => Asking::One(None),
+        Some(members) => named_members(alloc, place, schema, keyword, named, members),
+        None => Ok(Asking::One(None)),
     }
 }
 
 fn named_members<'a>(
+    alloc: Global,
     place: Place,
     schema: &'a Doc,
     keyword: Keyword<'a>,
     named: &'a Members,
     members: &'a Members,
-) -> Asking<'a>
+) -> Result<Asking<'a>, Memory>
     requires kind { held_at keyword.kind ≡ is_name }
     requires keyword { IsIn (value_of schema.now) (keyword_of keyword) }
     requires named { named.now ≡ entries (value_of keyword.argument.now) }
-    ensures asked { (documents : Documents) → asked documents result
+    ensures asked { IfOk result (λ a. (documents : Documents) → asked documents a
         ≡ map (λ m. application (schemas_of documents) (numbered_site documents place) keyword.entry.name.now
         (spec.Name m.0) (spec.Name m.0) m.1)
-        (filter (λ m. has m.0 named.now) members.now) }
-    ensures is { (documents : Documents) → StandsAt documents place (value_of schema.now) → IsAsking documents result }
+        (filter (λ m. has m.0 named.now) members.now)) }
+    ensures is { IfOk result (λ a. (documents : Documents) → StandsAt documents place (value_of schema.now)
+        → IsAsking documents a) }
 {
     if named.len() / MANY_MORE > members.len() {
-        Asking::Members(each_named(place, schema, keyword.name, named, members))
+        Ok(Asking::Members(each_named(place, schema, keyword.name, named, members)))
+    } else if members.len() <= FEW || members.len() / TWICE > named.len() {
+        Ok(Asking::Names(each_of_names(place, schema, keyword, named, members)))
     } else {
-        Asking::Names(each_of_names(place, schema, keyword, named, members))
+        let cursor = each_in_step(alloc, place, schema, keyword, named, members)?;
+        Ok(Asking::Names(cursor))
     }
 }
 

@@ -5,6 +5,7 @@ use Rattle.js_assert.specs.Argument.{entries, has}
 use Rattle.js_bundle.specs.Document.{Documents}
 use Rattle.js_bundle.specs.Resource.{Site}
 use Rattle.js_doc.specs.Seen.{pair_of, value_of}
+use Rattle.js_doc.specs.Members.{IsAscending}
 use Rattle.js_doc.specs.Value as doc
 use Rattle.js_doc.specs.declared.doc.Doc.{Doc}
 use Rattle.js_bundle.specs.Ranked.{is_name}
@@ -13,29 +14,35 @@ use Rattle.js_eval.specs.Bundle.{schemas_of}
 use Rattle.js_eval.specs.SchemaSet.{Name, Text}
 use Rattle.js_eval.specs.Seen.{keyword_of}
 use Rattle.js_eval.specs.Sited.{numbered_site}
-use Rattle.js_eval.specs.code.Applied.{namesake}
 use Rattle.js_eval.specs.code.Holding.{IsIn, held_at}
 use Rattle.js_eval.specs.code.Standing.{StandsAt}
+use Rattle.js_eval.specs.declared.name_cursor.Among.{Among}
+use Rattle.js_eval.specs.declared.name_cursor.Among.TheVariants.{All, Left}
 use Rattle.js_eval.specs.declared.name_cursor.NameCursor.{NameCursor}
 
 -- the schema of a name, applied to the member of that name
-abbrev pub on_member : Documents → ℕ → Text → doc.Named → Text × doc.Value → Application Site
-on_member documents place keyword members m =
-    application (schemas_of documents) (numbered_site documents place) keyword (Name m.0) (Name m.0) (namesake members (Name m.0) m.1)
+abbrev pub on_member : Documents → ℕ → Text → Text × doc.Value → Application Site
+on_member documents place keyword m = application (schemas_of documents) (numbered_site documents place) keyword (Name m.0) (Name m.0) m.1
 
--- the names that a member has, with their schemas
+-- the members that may have a name that is left
+abbrev pub members_among : Among → doc.Named
+members_among (All members) = members.now
+members_among (Left members) = map pair_of members.value
+
+-- those that have a name that is left
 abbrev pub names_left : doc.Named → List (String Global × Doc) → doc.Named
-names_left members names = filter (λ m. has m.0 members) (map pair_of names)
+names_left members names = filter (λ m. has m.0 (map pair_of names)) members
 
 abbrev pub names_asked : Documents → NameCursor → List (Application Site)
-names_asked documents c = map (on_member documents c.place c.keyword.name.now c.members.now) (names_left c.members.now c.names)
+names_asked documents c = map (on_member documents c.place c.keyword.name.now) (names_left (members_among c.among) c.names)
 
 -- of all names, these are left after this many
 abbrev pub AreLeft : doc.Named → ℕ → List (String Global × Doc) → Type 0
 AreLeft all rank names = map pair_of names ≡ drop rank all
 
--- the names are those of the keyword of a place with this schema
+-- the names are those of the keyword of a place with this schema, and both sides ascend
 abbrev pub IsNames : Documents → NameCursor → Type 0
 IsNames documents c =
     StandsAt documents c.place (value_of c.schema.now) × (held_at c.keyword.kind ≡ is_name) × IsIn (value_of c.schema.now) (keyword_of c.keyword)
     × AreLeft (entries (value_of c.keyword.argument.now)) c.rank c.names × (c.rank + length c.names < 2 ^ 64)
+    × IsAscending (map pair_of c.names) × IsAscending (members_among c.among)
