@@ -168,7 +168,7 @@ node-keyword_node-requires g t c κs within =
     let x : g.W.World.listed c.keywords.judging.keywords ≡ k ∷ g.W.World.listed c.next_keyword.new.judging.keywords = c.in-Some.ensures.next in
     let loop = rw (x, sym c.next_keyword.ensures.known) at c.keywords.invariant.loop in
     let next = at_next (g.W.World.schemas c.args.world.now) (c.args.depth - 1) (map site c.args.way.now.path) (site c.args.place) (g.W.World.value_of c.args.value) c.is_quiet-quiet.result g.R.Reporter.takes c.next_keyword.new.judging.known.valid c.next_keyword.new.judging.known.condition c.next_keyword.new.judging.known.matching
-        (map g.W.World.text_of c.args.way.now.names.items) (map g.W.World.text_of c.keywords.way.names.items) c.args.way.now.indexes.items c.keywords.way.indexes.items c.args.way.now.left c.keywords.way.left c.args.way.now.keyword c.args.way.now.instance c.args.into.now c.keywords.into k (g.W.World.listed c.next_keyword.new.judging.keywords) loop in
+    (map g.W.World.text_of c.args.way.now.names.items) (map g.W.World.text_of c.keywords.way.names.items) c.args.way.now.indexes.items c.keywords.way.indexes.items c.args.way.now.left c.keywords.way.left c.args.way.now.keyword c.args.way.now.instance c.args.into.now c.keywords.into k (g.W.World.listed c.next_keyword.new.judging.keywords) loop in
     let there = is_keyword_at (g.W.World.schemas c.args.world.now) (site c.args.place) c.keywords-keywords.ensures.ascending next.done next.rest k next.so.split in
     search (rules, places, scope, names, indexes, there)
 
