@@ -119,20 +119,17 @@ fn added(phase: &mut Phase, uri: &[u8], document: &[u8]) -> Result<Status, Fault
 fn finished(alloc: Global, phase: &mut Phase) -> Result<Status, Fault>
     ensures { Finishes phase.old phase.new result }
 {
-    match replace(phase, Phase::Adding(Bundle::new(alloc))) {
-        Phase::Adding(bundle) => match bundle.finish(alloc) {
-            Ok(schemas) => {
-                *phase = Phase::Finished(schemas);
-                Ok(Status::Done)
-            }
-            Err((refusal, bundle)) => {
-                *phase = Phase::Adding(bundle);
-                Err(Fault::from(refusal))
-            }
-        },
-        Phase::Finished(schemas) => {
+    let Phase::Adding(bundle) = phase else {
+        return Ok(Status::Misused);
+    };
+    match replace(bundle, Bundle::new(alloc)).finish(alloc) {
+        Ok(schemas) => {
             *phase = Phase::Finished(schemas);
-            Ok(Status::Misused)
+            Ok(Status::Done)
+        }
+        Err((refusal, same)) => {
+            *bundle = same;
+            Err(Fault::from(refusal))
         }
     }
 }
