@@ -36,6 +36,8 @@ impl Schemas {
         }
     }
 
+    /// The assertions that the keywords of the place make, in the order of the keywords' names (JSON Schema Validation,
+    /// section 6).
     pub fn assertions(&self, place: Place) -> &[Assertion]
         requires { is_place self.now place ≡ true }
         ensures { option_map assertions_at (place_at self.now place) ≡ Some result.now }

@@ -54,14 +54,14 @@ asserts_in (row ∷ rows) name h = at (bytes_eq name row.0) refl (asserts_in row
     at true e r = ap (λ n. is_some (keyword_named n)) ((bytes_eq-Decides name row.0).0 e) ∙ h.0
     at false e r = r
 
-none_asserts : AllByRecursion (λ row. is_some (keyword_named row.0) ≡ is_assertion row.1) applicators
+applicators_assert_nothing : AllByRecursion (λ row. is_some (keyword_named row.0) ≡ is_assertion row.1) applicators
 unfolding keyword_named
-none_asserts =
+applicators_assert_nothing =
     (refl, (refl, (refl, (refl, (refl, (refl, (refl, (refl, (refl, (refl, (refl, (refl, (refl, (refl, (refl, (refl, (refl, (refl, (refl, tt)))))))))))))))))))
 
 asserts : (name : List ℕ) → is_some (keyword_named name) ≡ is_assertion (kind name)
 unfolding kind
-asserts name = asserts_in applicators name none_asserts
+asserts name = asserts_in applicators name applicators_assert_nothing
 
 some_mapped : {A B : Type 0} (f : A → B) (o : Option A) → is_some (option_map f o) ≡ is_some o
 some_mapped f None = refl
@@ -80,7 +80,7 @@ node_of name e = ap is_ever (turn_is name) ∙ node_by (keyword_name name) (ap i
 leaf_of : (name : List ℕ) → has_leaf (keyword_name name) ≡ (is_ever (turn_of name) && not (may_apply (kind name)))
 leaf_of name = ap₂ (λ t κ. is_ever t && not (may_apply κ)) (sym (turn_is name)) (kind_is name)
 
--- ---- the keywords with a node, in their order, against all members
+-- ---- counting in the order of nodes, and over all members
 
 module _ (test : Keyword → Bool) where
   one_counted : (b t : Bool) (m : Keyword) (ks : List Keyword) → test m ≡ t → length (filter test (cond b (m ∷ ks) ks)) ≡ cond (b && t) 1 0 + length (filter test ks)
@@ -143,7 +143,7 @@ module _ (test : Keyword → Bool) where
   all_counted ms =
       ap length (in_three ms) ∙ (length-append (firsts ms) (seconds ms ++ lasts ms) ∙ (ap (λ n. length (firsts ms) + n) (length-append (seconds ms) (lasts ms)) ∙ three_counted ms))
 
--- ---- the same for whether all pass
+-- ---- judging in the order of nodes, and over all members
 
 one_holds : (says : Keyword → Bool) (test : Keyword → Bool) (b t : Bool) (m : Keyword) (ks : List Keyword) → test m ≡ t
     → list_all says (filter test (cond b (m ∷ ks) ks)) ≡ (cond (b && t) (says m) true && list_all says (filter test ks))
@@ -194,7 +194,7 @@ module _ (says : Keyword → Bool) (test : Keyword → Bool) where
       ap (list_all says) (in_three test ms)
       ∙ (list_all-append says (firsts test ms) (seconds test ms ++ lasts test ms) ∙ (ap (λ b. list_all says (firsts test ms) && b) (list_all-append says (seconds test ms) (lasts test ms)) ∙ three_hold ms))
 
--- ---- how many they are
+-- ---- by their names
 
 alike : {A B : Type 0} (b c : Bool) (x : A) (y : B) (xs : List A) (ys : List B) → b ≡ c → length xs ≡ length ys → length (cond b (x ∷ xs) xs) ≡ length (cond c (y ∷ ys) ys)
 alike true true x y xs ys e r = omega (arith, r)
@@ -202,15 +202,15 @@ alike false false x y xs ys e r = r
 alike true false x y xs ys e r = cc
 alike false true x y xs ys e r = cc
 
-abbrev by_name : Keyword → Bool
-by_name k = not (is_visited true k)
+abbrev unvisited : Keyword → Bool
+unvisited k = not (is_visited true k)
 
-leaves_counted : (ms : Named) → length (filter has_leaf (keyword_names_of ms)) ≡ length (filter (with_turn by_name) ms)
+leaves_counted : (ms : Named) → length (filter has_leaf (keyword_names_of ms)) ≡ length (filter (with_turn unvisited) ms)
 unfolding is_visited
 leaves_counted [] = refl
-leaves_counted (m ∷ ms) = alike (has_leaf (keyword_name m.0)) (with_turn by_name m) (keyword_name m.0) m (filter has_leaf (keyword_names_of ms)) (filter (with_turn by_name) ms) (leaf_of m.0) (leaves_counted ms)
+leaves_counted (m ∷ ms) = alike (has_leaf (keyword_name m.0)) (with_turn unvisited m) (keyword_name m.0) m (filter has_leaf (keyword_names_of ms)) (filter (with_turn unvisited) ms) (leaf_of m.0) (leaves_counted ms)
 
--- ---- whether the value passes each
+-- ---- by their assertions
 
 module _ (siblings : Named) (v : Value) (matching : ℕ) where
   abbrev asserted_says : Option Asserted → Bool
@@ -262,6 +262,6 @@ judged_together documents n v matching assertions names pass count there built n
     record {
       verdict =
           passes ∙ (ap (list_all (λ a. says a v matching)) (same ∙ assertions_are s)
-          ∙ (each_said ms v matching ms ∙ sym (all_hold (λ k. passes_of ms v matching k [] (kind k.0)) by_name ms)));
-      many = counted ∙ (ap (λ l. length (filter has_leaf l)) named ∙ (leaves_counted ms ∙ sym (all_counted by_name ms)));
+          ∙ (each_said ms v matching ms ∙ sym (all_hold (λ k. passes_of ms v matching k [] (kind k.0)) unvisited ms)));
+      many = counted ∙ (ap (λ l. length (filter has_leaf l)) named ∙ (leaves_counted ms ∙ sym (all_counted unvisited ms)));
     }

@@ -19,8 +19,8 @@ use js_bundle::{KeywordName, Place, Schemas};
 use js_doc::Memory;
 use std::alloc::Global;
 
-/// Whether a value passes all keywords at a place that apply no schemas, and how many have a node. `matching`: the
-/// number of items that match the adjacent `contains`.
+/// Whether a value passes the keywords at a place that apply no schemas, and how many of them have a node. `matching`:
+/// the number of items that match the adjacent `contains`.
 ///
 /// # Errors
 /// `Memory` if an allocation fails.
