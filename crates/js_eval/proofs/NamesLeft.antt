@@ -1,5 +1,5 @@
 -- The names that are left of a keyword's, and the members that are left.
-use Rattle.std.proofs.Common.{◌≡◌, ℕ, zero, suc, ◌+◌, List, [], ◌∷◌, Some, None, Ordering, Less, Equal, Greater, drop, filter, slice_get, ap, subst, sym, ◌∙◌, arith}
+use Rattle.std.proofs.Common.{◌≡◌, ℕ, zero, suc, ◌+◌, List, [], ◌∷◌, Some, None, Less, Equal, Greater, drop, filter, slice_get, ap, subst, sym, ◌∙◌, arith}
 use Rattle.std.proofs.lemmas.Cmp.{nat_list_cmp_total}
 use Rattle.std.specs.Ordering.{ordering_reverse}
 use Rattle.js_assert.specs.Argument.{has}

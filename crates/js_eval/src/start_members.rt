@@ -31,14 +31,15 @@ use js_bundle::{Place, Schemas};
 use js_doc::{Doc, Members, Memory};
 use std::alloc::Global;
 
-/// `properties` goes through the members, and looks each up among its names, if it has more names than this number times
+/// `properties` goes through the members and looks each up among its names, if it has more names than this number times
 /// the members.
 const MANY_MORE: usize = 32;
 
-/// It looks its names up among the members if there are at most this many members, or more than `TWICE` for each name.
-const FEW: usize = 4;
+/// It goes through its names and looks each up among the members, if it has fewer names than this, or fewer than one for
+/// `PER_NAME` members. Otherwise it goes through both side by side.
+const FEW: usize = 6;
 
-const TWICE: usize = 2;
+const PER_NAME: usize = 2;
 
 /// The applications of `dependentSchemas`.
 pub(crate) fn dependent<'a>(
@@ -120,7 +121,7 @@ fn named_members<'a>(
 {
     if named.len() / MANY_MORE > members.len() {
         Ok(Asking::Members(each_named(place, schema, keyword.name, named, members)))
-    } else if members.len() <= FEW || members.len() / TWICE > named.len() {
+    } else if named.len() < FEW || members.len() / PER_NAME > named.len() {
         Ok(Asking::Names(each_of_names(place, schema, keyword, named, members)))
     } else {
         let cursor = each_in_step(alloc, place, schema, keyword, named, members)?;

@@ -1,4 +1,4 @@
-use Rattle.std.proofs.Common.{◌≡◌, ◌∷◌, ◌+◌, suc, Some, String, Less, Equal, Greater, drop, length, map, refl, ap, subst, sym, ◌∙◌, arith}
+use Rattle.std.proofs.Common.{◌≡◌, ◌∷◌, suc, Some, String, Less, Equal, Greater, drop, length, map, refl, ap, subst, sym, ◌∙◌, arith}
 use Rattle.std.specs.Global.{Global}
 use Rattle.js_doc.specs.Members.{IsAscending, name_cmp}
 use Rattle.js_doc.specs.Seen.{pair_of, value_of}

@@ -1,4 +1,4 @@
-use Rattle.std.proofs.Common.{◌≡◌, ◌∷◌, ◌+◌, ◌<◌, ◌^◌, String, drop, length, map}
+use Rattle.std.proofs.Common.{◌≡◌, ◌∷◌, ◌+◌, ◌<◌, ◌^◌, String, length, map}
 use Rattle.std.specs.Global.{Global}
 use Rattle.js_doc.specs.Members.{IsAscending}
 use Rattle.js_doc.specs.Seen.{pair_of}
