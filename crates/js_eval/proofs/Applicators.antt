@@ -15,7 +15,7 @@ use Rattle.js_doc.specs.Members.{get, name_cmp, IsBelowHead, IsAscending}
 use Rattle.js_eval.specs.Keywords.{Keyword, comes_before_else, is_else, comes_after_else}
 use Rattle.js_eval.specs.Kind.{kind}
 use Rattle.js_eval.specs.Walk.Visited.{may_apply, is_visited}
-use Rattle.js_eval.specs.code.Applicators.{applicator_text, has_applicator, member_named, applicators_in}
+use Rattle.js_eval.specs.code.Applicator.{applicator_text, has_applicator, member_named, applicators_in}
 use Rattle.js_eval.specs.code.Standard.{kind_by, keyword_names_of}
 use Rattle.js_eval.specs.code.Turns.{in_order}
 use Rattle.js_eval.proofs.FoundByName.{AreAmong, Below, all_of_filter, below_all, each_among}

@@ -3,7 +3,7 @@ pub mod Asked
 pub mod Cursors
 pub mod Standard
 pub mod Turns
-pub mod Applicators
+pub mod Applicator
 pub mod KeywordsLeft
 pub mod Applied
 pub mod Standing

@@ -1,7 +1,7 @@
 //! The members of a schema that apply schemas, one after another, each as a keyword with its turn (see `turn`).
 ghost use Rattle.std.specs.Prelude.{◌≡◌, ◌∷◌, [], MatchOption, is_some, option_map};
 ghost use Rattle.js_bundle.specs.KeywordName.{keyword_name};
-ghost use Rattle.js_eval.specs.code.Applicators.{applicator_in, applicator_text, applicators_in, has_applicator};
+ghost use Rattle.js_eval.specs.code.Applicator.{applicator_in, applicator_text, applicators_in, has_applicator};
 ghost use Rattle.js_eval.specs.code.Turns.{turn_of};
 ghost use Rattle.js_eval.specs.Seen.{keyword_of};
 
@@ -67,7 +67,7 @@ fn applicator_in<'a>(members: &'a Members, which: KeywordName) -> Option<Keyword
 }
 
 // The name of the keyword, if it applies schemas.
-#[tactic(auto, unfolding(crate::specs::code::Applicators::applicator_text, js_bundle::specs::KeywordName::keyword_name))]
+#[tactic(auto, unfolding(crate::specs::code::Applicator::applicator_text, js_bundle::specs::KeywordName::keyword_name))]
 fn applicator_text(which: KeywordName) -> Option<&'static str>
     ensures text { option_map (λ name. name.now) result ≡ applicator_text which }
     ensures named { MatchOption result (Unit {0}) (λ name. which ≡ keyword_name name.now) }

@@ -4,7 +4,7 @@ use Rattle.js_doc.specs.Seen.{pair_of}
 use Rattle.js_doc.specs.Value.{Named}
 use Rattle.js_eval.specs.Keywords as table
 use Rattle.js_eval.specs.Seen.{keyword_of}
-use Rattle.js_eval.specs.code.Applicators.{applicators_in}
+use Rattle.js_eval.specs.code.Applicator.{applicators_in}
 use Rattle.js_eval.specs.code.Turns.{ever, first_turn, second_turn, last_turn}
 use Rattle.js_eval.specs.declared.in_turn.InTurn.{InTurn}
 use Rattle.js_eval.specs.declared.in_turn.InTurn.TheVariants.{Every, Applying}

@@ -1,5 +1,5 @@
 use Rattle.std.proofs.Common.{◌≡◌, length}
-use Rattle.js_eval.specs.code.Applicators.{applicators_in}
+use Rattle.js_eval.specs.code.Applicator.{applicators_in}
 use Rattle.js_eval.proofs.applying.Applying.next.Given as goal
 
 abbrev pub invariant-loop-which : goal.invariant-loop-which

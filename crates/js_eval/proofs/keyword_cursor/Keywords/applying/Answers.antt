@@ -1,6 +1,6 @@
 use Rattle.std.proofs.Common.{true, sym, ◌∙◌, ap, subst}
 use Rattle.js_doc.specs.Members.{IsAscending}
-use Rattle.js_eval.specs.code.Applicators.{has_applicator}
+use Rattle.js_eval.specs.code.Applicator.{has_applicator}
 use Rattle.js_eval.specs.code.Turns.{in_order}
 use Rattle.js_eval.specs.Walk.Visited.{is_visited}
 use Rattle.js_eval.proofs.Applicators.{applicators_are, chosen_ascend, none_visited}
