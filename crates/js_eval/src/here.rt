@@ -113,6 +113,10 @@ impl<'a> World for Here<'a> {
         Keywords::new(names_at(self.schemas, place), schema, quiet)
     }
 
+    fn is_done(&self, keywords: &Keywords<'a>) -> bool {
+        keywords.is_done()
+    }
+
     fn next_keyword(&self, keywords: &mut Keywords<'a>) -> Option<Keyword<'a>> {
         keywords.next()
     }

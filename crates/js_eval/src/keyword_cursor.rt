@@ -76,6 +76,14 @@ impl<'a> Keywords<'a> {
         }
     }
 
+    /// Whether there is no cursor, so that no keyword is left.
+    #[inline(always)]
+    pub fn is_done(&self) -> bool
+        ensures { result ≡ true → keywords_in self.now ≡ [] }
+    {
+        matches!(self, Keywords::Nothing)
+    }
+
     /// The next keyword. It isn't inlined, to keep its locals out of the recursive function's stack frame.
     #[inline(never)]
     pub fn next(&mut self) -> Option<Keyword<'a>>

@@ -1,7 +1,7 @@
 -- The three functions of the walk, step by step.
-use Rattle.std.specs.Prelude.{◌≡◌, ℕ, suc, ◌+◌, ◌<◌, ◌≤◌, Bool, true, false, ◌&&◌, cond, List, [], ◌∷◌, ◌++◌, Option, Some, None, map, filter, length, take, drop, refl}
+use Rattle.std.specs.Prelude.{◌≡◌, Result, Ok, Err, MatchResult, ℕ, suc, ◌+◌, ◌-◌, ◌<◌, ◌≤◌, Bool, true, false, ◌&&◌, cond, List, [], ◌∷◌, ◌++◌, Option, Some, None, map, filter, length, take, drop, refl}
 use Rattle.std.proofs.Common.{sym, ◌∙◌, ap, subst, arith, append-nil}
-use Rattle.std.proofs.Math.Seq.{take-append_seam, drop-append_seam}
+use Rattle.std.proofs.Math.Seq.{take-length, take-append_seam, drop-append_seam}
 use Rattle.std.proofs.lemmas.List.{length-map, take-map, drop-map}
 use Rattle.js_doc.specs.Members.{IsAscending}
 use Rattle.js_doc.specs.Pointer.{pointer_text}
@@ -13,10 +13,11 @@ use Rattle.js_eval.specs.Keywords.{Keyword, keywords}
 use Rattle.js_eval.specs.Kind.{kind}
 use Rattle.js_eval.specs.Location.{step_tokens}
 use Rattle.js_eval.specs.SchemaSet.{Text, SchemaSet, Step}
+use Rattle.js_eval.specs.Verdict.{accepts}
 use Rattle.js_eval.specs.declared.kind.Kind.{Kind}
 use Rattle.js_tree.specs.Events.{Event, opening}
 use Rattle.js_eval.specs.Walk.Keeping.{condition_step, matching_step}
-use Rattle.js_eval.specs.Walk.Steps.{MarkOf, StartOf, SchemaOpened, SchemaClosed, KeywordOpened, KeywordClosed, WentDown, CameBack, NodeDone, KeywordDone, EachDone}
+use Rattle.js_eval.specs.Walk.Steps.{MarkOf, StartOf, LeafDone, LeafTooLarge, SchemaOpened, SchemaClosed, KeywordOpened, KeywordClosed, WentDown, CameBack, NodeDone, KeywordDone, EachDone}
 use Rattle.js_eval.specs.Walk.Told.{IsAt, KeywordWalked, NodeWalked, KeywordHasNone, SomeHasNone, HasNone, asked_by, names_given, indexes_given, at_name, keywords_at, accepts_at, kind_at, says_at, schema_says, at_step}
 use Rattle.js_eval.specs.Walked.{OnTooLarge}
 use Rattle.js_eval.specs.declared.walking.fault.WalkFault.{WalkFault}
@@ -33,7 +34,7 @@ use Rattle.js_eval.proofs.Recursion.KeywordTelling.{keyword_walked, keyword_told
 use Rattle.js_eval.proofs.Recursion.Sources.{names_of_none, indexes_of_none}
 use Rattle.js_eval.specs.Walk.Visited.{is_visited, AreJudgedIf}
 use Rattle.js_eval.specs.declared.walking.tally.Others.{Others}
-use Rattle.js_eval.proofs.Recursion.NodeTelling.{KeywordsLoop, at_next, at_end, keywords_start, keyword_more, keyword_told_more, keyword_is_none, node_walked, ended, ended_too_large, ended_told}
+use Rattle.js_eval.proofs.Recursion.NodeTelling.{KeywordsLoop, at_next, at_end, keywords_start, keyword_more, keyword_told_more, keyword_is_none, node_walked, node_untold, ended, ended_too_large, ended_told}
 
 pub asked_same : {P : Type 0} (S : SchemaSet P) (n : ℕ) (path : List P) (place : P) (v : Value) (k : Keyword) (c : Option Bool) (ns : List Text) (is : List ℕ) → asked_by S 0 path place v k c ns is ≡ asked_by S n path place v k c ns is
 unfolding asked_by
@@ -236,3 +237,57 @@ module _ {M H K C P : Type 0} (S : SchemaSet P) (text_of : M → Text) (takes : 
           back = record { path = close.path w.path p (sp ∙ ep); scope = close.scope ∙ (ap (take start.scope) ss ∙ (ap (λ i. take i w₁.scope) m.scope ∙ es.kept)); keyword = close.keyword ∙ (sk ∙ ek); instance = close.instance ∙ (si ∙ ei) };
           falls = let l = close.left in omega (arith, l, fl, sl);
         }
+
+-- ---- a schema of which a quiet walk visits no keyword
+
+module _ {C P : Type 0} (S : SchemaSet P) (takes : C → Event → C → Type 0) (n : ℕ) (above : List P) (place : P) (v : Value) where
+  visits_none : (old left : ℕ) (names : List Text) (indexes : List ℕ) (keyword instance : Text) (c : C) → [] ≡ filter (is_visited true) (keywords (S.schema place)) → left + 1 ≡ old
+      → KeywordsLoop S n above place v true takes [] (accepts (S.schema place)) None 0 names names indexes indexes old left keyword instance c c
+  visits_none old left names indexes keyword instance c none e = record {
+    done = [];
+    rest = keywords (S.schema place);
+    are = none;
+    so = keywords_start S n above place v true (accepts (S.schema place)) names indexes old left refl e;
+    told = λ q. (let z : true ≡ false = q in cc);
+  }
+
+  pub leaf_too_large : (old : ℕ) → 0 < old → filter (is_visited true) (keywords_at S place) ≡ [] → (c : C) → LeafTooLarge S place v old → HasNone S (suc n) above place v old
+  unfolding keywords_at
+  leaf_too_large old some none c large =
+      let o : Others = record { pass = large.pass; count = large.count } in
+      let e : (old - 1) + 1 ≡ old = omega (arith, some) in
+      let loop = visits_none old (old - 1) [] [] [] [] c (sym none) e in
+      let last = at_end S n above place v true takes (accepts (S.schema place)) None 0 [] [] [] [] old (old - 1) [] [] c c loop in
+      let f : (old - 1) < large.count = let g = large.few in omega (arith, some, g) in
+      ended_too_large S n above place v true true refl o None 0 (accepts (S.schema place)) [] [] [] [] old (old - 1) last.so large.judged f
+
+as_it_is : {A : Type 0} (b : Bool) (xs : List A) → xs ≡ cond b xs (take (length xs) xs)
+as_it_is true xs = refl
+as_it_is false xs = sym (take-length xs)
+
+module _ {M H K C P : Type 0} (S : SchemaSet P) (text_of : M → Text) (takes : C → Event → C → Type 0) (n : ℕ) (above : List P) (place : P) (v : Value) where
+  leaf_done : IsAscending (entries (S.schema place)) → ((c d : C) (e : Event) → takes c e d) → (valid : Bool) (w w₁ : Way M H K) (c : C) → filter (is_visited true) (keywords_at S place) ≡ []
+      → LeafDone S place v valid w w₁ → NodeDone S text_of takes (suc n) above place v valid w w₁ c c
+  unfolding keywords_at accepts_at
+  leaf_done ascending any valid w w₁ c none leaf =
+      let names = map text_of w.names.items in
+      let o : Others = record { pass = leaf.pass; count = leaf.count } in
+      let e : (w₁.left + leaf.count) + 1 ≡ w.left = let s = leaf.spent in omega (arith, s) in
+      let loop = visits_none S takes n above place v w.left (w₁.left + leaf.count) names w.indexes.items w.keyword w.instance c (sym none) e in
+      let last = at_end S n above place v true takes (accepts (S.schema place)) None 0 names names w.indexes.items w.indexes.items w.left (w₁.left + leaf.count) w.keyword w.instance c c loop in
+      let all = rw (sym leaf.verdict) at (ended S n above place v true true refl ascending o None 0 (accepts (S.schema place)) names names w.indexes.items w.indexes.items w.left (w₁.left + leaf.count) w₁.left last.so leaf.judged refl) in
+      let cut : map text_of w₁.names.items ≡ cond valid names (take (length names) names) = ap (map text_of) leaf.names ∙ as_it_is valid names in
+      let cut' : w₁.indexes.items ≡ cond valid w.indexes.items (take (length w.indexes.items) w.indexes.items) = leaf.indexes ∙ as_it_is valid w.indexes.items in
+      let walked = node_walked S n above place v valid names names (map text_of w₁.names.items) w.indexes.items w.indexes.items w₁.indexes.items w.left w₁.left all cut cut' in
+      record {
+        walked = walked;
+        told = λ at h. node_untold S n above place v takes any at c c walked.settled;
+        back = leaf.back;
+        falls = let s = leaf.spent in omega (arith, s);
+      }
+
+  pub leaf_answer : IsAscending (entries (S.schema place)) → ((c d : C) (e : Event) → takes c e d) → (r : Result Bool WalkFault) (w w₁ : Way M H K) (c : C) → filter (is_visited true) (keywords_at S place) ≡ [] → 0 < w.left
+      → MatchResult r (λ valid. LeafDone S place v valid w w₁) (λ e. OnTooLarge e (LeafTooLarge S place v w.left))
+      → MatchResult r (λ valid. NodeDone S text_of takes (suc n) above place v valid w w₁ c c) (λ e. OnTooLarge e (HasNone S (suc n) above place v w.left))
+  leaf_answer ascending any (Ok valid) w w₁ c none some leaf = leaf_done ascending any valid w w₁ c none leaf
+  leaf_answer ascending any (Err e) w w₁ c none some large = on_too_large (LeafTooLarge S place v w.left) (HasNone S (suc n) above place v w.left) e (leaf_too_large S takes n above place v w.left some none c) large

@@ -1,5 +1,5 @@
 -- The keywords that a quiet walk doesn't visit ask for nothing and give nothing.
-use Rattle.std.specs.Prelude.{◌≡◌, ℕ, ◌+◌, ◌-◌, ◌≤◌, Bool, true, false, not, ◌||◌, ◌&&◌, cond, List, [], ◌∷◌, ◌++◌, Option, Some, None, filter, length, sum_by, map, codes, refl}
+use Rattle.std.specs.Prelude.{◌≡◌, ◌≢◌, ℕ, ◌+◌, ◌-◌, ◌<◌, ◌≤◌, Bool, true, false, not, ◌||◌, ◌&&◌, cond, List, [], ◌∷◌, ◌++◌, Option, Some, None, filter, length, sum_by, map, codes, refl}
 use Rattle.std.specs.List.{list_all, flat_map}
 use Rattle.std.specs.Option.{option_map_or}
 use Rattle.std.proofs.Common.{sym, ◌∙◌, ap, arith, append-nil}
@@ -164,3 +164,6 @@ any_events takes any e es c d = (d, any c d e, any_more takes any es d)
 -- what was taken away, given back
 pub given_back : (left count : ℕ) → count ≤ left → (left - count) + count ≡ left
 given_back left count h = omega (arith, h)
+
+pub some_left : (left : ℕ) → left ≢ 0 → 0 < left
+some_left left h = omega (arith, h)

@@ -1,5 +1,5 @@
 -- What the steps of a walk do to its state and to its reporter.
-use Rattle.std.specs.Prelude.{◌≡◌, ℕ, ◌+◌, ◌<◌, ◌≤◌, Bool, cond, List, [], ◌∷◌, ◌++◌, Some, None, map, take, drop, length}
+use Rattle.std.specs.Prelude.{◌≡◌, ℕ, ◌+◌, ◌<◌, ◌≤◌, Bool, ◌&&◌, cond, List, [], ◌∷◌, ◌++◌, Some, None, map, take, drop, length}
 use Rattle.js_doc.specs.Value.{Value}
 use Rattle.js_eval.specs.Applications.{Application}
 use Rattle.js_eval.specs.Evaluated.{name_in, index_in}
@@ -10,8 +10,9 @@ use Rattle.js_eval.specs.SchemaSet.{Text, SchemaSet}
 use Rattle.js_eval.specs.declared.kind.Kind.{Kind}
 use Rattle.js_tree.specs.Events.{Event, opening, closing}
 use Rattle.js_eval.specs.Walk.Keeping.{keeps, names_origin, indexes_origin}
-use Rattle.js_eval.specs.Walk.Told.{IsAt, IsBack, NodeWalked, NodeTold, KeywordWalked, KeywordTold, EachWalked, EachTold, passes_at, says_at, schema_says, at_name, at_step}
+use Rattle.js_eval.specs.Walk.Told.{IsAt, IsBack, NodeWalked, NodeTold, KeywordWalked, KeywordTold, EachWalked, EachTold, accepts_at, passes_at, says_at, schema_says, at_name, at_step}
 use Rattle.js_eval.specs.Walk.Scope.{HasGrown}
+use Rattle.js_eval.specs.Walk.Visited.{AreJudged}
 use Rattle.js_eval.specs.declared.walking.way.Mark.{Mark}
 use Rattle.js_eval.specs.declared.walking.way.Start.{Start}
 use Rattle.js_eval.specs.declared.walking.tally.Tally.{Tally}
@@ -48,6 +49,25 @@ pub record CameBack {M H K P : Type 0} (text_of : M → Text) (len : K → ℕ) 
   pub names : map text_of w'.names.items ≡ take here.names (map text_of w.names.items) ++ keeps (names_origin κ) holds (name_in a.at) (drop here.names (map text_of w.names.items))
   pub indexes : w'.indexes.items ≡ take here.indexes w.indexes.items ++ keeps (indexes_origin κ) holds (index_in a.at) (drop here.indexes w.indexes.items)
   pub left : w'.left ≡ w.left
+
+-- a schema of which no keyword is visited: all others are judged, and their nodes and its own are subtracted from those
+-- left
+pub record LeafDone {M H K P : Type 0} (S : SchemaSet P) (site : P) (v : Value) (valid : Bool) (w w' : Way M H K) : Type 0 where
+  pub pass : Bool
+  pub count : ℕ
+  pub judged : AreJudged S site v 0 pass count
+  pub verdict : valid ≡ (accepts_at S site && pass)
+  pub spent : w'.left + (count + 1) ≡ w.left
+  pub back : IsBack w w'
+  pub names : w'.names.items ≡ w.names.items
+  pub indexes : w'.indexes.items ≡ w.indexes.items
+
+-- those are more than are left
+pub record LeafTooLarge {P : Type 0} (S : SchemaSet P) (site : P) (v : Value) (left : ℕ) : Type 0 where
+  pub pass : Bool
+  pub count : ℕ
+  pub judged : AreJudged S site v 0 pass count
+  pub few : left ≤ count
 
 module _ {M H K C P : Type 0} (S : SchemaSet P) (text_of : M → Text) (takes : C → Event → C → Type 0) where
   pub record SchemaOpened (site : P) (place resource : ℕ) (w w' : Way M H K) (c d : C) : Type 0 where

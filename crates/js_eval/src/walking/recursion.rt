@@ -12,7 +12,7 @@ use crate::walking::fault::WalkFault;
 use crate::walking::pointer_text::PointerText;
 use crate::walking::reporter::Reporter;
 use crate::walking::steps::{
-    asked, childless_node, close_keyword, close_schema, come_back, go_down, next_keyword,
+    asked, childless_node, close_keyword, close_schema, come_back, go_down, leaf, next_keyword,
     open_keyword, open_schema, others_of,
 };
 use crate::walking::tally::{Case, Judged, Judging, Known, Tally};
@@ -53,6 +53,11 @@ pub(crate) fn node<W: World, H: PointerText + Drop, R: Reporter<W, H>>(
     if way.left == 0 {
         return Err(WalkFault::TooLarge);
     }
+    let quiet = into.is_quiet();
+    let keywords = world.keywords(place, schema, quiet);
+    if quiet && world.is_done(&keywords) {
+        return leaf(alloc, world, way, place, schema, value);
+    }
     let start = way.start();
     open_schema(alloc, world, way, into, place)?;
     let known = Known {
@@ -60,8 +65,6 @@ pub(crate) fn node<W: World, H: PointerText + Drop, R: Reporter<W, H>>(
         condition: None,
         matching: 0,
     };
-    let quiet = into.is_quiet();
-    let keywords = world.keywords(place, schema, quiet);
     let mut judging = Judging { keywords, known };
     'keywords: while let Some(keyword) = next_keyword(world, &mut judging) {
         let case = Case {

@@ -1,13 +1,15 @@
 //! The single steps of the recursion. Each that returns a `Result` fails with `Memory` if an allocation fails.
-ghost use Rattle.std.specs.Prelude.{◌≡◌, ◌∷◌, [], ◌<◌, ◌≤◌, List, true, map, length, drop, nat_eq, IfOk, OnOk, MatchOption, ℕ};
+ghost use Rattle.std.specs.Prelude.{◌≡◌, ◌∷◌, [], ◌<◌, ◌≤◌, List, true, map, length, drop, nat_eq, IfOk, OnOk, MatchOption, MatchResult, ℕ};
 ghost use Rattle.std.specs.List.{dedup, list_all};
 ghost use Rattle.std.specs.String.Boundary.{IsSplitPoint};
 ghost use Rattle.js_bundle.specs.Resource.{Site};
-ghost use Rattle.js_eval.specs.Walk.Steps.{SchemaOpened, SchemaClosed, KeywordOpened, KeywordClosed, KeywordDone, WentDown, CameBack};
+ghost use Rattle.js_eval.specs.Walk.Steps.{LeafDone, LeafTooLarge, SchemaOpened, SchemaClosed, KeywordOpened, KeywordClosed, KeywordDone, WentDown, CameBack};
 ghost use Rattle.js_eval.specs.Walk.Told.{IsKeywordAt, asked_by};
 ghost use Rattle.js_eval.specs.Walk.Visited.{AreJudgedIf};
+ghost use Rattle.js_eval.specs.Walked.{OnTooLarge};
 
 use crate::kind::Kind;
+use crate::walking::fault::WalkFault;
 use crate::walking::keeping::{cut_unless, indexes_origin, keep, names_origin};
 use crate::walking::pointer_text::PointerText;
 use crate::walking::reporter::Reporter;
@@ -272,4 +274,32 @@ pub(crate) fn others_of<W: World>(
             count: 0,
         })
     }
+}
+
+/// Evaluates a schema of which a quiet walk visits no keyword, and returns its verdict.
+///
+/// # Errors
+/// `Memory` if an allocation fails; `TooLarge` if its nodes are more than are left.
+pub(crate) fn leaf<W: World, H: PointerText + Drop>(
+    alloc: Global,
+    world: &W,
+    way: &mut Way<W::Name, H>,
+    place: Place,
+    schema: W::Schema,
+    value: W::Value,
+) -> Result<bool, WalkFault>
+    requires place { W.is_place world.now place ≡ true }
+    requires schema { W.stands_at world.now place schema }
+    ensures { MatchResult result
+        (λ valid. LeafDone (W.schemas world.now) (W.site world.now place) (W.value_of value) valid way.old way.new)
+        (λ e. OnTooLarge e (LeafTooLarge (W.schemas world.now) (W.site world.now place) (W.value_of value)
+        way.old.left)) }
+{
+    let others = world.others(alloc, place, value, 0)?;
+    if way.left <= others.count {
+        return Err(WalkFault::TooLarge);
+    }
+    way.left -= others.count + 1;
+    let accepts = world.accepts(place, schema);
+    Ok(accepts & others.pass)
 }

@@ -109,6 +109,10 @@ pub(crate) trait World {
         ensures { IfOk result (λ o. AreJudged (schemas self.now) (site self.now place) (value_of value) matching
             o.pass o.count) };
 
+    /// Whether no keyword is left. It may answer false where none is.
+    fn is_done(&self, keywords: &Self::Keywords) -> bool
+        ensures { result ≡ true → listed keywords.now ≡ [] };
+
     fn next_keyword(&self, keywords: &mut Self::Keywords) -> Option<Self::Keyword>
         ensures { MatchOption result (listed keywords.old ≡ [])
             (λ k. listed keywords.old ≡ keyword_of k ∷ listed keywords.new) };

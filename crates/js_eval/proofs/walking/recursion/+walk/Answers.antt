@@ -12,9 +12,13 @@ use Rattle.js_eval.proofs.Recursion.Before.{is_keyword_at}
 use Rattle.js_eval.proofs.Recursion.Counted.{counts_later}
 use Rattle.js_eval.specs.Walk.Told.{SomeHasNone, KeywordHasNone, HasNone}
 use Rattle.js_eval.proofs.Recursion.Each.{each_start}
-use Rattle.js_eval.proofs.Recursion.Stepping.{each_step, step_back, at_most_one, on_too_large, keyword_step, asked_same, node_start, node_more, loop_as, node_failed, node_too_large, node_end}
+use Rattle.js_eval.proofs.Recursion.Stepping.{each_step, step_back, at_most_one, on_too_large, keyword_step, asked_same, node_start, node_more, loop_as, node_failed, node_too_large, node_end, leaf_answer}
 use Rattle.js_eval.proofs.Recursion.Splits.{split_at_name, split_at_step}
-use Rattle.js_eval.proofs.Recursion.Visited.{given_back}
+use Rattle.js_eval.proofs.Recursion.Visited.{given_back, some_left}
+use Rattle.js_eval.specs.Walk.Visited.{is_visited}
+use Rattle.js_eval.specs.Walk.Told.{keywords_at}
+use Rattle.js_eval.specs.Walked.{OnTooLarge}
+use Rattle.std.specs.Prelude.{filter, MatchResult}
 use Rattle.js_eval.proofs.Recursion.NodeTelling.{at_next, none_at_zero, none_left, one_less}
 use Rattle.js_eval.proofs.Recursion.KeywordTelling.{keyword_none}
 use Rattle.js_eval.specs.Walk.Told.{asked_by}
@@ -134,6 +138,17 @@ node-returns-then-depth-eq0 g t c =
 pub node-returns-then-way-eq0 : goal.node-returns-then-way-eq0
 node-returns-then-way-eq0 g t c =
     none_left (g.W.World.schemas c.args.world.now) 0 (map (g.W.World.site c.args.world.now) c.args.way.now.path) (g.W.World.site c.args.world.now c.args.place) (g.W.World.value_of c.args.value) c.args.depth c.args.way.now.left c.if-depth-eq0.false c.if-way-eq0.true
+
+pub node-returns-then-is_done : goal.node-returns-then-is_done
+node-returns-then-is_done g t c =
+    let S = g.W.World.schemas c.args.world.now in
+    let site = g.W.World.site c.args.world.now in
+    let path = map site c.args.way.now.path in
+    let place = site c.args.place in
+    let v = g.W.World.value_of c.args.value in
+    let none : filter (is_visited true) (keywords_at S place) ≡ [] = sym (ap (λ b. filter (is_visited b) (keywords_at S place)) c.if-quiet.true) ∙ (sym c.keywords-keywords.ensures.listed ∙ c.is_done.ensures c.if-is_done.true) in
+    subst (λ d. MatchResult c.leaf.result (λ valid. NodeDone S g.W.World.text_of g.R.Reporter.takes d path place v valid c.args.way.now c.leaf.new.way c.args.into.now c.args.into.now) (λ e. OnTooLarge e (HasNone S d path place v c.args.way.now.left))) (one_less c.args.depth c.if-depth-eq0.false)
+    (leaf_answer S g.W.World.text_of g.R.Reporter.takes (c.args.depth - 1) path place v c.keywords-keywords.ensures.ascending (c.is_quiet-quiet.ensures c.if-quiet.true) c.leaf.result c.args.way.now c.leaf.new.way c.args.into.now none (some_left c.args.way.now.left c.if-way-eq0.false) c.leaf.ensures)
 
 pub node-keywords-init : goal.node-keywords-init
 node-keywords-init g t c =
