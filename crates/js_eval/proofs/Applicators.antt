@@ -28,6 +28,9 @@ unfolding is_visited
 all_visited [] = refl
 all_visited (m ∷ ms) = ap (λ xs. m ∷ xs) (all_visited ms)
 
+pub all_are_visited : (ms : Named) → ms ≡ filter (is_visited false) ms
+all_are_visited ms = sym (all_visited ms)
+
 -- ---- the text of a name that applies schemas is the name
 
 applies_by : (which : KeywordName) → is_some (applicator_text which) ≡ may_apply (kind_by which)

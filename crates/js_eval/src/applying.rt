@@ -1,12 +1,13 @@
 //! The members of a schema that apply schemas, one after another, each as a keyword with its turn (see `turn`).
-ghost use Rattle.std.specs.Prelude.{◌≡◌, ◌∷◌, [], MatchOption, is_some, option_map};
+ghost use Rattle.std.specs.Prelude.{◌≡◌, MatchOption, is_some, option_map, true};
 ghost use Rattle.js_bundle.specs.KeywordName.{keyword_name};
-ghost use Rattle.js_eval.specs.code.Applicator.{applicator_in, applicator_text, applicators_in, has_applicator};
-ghost use Rattle.js_eval.specs.code.Turns.{turn_of};
+ghost use Rattle.js_eval.specs.code.Applicator.{applicator_in, applicator_text, has_applicator};
 ghost use Rattle.js_eval.specs.Seen.{keyword_of};
 
 use crate::by_name::kind_of_named;
+use crate::in_turn::InTurn;
 use crate::keyword::Keyword;
+use crate::name_cursor::names_ascend;
 use crate::turn::{Turn, turn_of};
 use js_bundle::KeywordName;
 use js_doc::Members;
@@ -19,16 +20,32 @@ pub(crate) struct Applying<'a> {
     pub members: &'a Members,
 }
 
-impl<'a> Applying<'a> {
-    /// The next member that applies schemas, as a keyword, and its turn.
-    pub fn next(&mut self) -> Option<(Turn, Keyword<'a>)>
-        ensures { MatchOption result
-            ((applicators_in self.old.members.now self.old.names.now ≡ [])
-            × (applicators_in self.new.members.now self.new.names.now ≡ []))
-            (λ m. (applicators_in self.old.members.now self.old.names.now
-            ≡ keyword_of m.1 ∷ applicators_in self.new.members.now self.new.names.now)
-            × (m.0 ≡ turn_of m.1.name.now)) }
+impl<'a> InTurn<'a> for Applying<'a> {
+    ghost use Rattle.std.specs.Prelude.{true};
+    ghost use Rattle.js_eval.specs.code.Applicator.{applicators_in};
+
+    ghost quiet = { true };
+
+    ghost left = { λ s. applicators_in s.members.now s.names.now };
+
+    #[inline(always)]
+    fn is_quiet() -> bool
+        ensures { result ≡ true }
     {
+        true
+    }
+
+    #[inline(always)]
+    fn start(names: &'a [KeywordName], members: &'a Members) -> Option<Applying<'a>> {
+        names_ascend(members);
+        if has_applicator(names) {
+            Some(Applying { names, members })
+        } else {
+            None
+        }
+    }
+
+    fn next(&mut self) -> Option<(Turn, Keyword<'a>)> {
         while let Some((which, others)) = self.names.split_first() {
             self.names = others;
             if let Some(keyword) = applicator_in(self.members, *which) {
@@ -39,8 +56,8 @@ impl<'a> Applying<'a> {
     }
 }
 
-/// Whether one of them applies schemas.
-pub(crate) fn has_applicator(names: &[KeywordName]) -> bool
+// Whether one of them applies schemas.
+fn has_applicator(names: &[KeywordName]) -> bool
     ensures { result ≡ has_applicator names.now }
 {
     names.iter().any(|which| applies(*which))

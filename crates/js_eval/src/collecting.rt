@@ -1,6 +1,7 @@
 //! The reporter that passes the result of a walk to a collector.
 ghost use Rattle.std.specs.Prelude.{◌≡◌, IfOk};
 
+use crate::every::Every;
 use crate::here::Here;
 use crate::instance::Instance;
 use crate::keyword::Keyword;
@@ -19,19 +20,14 @@ pub(crate) struct Collecting<'a, C> {
     pub notes: PhantomData<&'a Doc>,
 }
 
-impl<'a, C: Collector<'a>> Reporter<Here<'a>, HeldText> for Collecting<'a, C> {
+impl<'a, C: Collector<'a>> Reporter<Here<'a, Every<'a>>, HeldText> for Collecting<'a, C> {
     ghost takes = { λ c e d. C.takes c.collector e d.collector };
-
-    #[inline(always)]
-    fn is_quiet(&self) -> bool {
-        false
-    }
 
     #[inline(never)]
     fn open_schema(
         &mut self,
         alloc: Global,
-        world: &Here<'a>,
+        world: &Here<'a, Every<'a>>,
         place: Place,
         keyword_location: &Trail<HeldText>,
         instance_location: &Trail<HeldText>,
@@ -45,7 +41,7 @@ impl<'a, C: Collector<'a>> Reporter<Here<'a>, HeldText> for Collecting<'a, C> {
     fn open_keyword(
         &mut self,
         alloc: Global,
-        world: &Here<'a>,
+        world: &Here<'a, Every<'a>>,
         place: Place,
         keyword: Keyword<'a>,
         keyword_location: &Trail<HeldText>,
@@ -60,7 +56,7 @@ impl<'a, C: Collector<'a>> Reporter<Here<'a>, HeldText> for Collecting<'a, C> {
     fn close_keyword(
         &mut self,
         alloc: Global,
-        world: &Here<'a>,
+        world: &Here<'a, Every<'a>>,
         place: Place,
         value: Instance<'a>,
         keyword: Keyword<'a>,
@@ -79,7 +75,7 @@ impl<'a, C: Collector<'a>> Reporter<Here<'a>, HeldText> for Collecting<'a, C> {
     fn close_schema(
         &mut self,
         alloc: Global,
-        world: &Here<'a>,
+        world: &Here<'a, Every<'a>>,
         place: Place,
         schema: &'a Doc,
         valid: bool,

@@ -15,6 +15,7 @@ use crate::answers::keep_all;
 use crate::bundled::names_at;
 use crate::counted;
 use crate::cursor::{Asking, next_asked};
+use crate::in_turn::InTurn;
 use crate::instance::{Applied, Instance};
 use crate::keyword::{Keyword, is_written_as_it_is};
 use crate::keyword_cursor::Keywords;
@@ -29,15 +30,17 @@ use js_bundle::{Place, Schemas, Step};
 use js_doc::{Doc, Memory, Text, push_fragment_token};
 use js_tree::Note;
 use std::alloc::Global;
+use std::marker::PhantomData;
 
 /// Finished schemas, and the searchers for their patterns. `'a` is the lifetime of the schemas and of the instance.
 #[derive(Drop)]
-pub(crate) struct Here<'a> {
+pub(crate) struct Here<'a, S> {
     pub schemas: &'a Schemas,
     pub searchers: Searchers<'a>,
+    pub visited: PhantomData<S>,
 }
 
-impl<'a> World for Here<'a> {
+impl<'a, S: InTurn<'a> + Drop> World for Here<'a, S> {
     ghost use Rattle.js_bundle.specs.Schemas.{is_place};
     ghost use Rattle.js_doc.specs.Seen as seen;
     ghost use Rattle.js_eval.specs.code.Applied.{applied_of};
@@ -55,7 +58,7 @@ impl<'a> World for Here<'a> {
 
     type Keyword = Keyword<'a>;
 
-    type Keywords = Keywords<'a>;
+    type Keywords = Keywords<'a, S>;
 
     type Application = Applied<'a>;
 
@@ -77,7 +80,9 @@ impl<'a> World for Here<'a> {
 
     ghost keyword_of = { keyword_of };
 
-    ghost listed = { left.keywords_in };
+    ghost listed = { left.keywords_in S.left };
+
+    ghost quiet = { S.quiet };
 
     ghost application_of = { λ h a. applied_of h.schemas.now a };
 
@@ -109,15 +114,19 @@ impl<'a> World for Here<'a> {
     }
 
     #[tactic(auto, unfolding(crate::specs::Walk::Told::keywords_at))]
-    fn keywords(&self, place: Place, schema: &'a Doc, quiet: bool) -> Keywords<'a> {
-        Keywords::new(names_at(self.schemas, place), schema, quiet)
+    fn keywords(&self, place: Place, schema: &'a Doc) -> Keywords<'a, S> {
+        Keywords::new(names_at(self.schemas, place), schema)
     }
 
-    fn is_done(&self, keywords: &Keywords<'a>) -> bool {
+    fn is_quiet(&self) -> bool {
+        S::is_quiet()
+    }
+
+    fn is_done(&self, keywords: &Keywords<'a, S>) -> bool {
         keywords.is_done()
     }
 
-    fn next_keyword(&self, keywords: &mut Keywords<'a>) -> Option<Keyword<'a>> {
+    fn next_keyword(&self, keywords: &mut Keywords<'a, S>) -> Option<Keyword<'a>> {
         keywords.next()
     }
 
@@ -301,7 +310,7 @@ fn go<'a, H: PointerText + Drop>(
     }
 }
 
-impl Here<'_> {
+impl<S> Here<'_, S> {
     /// The absolute keyword location of the schema at a place (Core, section 12.3.2).
     ///
     /// # Errors

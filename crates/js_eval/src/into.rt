@@ -2,15 +2,19 @@
 //! rows, in a collector, or as the verdict alone.
 ghost use Rattle.std.specs.Prelude.{◌≡◌, true, IfOk, IfErr, MatchResult};
 ghost use Rattle.js_doc.specs.Seen.{value_of};
+ghost use Rattle.js_tree.specs.Events.{Event};
 ghost use Rattle.js_bundle.specs.Schemas.{is_place};
 ghost use Rattle.js_eval.specs.Bundle.{schemas_of};
 ghost use Rattle.js_eval.specs.Sited.{numbered_site};
 ghost use Rattle.js_eval.specs.Walk.Reported.{Reported};
 ghost use Rattle.js_eval.specs.Walked.{AreResultRows, IsResultWithin, IsVerdict, LeadsTo, NoneStands, OnTooLarge};
 
+use crate::applying::Applying;
 use crate::bundled::schema_at;
 use crate::collecting::Collecting;
+use crate::every::Every;
 use crate::here::Here;
+use crate::in_turn::InTurn;
 use crate::instance::Instance;
 use crate::recording::Recording;
 use crate::searchers::Searchers;
@@ -42,6 +46,7 @@ pub fn walk_into<'a, C: Collector<'a>>(
     let here = Here {
         schemas,
         searchers: Searchers::new(alloc),
+        visited: PhantomData,
     };
     let mut collecting = Collecting {
         collector,
@@ -49,7 +54,7 @@ pub fn walk_into<'a, C: Collector<'a>>(
     };
     let schema = schema_at(schemas, place);
     let value = Instance::Doc(value);
-    let done = walk_from::<Here<'a>, HeldText, Collecting<'a, C>>(
+    let done = walk_from::<Here<'a, Every<'a>>, HeldText, Collecting<'a, C>>(
         alloc,
         &here,
         &mut collecting,
@@ -109,7 +114,13 @@ pub fn walk_rows<'a>(
         rows: RelativeRows::new(alloc, arena),
         token: String::new(alloc),
     };
-    let done = walk_to::<HeldText, Recording<'a>>(alloc, schemas, place, value, &mut recording);
+    let done = walk_to::<Every<'a>, HeldText, Recording<'a>>(
+        alloc,
+        schemas,
+        place,
+        value,
+        &mut recording,
+    );
     let Recording { rows, token: _ } = recording;
     match done {
         Ok(_) => Ok(rows),
@@ -132,21 +143,22 @@ pub fn verdict<'a>(
     ensures ok { IfOk result (λ b. IsVerdict schemas.now place (value_of value.now) b) }
     ensures too_large { IfErr result (λ e. OnTooLarge e (NoneStands schemas.now place (value_of value.now))) }
 {
-    match walk_to::<UnseenText, Silent>(alloc, schemas, place, value, &mut Silent) {
+    match walk_to::<Applying<'a>, UnseenText, Silent>(alloc, schemas, place, value, &mut Silent) {
         Ok(valid) => Ok(valid),
         Err(fault) => Err(fault),
     }
 }
 
 // Evaluates the schema at the place on the value, and reports the result node by node.
-fn walk_to<'a, H: PointerText + Drop, R: Reporter<Here<'a>, H>>(
+fn walk_to<'a, S: InTurn<'a> + Drop, H: PointerText + Drop, R: Reporter<Here<'a, S>, H>>(
     alloc: Global,
     schemas: &'a Schemas,
     place: Place,
     value: &'a Doc,
     reporter: &mut R,
 ) -> Result<bool, WalkFault>
-    requires { is_place schemas.now place ≡ true }
+    requires quiet { S.quiet ≡ true → (c d : R) (e : Event) → R.takes c e d }
+    requires place { is_place schemas.now place ≡ true }
     ensures { MatchResult result
         (λ valid. Reported (schemas_of schemas.now) (numbered_site schemas.now place) (value_of value.now)
         R.takes valid reporter.old reporter.new)
@@ -155,10 +167,11 @@ fn walk_to<'a, H: PointerText + Drop, R: Reporter<Here<'a>, H>>(
     let here = Here {
         schemas,
         searchers: Searchers::new(alloc),
+        visited: PhantomData,
     };
     let schema = schema_at(schemas, place);
     let value = Instance::Doc(value);
-    match walk_from::<Here<'a>, H, R>(alloc, &here, reporter, place, schema, value) {
+    match walk_from::<Here<'a, S>, H, R>(alloc, &here, reporter, place, schema, value) {
         Ok(valid) => Ok(valid),
         Err(fault) => Err(fault),
     }

@@ -4,82 +4,66 @@ ghost use Rattle.js_assert.specs.Argument.{entries};
 ghost use Rattle.js_doc.specs.Members.{IsAscending};
 ghost use Rattle.js_doc.specs.Seen.{value_of};
 ghost use Rattle.js_eval.specs.Keywords as table;
-ghost use Rattle.js_eval.specs.code.KeywordsLeft.{kept_or, keywords_in, keywords_left, members_left};
+ghost use Rattle.js_eval.specs.code.KeywordsLeft.{kept_or, keywords_in, keywords_left};
 ghost use Rattle.js_eval.specs.code.Standard.{keyword_names_of};
 ghost use Rattle.js_eval.specs.code.Turns.{ever, in_order};
 ghost use Rattle.js_eval.specs.Seen.{keyword_of};
 ghost use Rattle.js_eval.specs.Walk.Visited.{is_visited};
 
-use crate::applying::{Applying, has_applicator};
-use crate::in_turn::{Every, InTurn};
+use crate::in_turn::InTurn;
 use crate::instance::object_in;
 use crate::keyword::Keyword;
-use crate::name_cursor::names_ascend;
 use crate::turn::{Turn, is_ever};
 use js_bundle::KeywordName;
 use js_doc::{Doc, Members};
 
 /// The keywords of a schema that are still to come.
 #[derive(Drop)]
-pub(crate) enum Keywords<'a> {
+pub(crate) enum Keywords<'a, S> {
     /// There is none: the schema is `true` or `false`, or the walk visits none of its keywords.
     Nothing,
     /// The keywords of an object.
-    Of(KeywordCursor<'a>),
+    Of(KeywordCursor<'a, S>),
 }
 
 /// The keywords of an object that are still to come. They ascend by name, except that `else` comes right after `if`.
 /// One pass over the members is enough: `else` is kept until the first name after `if`, and then that keyword is kept
 /// until `else` is out.
 #[derive(Drop)]
-pub(crate) struct KeywordCursor<'a> {
+pub(crate) struct KeywordCursor<'a, S> {
     pub is_past_if: bool,
     pub kept: Option<Keyword<'a>>,
-    pub left: InTurn<'a>,
+    pub left: S,
 }
 
-impl<'a> Keywords<'a> {
+impl<'a, S: InTurn<'a> + Drop> Keywords<'a, S> {
     /// The keywords of a schema that a walk visits. `names`: which keyword of the standard each of its members is.
-    pub fn new(names: &'a [KeywordName], schema: &'a Doc, quiet: bool) -> Keywords<'a>
+    pub fn new(names: &'a [KeywordName], schema: &'a Doc) -> Keywords<'a, S>
         requires { names.now ≡ keyword_names_of (entries (value_of schema.now)) }
-        ensures all { keywords_in result ≡ filter (is_visited quiet) (table.keywords (value_of schema.now)) }
+        ensures all { keywords_in S.left result ≡ filter (is_visited S.quiet) (table.keywords (value_of schema.now)) }
         ensures ascending { IsAscending (entries (value_of schema.now)) }
     {
         match object_in(schema) {
-            Some(members) => Keywords::among(names, members, quiet),
+            Some(members) => Keywords::among(names, members),
             None => Keywords::Nothing,
         }
     }
 
-    fn among(names: &'a [KeywordName], members: &'a Members, quiet: bool) -> Keywords<'a>
+    fn among(names: &'a [KeywordName], members: &'a Members) -> Keywords<'a, S>
         requires { names.now ≡ keyword_names_of members.now }
-        ensures all { keywords_in result ≡ in_order (filter (is_visited quiet) members.now) }
+        ensures all { keywords_in S.left result ≡ in_order (filter (is_visited S.quiet) members.now) }
         ensures ascending { IsAscending members.now }
     {
-        if quiet {
-            Keywords::applying(names, members)
-        } else {
-            Keywords::Of(KeywordCursor::new(InTurn::Every(Every::new(names, members))))
-        }
-    }
-
-    fn applying(names: &'a [KeywordName], members: &'a Members) -> Keywords<'a>
-        requires { names.now ≡ keyword_names_of members.now }
-        ensures all { keywords_in result ≡ in_order (filter (is_visited true) members.now) }
-        ensures ascending { IsAscending members.now }
-    {
-        names_ascend(members);
-        if has_applicator(names) {
-            Keywords::Of(KeywordCursor::new(InTurn::Applying(Applying { names, members })))
-        } else {
-            Keywords::Nothing
+        match S::start(names, members) {
+            Some(left) => Keywords::Of(KeywordCursor::new(left)),
+            None => Keywords::Nothing,
         }
     }
 
     /// Whether there is no cursor, so that no keyword is left.
     #[inline(always)]
     pub fn is_done(&self) -> bool
-        ensures { result ≡ true → keywords_in self.now ≡ [] }
+        ensures { result ≡ true → keywords_in S.left self.now ≡ [] }
     {
         matches!(self, Keywords::Nothing)
     }
@@ -87,8 +71,8 @@ impl<'a> Keywords<'a> {
     /// The next keyword. It isn't inlined, to keep its locals out of the recursive function's stack frame.
     #[inline(never)]
     pub fn next(&mut self) -> Option<Keyword<'a>>
-        ensures { MatchOption result (keywords_in self.old ≡ [])
-            (λ k. keywords_in self.old ≡ keyword_of k ∷ keywords_in self.new) }
+        ensures { MatchOption result (keywords_in S.left self.old ≡ [])
+            (λ k. keywords_in S.left self.old ≡ keyword_of k ∷ keywords_in S.left self.new) }
     {
         match self {
             Keywords::Nothing => None,
@@ -97,10 +81,10 @@ impl<'a> Keywords<'a> {
     }
 }
 
-impl<'a> KeywordCursor<'a> {
-    fn new(left: InTurn<'a>) -> KeywordCursor<'a>
-        requires { IsAscending (members_left left) }
-        ensures { keywords_left result ≡ in_order (members_left left.entry) }
+impl<'a, S: InTurn<'a> + Drop> KeywordCursor<'a, S> {
+    fn new(left: S) -> KeywordCursor<'a, S>
+        requires { IsAscending (S.left left) }
+        ensures { keywords_left S.left result ≡ in_order (S.left left) }
     {
         KeywordCursor {
             is_past_if: false,
@@ -110,8 +94,8 @@ impl<'a> KeywordCursor<'a> {
     }
 
     fn next(&mut self) -> Option<Keyword<'a>>
-        ensures { MatchOption result (keywords_left self.old ≡ [])
-            (λ k. keywords_left self.old ≡ keyword_of k ∷ keywords_left self.new) }
+        ensures { MatchOption result (keywords_left S.left self.old ≡ [])
+            (λ k. keywords_left S.left self.old ≡ keyword_of k ∷ keywords_left S.left self.new) }
     {
         if self.is_past_if {
             self.next_after_if()
@@ -122,8 +106,8 @@ impl<'a> KeywordCursor<'a> {
 
     fn next_up_to_if(&mut self) -> Option<Keyword<'a>>
         requires { self.old.is_past_if ≡ false }
-        ensures { MatchOption result (keywords_left self.old ≡ [])
-            (λ k. keywords_left self.old ≡ keyword_of k ∷ keywords_left self.new) }
+        ensures { MatchOption result (keywords_left S.left self.old ≡ [])
+            (λ k. keywords_left S.left self.old ≡ keyword_of k ∷ keywords_left S.left self.new) }
     {
         while let Some((turn, keyword)) = self.left.next() {
             match turn {
@@ -142,8 +126,8 @@ impl<'a> KeywordCursor<'a> {
 
     fn next_after_if(&mut self) -> Option<Keyword<'a>>
         requires { self.old.is_past_if ≡ true }
-        ensures { MatchOption result (keywords_left self.old ≡ [])
-            (λ k. keywords_left self.old ≡ keyword_of k ∷ keywords_left self.new) }
+        ensures { MatchOption result (keywords_left S.left self.old ≡ [])
+            (λ k. keywords_left S.left self.old ≡ keyword_of k ∷ keywords_left S.left self.new) }
     {
         match self.kept {
             Some(keyword) => {
@@ -181,9 +165,9 @@ fn kept_before<'a>(kept: &mut Option<Keyword<'a>>, keyword: Keyword<'a>) -> Keyw
 }
 
 // The next member that has a node.
-fn next_ever<'a>(left: &mut InTurn<'a>) -> Option<Keyword<'a>>
-    ensures { MatchOption result (ever (members_left left.old) ≡ [])
-        (λ k. ever (members_left left.old) ≡ keyword_of k ∷ ever (members_left left.new)) }
+fn next_ever<'a, S: InTurn<'a> + Drop>(left: &mut S) -> Option<Keyword<'a>>
+    ensures { MatchOption result (ever (S.left left.old) ≡ [])
+        (λ k. ever (S.left left.old) ≡ keyword_of k ∷ ever (S.left left.new)) }
 {
     while let Some((turn, keyword)) = left.next() {
         if is_ever(turn) {

@@ -15,6 +15,7 @@ mod by_name;
 mod collecting;
 mod counted;
 mod cursor;
+mod every;
 mod here;
 mod in_turn;
 mod instance;

@@ -3,6 +3,7 @@ ghost use Rattle.std.specs.Prelude.{◌≡◌, OnOk, string_bytes};
 ghost use Rattle.js_doc.specs.Fragment.{fragment_token};
 ghost use Rattle.js_tree.specs.RelativeState.{relative_after, relative_state};
 
+use crate::every::Every;
 use crate::here::Here;
 use crate::instance::Instance;
 use crate::keyword::{Keyword, is_written_as_it_is};
@@ -22,19 +23,14 @@ pub(crate) struct Recording<'a> {
     pub token: String,
 }
 
-impl<'a> Reporter<Here<'a>, HeldText> for Recording<'a> {
+impl<'a> Reporter<Here<'a, Every<'a>>, HeldText> for Recording<'a> {
     ghost takes = { λ c e d. relative_state d.rows ≡ relative_after (relative_state c.rows) e };
-
-    #[inline(always)]
-    fn is_quiet(&self) -> bool {
-        false
-    }
 
     #[inline(never)]
     fn open_schema(
         &mut self,
         _alloc: Global,
-        world: &Here<'a>,
+        world: &Here<'a, Every<'a>>,
         place: Place,
         keyword_location: &Trail<HeldText>,
         instance_location: &Trail<HeldText>,
@@ -52,7 +48,7 @@ impl<'a> Reporter<Here<'a>, HeldText> for Recording<'a> {
     fn open_keyword(
         &mut self,
         _alloc: Global,
-        world: &Here<'a>,
+        world: &Here<'a, Every<'a>>,
         place: Place,
         keyword: Keyword<'a>,
         keyword_location: &Trail<HeldText>,
@@ -72,7 +68,7 @@ impl<'a> Reporter<Here<'a>, HeldText> for Recording<'a> {
     fn close_keyword(
         &mut self,
         alloc: Global,
-        world: &Here<'a>,
+        world: &Here<'a, Every<'a>>,
         place: Place,
         value: Instance<'a>,
         keyword: Keyword<'a>,
@@ -92,7 +88,7 @@ impl<'a> Reporter<Here<'a>, HeldText> for Recording<'a> {
     fn close_schema(
         &mut self,
         alloc: Global,
-        world: &Here<'a>,
+        world: &Here<'a, Every<'a>>,
         place: Place,
         schema: &'a Doc,
         valid: bool,

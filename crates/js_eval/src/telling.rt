@@ -20,6 +20,7 @@ ghost use Rattle.js_eval.specs.Walk.Told.{IsKeywordAt, says_at};
 ghost use Rattle.js_tree.specs.Seen.{note_of};
 
 use crate::counted::holds;
+use crate::every::Every;
 use crate::here::Here;
 use crate::instance::Instance;
 use crate::keyword::Keyword;
@@ -44,7 +45,7 @@ use std::collections::BTreeSet;
 #[tactic(auto, unfolding(crate::specs::Walk::Told::says_at))]
 pub(crate) fn keyword_note<'a>(
     alloc: Global,
-    here: &Here<'a>,
+    here: &Here<'a, Every<'a>>,
     place: Place,
     value: Instance<'a>,
     keyword: Keyword<'a>,
@@ -344,7 +345,7 @@ fn add_name_if<'a>(names: &mut Vec<&'a str>, wanted: bool, name: &'a str) -> Res
 // The error of the keyword's assertion, if it makes one and the value doesn't satisfy it.
 fn error_at(
     alloc: Global,
-    here: &Here<'_>,
+    here: &Here<'_, Every<'_>>,
     place: Place,
     value: Instance<'_>,
     keyword: Keyword<'_>,

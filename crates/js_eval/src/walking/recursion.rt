@@ -3,6 +3,7 @@
 //! No bound names a lifetime, so that they may be recursive. A nested schema application takes one call of each.
 ghost use Rattle.std.specs.Prelude.{◌≡◌, ◌≤◌, true, map, length, drop, nat_eq, MatchResult};
 ghost use Rattle.std.specs.List.{dedup, list_all};
+ghost use Rattle.js_tree.specs.Events.{Event};
 ghost use Rattle.js_eval.specs.Walk.Steps.{NodeDone, KeywordDone, EachDone};
 ghost use Rattle.js_eval.specs.Walk.Told.{IsKeywordAt, HasNone, KeywordHasNone, SomeHasNone, asked_by};
 ghost use Rattle.js_eval.specs.Walked.{OnTooLarge};
@@ -37,6 +38,7 @@ pub(crate) fn node<W: World, H: PointerText + Drop, R: Reporter<W, H>>(
     schema: W::Schema,
     value: W::Value,
 ) -> Result<bool, WalkFault>
+    requires quiet { W.quiet ≡ true → (c d : R) (e : Event) → R.takes c e d }
     requires path { list_all (W.is_place world.now) way.old.path ≡ true }
     requires scope { way.old.scope ≡ dedup nat_eq (map (W.resource world.now) way.old.path) }
     requires place { W.is_place world.now place ≡ true }
@@ -53,8 +55,8 @@ pub(crate) fn node<W: World, H: PointerText + Drop, R: Reporter<W, H>>(
     if way.left == 0 {
         return Err(WalkFault::TooLarge);
     }
-    let quiet = into.is_quiet();
-    let keywords = world.keywords(place, schema, quiet);
+    let quiet = world.is_quiet();
+    let keywords = world.keywords(place, schema);
     if quiet && world.is_done(&keywords) {
         return leaf(alloc, world, way, place, schema, value);
     }
@@ -112,6 +114,7 @@ pub(crate) fn keyword_node<W: World, H: PointerText + Drop, R: Reporter<W, H>>(
     start: Start,
     known: Known,
 ) -> Result<Judged, WalkFault>
+    requires quiet { W.quiet ≡ true → (c d : R) (e : Event) → R.takes c e d }
     requires path { list_all (W.is_place world.now) way.old.path ≡ true }
     requires scope { way.old.scope ≡ dedup nat_eq (map (W.resource world.now) way.old.path) }
     requires place { W.is_place world.now case.place ≡ true }
@@ -174,6 +177,7 @@ pub(crate) fn applications<W: World, H: PointerText + Drop, R: Reporter<W, H>>(
     kind: Kind,
     asking: &mut W::Asking,
 ) -> Result<Tally, WalkFault>
+    requires quiet { W.quiet ≡ true → (c d : R) (e : Event) → R.takes c e d }
     requires path { list_all (W.is_place world.now) way.old.path ≡ true }
     requires scope { way.old.scope ≡ dedup nat_eq (map (W.resource world.now) way.old.path) }
     requires asking { W.is_asking world.now asking.old }

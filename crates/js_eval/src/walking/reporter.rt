@@ -17,10 +17,6 @@ pub(crate) trait Reporter<W: World, H: PointerText + Drop> {
     /// Whether an event leads from one state of the reporter to another. It holds of each call that returns Ok.
     ghost takes: { Self → Event → Self → Type 0 };
 
-    /// Whether the reporter ignores all events, so that a walk needn't visit keywords that apply no schemas.
-    fn is_quiet(&self) -> bool
-        ensures { result ≡ true → (c d : Self) (e : Event) → takes c e d };
-
     /// The node of a schema opens.
     fn open_schema(
         &mut self,

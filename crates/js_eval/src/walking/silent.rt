@@ -15,11 +15,6 @@ pub(crate) struct Silent;
 impl<W: World, H: PointerText + Drop> Reporter<W, H> for Silent {
     ghost takes = { λ _ _ _. Unit {0} };
 
-    #[inline(always)]
-    fn is_quiet(&self) -> bool {
-        true
-    }
-
     fn open_schema(
         &mut self,
         _alloc: Global,

@@ -1,5 +1,6 @@
 //! The start of a walk.
 ghost use Rattle.std.specs.Prelude.{◌≡◌, [], true, MatchResult};
+ghost use Rattle.js_tree.specs.Events.{Event};
 ghost use Rattle.js_eval.specs.Location.{at_root};
 ghost use Rattle.js_eval.specs.Result.{ResultTree, IsResult, IsWithinLimits};
 ghost use Rattle.js_eval.specs.Walked.{OnTooLarge};
@@ -35,6 +36,7 @@ pub(crate) fn walk_from<W: World, H: PointerText + Drop, R: Reporter<W, H>>(
     schema: W::Schema,
     value: W::Value,
 ) -> Result<bool, WalkFault>
+    requires quiet { W.quiet ≡ true → (c d : R) (e : Event) → R.takes c e d }
     requires place { W.is_place world.now place ≡ true }
     requires schema { W.stands_at world.now place schema }
     ensures { MatchResult result

@@ -65,6 +65,9 @@ pub(crate) trait World {
 
     ghost listed: { Self.Keywords → List table.Keyword };
 
+    /// Whether a walk visits those keywords alone that may apply schemas.
+    ghost quiet: { Bool };
+
     ghost application_of: { Self → Self.Application → Applied Site };
 
     ghost place_of: { Self.Application → ℕ };
@@ -87,9 +90,13 @@ pub(crate) trait World {
         requires { is_place self.now place ≡ true }
         ensures { result ≡ resource self.now place };
 
+    /// Whether a walk is quiet: it visits those keywords alone that may apply schemas.
+    fn is_quiet(&self) -> bool
+        ensures { result ≡ quiet };
+
     /// The keywords of a schema that a walk visits, in the order of their nodes: all that have a node, or, if it is
     /// quiet, those alone that may apply schemas.
-    fn keywords(&self, place: Place, schema: Self::Schema, quiet: bool) -> Self::Keywords
+    fn keywords(&self, place: Place, schema: Self::Schema) -> Self::Keywords
         requires place { is_place self.now place ≡ true }
         requires schema { stands_at self.now place schema }
         ensures listed { listed result

@@ -1,10 +1,16 @@
-use Rattle.std.proofs.Common.{filter, sym, ◌∙◌, ap}
+use Rattle.std.proofs.Common.{filter, sym, ◌∙◌, ap, subst}
+use Rattle.js_doc.specs.Members.{IsAscending}
 use Rattle.js_eval.specs.code.Turns.{in_order}
 use Rattle.js_eval.specs.Walk.Visited.{is_visited}
-use Rattle.js_eval.proofs.Applicators.{all_visited}
+use Rattle.js_eval.proofs.Applicators.{chosen_ascend}
 use Rattle.js_eval.proofs.keyword_cursor.Keywords.among.Goals as goal
 
-pub returns-else-quiet-clause-all : goal.returns-else-quiet-clause-all
-returns-else-quiet-clause-all c =
-    let ms = c.args.members.now in
-    c.new-else-quiet.ensures ∙ ap in_order (c.new.ensures.all ∙ sym (ap (λ q. filter (is_visited q) ms) c.if-quiet.false ∙ all_visited ms))
+pub new-requires : goal.new-requires
+new-requires g c =
+    subst IsAscending (sym c.in-Some.ensures.all) (chosen_ascend (is_visited g.S.InTurn.quiet) c.args.members.now c.start.ensures.ascending)
+
+pub returns-in-Some-clause-all : goal.returns-in-Some-clause-all
+returns-in-Some-clause-all g c = c.new.ensures ∙ ap in_order c.in-Some.ensures.all
+
+pub returns-in-None-clause-all : goal.returns-in-None-clause-all
+returns-in-None-clause-all g c = sym (ap in_order c.in-None.ensures.all)

@@ -7,6 +7,6 @@ use Rattle.js_eval.proofs.Applicators.{chosen_in_order}
 use Rattle.js_eval.proofs.keyword_cursor.Keywords.new.Goals as goal
 
 pub returns-in-Some-clause-all : goal.returns-in-Some-clause-all
-returns-in-Some-clause-all c =
-    let visited = is_visited c.args.quiet in
+returns-in-Some-clause-all g c =
+    let visited = is_visited g.S.InTurn.quiet in
     c.among.ensures.all ∙ (ap (λ ms. in_order (filter visited ms)) c.in-Some.ensures ∙ chosen_in_order visited (entries (value_of c.args.schema.now)))

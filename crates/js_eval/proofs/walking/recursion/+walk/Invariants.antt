@@ -31,7 +31,7 @@ decreases-applications-each g l = length (g.W.World.asked l.world l.asking)
 abbrev pub invariant-node-keywords : goal.invariant-node-keywords
 invariant-node-keywords g l =
     record {
-      loop : KeywordsLoop (g.W.World.schemas l.world) (l.depth - 1) (map (g.W.World.site l.world) l.fn.way.path) (g.W.World.site l.world l.place) (g.W.World.value_of l.value) l.quiet g.R.Reporter.takes (g.W.World.listed l.judging.keywords) l.judging.known.valid l.judging.known.condition l.judging.known.matching
+      loop : KeywordsLoop (g.W.World.schemas l.world) (l.depth - 1) (map (g.W.World.site l.world) l.fn.way.path) (g.W.World.site l.world l.place) (g.W.World.value_of l.value) g.W.World.quiet g.R.Reporter.takes (g.W.World.listed l.judging.keywords) l.judging.known.valid l.judging.known.condition l.judging.known.matching
           (map g.W.World.text_of l.fn.way.names.items) (map g.W.World.text_of l.way.names.items) l.fn.way.indexes.items l.way.indexes.items l.fn.way.left l.way.left l.fn.way.keyword l.fn.way.instance l.fn.into l.into;
       path : l.way.path ≡ l.fn.way.path ++ l.place ∷ [];
       scope : HasGrown l.fn.way.scope (g.W.World.resource l.world l.place) l.way.scope;

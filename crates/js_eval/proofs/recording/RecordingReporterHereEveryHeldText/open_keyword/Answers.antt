@@ -2,7 +2,7 @@ use Rattle.std.proofs.Common.{◌++◌, ◌∙◌, ap}
 use Rattle.js_tree.specs.RelativeState.{relative_state}
 use Rattle.js_eval.proofs.OpeningsAlike.{opening_alike}
 use Rattle.js_eval.proofs.Paths.{keyword_location_is}
-use Rattle.js_eval.proofs.recording.RecordingReporterHereHeldText.open_keyword.Goals as goal
+use Rattle.js_eval.proofs.recording.RecordingReporterHereEveryHeldText.open_keyword.Goals as goal
 
 pub returns : goal.returns
 returns c =

@@ -2,7 +2,7 @@ use Rattle.std.proofs.Common.{◌∙◌, append-nil}
 use Rattle.js_tree.specs.RelativeState.{relative_state}
 use Rattle.js_eval.proofs.OpeningsAlike.{opening_alike}
 use Rattle.js_eval.proofs.Paths.{location_is}
-use Rattle.js_eval.proofs.recording.RecordingReporterHereHeldText.open_schema.Goals as goal
+use Rattle.js_eval.proofs.recording.RecordingReporterHereEveryHeldText.open_schema.Goals as goal
 
 pub returns : goal.returns
 returns c =
