@@ -37,3 +37,5 @@ pub mod DetailedTrees
 pub mod Differing
 pub mod Ordered
 pub mod Places
+pub mod LeftTrees
+pub mod KeptRows

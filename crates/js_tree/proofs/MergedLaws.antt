@@ -1,12 +1,15 @@
 -- The laws of the third rule, said of result trees.
 use Rattle.std.proofs.Common.{◌≡◌, ◌<◌, true, refl, ap, sym, ◌∙◌}
 use Rattle.js_tree.specs.Alike.{same_but_keyword}
-use Rattle.js_tree.specs.Forest.{node_count}
+use Rattle.js_tree.specs.Forest.{Forest, node_count}
+use Rattle.js_tree.specs.Merged.{MergeRun, condensed, ended, then_on}
 use Rattle.js_tree.specs.MergedResult.{merged, NormalOfThree, RunOfThree, StepOfThree}
 use Rattle.js_tree.specs.OutputUnit.{OutputUnit, noted}
-use Rattle.js_tree.specs.Result.{ResultTree}
+use Rattle.js_tree.specs.Result.{ResultTree, kept}
+use Rattle.js_tree.specs.Step.{ForestRun, done, next}
 use Rattle.js_tree.proofs.AlikeUnits.{same_but_keyword_equiv, same_but_keyword_decides}
 use Rattle.js_tree.proofs.Forests.{same_tree}
+use Rattle.js_tree.proofs.KeptTree.{kept_is_reached}
 use Rattle.js_tree.proofs.MergedTree.{merge_step-merged_below, merge_run-merged_below, normal-merged_below, merged_below_is_reached, merge_step_leaves_fewer, merged_below_is_normal}
 
 -- units that are the same but for their keyword locations have a note or have none
@@ -40,3 +43,12 @@ pub normal_end_of_three : (t u : ResultTree) → RunOfThree t u → NormalOfThre
 normal_end_of_three t u r n =
     same_tree (merged t) u r.0
     (sym (merge_run-merged_below noted same_but_keyword same_but_keyword_equiv same_notes r.1 ∙ normal-merged_below noted same_but_keyword same_but_keyword_equiv same_notes u.below n))
+
+-- a run of two rules is one of three
+run_of_two : {before f g : Forest OutputUnit} → ForestRun noted f g → MergeRun noted same_but_keyword before f g
+run_of_two done = ended
+run_of_two (next s r) = then_on (condensed s) (run_of_two r)
+
+-- so it changes nothing to condense by two rules first
+pub merged-kept : (t : ResultTree) → merged (kept t) ≡ merged t
+merged-kept t = run_of_three-merged t (kept t) (refl, run_of_two (kept_is_reached noted t.below))

@@ -8,6 +8,7 @@ pub mod Forest
 pub mod Form
 pub mod Holding
 pub mod Kept
+pub mod Left
 pub mod Locations
 pub mod Marks
 pub mod Merged

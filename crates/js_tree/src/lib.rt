@@ -27,6 +27,7 @@ mod order;
 mod pruning;
 mod putting;
 mod relative;
+mod relative_condensed;
 mod relative_detailed;
 mod relative_marks;
 mod relative_text;

@@ -37,7 +37,7 @@ struct OpenNode {
 /// and a few bytes of the arena, however deep it is.
 #[derive(Drop)]
 pub struct RelativeRows<'a> {
-    arena: &'a Bump,
+    pub(crate) arena: &'a Bump,
     pub(crate) rows: Vec<RelativeRow<'a>>,
     // The open nodes, the innermost last.
     nodes: Vec<OpenNode>,
