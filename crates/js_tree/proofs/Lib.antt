@@ -39,3 +39,4 @@ pub mod Ordered
 pub mod Places
 pub mod LeftTrees
 pub mod KeptRows
+pub mod CondensedRows
