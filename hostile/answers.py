@@ -6,6 +6,7 @@ import forms
 import moves
 from asked import EMBEDDED, SCOPES, TREES, lines
 from bundle import Bundle
+from jschema import USAGE
 from json_text import fragment, pointer_of, read, text
 from questions import Question, Table, in_turn, quiet
 from result import result
@@ -30,6 +31,7 @@ def tables():
     for row, (_, documents, _) in ROWS.items():
         yield Table(f"the result of {row}", list(of_result(row)), documents)
     yield from of_runs()
+    yield Table("the command", list(of_commands()))
 
 
 # A text, and the compact text of what it is read as.
@@ -255,3 +257,40 @@ def run_table(what, documents, entry, given, answer, written):
             asked(fails_write=k),
             told("failed: Write", (reads, k), f"{end}, {no_write}", (then, k), "(false, true)", begun)))
     return Table(f"a run of {what}: {reads} reads and {writes} writes, each failed in turn", table, documents)
+
+
+# What a command is asked for: its words, its input, and the read that fails. What comes of it: the status, the output
+# and the line.
+INTEGER = '{"type":"integer"}'
+REFUSED = 'refused: document 0 at "/type": BadKeyword'
+COMMANDS = (
+    (("check",), "", 0, 2, "", USAGE),
+    (("places", cases.U), "", 0, 2, "", "usage: URI and FILE come in pairs"),
+    (("check", "flag", "instance", cases.U, cases.U, "refused"), "", 0, 3, "", REFUSED),
+    (("check", "flag", "large", cases.U, cases.U, "refused"), "", 0, 3, "", "refused: input: InputTooLarge"),
+    (("suite", "missing", cases.U, "refused"), "", 0, 4, "", "failed: Read"),
+    ((), INTEGER + "\n3", 1, 4, "", "failed: Read"),
+    ((), '{"type":[]}\n3', 0, 3, "", REFUSED),
+    ((), INTEGER + "\n3", 0, 0, '{"valid":true}\n', ""),
+    ((), INTEGER + '\n"x"', 0, 1, '{"valid":false}\n', ""),
+    (("places", cases.U, "schema"), "", 0, 0, cases.U + "#\n", ""),
+)
+
+
+def of_commands():
+    """The program's work over files and devices in memory. The output takes one byte a call: each write fails in turn,
+    and then the last flush, which counts only where all went well before."""
+    for words, given, fails_read, status, written, line in COMMANDS:
+        line += "\n" * bool(line)
+        calls = len(written) + 1
+        yield asked_of_command(words, given, fails_read, 0, (status, calls, written, line))
+        for k in range(1, calls):
+            yield asked_of_command(words, given, fails_read, k, (4, k, written[:k - 1], "failed: Write\n"))
+        end = (4, calls, written, "failed: Write\n") if written else (status, calls, written, line)
+        yield asked_of_command(words, given, fails_read, calls, end)
+
+
+def asked_of_command(words, given, fails_read, fails_write, answer):
+    status, calls, written, line = answer
+    return Question(("command", given, str(fails_read), str(fails_write), *words),
+                    f"{status}, {calls}; {written}; {line}")
