@@ -35,8 +35,8 @@ use std::alloc::Global;
 /// the members.
 const MANY_MORE: usize = 32;
 
-/// It goes through its names and looks each up among the members, if it has fewer names than this, or fewer than one for
-/// `PER_NAME` members. Otherwise it goes through both side by side.
+/// It goes through its names and looks each up among the members, if it has fewer names than this, or fewer than one
+/// for `PER_NAME` members. Otherwise it goes through both side by side.
 const FEW: usize = 6;
 
 const PER_NAME: usize = 2;
