@@ -6,7 +6,7 @@
 ghost use Rattle.std.specs.Prelude.{◌≡◌, [], ◌+◌, ◌<◌, ◌↔◌, IsTrue, Some, false, true};
 ghost use Rattle.js_tree.specs.Alike.{same_but_keyword};
 ghost use Rattle.js_tree.specs.Forest.{Forest, ◌⊹◌, node_count, tree};
-ghost use Rattle.js_tree.specs.Holding.{BoxedClosesAll, BoxedHolds, FlatHolds, RelativeHolds, VerdictHolds};
+ghost use Rattle.js_tree.specs.Holding.{BoxedClosesAll, BoxedHolds, FlatHolds, RelativeHolds, TrimmingHolds, VerdictHolds};
 ghost use Rattle.js_tree.specs.Relative.{IsLocated, placed_tree, relative_tree};
 ghost use Rattle.js_tree.specs.Result.{ResultTree, Normal, Run, Step, kept, moved, units};
 ghost use Rattle.js_tree.specs.declared.moves.Move.{Move};
@@ -14,6 +14,7 @@ ghost use Rattle.js_tree.specs.Merged.{alike, firsts, has_alike};
 ghost use Rattle.js_tree.specs.MergedResult.{merged, without_keywords, NormalOfThree, RunOfThree, StepOfThree};
 ghost use Rattle.js_tree.specs.Moves.{of_two};
 ghost use Rattle.js_tree.specs.OutputUnit.{OutputUnit};
+ghost use Rattle.js_tree.specs.Trimmed.{trimmed_tree};
 
 use crate::tree::Tree;
 
@@ -125,6 +126,17 @@ pub fn rows_are_the_flat_form()
 /// After the events of a tree whose locations go on from those above, the rows of `RelativeRows` are the tree's.
 pub fn relative_rows_are_those_of_the_tree()
     ensures { RelativeHolds }
+{}
+
+/// After the events of such a tree, a `RelativeRows` that trims has its trimmed tree's rows, but none if of that the
+/// root alone is left and has no note.
+pub fn trimming_rows_are_those_of_the_trimmed_tree()
+    ensures { TrimmingHolds }
+{}
+
+/// The locations of a trimmed tree go on from those above too.
+pub fn a_trimmed_tree_is_located()
+    ensures { (t : ResultTree) → IsLocated t → IsLocated (trimmed_tree t) }
 {}
 
 /// Nothing is lost: what the locations add, put behind those above, makes the tree again.
