@@ -32,6 +32,7 @@ pub mod RoomLeft
 pub mod RootBack
 pub mod Searching
 pub mod Siblings
+pub mod SilentLeaves
 pub mod Steps
 pub mod Telling
 pub mod TrimmedTold

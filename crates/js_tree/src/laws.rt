@@ -3,11 +3,14 @@
 //! A *step* applies a rule once, at one node below the root; a *run* is a sequence of steps. A tree is *normal* if no
 //! step is possible. The *kept tree* of a tree is what `condense` makes of it, and its *merged tree* what
 //! `merge_condense` makes of it.
-ghost use Rattle.std.specs.Prelude.{◌≡◌, [], ◌+◌, ◌<◌, ◌↔◌, IsTrue, Some, false, true};
+ghost use Rattle.std.specs.Prelude.{◌≡◌, [], ◌+◌, ◌<◌, ◌↔◌, Bool, IsTrue, List, Some, false, true, ℕ};
 ghost use Rattle.js_tree.specs.Alike.{same_but_keyword};
 ghost use Rattle.js_tree.specs.Forest.{Forest, ◌⊹◌, node_count, tree};
 ghost use Rattle.js_tree.specs.Holding.{BoxedClosesAll, BoxedHolds, FlatHolds, RelativeHolds, TrimmingHolds, VerdictHolds};
+ghost use Rattle.js_tree.specs.Events.{closing, opening};
+ghost use Rattle.js_tree.specs.Note.{silent};
 ghost use Rattle.js_tree.specs.Relative.{IsLocated, placed_tree, relative_tree};
+ghost use Rattle.js_tree.specs.RelativeState.{RelativeState, relative_after};
 ghost use Rattle.js_tree.specs.Result.{ResultTree, Normal, Run, Step, kept, moved, units};
 ghost use Rattle.js_tree.specs.declared.moves.Move.{Move};
 ghost use Rattle.js_tree.specs.Merged.{alike, firsts, has_alike};
@@ -132,6 +135,12 @@ pub fn relative_rows_are_those_of_the_tree()
 /// root alone is left and has no note.
 pub fn trimming_rows_are_those_of_the_trimmed_tree()
     ensures { TrimmingHolds }
+{}
+
+/// Where a `RelativeRows` trims, a node that opens and closes at once, without a note, leaves its state as it was.
+pub fn a_silent_leaf_leaves_nothing()
+    ensures { (s : RelativeState) (keyword absolute instance : List ℕ) (valid : Bool) → s.trims ≡ true
+        → relative_after (relative_after s (opening keyword absolute instance)) (closing valid silent) ≡ s }
 {}
 
 /// The locations of a trimmed tree go on from those above too.
