@@ -36,6 +36,7 @@ pub mod SilentLeaves
 pub mod Steps
 pub mod Telling
 pub mod TrimmedTold
+pub mod Trimming
 pub mod VerdictTold
 pub mod DetailedTrees
 pub mod Differing

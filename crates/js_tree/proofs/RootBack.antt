@@ -5,7 +5,7 @@ use Rattle.json.specs.Print.{escape}
 use Rattle.js_tree.specs.Events.{closing, opening}
 use Rattle.js_tree.specs.FlatState.{FlatRow}
 use Rattle.js_tree.specs.Forest.{Forest, empty, tree}
-use Rattle.js_tree.specs.Note.{Note, silent, error, value, names, index, indexes, truly, speaks}
+use Rattle.js_tree.specs.Note.{Note, silent}
 use Rattle.js_tree.specs.OutputUnit.{OutputUnit}
 use Rattle.js_tree.specs.RelativeState.{AreRowsOf, AreTrimmedOf, IsRootAt, OpenNode, RelativeState, relative_after, relative_row, relative_state, rows_of_tree, trimmed_relative, whole_relative}
 use Rattle.js_tree.specs.Result.{ResultTree}
@@ -14,21 +14,9 @@ use Rattle.js_tree.specs.declared.relative.RelativeRow.{RelativeRow}
 use Rattle.js_tree.specs.declared.relative.RelativeRows.{RelativeRows}
 use Rattle.js_tree.proofs.RelativeTold.{at}
 use Rattle.js_tree.proofs.TrimmedTold.{tree_located}
+use Rattle.js_tree.proofs.Trimming.{silent_leaf}
 
 -- ---- a root alone, without a note
-
-silent_note : (note : Note) → not (speaks note) ≡ true → note ≡ silent
-silent_note silent e = refl
-silent_note (error text) e = absurd cc
-silent_note (value v) e = absurd cc
-silent_note (names ns) e = absurd cc
-silent_note (index i) e = absurd cc
-silent_note (indexes is) e = absurd cc
-silent_note truly e = absurd cc
-
-pub silent_leaf : (u : OutputUnit) (f : Forest OutputUnit) → is_silent_leaf u f ≡ true → (f ≡ empty) × (u.note ≡ silent)
-silent_leaf u empty e = (refl, silent_note u.note e)
-silent_leaf u (tree v below rest) e = absurd cc
 
 abbrev unit_with : Bool → List ℕ → List ℕ → List ℕ → Note → OutputUnit
 unit_with valid keyword absolute instance note = record { valid = valid; keyword = keyword; absolute = absolute; instance = instance; note = note }

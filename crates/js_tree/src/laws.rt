@@ -11,7 +11,7 @@ ghost use Rattle.js_tree.specs.Events.{closing, opening};
 ghost use Rattle.js_tree.specs.Note.{silent};
 ghost use Rattle.js_tree.specs.Relative.{IsLocated, placed_tree, relative_tree};
 ghost use Rattle.js_tree.specs.RelativeState.{RelativeState, relative_after};
-ghost use Rattle.js_tree.specs.Result.{ResultTree, Normal, Run, Step, kept, moved, units};
+ghost use Rattle.js_tree.specs.Result.{ResultTree, Normal, Run, Step, kept, moved, pruned, units};
 ghost use Rattle.js_tree.specs.declared.moves.Move.{Move};
 ghost use Rattle.js_tree.specs.Merged.{alike, firsts, has_alike};
 ghost use Rattle.js_tree.specs.MergedResult.{merged, without_keywords, NormalOfThree, RunOfThree, StepOfThree};
@@ -141,6 +141,15 @@ pub fn trimming_rows_are_those_of_the_trimmed_tree()
 pub fn a_silent_leaf_leaves_nothing()
     ensures { (s : RelativeState) (keyword absolute instance : List ℕ) (valid : Bool) → s.trims ≡ true
         → relative_after (relative_after s (opening keyword absolute instance)) (closing valid silent) ≡ s }
+{}
+
+/// Trimming loses nothing that basic, detailed or merged shows: the trimmed tree, pruned, has the same noted units, the
+/// same kept tree and the same merged tree.
+pub fn a_trimmed_tree_shows_the_same()
+    ensures units { (t : ResultTree) → units (pruned (trimmed_tree t)) ≡ units (pruned t) }
+    ensures kept { (t : ResultTree) → kept (pruned (trimmed_tree t)) ≡ kept (pruned t) }
+    ensures merged { (t : ResultTree) → merged (pruned (trimmed_tree t)) ≡ merged (pruned t) }
+    ensures root { (t : ResultTree) → (pruned (trimmed_tree t)).root ≡ t.root }
 {}
 
 /// The locations of a trimmed tree go on from those above too.
