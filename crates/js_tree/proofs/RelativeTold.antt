@@ -10,7 +10,7 @@ use Rattle.js_tree.specs.Forest.{Forest, empty, tree, node_count}
 use Rattle.js_tree.specs.Note.{Note}
 use Rattle.js_tree.specs.OutputUnit.{OutputUnit}
 use Rattle.js_tree.specs.Relative.{escaped, escaped_unit, relative, relative_unit}
-use Rattle.js_tree.specs.RelativeState.{OpenNode, RelativeState, escaped_row, relative_start, whole_relative, open_at, node_above, relative_opened, relative_closed, relative_after, rows_closed, the_row_goes, relative_row, open_node, open_nodes, relative_state}
+use Rattle.js_tree.specs.RelativeState.{OpenNode, RelativeState, escaped_row, relative_start, whole_relative, open_at, node_above, relative_opened, relative_closed, relative_after, rows_closed, row_goes, relative_row, open_node, open_nodes, relative_state}
 use Rattle.js_tree.specs.Result.{ResultTree}
 use Rattle.js_tree.specs.declared.relative.OpenNode.{OpenNode as DeclaredOpen}
 use Rattle.js_tree.specs.declared.relative.RelativeRow.{RelativeRow}
@@ -77,22 +77,22 @@ innermost_is x (y ∷ []) nodes e = cc
 innermost_is x (y ∷ z ∷ ys) nodes e = innermost_is x (z ∷ ys) (open_node y ∷ nodes) (e ∙ ap (slice_get (y ∷ z ∷ ys)) (let a : suc (suc (length ys)) - 1 ≡ suc (suc (length ys) - 1) = omega (arith) in a))
 
 -- what isn't there doesn't go
-none_goes : (trims : Bool) (note : Note) → false ≡ the_row_goes trims note 0
+none_goes : (trims : Bool) (note : Note) → false ≡ row_goes trims note 0
 none_goes true note = refl
 none_goes false note = refl
 
 popped : {trims : Bool} (rows : List FlatRow) (os ps : List DeclaredOpen) (o : DeclaredOpen) (valid : Bool) (note : Note) (zs : List FlatRow) → os ≡ ps ++ o ∷ []
-    → zs ≡ rows_closed (the_row_goes trims note (length rows - o.number)) o.number valid note rows → at trims zs (open_nodes ps []) ≡ relative_closed trims rows (open_nodes os []) valid note
+    → zs ≡ rows_closed (row_goes trims note (length rows - o.number)) o.number valid note rows → at trims zs (open_nodes ps []) ≡ relative_closed trims rows (open_nodes os []) valid note
 popped {trims} rows os ps o valid note zs e f =
     ap (λ qs. at trims qs (open_nodes ps [])) f ∙ ap (λ ks. relative_closed trims rows ks valid note) (sym (ap (λ xs. open_nodes xs []) e ∙ open_nodes-append ps o []))
 
 -- what is said of the row's going
-goes_or_not : (trims : Bool) (rows : List RelativeRow) (o : DeclaredOpen) (note : Note) (size : ℕ) (b : Bool) → size ≡ length rows - o.number → b ≡ the_row_goes trims note size
-    → b ≡ the_row_goes trims note (length (map relative_row rows) - o.number)
-goes_or_not trims rows o note size b s g = g ∙ ap (the_row_goes trims note) (s ∙ ap (λ n. n - o.number) (sym (length-map rows relative_row)))
+goes_or_not : (trims : Bool) (rows : List RelativeRow) (o : DeclaredOpen) (note : Note) (size : ℕ) (b : Bool) → size ≡ length rows - o.number → b ≡ row_goes trims note size
+    → b ≡ row_goes trims note (length (map relative_row rows) - o.number)
+goes_or_not trims rows o note size b s g = g ∙ ap (row_goes trims note) (s ∙ ap (λ n. n - o.number) (sym (length-map rows relative_row)))
 
 pub closes : {trims : Bool} (rows : List RelativeRow) (os ps : List DeclaredOpen) (o : DeclaredOpen) (old new : RelativeRow) (valid : Bool) (note : Note) (size : ℕ) → os ≡ ps ++ o ∷ [] → o.number < length rows → size ≡ length rows - o.number
-    → false ≡ the_row_goes trims note size → old ≡ slice_index_or rows o.number old → relative_row new ≡ closed_row (relative_row old) valid note size
+    → false ≡ row_goes trims note size → old ≡ slice_index_or rows o.number old → relative_row new ≡ closed_row (relative_row old) valid note size
     → at trims (map relative_row (slice_set rows o.number new)) (open_nodes ps []) ≡ relative_closed trims (map relative_row rows) (open_nodes os []) valid note
 closes {trims} rows os ps o old new valid note size e lt s g i f =
     popped (map relative_row rows) os ps o valid note _ e
@@ -109,7 +109,7 @@ closes_beyond {trims} rows os ps o valid note e le =
     ∙ ap (λ b. rows_closed b o.number valid note (map relative_row rows)) (goes_or_not trims rows o note 0 false none (none_goes trims note)))
 
 -- the last row goes
-pub drops : {trims : Bool} (rows : List RelativeRow) (os ps : List DeclaredOpen) (o : DeclaredOpen) (new : List RelativeRow) (valid : Bool) (note : Note) (size : ℕ) → os ≡ ps ++ o ∷ [] → size ≡ length rows - o.number → true ≡ the_row_goes trims note size → new ≡ take o.number rows
+pub drops : {trims : Bool} (rows : List RelativeRow) (os ps : List DeclaredOpen) (o : DeclaredOpen) (new : List RelativeRow) (valid : Bool) (note : Note) (size : ℕ) → os ≡ ps ++ o ∷ [] → size ≡ length rows - o.number → true ≡ row_goes trims note size → new ≡ take o.number rows
     → at trims (map relative_row new) (open_nodes ps []) ≡ relative_closed trims (map relative_row rows) (open_nodes os []) valid note
 drops {trims} rows os ps o new valid note size e s g n =
     popped (map relative_row rows) os ps o valid note _ e

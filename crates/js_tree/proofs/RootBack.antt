@@ -54,12 +54,12 @@ no_rows (r ∷ rows) none = absurd (omega (arith, none))
 -- the root is left
 pub root_left : (rows : RelativeRows) (t : ResultTree) → length rows.rows.items ≢ 0 → AreTrimmedOf rows t → AreRowsOf rows (trimmed_tree t)
 root_left rows t there h = record {
-    rows_are =
+  rows_are =
       let all : (relative_state rows).rows ≡ rows_of_tree (trimmed_tree t) =
-        left_is (map relative_row rows.rows.items) t (is_silent_leaf t.root (trimmed t.below)) (rows_there rows.rows.items there) (ap (λ s. s.rows) h.trimmed_are, refl) in
+      left_is (map relative_row rows.rows.items) t (is_silent_leaf t.root (trimmed t.below)) (rows_there rows.rows.items there) (ap (λ s. s.rows) h.trimmed_are, refl) in
       ap (λ zs. at rows.trims zs (relative_state rows).nodes) all ∙ ap (λ os. at rows.trims (rows_of_tree (trimmed_tree t)) os) (ap (λ s. s.nodes) h.trimmed_are);
-    located = tree_located t h.located;
-  }
+  located = tree_located t h.located;
+}
 
 -- the root comes and goes where there are no rows
 root_alone : (absolute : List ℕ) (valid : Bool) → relative_after (relative_after (at false [] []) (opening [] (absolute ++ []) [])) (closing valid silent) ≡ whole_relative false (record { root = unit_with valid [] absolute [] silent; below = empty })
@@ -73,13 +73,13 @@ root_back old mid new absolute valid t none h r opened closed =
     let nodes : (relative_state old).nodes ≡ [] = ap (λ s. s.nodes) h.trimmed_are in
     let leaf = silent_leaf t.root (trimmed t.below) (gone_is (map relative_row old.rows.items) t (is_silent_leaf t.root (trimmed t.below)) rows (ap (λ s. s.rows) h.trimmed_are, refl)) in
     let own : trimmed_tree t ≡ record { root = unit_with valid [] absolute [] silent; below = empty } =
-      ap (λ f. record { root = t.root; below = f }) leaf.0 ∙ ap (λ u. record { root = u; below = empty }) (root_is t.root absolute valid r leaf.1) in
+    ap (λ f. record { root = t.root; below = f }) leaf.0 ∙ ap (λ u. record { root = u; below = empty }) (root_is t.root absolute valid r leaf.1) in
     let all : relative_state new ≡ whole_relative false (trimmed_tree t) =
-      closed
-      ∙ (ap (λ s. relative_after s (closing valid silent)) opened
-      ∙ (ap (λ zs. relative_after (relative_after (at false zs (relative_state old).nodes) (opening [] (absolute ++ []) [])) (closing valid silent)) rows
-      ∙ (ap (λ os. relative_after (relative_after (at false [] os) (opening [] (absolute ++ []) [])) (closing valid silent)) nodes
-      ∙ (root_alone absolute valid ∙ ap (whole_relative false) (sym own))))) in
+    closed
+    ∙ (ap (λ s. relative_after s (closing valid silent)) opened
+    ∙ (ap (λ zs. relative_after (relative_after (at false zs (relative_state old).nodes) (opening [] (absolute ++ []) [])) (closing valid silent)) rows
+    ∙ (ap (λ os. relative_after (relative_after (at false [] os) (opening [] (absolute ++ []) [])) (closing valid silent)) nodes
+    ∙ (root_alone absolute valid ∙ ap (whole_relative false) (sym own))))) in
     record {
       rows_are = all ∙ ap (λ trims. whole_relative trims (trimmed_tree t)) (sym (ap (λ s. s.trims) all));
       located = tree_located t h.located;

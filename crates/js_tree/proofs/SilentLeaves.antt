@@ -8,7 +8,7 @@ use Rattle.json.specs.Print.{escape}
 use Rattle.js_tree.specs.Events.{closing, opening}
 use Rattle.js_tree.specs.FlatState.{FlatRow, opening_row}
 use Rattle.js_tree.specs.Note.{silent}
-use Rattle.js_tree.specs.RelativeState.{OpenNode, RelativeState, escaped_row, node_above, open_at, open_node, open_nodes, relative_after, relative_closed, relative_opened, relative_row, relative_state, rows_closed, the_row_goes}
+use Rattle.js_tree.specs.RelativeState.{OpenNode, RelativeState, escaped_row, node_above, open_at, open_node, open_nodes, relative_after, relative_closed, relative_opened, relative_row, relative_state, rows_closed, row_goes}
 use Rattle.js_tree.specs.declared.note.Note.TheVariants as note
 use Rattle.js_tree.specs.declared.relative.OpenNode.{OpenNode as DeclaredOpen}
 use Rattle.js_tree.specs.declared.relative.RelativeRow.{RelativeRow}
@@ -23,7 +23,7 @@ one_more rows row = omega (arith, length-append rows (row ∷ []))
 goes_again : (rows : List FlatRow) (row : FlatRow) (nodes : List OpenNode) (keyword instance : List ℕ) (valid : Bool)
     → relative_closed true (rows ++ row ∷ []) (open_at (length rows) keyword instance ∷ nodes) valid silent ≡ at true rows nodes
 goes_again rows row nodes keyword instance valid =
-    ap (λ n. at true (rows_closed (the_row_goes true silent n) (length rows) valid silent (rows ++ row ∷ [])) nodes) (one_more rows row)
+    ap (λ n. at true (rows_closed (row_goes true silent n) (length rows) valid silent (rows ++ row ∷ [])) nodes) (one_more rows row)
     ∙ ap (λ zs. at true zs nodes) (take-append_seam rows (row ∷ []))
 
 comes_and_goes : (rows : List FlatRow) (nodes : List OpenNode) (keyword absolute instance : List ℕ) (valid : Bool)
@@ -56,12 +56,12 @@ row_is keyword absolute instance = ap (λ text. opening_row (escape keyword) tex
 -- the rows and the open nodes, of which neither a vector holds more than is possible
 abbrev rows_with : RelativeRows → (rows : List RelativeRow) → (nodes : List DeclaredOpen) → length rows < 2 ^ 63 → length nodes < 2 ^ 63 → RelativeRows
 rows_with old rows nodes few shallow = record {
-    arena = old.arena;
-    rows = record { ptr = old.rows.ptr; len = length rows; cap = length rows; alloc = old.rows.alloc; items = rows; ok = (refl, omega (arith)); small = few };
-    nodes = record { ptr = old.nodes.ptr; len = length nodes; cap = length nodes; alloc = old.nodes.alloc; items = nodes; ok = (refl, omega (arith)); small = shallow };
-    scratch = old.scratch;
-    trims = old.trims;
-  }
+  arena = old.arena;
+  rows = record { ptr = old.rows.ptr; len = length rows; cap = length rows; alloc = old.rows.alloc; items = rows; ok = (refl, omega (arith)); small = few };
+  nodes = record { ptr = old.nodes.ptr; len = length nodes; cap = length nodes; alloc = old.nodes.alloc; items = nodes; ok = (refl, omega (arith)); small = shallow };
+  scratch = old.scratch;
+  trims = old.trims;
+}
 
 -- some value has the state after a node has opened
 abbrev IsThere : RelativeState → Type 0
@@ -72,10 +72,9 @@ pushed : (old : RelativeRows) (rows : List RelativeRow) (nodes : List DeclaredOp
 pushed old rows nodes keyword absolute instance few shallow h =
     let above : OpenNode = node_above (open_nodes nodes []) in
     let row : RelativeRow = row_at (drop above.keyword keyword) absolute (drop above.instance instance) in
-    let node : DeclaredOpen = record { number = length rows; keyword = length keyword; instance = length instance } in
-    (
+    let node : DeclaredOpen = record { number = length rows; keyword = length keyword; instance = length instance } in (
       rows_with old (rows ++ row ∷ []) (nodes ++ node ∷ []) (omega (arith, few, length-append rows (row ∷ []))) (omega (arith, shallow, length-append nodes (node ∷ []))),
-      opens rows (rows ++ row ∷ []) nodes (nodes ++ node ∷ []) row node keyword absolute instance h (row_is (drop above.keyword keyword) absolute (drop above.instance instance)) refl refl refl
+      opens rows (rows ++ row ∷ []) nodes (nodes ++ node ∷ []) row node keyword absolute instance h (row_is (drop above.keyword keyword) absolute (drop above.instance instance)) refl refl refl,
     )
 
 -- with a node that has opened, or without it after the root has closed

@@ -11,7 +11,7 @@ use Rattle.js_tree.specs.Forest.{Forest, empty, tree, node_count}
 use Rattle.js_tree.specs.Note.{speaks}
 use Rattle.js_tree.specs.OutputUnit.{OutputUnit}
 use Rattle.js_tree.specs.Relative.{AreLocated, IsLocated, escaped, escaped_unit, relative, relative_unit}
-use Rattle.js_tree.specs.RelativeState.{OpenNode, RelativeState, open_at, relative_after, relative_closed, relative_state, rows_closed, the_row_goes, trimmed_relative, trimming_start}
+use Rattle.js_tree.specs.RelativeState.{OpenNode, RelativeState, open_at, relative_after, relative_closed, relative_state, rows_closed, row_goes, trimmed_relative, trimming_start}
 use Rattle.js_tree.specs.Result.{ResultTree}
 use Rattle.js_tree.specs.Trimmed.{is_silent_leaf, trimmed, trimmed_tree}
 use Rattle.js_tree.specs.declared.relative.RelativeRows.{RelativeRows}
@@ -29,7 +29,7 @@ not_one : (n : ℕ) → nat_eq (suc (suc n)) 1 ≡ false
 not_one n = grind (arith, nat_tests)
 
 -- a row goes exactly where a silent leaf does
-goes : (u : OutputUnit) (f : Forest OutputUnit) (keyword instance : ℕ) → the_row_goes true u.note (suc (node_count (escaped (relative keyword instance f)))) ≡ is_silent_leaf u f
+goes : (u : OutputUnit) (f : Forest OutputUnit) (keyword instance : ℕ) → row_goes true u.note (suc (node_count (escaped (relative keyword instance f)))) ≡ is_silent_leaf u f
 goes u empty keyword instance = refl
 goes u (tree v below rest) keyword instance = ap (λ b. b && not (speaks u.note)) (not_one (node_count (escaped (relative (length v.keyword) (length v.instance) below)) + node_count (escaped (relative keyword instance rest))))
 
@@ -44,10 +44,10 @@ closed_by : (rows : List FlatRow) (u : OutputUnit) (f : Forest OutputUnit) (b : 
 closed_by rows u f true = rows_before rows (unknown u) (flat_of f)
 closed_by rows u f false = ap (λ s. s.rows) (closed_at rows u f [])
 
-trims_at : (rows : List FlatRow) (u : OutputUnit) (f : Forest OutputUnit) (keyword instance : List ℕ) (nodes : List OpenNode) (b : Bool) → the_row_goes true u.note (suc (node_count f)) ≡ b
+trims_at : (rows : List FlatRow) (u : OutputUnit) (f : Forest OutputUnit) (keyword instance : List ℕ) (nodes : List OpenNode) (b : Bool) → row_goes true u.note (suc (node_count f)) ≡ b
     → relative_closed true ((rows ++ unknown u ∷ []) ++ flat_of f) (open_at (length rows) keyword instance ∷ nodes) u.valid u.note ≡ at true (if b then rows else (rows ++ closed_rows u f)) nodes
 trims_at rows u f keyword instance nodes b e =
-    ap (λ c. at true (rows_closed c (length rows) u.valid u.note ((rows ++ unknown u ∷ []) ++ flat_of f)) nodes) (ap (the_row_goes true u.note) (size_is rows (unknown u) f) ∙ e)
+    ap (λ c. at true (rows_closed c (length rows) u.valid u.note ((rows ++ unknown u ∷ []) ++ flat_of f)) nodes) (ap (row_goes true u.note) (size_is rows (unknown u) f) ∙ e)
     ∙ ap (λ zs. at true zs nodes) (closed_by rows u f b)
 
 -- ---- the events of a tree

@@ -80,9 +80,9 @@ counted f = (noted_trees noted f, kept_below noted f)
 
 abbrev kept_step : OutputUnit → Counted → Counted → Counted
 kept_step u below after = (
-    if (noted u || at_least_one below.0) then suc after.0 else after.0,
-    if (noted u || at_least_two below.0) then tree u below.1 after.1 else (below.1 ⊹ after.1)
-  )
+  if (noted u || at_least_one below.0) then suc after.0 else after.0,
+  if (noted u || at_least_two below.0) then tree u below.1 after.1 else (below.1 ⊹ after.1),
+)
 
 kept_passed : (u : OutputUnit) (after : Counted) → noted u ≡ false → kept_step u (0, empty) after ≡ after
 kept_passed u after quiet = ap (λ b. (if (b || false) then suc after.0 else after.0, if (b || false) then tree u empty after.1 else (empty ⊹ after.1))) quiet

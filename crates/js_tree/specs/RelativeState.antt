@@ -67,8 +67,8 @@ relative_opened trims rows (o ∷ nodes) keyword absolute instance =
     }
 
 -- whether the row of a node that closes goes: it has no note, and of its subtree's rows, which are so many, only it is left
-abbrev pub the_row_goes : Bool → Note → ℕ → Bool
-the_row_goes trims note size = trims && (nat_eq size 1 && not (speaks note))
+abbrev pub row_goes : Bool → Note → ℕ → Bool
+row_goes trims note size = trims && (nat_eq size 1 && not (speaks note))
 
 -- the row of this number goes, or it is closed
 abbrev pub rows_closed : Bool → ℕ → Bool → Note → List FlatRow → List FlatRow
@@ -79,7 +79,7 @@ rows_closed false number valid note rows = with_closed number valid note (length
 abbrev pub relative_closed : Bool → List FlatRow → List OpenNode → Bool → Note → RelativeState
 relative_closed trims rows [] valid note = record { rows = rows; nodes = []; trims = trims }
 relative_closed trims rows (o ∷ nodes) valid note =
-    record { rows = rows_closed (the_row_goes trims note (length rows - o.number)) o.number valid note rows; nodes = nodes; trims = trims }
+    record { rows = rows_closed (row_goes trims note (length rows - o.number)) o.number valid note rows; nodes = nodes; trims = trims }
 
 abbrev pub relative_after : RelativeState → Event → RelativeState
 relative_after s (opening keyword absolute instance) = relative_opened s.trims s.rows s.nodes keyword absolute instance

@@ -2,7 +2,7 @@
 ghost use Rattle.std.specs.Prelude.{◌≡◌, [], ◌++◌, IfOk, drop};
 ghost use Rattle.json.specs.Print.{escape};
 ghost use Rattle.js_tree.specs.Events.{opening, closing};
-ghost use Rattle.js_tree.specs.RelativeState.{AreRowsOf, AreTrimmedOf, AreWhole, IsRootAt, node_above, open_node, open_nodes, relative_after, relative_start, relative_state, the_row_goes, trimming_start};
+ghost use Rattle.js_tree.specs.RelativeState.{AreRowsOf, AreTrimmedOf, AreWhole, IsRootAt, node_above, open_node, open_nodes, relative_after, relative_start, relative_state, row_goes, trimming_start};
 ghost use Rattle.js_tree.specs.Result.{ResultTree};
 ghost use Rattle.js_tree.specs.Seen.{note_of};
 ghost use Rattle.js_tree.specs.Trimmed.{trimmed_tree};
@@ -131,7 +131,7 @@ impl<'a> RelativeRows<'a> {
             let count = self.rows.len();
             if number < count {
                 let size = count - number;
-                if row_goes(self.trims, &note, size) {
+                if goes(self.trims, &note, size) {
                     self.rows.truncate(number);
                 } else {
                     let row = &mut self.rows[number];
@@ -173,8 +173,8 @@ impl<'a> RelativeRows<'a> {
 
 // Whether the row of a node that closes goes: it has no note, and of its subtree's rows, which are so many, only it is
 // left.
-fn row_goes(trims: bool, note: &Note<'_>, size: usize) -> bool
-    ensures { result ≡ the_row_goes trims (note_of note.now) size }
+fn goes(trims: bool, note: &Note<'_>, size: usize) -> bool
+    ensures { result ≡ row_goes trims (note_of note.now) size }
 {
     trims && size == 1 && !note.is_some()
 }
