@@ -1,13 +1,13 @@
 -- The row of the root, put back where it went with the others.
-use Rattle.std.specs.Prelude.{◌≡◌, ◌≢◌, ℕ, suc, Bool, true, false, not, if◌then◌else◌, List, [], ◌∷◌, ◌++◌, length, map, refl}
+use Rattle.std.specs.Prelude.{◌≡◌, ◌≢◌, ℕ, Bool, true, false, if◌then◌else◌, List, [], ◌∷◌, ◌++◌, length, map, refl}
 use Rattle.std.proofs.Common.{arith, ap, sym, ◌∙◌, append-nil}
 use Rattle.json.specs.Print.{escape}
 use Rattle.js_tree.specs.Events.{closing, opening}
 use Rattle.js_tree.specs.FlatState.{FlatRow}
-use Rattle.js_tree.specs.Forest.{Forest, empty, tree}
+use Rattle.js_tree.specs.Forest.{empty}
 use Rattle.js_tree.specs.Note.{Note, silent}
 use Rattle.js_tree.specs.OutputUnit.{OutputUnit}
-use Rattle.js_tree.specs.RelativeState.{AreRowsOf, AreTrimmedOf, IsRootAt, OpenNode, RelativeState, relative_after, relative_row, relative_state, rows_of_tree, trimmed_relative, whole_relative}
+use Rattle.js_tree.specs.RelativeState.{AreRowsOf, AreTrimmedOf, IsRootAt, relative_after, relative_row, relative_state, rows_of_tree, whole_relative}
 use Rattle.js_tree.specs.Result.{ResultTree}
 use Rattle.js_tree.specs.Trimmed.{is_silent_leaf, trimmed, trimmed_tree}
 use Rattle.js_tree.specs.declared.relative.RelativeRow.{RelativeRow}

@@ -1,14 +1,13 @@
 -- A node that opens and closes without a note leaves nothing behind where such nodes have no rows.
-use Rattle.std.specs.Prelude.{◌≡◌, ℕ, suc, ◌-◌, ◌<◌, ◌^◌, ◌+◌, Bool, true, false, List, [], ◌∷◌, ◌++◌, drop, length, map, take, refl}
+use Rattle.std.specs.Prelude.{◌≡◌, ℕ, ◌-◌, ◌<◌, ◌^◌, ◌+◌, Bool, true, false, List, [], ◌∷◌, ◌++◌, drop, length, map, refl}
 use Rattle.std.proofs.Common.{arith, ap, sym, ◌∙◌, append-nil, Bor}
 use Rattle.std.proofs.Math.Seq.{take-append_seam}
-use Rattle.std.proofs.lemmas.List.{length-append, length-map, map-append}
-use Rattle.std.specs.Global.{Vec}
+use Rattle.std.proofs.lemmas.List.{length-append}
 use Rattle.json.specs.Print.{escape}
 use Rattle.js_tree.specs.Events.{closing, opening}
 use Rattle.js_tree.specs.FlatState.{FlatRow, opening_row}
 use Rattle.js_tree.specs.Note.{silent}
-use Rattle.js_tree.specs.RelativeState.{OpenNode, RelativeState, escaped_row, node_above, open_at, open_node, open_nodes, relative_after, relative_closed, relative_opened, relative_row, relative_state, rows_closed, row_goes}
+use Rattle.js_tree.specs.RelativeState.{OpenNode, RelativeState, escaped_row, node_above, open_at, open_nodes, relative_after, relative_closed, relative_opened, relative_row, relative_state, rows_closed, row_goes}
 use Rattle.js_tree.specs.declared.note.Note.TheVariants as note
 use Rattle.js_tree.specs.declared.relative.OpenNode.{OpenNode as DeclaredOpen}
 use Rattle.js_tree.specs.declared.relative.RelativeRow.{RelativeRow}

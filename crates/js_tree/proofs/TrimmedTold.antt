@@ -11,7 +11,7 @@ use Rattle.js_tree.specs.Forest.{Forest, empty, tree, node_count}
 use Rattle.js_tree.specs.Note.{speaks}
 use Rattle.js_tree.specs.OutputUnit.{OutputUnit}
 use Rattle.js_tree.specs.Relative.{AreLocated, IsLocated, escaped, escaped_unit, relative, relative_unit}
-use Rattle.js_tree.specs.RelativeState.{OpenNode, RelativeState, open_at, relative_after, relative_closed, relative_state, rows_closed, row_goes, trimmed_relative, trimming_start}
+use Rattle.js_tree.specs.RelativeState.{OpenNode, open_at, relative_after, relative_closed, relative_state, rows_closed, row_goes, trimmed_relative, trimming_start}
 use Rattle.js_tree.specs.Result.{ResultTree}
 use Rattle.js_tree.specs.Trimmed.{is_silent_leaf, trimmed, trimmed_tree}
 use Rattle.js_tree.specs.declared.relative.RelativeRows.{RelativeRows}

@@ -1,7 +1,6 @@
-use Rattle.std.proofs.Common.{arith, refl, ap, sym, ◌∙◌}
+use Rattle.std.proofs.Common.{arith, refl}
 use Rattle.js_tree.specs.Seen.{note_of}
-use Rattle.js_tree.specs.RelativeState.{open_nodes, relative_row}
-use Rattle.js_tree.proofs.RelativeTold.{at, closes, closes_beyond, drops}
+use Rattle.js_tree.proofs.RelativeTold.{closes, closes_beyond, drops}
 use Rattle.js_tree.proofs.relative.RelativeRows.leave.Goals as goal
 
 pub returns-then-goes : goal.returns-then-goes
