@@ -21,7 +21,8 @@ use Rattle.js_tree.proofs.Trimming.{silent_leaf}
 abbrev unit_with : Bool → List ℕ → List ℕ → List ℕ → Note → OutputUnit
 unit_with valid keyword absolute instance note = record { valid = valid; keyword = keyword; absolute = absolute; instance = instance; note = note }
 
-root_is : (u : OutputUnit) (absolute : List ℕ) (valid : Bool) → IsRootAt absolute valid u → u.note ≡ silent → u ≡ unit_with valid [] absolute [] silent
+root_is : (u : OutputUnit) (absolute : List ℕ) (valid : Bool) → IsRootAt absolute valid u → u.note ≡ silent
+    → u ≡ unit_with valid [] absolute [] silent
 root_is u absolute valid h n =
     ap (λ z. unit_with u.valid z u.absolute u.instance u.note) h.0
     ∙ (ap (λ z. unit_with u.valid [] u.absolute z u.note) h.1
@@ -35,11 +36,13 @@ root_is u absolute valid h n =
 abbrev IsEither : List FlatRow → ResultTree → Bool → Type 0
 IsEither rows t b = (rows ≡ (if b then [] else rows_of_tree (trimmed_tree t))) × (is_silent_leaf t.root (trimmed t.below) ≡ b)
 
-left_is : (rows : List FlatRow) (t : ResultTree) (b : Bool) → rows ≢ [] → IsEither rows t b → rows ≡ rows_of_tree (trimmed_tree t)
+left_is : (rows : List FlatRow) (t : ResultTree) (b : Bool) → rows ≢ [] → IsEither rows t b
+    → rows ≡ rows_of_tree (trimmed_tree t)
 left_is rows t true there e = absurd (there e.0)
 left_is rows t false there e = e.0
 
-gone_is : (rows : List FlatRow) (t : ResultTree) (b : Bool) → rows ≡ [] → IsEither rows t b → is_silent_leaf t.root (trimmed t.below) ≡ true
+gone_is : (rows : List FlatRow) (t : ResultTree) (b : Bool) → rows ≡ [] → IsEither rows t b
+    → is_silent_leaf t.root (trimmed t.below) ≡ true
 gone_is rows t true none e = e.1
 gone_is rows t false none e = let x = sym none ∙ e.0 in absurd cc
 
@@ -52,7 +55,8 @@ no_rows [] none = refl
 no_rows (r ∷ rows) none = absurd (omega (arith, none))
 
 -- the root is left
-pub root_left : (rows : RelativeRows) (t : ResultTree) → length rows.rows.items ≢ 0 → AreTrimmedOf rows t → AreRowsOf rows (trimmed_tree t)
+pub root_left : (rows : RelativeRows) (t : ResultTree) → length rows.rows.items ≢ 0 → AreTrimmedOf rows t
+    → AreRowsOf rows (trimmed_tree t)
 root_left rows t there h = record {
   rows_are =
       let all : (relative_state rows).rows ≡ rows_of_tree (trimmed_tree t) =
@@ -62,11 +66,15 @@ root_left rows t there h = record {
 }
 
 -- the root comes and goes where there are no rows
-root_alone : (absolute : List ℕ) (valid : Bool) → relative_after (relative_after (at false [] []) (opening [] (absolute ++ []) [])) (closing valid silent) ≡ whole_relative false (record { root = unit_with valid [] absolute [] silent; below = empty })
+root_alone : (absolute : List ℕ) (valid : Bool)
+    → relative_after (relative_after (at false [] []) (opening [] (absolute ++ []) [])) (closing valid silent)
+    ≡ whole_relative false (record { root = unit_with valid [] absolute [] silent; below = empty })
 root_alone absolute valid = ap (λ text. at false ((unit_with valid [] (escape text) [] silent, 1) ∷ []) []) (append-nil absolute)
 
-pub root_back : (old mid new : RelativeRows) (absolute : List ℕ) (valid : Bool) (t : ResultTree) → length old.rows.items ≡ 0 → AreTrimmedOf old t → IsRootAt absolute valid t.root
-    → relative_state mid ≡ relative_after (at false (map relative_row old.rows.items) (relative_state old).nodes) (opening [] (absolute ++ []) []) → relative_state new ≡ relative_after (relative_state mid) (closing valid silent)
+pub root_back : (old mid new : RelativeRows) (absolute : List ℕ) (valid : Bool) (t : ResultTree)
+    → length old.rows.items ≡ 0 → AreTrimmedOf old t → IsRootAt absolute valid t.root
+    → relative_state mid
+    ≡ relative_after (at false (map relative_row old.rows.items) (relative_state old).nodes) (opening [] (absolute ++ []) []) → relative_state new ≡ relative_after (relative_state mid) (closing valid silent)
     → AreRowsOf new (trimmed_tree t)
 root_back old mid new absolute valid t none h r opened closed =
     let rows : map relative_row old.rows.items ≡ [] = no_rows old.rows.items none in

@@ -20,13 +20,15 @@ one_more : (rows : List FlatRow) (row : FlatRow) → length (rows ++ row ∷ [])
 one_more rows row = omega (arith, length-append rows (row ∷ []))
 
 goes_again : (rows : List FlatRow) (row : FlatRow) (nodes : List OpenNode) (keyword instance : List ℕ) (valid : Bool)
-    → relative_closed true (rows ++ row ∷ []) (open_at (length rows) keyword instance ∷ nodes) valid silent ≡ at true rows nodes
+    → relative_closed true (rows ++ row ∷ []) (open_at (length rows) keyword instance ∷ nodes) valid silent
+    ≡ at true rows nodes
 goes_again rows row nodes keyword instance valid =
     ap (λ n. at true (rows_closed (row_goes true silent n) (length rows) valid silent (rows ++ row ∷ [])) nodes) (one_more rows row)
     ∙ ap (λ zs. at true zs nodes) (take-append_seam rows (row ∷ []))
 
 comes_and_goes : (rows : List FlatRow) (nodes : List OpenNode) (keyword absolute instance : List ℕ) (valid : Bool)
-    → relative_after (relative_opened true rows nodes keyword absolute instance) (closing valid silent) ≡ at true rows nodes
+    → relative_after (relative_opened true rows nodes keyword absolute instance) (closing valid silent)
+    ≡ at true rows nodes
 comes_and_goes [] [] keyword absolute instance valid = refl
 comes_and_goes (r ∷ rows) [] keyword absolute instance valid = refl
 comes_and_goes rows (o ∷ nodes) keyword absolute instance valid =
@@ -34,7 +36,8 @@ comes_and_goes rows (o ∷ nodes) keyword absolute instance valid =
     ∙ goes_again rows (escaped_row (drop o.keyword keyword) absolute (drop o.instance instance)) (o ∷ nodes) keyword instance valid
 
 -- of any state of a collector that trims
-pub leaves_nothing : (s : RelativeState) (keyword absolute instance : List ℕ) (valid : Bool) → s.trims ≡ true → relative_after (relative_after s (opening keyword absolute instance)) (closing valid silent) ≡ s
+pub leaves_nothing : (s : RelativeState) (keyword absolute instance : List ℕ) (valid : Bool) → s.trims ≡ true
+    → relative_after (relative_after s (opening keyword absolute instance)) (closing valid silent) ≡ s
 leaves_nothing s keyword absolute instance valid e =
     ap (λ trims. relative_after (relative_opened trims s.rows s.nodes keyword absolute instance) (closing valid silent)) e
     ∙ (comes_and_goes s.rows s.nodes keyword absolute instance valid ∙ ap (λ trims. at trims s.rows s.nodes) (sym e))
@@ -48,12 +51,14 @@ abbrev row_at : List ℕ → List ℕ → List ℕ → RelativeRow
 row_at keyword absolute instance =
     record { valid = false; keyword = lend (escape keyword); instance = lend (escape instance); schema = lend absolute; absolute = lend []; note = note.Silent; size = 0 }
 
-row_is : (keyword absolute instance : List ℕ) → relative_row (row_at keyword absolute instance) ≡ escaped_row keyword absolute instance
+row_is : (keyword absolute instance : List ℕ)
+    → relative_row (row_at keyword absolute instance) ≡ escaped_row keyword absolute instance
 unfolding lend
 row_is keyword absolute instance = ap (λ text. opening_row (escape keyword) text (escape instance)) (append-nil (escape absolute))
 
 -- the rows and the open nodes, of which neither a vector holds more than is possible
-abbrev rows_with : RelativeRows → (rows : List RelativeRow) → (nodes : List DeclaredOpen) → length rows < 2 ^ 63 → length nodes < 2 ^ 63 → RelativeRows
+abbrev rows_with : RelativeRows → (rows : List RelativeRow) → (nodes : List DeclaredOpen) → length rows < 2 ^ 63
+    → length nodes < 2 ^ 63 → RelativeRows
 rows_with old rows nodes few shallow = record {
   arena = old.arena;
   rows = record { ptr = old.rows.ptr; len = length rows; cap = length rows; alloc = old.rows.alloc; items = rows; ok = (refl, omega (arith)); small = few };
@@ -66,7 +71,8 @@ rows_with old rows nodes few shallow = record {
 abbrev IsThere : RelativeState → Type 0
 IsThere s = (m : RelativeRows) × relative_state m ≡ s
 
-pushed : (old : RelativeRows) (rows : List RelativeRow) (nodes : List DeclaredOpen) (keyword absolute instance : List ℕ) → length rows + 1 < 2 ^ 63 → length nodes + 1 < 2 ^ 63 → (length nodes ≡ 0 → length rows ≡ 0)
+pushed : (old : RelativeRows) (rows : List RelativeRow) (nodes : List DeclaredOpen) (keyword absolute instance : List ℕ)
+    → length rows + 1 < 2 ^ 63 → length nodes + 1 < 2 ^ 63 → (length nodes ≡ 0 → length rows ≡ 0)
     → IsThere (relative_opened old.trims (map relative_row rows) (open_nodes nodes []) keyword absolute instance)
 pushed old rows nodes keyword absolute instance few shallow h =
     let above : OpenNode = node_above (open_nodes nodes []) in
@@ -84,7 +90,8 @@ opened_with old (r ∷ rows) [] keyword absolute instance few shallow = (rows_wi
 opened_with old rows (o ∷ nodes) keyword absolute instance few shallow = pushed old rows (o ∷ nodes) keyword absolute instance few shallow (λ e. absurd (omega (arith, e)))
 
 -- if there is room for a row and for an open node
-pub drops_silent : (rows : RelativeRows) → rows.trims ≡ true → length rows.rows.items + 1 < 2 ^ 63 → length rows.nodes.items + 1 < 2 ^ 63 → DropsSilent rows
+pub drops_silent : (rows : RelativeRows) → rows.trims ≡ true → length rows.rows.items + 1 < 2 ^ 63
+    → length rows.nodes.items + 1 < 2 ^ 63 → DropsSilent rows
 drops_silent rows e few shallow = λ keyword absolute instance.
     let m = opened_with rows rows.rows.items rows.nodes.items keyword absolute instance few shallow in
     (m.0, m.1, (rows, sym (ap (λ s. relative_after s (closing true silent)) m.1 ∙ leaves_nothing (relative_state rows) keyword absolute instance true e), refl))

@@ -29,18 +29,22 @@ not_one : (n : ℕ) → nat_eq (suc (suc n)) 1 ≡ false
 not_one n = grind (arith, nat_tests)
 
 -- a row goes exactly where a silent leaf does
-goes : (u : OutputUnit) (f : Forest OutputUnit) (keyword instance : ℕ) → row_goes true u.note (suc (node_count (escaped (relative keyword instance f)))) ≡ is_silent_leaf u f
+goes : (u : OutputUnit) (f : Forest OutputUnit) (keyword instance : ℕ)
+    → row_goes true u.note (suc (node_count (escaped (relative keyword instance f)))) ≡ is_silent_leaf u f
 goes u empty keyword instance = refl
 goes u (tree v below rest) keyword instance = ap (λ b. b && not (speaks u.note)) (not_one (node_count (escaped (relative (length v.keyword) (length v.instance) below)) + node_count (escaped (relative keyword instance rest))))
 
-size_is : (rows : List FlatRow) (row : FlatRow) (f : Forest OutputUnit) → length ((rows ++ row ∷ []) ++ flat_of f) - length rows ≡ suc (node_count f)
+size_is : (rows : List FlatRow) (row : FlatRow) (f : Forest OutputUnit)
+    → length ((rows ++ row ∷ []) ++ flat_of f) - length rows ≡ suc (node_count f)
 size_is rows row f = omega (arith, length-append (rows ++ row ∷ []) (flat_of f), length-append rows (row ∷ []), length-flat_of f)
 
-rows_before : (rows : List FlatRow) (row : FlatRow) (more : List FlatRow) → take (length rows) ((rows ++ row ∷ []) ++ more) ≡ rows
+rows_before : (rows : List FlatRow) (row : FlatRow) (more : List FlatRow)
+    → take (length rows) ((rows ++ row ∷ []) ++ more) ≡ rows
 rows_before rows row more = ap (take (length rows)) (append_assoc rows (row ∷ []) more) ∙ take-append_seam rows (row ∷ more)
 
 closed_by : (rows : List FlatRow) (u : OutputUnit) (f : Forest OutputUnit) (b : Bool)
-    → rows_closed b (length rows) u.valid u.note ((rows ++ unknown u ∷ []) ++ flat_of f) ≡ (if b then rows else (rows ++ closed_rows u f))
+    → rows_closed b (length rows) u.valid u.note ((rows ++ unknown u ∷ []) ++ flat_of f)
+    ≡ (if b then rows else (rows ++ closed_rows u f))
 closed_by rows u f true = rows_before rows (unknown u) (flat_of f)
 closed_by rows u f false = ap (λ s. s.rows) (closed_at rows u f [])
 
@@ -65,7 +69,8 @@ told_rest false u below rest rows o nodes told =
     let own : List FlatRow = closed_rows (escaped_unit (relative_unit o.keyword o.instance u)) (escaped (relative (length u.keyword) (length u.instance) below)) in
     told (rows ++ own) ∙ ap (λ zs. at true zs (o ∷ nodes)) (append_assoc rows own (flat_of (escaped (relative o.keyword o.instance (trimmed rest)))))
 
-trims_below : (f : Forest OutputUnit) (rows : List FlatRow) (o : OpenNode) (nodes : List OpenNode) → RowsAfter f o nodes rows
+trims_below : (f : Forest OutputUnit) (rows : List FlatRow) (o : OpenNode) (nodes : List OpenNode)
+    → RowsAfter f o nodes rows
 trims_below empty rows o nodes = ap (λ zs. at true zs (o ∷ nodes)) (sym (append-nil rows))
 trims_below (tree u below rest) rows o nodes =
     let v : OutputUnit = escaped_unit (relative_unit o.keyword o.instance u) in
@@ -84,16 +89,20 @@ trims t =
     ∙ (ap (λ s. relative_after s (closing t.root.valid t.root.note)) (trims_below t.below (unknown u ∷ []) o [])
     ∙ trims_at [] u (escaped (relative o.keyword o.instance (trimmed t.below))) t.root.keyword t.root.instance [] (is_silent_leaf t.root (trimmed t.below)) (goes t.root (trimmed t.below) o.keyword o.instance))
 
-pub trimmed_held : (t : ResultTree) (c d : RelativeRows) → relative_state c ≡ trimming_start → Passes (λ a e b. relative_state b ≡ relative_after (relative_state a) e) (events t) c d → relative_state d ≡ trimmed_relative t
+pub trimmed_held : (t : ResultTree) (c d : RelativeRows) → relative_state c ≡ trimming_start
+    → Passes (λ a e b. relative_state b ≡ relative_after (relative_state a) e) (events t) c d
+    → relative_state d ≡ trimmed_relative t
 trimmed_held t c d h p = passes-after_all relative_state relative_after (events t) c d p ∙ (ap (λ s. after_all relative_after s (events t)) h ∙ trims t)
 
 -- ---- what is left goes on from what is above it
 
-kept_located : (b : Bool) (keyword instance : List ℕ) (f g : Forest OutputUnit) → AreLocated keyword instance f → AreLocated keyword instance g → AreLocated keyword instance (if b then f else g)
+kept_located : (b : Bool) (keyword instance : List ℕ) (f g : Forest OutputUnit) → AreLocated keyword instance f
+    → AreLocated keyword instance g → AreLocated keyword instance (if b then f else g)
 kept_located true keyword instance f g h k = h
 kept_located false keyword instance f g h k = k
 
-trimmed_located : (keyword instance : List ℕ) (f : Forest OutputUnit) → AreLocated keyword instance f → AreLocated keyword instance (trimmed f)
+trimmed_located : (keyword instance : List ℕ) (f : Forest OutputUnit) → AreLocated keyword instance f
+    → AreLocated keyword instance (trimmed f)
 trimmed_located keyword instance empty h = h
 trimmed_located keyword instance (tree u below rest) h =
     let after = trimmed_located keyword instance rest h.3 in

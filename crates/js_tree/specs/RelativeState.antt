@@ -41,7 +41,11 @@ whole_relative trims t = record { rows = rows_of_tree t; nodes = []; trims = tri
 
 -- what a collector that trims has of a tree: its trimmed tree's rows, but none where the root alone is left, silent
 abbrev pub trimmed_relative : ResultTree → RelativeState
-trimmed_relative t = record { rows = if is_silent_leaf t.root (trimmed t.below) then [] else rows_of_tree (trimmed_tree t); nodes = []; trims = true }
+trimmed_relative t = record {
+  rows = if is_silent_leaf t.root (trimmed t.below) then [] else rows_of_tree (trimmed_tree t);
+  nodes = [];
+  trims = true;
+}
 
 abbrev pub open_at : ℕ → List ℕ → List ℕ → OpenNode
 open_at number keyword instance = record { number = number; keyword = length keyword; instance = length instance }
@@ -66,7 +70,8 @@ relative_opened trims rows (o ∷ nodes) keyword absolute instance =
       trims = trims;
     }
 
--- whether the row of a node that closes goes: it has no note, and of its subtree's rows, which are so many, only it is left
+-- whether the row of a node that closes goes: it has no note, and of its subtree's rows, which are so many, only it is
+-- left
 abbrev pub row_goes : Bool → Note → ℕ → Bool
 row_goes trims note size = trims && (nat_eq size 1 && not (speaks note))
 
@@ -79,7 +84,11 @@ rows_closed false number valid note rows = with_closed number valid note (length
 abbrev pub relative_closed : Bool → List FlatRow → List OpenNode → Bool → Note → RelativeState
 relative_closed trims rows [] valid note = record { rows = rows; nodes = []; trims = trims }
 relative_closed trims rows (o ∷ nodes) valid note =
-    record { rows = rows_closed (row_goes trims note (length rows - o.number)) o.number valid note rows; nodes = nodes; trims = trims }
+    record {
+      rows = rows_closed (row_goes trims note (length rows - o.number)) o.number valid note rows;
+      nodes = nodes;
+      trims = trims;
+    }
 
 abbrev pub relative_after : RelativeState → Event → RelativeState
 relative_after s (opening keyword absolute instance) = relative_opened s.trims s.rows s.nodes keyword absolute instance
@@ -123,4 +132,5 @@ IsRootAt absolute valid u = (u.keyword ≡ []) × (u.instance ≡ []) × (u.abso
 -- a node that opens and closes at once, passing and without a note, leads from the rows back to them, wherever it is
 abbrev pub DropsSilent : RelativeRows → Type 0
 DropsSilent rows = (keyword absolute instance : List ℕ)
-    → Passes (λ a e b. relative_state b ≡ relative_after (relative_state a) e) (opening keyword absolute instance ∷ closing true silent ∷ []) rows rows
+    → Passes (λ a e b. relative_state b ≡ relative_after (relative_state a) e)
+    (opening keyword absolute instance ∷ closing true silent ∷ []) rows rows

@@ -1,5 +1,5 @@
--- Trimming: nodes without a note below which nothing is left are dropped, from the bottom up. No format but verbose shows
--- anything of them (JSON Schema Core, sections 12.4.2 and 12.4.3).
+-- Trimming: nodes without a note below which nothing is left are dropped, from the bottom up. No format but verbose
+-- shows anything of them (JSON Schema Core, sections 12.4.2 and 12.4.3).
 use Rattle.std.specs.Prelude.{Bool, false, not, if◌then◌else◌}
 use Rattle.js_tree.specs.Forest.{Forest, empty, tree}
 use Rattle.js_tree.specs.OutputUnit.{OutputUnit, noted}
@@ -13,7 +13,8 @@ is_silent_leaf u (tree v below after) = false
 -- the trees without their silent leaves, and without those that this makes
 abbrev pub trimmed : Forest OutputUnit → Forest OutputUnit
 trimmed empty = empty
-trimmed (tree u below after) = if is_silent_leaf u (trimmed below) then trimmed after else tree u (trimmed below) (trimmed after)
+trimmed (tree u below after) =
+    if is_silent_leaf u (trimmed below) then trimmed after else tree u (trimmed below) (trimmed after)
 
 -- the root stays
 abbrev pub trimmed_tree : ResultTree → ResultTree
