@@ -1,5 +1,5 @@
 -- What a collector of rows holds that have only what their locations add to those of the node above, with JSON escapes.
-use Rattle.std.specs.Prelude.{◌≡◌, ℕ, ◌-◌, Bool, List, [], ◌∷◌, ◌++◌, drop, length, map}
+use Rattle.std.specs.Prelude.{◌≡◌, ℕ, ◌-◌, Bool, true, false, List, [], ◌∷◌, ◌++◌, drop, length, map}
 use Rattle.json.specs.Print.{escape}
 use Rattle.js_tree.specs.Events.{Event, opening, closing}
 use Rattle.js_tree.specs.Flat.{flat}
@@ -63,9 +63,20 @@ relative_after s (closing valid note) = relative_closed s.rows s.nodes valid not
 
 -- ---- of the code
 
+-- what is added to a location: the text, behind a slash or not
+abbrev pub part : Bool → List ℕ → List ℕ
+part true text = 47 ∷ text
+part false text = text
+
+abbrev pub keyword_part : RelativeRow → List ℕ
+keyword_part r = part r.keyword_slash r.keyword.now
+
+abbrev pub absolute_part : RelativeRow → List ℕ
+absolute_part r = part r.absolute_slash r.absolute.now
+
 abbrev pub relative_row : RelativeRow → FlatRow
 relative_row r =
-    (record { valid = r.valid; keyword = r.keyword.now; absolute = escape r.schema.now ++ r.absolute.now; instance = r.instance.now; note = note_of r.note }, r.size)
+    (record { valid = r.valid; keyword = keyword_part r; absolute = escape r.schema.now ++ absolute_part r; instance = r.instance.now; note = note_of r.note }, r.size)
 
 abbrev pub open_node : DeclaredOpen → OpenNode
 open_node o = record { number = o.number; keyword = o.keyword; instance = o.instance }
