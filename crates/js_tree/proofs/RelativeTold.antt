@@ -2,11 +2,12 @@
 use Rattle.std.specs.Prelude.{◌≡◌, ℕ, suc, ◌+◌, ◌-◌, ◌==◌, ◌<◌, ◌≤◌, Bool, true, false, not, ◌||◌, List, [], ◌∷◌, ◌++◌, drop, get_or, length, map, take, slice_get, slice_set, slice_index_or, Some, refl}
 use Rattle.std.proofs.Common.{arith, ap, sym, ◌∙◌, append-nil}
 use Rattle.std.proofs.lemmas.List.{append_assoc, length-map, map-append}
+use Rattle.std.specs.List.{list_all}
 use Rattle.std.specs.Str.{bytes_eq}
 use Rattle.std.proofs.lemmas.Bool.Decides.{nat_tests}
-use Rattle.std.proofs.lemmas.Grind.{flat_map-append}
 use Rattle.std.proofs.lemmas.Slice.Eq.{bytes_eq-Decides}
-use Rattle.json.specs.Print.{escape, escape_byte}
+use Rattle.json.specs.Print.{escape}
+use Rattle.js_doc.specs.Escapes.{stands}
 use Rattle.js_doc.proofs.QuotedRuns.{nothing_escaped}
 use Rattle.js_tree.specs.Events.{closing, events, events_of, Passes, after_all}
 use Rattle.js_tree.specs.Flat.{flat_of}
@@ -136,6 +137,5 @@ pub token_there : (added name : List ℕ) (same : Bool) → (length added == 0) 
 token_there [] name same some first is t = absurd cc
 token_there (b ∷ added) name same some first is t = ap (λ c. c ∷ added) first ∙ ap (λ l. 47 ∷ l) (sym (rest_of (b ∷ added)) ∙ (bytes_eq-Decides (take (suc (length added) - 1) added) name).0 (sym is ∙ t))
 
-pub token_stands : (name : List ℕ) → escape name ≡ name → escape (47 ∷ name) ≡ 47 ∷ name
-token_stands name e =
-    flat_map-append escape_byte (47 ∷ []) name ∙ (ap (λ l. l ++ escape name) (nothing_escaped (47 ∷ []) refl) ∙ ap (λ l. 47 ∷ l) e)
+pub token_stands : (name : List ℕ) → list_all stands name ≡ true → escape (47 ∷ name) ≡ 47 ∷ name
+token_stands name e = nothing_escaped (47 ∷ name) e

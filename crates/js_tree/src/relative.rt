@@ -1,6 +1,8 @@
 //! A result as relative rows: of each location a row keeps only what it adds to that of the node above.
-ghost use Rattle.std.specs.Prelude.{◌≡◌, ◌==◌, ◌<◌, ◌||◌, ◌∷◌, [], ◌++◌, IfOk, IsTrue, OnOk, drop, length, not, vec_capacity};
+ghost use Rattle.std.specs.Prelude.{◌≡◌, ◌==◌, ◌<◌, ◌||◌, ◌∷◌, [], ◌++◌, IfOk, IsTrue, OnOk, drop, length, not, true, vec_capacity};
+ghost use Rattle.std.specs.List.{list_all};
 ghost use Rattle.json.specs.Print.{escape};
+ghost use Rattle.js_doc.specs.Escapes.{stands};
 ghost use Rattle.js_tree.specs.Events.{opening, closing};
 ghost use Rattle.js_tree.specs.RelativeState.{AreRowsOf, AreWhole, node_above, open_node, open_nodes, part, relative_after, relative_start, relative_state};
 ghost use Rattle.js_tree.specs.Result.{ResultTree};
@@ -102,8 +104,9 @@ impl<'a> RelativeRows<'a> {
         Ok(())
     }
 
-    /// A node of a keyword opens, whose name its absolute location adds to that of its schema, behind a slash. That is
-    /// cheaper than `enter`: if the keyword location adds the same, the row borrows the name.
+    /// A node of a keyword opens, whose name its absolute location adds to that of its schema, behind a slash. The name
+    /// has to stand in a JSON string as it is (`stand_as_they_are` of js_doc). That is cheaper than `enter`: if the keyword
+    /// location adds the same, the row borrows the name.
     ///
     /// # Errors
     /// `Memory` if an allocation fails.
@@ -114,7 +117,7 @@ impl<'a> RelativeRows<'a> {
         name: &'a str,
         instance: &str,
     ) -> Result<(), Memory>
-        requires { escape name.now ≡ name.now }
+        requires { list_all stands name.now ≡ true }
         ensures { IfOk result (λ _. relative_state self.new ≡ relative_after (relative_state self.old)
             (opening keyword.now (schema.now ++ 47 ∷ name.now) instance.now)) }
     {
@@ -181,20 +184,20 @@ impl<'a> RelativeRows<'a> {
 
     // Opens a node with this row, whose whole locations are so long.
     #[inline(always)]
-    fn open(&mut self, row: RelativeRow<'a>, keyword: usize, instance: usize)
+    fn open(&mut self, row: RelativeRow<'a>, keyword_length: usize, instance_length: usize)
         requires { (length self.old.rows.items < vec_capacity self.old.rows)
             × (length self.old.nodes.items < vec_capacity self.old.nodes) }
         ensures rows { self.new.rows.items ≡ self.old.rows.items ++ row.entry ∷ [] }
         ensures nodes { open_nodes self.new.nodes.items []
-            ≡ record { number = length self.old.rows.items; keyword = keyword; instance = instance }
+            ≡ record { number = length self.old.rows.items; keyword = keyword_length; instance = instance_length }
             ∷ open_nodes self.old.nodes.items [] }
     {
         let number = self.rows.len();
         self.rows.push_reserved(row);
         self.nodes.push_reserved(OpenNode {
             number,
-            keyword,
-            instance,
+            keyword: keyword_length,
+            instance: instance_length,
         });
     }
 
@@ -255,7 +258,7 @@ fn name_or_kept<'a>(
     name: &'a [u8],
     added: &[u8],
 ) -> Result<(bool, &'a [u8]), Memory>
-    requires { escape name.now ≡ name.now }
+    requires { list_all stands name.now ≡ true }
     ensures { IfOk result (λ p. part p.0 p.1.now ≡ escape added.now) }
 {
     if is_token(added, name) {
