@@ -8,7 +8,7 @@ use Rattle.js_tree.specs.Marks.{left_trees, mark_of, marked}
 use Rattle.js_tree.specs.Locations.{AreAt, HasRoomFor, IsBack, IsDown}
 use Rattle.js_tree.specs.OutputUnit.{OutputUnit}
 use Rattle.js_tree.specs.Relative.{escaped, escaped_tree, escaped_unit}
-use Rattle.js_tree.specs.RelativeState.{relative_row}
+use Rattle.js_tree.specs.RelativeState.{keyword_part, relative_row}
 use Rattle.js_tree.specs.Result.{ResultTree, has_verdict}
 use Rattle.js_tree.specs.code.RelativeText.{AreRowsOfTree, AreRowsOfTrees, IsAbsolute}
 use Rattle.js_tree.specs.declared.locations.Locations.{Locations}
@@ -111,7 +111,7 @@ further found above added text more e a m =
 pub at_below : (old new : Locations) (x : RelativeRow) (u : OutputUnit) (keyword instance : List ℕ) → AreAt old keyword instance → IsDown old x new → (relative_row x).0 ≡ escaped_unit u
     → AreAt new (keyword ++ u.keyword) (instance ++ u.instance)
 at_below old new x u keyword instance at d e = record {
-  keyword_is = further new.keyword.items old.keyword.items x.keyword.now keyword u.keyword d.longer_keyword at.keyword_is (ap (λ y. y.keyword) e);
+  keyword_is = further new.keyword.items old.keyword.items (keyword_part x) keyword u.keyword d.longer_keyword at.keyword_is (ap (λ y. y.keyword) e);
   instance_is = further new.instance.items old.instance.items x.instance.now instance u.instance d.longer_instance at.instance_is (ap (λ y. y.instance) e);
 }
 

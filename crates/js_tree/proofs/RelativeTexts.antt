@@ -13,7 +13,7 @@ use Rattle.js_tree.specs.Locations.{HasRoom, IsBack}
 use Rattle.js_tree.specs.Note.{silent}
 use Rattle.js_tree.specs.OutputUnit.{OutputUnit}
 use Rattle.js_tree.specs.Relative.{escaped_unit, placed, placed_tree, placed_unit}
-use Rattle.js_tree.specs.RelativeState.{relative_row}
+use Rattle.js_tree.specs.RelativeState.{keyword_part, relative_row}
 use Rattle.js_tree.specs.Result.{ResultTree}
 use Rattle.js_tree.specs.Seen.{note_of}
 use Rattle.js_tree.specs.code.NodeText.{beginning_text, end_text, error_part, given_text}
@@ -34,7 +34,7 @@ pub room_for_part : (l m : Locations) (rows : List RelativeRow) (n k : ℕ) → 
 room_for_part l m rows n k h b = record {
   for_keyword =
       let e = ap length b.same_keyword in
-      omega (arith, e, h.for_keyword, b.keyword_room, part_le (λ r. length r.keyword.now) rows n k);
+      omega (arith, e, h.for_keyword, b.keyword_room, part_le (λ r. length (keyword_part r)) rows n k);
   for_instance =
       let e = ap length b.same_instance in
       omega (arith, e, h.for_instance, b.instance_room, part_le (λ r. length r.instance.now) rows n k);

@@ -1,8 +1,14 @@
 -- A collector of rows that have only what their locations add, and the events of a tree.
-use Rattle.std.specs.Prelude.{◌≡◌, ℕ, suc, ◌+◌, ◌-◌, ◌<◌, ◌≤◌, Bool, true, false, List, [], ◌∷◌, ◌++◌, drop, length, map, take, slice_get, slice_set, slice_index_or, Some, refl}
+use Rattle.std.specs.Prelude.{◌≡◌, ℕ, suc, ◌+◌, ◌-◌, ◌==◌, ◌<◌, ◌≤◌, Bool, true, false, not, ◌||◌, List, [], ◌∷◌, ◌++◌, drop, get_or, length, map, take, slice_get, slice_set, slice_index_or, Some, refl}
 use Rattle.std.proofs.Common.{arith, ap, sym, ◌∙◌, append-nil}
 use Rattle.std.proofs.lemmas.List.{append_assoc, length-map, map-append, take-map}
+use Rattle.std.specs.List.{list_all}
+use Rattle.std.specs.Str.{bytes_eq}
+use Rattle.std.proofs.lemmas.Bool.Decides.{nat_tests}
+use Rattle.std.proofs.lemmas.Slice.Eq.{bytes_eq-Decides}
 use Rattle.json.specs.Print.{escape}
+use Rattle.js_doc.specs.Escapes.{stands}
+use Rattle.js_doc.proofs.QuotedRuns.{nothing_escaped}
 use Rattle.js_tree.specs.Events.{closing, events, events_of, Passes, after_all}
 use Rattle.js_tree.specs.Flat.{flat_of}
 use Rattle.js_tree.specs.FlatState.{FlatRow, opening_row, closed_row, with_closed}
@@ -15,6 +21,7 @@ use Rattle.js_tree.specs.Result.{ResultTree}
 use Rattle.js_tree.specs.declared.relative.OpenNode.{OpenNode as DeclaredOpen}
 use Rattle.js_tree.specs.declared.relative.RelativeRow.{RelativeRow}
 use Rattle.js_tree.specs.declared.relative.RelativeRows.{RelativeRows}
+use Rattle.js_tree.proofs.ChildTexts.{rest_of}
 use Rattle.js_tree.proofs.FlatTold.{closed_at, row_closed, with_closed-beyond}
 use Rattle.js_tree.proofs.Telling.{passes-after_all, after_all-append}
 
@@ -129,19 +136,32 @@ opening_is above found keyword absolute instance k a i added_keyword added_insta
     let y : added_instance ≡ escape (drop above.instance instance) = ia ∙ (ap (λ z. escape (drop found.instance z)) ie ∙ ap (λ o. escape (drop o.instance instance)) n) in
     ap (λ z. opening_row z a added_instance) x ∙ (ap (λ z. opening_row (escape (drop above.keyword keyword)) z added_instance) ae ∙ ap (λ z. opening_row (escape (drop above.keyword keyword)) (escape absolute) z) y)
 
-pub open_is : (number rows : ℕ) (keyword instance k i : List ℕ) → number ≡ rows → k ≡ keyword → i ≡ instance → open_at number k i ≡ open_at rows keyword instance
-open_is number rows keyword instance k i n ke ie = ap (λ z. open_at z k i) n ∙ (ap (λ z. open_at rows z i) ke ∙ ap (λ z. open_at rows keyword z) ie)
+may_open : (rows os : ℕ) → not (os == 0) || rows == 0 ≡ true → os ≡ 0 → rows ≡ 0
+may_open rows os e h = grind (arith, nat_tests, e, h)
 
 -- the row has what the locations add to those of the node above
-pub opens : {trims : Bool} (rows new : List RelativeRow) (os ps : List DeclaredOpen) (r : RelativeRow) (o : DeclaredOpen) (keyword absolute instance : List ℕ) → (length os ≡ 0 → length rows ≡ 0)
+pub opens : {trims still : Bool} (rows room new : List RelativeRow) (os space ps : List DeclaredOpen) (r : RelativeRow) (keyword absolute instance k i : List ℕ)
+    → not (length os == 0) || length rows == 0 ≡ true → room ≡ rows → space ≡ os → k ≡ keyword → i ≡ instance
     → relative_row r ≡ escaped_row (drop (node_above (open_nodes os [])).keyword keyword) absolute (drop (node_above (open_nodes os [])).instance instance)
-    → new ≡ rows ++ r ∷ [] → ps ≡ os ++ o ∷ [] → open_node o ≡ open_at (length rows) keyword instance
-    → at trims (map relative_row new) (open_nodes ps []) ≡ relative_opened trims (map relative_row rows) (open_nodes os []) keyword absolute instance
-opens {trims} rows new os ps r o keyword absolute instance h f e d l =
+    → new ≡ room ++ r ∷ [] → open_nodes ps [] ≡ open_at (length room) k i ∷ open_nodes space [] → still ≡ trims
+    → at still (map relative_row new) (open_nodes ps []) ≡ relative_opened trims (map relative_row rows) (open_nodes os []) keyword absolute instance
+opens {trims} {still} rows room new os space ps r keyword absolute instance k i may same_rows same_nodes ke ie f e d t =
     let row : FlatRow = escaped_row (drop (node_above (open_nodes os [])).keyword keyword) absolute (drop (node_above (open_nodes os [])).instance instance) in
     let n : length (map relative_row rows) ≡ length rows = length-map rows relative_row in
-    let a : map relative_row new ≡ map relative_row rows ++ row ∷ [] = ap (map relative_row) e ∙ (map-append relative_row rows (r ∷ []) ∙ ap (λ q. map relative_row rows ++ q ∷ []) f) in
+    let a : map relative_row new ≡ map relative_row rows ++ row ∷ [] =
+    ap (map relative_row) (e ∙ ap (λ rs. rs ++ r ∷ []) same_rows) ∙ (map-append relative_row rows (r ∷ []) ∙ ap (λ q. map relative_row rows ++ q ∷ []) f) in
     let b : open_nodes ps [] ≡ open_at (length (map relative_row rows)) keyword instance ∷ open_nodes os [] =
-    ap (λ qs. open_nodes qs []) d ∙ (open_nodes-append os o [] ∙ ap (λ q. q ∷ open_nodes os []) (l ∙ ap (λ k. open_at k keyword instance) (sym n))) in
-    let g : length (open_nodes os []) ≡ 0 → length (map relative_row rows) ≡ 0 = λ z. n ∙ h (let k = length-open_nodes os [] in omega (arith, z, k)) in
-    ap (λ qs. at trims qs (open_nodes ps [])) a ∙ (ap (λ qs. at trims (map relative_row rows ++ row ∷ []) qs) b ∙ sym (opened_there (map relative_row rows) (open_nodes os []) keyword absolute instance g))
+    d ∙ (ap (λ qs. open_at (length room) k i ∷ open_nodes qs []) same_nodes
+    ∙ (ap (λ z. open_at (length room) z i ∷ open_nodes os []) ke ∙ (ap (λ z. open_at (length room) keyword z ∷ open_nodes os []) ie
+    ∙ ap (λ z. open_at z keyword instance ∷ open_nodes os []) (ap length same_rows ∙ sym n)))) in
+    let g : length (open_nodes os []) ≡ 0 → length (map relative_row rows) ≡ 0 = λ z. n ∙ may_open (length rows) (length os) may (let k = length-open_nodes os [] in omega (arith, z, k)) in
+    ap (λ z. at z (map relative_row new) (open_nodes ps [])) t ∙ (ap (λ qs. at trims qs (open_nodes ps [])) a ∙ (ap (λ qs. at trims (map relative_row rows ++ row ∷ []) qs) b ∙ sym (opened_there (map relative_row rows) (open_nodes os []) keyword absolute instance g)))
+
+-- ---- a keyword's name in place of what is added
+
+pub token_there : (added name : List ℕ) (same : Bool) → (length added == 0) ≡ false → get_or added 0 0 ≡ 47 → same ≡ bytes_eq (take (length added - 1) (drop 1 added)) name → same ≡ true → added ≡ 47 ∷ name
+token_there [] name same some first is t = absurd cc
+token_there (b ∷ added) name same some first is t = ap (λ c. c ∷ added) first ∙ ap (λ l. 47 ∷ l) (sym (rest_of (b ∷ added)) ∙ (bytes_eq-Decides (take (suc (length added) - 1) added) name).0 (sym is ∙ t))
+
+pub token_stands : (name : List ℕ) → list_all stands name ≡ true → escape (47 ∷ name) ≡ 47 ∷ name
+token_stands name e = nothing_escaped (47 ∷ name) e

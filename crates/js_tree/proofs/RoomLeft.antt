@@ -5,7 +5,7 @@ use Rattle.std.proofs.lemmas.List.Sums.{sum_by-cons}
 use Rattle.std.specs.List.{sum_by}
 use Rattle.js_tree.specs.Flat.{flat}
 use Rattle.js_tree.specs.Locations.{HasRoom, IsDown}
-use Rattle.js_tree.specs.RelativeState.{relative_row}
+use Rattle.js_tree.specs.RelativeState.{keyword_part, relative_row}
 use Rattle.js_tree.specs.Result.{ResultTree}
 use Rattle.js_tree.specs.declared.locations.Locations.{Locations}
 use Rattle.js_tree.specs.declared.relative.RelativeRow.{RelativeRow}
@@ -15,14 +15,14 @@ first_and_rest f [] x h is = absurd (omega (arith, h))
 first_and_rest f (r ∷ rows) x h is = sum_by-cons f r rows ∙ ap (λ y. f y + sum_by f rows) (sym is)
 
 abbrev keyword_size : RelativeRow → ℕ
-keyword_size r = length r.keyword.now
+keyword_size r = length (keyword_part r)
 
 abbrev instance_size : RelativeRow → ℕ
 instance_size r = length r.instance.now
 
 pub room_below : (old new : Locations) (rows : List RelativeRow) (x : RelativeRow) → HasRoom old rows → 0 < length rows → x ≡ get_or rows 0 x → IsDown old x new → HasRoom new (drop 1 rows)
 room_below old new rows x h some is d = record {
-  for_keyword = omega (arith, h.for_keyword, first_and_rest keyword_size rows x some is, ap length d.longer_keyword, length-append old.keyword.items x.keyword.now, d.keyword_room);
+  for_keyword = omega (arith, h.for_keyword, first_and_rest keyword_size rows x some is, ap length d.longer_keyword, length-append old.keyword.items (keyword_part x), d.keyword_room);
   for_instance = omega (arith, h.for_instance, first_and_rest instance_size rows x some is, ap length d.longer_instance, length-append old.instance.items x.instance.now, d.instance_room);
 }
 

@@ -1,7 +1,8 @@
 -- A node that opens and closes without a note leaves nothing behind where such nodes have no rows.
-use Rattle.std.specs.Prelude.{◌≡◌, ℕ, ◌-◌, ◌<◌, ◌^◌, ◌+◌, Bool, true, false, List, [], ◌∷◌, ◌++◌, drop, length, map, refl}
+use Rattle.std.specs.Prelude.{◌≡◌, ℕ, suc, ◌==◌, ◌-◌, ◌<◌, ◌^◌, ◌+◌, Bool, true, false, not, ◌||◌, List, [], ◌∷◌, ◌++◌, drop, length, map, refl}
 use Rattle.std.proofs.Common.{arith, ap, sym, ◌∙◌, append-nil, Bor}
 use Rattle.std.proofs.Math.Seq.{take-append_seam}
+use Rattle.std.proofs.lemmas.Bool.Decides.{nat_tests}
 use Rattle.std.proofs.lemmas.List.{length-append}
 use Rattle.json.specs.Print.{escape}
 use Rattle.js_tree.specs.Events.{closing, opening}
@@ -12,7 +13,7 @@ use Rattle.js_tree.specs.declared.note.Note.TheVariants as note
 use Rattle.js_tree.specs.declared.relative.OpenNode.{OpenNode as DeclaredOpen}
 use Rattle.js_tree.specs.declared.relative.RelativeRow.{RelativeRow}
 use Rattle.js_tree.specs.declared.relative.RelativeRows.{RelativeRows}
-use Rattle.js_tree.proofs.RelativeTold.{at, opened_below, opens}
+use Rattle.js_tree.proofs.RelativeTold.{at, open_nodes-append, opened_below, opens}
 
 -- ---- states
 
@@ -48,8 +49,17 @@ lend : List ℕ → Bor (List ℕ)
 lend text = record { ref_ptr = (0, 0); now = text }
 
 abbrev row_at : List ℕ → List ℕ → List ℕ → RelativeRow
-row_at keyword absolute instance =
-    record { valid = false; keyword = lend (escape keyword); instance = lend (escape instance); schema = lend absolute; absolute = lend []; note = note.Silent; size = 0 }
+row_at keyword absolute instance = record {
+  valid = false;
+  keyword_slash = false;
+  absolute_slash = false;
+  keyword = lend (escape keyword);
+  instance = lend (escape instance);
+  schema = lend absolute;
+  absolute = lend [];
+  note = note.Silent;
+  size = 0;
+}
 
 row_is : (keyword absolute instance : List ℕ)
     → relative_row (row_at keyword absolute instance) ≡ escaped_row keyword absolute instance
@@ -71,23 +81,28 @@ rows_with old rows nodes few shallow = record {
 abbrev IsThere : RelativeState → Type 0
 IsThere s = (m : RelativeRows) × relative_state m ≡ s
 
+there : (nodes rows : ℕ) → not (suc nodes == 0) || rows == 0 ≡ true
+there nodes rows = grind (arith, nat_tests)
+
 pushed : (old : RelativeRows) (rows : List RelativeRow) (nodes : List DeclaredOpen) (keyword absolute instance : List ℕ)
-    → length rows + 1 < 2 ^ 63 → length nodes + 1 < 2 ^ 63 → (length nodes ≡ 0 → length rows ≡ 0)
+    → length rows + 1 < 2 ^ 63 → length nodes + 1 < 2 ^ 63 → not (length nodes == 0) || length rows == 0 ≡ true
     → IsThere (relative_opened old.trims (map relative_row rows) (open_nodes nodes []) keyword absolute instance)
-pushed old rows nodes keyword absolute instance few shallow h =
+pushed old rows nodes keyword absolute instance few shallow may =
     let above : OpenNode = node_above (open_nodes nodes []) in
     let row : RelativeRow = row_at (drop above.keyword keyword) absolute (drop above.instance instance) in
     let node : DeclaredOpen = record { number = length rows; keyword = length keyword; instance = length instance } in (
       rows_with old (rows ++ row ∷ []) (nodes ++ node ∷ []) (omega (arith, few, length-append rows (row ∷ []))) (omega (arith, shallow, length-append nodes (node ∷ []))),
-      opens rows (rows ++ row ∷ []) nodes (nodes ++ node ∷ []) row node keyword absolute instance h (row_is (drop above.keyword keyword) absolute (drop above.instance instance)) refl refl refl,
+      opens rows rows (rows ++ row ∷ []) nodes nodes (nodes ++ node ∷ []) row keyword absolute instance keyword instance may
+          refl refl refl refl (row_is (drop above.keyword keyword) absolute (drop above.instance instance))
+          refl (open_nodes-append nodes node []) refl,
     )
 
 -- with a node that has opened, or without it after the root has closed
 opened_with : (old : RelativeRows) (rows : List RelativeRow) (nodes : List DeclaredOpen) (keyword absolute instance : List ℕ) → length rows + 1 < 2 ^ 63 → length nodes + 1 < 2 ^ 63
     → IsThere (relative_opened old.trims (map relative_row rows) (open_nodes nodes []) keyword absolute instance)
-opened_with old [] [] keyword absolute instance few shallow = pushed old [] [] keyword absolute instance few shallow (λ e. refl)
+opened_with old [] [] keyword absolute instance few shallow = pushed old [] [] keyword absolute instance few shallow refl
 opened_with old (r ∷ rows) [] keyword absolute instance few shallow = (rows_with old (r ∷ rows) [] (omega (arith, few)) (omega (arith)), refl)
-opened_with old rows (o ∷ nodes) keyword absolute instance few shallow = pushed old rows (o ∷ nodes) keyword absolute instance few shallow (λ e. absurd (omega (arith, e)))
+opened_with old rows (o ∷ nodes) keyword absolute instance few shallow = pushed old rows (o ∷ nodes) keyword absolute instance few shallow (there (length nodes) (length rows))
 
 -- if there is room for a row and for an open node
 pub drops_silent : (rows : RelativeRows) → rows.trims ≡ true → length rows.rows.items + 1 < 2 ^ 63

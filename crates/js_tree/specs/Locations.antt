@@ -3,13 +3,14 @@
 use Rattle.std.specs.Prelude.{◌≡◌, ℕ, ◌+◌, ◌≤◌, List, [], ◌++◌, length, vec_capacity}
 use Rattle.std.specs.List.{sum_by}
 use Rattle.json.specs.Print.{escape}
+use Rattle.js_tree.specs.RelativeState.{keyword_part}
 use Rattle.js_tree.specs.declared.locations.Locations.{Locations}
 use Rattle.js_tree.specs.declared.relative.RelativeRow.{RelativeRow}
 use Rattle.js_tree.specs.declared.relative.RelativeRows.{RelativeRows}
 
 -- how much the rows add to the keyword locations, all together, and to the instance locations
 abbrev pub keywords_added : List RelativeRow → ℕ
-keywords_added rows = sum_by (λ r. length r.keyword.now) rows
+keywords_added rows = sum_by (λ r. length (keyword_part r)) rows
 
 abbrev pub instances_added : List RelativeRow → ℕ
 instances_added rows = sum_by (λ r. length r.instance.now) rows
@@ -38,14 +39,14 @@ pub record IsBack (old : Locations) (new : Locations) : Type 0 where
 
 -- from the node above to that of the row
 pub record IsDown (old : Locations) (row : RelativeRow) (new : Locations) : Type 0 where
-  pub longer_keyword : new.keyword.items ≡ old.keyword.items ++ row.keyword.now
+  pub longer_keyword : new.keyword.items ≡ old.keyword.items ++ keyword_part row
   pub longer_instance : new.instance.items ≡ old.instance.items ++ row.instance.now
   pub keyword_room : vec_capacity old.keyword ≤ vec_capacity new.keyword
   pub instance_room : vec_capacity old.instance ≤ vec_capacity new.instance
 
 -- and back to the node above it
 pub record IsUp (old : Locations) (row : RelativeRow) (new : Locations) : Type 0 where
-  pub shorter_keyword : (above : List ℕ) → old.keyword.items ≡ above ++ row.keyword.now → new.keyword.items ≡ above
+  pub shorter_keyword : (above : List ℕ) → old.keyword.items ≡ above ++ keyword_part row → new.keyword.items ≡ above
   pub shorter_instance : (above : List ℕ) → old.instance.items ≡ above ++ row.instance.now → new.instance.items ≡ above
   pub keyword_room : vec_capacity old.keyword ≤ vec_capacity new.keyword
   pub instance_room : vec_capacity old.instance ≤ vec_capacity new.instance

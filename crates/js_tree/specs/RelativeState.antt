@@ -96,9 +96,20 @@ relative_after s (closing valid note) = relative_closed s.trims s.rows s.nodes v
 
 -- ---- of the code
 
+-- what is added to a location: the text, behind a slash or not
+abbrev pub part : Bool → List ℕ → List ℕ
+part true text = 47 ∷ text
+part false text = text
+
+abbrev pub keyword_part : RelativeRow → List ℕ
+keyword_part r = part r.keyword_slash r.keyword.now
+
+abbrev pub absolute_part : RelativeRow → List ℕ
+absolute_part r = part r.absolute_slash r.absolute.now
+
 abbrev pub relative_row : RelativeRow → FlatRow
 relative_row r =
-    (record { valid = r.valid; keyword = r.keyword.now; absolute = escape r.schema.now ++ r.absolute.now; instance = r.instance.now; note = note_of r.note }, r.size)
+    (record { valid = r.valid; keyword = keyword_part r; absolute = escape r.schema.now ++ absolute_part r; instance = r.instance.now; note = note_of r.note }, r.size)
 
 abbrev pub open_node : DeclaredOpen → OpenNode
 open_node o = record { number = o.number; keyword = o.keyword; instance = o.instance }

@@ -1,7 +1,8 @@
 //! The locations of a node, put together from the parts that it and the nodes above it add.
-ghost use Rattle.std.specs.Prelude.{◌≡◌, ◌∷◌, [], List, ℕ, IfOk};
+ghost use Rattle.std.specs.Prelude.{◌≡◌, ◌+◌, ◌≤◌, ◌∷◌, [], ◌++◌, List, ℕ, IfOk, length, vec_capacity};
 ghost use Rattle.js_doc.specs.BytesOut.{Puts};
 ghost use Rattle.js_tree.specs.Locations.{AreAt, HasRoom, HasRoomFor, IsDown, IsUp, instances_added, keywords_added};
+ghost use Rattle.js_tree.specs.RelativeState.{part};
 ghost use Rattle.js_tree.specs.code.NodeText.{end_text, valid_text};
 ghost use Rattle.js_tree.specs.code.RelativeText.{closing_text};
 
@@ -38,7 +39,7 @@ impl Locations {
         requires { HasRoom self.old (row.now ∷ []) }
         ensures { IsDown self.old row.now self.new }
     {
-        let _ = self.keyword.extend_from_slice(row.keyword);
+        add_part(&mut self.keyword, row.keyword_slash, row.keyword);
         let _ = self.instance.extend_from_slice(row.instance);
     }
 
@@ -46,8 +47,7 @@ impl Locations {
     pub(crate) fn go_back(&mut self, row: &RelativeRow)
         ensures { IsUp self.old row.now self.new }
     {
-        let keyword = self.keyword.len().saturating_sub(row.keyword.len());
-        self.keyword.truncate(keyword);
+        take_part(&mut self.keyword, row.keyword_slash, row.keyword);
         let instance = self.instance.len().saturating_sub(row.instance.len());
         self.instance.truncate(instance);
     }
@@ -80,10 +80,46 @@ fn added(rows: &[RelativeRow]) -> Result<(usize, usize), Memory>
     let mut keyword: usize = 0;
     let mut instance: usize = 0;
     for row in rows {
-        keyword = keyword.checked_add(row.keyword.len()).ok_or(Memory)?;
+        keyword = with_part(keyword, row.keyword_slash, row.keyword)?;
         instance = instance.checked_add(row.instance.len()).ok_or(Memory)?;
     }
     Ok((keyword, instance))
+}
+
+// How many bytes there are with this part too.
+fn with_part(count: usize, slash: bool, text: &[u8]) -> Result<usize, Memory>
+    ensures { IfOk result (λ n. n ≡ count + length (part slash text.now)) }
+{
+    let more = count.checked_add(text.len()).ok_or(Memory)?;
+    if slash {
+        return more.checked_add(1).ok_or(Memory);
+    }
+    Ok(more)
+}
+
+// Adds a part to a location, which has the memory for it.
+fn add_part(location: &mut Vec<u8>, slash: bool, text: &[u8])
+    requires { length location.old.items + length (part slash text.now) ≤ vec_capacity location.old }
+    ensures items { location.new.items ≡ location.old.items ++ part slash text.now }
+    ensures capacity { vec_capacity location.old ≤ vec_capacity location.new }
+{
+    if slash {
+        let _ = location.push(b'/');
+    }
+    let _ = location.extend_from_slice(text);
+}
+
+// Takes the part that was added last away again.
+fn take_part(location: &mut Vec<u8>, slash: bool, text: &[u8])
+    ensures items { (above : List ℕ) → location.old.items ≡ above ++ part slash text.now → location.new.items ≡ above }
+    ensures capacity { vec_capacity location.old ≤ vec_capacity location.new }
+{
+    let end = location.len().saturating_sub(text.len());
+    if slash {
+        location.truncate(end.saturating_sub(1));
+    } else {
+        location.truncate(end);
+    }
 }
 
 // Writes the closing quotation mark of the keyword location, and the last member.

@@ -1,8 +1,10 @@
 //! A result as relative rows: of each location a row keeps only what it adds to that of the node above.
-ghost use Rattle.std.specs.Prelude.{◌≡◌, [], ◌++◌, IfOk, drop, true};
+ghost use Rattle.std.specs.Prelude.{◌≡◌, ◌==◌, ◌<◌, ◌||◌, ◌∷◌, [], ◌++◌, IfOk, IsTrue, OnOk, drop, length, not, true, vec_capacity};
+ghost use Rattle.std.specs.List.{list_all};
 ghost use Rattle.json.specs.Print.{escape};
+ghost use Rattle.js_doc.specs.Escapes.{stands};
 ghost use Rattle.js_tree.specs.Events.{opening, closing};
-ghost use Rattle.js_tree.specs.RelativeState.{AreRowsOf, AreTrimmedOf, AreWhole, DropsSilent, IsRootAt, node_above, open_node, open_nodes, relative_after, relative_start, relative_state, row_goes, trimming_start};
+ghost use Rattle.js_tree.specs.RelativeState.{AreRowsOf, AreTrimmedOf, AreWhole, DropsSilent, IsRootAt, node_above, open_node, open_nodes, part, relative_after, relative_start, relative_state, row_goes, trimming_start};
 ghost use Rattle.js_tree.specs.Result.{ResultTree};
 ghost use Rattle.js_tree.specs.Seen.{note_of};
 ghost use Rattle.js_tree.specs.Trimmed.{trimmed_tree};
@@ -16,6 +18,10 @@ use std::alloc::Global;
 #[derive(Drop)]
 pub struct RelativeRow<'a> {
     pub(crate) valid: bool,
+    // Whether a slash stands before `keyword`, and before `absolute`. A keyword's name is borrowed where it stands,
+    // without the slash that locations have before it.
+    pub(crate) keyword_slash: bool,
+    pub(crate) absolute_slash: bool,
     // The parts that its keyword location and its instance location add to those of the node above, with JSON escapes,
     // since they are written more than once.
     pub(crate) keyword: &'a [u8],
@@ -40,7 +46,7 @@ struct OpenNode {
 }
 
 /// Collects the nodes of a tree in preorder, as `Flat` does, but with relative rows. A node takes the memory of its row
-/// and a few bytes of the arena, however deep it is.
+/// and at most a few bytes of the arena, however deep it is.
 #[derive(Drop)]
 pub struct RelativeRows<'a> {
     arena: &'a Bump,
@@ -95,10 +101,8 @@ impl<'a> RelativeRows<'a> {
         ensures { IfOk result (λ _. relative_state self.new ≡ relative_after (relative_state self.old)
             (opening keyword.now (schema.now ++ token.now) instance.now)) }
     {
-        // Without an open node there is either no row yet, or the root has closed.
-        if !self.nodes.is_empty() || self.rows.is_empty() {
-            self.nodes.reserve(1)?;
-            let number = self.rows.len();
+        if self.may_open() {
+            self.make_room()?;
             let above = innermost(self.nodes.as_slice());
             let keyword = keyword.as_bytes();
             let instance = instance.as_bytes();
@@ -107,6 +111,8 @@ impl<'a> RelativeRows<'a> {
             let kept = in_arena(self.arena, scratch, added)?;
             let row = RelativeRow {
                 valid: false,
+                keyword_slash: false,
+                absolute_slash: false,
                 keyword: kept,
                 instance: in_arena(self.arena, scratch, behind(instance, above.instance))?,
                 schema,
@@ -114,12 +120,49 @@ impl<'a> RelativeRows<'a> {
                 note: Note::Silent,
                 size: 0,
             };
-            self.rows.push(row)?;
-            let _ = self.nodes.push(OpenNode {
-                number,
-                keyword: keyword.len(),
-                instance: instance.len(),
-            });
+            self.open(row, keyword.len(), instance.len());
+        }
+        Ok(())
+    }
+
+    /// A node of a keyword opens, whose name its absolute location adds to that of its schema, behind a slash. The name
+    /// has to stand in a JSON string as it is (`stand_as_they_are` of js_doc). That is cheaper than `enter`: if the keyword
+    /// location adds the same, the row borrows the name.
+    ///
+    /// # Errors
+    /// `Memory` if an allocation fails.
+    pub fn enter_keyword(
+        &mut self,
+        keyword: &str,
+        schema: &'a str,
+        name: &'a str,
+        instance: &str,
+    ) -> Result<(), Memory>
+        requires { list_all stands name.now ≡ true }
+        ensures { IfOk result (λ _. relative_state self.new ≡ relative_after (relative_state self.old)
+            (opening keyword.now (schema.now ++ 47 ∷ name.now) instance.now)) }
+    {
+        if self.may_open() {
+            self.make_room()?;
+            let above = innermost(self.nodes.as_slice());
+            let keyword = keyword.as_bytes();
+            let instance = instance.as_bytes();
+            let name = name.as_bytes();
+            let scratch = &mut self.scratch;
+            let added = behind(keyword, above.keyword);
+            let (slash, kept) = name_or_kept(self.arena, scratch, name, added)?;
+            let row = RelativeRow {
+                valid: false,
+                keyword_slash: slash,
+                absolute_slash: true,
+                keyword: kept,
+                instance: in_arena(self.arena, scratch, behind(instance, above.instance))?,
+                schema,
+                absolute: name,
+                note: Note::Silent,
+                size: 0,
+            };
+            self.open(row, keyword.len(), instance.len());
         }
         Ok(())
     }
@@ -171,6 +214,46 @@ impl<'a> RelativeRows<'a> {
             self.leave(valid, Note::Silent);
         }
         Ok(())
+    }
+
+    // Whether a node may open. Without an open node there is either no row yet, or the root has closed.
+    fn may_open(&self) -> bool
+        ensures { result ≡ (not (length self.now.nodes.items == 0) || length self.now.rows.items == 0) }
+    {
+        !self.nodes.is_empty() || self.rows.is_empty()
+    }
+
+    // Makes room for the row of one more node, and for the node while it is open.
+    fn make_room(&mut self) -> Result<(), Memory>
+        ensures rows { self.new.rows.items ≡ self.old.rows.items }
+        ensures nodes { self.new.nodes.items ≡ self.old.nodes.items }
+        ensures trims { self.new.trims ≡ self.old.trims }
+        ensures room { OnOk result ((length self.new.rows.items < vec_capacity self.new.rows)
+            × (length self.new.nodes.items < vec_capacity self.new.nodes)) }
+    {
+        self.rows.reserve(1)?;
+        self.nodes.reserve(1)?;
+        Ok(())
+    }
+
+    // Opens a node with this row, whose whole locations are so long.
+    #[inline(always)]
+    fn open(&mut self, row: RelativeRow<'a>, keyword_length: usize, instance_length: usize)
+        requires { (length self.old.rows.items < vec_capacity self.old.rows)
+            × (length self.old.nodes.items < vec_capacity self.old.nodes) }
+        ensures rows { self.new.rows.items ≡ self.old.rows.items ++ row.entry ∷ [] }
+        ensures nodes { open_nodes self.new.nodes.items []
+            ≡ record { number = length self.old.rows.items; keyword = keyword_length; instance = instance_length }
+            ∷ open_nodes self.old.nodes.items [] }
+        ensures trims { self.new.trims ≡ self.old.trims }
+    {
+        let number = self.rows.len();
+        self.rows.push_reserved(row);
+        self.nodes.push_reserved(OpenNode {
+            number,
+            keyword: keyword_length,
+            instance: instance_length,
+        });
     }
 
     /// The verdict of the root. The rows must be those of a whole tree.
@@ -229,6 +312,33 @@ fn in_arena<'a>(arena: &'a Bump, scratch: &mut Vec<u8>, bytes: &[u8]) -> Result<
     }
     let kept = arena.try_alloc_slice_copy(bytes)?;
     Ok(kept)
+}
+
+// The name, and that a slash stands before it, if these are what is added. Otherwise what is added, in the arena.
+fn name_or_kept<'a>(
+    arena: &'a Bump,
+    scratch: &mut Vec<u8>,
+    name: &'a [u8],
+    added: &[u8],
+) -> Result<(bool, &'a [u8]), Memory>
+    requires { list_all stands name.now ≡ true }
+    ensures { IfOk result (λ p. part p.0 p.1.now ≡ escape added.now) }
+{
+    if is_token(added, name) {
+        return Ok((true, name));
+    }
+    let kept = in_arena(arena, scratch, added)?;
+    Ok((false, kept))
+}
+
+// Whether what is added is a slash and the name.
+fn is_token(added: &[u8], name: &[u8]) -> bool
+    ensures { IsTrue result → added.now ≡ 47 ∷ name.now }
+{
+    if added.is_empty() {
+        return false;
+    }
+    added[0] == b'/' && &added[1..] == name
 }
 
 // The token with its escapes, in the arena. Most keywords' names add the same to both locations, and that is kept once.

@@ -9,7 +9,7 @@ ghost use Rattle.js_tree.specs.Locations.{AreAt, HasRoom, HasRoomFor, IsBack};
 ghost use Rattle.js_tree.specs.Note.{silent};
 ghost use Rattle.js_tree.specs.OutputUnit.{OutputUnit};
 ghost use Rattle.js_tree.specs.Relative.{placed, placed_tree};
-ghost use Rattle.js_tree.specs.RelativeState.{AreRowsOf, AreWhole};
+ghost use Rattle.js_tree.specs.RelativeState.{AreRowsOf, AreWhole, part};
 ghost use Rattle.js_tree.specs.Result.{ResultTree};
 ghost use Rattle.js_tree.specs.Seen.{note_of};
 ghost use Rattle.js_tree.specs.code.NodeText.{beginning_text, given_text};
@@ -232,7 +232,18 @@ fn put_opening<O: Out>(later: bool, row: &RelativeRow, out: &mut O) -> Result<()
 {
     put_start(later, out)?;
     put_escaped(row.schema.as_bytes(), out)?;
-    out.put(row.absolute)
+    put_part(row.absolute_slash, row.absolute, out)
+}
+
+/// Writes a part of a location.
+fn put_part<O: Out>(slash: bool, text: &[u8], out: &mut O) -> Result<(), Stopped>
+    ensures { Puts (O.progress out.old) (O.progress out.new) (part slash text.now) result }
+{
+    if !slash {
+        return out.put(text);
+    }
+    out.put(b"/")?;
+    out.put(text)
 }
 
 /// Writes what is before the absolute location; after a comma, if the node isn't the first in its list.

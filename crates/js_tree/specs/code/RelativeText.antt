@@ -8,7 +8,7 @@ use Rattle.js_tree.specs.Forest.{Forest}
 use Rattle.js_tree.specs.Form.{array_of_some, value_if}
 use Rattle.js_tree.specs.OutputUnit.{OutputUnit}
 use Rattle.js_tree.specs.Relative.{escaped, escaped_tree}
-use Rattle.js_tree.specs.RelativeState.{relative_row}
+use Rattle.js_tree.specs.RelativeState.{absolute_part, relative_row}
 use Rattle.js_tree.specs.Result.{ResultTree}
 use Rattle.js_tree.specs.Seen.{note_of}
 use Rattle.js_tree.specs.code.NodeText.{given_text, valid_text}
@@ -23,7 +23,7 @@ AreRowsOfTree rows t = map relative_row rows ≡ flat (escaped_tree t)
 
 -- it is the absolute location of the row's node, without the escapes
 abbrev pub IsAbsolute : RelativeRow → List ℕ → Type 0
-IsAbsolute r absolute = escape r.schema.now ++ r.absolute.now ≡ escape absolute
+IsAbsolute r absolute = escape r.schema.now ++ absolute_part r ≡ escape absolute
 
 -- the row's unit, with these locations
 abbrev pub unit_there : RelativeRow → List ℕ → List ℕ → List ℕ → OutputUnit
