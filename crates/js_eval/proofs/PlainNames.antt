@@ -1,12 +1,14 @@
 -- The names of the standard's applicators and assertions, and indexes, are written as they are in a pointer.
-use Rattle.std.proofs.Common.{◌≡◌, ℕ, ◌<◌, ◌^◌, Bool, true, false, not, IsTrue, cond, ◌==◌, List, [], ◌∷◌, Option, Some, None, is_some, decimal, refl, sym, ap, ◌∙◌, subst, arith}
+use Rattle.std.proofs.Common.{◌≡◌, ℕ, ◌<◌, ◌^◌, Bool, true, false, not, IsTrue, cond, ◌==◌, List, [], ◌∷◌, Option, Some, None, is_some, decimal, ltb, refl, sym, ap, ◌∙◌, subst, arith}
 use Rattle.std.specs.List.{AllByRecursion, list_all}
 use Rattle.std.specs.Str.{bytes_eq}
 use Rattle.std.specs.Str.Parse.{AllDigits}
+use Rattle.std.proofs.lemmas.Bool.{agree_below, agree_below_at, and_parts}
 use Rattle.std.proofs.lemmas.Bool.Decides.{nat_tests}
 use Rattle.std.proofs.lemmas.Fmt.{decimal_is_IsNumeral}
 use Rattle.std.proofs.lemmas.Slice.Eq.{bytes_eq-Decides}
 use Rattle.std.proofs.lemmas.Str.Parse.{digit_from_value}
+use Rattle.js_doc.specs.Escapes.{stands}
 use Rattle.js_doc.specs.Pointer.{escape}
 use Rattle.js_doc.specs.code.Plain.{is_kept, is_plain}
 use Rattle.js_doc.proofs.PlainTokens.{all_kept, all_plain, kept_too}
@@ -15,6 +17,27 @@ use Rattle.js_eval.specs.Kind.{Applicator, applicators, kind, kind_in}
 use Rattle.js_eval.specs.code.Standard.{IsWrittenAsItIs}
 use Rattle.js_eval.specs.declared.kind.Kind.{Kind}
 use Rattle.js_eval.specs.declared.kind.Kind.TheVariants.{Annotation, Assertion}
+
+-- ---- in a JSON string
+
+-- every plain byte is above the quotation mark
+low : agree_below is_plain (λ b. false) 35 ≡ true
+low = refl
+
+above_marks : (b : ℕ) (v w : Bool) → ltb b 35 ≡ v → b == 92 ≡ w → is_plain b ≡ true → stands b ≡ true
+above_marks b true w l m e = let no : is_plain b ≡ false = agree_below_at is_plain (λ b. false) 35 b low (grind (arith, nat_tests, l)) in absurd cc
+above_marks b false true l m e =
+    let is : b ≡ 92 = grind (arith, nat_tests, m) in
+    let no : is_plain 92 ≡ true = subst (λ c. is_plain c ≡ true) is e in
+    absurd cc
+above_marks b false false l m e = grind (arith, nat_tests, l, m)
+
+all_stand : (bs : List ℕ) → list_all is_plain bs ≡ true → list_all stands bs ≡ true
+all_stand [] e = refl
+all_stand (b ∷ bs) e =
+    let p = and_parts (is_plain b) (list_all is_plain bs) e in
+    let here = above_marks b (ltb b 35) (b == 92) refl refl p.0 in
+    rw here (all_stand bs p.1)
 
 -- ---- names of keywords
 
@@ -55,7 +78,7 @@ pub written_by_kind : (name : List ℕ) → (kind name ≡ Annotation → ⊥) �
 unfolding kind
 written_by_kind name other =
     let plain : IsPlain name = applicator_plain applicators name all_applicators other in
-    (all_kept name (kept_too name plain), ap (λ bs. 47 ∷ bs) (all_plain name plain))
+    record { in_pointer = all_kept name (kept_too name plain); in_fragment = ap (λ bs. 47 ∷ bs) (all_plain name plain); in_string = all_stand name plain }
 
 -- ---- indexes
 
@@ -69,3 +92,6 @@ digits_kept (c ∷ cs) d =
 
 pub decimal_kept : (n : ℕ) → n < 2 ^ 64 → escape (decimal n) ≡ decimal n
 decimal_kept n h = all_kept (decimal n) (digits_kept (decimal n) (decimal_is_IsNumeral n h).0.1)
+
+pub not_matched : (matches : Bool) → matches ≡ true → not matches ≡ true → ⊥
+not_matched matches e t = absurd cc

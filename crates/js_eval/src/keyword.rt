@@ -19,9 +19,8 @@ pub(crate) struct Keyword<'a> {
     ghost named: { kind ≡ table.kind name.now },
 }
 
-/// Whether it is sure that a keyword's name is written as it is, in a pointer as in a fragment: those of the standard's
-/// applicators and assertions are.
-#[tactic(auto, using(crate::proofs::PlainNames::written_by_kind))]
+/// Whether it is sure that a keyword's name is written as it is, in a pointer, in a fragment and in a JSON string: those
+/// of the standard's applicators and assertions are.
 pub(crate) fn is_written_as_it_is(kind: Kind, _name: &str) -> bool
     requires { kind ≡ table.kind _name.now }
     ensures { IsTrue result → IsWrittenAsItIs _name.now }

@@ -7,7 +7,7 @@ use crate::here::Here;
 use crate::instance::Instance;
 use crate::keyword::{Keyword, is_written_as_it_is};
 use crate::telling::keyword_note;
-use crate::walking::{HeldText, Judged, Reporter, Trail, push_kept};
+use crate::walking::{HeldText, Judged, Reporter, Trail};
 use js_bundle::Place;
 use js_doc::{Doc, Memory, push_fragment_token};
 use js_tree::RelativeRows;
@@ -18,7 +18,8 @@ use std::alloc::Global;
 #[derive(Drop)]
 pub(crate) struct Recording<'a> {
     pub rows: RelativeRows<'a>,
-    // What the absolute location of a keyword adds to that of its place. One string serves all keywords.
+    // What the absolute location of a keyword adds to that of its place, where its name may need escapes. One string
+    // serves all keywords.
     pub token: String,
 }
 
@@ -58,8 +59,16 @@ impl<'a> Reporter<Here<'a>, HeldText> for Recording<'a> {
         keyword_location: &Trail<HeldText>,
         instance_location: &Trail<HeldText>,
     ) -> Result<(), Memory> {
-        set_token(&mut self.token, keyword)?;
         let schema = world.schemas.absolute_of(place);
+        if is_written_as_it_is(keyword.kind, keyword.name) {
+            return self.rows.enter_keyword(
+                keyword_location.as_str(),
+                schema,
+                keyword.name,
+                instance_location.as_str(),
+            );
+        }
+        set_token(&mut self.token, keyword.name)?;
         self.rows.enter(
             keyword_location.as_str(),
             schema,
@@ -103,14 +112,10 @@ impl<'a> Reporter<Here<'a>, HeldText> for Recording<'a> {
     }
 }
 
-// Sets the token to what the absolute location of the keyword adds to that of its place.
-fn set_token(token: &mut String, keyword: Keyword<'_>) -> Result<(), Memory>
-    ensures { OnOk result (string_bytes token.new ≡ fragment_token keyword.entry.name.now) }
+// Sets the token to what the absolute location of a keyword adds to that of its place.
+fn set_token(token: &mut String, name: &str) -> Result<(), Memory>
+    ensures { OnOk result (string_bytes token.new ≡ fragment_token name.now) }
 {
     token.clear();
-    if is_written_as_it_is(keyword.kind, keyword.name) {
-        push_kept(token, keyword.name)
-    } else {
-        push_fragment_token(token, keyword.name)
-    }
+    push_fragment_token(token, name)
 }

@@ -19,7 +19,7 @@ mod world;
 
 pub use fault::WalkFault;
 pub(crate) use path::Path;
-pub(crate) use pointer_text::{HeldText, PointerText, UnseenText, push_kept};
+pub(crate) use pointer_text::{HeldText, PointerText, UnseenText};
 pub(crate) use reporter::Reporter;
 pub(crate) use silent::Silent;
 pub(crate) use start::walk_from;

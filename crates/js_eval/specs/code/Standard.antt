@@ -1,6 +1,8 @@
 -- The kind of a keyword and its turn, by which keyword of the standard it is, and how its name is written (of private
 -- functions).
-use Rattle.std.specs.Prelude.{◌≡◌, ℕ, List, ◌∷◌, map}
+use Rattle.std.specs.Prelude.{◌≡◌, ℕ, true, List, ◌∷◌, map}
+use Rattle.std.specs.List.{list_all}
+use Rattle.js_doc.specs.Escapes.{stands}
 use Rattle.js_doc.specs.Fragment.{fragment_token}
 use Rattle.js_doc.specs.Pointer.{escape}
 use Rattle.js_doc.specs.Value.{Named}
@@ -82,6 +84,8 @@ turn_by_name name.OtherBehindIf = turn.Last
 abbrev pub keyword_names_of : Named → List KeywordName
 keyword_names_of ms = map (λ m. keyword_name m.0) ms
 
--- the name is written as it is, in a pointer as in a fragment
-abbrev pub IsWrittenAsItIs : List ℕ → Type 0
-IsWrittenAsItIs name = (escape name ≡ name) × (fragment_token name ≡ 47 ∷ name)
+-- the name is written as it is
+pub record IsWrittenAsItIs (name : List ℕ) : Type 0 where
+  pub in_pointer : escape name ≡ name
+  pub in_fragment : fragment_token name ≡ 47 ∷ name
+  pub in_string : list_all stands name ≡ true

@@ -101,7 +101,7 @@ impl PointerText for HeldText {
 ///
 /// # Errors
 /// `Memory` if an allocation fails.
-pub(crate) fn push_kept(out: &mut String, token: &str) -> Result<(), Memory>
+fn push_kept(out: &mut String, token: &str) -> Result<(), Memory>
     ensures { OnOk result (string_bytes out.new ≡ string_bytes out.old ++ 47 ∷ token.now) }
 {
     out.push('/')?;
