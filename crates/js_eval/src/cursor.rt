@@ -27,9 +27,10 @@ pub(crate) enum Asking<'a> {
     One(Option<Applied<'a>>),
     List(ListCursor<'a>),
     Items(ItemCursor<'a>),
-    Names(NameCursor<'a>),
-    Members(MemberCursor<'a>),
-    /// Boxed, because it is much larger than the others, and each level of the recursion holds an `Asking`.
+    // These are boxed: with an iterator over members, they are much larger than the others. Each level of the recursion
+    // holds an `Asking`, and one is cleared and copied several times for each keyword.
+    Names(Box<NameCursor<'a>>),
+    Members(Box<MemberCursor<'a>>),
     Patterns(Box<PatternCursor<'a>>),
 }
 

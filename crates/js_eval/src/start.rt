@@ -92,9 +92,9 @@ pub(crate) fn start<'a>(
         Kind::If => Ok(held(schemas, place, schema, keyword, value)),
         Kind::Then => Ok(held_then(schemas, place, schema, keyword, facts.condition, value)),
         Kind::Else => Ok(held_else(schemas, place, schema, keyword, facts.condition, value)),
-        Kind::DependentSchemas => Ok(start_members::dependent(
-            schemas, place, schema, keyword, value,
-        )),
+        Kind::DependentSchemas => {
+            start_members::dependent(alloc, schemas, place, schema, keyword, value)
+        }
         Kind::PrefixItems => Ok(start_items::prefix(alloc, schemas, place, schema, keyword, value)),
         Kind::Items => Ok(start_items::following(alloc, schemas, place, schema, keyword, value)),
         Kind::Contains => Ok(start_items::every(alloc, schemas, place, schema, keyword, value)),
@@ -102,12 +102,12 @@ pub(crate) fn start<'a>(
         Kind::PatternProperties => {
             start_members::patterns(alloc, schemas, place, schema, keyword, value)
         }
-        Kind::AdditionalProperties => Ok(start_members::additional(
-            schemas, place, schema, keyword, value,
-        )),
-        Kind::PropertyNames => Ok(start_members::property_names(
-            schemas, place, schema, keyword, value,
-        )),
+        Kind::AdditionalProperties => {
+            start_members::additional(alloc, schemas, place, schema, keyword, value)
+        }
+        Kind::PropertyNames => {
+            start_members::property_names(alloc, schemas, place, schema, keyword, value)
+        }
         Kind::UnevaluatedItems => start_items::unevaluated_items(
             alloc,
             schemas,

@@ -42,33 +42,33 @@ const FEW: usize = 6;
 const PER_NAME: usize = 2;
 
 /// The applications of `dependentSchemas`.
+///
+/// # Errors
+/// `Memory` if an allocation fails.
 pub(crate) fn dependent<'a>(
+    alloc: Global,
     schemas: &'a Schemas,
     place: Place,
     schema: &'a Doc,
     keyword: Keyword<'a>,
     value: Instance<'a>,
-) -> Asking<'a>
+) -> Result<Asking<'a>, Memory>
     requires { StandsAt schemas.now place (value_of schema.now) }
-    ensures asked { asked schemas.now result
+    ensures asked { IfOk result (λ a. asked schemas.now a
         ≡ map (λ m. application (schemas_of schemas.now) (numbered_site schemas.now place) keyword.entry.name.now
         (spec.Name m.0) spec.Alone (instance_of value.entry))
-        (filter (λ m. has m.0 (entries (instance_of value.entry))) (entries (value_of keyword.entry.argument.now))) }
-    ensures is { IsAsking schemas.now result }
+        (filter (λ m. has m.0 (entries (instance_of value.entry))) (entries (value_of keyword.entry.argument.now)))) }
+    ensures is { IfOk result (λ a. IsAsking schemas.now a) }
 {
     let Some(named) = object_in(keyword.argument) else {
-        return Asking::One(None);
+        return Ok(Asking::One(None));
     };
     match value.object() {
-        Some(members) => Asking::Members(each_in_place(
-            place,
-            schema,
-            keyword.name,
-            named,
-            members,
-            value,
-        )),
-        None => Asking::One(None),
+        Some(members) => {
+            let cursor = each_in_place(place, schema, keyword.name, named, members, value);
+            Ok(Asking::Members(Box::new(alloc, cursor)?))
+        }
+        None => Ok(Asking::One(None)),
     }
 }
 
@@ -120,12 +120,14 @@ fn named_members<'a>(
         → IsAsking documents a) }
 {
     if named.len() / MANY_MORE > members.len() {
-        Ok(Asking::Members(each_named(place, schema, keyword.name, named, members)))
+        let cursor = each_named(place, schema, keyword.name, named, members);
+        Ok(Asking::Members(Box::new(alloc, cursor)?))
     } else if named.len() < FEW || members.len() / PER_NAME > named.len() {
-        Ok(Asking::Names(each_of_names(place, schema, keyword, named, members)))
+        let cursor = each_of_names(place, schema, keyword, named, members);
+        Ok(Asking::Names(Box::new(alloc, cursor)?))
     } else {
         let cursor = each_in_step(alloc, place, schema, keyword, named, members)?;
-        Ok(Asking::Names(cursor))
+        Ok(Asking::Names(Box::new(alloc, cursor)?))
     }
 }
 
@@ -169,55 +171,67 @@ pub(crate) fn patterns<'a>(
 }
 
 /// The applications of `additionalProperties`.
+///
+/// # Errors
+/// `Memory` if an allocation fails.
 pub(crate) fn additional<'a>(
+    alloc: Global,
     schemas: &'a Schemas,
     place: Place,
     schema: &'a Doc,
     keyword: Keyword<'a>,
     value: Instance<'a>,
-) -> Asking<'a>
+) -> Result<Asking<'a>, Memory>
     requires place { StandsAt schemas.now place (value_of schema.now) }
     requires kind { held_at keyword.kind ≡ is_alone }
     requires keyword { IsIn (value_of schema.now) (keyword_of keyword) }
-    ensures asked { asked schemas.now result
+    ensures asked { IfOk result (λ a. asked schemas.now a
         ≡ map (λ m. application (schemas_of schemas.now)
         (numbered_site schemas.now place) keyword.entry.name.now spec.Alone (spec.Name m.0) m.1)
         (filter (λ m. not (is_property (entries (value_of schema.now)) m.0
-        || matches_pattern (entries (value_of schema.now)) m.0)) (entries (instance_of value.entry))) }
-    ensures is { IsAsking schemas.now result }
+        || matches_pattern (entries (value_of schema.now)) m.0)) (entries (instance_of value.entry)))) }
+    ensures is { IfOk result (λ a. IsAsking schemas.now a) }
 {
     let (below, held) = held_below(schemas, place, schema, keyword);
     let properties = object_at(schema, "properties");
     let patterns = object_at(schema, "patternProperties");
     match value.object() {
-        Some(members) => Asking::Members(each_additional(
-            below, held, place, properties, patterns, members,
-        )),
-        None => Asking::One(None),
+        Some(members) => {
+            let cursor = each_additional(below, held, place, properties, patterns, members);
+            Ok(Asking::Members(Box::new(alloc, cursor)?))
+        }
+        None => Ok(Asking::One(None)),
     }
 }
 
 /// The applications of `propertyNames`.
+///
+/// # Errors
+/// `Memory` if an allocation fails.
 pub(crate) fn property_names<'a>(
+    alloc: Global,
     schemas: &'a Schemas,
     place: Place,
     schema: &'a Doc,
     keyword: Keyword<'a>,
     value: Instance<'a>,
-) -> Asking<'a>
+) -> Result<Asking<'a>, Memory>
     requires place { StandsAt schemas.now place (value_of schema.now) }
     requires kind { held_at keyword.kind ≡ is_alone }
     requires keyword { IsIn (value_of schema.now) (keyword_of keyword) }
-    ensures asked { asked schemas.now result
+    ensures asked { IfOk result (λ a. asked schemas.now a
         ≡ map (λ m. application (schemas_of schemas.now)
         (numbered_site schemas.now place) keyword.entry.name.now spec.Alone (spec.Name m.0) (text m.0))
-        (entries (instance_of value.entry)) }
-    ensures is { IsAsking schemas.now result }
+        (entries (instance_of value.entry))) }
+    ensures is { IfOk result (λ a. IsAsking schemas.now a) }
 {
     let (below, held) = held_below(schemas, place, schema, keyword);
     match value.object() {
-        Some(members) => Asking::Members(each_name(below, held, members)),
-        None => Asking::One(None),
+        Some(members) => {
+            let cursor = each_name(below, held, members);
+            Ok(Asking::Members(Box::new(alloc, cursor)?))
+        }
+        None => Ok(Asking::One(None)),
     }
 }
 
@@ -247,6 +261,6 @@ pub(crate) fn unevaluated_properties<'a>(
         return Ok(Asking::One(None));
     };
     let (below, held) = held_below(schemas, place, schema, keyword);
-    let members = each_other(alloc, below, held, evaluated, members)?;
-    Ok(Asking::Members(members))
+    let cursor = each_other(alloc, below, held, evaluated, members)?;
+    Ok(Asking::Members(Box::new(alloc, cursor)?))
 }
