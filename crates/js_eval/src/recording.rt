@@ -30,6 +30,11 @@ impl<'a> Reporter<Here<'a>, HeldText> for Recording<'a> {
         false
     }
 
+    #[inline(always)]
+    fn drops_silent(&self) -> bool {
+        false
+    }
+
     #[inline(never)]
     fn open_schema(
         &mut self,
