@@ -45,13 +45,6 @@ map_cut : {A B : Type 0} (f : A → B) (b : Bool) (n : ℕ) (xs ys : List A) →
 map_cut f true n xs ys e = ap (map f) e
 map_cut f false n xs ys e = ap (map f) e ∙ sym (take-map f n xs)
 
--- three that are true
-pub skipped : (a b c : Bool) → ((a && b) && c) ≡ true → (a ≡ true) × (b ≡ true) × (c ≡ true)
-skipped true true true h = (refl, refl, refl)
-skipped true true false h = cc
-skipped true false c h = cc
-skipped false b c h = cc
-
 kept_whole : {A : Type 0} (b : Bool) (xs : List A) → xs ≡ cond b xs (take (length xs) xs)
 kept_whole true xs = refl
 kept_whole false xs = sym (take-length xs)
@@ -179,7 +172,7 @@ module _ {M H K C P : Type 0} (S : SchemaSet P) (text_of : M → Text) (takes : 
       let none = nothing_done path (kind_at k) w₁ c in
       let none_walked = rw (names, indexes) at none.walked in
       let walked = keyword_walked S n path place v k matching [] passes 0 0 (map text_of w.names.items) (map text_of w.names.items) (map text_of w₁.names.items) w.indexes.items w.indexes.items w₁.indexes.items w.left w₁.left w₁.left none_walked left judged
-          (ap (map text_of) names ∙ kept_whole passes (map text_of w.names.items)) (indexes ∙ kept_whole passes w.indexes.items) in
+      (ap (map text_of) names ∙ kept_whole passes (map text_of w.names.items)) (indexes ∙ kept_whole passes w.indexes.items) in
       record {
         walked = walked;
         told = λ at h.

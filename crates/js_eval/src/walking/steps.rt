@@ -4,7 +4,11 @@ ghost use Rattle.std.specs.List.{dedup, list_all};
 ghost use Rattle.std.specs.String.Boundary.{IsSplitPoint};
 ghost use Rattle.js_bundle.specs.Resource.{Site};
 ghost use Rattle.js_eval.specs.Walk.Steps.{SchemaOpened, SchemaClosed, IsJudged, KeywordOpened, KeywordClosed, KeywordDone, WentDown, CameBack};
-ghost use Rattle.js_eval.specs.Walk.Told.{IsKeywordAt, asked_by};
+ghost use Rattle.js_doc.specs.Value.{Value as JsonValue};
+ghost use Rattle.js_eval.specs.SchemaSet.{Text as Bytes};
+ghost use Rattle.js_eval.specs.Walk.Reported.{DropsSilent};
+ghost use Rattle.js_eval.specs.Walk.Told.{IsKeywordAt, asked_by, says_at};
+ghost use Rattle.js_tree.specs.Note.{silent};
 ghost use Rattle.js_eval.specs.Walk.Visited.{AreJudgedIf};
 
 use crate::kind::Kind;
@@ -234,7 +238,7 @@ pub(crate) fn childless_node<W: World, H: PointerText + Drop, R: Reporter<W, H>>
 {
     let passes = passes_alone(alloc, world, case, matching)?;
     let judged = Judged { passes, held: 0 };
-    if passes & world.passes_silently(case.keyword) & into.drops_silent() {
+    if is_dropped(world, into, case.keyword, passes) {
         way.left -= 1;
         return Ok(judged);
     }
@@ -242,6 +246,24 @@ pub(crate) fn childless_node<W: World, H: PointerText + Drop, R: Reporter<W, H>>
     open_keyword(alloc, world, way, into, case.place, case.keyword)?;
     close_judged(alloc, world, way, into, case, here, judged, matching)?;
     Ok(judged)
+}
+
+// Whether the reporter would keep nothing of a keyword's leaf: it passes, and then never has a note. `passes`: whether
+// it passes.
+#[inline(always)]
+fn is_dropped<W: World, H: PointerText + Drop, R: Reporter<W, H>>(
+    world: &W,
+    into: &R,
+    keyword: W::Keyword,
+    passes: bool,
+) -> bool
+    ensures passes { result ≡ true → passes ≡ true }
+    ensures silent { (place : Site) (v : JsonValue) (matching held : ℕ) (names : List Bytes) (indexes : List ℕ)
+        → result ≡ true → says_at (W.schemas world.now) place v matching (W.keyword_of keyword) held names indexes
+        true ≡ silent }
+    ensures drops { result ≡ true → DropsSilent R.takes into.now }
+{
+    passes && world.passes_silently(keyword) && into.drops_silent()
 }
 
 // Whether a keyword passes that applies no schema.
