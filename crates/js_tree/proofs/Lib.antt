@@ -29,10 +29,14 @@ pub mod RelativeTold
 pub mod QuotedParts
 pub mod RelativeTexts
 pub mod RoomLeft
+pub mod RootBack
 pub mod Searching
 pub mod Siblings
+pub mod SilentLeaves
 pub mod Steps
 pub mod Telling
+pub mod TrimmedTold
+pub mod Trimming
 pub mod VerdictTold
 pub mod DetailedTrees
 pub mod Differing

@@ -1,7 +1,7 @@
 -- A collector of rows that have only what their locations add, and the events of a tree.
-use Rattle.std.specs.Prelude.{◌≡◌, ℕ, suc, ◌+◌, ◌-◌, ◌<◌, ◌≤◌, Bool, List, [], ◌∷◌, ◌++◌, drop, length, map, slice_get, slice_set, slice_index_or, Some, refl}
+use Rattle.std.specs.Prelude.{◌≡◌, ℕ, suc, ◌+◌, ◌-◌, ◌<◌, ◌≤◌, Bool, true, false, List, [], ◌∷◌, ◌++◌, drop, length, map, take, slice_get, slice_set, slice_index_or, Some, refl}
 use Rattle.std.proofs.Common.{arith, ap, sym, ◌∙◌, append-nil}
-use Rattle.std.proofs.lemmas.List.{append_assoc, length-map, map-append}
+use Rattle.std.proofs.lemmas.List.{append_assoc, length-map, map-append, take-map}
 use Rattle.json.specs.Print.{escape}
 use Rattle.js_tree.specs.Events.{closing, events, events_of, Passes, after_all}
 use Rattle.js_tree.specs.Flat.{flat_of}
@@ -10,7 +10,7 @@ use Rattle.js_tree.specs.Forest.{Forest, empty, tree, node_count}
 use Rattle.js_tree.specs.Note.{Note}
 use Rattle.js_tree.specs.OutputUnit.{OutputUnit}
 use Rattle.js_tree.specs.Relative.{escaped, escaped_unit, relative, relative_unit}
-use Rattle.js_tree.specs.RelativeState.{OpenNode, RelativeState, escaped_row, relative_start, whole_relative, open_at, node_above, relative_opened, relative_closed, relative_after, relative_row, open_node, open_nodes, relative_state}
+use Rattle.js_tree.specs.RelativeState.{OpenNode, RelativeState, escaped_row, relative_start, whole_relative, open_at, node_above, relative_opened, relative_closed, relative_after, rows_closed, row_goes, relative_row, open_node, open_nodes, relative_state}
 use Rattle.js_tree.specs.Result.{ResultTree}
 use Rattle.js_tree.specs.declared.relative.OpenNode.{OpenNode as DeclaredOpen}
 use Rattle.js_tree.specs.declared.relative.RelativeRow.{RelativeRow}
@@ -20,43 +20,45 @@ use Rattle.js_tree.proofs.Telling.{passes-after_all, after_all-append}
 
 -- ---- the events of a tree
 
-abbrev at : List FlatRow → List OpenNode → RelativeState
-at rows nodes = record { rows = rows; nodes = nodes }
+abbrev pub at : Bool → List FlatRow → List OpenNode → RelativeState
+at trims rows nodes = record { rows = rows; nodes = nodes; trims = trims }
 
-opened_below : (rows : List FlatRow) (o : OpenNode) (nodes : List OpenNode) (keyword absolute instance : List ℕ)
-    → relative_opened rows (o ∷ nodes) keyword absolute instance ≡ at (rows ++ escaped_row (drop o.keyword keyword) absolute (drop o.instance instance) ∷ []) (open_at (length rows) keyword instance ∷ o ∷ nodes)
+pub opened_below : {trims : Bool} (rows : List FlatRow) (o : OpenNode) (nodes : List OpenNode) (keyword absolute instance : List ℕ)
+    → relative_opened trims rows (o ∷ nodes) keyword absolute instance ≡ at trims (rows ++ escaped_row (drop o.keyword keyword) absolute (drop o.instance instance) ∷ []) (open_at (length rows) keyword instance ∷ o ∷ nodes)
 opened_below [] o nodes keyword absolute instance = refl
 opened_below (r ∷ rows) o nodes keyword absolute instance = refl
 
-abbrev unknown : OutputUnit → FlatRow
+abbrev pub unknown : OutputUnit → FlatRow
 unknown u = opening_row u.keyword u.absolute u.instance
 
 relative_closed_at : (rows : List FlatRow) (u : OutputUnit) (f : Forest OutputUnit) (keyword instance : List ℕ) (nodes : List OpenNode)
-    → relative_closed ((rows ++ unknown u ∷ []) ++ flat_of f) (open_at (length rows) keyword instance ∷ nodes) u.valid u.note ≡ at (rows ++ (u, suc (node_count f)) ∷ flat_of f) nodes
-relative_closed_at rows u f keyword instance nodes = ap (λ s. at s.rows nodes) (closed_at rows u f [])
+    → relative_closed false ((rows ++ unknown u ∷ []) ++ flat_of f) (open_at (length rows) keyword instance ∷ nodes) u.valid u.note ≡ at false (rows ++ (u, suc (node_count f)) ∷ flat_of f) nodes
+relative_closed_at rows u f keyword instance nodes = ap (λ s. at false s.rows nodes) (closed_at rows u f [])
 
-told_below : (f : Forest OutputUnit) (rows : List FlatRow) (o : OpenNode) (nodes : List OpenNode) → after_all relative_after (at rows (o ∷ nodes)) (events_of f) ≡ at (rows ++ flat_of (escaped (relative o.keyword o.instance f))) (o ∷ nodes)
-told_below empty rows o nodes = ap (λ zs. at zs (o ∷ nodes)) (sym (append-nil rows))
+told_below : (f : Forest OutputUnit) (rows : List FlatRow) (o : OpenNode) (nodes : List OpenNode) → after_all relative_after (at false rows (o ∷ nodes)) (events_of f) ≡ at false (rows ++ flat_of (escaped (relative o.keyword o.instance f))) (o ∷ nodes)
+told_below empty rows o nodes = ap (λ zs. at false zs (o ∷ nodes)) (sym (append-nil rows))
 told_below (tree u below rest) rows o nodes =
     let v : OutputUnit = escaped_unit (relative_unit o.keyword o.instance u) in
     let g : Forest OutputUnit = escaped (relative (length u.keyword) (length u.instance) below) in
     ap (λ s. after_all relative_after s (events_of below ++ (closing u.valid u.note ∷ events_of rest))) (opened_below rows o nodes u.keyword u.absolute u.instance)
-    ∙ (after_all-append relative_after (at (rows ++ unknown v ∷ []) (open_at (length rows) u.keyword u.instance ∷ o ∷ nodes)) (events_of below) (closing u.valid u.note ∷ events_of rest)
+    ∙ (after_all-append relative_after (at false (rows ++ unknown v ∷ []) (open_at (length rows) u.keyword u.instance ∷ o ∷ nodes)) (events_of below) (closing u.valid u.note ∷ events_of rest)
     ∙ (ap (λ s. after_all relative_after s (closing u.valid u.note ∷ events_of rest)) (told_below below (rows ++ unknown v ∷ []) (open_at (length rows) u.keyword u.instance) (o ∷ nodes))
     ∙ (ap (λ s. after_all relative_after s (events_of rest)) (relative_closed_at rows v g u.keyword u.instance (o ∷ nodes))
     ∙ (told_below rest (rows ++ (v, suc (node_count g)) ∷ flat_of g) o nodes
-    ∙ ap (λ zs. at zs (o ∷ nodes)) (append_assoc rows ((v, suc (node_count g)) ∷ flat_of g) (flat_of (escaped (relative o.keyword o.instance rest))))))))
+    ∙ ap (λ zs. at false zs (o ∷ nodes)) (append_assoc rows ((v, suc (node_count g)) ∷ flat_of g) (flat_of (escaped (relative o.keyword o.instance rest))))))))
 
-told : (t : ResultTree) → after_all relative_after relative_start (events t) ≡ whole_relative t
+told : (t : ResultTree) → after_all relative_after relative_start (events t) ≡ whole_relative false t
 told t =
     let o : OpenNode = open_at 0 t.root.keyword t.root.instance in
     let u : OutputUnit = escaped_unit t.root in
-    after_all-append relative_after (at (unknown u ∷ []) (o ∷ [])) (events_of t.below) (closing t.root.valid t.root.note ∷ [])
+    after_all-append relative_after (at false (unknown u ∷ []) (o ∷ [])) (events_of t.below) (closing t.root.valid t.root.note ∷ [])
     ∙ (ap (λ s. relative_after s (closing t.root.valid t.root.note)) (told_below t.below (unknown u ∷ []) o [])
     ∙ relative_closed_at [] u (escaped (relative o.keyword o.instance t.below)) t.root.keyword t.root.instance [])
 
-pub relative_held : (t : ResultTree) (c d : RelativeRows) → relative_state c ≡ relative_start → Passes (λ a e b. relative_state b ≡ relative_after (relative_state a) e) (events t) c d → relative_state d ≡ whole_relative t
-relative_held t c d h p = passes-after_all relative_state relative_after (events t) c d p ∙ (ap (λ s. after_all relative_after s (events t)) h ∙ told t)
+pub relative_held : (t : ResultTree) (c d : RelativeRows) → relative_state c ≡ relative_start → Passes (λ a e b. relative_state b ≡ relative_after (relative_state a) e) (events t) c d → relative_state d ≡ whole_relative d.trims t
+relative_held t c d h p =
+    let e : relative_state d ≡ whole_relative false t = passes-after_all relative_state relative_after (events t) c d p ∙ (ap (λ s. after_all relative_after s (events t)) h ∙ told t) in
+    e ∙ ap (λ trims. whole_relative trims t) (sym (ap (λ s. s.trims) e))
 
 -- ---- the code's rows and open nodes
 
@@ -74,23 +76,47 @@ innermost_is x [] nodes e = absurd cc
 innermost_is x (y ∷ []) nodes e = cc
 innermost_is x (y ∷ z ∷ ys) nodes e = innermost_is x (z ∷ ys) (open_node y ∷ nodes) (e ∙ ap (slice_get (y ∷ z ∷ ys)) (let a : suc (suc (length ys)) - 1 ≡ suc (suc (length ys) - 1) = omega (arith) in a))
 
-popped : (rows : List FlatRow) (os ps : List DeclaredOpen) (o : DeclaredOpen) (valid : Bool) (note : Note) (zs : List FlatRow) → os ≡ ps ++ o ∷ [] → zs ≡ with_closed o.number valid note (length rows - o.number) rows
-    → at zs (open_nodes ps []) ≡ relative_closed rows (open_nodes os []) valid note
-popped rows os ps o valid note zs e f =
-    ap (λ qs. at qs (open_nodes ps [])) f ∙ ap (λ ks. relative_closed rows ks valid note) (sym (ap (λ xs. open_nodes xs []) e ∙ open_nodes-append ps o []))
+-- what isn't there doesn't go
+none_goes : (trims : Bool) (note : Note) → false ≡ row_goes trims note 0
+none_goes true note = refl
+none_goes false note = refl
 
-pub closes : (rows : List RelativeRow) (os ps : List DeclaredOpen) (o : DeclaredOpen) (old new : RelativeRow) (valid : Bool) (note : Note) (size : ℕ) → os ≡ ps ++ o ∷ [] → o.number < length rows → size ≡ length rows - o.number → old ≡ slice_index_or rows o.number old → relative_row new ≡ closed_row (relative_row old) valid note size
-    → at (map relative_row (slice_set rows o.number new)) (open_nodes ps []) ≡ relative_closed (map relative_row rows) (open_nodes os []) valid note
-closes rows os ps o old new valid note size e lt s i f =
+popped : {trims : Bool} (rows : List FlatRow) (os ps : List DeclaredOpen) (o : DeclaredOpen) (valid : Bool) (note : Note) (zs : List FlatRow) → os ≡ ps ++ o ∷ []
+    → zs ≡ rows_closed (row_goes trims note (length rows - o.number)) o.number valid note rows → at trims zs (open_nodes ps []) ≡ relative_closed trims rows (open_nodes os []) valid note
+popped {trims} rows os ps o valid note zs e f =
+    ap (λ qs. at trims qs (open_nodes ps [])) f ∙ ap (λ ks. relative_closed trims rows ks valid note) (sym (ap (λ xs. open_nodes xs []) e ∙ open_nodes-append ps o []))
+
+-- what is said of the row's going
+goes_or_not : (trims : Bool) (rows : List RelativeRow) (o : DeclaredOpen) (note : Note) (size : ℕ) (b : Bool) → size ≡ length rows - o.number → b ≡ row_goes trims note size
+    → b ≡ row_goes trims note (length (map relative_row rows) - o.number)
+goes_or_not trims rows o note size b s g = g ∙ ap (row_goes trims note) (s ∙ ap (λ n. n - o.number) (sym (length-map rows relative_row)))
+
+pub closes : {trims : Bool} (rows : List RelativeRow) (os ps : List DeclaredOpen) (o : DeclaredOpen) (old new : RelativeRow) (valid : Bool) (note : Note) (size : ℕ) → os ≡ ps ++ o ∷ [] → o.number < length rows → size ≡ length rows - o.number
+    → false ≡ row_goes trims note size → old ≡ slice_index_or rows o.number old → relative_row new ≡ closed_row (relative_row old) valid note size
+    → at trims (map relative_row (slice_set rows o.number new)) (open_nodes ps []) ≡ relative_closed trims (map relative_row rows) (open_nodes os []) valid note
+closes {trims} rows os ps o old new valid note size e lt s g i f =
     popped (map relative_row rows) os ps o valid note _ e
-    (row_closed relative_row rows o.number old new valid note size lt i f ∙ ap (λ k. with_closed o.number valid note k (map relative_row rows)) (let l = length-map rows relative_row in omega (arith, s, l)))
+    (row_closed relative_row rows o.number old new valid note size lt i f
+    ∙ (ap (λ k. with_closed o.number valid note k (map relative_row rows)) (let l = length-map rows relative_row in omega (arith, s, l))
+    ∙ ap (λ b. rows_closed b o.number valid note (map relative_row rows)) (goes_or_not trims rows o note size false s g)))
 
-pub closes_beyond : (rows : List RelativeRow) (os ps : List DeclaredOpen) (o : DeclaredOpen) (valid : Bool) (note : Note) → os ≡ ps ++ o ∷ [] → length rows ≤ o.number → at (map relative_row rows) (open_nodes ps []) ≡ relative_closed (map relative_row rows) (open_nodes os []) valid note
-closes_beyond rows os ps o valid note e le =
-    popped (map relative_row rows) os ps o valid note _ e (sym (with_closed-beyond o.number valid note _ (map relative_row rows) (let l = length-map rows relative_row in omega (arith, le, l))))
+pub closes_beyond : {trims : Bool} (rows : List RelativeRow) (os ps : List DeclaredOpen) (o : DeclaredOpen) (valid : Bool) (note : Note) → os ≡ ps ++ o ∷ [] → length rows ≤ o.number
+    → at trims (map relative_row rows) (open_nodes ps []) ≡ relative_closed trims (map relative_row rows) (open_nodes os []) valid note
+closes_beyond {trims} rows os ps o valid note e le =
+    let none : 0 ≡ length rows - o.number = omega (arith, le) in
+    popped (map relative_row rows) os ps o valid note _ e
+    (sym (with_closed-beyond o.number valid note _ (map relative_row rows) (let l = length-map rows relative_row in omega (arith, le, l)))
+    ∙ ap (λ b. rows_closed b o.number valid note (map relative_row rows)) (goes_or_not trims rows o note 0 false none (none_goes trims note)))
 
-opened_there : (rows : List FlatRow) (nodes : List OpenNode) (keyword absolute instance : List ℕ) → (length nodes ≡ 0 → length rows ≡ 0)
-    → relative_opened rows nodes keyword absolute instance ≡ at (rows ++ escaped_row (drop (node_above nodes).keyword keyword) absolute (drop (node_above nodes).instance instance) ∷ []) (open_at (length rows) keyword instance ∷ nodes)
+-- the last row goes
+pub drops : {trims : Bool} (rows : List RelativeRow) (os ps : List DeclaredOpen) (o : DeclaredOpen) (new : List RelativeRow) (valid : Bool) (note : Note) (size : ℕ) → os ≡ ps ++ o ∷ [] → size ≡ length rows - o.number → true ≡ row_goes trims note size → new ≡ take o.number rows
+    → at trims (map relative_row new) (open_nodes ps []) ≡ relative_closed trims (map relative_row rows) (open_nodes os []) valid note
+drops {trims} rows os ps o new valid note size e s g n =
+    popped (map relative_row rows) os ps o valid note _ e
+    (ap (map relative_row) n ∙ (sym (take-map relative_row o.number rows) ∙ ap (λ b. rows_closed b o.number valid note (map relative_row rows)) (goes_or_not trims rows o note size true s g)))
+
+opened_there : {trims : Bool} (rows : List FlatRow) (nodes : List OpenNode) (keyword absolute instance : List ℕ) → (length nodes ≡ 0 → length rows ≡ 0)
+    → relative_opened trims rows nodes keyword absolute instance ≡ at trims (rows ++ escaped_row (drop (node_above nodes).keyword keyword) absolute (drop (node_above nodes).instance instance) ∷ []) (open_at (length rows) keyword instance ∷ nodes)
 opened_there [] [] keyword absolute instance h = refl
 opened_there (r ∷ rows) [] keyword absolute instance h = let a : suc (length rows) ≡ 0 = h refl in absurd (omega (arith, a))
 opened_there rows (o ∷ nodes) keyword absolute instance h = opened_below rows o nodes keyword absolute instance
@@ -107,15 +133,15 @@ pub open_is : (number rows : ℕ) (keyword instance k i : List ℕ) → number �
 open_is number rows keyword instance k i n ke ie = ap (λ z. open_at z k i) n ∙ (ap (λ z. open_at rows z i) ke ∙ ap (λ z. open_at rows keyword z) ie)
 
 -- the row has what the locations add to those of the node above
-pub opens : (rows new : List RelativeRow) (os ps : List DeclaredOpen) (r : RelativeRow) (o : DeclaredOpen) (keyword absolute instance : List ℕ) → (length os ≡ 0 → length rows ≡ 0)
+pub opens : {trims : Bool} (rows new : List RelativeRow) (os ps : List DeclaredOpen) (r : RelativeRow) (o : DeclaredOpen) (keyword absolute instance : List ℕ) → (length os ≡ 0 → length rows ≡ 0)
     → relative_row r ≡ escaped_row (drop (node_above (open_nodes os [])).keyword keyword) absolute (drop (node_above (open_nodes os [])).instance instance)
     → new ≡ rows ++ r ∷ [] → ps ≡ os ++ o ∷ [] → open_node o ≡ open_at (length rows) keyword instance
-    → at (map relative_row new) (open_nodes ps []) ≡ relative_opened (map relative_row rows) (open_nodes os []) keyword absolute instance
-opens rows new os ps r o keyword absolute instance h f e d l =
+    → at trims (map relative_row new) (open_nodes ps []) ≡ relative_opened trims (map relative_row rows) (open_nodes os []) keyword absolute instance
+opens {trims} rows new os ps r o keyword absolute instance h f e d l =
     let row : FlatRow = escaped_row (drop (node_above (open_nodes os [])).keyword keyword) absolute (drop (node_above (open_nodes os [])).instance instance) in
     let n : length (map relative_row rows) ≡ length rows = length-map rows relative_row in
     let a : map relative_row new ≡ map relative_row rows ++ row ∷ [] = ap (map relative_row) e ∙ (map-append relative_row rows (r ∷ []) ∙ ap (λ q. map relative_row rows ++ q ∷ []) f) in
     let b : open_nodes ps [] ≡ open_at (length (map relative_row rows)) keyword instance ∷ open_nodes os [] =
     ap (λ qs. open_nodes qs []) d ∙ (open_nodes-append os o [] ∙ ap (λ q. q ∷ open_nodes os []) (l ∙ ap (λ k. open_at k keyword instance) (sym n))) in
     let g : length (open_nodes os []) ≡ 0 → length (map relative_row rows) ≡ 0 = λ z. n ∙ h (let k = length-open_nodes os [] in omega (arith, z, k)) in
-    ap (λ qs. at qs (open_nodes ps [])) a ∙ (ap (λ qs. at (map relative_row rows ++ row ∷ []) qs) b ∙ sym (opened_there (map relative_row rows) (open_nodes os []) keyword absolute instance g))
+    ap (λ qs. at trims qs (open_nodes ps [])) a ∙ (ap (λ qs. at trims (map relative_row rows ++ row ∷ []) qs) b ∙ sym (opened_there (map relative_row rows) (open_nodes os []) keyword absolute instance g))

@@ -5,7 +5,7 @@ use Rattle.js_tree.specs.Events.{events, Passes}
 use Rattle.js_tree.specs.FlatState.{flat_after, flat_start, flat_state, whole_tree}
 use Rattle.js_tree.specs.Forest.{height}
 use Rattle.js_tree.specs.Relative.{IsLocated}
-use Rattle.js_tree.specs.RelativeState.{AreRowsOf, relative_after, relative_start, relative_state}
+use Rattle.js_tree.specs.RelativeState.{AreRowsOf, AreTrimmedOf, relative_after, relative_start, relative_state, trimming_start}
 use Rattle.js_tree.specs.Result.{ResultTree}
 use Rattle.js_tree.specs.VerdictState.{verdict_after, verdict_start, verdict_state}
 use Rattle.js_tree.specs.declared.boxed.Boxed.{Boxed}
@@ -39,3 +39,8 @@ abbrev pub RelativeHolds : Type 0
 RelativeHolds =
     (t : ResultTree) (c d : RelativeRows) → IsLocated t → relative_state c ≡ relative_start
     → Passes (λ a e b. relative_state b ≡ relative_after (relative_state a) e) (events t) c d → AreRowsOf d t
+
+abbrev pub TrimmingHolds : Type 0
+TrimmingHolds =
+    (t : ResultTree) (c d : RelativeRows) → IsLocated t → relative_state c ≡ trimming_start
+    → Passes (λ a e b. relative_state b ≡ relative_after (relative_state a) e) (events t) c d → AreTrimmedOf d t

@@ -22,6 +22,7 @@ pub mod Result
 pub mod Seen
 pub mod Step
 pub mod Sublist
+pub mod Trimmed
 pub mod Units
 pub mod VerdictState
 pub mod code

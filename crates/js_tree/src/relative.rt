@@ -2,9 +2,10 @@
 ghost use Rattle.std.specs.Prelude.{◌≡◌, [], ◌++◌, IfOk, drop};
 ghost use Rattle.json.specs.Print.{escape};
 ghost use Rattle.js_tree.specs.Events.{opening, closing};
-ghost use Rattle.js_tree.specs.RelativeState.{AreRowsOf, AreWhole, node_above, open_node, open_nodes, relative_after, relative_start, relative_state};
+ghost use Rattle.js_tree.specs.RelativeState.{AreRowsOf, AreTrimmedOf, AreWhole, IsRootAt, node_above, open_node, open_nodes, relative_after, relative_start, relative_state, row_goes, trimming_start};
 ghost use Rattle.js_tree.specs.Result.{ResultTree};
 ghost use Rattle.js_tree.specs.Seen.{note_of};
+ghost use Rattle.js_tree.specs.Trimmed.{trimmed_tree};
 
 use crate::note::Note;
 use bumpalo::Bump;
@@ -45,6 +46,8 @@ pub struct RelativeRows<'a> {
     nodes: Vec<OpenNode>,
     // What goes into the arena, while it is escaped.
     scratch: Vec<u8>,
+    // Whether nodes without a note below which no row is left have no rows.
+    pub(crate) trims: bool,
 }
 
 impl<'a> RelativeRows<'a> {
@@ -57,6 +60,21 @@ impl<'a> RelativeRows<'a> {
             rows: Vec::new(alloc),
             nodes: Vec::new(alloc),
             scratch: Vec::new(alloc),
+            trims: false,
+        }
+    }
+
+    /// No nodes yet, and it will keep no rows of those that have no note and no rows left below them. Of such nodes
+    /// only the verbose format shows anything (JSON Schema Core, sections 12.4.2 to 12.4.4). It allocates nothing.
+    pub fn trimming(alloc: Global, arena: &'a Bump) -> RelativeRows<'a>
+        ensures { relative_state result ≡ trimming_start }
+    {
+        RelativeRows {
+            arena,
+            rows: Vec::new(alloc),
+            nodes: Vec::new(alloc),
+            scratch: Vec::new(alloc),
+            trims: true,
         }
     }
 
@@ -112,12 +130,34 @@ impl<'a> RelativeRows<'a> {
             let number = node.number;
             let count = self.rows.len();
             if number < count {
-                let row = &mut self.rows[number];
-                row.valid = valid;
-                row.note = note;
-                row.size = count - number;
+                let size = count - number;
+                if goes(self.trims, &note, size) {
+                    self.rows.truncate(number);
+                } else {
+                    let row = &mut self.rows[number];
+                    row.valid = valid;
+                    row.note = note;
+                    row.size = size;
+                }
             }
         }
+    }
+
+    /// Puts back the row of the root if it went with the others: with this absolute location of its schema and this
+    /// verdict. The rows are then those of the trimmed tree, whose root stays.
+    ///
+    /// # Errors
+    /// `Memory` if an allocation fails.
+    pub fn put_root_back(&mut self, absolute: &'a str, valid: bool) -> Result<(), Memory>
+        ensures { (t : ResultTree) → AreTrimmedOf self.old t → IsRootAt absolute.now valid t.root
+            → IfOk result (λ _. AreRowsOf self.new (trimmed_tree t)) }
+    {
+        if self.rows.is_empty() {
+            self.trims = false;
+            self.enter("", absolute, "", "")?;
+            self.leave(valid, Note::Silent);
+        }
+        Ok(())
     }
 
     /// The verdict of the root. The rows must be those of a whole tree.
@@ -129,6 +169,14 @@ impl<'a> RelativeRows<'a> {
         let root = &rows[0];
         root.valid
     }
+}
+
+// Whether the row of a node that closes goes: it has no note, and of its subtree's rows, which are so many, only it is
+// left.
+fn goes(trims: bool, note: &Note<'_>, size: usize) -> bool
+    ensures { result ≡ row_goes trims (note_of note.now) size }
+{
+    trims && size == 1 && !note.is_some()
 }
 
 // The innermost open node. If none is open, both lengths are 0.
