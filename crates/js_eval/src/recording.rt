@@ -32,7 +32,7 @@ impl<'a> Reporter<Here<'a>, HeldText> for Recording<'a> {
 
     #[inline(always)]
     fn drops_silent(&self) -> bool {
-        false
+        self.rows.drops_silent_leaves()
     }
 
     #[inline(never)]
