@@ -7,7 +7,7 @@ use Rattle.json.specs.Print.{escape}
 use Rattle.js_tree.specs.Events.{closing, opening}
 use Rattle.js_tree.specs.FlatState.{FlatRow, opening_row}
 use Rattle.js_tree.specs.Note.{silent}
-use Rattle.js_tree.specs.RelativeState.{OpenNode, RelativeState, escaped_row, node_above, open_at, open_nodes, relative_after, relative_closed, relative_opened, relative_row, relative_state, rows_closed, row_goes}
+use Rattle.js_tree.specs.RelativeState.{DropsSilent, OpenNode, RelativeState, escaped_row, node_above, open_at, open_nodes, relative_after, relative_closed, relative_opened, relative_row, relative_state, rows_closed, row_goes}
 use Rattle.js_tree.specs.declared.note.Note.TheVariants as note
 use Rattle.js_tree.specs.declared.relative.OpenNode.{OpenNode as DeclaredOpen}
 use Rattle.js_tree.specs.declared.relative.RelativeRow.{RelativeRow}
@@ -84,8 +84,7 @@ opened_with old (r ∷ rows) [] keyword absolute instance few shallow = (rows_wi
 opened_with old rows (o ∷ nodes) keyword absolute instance few shallow = pushed old rows (o ∷ nodes) keyword absolute instance few shallow (λ e. absurd (omega (arith, e)))
 
 -- if there is room for a row and for an open node
-pub comes_and_goes_between : (rows : RelativeRows) (keyword absolute instance : List ℕ) → rows.trims ≡ true → length rows.rows.items + 1 < 2 ^ 63 → length rows.nodes.items + 1 < 2 ^ 63
-    → (m : RelativeRows) × relative_state m ≡ relative_after (relative_state rows) (opening keyword absolute instance) × relative_after (relative_state m) (closing true silent) ≡ relative_state rows
-comes_and_goes_between rows keyword absolute instance e few shallow =
+pub drops_silent : (rows : RelativeRows) → rows.trims ≡ true → length rows.rows.items + 1 < 2 ^ 63 → length rows.nodes.items + 1 < 2 ^ 63 → DropsSilent rows
+drops_silent rows e few shallow = λ keyword absolute instance.
     let m = opened_with rows rows.rows.items rows.nodes.items keyword absolute instance few shallow in
-    (m.0, m.1, ap (λ s. relative_after s (closing true silent)) m.1 ∙ leaves_nothing (relative_state rows) keyword absolute instance true e)
+    (m.0, m.1, (rows, sym (ap (λ s. relative_after s (closing true silent)) m.1 ∙ leaves_nothing (relative_state rows) keyword absolute instance true e), refl))

@@ -1,10 +1,10 @@
 -- What a collector of rows holds that have only what their locations add to those of the node above, with JSON escapes.
 use Rattle.std.specs.Prelude.{◌≡◌, ℕ, ◌-◌, Bool, true, false, not, ◌&&◌, if◌then◌else◌, nat_eq, List, [], ◌∷◌, ◌++◌, drop, length, map, take}
 use Rattle.json.specs.Print.{escape}
-use Rattle.js_tree.specs.Events.{Event, opening, closing}
+use Rattle.js_tree.specs.Events.{Event, Passes, opening, closing}
 use Rattle.js_tree.specs.Flat.{flat}
 use Rattle.js_tree.specs.FlatState.{FlatRow, opening_row, with_closed}
-use Rattle.js_tree.specs.Note.{Note, speaks}
+use Rattle.js_tree.specs.Note.{Note, silent, speaks}
 use Rattle.js_tree.specs.OutputUnit.{OutputUnit}
 use Rattle.js_tree.specs.Relative.{IsLocated, escaped_tree, relative_tree}
 use Rattle.js_tree.specs.Result.{ResultTree}
@@ -119,3 +119,8 @@ pub record AreTrimmedOf (rows : RelativeRows) (t : ResultTree) : Type 0 where
 -- the root is validated as the whole instance by the whole schema, at this absolute location, with this verdict
 abbrev pub IsRootAt : List ℕ → Bool → OutputUnit → Type 0
 IsRootAt absolute valid u = (u.keyword ≡ []) × (u.instance ≡ []) × (u.absolute ≡ absolute) × (u.valid ≡ valid)
+
+-- a node that opens and closes at once, passing and without a note, leads from the rows back to them, wherever it is
+abbrev pub DropsSilent : RelativeRows → Type 0
+DropsSilent rows = (keyword absolute instance : List ℕ)
+    → Passes (λ a e b. relative_state b ≡ relative_after (relative_state a) e) (opening keyword absolute instance ∷ closing true silent ∷ []) rows rows

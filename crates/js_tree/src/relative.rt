@@ -1,8 +1,8 @@
 //! A result as relative rows: of each location a row keeps only what it adds to that of the node above.
-ghost use Rattle.std.specs.Prelude.{◌≡◌, [], ◌++◌, IfOk, drop};
+ghost use Rattle.std.specs.Prelude.{◌≡◌, [], ◌++◌, IfOk, drop, true};
 ghost use Rattle.json.specs.Print.{escape};
 ghost use Rattle.js_tree.specs.Events.{opening, closing};
-ghost use Rattle.js_tree.specs.RelativeState.{AreRowsOf, AreTrimmedOf, AreWhole, IsRootAt, node_above, open_node, open_nodes, relative_after, relative_start, relative_state, row_goes, trimming_start};
+ghost use Rattle.js_tree.specs.RelativeState.{AreRowsOf, AreTrimmedOf, AreWhole, DropsSilent, IsRootAt, node_above, open_node, open_nodes, relative_after, relative_start, relative_state, row_goes, trimming_start};
 ghost use Rattle.js_tree.specs.Result.{ResultTree};
 ghost use Rattle.js_tree.specs.Seen.{note_of};
 ghost use Rattle.js_tree.specs.Trimmed.{trimmed_tree};
@@ -27,6 +27,9 @@ pub struct RelativeRow<'a> {
     // How many nodes its subtree has, itself included; 0 while it is open.
     pub(crate) size: usize,
 }
+
+// A vector has no more elements.
+const MOST: usize = usize::MAX / 2;
 
 // An open node: the number of its row, and the lengths of its whole locations.
 #[derive(Clone, Copy)]
@@ -141,6 +144,16 @@ impl<'a> RelativeRows<'a> {
                 }
             }
         }
+    }
+
+    /// Whether a node that opens and closes at once, passing and without a note, leaves nothing behind, wherever it
+    /// is. Who sends nodes may then leave it out. With `trimming` it is so, but not claimed of rows that are as many
+    /// as a vector can hold, since one more couldn't be added.
+    #[inline(always)]
+    pub fn drops_silent(&self) -> bool
+        ensures { result ≡ true → DropsSilent self.now }
+    {
+        self.trims && self.rows.len() < MOST && self.nodes.len() < MOST
     }
 
     /// Puts back the row of the root if it went with the others: with this absolute location of its schema and this
