@@ -127,11 +127,6 @@ impl<'a> World for Here<'a> {
         keyword.kind.is_applicator()
     }
 
-    #[tactic(auto, unfolding(crate::specs::Walk::Told::says_at))]
-    fn passes_silently(&self, keyword: Keyword<'a>) -> bool {
-        matches!(keyword.kind, Kind::Assertion)
-    }
-
     #[tactic(auto, unfolding(crate::specs::Walk::Told::asked_by, crate::specs::Walk::Told::IsKeywordAt))]
     fn asking(
         &self,

@@ -32,7 +32,7 @@ impl<'a> Reporter<Here<'a>, HeldText> for Recording<'a> {
 
     #[inline(always)]
     fn drops_silent(&self) -> bool {
-        self.rows.drops_silent_leaves()
+        self.rows.drops_silent()
     }
 
     #[inline(never)]

@@ -248,9 +248,10 @@ pub(crate) fn childless_node<W: World, H: PointerText + Drop, R: Reporter<W, H>>
     Ok(judged)
 }
 
-// Whether the reporter would keep nothing of a keyword's leaf: it passes, and then never has a note. `passes`: whether
-// it passes.
+// Whether the reporter would keep nothing of a keyword's leaf: it passes, and is an assertion, so that it has no note
+// then.
 #[inline(always)]
+#[tactic(auto, using(crate::proofs::SaysThere::assertion_is_silent))]
 fn is_dropped<W: World, H: PointerText + Drop, R: Reporter<W, H>>(
     world: &W,
     into: &R,
@@ -263,7 +264,7 @@ fn is_dropped<W: World, H: PointerText + Drop, R: Reporter<W, H>>(
         true ≡ silent }
     ensures drops { result ≡ true → DropsSilent R.takes into.now }
 {
-    passes && world.passes_silently(keyword) && into.drops_silent()
+    passes && matches!(world.kind(keyword), Kind::Assertion) && into.drops_silent()
 }
 
 // Whether a keyword passes that applies no schema.

@@ -11,8 +11,7 @@ ghost use Rattle.js_eval.specs.Keywords as table;
 ghost use Rattle.js_eval.specs.Passes.{how_many};
 ghost use Rattle.js_eval.specs.SchemaSet.{Text as Bytes, SchemaSet};
 ghost use Rattle.js_eval.specs.Walk.Visited.{AreJudged, is_visited};
-ghost use Rattle.js_eval.specs.Walk.Told.{IsKeywordAt, asked_by, accepts_at, keywords_at, kind_at, passes_at, says_at, at_name, at_step};
-ghost use Rattle.js_tree.specs.Note.{silent};
+ghost use Rattle.js_eval.specs.Walk.Told.{IsKeywordAt, asked_by, accepts_at, keywords_at, kind_at, passes_at, at_name, at_step};
 
 use crate::kind::Kind;
 use crate::walking::path::Path;
@@ -123,12 +122,6 @@ pub(crate) trait World {
             (names : List Bytes) (indexes : List ℕ)
             → result ≡ false → asked_by (schemas self.now) depth path place v
             (keyword_of keyword) condition names indexes ≡ [] };
-
-    /// Whether a keyword has no note wherever it passes, as assertions haven't.
-    fn passes_silently(&self, keyword: Self::Keyword) -> bool
-        ensures { (place : Site) (v : JsonValue) (matching held : ℕ) (names : List Bytes) (indexes : List ℕ)
-            → result ≡ true → says_at (schemas self.now) place v matching (keyword_of keyword) held names indexes true
-            ≡ silent };
 
     /// The applications that a keyword asks for. `condition`, `names`, `indexes`: what the keywords before it have
     /// shown, which is whether `if` succeeds, and the members and items evaluated; `resources`: the numbers of the
