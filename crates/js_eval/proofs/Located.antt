@@ -1,14 +1,15 @@
--- The locations of each node of a result begin with those of the node above.
-use Rattle.std.specs.Prelude.{◌≡◌, ℕ, List, [], ◌∷◌, ◌++◌, decimal}
+-- The locations of each node of a result begin with those of the node above, and the root's are empty.
+use Rattle.std.specs.Prelude.{◌≡◌, ℕ, Bool, List, [], ◌∷◌, ◌++◌, None, decimal}
 use Rattle.std.proofs.Common.{ap, sym, subst, ◌∙◌, append-nil}
 use Rattle.js_doc.specs.Pointer.{Tokens, pointer_text, token_text}
 use Rattle.js_doc.specs.Value.{Value}
 use Rattle.js_doc.proofs.TokenBytes.{pointer_text-push}
 use Rattle.js_tree.specs.Forest.{Forest, empty, tree}
 use Rattle.js_tree.specs.Relative.{BeginsWith, AreLocated, IsLocated}
+use Rattle.js_tree.specs.RelativeState.{IsRootAt}
 use Rattle.js_eval.specs.Applications.{Application}
 use Rattle.js_eval.specs.Keywords.{Keyword, keywords}
-use Rattle.js_eval.specs.Location.{Location, step_tokens, at_keyword_named, at_application}
+use Rattle.js_eval.specs.Location.{Location, at_root, step_tokens, at_keyword_named, at_application}
 use Rattle.js_eval.specs.Result.{OutputUnit, ResultTree, schema_unit, keyword_unit, AreKeywordNodes, AreSchemaNodes, IsNode, IsResult}
 use Rattle.js_eval.specs.SchemaSet.{SchemaSet, Step, Alone, Index, Name}
 use Rattle.js_eval.specs.Verdict.{within, asks}
@@ -65,3 +66,12 @@ module _ {Place : Type 0} (S : SchemaSet Place) where
 
   pub result_is_located : (above : List Place) (place : Place) (v : Value) (at : Location) (t : ResultTree) → IsResult S above place at v t → IsLocated t
   result_is_located above place v at t r = node_is_located r.bound above place at v t r.node
+
+  -- the root is validated as the whole instance
+  pub root_is_at : (place : Place) (v : Value) (t : ResultTree) (absolute : List ℕ) (valid : Bool) → IsResult S [] place at_root v t → absolute ≡ S.absolute place None → valid ≡ t.root.valid → IsRootAt absolute valid t.root
+  root_is_at place v t absolute valid r e f = (
+    ap (λ u. u.keyword) r.node.0,
+    ap (λ u. u.instance) r.node.0,
+    ap (λ u. u.absolute) r.node.0 ∙ sym e,
+    sym f,
+  )

@@ -3,6 +3,7 @@ use Rattle.std.specs.Prelude.{◌≡◌, ℕ, Bool, []}
 use Rattle.js_doc.specs.Value.{Value}
 use Rattle.js_tree.specs.Events.{Event, Passes, events}
 use Rattle.js_tree.specs.RelativeState.{AreRowsOf}
+use Rattle.js_tree.specs.Trimmed.{trimmed_tree}
 use Rattle.js_tree.specs.declared.relative.RelativeRows.{RelativeRows}
 use Rattle.js_bundle.specs.Document.{Documents}
 use Rattle.js_eval.specs.Bundle.{schemas_of}
@@ -40,6 +41,11 @@ module _ (documents : Documents) (place : ℕ) (v : Value) where
   -- the result is within the limits, and the rows are those of its tree
   abbrev pub AreResultRows : RelativeRows → Type 0
   AreResultRows rows = (t : ResultTree) × IsResultWithin t × AreRowsOf rows t
+
+  -- the result is within the limits, and the rows are those of its trimmed tree: without nodes that have no note and
+  -- below which none is left
+  abbrev pub AreNotedRows : RelativeRows → Type 0
+  AreNotedRows rows = (t : ResultTree) × IsResultWithin t × AreRowsOf rows (trimmed_tree t)
 
   -- the result is within the limits, and its events lead from c to d, one after another
   pub record LeadsTo {C : Type 0} (takes : C → Event → C → Type 0) (c d : C) : Type 0 where

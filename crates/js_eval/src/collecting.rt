@@ -27,6 +27,11 @@ impl<'a, C: Collector<'a>> Reporter<Here<'a>, HeldText> for Collecting<'a, C> {
         false
     }
 
+    #[inline(always)]
+    fn drops_silent(&self) -> bool {
+        false
+    }
+
     #[inline(never)]
     fn open_schema(
         &mut self,

@@ -6,7 +6,7 @@ ghost use Rattle.js_bundle.specs.Schemas.{is_place};
 ghost use Rattle.js_eval.specs.Bundle.{schemas_of};
 ghost use Rattle.js_eval.specs.Sited.{numbered_site};
 ghost use Rattle.js_eval.specs.Walk.Reported.{Reported};
-ghost use Rattle.js_eval.specs.Walked.{AreResultRows, IsResultWithin, IsVerdict, LeadsTo, NoneStands, OnTooLarge};
+ghost use Rattle.js_eval.specs.Walked.{AreNotedRows, AreResultRows, IsResultWithin, IsVerdict, LeadsTo, NoneStands, OnTooLarge};
 
 use crate::bundled::schema_at;
 use crate::collecting::Collecting;
@@ -113,6 +113,39 @@ pub fn walk_rows<'a>(
     let Recording { rows, token: _ } = recording;
     match done {
         Ok(_) => Ok(rows),
+        Err(fault) => Err(fault),
+    }
+}
+
+/// Evaluates the schema at the place on the value, and returns the result as rows, like [`walk_rows`], but without nodes
+/// that have no note and below which no node is left; the root stays. Only the verbose format shows anything of those
+/// (JSON Schema Core, sections 12.4.2 to 12.4.4), and half of a result's nodes are such.
+///
+/// # Errors
+/// Those of [`walk`]: a node without a row counts too.
+pub fn walk_noted_rows<'a>(
+    alloc: Global,
+    arena: &'a Bump,
+    schemas: &'a Schemas,
+    place: Place,
+    value: &'a Doc,
+) -> Result<RelativeRows<'a>, WalkFault>
+    requires { is_place schemas.now place ≡ true }
+    ensures ok { IfOk result (AreNotedRows schemas.now place (value_of value.now)) }
+    ensures too_large { IfErr result (λ e. OnTooLarge e (NoneStands schemas.now place (value_of value.now))) }
+{
+    let mut recording = Recording {
+        rows: RelativeRows::trimming(alloc, arena),
+        token: String::new(alloc),
+    };
+    let done = walk_to::<HeldText, Recording<'a>>(alloc, schemas, place, value, &mut recording);
+    let Recording { rows, token: _ } = recording;
+    let mut rows = rows;
+    match done {
+        Ok(valid) => {
+            rows.put_root_back(schemas.absolute_of(place), valid)?;
+            Ok(rows)
+        }
         Err(fault) => Err(fault),
     }
 }

@@ -41,6 +41,6 @@ mod turn;
 mod walking;
 
 pub use by_name::kind_of;
-pub use into::{verdict, walk, walk_into, walk_rows};
+pub use into::{verdict, walk, walk_into, walk_noted_rows, walk_rows};
 pub use kind::Kind;
 pub use walking::WalkFault;

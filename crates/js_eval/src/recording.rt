@@ -31,6 +31,11 @@ impl<'a> Reporter<Here<'a>, HeldText> for Recording<'a> {
         false
     }
 
+    #[inline(always)]
+    fn drops_silent(&self) -> bool {
+        self.rows.drops_silent()
+    }
+
     #[inline(never)]
     fn open_schema(
         &mut self,

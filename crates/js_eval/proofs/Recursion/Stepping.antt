@@ -1,7 +1,7 @@
 -- The three functions of the walk, step by step.
 use Rattle.std.specs.Prelude.{◌≡◌, ℕ, suc, ◌+◌, ◌<◌, ◌≤◌, Bool, true, false, ◌&&◌, cond, List, [], ◌∷◌, ◌++◌, Option, Some, None, map, filter, length, take, drop, refl}
 use Rattle.std.proofs.Common.{sym, ◌∙◌, ap, subst, arith, append-nil}
-use Rattle.std.proofs.Math.Seq.{take-append_seam, drop-append_seam}
+use Rattle.std.proofs.Math.Seq.{take-length, take-append_seam, drop-append_seam}
 use Rattle.std.proofs.lemmas.List.{length-map, take-map, drop-map}
 use Rattle.js_doc.specs.Members.{IsAscending}
 use Rattle.js_doc.specs.Pointer.{pointer_text}
@@ -14,10 +14,12 @@ use Rattle.js_eval.specs.Kind.{kind}
 use Rattle.js_eval.specs.Location.{step_tokens}
 use Rattle.js_eval.specs.SchemaSet.{Text, SchemaSet, Step}
 use Rattle.js_eval.specs.declared.kind.Kind.{Kind}
-use Rattle.js_tree.specs.Events.{Event, opening}
+use Rattle.js_tree.specs.Events.{Event, opening, closing}
+use Rattle.js_tree.specs.Note.{silent}
 use Rattle.js_eval.specs.Walk.Keeping.{condition_step, matching_step}
-use Rattle.js_eval.specs.Walk.Steps.{MarkOf, StartOf, SchemaOpened, SchemaClosed, KeywordOpened, KeywordClosed, WentDown, CameBack, NodeDone, KeywordDone, EachDone}
-use Rattle.js_eval.specs.Walk.Told.{IsAt, KeywordWalked, NodeWalked, KeywordHasNone, SomeHasNone, HasNone, asked_by, names_given, indexes_given, at_name, keywords_at, accepts_at, kind_at, says_at, schema_says, at_step}
+use Rattle.js_eval.specs.Walk.Reported.{DropsSilent}
+use Rattle.js_eval.specs.Walk.Steps.{MarkOf, StartOf, SchemaOpened, SchemaClosed, IsJudged, KeywordOpened, KeywordClosed, WentDown, CameBack, NodeDone, KeywordDone, EachDone}
+use Rattle.js_eval.specs.Walk.Told.{IsAt, IsBack, KeywordWalked, NodeWalked, KeywordHasNone, SomeHasNone, HasNone, asked_by, names_given, indexes_given, at_name, keywords_at, accepts_at, kind_at, says_at, schema_says, at_step}
 use Rattle.js_eval.specs.Walked.{OnTooLarge}
 use Rattle.js_eval.specs.declared.walking.fault.WalkFault.{WalkFault}
 use Rattle.js_eval.specs.declared.walking.fault.WalkFault.TheVariants.{Memory, TooLarge}
@@ -42,6 +44,10 @@ asked_same S n path place v k c ns is = refl
 map_cut : {A B : Type 0} (f : A → B) (b : Bool) (n : ℕ) (xs ys : List A) → ys ≡ cond b xs (take n xs) → map f ys ≡ cond b (map f xs) (take n (map f xs))
 map_cut f true n xs ys e = ap (map f) e
 map_cut f false n xs ys e = ap (map f) e ∙ sym (take-map f n xs)
+
+kept_whole : {A : Type 0} (b : Bool) (xs : List A) → xs ≡ cond b xs (take (length xs) xs)
+kept_whole true xs = refl
+kept_whole false xs = sym (take-length xs)
 
 trail_back : (old new : Text) (k : Keyword) (mark : ℕ) → mark ≡ length old → new ≡ at_name old k → take mark new ≡ old
 unfolding at_name
@@ -156,6 +162,30 @@ module _ {M H K C P : Type 0} (S : SchemaSet P) (text_of : M → Text) (takes : 
       → KeywordDone S text_of takes n path place v k matching [] (record { passes = passes; held = 0 }) w w₃ c d
   childless_step path place v k matching len w w₁ w₃ here passes c c' d m opened close =
       keyword_step path place v k matching [] len w w₁ w₁ w₃ here (record { asked = 0; held = 0 }) passes path (kind_at k) [] c c' c' d m opened refl refl refl (nothing_done path (kind_at k) w₁ c') close
+
+  -- one that passes and has no note, of which the reporter keeps nothing
+  pub skipped_step : (path : List P) (place : P) (v : Value) (k : Keyword) (matching : ℕ) (passes : Bool) (w w₁ : Way M H K) (c : C)
+      → passes ≡ true → IsJudged S place v k matching (record { asked = 0; held = 0 }) passes → says_at S place v matching k 0 [] [] true ≡ silent → DropsSilent takes c
+      → w₁.names.items ≡ w.names.items → w₁.indexes.items ≡ w.indexes.items → w₁.left + 1 ≡ w.left → IsBack w w₁
+      → KeywordDone S text_of takes n path place v k matching [] (record { passes = passes; held = 0 }) w w₁ c c
+  skipped_step path place v k matching passes w w₁ c p judged said drops names indexes left back =
+      let none = nothing_done path (kind_at k) w₁ c in
+      let none_walked = rw (names, indexes) at none.walked in
+      let walked = keyword_walked S n path place v k matching [] passes 0 0 (map text_of w.names.items) (map text_of w.names.items) (map text_of w₁.names.items) w.indexes.items w.indexes.items w₁.indexes.items w.left w₁.left w₁.left none_walked left judged
+      (ap (map text_of) names ∙ kept_whole passes (map text_of w.names.items)) (indexes ∙ kept_whole passes w.indexes.items) in
+      record {
+        walked = walked;
+        told = λ at h.
+            let gone = drops (at_name w.keyword k) (S.absolute place (Some k.0)) w.instance in
+            let closed : takes gone.0 (closing passes silent) c = subst (λ b. takes gone.0 (closing b silent) c) (sym p) (subst (λ x. takes gone.0 (closing true silent) x) gone.2.2 gone.2.1) in
+            keyword_told S n path place v k matching [] takes passes 0 0 (map text_of w.names.items) (map text_of w.names.items) w.indexes.items w.indexes.items w₁.left w₁.left w.keyword w.instance
+            (S.absolute place (Some k.0)) (at_name w.keyword k) silent [] [] c gone.0 gone.0 c at h none_walked walked.verdict refl refl gone.1
+            (λ at' h'. record { forest = empty; nodes = tt; passes = refl })
+            (sym (names_of_none S n path (kind_at k))) (sym (indexes_of_none S n path (kind_at k)))
+            (sym said ∙ ap (λ b. says_at S place v matching k 0 [] [] b) (sym p)) closed;
+        back = back;
+        falls = omega (arith, left);
+      }
 
   -- ---- a schema
 

@@ -49,6 +49,11 @@ pub record CameBack {M H K P : Type 0} (text_of : M → Text) (len : K → ℕ) 
   pub indexes : w'.indexes.items ≡ take here.indexes w.indexes.items ++ keeps (indexes_origin κ) holds (index_in a.at) (drop here.indexes w.indexes.items)
   pub left : w'.left ≡ w.left
 
+-- this is whether a keyword passes, of which this many applications hold
+abbrev pub IsJudged : {P : Type 0} → SchemaSet P → P → Value → Keyword → ℕ → Tally → Bool → Type 0
+IsJudged S site v k matching tally passes =
+    (verdicts : List Bool) → length verdicts ≡ tally.asked → how_many verdicts ≡ tally.held → passes ≡ passes_at S site v matching k verdicts
+
 module _ {M H K C P : Type 0} (S : SchemaSet P) (text_of : M → Text) (takes : C → Event → C → Type 0) where
   pub record SchemaOpened (site : P) (place resource : ℕ) (w w' : Way M H K) (c d : C) : Type 0 where
     pub path : w'.path ≡ w.path ++ place ∷ []
@@ -81,7 +86,7 @@ module _ {M H K C P : Type 0} (S : SchemaSet P) (text_of : M → Text) (takes : 
     pub told : takes c (opening (at_name w.keyword k) (S.absolute site (Some k.0)) w.instance) d
 
   pub record KeywordClosed (len : K → ℕ) (site : P) (v : Value) (k : Keyword) (matching : ℕ) (tally : Tally) (here : Mark K) (passes : Bool) (w w' : Way M H K) (c d : C) : Type 0 where
-    pub verdict : (verdicts : List Bool) → length verdicts ≡ tally.asked → how_many verdicts ≡ tally.held → passes ≡ passes_at S site v matching k verdicts
+    pub verdict : IsJudged S site v k matching tally passes
     pub path : w'.path ≡ w.path
     pub scope : w'.scope ≡ w.scope
     pub keyword : w'.keyword ≡ take (len here.keyword) w.keyword

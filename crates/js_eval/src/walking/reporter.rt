@@ -1,6 +1,7 @@
 //! Reporters: they receive the events of a walk.
 ghost use Rattle.std.specs.Prelude.{◌≡◌, true, Some, None, map, OnOk};
 ghost use Rattle.js_tree.specs.Events.{Event, opening, closing};
+ghost use Rattle.js_eval.specs.Walk.Reported.{DropsSilent};
 ghost use Rattle.js_eval.specs.Walk.Told.{IsKeywordAt, says_at, schema_says};
 
 use crate::walking::pointer_text::PointerText;
@@ -20,6 +21,10 @@ pub(crate) trait Reporter<W: World, H: PointerText + Drop> {
     /// Whether the reporter ignores all events, so that a walk needn't visit keywords that apply no schemas.
     fn is_quiet(&self) -> bool
         ensures { result ≡ true → (c d : Self) (e : Event) → takes c e d };
+
+    /// Whether the reporter keeps nothing of a leaf that passes and has no note, so that a walk needn't report it.
+    fn drops_silent(&self) -> bool
+        ensures { result ≡ true → DropsSilent takes self.now };
 
     /// The node of a schema opens.
     fn open_schema(

@@ -3,8 +3,12 @@ ghost use Rattle.std.specs.Prelude.{◌≡◌, ◌∷◌, [], ◌<◌, ◌≤◌
 ghost use Rattle.std.specs.List.{dedup, list_all};
 ghost use Rattle.std.specs.String.Boundary.{IsSplitPoint};
 ghost use Rattle.js_bundle.specs.Resource.{Site};
-ghost use Rattle.js_eval.specs.Walk.Steps.{SchemaOpened, SchemaClosed, KeywordOpened, KeywordClosed, KeywordDone, WentDown, CameBack};
-ghost use Rattle.js_eval.specs.Walk.Told.{IsKeywordAt, asked_by};
+ghost use Rattle.js_eval.specs.Walk.Steps.{SchemaOpened, SchemaClosed, IsJudged, KeywordOpened, KeywordClosed, KeywordDone, WentDown, CameBack};
+ghost use Rattle.js_doc.specs.Value.{Value as JsonValue};
+ghost use Rattle.js_eval.specs.SchemaSet.{Text as Bytes};
+ghost use Rattle.js_eval.specs.Walk.Reported.{DropsSilent};
+ghost use Rattle.js_eval.specs.Walk.Told.{IsKeywordAt, asked_by, says_at};
+ghost use Rattle.js_tree.specs.Note.{silent};
 ghost use Rattle.js_eval.specs.Walk.Visited.{AreJudgedIf};
 
 use crate::kind::Kind;
@@ -167,19 +171,53 @@ pub(crate) fn close_keyword<W: World, H: PointerText + Drop, R: Reporter<W, H>>(
         passes,
         held: tally.held,
     };
+    close_judged(alloc, world, way, into, case, here, judged, matching)?;
+    Ok(passes)
+}
+
+// Closes the node of a keyword that is judged. If it fails, drops what it has evaluated.
+#[inline(always)]
+fn close_judged<W: World, H: PointerText + Drop, R: Reporter<W, H>>(
+    alloc: Global,
+    world: &W,
+    way: &mut Way<W::Name, H>,
+    into: &mut R,
+    case: Case<W::Schema, W::Value, W::Keyword>,
+    here: Mark<H::Mark>,
+    judged: Judged,
+    matching: u64,
+) -> Result<(), Memory>
+    requires place { W.is_place world.now case.place ≡ true }
+    requires names { here.names ≤ length way.old.names.items }
+    requires indexes { here.indexes ≤ length way.old.indexes.items }
+    requires trail { IsSplitPoint way.old.keyword (H.length_at here.keyword) }
+    requires keyword { IsKeywordAt (W.schemas world.now) (W.site world.now case.place) (W.keyword_of case.keyword) }
+    ensures { OnOk result ((tally : Tally) → tally.held ≡ judged.held
+        → IsJudged (W.schemas world.now) (W.site world.now case.place) (W.value_of case.value)
+        (W.keyword_of case.keyword) matching tally judged.passes
+        → KeywordClosed (W.schemas world.now) W.text_of R.takes H.length_at (W.site world.now case.place)
+        (W.value_of case.value) (W.keyword_of case.keyword) matching tally here judged.passes way.old way.new
+        into.old into.new) }
+{
+    let Case {
+        place,
+        schema: _,
+        value,
+        keyword,
+    } = case;
     let names = &way.names[here.names..];
     let indexes = &way.indexes[here.indexes..];
     into.close_keyword(
         alloc, world, place, value, keyword, judged, matching, names, indexes,
     )?;
-    cut_unless(&mut way.names, here.names, passes);
-    cut_unless(&mut way.indexes, here.indexes, passes);
+    cut_unless(&mut way.names, here.names, judged.passes);
+    cut_unless(&mut way.indexes, here.indexes, judged.passes);
     way.keyword.cut(here.keyword);
-    Ok(passes)
+    Ok(())
 }
 
-/// Evaluates a keyword that applies no schema, and reports its node. It isn't inlined, to keep its locals out of the
-/// recursive function's stack frame.
+/// Evaluates a keyword that applies no schema, and reports its node, unless the reporter would keep nothing of it. It
+/// isn't inlined, to keep its locals out of the recursive function's stack frame.
 #[inline(never)]
 pub(crate) fn childless_node<W: World, H: PointerText + Drop, R: Reporter<W, H>>(
     alloc: Global,
@@ -198,11 +236,59 @@ pub(crate) fn childless_node<W: World, H: PointerText + Drop, R: Reporter<W, H>>
         (W.value_of case.value) (W.keyword_of case.keyword) matching [] j
         way.old way.new into.old into.new) }
 {
+    let passes = passes_alone(alloc, world, case, matching)?;
+    let judged = Judged { passes, held: 0 };
+    if is_dropped(world, into, case.keyword, passes) {
+        way.left -= 1;
+        return Ok(judged);
+    }
     let here = way.mark();
     open_keyword(alloc, world, way, into, case.place, case.keyword)?;
-    let tally = Tally { asked: 0, held: 0 };
-    let passes = close_keyword(alloc, world, way, into, case, here, tally, matching)?;
-    Ok(Judged { passes, held: 0 })
+    close_judged(alloc, world, way, into, case, here, judged, matching)?;
+    Ok(judged)
+}
+
+// Whether the reporter would keep nothing of a keyword's leaf: it passes, and is an assertion, so that it has no note
+// then.
+#[inline(always)]
+#[tactic(auto, using(crate::proofs::SaysThere::assertion_is_silent))]
+fn is_dropped<W: World, H: PointerText + Drop, R: Reporter<W, H>>(
+    world: &W,
+    into: &R,
+    keyword: W::Keyword,
+    passes: bool,
+) -> bool
+    ensures passes { result ≡ true → passes ≡ true }
+    ensures silent { (place : Site) (v : JsonValue) (matching held : ℕ) (names : List Bytes) (indexes : List ℕ)
+        → result ≡ true → says_at (W.schemas world.now) place v matching (W.keyword_of keyword) held names indexes
+        true ≡ silent }
+    ensures drops { result ≡ true → DropsSilent R.takes into.now }
+{
+    passes && matches!(world.kind(keyword), Kind::Assertion) && into.drops_silent()
+}
+
+// Whether a keyword passes that applies no schema.
+#[inline(always)]
+fn passes_alone<W: World>(
+    alloc: Global,
+    world: &W,
+    case: Case<W::Schema, W::Value, W::Keyword>,
+    matching: u64,
+) -> Result<bool, Memory>
+    requires place { W.is_place world.now case.place ≡ true }
+    requires schema { W.stands_at world.now case.place case.schema }
+    requires keyword { IsKeywordAt (W.schemas world.now) (W.site world.now case.place) (W.keyword_of case.keyword) }
+    ensures { IfOk result (λ passes. IsJudged (W.schemas world.now) (W.site world.now case.place)
+        (W.value_of case.value) (W.keyword_of case.keyword) matching (record { asked = 0; held = 0 }) passes) }
+{
+    let Case {
+        place,
+        schema,
+        value,
+        keyword,
+    } = case;
+    let none = Tally { asked: 0, held: 0 };
+    world.passes(alloc, place, schema, value, keyword, none, matching)
 }
 
 /// Moves both trails down to an application.
