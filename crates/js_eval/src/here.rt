@@ -109,14 +109,8 @@ impl<'a> World for Here<'a> {
     }
 
     #[tactic(auto, unfolding(crate::specs::Walk::Told::keywords_at))]
-    fn keywords(
-        &self,
-        alloc: Global,
-        place: Place,
-        schema: &'a Doc,
-        quiet: bool,
-    ) -> Result<Keywords<'a>, Memory> {
-        Keywords::new(alloc, names_at(self.schemas, place), schema, quiet)
+    fn keywords(&self, place: Place, schema: &'a Doc, quiet: bool) -> Keywords<'a> {
+        Keywords::new(names_at(self.schemas, place), schema, quiet)
     }
 
     fn next_keyword(&self, keywords: &mut Keywords<'a>) -> Option<Keyword<'a>> {

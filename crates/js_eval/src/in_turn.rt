@@ -75,8 +75,7 @@ fn first_name(names: &[KeywordName]) -> (KeywordName, &[KeywordName])
 /// The members that are left: of all, or of those alone that apply schemas.
 #[derive(Drop)]
 pub(crate) enum InTurn<'a> {
-    /// Boxed, because it is much larger than the other, and each level of the recursion holds an `InTurn`.
-    Every(Box<Every<'a>>),
+    Every(Every<'a>),
     Applying(Applying<'a>),
 }
 

@@ -1,5 +1,5 @@
 //! The keywords of a schema that a walk visits, one after another, in the order of their nodes.
-ghost use Rattle.std.specs.Prelude.{◌≡◌, ◌++◌, ◌∷◌, [], IfOk, List, MatchOption, false, filter, true};
+ghost use Rattle.std.specs.Prelude.{◌≡◌, ◌++◌, ◌∷◌, [], List, MatchOption, false, filter, true};
 ghost use Rattle.js_assert.specs.Argument.{entries};
 ghost use Rattle.js_doc.specs.Members.{IsAscending};
 ghost use Rattle.js_doc.specs.Seen.{value_of};
@@ -17,8 +17,7 @@ use crate::keyword::Keyword;
 use crate::name_cursor::names_ascend;
 use crate::turn::{Turn, is_ever};
 use js_bundle::KeywordName;
-use js_doc::{Doc, Members, Memory};
-use std::alloc::Global;
+use js_doc::{Doc, Members};
 
 /// The keywords of a schema that are still to come.
 #[derive(Drop)]
@@ -41,55 +40,27 @@ pub(crate) struct KeywordCursor<'a> {
 
 impl<'a> Keywords<'a> {
     /// The keywords of a schema that a walk visits. `names`: which keyword of the standard each of its members is.
-    ///
-    /// # Errors
-    /// `Memory` if an allocation fails. A quiet walk needs none.
-    pub fn new(
-        alloc: Global,
-        names: &'a [KeywordName],
-        schema: &'a Doc,
-        quiet: bool,
-    ) -> Result<Keywords<'a>, Memory>
+    pub fn new(names: &'a [KeywordName], schema: &'a Doc, quiet: bool) -> Keywords<'a>
         requires { names.now ≡ keyword_names_of (entries (value_of schema.now)) }
-        ensures all { IfOk result (λ k. keywords_in k
-            ≡ filter (is_visited quiet) (table.keywords (value_of schema.now))) }
+        ensures all { keywords_in result ≡ filter (is_visited quiet) (table.keywords (value_of schema.now)) }
         ensures ascending { IsAscending (entries (value_of schema.now)) }
     {
         match object_in(schema) {
-            Some(members) => Keywords::among(alloc, names, members, quiet),
-            None => Ok(Keywords::Nothing),
+            Some(members) => Keywords::among(names, members, quiet),
+            None => Keywords::Nothing,
         }
     }
 
-    fn among(
-        alloc: Global,
-        names: &'a [KeywordName],
-        members: &'a Members,
-        quiet: bool,
-    ) -> Result<Keywords<'a>, Memory>
+    fn among(names: &'a [KeywordName], members: &'a Members, quiet: bool) -> Keywords<'a>
         requires { names.now ≡ keyword_names_of members.now }
-        ensures all { IfOk result (λ k. keywords_in k ≡ in_order (filter (is_visited quiet) members.now)) }
+        ensures all { keywords_in result ≡ in_order (filter (is_visited quiet) members.now) }
         ensures ascending { IsAscending members.now }
     {
         if quiet {
-            Ok(Keywords::applying(names, members))
+            Keywords::applying(names, members)
         } else {
-            Keywords::every(alloc, names, members)
+            Keywords::Of(KeywordCursor::new(InTurn::Every(Every::new(names, members))))
         }
-    }
-
-    fn every(
-        alloc: Global,
-        names: &'a [KeywordName],
-        members: &'a Members,
-    ) -> Result<Keywords<'a>, Memory>
-        requires { names.now ≡ keyword_names_of members.now }
-        ensures all { IfOk result (λ k. keywords_in k ≡ in_order members.now) }
-        ensures ascending { IsAscending members.now }
-    {
-        let every = Every::new(names, members);
-        let every = InTurn::Every(Box::new(alloc, every)?);
-        Ok(Keywords::Of(KeywordCursor::new(every)))
     }
 
     fn applying(names: &'a [KeywordName], members: &'a Members) -> Keywords<'a>

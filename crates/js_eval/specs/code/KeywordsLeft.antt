@@ -15,7 +15,7 @@ use Rattle.js_eval.specs.declared.keyword_cursor.Keywords.TheVariants.{Nothing, 
 
 -- the members that are still to come, of all or of those alone that apply schemas
 abbrev pub members_left : InTurn → Named
-members_left (Every c) = map pair_of c.value.left
+members_left (Every c) = map pair_of c.left
 members_left (Applying c) = applicators_in c.members.now c.names.now
 
 -- the keyword that is kept, or else these

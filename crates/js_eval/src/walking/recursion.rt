@@ -61,7 +61,7 @@ pub(crate) fn node<W: World, H: PointerText + Drop, R: Reporter<W, H>>(
         matching: 0,
     };
     let quiet = into.is_quiet();
-    let keywords = world.keywords(alloc, place, schema, quiet)?;
+    let keywords = world.keywords(place, schema, quiet);
     let mut judging = Judging { keywords, known };
     'keywords: while let Some(keyword) = next_keyword(world, &mut judging) {
         let case = Case {

@@ -89,17 +89,11 @@ pub(crate) trait World {
 
     /// The keywords of a schema that a walk visits, in the order of their nodes: all that have a node, or, if it is
     /// quiet, those alone that may apply schemas.
-    fn keywords(
-        &self,
-        alloc: Global,
-        place: Place,
-        schema: Self::Schema,
-        quiet: bool,
-    ) -> Result<Self::Keywords, Memory>
+    fn keywords(&self, place: Place, schema: Self::Schema, quiet: bool) -> Self::Keywords
         requires place { is_place self.now place ≡ true }
         requires schema { stands_at self.now place schema }
-        ensures listed { IfOk result (λ k. listed k
-            ≡ filter (is_visited quiet) (keywords_at (schemas self.now) (site self.now place))) }
+        ensures listed { listed result
+            ≡ filter (is_visited quiet) (keywords_at (schemas self.now) (site self.now place)) }
         ensures ascending { IsAscending (entries ((schemas self.now).schema (site self.now place))) };
 
     /// Judges the keywords that a quiet walk doesn't visit. `matching`: the number of items that match the adjacent

@@ -139,7 +139,7 @@ pub node-keywords-init : goal.node-keywords-init
 node-keywords-init g t c =
     record {
       loop = node_start (g.W.World.schemas c.args.world.now) g.W.World.text_of g.R.Reporter.takes (c.args.depth - 1) (map (g.W.World.site c.args.world.now) c.args.way.now.path) (g.W.World.site c.args.world.now c.args.place) (g.W.World.value_of c.args.value) c.is_quiet-quiet.result
-          c.args.way.now c.open_schema.new.way c.args.place (g.W.World.resource c.args.world.now c.args.place) c.args.into.now c.open_schema.new.into c.accepts.result (g.W.World.listed c.in_ok-keywords.keywords) c.in_ok-open_schema.ensures c.accepts.ensures c.in_ok-keywords.ensures.listed;
+          c.args.way.now c.open_schema.new.way c.args.place (g.W.World.resource c.args.world.now c.args.place) c.args.into.now c.open_schema.new.into c.accepts.result (g.W.World.listed c.keywords-keywords.result) c.in_ok-open_schema.ensures c.accepts.ensures c.keywords-keywords.ensures.listed;
       path = c.in_ok-open_schema.ensures.path;
       scope = c.in_ok-open_schema.ensures.scope;
       keyword = c.in_ok-open_schema.ensures.keyword;
@@ -169,7 +169,7 @@ node-keyword_node-requires g t c κs within =
     let loop = rw (x, sym c.next_keyword.ensures.known) at c.keywords.invariant.loop in
     let next = at_next (g.W.World.schemas c.args.world.now) (c.args.depth - 1) (map site c.args.way.now.path) (site c.args.place) (g.W.World.value_of c.args.value) c.is_quiet-quiet.result g.R.Reporter.takes c.next_keyword.new.judging.known.valid c.next_keyword.new.judging.known.condition c.next_keyword.new.judging.known.matching
     (map g.W.World.text_of c.args.way.now.names.items) (map g.W.World.text_of c.keywords.way.names.items) c.args.way.now.indexes.items c.keywords.way.indexes.items c.args.way.now.left c.keywords.way.left c.args.way.now.keyword c.args.way.now.instance c.args.into.now c.keywords.into k (g.W.World.listed c.next_keyword.new.judging.keywords) loop in
-    let there = is_keyword_at (g.W.World.schemas c.args.world.now) (site c.args.place) c.in_ok-keywords.ensures.ascending next.done next.rest k next.so.split in
+    let there = is_keyword_at (g.W.World.schemas c.args.world.now) (site c.args.place) c.keywords-keywords.ensures.ascending next.done next.rest k next.so.split in
     search (rules, places, scope, names, indexes, there)
 
 pub node-returns-in_err-judged : goal.node-returns-in_err-judged
@@ -188,7 +188,7 @@ node-returns-in_err-judged g t c =
     let p = err_from_is_err_and c.from_residual-in_err-judged.result c.from_residual-in_err-judged.ensures.1 in
     rw (p.1, p.2) (on_too_large (KeywordHasNone S (c.args.depth - 1) (map site c.keywords.way.path) place v k apps c.keywords.way.left) (HasNone S c.args.depth path place v c.args.way.now.left) c.in_err-judged.field-0.0
     (λ none. subst (λ d. HasNone S d path place v c.args.way.now.left) (one_less c.args.depth c.if-depth-eq0.false)
-    (node_failed S g.W.World.text_of g.R.Reporter.takes (c.args.depth - 1) path place v c.is_quiet-quiet.result counts_later c.in_ok-keywords.ensures.ascending k rest c.next_keyword.new.judging.known.valid c.next_keyword.new.judging.known.condition c.next_keyword.new.judging.known.matching
+    (node_failed S g.W.World.text_of g.R.Reporter.takes (c.args.depth - 1) path place v c.is_quiet-quiet.result counts_later c.keywords-keywords.ensures.ascending k rest c.next_keyword.new.judging.known.valid c.next_keyword.new.judging.known.condition c.next_keyword.new.judging.known.matching
     c.args.way.now c.keywords.way c.start-start.result (map site c.keywords.way.path) c.args.into.now c.keywords.into c.start-start.ensures same loop none)) c.in_err-judged.ensures)
 
 pub node-keywords-preserved : goal.node-keywords-preserved
@@ -207,7 +207,7 @@ node-keywords-preserved g t c =
     record {
       loop = loop_as S g.R.Reporter.takes (c.args.depth - 1) path place v c.is_quiet-quiet.result k rest c.next_keyword.new.judging.known.valid c.in_ok-judged.judged.passes c.with_keyword-judging.result.valid c.next_keyword.new.judging.known.condition c.with_keyword-judging.result.condition c.next_keyword.new.judging.known.matching c.with_keyword-judging.result.matching
           c.in_ok-judged.judged.held c.kind.result (map g.W.World.text_of c.args.way.now.names.items) (map g.W.World.text_of c.keyword_node.new.way.names.items) c.args.way.now.indexes.items c.keyword_node.new.way.indexes.items c.args.way.now.left c.keyword_node.new.way.left c.args.way.now.keyword c.args.way.now.instance c.args.into.now c.keyword_node.new.into
-          c.with_keyword-judging.ensures.valid c.with_keyword-judging.ensures.condition c.with_keyword-judging.ensures.matching c.kind.ensures (node_more S g.W.World.text_of g.R.Reporter.takes (c.args.depth - 1) path place v c.is_quiet-quiet.result counts_later c.in_ok-keywords.ensures.ascending k rest
+          c.with_keyword-judging.ensures.valid c.with_keyword-judging.ensures.condition c.with_keyword-judging.ensures.matching c.kind.ensures (node_more S g.W.World.text_of g.R.Reporter.takes (c.args.depth - 1) path place v c.is_quiet-quiet.result counts_later c.keywords-keywords.ensures.ascending k rest
           c.next_keyword.new.judging.known.valid c.next_keyword.new.judging.known.condition c.next_keyword.new.judging.known.matching c.args.way.now c.keywords.way c.keyword_node.new.way c.start-start.result c.in_ok-judged.judged (map site c.keywords.way.path) c.args.into.now c.keywords.into c.keyword_node.new.into
           c.start-start.ensures same c.keywords.invariant.keyword c.keywords.invariant.instance loop done);
       path = done.back.path ∙ c.keywords.invariant.path;
@@ -240,7 +240,7 @@ node-returns g t c =
     let x : g.W.World.listed c.keywords.judging.keywords ≡ [] = c.in_default.ensures.next in
     let loop = rw (x, sym c.next_keyword.ensures.known) at c.keywords.invariant.loop in
     subst (λ d. NodeDone S g.W.World.text_of g.R.Reporter.takes d path place v (c.next_keyword.new.judging.known.valid && c.in_ok-others.others.pass) c.args.way.now c.close_schema.new.way c.args.into.now c.close_schema.new.into) (one_less c.args.depth c.if-depth-eq0.false)
-    (node_end S g.W.World.text_of g.R.Reporter.takes (c.args.depth - 1) path place v c.is_quiet-quiet.result c.in_ok-keywords.ensures.ascending c.is_quiet-quiet.ensures c.in_ok-others.others c.next_keyword.new.judging.known.valid (c.next_keyword.new.judging.known.valid && c.in_ok-others.others.pass)
+    (node_end S g.W.World.text_of g.R.Reporter.takes (c.args.depth - 1) path place v c.is_quiet-quiet.result c.keywords-keywords.ensures.ascending c.is_quiet-quiet.ensures c.in_ok-others.others c.next_keyword.new.judging.known.valid (c.next_keyword.new.judging.known.valid && c.in_ok-others.others.pass)
     c.next_keyword.new.judging.known.condition c.next_keyword.new.judging.known.matching c.args.way.now c.keywords.way _ c.close_schema.new.way c.start-start.result c.args.place (g.W.World.resource c.args.world.now c.args.place)
     c.args.into.now c.keywords.into c.close_schema.new.into c.start-start.ensures c.keywords.invariant.path c.keywords.invariant.scope c.keywords.invariant.keyword c.keywords.invariant.instance c.keywords.invariant.falls loop
     c.in_ok-others.ensures refl refl refl refl refl refl refl (given_back c.keywords.way.left c.in_ok-others.others.count c.if-way-others.false) c.in_ok-close_schema.ensures)
