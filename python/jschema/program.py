@@ -52,6 +52,9 @@ class ProgramEngine:
     def places(self) -> list[str]:
         return self._places
 
+    def is_valid(self, entry: str, instance: bytes) -> bool:
+        return self.check(entry, instance, "flag").valid
+
     def check(self, entry: str, instance: bytes, format: str) -> Answer:
         return self._run("check", format, "/dev/stdin", entry, instance=instance)
 

@@ -44,7 +44,7 @@ class Schemas:
 
     def is_valid(self, entry: str, instance: Instance) -> bool:
         """Whether an instance is valid."""
-        return self.check(entry, text_of(instance), "flag").valid
+        return self._open().is_valid(entry, text_of(instance))
 
     def errors(self, entry: str, instance: Instance) -> list[ValidationError]:
         """The errors of the `basic` output, in its order; none for a valid instance."""
