@@ -15,9 +15,9 @@ class Answer(NamedTuple):
 
 
 class Engine(Protocol):
-    """Schema documents, and checks against them: `add` each, `finish` once, then `is_valid` or `check`, from any thread.
+    """Schema documents, and checks against them: `add` each, `finish` once, then check, from any thread.
 
-    These raise `Refused`, `MemoryError`, or `EngineError` for any other failure.
+    `add`, `finish`, `is_valid` and `check` raise `Refused`, `MemoryError`, or `EngineError` for any other failure.
     """
 
     def add(self, uri: str, document: bytes) -> None:

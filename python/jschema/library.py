@@ -60,7 +60,7 @@ def _load(path: str) -> ctypes.CDLL:
     except (OSError, AttributeError) as error:
         raise EngineError(f"{path} is no library of jschema: {error}") from error
     if library.jschema_version() not in _VERSIONS:
-        raise EngineError(f"{path} has version {library.jschema_version()}, and this package needs 0.1")
+        raise EngineError(f"{path} has version {library.jschema_version()}, and this package needs 100 to 199 (0.1)")
     return library
 
 

@@ -27,7 +27,7 @@ def find_program() -> str:
         if found := shutil.which(Path(__file__).resolve().parents[2] / build):
             return found
     raise EngineError("no program jschema: install it on the PATH (tools/install in its repository), "
-                      "or name it in the environment variable JSCHEMA")
+                      "or name it in the environment variable JSCHEMA; or build the library (tools/build-library)")
 
 
 class ProgramEngine:

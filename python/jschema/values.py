@@ -22,8 +22,8 @@ _written = json.JSONEncoder(ensure_ascii=False).encode
 def text_of(instance: Instance) -> bytes:
     """The JSON text of an instance. A str is a text, not a string.
 
-    Raises `Refused` for a value that can't be written within the profile (a float, a large number, a lone surrogate,
-    more than 127 levels), and `TypeError` for one that JSON doesn't have.
+    Raises `Refused` for a value that has no verdict (with a float, a number beyond -2^63 to 2^64 - 1, a lone surrogate,
+    or more than 127 levels), and `TypeError` for one that JSON doesn't have.
     """
     if type(instance) is bytes:
         return instance
