@@ -6,7 +6,7 @@ import ctypes.util
 import os
 from ctypes import POINTER, byref, c_bool, c_char_p, c_size_t, c_uint32, c_void_p
 from pathlib import Path
-from typing import Optional
+from typing import Any, Optional
 
 from .engine import Answer
 from .errors import EngineError
@@ -14,7 +14,7 @@ from .lines import fault_of
 
 # c/jschema.h
 _DONE, _INVALID, _MISUSED, _REFUSED, _FAILED = range(5)
-# (A call takes what is a number of C already as it is. Any other is made into one each time.)
+# (Of ctypes' own numbers none is made in each call.)
 _FORMATS = {"flag": c_uint32(0), "basic": c_uint32(1), "detailed": c_uint32(2), "verbose": c_uint32(3),
             "merged": c_uint32(4)}
 _FLAG = _FORMATS["flag"]
@@ -70,7 +70,8 @@ class _Schemas:
     def __init__(self, library: ctypes.CDLL) -> None:
         self._library = library
         self._handle = _Handle()
-        self._room = ctypes.create_string_buffer(_ROOM)
+        # (Any: that a slice of it is bytes isn't in the types.)
+        self._room: Any = ctypes.create_string_buffer(_ROOM)
         # The numbers of the entries that were looked up.
         self._entries: dict[str, c_size_t] = {}
         self.uris: list[str] = []
@@ -115,7 +116,8 @@ class _Schemas:
         """The text of the last call."""
         length = self._library.jschema_text(self._handle, self._room, _ROOM)
         if length <= _ROOM:
-            return self._room[:length]
+            text: bytes = self._room[:length]
+            return text
         large = ctypes.create_string_buffer(length)
         self._library.jschema_text(self._handle, large, length)
         return large.raw
