@@ -14,7 +14,7 @@ from .lines import fault_of
 
 # c/jschema.h
 _DONE, _INVALID, _MISUSED, _REFUSED, _FAILED = range(5)
-# (Of ctypes' own numbers none is made in each call.)
+# (As ctypes' own numbers: of an int each call would make one.)
 _FORMATS = {"flag": c_uint32(0), "basic": c_uint32(1), "detailed": c_uint32(2), "verbose": c_uint32(3),
             "merged": c_uint32(4)}
 _FLAG = _FORMATS["flag"]
