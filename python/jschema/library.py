@@ -30,8 +30,8 @@ class _Handle(ctypes.Structure):
 
 
 def find_library() -> Optional[str]:
-    """The library: named by JSCHEMA_LIBRARY (`off` is none), or in the package, or installed, or built in the
-    repository that this file is part of. None if there is none."""
+    """The library: named by JSCHEMA_LIBRARY (`off` is none), or in the package, or built in the repository that this
+    file is part of, or installed. None if there is none."""
     if named := os.environ.get("JSCHEMA_LIBRARY"):
         return None if named == "off" else named
     here = Path(__file__).resolve().parent
@@ -129,7 +129,8 @@ class _Schemas:
         if status == _FAILED:
             raise MemoryError("failed: Memory")
         line = self._text().decode()
-        raise fault_of(line, self.uris) or EngineError(f"the library answered status {status}: {line}")
+        raise fault_of(line, self.uris) or EngineError(
+            f"the library answered status {status}: {line.strip() or 'no message'}")
 
     def __del__(self) -> None:
         if hasattr(self, "_handle"):
