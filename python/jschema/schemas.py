@@ -22,8 +22,8 @@ class Schemas:
 
     Documents refer to one another by the URIs that they are registered under, or by their `$id`. Nothing is fetched. An
     `entry` is the URI of the schema to apply: a document's, an `$id`, or one of these with a fragment (`places` lists
-    all). An `instance` is a JSON text (bytes or str) or a value (see `jschema.values`). Without an `engine` it is the
-    library's if there is a library, else the program's.
+    all). An `instance` is a JSON text (bytes or str) or a value (see `jschema.values`). The `engine` is by
+    default the library's, or that of the program where there is no library.
 
     Each call raises `Refused` for an input that has no verdict, `MemoryError` if memory runs out, `EngineError` if the
     engine fails otherwise, `TypeError` for a value that JSON doesn't have, and `ValueError` after `close`.

@@ -164,8 +164,8 @@ class Answers(unittest.TestCase):
     def test_threads(self):
         instances = [{"0": number % 3} for number in range(48)]
         with ThreadPoolExecutor(8) as pool:
-            found = list(pool.map(lambda it: self.schemas.is_valid(URI, it), instances))
-        self.assertEqual(found, [it["0"] > 0 for it in instances])
+            found = list(pool.map(lambda it: (self.schemas.is_valid(URI, it), not self.schemas.errors(URI, it)), instances))
+        self.assertEqual(found, [(it["0"] > 0, it["0"] > 0) for it in instances])
 
 
 class Refusals(unittest.TestCase):
