@@ -87,7 +87,8 @@ class Answers(unittest.TestCase):
                 deep = add(deep)
             with self.subTest(type(begun)):
                 self.assertTrue(self.schemas.is_valid(URI, deep))
-                self.assertEqual(refusal(self.schemas.is_valid, URI, add(deep)), ("instance", "NotJson", "", None, None))
+                self.assertEqual(refusal(self.schemas.is_valid, URI, add(deep)),
+                                 ("instance", "NotJson", "", None, None))
 
     def test_value_in_itself(self):
         value = []
@@ -164,7 +165,8 @@ class Answers(unittest.TestCase):
     def test_threads(self):
         instances = [{"0": number % 3} for number in range(48)]
         with ThreadPoolExecutor(8) as pool:
-            found = list(pool.map(lambda it: (self.schemas.is_valid(URI, it), not self.schemas.errors(URI, it)), instances))
+            found = list(pool.map(lambda it: (self.schemas.is_valid(URI, it), not self.schemas.errors(URI, it)),
+                                  instances))
         self.assertEqual(found, [(it["0"] > 0, it["0"] > 0) for it in instances])
 
 
