@@ -15,9 +15,9 @@ class Answer(NamedTuple):
 
 
 class Engine(Protocol):
-    """Schema documents, and checks against them: `add` each, `finish` once, then `check`, from any thread.
+    """Schema documents, and checks against them: `add` each, `finish` once, then check, from any thread.
 
-    `add`, `finish` and `check` raise `Refused`, `MemoryError`, or `EngineError` for any other failure.
+    `add`, `finish`, `is_valid` and `check` raise `Refused`, `MemoryError`, or `EngineError` for any other failure.
     """
 
     def add(self, uri: str, document: bytes) -> None:
@@ -29,8 +29,11 @@ class Engine(Protocol):
     def places(self) -> list[str]:
         """The absolute location of every schema."""
 
+    def is_valid(self, entry: str, instance: bytes) -> bool:
+        """Whether a JSON text is valid against the schema with this URI."""
+
     def check(self, entry: str, instance: bytes, format: str) -> Answer:
-        """Validates a JSON text against the schema with this URI. `format` is one of `FORMATS`."""
+        """The same, with the output in a format: one of `FORMATS`."""
 
     def close(self) -> None:
         """Frees what is held. A second call does nothing."""

@@ -25,7 +25,7 @@ class ValidationError(Exception):
 
     @property
     def path(self) -> list[str | int]:
-        """The instance location as member names and indices. `pip`'s jsonschema has the same word."""
+        """The instance location as member names and indices. pip's `jsonschema` calls it so too."""
         return self.text.path(self.instance_location)
 
     @property
@@ -41,7 +41,7 @@ class ValidationError(Exception):
 
     @property
     def position(self) -> Position:
-        """Where the instance location begins in the text; for errors of `propertyNames`, where the name begins."""
+        """Where the value begins in the text; for errors of `propertyNames`, where the member's name begins."""
         is_name = any(step.is_keyword and step.token == "propertyNames" for step in schema_steps(self.keyword_location))
         return self.text.name(self.instance_location) if is_name else self.text.value(self.instance_location)
 
@@ -55,7 +55,7 @@ def best_first(errors: list[ValidationError]) -> list[ValidationError]:
 
 
 class Refused(ValueError):
-    """An input that has no verdict: it isn't JSON, leaves the profile, or a schema is malformed.
+    """An input that has no verdict: it isn't JSON, has a number that isn't whole, or is a malformed schema.
 
     `docs/REFUSALS.md` lists every kind.
     """

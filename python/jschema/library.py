@@ -14,7 +14,10 @@ from .lines import fault_of
 
 # c/jschema.h
 _DONE, _INVALID, _MISUSED, _REFUSED, _FAILED = range(5)
-_FORMATS = {"flag": 0, "basic": 1, "detailed": 2, "verbose": 3, "merged": 4}
+# (As ctypes' own numbers: of an int each call would make one.)
+_FORMATS = {"flag": c_uint32(0), "basic": c_uint32(1), "detailed": c_uint32(2), "verbose": c_uint32(3),
+            "merged": c_uint32(4)}
+_FLAG = _FORMATS["flag"]
 _VERSIONS = range(100, 200)
 _FILE = "libjschema.so.0"
 
@@ -27,8 +30,8 @@ class _Handle(ctypes.Structure):
 
 
 def find_library() -> Optional[str]:
-    """The library: named by JSCHEMA_LIBRARY (`off` is none), or in the package, or installed, or built in the
-    repository that this file is part of. None if there is none."""
+    """The library: named by JSCHEMA_LIBRARY (`off` is none), or in the package, or built in the repository that this
+    file is part of, or installed. None if there is none."""
     if named := os.environ.get("JSCHEMA_LIBRARY"):
         return None if named == "off" else named
     here = Path(__file__).resolve().parent
@@ -57,7 +60,7 @@ def _load(path: str) -> ctypes.CDLL:
     except (OSError, AttributeError) as error:
         raise EngineError(f"{path} is no library of jschema: {error}") from error
     if library.jschema_version() not in _VERSIONS:
-        raise EngineError(f"{path} has version {library.jschema_version()}, and this package needs 0.1")
+        raise EngineError(f"{path} has version {library.jschema_version()}, and this package needs 100 to 199 (0.1)")
     return library
 
 
@@ -67,50 +70,57 @@ class _Schemas:
     def __init__(self, library: ctypes.CDLL) -> None:
         self._library = library
         self._handle = _Handle()
-        self._at = byref(self._handle)
-        self._room = ctypes.create_string_buffer(_ROOM)
-        self._entries: dict[str, int] = {}
+        # (Any: that a slice of it is bytes isn't in the types.)
+        self._room: Any = ctypes.create_string_buffer(_ROOM)
+        # The numbers of the entries that were looked up.
+        self._entries: dict[str, c_size_t] = {}
         self.uris: list[str] = []
-        self._done(library.jschema_new(self._at))
+        self._done(library.jschema_new(self._handle))
 
     def add(self, uri: str, document: bytes) -> None:
         name = _encoded(uri)
         self.uris.append(uri)
         try:
-            self._done(self._library.jschema_add(self._at, name, len(name), document, len(document)))
+            self._done(self._library.jschema_add(self._handle, name, len(name), document, len(document)))
         except BaseException:
             self.uris.pop()
             raise
 
     def finish(self) -> None:
-        self._done(self._library.jschema_finish(self._at))
+        self._done(self._library.jschema_finish(self._handle))
 
     def places(self) -> list[str]:
-        self._done(self._library.jschema_places(self._at))
+        self._done(self._library.jschema_places(self._handle))
         return self._text().decode().splitlines()
 
     def check(self, entry: str, instance: bytes, format: str) -> Answer:
+        return Answer(self.verdict(entry, instance, _FORMATS[format]), self._text())
+
+    def verdict(self, entry: str, instance: bytes, format: c_uint32 = _FLAG) -> bool:
+        """Whether an instance is valid. The output in the format is the text of this call."""
         number = self._entries.get(entry)
         if number is None:
-            number = self._entries[entry] = self._look_up(entry)
-        status = self._library.jschema_check(self._at, number, instance, len(instance), _FORMATS[format])
-        if status != _INVALID:
+            number = self._look_up(entry)
+        status: int = self._library.jschema_check(self._handle, number, instance, len(instance), format)
+        if status > _INVALID:
             self._done(status)
-        return Answer(status == _DONE, self._text())
+        return status == _DONE
 
-    def _look_up(self, entry: str) -> int:
+    def _look_up(self, entry: str) -> c_size_t:
         name, number = _encoded(entry), c_size_t()
-        self._done(self._library.jschema_entry(self._at, name, len(name), byref(number)))
-        return number.value
+        self._done(self._library.jschema_entry(self._handle, name, len(name), byref(number)))
+        self._entries[entry] = number
+        return number
 
     def _text(self) -> bytes:
         """The text of the last call."""
-        length = self._library.jschema_text(self._at, self._room, len(self._room))
-        if length <= len(self._room):
-            return ctypes.string_at(self._room, length)
+        length = self._library.jschema_text(self._handle, self._room, _ROOM)
+        if length <= _ROOM:
+            text: bytes = self._room[:length]
+            return text
         large = ctypes.create_string_buffer(length)
-        self._library.jschema_text(self._at, large, length)
-        return ctypes.string_at(large, length)
+        self._library.jschema_text(self._handle, large, length)
+        return large.raw
 
     def _done(self, status: int) -> None:
         """Raises what a status other than _DONE says."""
@@ -119,11 +129,12 @@ class _Schemas:
         if status == _FAILED:
             raise MemoryError("failed: Memory")
         line = self._text().decode()
-        raise fault_of(line, self.uris) or EngineError(f"the library answered status {status}: {line}")
+        raise fault_of(line, self.uris) or EngineError(
+            f"the library answered status {status}: {line.strip() or 'no message'}")
 
     def __del__(self) -> None:
-        if hasattr(self, "_at"):
-            self._library.jschema_free(self._at)
+        if hasattr(self, "_handle"):
+            self._library.jschema_free(self._handle)
 
 
 class LibraryEngine:
@@ -149,26 +160,36 @@ class LibraryEngine:
         self._free.append(self._first)
 
     def places(self) -> list[str]:
-        return self._with(lambda schemas: schemas.places())
+        schemas = self._taken()
+        try:
+            return schemas.places()
+        finally:
+            self._free.append(schemas)
+
+    def is_valid(self, entry: str, instance: bytes) -> bool:
+        schemas = self._taken()
+        try:
+            return schemas.verdict(entry, instance)
+        finally:
+            self._free.append(schemas)
 
     def check(self, entry: str, instance: bytes, format: str) -> Answer:
-        answer: Answer = self._with(lambda schemas: schemas.check(entry, instance, format))
-        return answer
+        schemas = self._taken()
+        try:
+            return schemas.check(entry, instance, format)
+        finally:
+            self._free.append(schemas)
 
     def close(self) -> None:
         self._free.clear()
         self._documents.clear()
 
-    def _with(self, call: Any) -> Any:
-        """Makes a call on schemas that no other thread uses."""
+    def _taken(self) -> _Schemas:
+        """Schemas for one call, which no other thread uses. Afterwards they go back to those that are free."""
         try:
-            schemas = self._free.pop()
+            return self._free.pop()
         except IndexError:
-            schemas = self._copy()
-        try:
-            return call(schemas)
-        finally:
-            self._free.append(schemas)
+            return self._copy()
 
     def _copy(self) -> _Schemas:
         schemas = _Schemas(self._library)

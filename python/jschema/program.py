@@ -27,7 +27,7 @@ def find_program() -> str:
         if found := shutil.which(Path(__file__).resolve().parents[2] / build):
             return found
     raise EngineError("no program jschema: install it on the PATH (tools/install in its repository), "
-                      "or name it in the environment variable JSCHEMA")
+                      "or name it in the environment variable JSCHEMA; or build the library (tools/build-library)")
 
 
 class ProgramEngine:
@@ -51,6 +51,9 @@ class ProgramEngine:
 
     def places(self) -> list[str]:
         return self._places
+
+    def is_valid(self, entry: str, instance: bytes) -> bool:
+        return self.check(entry, instance, "flag").valid
 
     def check(self, entry: str, instance: bytes, format: str) -> Answer:
         return self._run("check", format, "/dev/stdin", entry, instance=instance)

@@ -13,19 +13,27 @@ Instance = Union[bytes, bytearray, memoryview, str, Any]
 
 LEAST, GREATEST = -2**63, 2**64 - 1
 
+_SCALARS = frozenset((str, bool, type(None)))
+_NAMES = frozenset((str,))
+# (Made once: `json.dumps` would make it in each call.)
+_written = json.JSONEncoder(ensure_ascii=False).encode
+
 
 def text_of(instance: Instance) -> bytes:
     """The JSON text of an instance. A str is a text, not a string.
 
-    Raises `Refused` for a value that can't be written within the profile (a float, a large number, a lone surrogate,
-    more than 127 levels), and `TypeError` for one that JSON doesn't have.
+    Raises `Refused` for a value that has no verdict (with a float, a number beyond -2^63 to 2^64 - 1, a lone surrogate,
+    or more than 127 levels), and `TypeError` for one that JSON doesn't have.
     """
+    if type(instance) is bytes:
+        return instance
     if isinstance(instance, (bytes, bytearray, memoryview)):
         return bytes(instance)
     if isinstance(instance, str):
         return _encoded(instance)
-    _check(instance, [])
-    return _encoded(json.dumps(instance, ensure_ascii=False))
+    if not _is_plain(instance, DEEPEST):
+        _check(instance, [])
+    return _encoded(_written(instance))
 
 
 def _encoded(text: str) -> bytes:
@@ -33,6 +41,26 @@ def _encoded(text: str) -> bytes:
         return text.encode()
     except UnicodeEncodeError:
         raise Refused("instance", "NotJson", "") from None
+
+
+def _is_plain(value: Any, levels: int) -> bool:
+    """Whether a value is within the profile, without values of subclasses, in so many levels at most.
+
+    So most values are, and this is quicker than `_check`, which decides about the others and says where they go wrong.
+    """
+    kind = type(value)
+    if kind is dict and _NAMES.issuperset(map(type, value)):
+        children = value.values()
+    elif kind is list or kind is tuple:
+        children = value
+    else:
+        return kind in _SCALARS or kind is int and LEAST <= value <= GREATEST
+    if levels == 0:
+        return False
+    for child in children:
+        if type(child) not in _SCALARS and not _is_plain(child, levels - 1):
+            return False
+    return True
 
 
 def _check(value: object, tokens: list[str]) -> None:

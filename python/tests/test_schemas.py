@@ -6,7 +6,9 @@ import pickle
 import stat
 import tempfile
 import unittest
+from collections import OrderedDict
 from concurrent.futures import ThreadPoolExecutor
+from enum import IntEnum
 from unittest import mock
 
 import jschema
@@ -25,6 +27,20 @@ SCHEMA = """{
   },
   "propertyNames": {"maxLength": 5}
 }"""
+
+
+class Bytes(bytes):
+    """Bytes of a subclass."""
+
+
+class Name(str):
+    """A str of a subclass."""
+
+
+class Number(IntEnum):
+    """An int of a subclass."""
+
+    ONE = 1
 
 
 def refusal(call, *arguments):
@@ -50,7 +66,10 @@ class Answers(unittest.TestCase):
         for valid, invalid in ((b'{"0": 1}', b'{"0": 0}'), (bytearray(b"1"), bytearray(b'{"0": 0}')),
                                (memoryview(b"1"), memoryview(b'{"0": 0}')), ('{"0": 1}', '{"0": 0}'),
                                ({"0": 1}, {"0": 0}), ([None, True, "\x00\"é\U0001f600"], {"a/b~c": (1, "\\")}),
-                               (2**64 - 1, {"0": -2**63}), (None, {"no": None})):
+                               (2**64 - 1, {"0": -2**63}), (None, {"no": None}),
+                               (Bytes(b"1"), Bytes(b'{"0": 0}')),
+                               (OrderedDict({Name("0"): Number.ONE}), {Name("no"): OrderedDict()}),
+                               ([Name(""), (True, Number.ONE)], {"no": Number.ONE})):
             with self.subTest(valid):
                 self.assertTrue(self.schemas.is_valid(URI, valid))
                 self.assertFalse(self.schemas.is_valid(URI, invalid))
@@ -61,14 +80,23 @@ class Answers(unittest.TestCase):
                                    (-2**63 - 1, "NotWhole", ""), (["\ud800"], "NotJson", "")):
             with self.subTest(value):
                 self.assertEqual(refusal(self.schemas.is_valid, URI, value), ("instance", kind, place, None, None))
-        deep = []
-        for _ in range(127):
-            deep = [deep]
-        self.assertEqual(refusal(self.schemas.is_valid, URI, deep), ("instance", "NotJson", "", None, None))
-        self.assertTrue(self.schemas.is_valid(URI, deep[0]))
+        for begun, add in (([], lambda it: [it]), ({}, lambda it: {"a": it}), ((), lambda it: (0, it)),
+                           (OrderedDict(), lambda it: [it])):
+            deep = begun
+            for _ in range(126):
+                deep = add(deep)
+            with self.subTest(type(begun)):
+                self.assertTrue(self.schemas.is_valid(URI, deep))
+                self.assertEqual(refusal(self.schemas.is_valid, URI, add(deep)),
+                                 ("instance", "NotJson", "", None, None))
+
+    def test_value_in_itself(self):
+        value = []
+        value += [value, value]
+        self.assertEqual(refusal(self.schemas.is_valid, URI, value), ("instance", "NotJson", "", None, None))
 
     def test_values_that_json_does_not_have(self):
-        for value in ({1: 2}, {True: 1}, {1, 2}, [object()], {"a": b"1"}):
+        for value in ({1: 2}, {True: 1}, {1, 2}, [object()], {"a": b"1"}, [{"a": 1, 2: 1}], OrderedDict({1: 2})):
             with self.subTest(value), self.assertRaises(TypeError):
                 self.schemas.is_valid(URI, value)
 
@@ -137,8 +165,9 @@ class Answers(unittest.TestCase):
     def test_threads(self):
         instances = [{"0": number % 3} for number in range(48)]
         with ThreadPoolExecutor(8) as pool:
-            found = list(pool.map(lambda it: self.schemas.is_valid(URI, it), instances))
-        self.assertEqual(found, [it["0"] > 0 for it in instances])
+            found = list(pool.map(lambda it: (self.schemas.is_valid(URI, it), not self.schemas.errors(URI, it)),
+                                  instances))
+        self.assertEqual(found, [(it["0"] > 0, it["0"] > 0) for it in instances])
 
 
 class Refusals(unittest.TestCase):
@@ -195,6 +224,9 @@ class Protocol(unittest.TestCase):
         schemas = jschema.Schemas({URI: b"true"}, engine=engine)
         self.assertEqual(schemas.output(URI, [1], format="merged"), {"valid": True})
         engine.check.assert_called_once_with(URI, b"[1]", "merged")
+        engine.is_valid.return_value = False
+        self.assertFalse(schemas.is_valid(URI, "1"))
+        engine.is_valid.assert_called_once_with(URI, b"1")
 
 
 class Programs(unittest.TestCase):

@@ -11,8 +11,8 @@ from .inputs import Misuse
 USAGE = ("python -m jschema validate --schema SCHEMA [--ref [URI=]FILE]... [--format FORMAT] [--lines] [--jobs N] "
          "INSTANCE...")
 EXAMPLE = "python -m jschema validate --schema person.schema.json ada.json"
-STATUSES = """exit status: 0 all are valid, 1 some are invalid, 2 the arguments are wrong, 3 an input is refused,
-4 out of memory, or a read or write failed; the highest of these"""
+STATUSES = """exit status, the highest that applies: 0 all are valid, 1 some are invalid, 2 the arguments are wrong,
+3 an input is refused, 4 out of memory, a read or write failed, or there is no validator"""
 
 
 @dataclass(frozen=True)
@@ -41,15 +41,17 @@ def _jobs(word: str) -> int:
 def _parser() -> argparse.ArgumentParser:
     parser = _Parser(prog="python -m jschema validate", usage=USAGE, epilog=STATUSES,
                      description="Validates JSON files against a JSON Schema, draft 2020-12.")
-    parser.add_argument("--schema", required=True, metavar="SCHEMA", help="the file of the schema")
+    parser.add_argument("--schema", required=True, metavar="SCHEMA",
+                        help="the file of the schema; its URI is its $id if that is absolute, else its file's URL")
     parser.add_argument("--ref", action="append", default=[], metavar="[URI=]FILE",
                         help="a schema document that is referred to, with the URI to register it under "
-                             "(default: its $id, else its file's URL)")
+                             "(default: as for the schema); repeat it for each")
     parser.add_argument("--format", default="text", choices=("text", *FORMATS, "json", "github"), metavar="FORMAT",
-                        help="text, a line for each error (the default); flag, basic, detailed, verbose or merged, "
-                             "the validator's output for each instance on a line; json, all in one array; "
-                             "github, annotations in GitHub Actions")
-    parser.add_argument("--lines", action="store_true", help="each line of a file is an instance")
+                        help="text (the default): a line for each error. flag, basic, detailed, verbose or merged: the "
+                             "validator's output, a line for each instance. json: an array with an object for each "
+                             "instance. github: annotations in GitHub Actions")
+    parser.add_argument("--lines", action="store_true",
+                        help="each line of a file is an instance; empty lines don't count")
     parser.add_argument("--jobs", type=_jobs, default=1, metavar="N", help="how many checks run at once (default: 1)")
     parser.add_argument("instances", nargs="+", metavar="INSTANCE",
                         help="a file; a folder, for its .json files (with --lines .jsonl and .ndjson) at any depth; "

@@ -81,8 +81,8 @@ class PeopleReport(Report):
         """How many instances came to what."""
         errors = f" ({self.errors} error{'' if self.errors == 1 else 's'})" if self.errors else ""
         parts = [f"{self.statuses[Status.VALID]} valid", f"{self.statuses[Status.INVALID]} invalid{errors}"]
-        parts += [f"{self.statuses[status]} {word}" for status, word in ((Status.REFUSED, "refused"), (Status.FAILED, "failed"))
-                  if self.statuses[status]]
+        parts += [f"{self.statuses[status]} {word}"
+                  for status, word in ((Status.REFUSED, "refused"), (Status.FAILED, "failed")) if self.statuses[status]]
         return ", ".join(parts)
 
 
