@@ -6,6 +6,7 @@ import forms
 import moves
 from asked import EMBEDDED, SCOPES, TREES, lines
 from bundle import Bundle
+from jschema import PAIRS, USAGE
 from json_text import fragment, pointer_of, read, text
 from questions import Question, Table, in_turn, quiet
 from result import result
@@ -30,6 +31,7 @@ def tables():
     for row, (_, documents, _) in ROWS.items():
         yield Table(f"the result of {row}", list(of_result(row)), documents)
     yield from of_runs()
+    yield Table("the command", list(of_commands()))
 
 
 # A text, and the compact text of what it is read as.
@@ -255,3 +257,43 @@ def run_table(what, documents, entry, given, answer, written):
             asked(fails_write=k),
             told("failed: Write", (reads, k), f"{end}, {no_write}", (then, k), "(false, true)", begun)))
     return Table(f"a run of {what}: {reads} reads and {writes} writes, each failed in turn", table, documents)
+
+
+# What a command is asked for: its words, its input, and the read that fails. What comes of it: the status, the output
+# and the line.
+INTEGER = '{"type":"integer"}'
+REFUSED = 'refused: document 0 at "/type": BadKeyword'
+COMMANDS = (
+    (("check",), "", 0, 2, "", USAGE),
+    (("places", cases.U), "", 0, 2, "", PAIRS),
+    (("check", "flag", "instance", cases.U, cases.U, "refused"), "", 0, 3, "", REFUSED),
+    (("check", "flag", "large", cases.U, cases.U, "refused"), "", 0, 3, "", "refused: input: InputTooLarge"),
+    (("suite", "missing", cases.U, "refused"), "", 0, 4, "", "failed: Read"),
+    ((), INTEGER + "\n3", 1, 4, "", "failed: Read"),
+    ((), '{"type":[]}\n3', 0, 3, "", REFUSED),
+    ((), INTEGER + "\n3", 0, 0, '{"valid":true}\n', ""),
+    ((), INTEGER + '\n"x"', 0, 1, '{"valid":false}\n', ""),
+    (("places", cases.U, "schema"), "", 0, 0, cases.U + "#\n", ""),
+)
+
+
+def of_commands():
+    """The program's work over files and devices in memory. Of the calls of the output, each write and the last flush
+    fails in turn, which counts only where all went well before. Where only writes fail, a fault before them counts."""
+    for words, given, fails_read, status, written, line in COMMANDS:
+        line += "\n" * bool(line)
+        asked, calls = (words, given, fails_read), len(written) + 1
+        own, no_write = (status, calls, written, line), "failed: Write\n"
+        yield asked_of_command(*asked, own)
+        for k in range(1, calls):
+            yield asked_of_command(*asked, (4, k, written[:k - 1], no_write), fails_write=k)
+        yield asked_of_command(*asked, (4, calls, written, no_write) if written else own, fails_write=calls)
+        yield asked_of_command(*asked, (4, 1, "", no_write) if written else own, step=0)
+
+
+def asked_of_command(words, given, fails_read, answer, step=1, fails_write=0):
+    """A command whose output takes `step` bytes a call. What it answers: its status, how often its output was called,
+    what that took, and what went to standard error."""
+    status, calls, written, line = answer
+    return Question(("command", given, str(fails_read), str(step), str(fails_write), *words),
+                    f"{status}, {calls}; {written}; {line}")

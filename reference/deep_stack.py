@@ -1,5 +1,6 @@
 """Runs a function with room for results as deep as the limits allow."""
 import concurrent.futures
+import gc
 import sys
 import threading
 
@@ -13,6 +14,8 @@ def with_deep_stack(function, seconds=None):
     Raises `TimeoutError` where it takes longer than `seconds`; the process can then end at once.
     """
     sys.setrecursionlimit(DEEPEST_CALLS)
+    # Trees have no cycles, and the search for some takes half of the time.
+    gc.disable()
     threading.stack_size(STACK_BYTES)
     outcome = concurrent.futures.Future()
 

@@ -1,6 +1,4 @@
 """What is shown of a result tree: pruned, condensed to its normal form, merged, and the five output formats."""
-from dataclasses import replace
-
 from json_text import text
 
 FORMATS = ("flag", "basic", "detailed", "merged", "verbose")
@@ -9,7 +7,7 @@ FORMATS = ("flag", "basic", "detailed", "merged", "verbose")
 def pruned(node, verdict=None):
     """The nodes for which every node from the root down to them has the root's verdict."""
     verdict = node.valid if verdict is None else verdict
-    return replace(node, children=[pruned(it, verdict) for it in node.children if it.valid == verdict])
+    return node.over([pruned(it, verdict) for it in node.children if it.valid == verdict])
 
 
 def units(node):
@@ -25,7 +23,7 @@ def condensed(node):
             children.append(it)
         else:
             children += it.children
-    return replace(node, children=children)
+    return node.over(children)
 
 
 def alike(one, other):
@@ -40,9 +38,9 @@ def unkeyed(node):
 def merged(node):
     """The tree in which each run of three rules ends, by taking steps, from below, as long as there is one: by the third a
     node goes, with all below it, where an earlier sibling is alike."""
-    node = condensed(replace(node, children=[merged(it) for it in node.children]))
+    node = condensed(node.over([merged(it) for it in node.children]))
     children = [it for at, it in enumerate(node.children) if not any(alike(other, it) for other in node.children[:at])]
-    return node if len(children) == len(node.children) else merged(replace(node, children=children))
+    return node if len(children) == len(node.children) else merged(node.over(children))
 
 
 def unit(node, children=()):

@@ -1,6 +1,5 @@
 """The two condensing rules as moves: a node below the root without a note is dropped, if it has no child, or lifted,
 that is replaced by its child, if it has exactly one. A position is the node's number in preorder, the root's 0."""
-from dataclasses import replace
 
 
 def size(node):
@@ -15,7 +14,7 @@ def apply(node, rule, position):
             below = parts(it, rule) if position == before else [apply(it, rule, position - before)]
             if position < 1 or below is None or None in below:
                 return None
-            return replace(node, children=[*node.children[:i], *below, *node.children[i + 1:]])
+            return node.over([*node.children[:i], *below, *node.children[i + 1:]])
         before += size(it)
     return None
 

@@ -30,6 +30,10 @@ class Node:
     note: tuple | None = None
     children: list = field(default_factory=list)
 
+    def over(self, children):
+        """The same unit over other children."""
+        return Node(self.keyword, self.absolute, self.instance, self.valid, self.note, children)
+
 
 def order(keyword):
     """`else` stands directly after `if`."""
@@ -178,6 +182,8 @@ def every_item_or(otherwise, indexes, items):
 
 
 def union(parts):
+    if not parts:
+        return NONE
     return frozenset().union(*(it[0] for it in parts)), frozenset().union(*(it[1] for it in parts))
 
 

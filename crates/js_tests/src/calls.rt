@@ -10,8 +10,9 @@
 //! and what is left if something must be left as it was. The word after the test's name says which calls on the
 //! bundle itself are between these marks: `add`, `add_doc` or `finish`, otherwise none.
 mod bundles;
+mod commands;
 mod devices;
-pub mod fakes;
+mod fakes;
 mod flat_lists;
 mod hand_made;
 mod places;
@@ -50,12 +51,23 @@ fn answers(rt: &HostRuntime, marked: &str, input: &str) -> Result<String, Fail> 
     let mut answers = String::new(rt.alloc());
     let schemas = bundles::finished_schemas(rt, marked, documents, &mut answers)?;
     for question in groups.next().unwrap_or("").split('\u{1e}') {
-        let words = words_of(rt.alloc(), question)?;
-        let answer = answer(rt, documents, &schemas, words.as_slice())?;
-        answers.push_str(answer.as_str())?;
-        answers.push('\u{1e}')?;
+        answer_one(rt, documents, &schemas, question, &mut answers)?;
     }
     Ok(answers)
+}
+
+fn answer_one(
+    rt: &HostRuntime,
+    documents: &str,
+    schemas: &Schemas,
+    question: &str,
+    answers: &mut String,
+) -> Result<(), Fail> {
+    let words = words_of(rt.alloc(), question)?;
+    let answer = answer(rt, documents, schemas, words.as_slice())?;
+    answers.push_str(answer.as_str())?;
+    answers.push('\u{1e}')?;
+    Ok(())
 }
 
 /// The words of a record.
@@ -79,6 +91,7 @@ fn answer(
         ["result", words @ ..] => results::answer(rt, schemas, words),
         ["hand-made", words @ ..] => hand_made::answer(rt, words),
         ["devices", words @ ..] => devices::answer(rt, documents, words),
+        ["command", words @ ..] => commands::answer(rt, words),
         _ => Err(Fail::from("it is no question")),
     }
 }

@@ -1,8 +1,7 @@
 //! Tests of the library crates' calls, and nothing else: each crate that they call is proved once, without tests.
 //!
 //! `hostile/run single` has one test, `calls::by_itself`, make call after call, and compares the answers with worked
-//! examples and with the reference. `commands` runs the program's work over devices in memory; `usage` is the example
-//! of `docs/USING.md`.
+//! examples and with the reference. `usage` is the example of `docs/USING.md`.
 #![tactic(auto)]
 
 mod words;
@@ -11,7 +10,5 @@ pub use words::word_at;
 
 #[cfg(test)]
 mod calls;
-#[cfg(test)]
-mod commands;
 #[cfg(test)]
 mod usage;

@@ -1,5 +1,5 @@
 //! A bundle made of documents. After an allocation is refused, the call is made once more.
-use super::telling::{mark_begin, mark_end};
+use super::telling::{mark_begin, mark_begin_if, mark_end};
 use super::words_of;
 use crate::word_at;
 use js_bundle::{Bundle, Refusal, RefusalKind, Schemas};
@@ -15,9 +15,7 @@ pub fn finished_schemas(
     told: &mut String,
 ) -> Result<Schemas, Fail> {
     let bundle = bundle_of(rt, marked, documents, told)?;
-    if marked == "finish" {
-        mark_begin(rt);
-    }
+    mark_begin_if(rt, marked == "finish");
     let made = bundle.finish(rt.alloc());
     mark_end(rt);
     match made {
@@ -40,22 +38,29 @@ fn bundle_of(
 ) -> Result<Bundle, Fail> {
     let mut bundle = Bundle::new(rt.alloc());
     for document in documents.split('\u{1e}') {
-        let words = words_of(rt.alloc(), document)?;
-        let uri = word_at(words.as_slice(), 0);
-        let text = word_at(words.as_slice(), 1);
-        match marked {
-            _ if document.is_empty() => {}
-            "add_doc" => add_value(
-                rt,
-                &mut bundle,
-                uri,
-                read(rt.alloc(), text.as_bytes())?,
-                told,
-            )?,
-            _ => add_bytes(rt, marked, &mut bundle, uri, text, told)?,
-        }
+        add_document(rt, marked, &mut bundle, document, told)?;
     }
     Ok(bundle)
+}
+
+fn add_document(
+    rt: &HostRuntime,
+    marked: &str,
+    bundle: &mut Bundle,
+    document: &str,
+    told: &mut String,
+) -> Result<(), Fail> {
+    if document.is_empty() {
+        return Ok(());
+    }
+    let words = words_of(rt.alloc(), document)?;
+    let uri = word_at(words.as_slice(), 0);
+    let text = word_at(words.as_slice(), 1);
+    if marked == "add_doc" {
+        let value = read(rt.alloc(), text.as_bytes())?;
+        return add_value(rt, bundle, uri, value, told);
+    }
+    add_bytes(rt, marked, bundle, uri, text, told)
 }
 
 fn add_bytes(
@@ -66,9 +71,7 @@ fn add_bytes(
     text: &str,
     told: &mut String,
 ) -> Result<(), Fail> {
-    if marked == "add" {
-        mark_begin(rt);
-    }
+    mark_begin_if(rt, marked == "add");
     let made = bundle.add(uri, text.as_bytes());
     mark_end(rt);
     if let Err(refusal) = made {

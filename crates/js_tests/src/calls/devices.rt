@@ -23,11 +23,12 @@ pub fn answer(rt: &HostRuntime, documents: &str, words: &[&str]) -> Result<Strin
     };
     let fails_at = word_at(words, 3).parse::<u64>()?;
     let input = word_at(words, 2).as_bytes();
-    let mut source = Source::new(SlowReader::new(input, fails_at, kind));
     let step = word_at(words, 5).parse::<usize>()?;
-    let mut writer = SlowWriter::new(alloc, step, word_at(words, 6).parse::<u64>()?);
-    let mut out = Sink::new(&mut writer);
+    let write_fails_at = word_at(words, 6).parse::<u64>()?;
     let documents = documents_of(alloc, documents)?;
+    let mut source = Source::new(SlowReader::new(input, fails_at, kind));
+    let mut writer = SlowWriter::new(alloc, step, write_fails_at);
+    let mut out = Sink::new(&mut writer);
     let made = performed(alloc, documents.as_slice(), words, &mut source, &mut out);
     let made = match made {
         Ok(answer) => answer,

@@ -3,7 +3,7 @@
 ghost use Rattle.std.specs.Prelude.{◌≡◌, true};
 ghost use Rattle.js_bundle.specs.Schemas.{is_place};
 
-use super::telling::{mark_begin, mark_end, told_text};
+use super::telling::{mark_begin, mark_begin_if, mark_end, told_text};
 use crate::word_at;
 use js_bundle::{Place, Schemas, Step};
 use js_doc::{read, text};
@@ -12,9 +12,7 @@ use std::test::Fail;
 
 pub fn answer(rt: &HostRuntime, schemas: &Schemas, words: &[&str]) -> Result<String, Fail> {
     let question = word_at(words, 1);
-    if question == "entry" {
-        mark_begin(rt);
-    }
+    mark_begin_if(rt, question == "entry");
     let found = schemas.entry(rt.alloc(), word_at(words, 0));
     mark_end(rt);
     match found {

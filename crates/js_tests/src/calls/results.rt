@@ -3,7 +3,7 @@
 ghost use Rattle.std.specs.Prelude.{◌≡◌, true};
 ghost use Rattle.js_bundle.specs.Schemas.{is_place};
 
-use super::telling::{mark_begin, mark_end};
+use super::telling::{mark_begin, mark_begin_if, mark_end};
 use super::{flat_lists, trees};
 use crate::word_at;
 use js_bundle::{Place, Schemas};
@@ -64,9 +64,7 @@ fn on_tree<'a>(
 {
     let alloc = rt.alloc();
     let call = word_at(words, 2);
-    if call.starts_with("walk") {
-        mark_begin(rt);
-    }
+    mark_begin_if(rt, call.starts_with("walk"));
     let made = match call {
         "walk_into_boxed" => match walk_into(alloc, schemas, place, value, Boxed::new(alloc)) {
             Ok(boxed) => Ok(boxed.tree()),
@@ -97,9 +95,7 @@ fn on_rows<'a>(
 {
     let alloc = rt.alloc();
     let call = word_at(words, 2);
-    if call == "walk_into_flat" {
-        mark_begin(rt);
-    }
+    mark_begin_if(rt, call == "walk_into_flat");
     let made = walk_into(alloc, schemas, place, value, Flat::new(alloc));
     mark_end(rt);
     match made {

@@ -10,6 +10,13 @@ pub fn mark_begin(rt: &HostRuntime) {
     let _ = rt.stderr().write(b"<");
 }
 
+/// The call comes next, if it is the one to mark.
+pub fn mark_begin_if(rt: &HostRuntime, is_marked: bool) {
+    if is_marked {
+        mark_begin(rt);
+    }
+}
+
 /// The call has ended.
 pub fn mark_end(rt: &HostRuntime) {
     let _ = rt.stderr().write(b">");

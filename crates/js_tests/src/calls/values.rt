@@ -1,5 +1,5 @@
 //! Calls of js_doc and js_assert. The words of a question: the call, and the texts that it takes.
-use super::telling::{mark_begin, mark_end, told_text, told_value};
+use super::telling::{mark_begin, mark_begin_if, mark_end, told_text, told_value};
 use crate::word_at;
 use js_assert::{Assertion, Pattern};
 use js_doc::{
@@ -183,31 +183,23 @@ fn text_pushed(rt: &HostRuntime, call: &str, text: &str) -> Result<String, Fail>
 // Whether a pattern holds of a text, by itself and by its searcher: the call by this name is marked.
 fn pattern_called(rt: &HostRuntime, call: &str, pattern: &str, text: &str) -> Result<String, Fail> {
     let alloc = rt.alloc();
-    if call == "pattern" {
-        mark_begin(rt);
-    }
+    mark_begin_if(rt, call == "pattern");
     let made = Pattern::new(alloc, pattern);
     mark_end(rt);
     let pattern = match made {
         Ok(pattern) => pattern,
         Err(fault) => return Ok(format!(in alloc; "{fault:?}")?),
     };
-    if call == "matches" {
-        mark_begin(rt);
-    }
+    mark_begin_if(rt, call == "matches");
     let made = pattern.holds(alloc, text);
     mark_end(rt);
-    if call == "searcher" {
-        mark_begin(rt);
-    }
+    mark_begin_if(rt, call == "searcher");
     let searcher = pattern.searcher(alloc);
     mark_end(rt);
     let Ok(mut searcher) = searcher else {
         return Ok(String::from_str(alloc, "Memory")?);
     };
-    if call == "search" {
-        mark_begin(rt);
-    }
+    mark_begin_if(rt, call == "search");
     let is_found = searcher.holds(text);
     mark_end(rt);
     Ok(format!(in alloc; "{made:?} {is_found}")?)
@@ -224,9 +216,7 @@ fn assertion_called(
     let alloc = rt.alloc();
     let argument = read(alloc, argument.as_bytes())?;
     let value = read(alloc, value.as_bytes())?;
-    if call == "assertion" {
-        mark_begin(rt);
-    }
+    mark_begin_if(rt, call == "assertion");
     let made = Assertion::read(alloc, keyword, &argument, &Members::new(alloc));
     mark_end(rt);
     match made {
