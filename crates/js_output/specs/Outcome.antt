@@ -8,6 +8,7 @@ use Rattle.js_tree.specs.Form.{form}
 use Rattle.js_tree.specs.MergedResult.{merged}
 use Rattle.js_tree.specs.RelativeState.{AreRowsOf}
 use Rattle.js_tree.specs.Result.{pruned}
+use Rattle.js_tree.specs.Trimmed.{trimmed_tree}
 use Rattle.js_tree.specs.declared.forms.Format.{Format}
 use Rattle.js_tree.specs.declared.forms.Format.TheVariants.{Flag, Basic, Verbose}
 use Rattle.js_tree.specs.declared.relative.RelativeRows.{RelativeRows}
@@ -152,9 +153,15 @@ IsInstanceFault f = IsLateOrMemory f
 abbrev pub IsJudged : bundle.Documents → Option Site → Value → Bool → Type 0
 IsJudged documents entry v valid = (t : ResultTree) × IsResultOf documents entry v t × IsWithinLimits t × (valid ≡ t.root.valid)
 
--- the rows are those of the result within the limits
-abbrev pub AreResultRows : bundle.Documents → Option Site → Value → RelativeRows → Type 0
-AreResultRows documents entry v rows = (t : ResultTree) × IsResultOf documents entry v t × IsWithinLimits t × AreRowsOf rows t
+-- the tree whose rows are kept for a format: no format but verbose shows anything of silent leaves
+abbrev pub recorded : Format → ResultTree → ResultTree
+recorded Verbose t = t
+recorded _ t = trimmed_tree t
+
+-- the rows are those that the format needs of the result within the limits
+abbrev pub AreResultRows : Format → bundle.Documents → Option Site → Value → RelativeRows → Type 0
+AreResultRows format documents entry v rows =
+    (t : ResultTree) × IsResultOf documents entry v t × IsWithinLimits t × AreRowsOf rows (recorded format t)
 
 -- the tree is what merged shows of it
 abbrev pub IsMerged : bundle.Documents → Option Site → Value → ResultTree → Type 0

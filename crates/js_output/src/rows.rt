@@ -8,26 +8,31 @@ use crate::fault::Fault;
 use bumpalo::Bump;
 use js_bundle::{Place, Schemas};
 use js_doc::Doc;
-use js_eval::walk_rows;
-use js_tree::RelativeRows;
+use js_eval::{walk_noted_rows, walk_rows};
+use js_tree::{Format, RelativeRows};
 use std::alloc::Global;
 
-/// Judges the instance at the place. What the rows keep of their locations stands in the arena.
+/// Judges the instance at the place, and keeps the rows that the format needs: for verbose all, otherwise none of nodes
+/// of which it shows nothing. What the rows keep of their locations stands in the arena.
 pub(crate) fn rows_of<'a>(
     alloc: Global,
     arena: &'a Bump,
     schemas: &'a Schemas,
     place: Place,
+    format: Format,
     instance: &'a Doc,
 ) -> Result<RelativeRows<'a>, Fault>
     requires { is_place schemas.now place ≡ true }
-    ensures rows { IfOk result (AreResultRows schemas.now
+    ensures rows { IfOk result (AreResultRows format schemas.now
         (place_at schemas.now place) (value_of instance.now)) }
     ensures fault { IfErr result (IsWalkFault schemas.now
         (place_at schemas.now place) (value_of instance.now)) }
 {
-    match walk_rows(alloc, arena, schemas, place, instance) {
-        Ok(rows) => Ok(rows),
-        Err(fault) => Err(Fault::from(fault)),
-    }
+    let rows = match format {
+        Format::Verbose => walk_rows(alloc, arena, schemas, place, instance)?,
+        Format::Flag | Format::Basic | Format::Detailed | Format::Merged => {
+            walk_noted_rows(alloc, arena, schemas, place, instance)?
+        }
+    };
+    Ok(rows)
 }

@@ -115,7 +115,7 @@ fn tell_rows<W: Write>(
     ensures sink_stays { out.old.failed ≡ true → out.new ≡ out.old }
 {
     let arena = Bump::new(alloc);
-    let rows = rows_of(alloc, &arena, schemas, place, instance)?;
+    let rows = rows_of(alloc, &arena, schemas, place, format, instance)?;
     let locations = Locations::new(alloc, &rows)?;
     let valid = rows.is_valid();
     write_rows(&rows, locations, format, out)?;
@@ -140,7 +140,7 @@ fn tell_detailed<W: Write>(
     ensures sink_stays { out.old.failed ≡ true → out.new ≡ out.old }
 {
     let arena = Bump::new(alloc);
-    let rows = rows_of(alloc, &arena, schemas, place, instance)?;
+    let rows = rows_of(alloc, &arena, schemas, place, Format::Detailed, instance)?;
     let marks = RelativeMarks::new(alloc, &rows)?;
     let locations = Locations::new(alloc, &rows)?;
     let valid = rows.is_valid();
