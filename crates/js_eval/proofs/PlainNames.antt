@@ -1,5 +1,6 @@
--- The names of the standard's applicators and assertions, and indexes, are written as they are in a pointer.
-use Rattle.std.proofs.Common.{◌≡◌, ℕ, ◌<◌, ◌^◌, Bool, true, false, not, IsTrue, cond, ◌==◌, List, [], ◌∷◌, Option, Some, None, is_some, decimal, ltb, refl, sym, ap, ◌∙◌, subst, arith}
+-- The names of the standard's applicators and assertions are written as they are in a pointer, in a fragment and in a JSON
+-- string, and indexes in a pointer.
+use Rattle.std.proofs.Common.{◌≡◌, ℕ, ◌<◌, ◌^◌, Bool, true, false, not, cond, ◌==◌, List, [], ◌∷◌, Some, is_some, decimal, ltb, refl, sym, ap, subst, arith}
 use Rattle.std.specs.List.{AllByRecursion, list_all}
 use Rattle.std.specs.Str.{bytes_eq}
 use Rattle.std.specs.Str.Parse.{AllDigits}
@@ -15,7 +16,6 @@ use Rattle.js_doc.proofs.PlainTokens.{all_kept, all_plain, kept_too}
 use Rattle.js_assert.specs.Keyword.{NamedKeyword, keyword_named, keywords, row_named}
 use Rattle.js_eval.specs.Kind.{Applicator, applicators, kind, kind_in}
 use Rattle.js_eval.specs.code.Standard.{IsWrittenAsItIs}
-use Rattle.js_eval.specs.declared.kind.Kind.{Kind}
 use Rattle.js_eval.specs.declared.kind.Kind.TheVariants.{Annotation, Assertion}
 
 -- ---- in a JSON string
