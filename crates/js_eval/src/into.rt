@@ -117,9 +117,9 @@ pub fn walk_rows<'a>(
     }
 }
 
-/// Evaluates the schema at the place on the value, and returns the result as rows, like [`walk_rows`], but without nodes
-/// that have no note and below which no node is left; the root stays. Only the verbose format shows anything of those
-/// (JSON Schema Core, sections 12.4.2 to 12.4.4), and half of a result's nodes are such.
+/// Evaluates the schema at the place on the value, and returns the result as rows, as [`walk_rows`] does, but without
+/// nodes that have no note and below which no node is left; the root stays. Only the verbose format shows anything of
+/// those (JSON Schema Core, sections 12.4.2 to 12.4.4), and half of a result's nodes are such.
 ///
 /// # Errors
 /// Those of [`walk`]: a node without a row counts too.
