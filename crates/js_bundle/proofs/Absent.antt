@@ -8,8 +8,8 @@ use Rattle.js_doc.specs.Members.{get, NamesAscend}
 use Rattle.js_doc.specs.Pointer.{Tokens}
 use Rattle.js_doc.specs.Short.{IsShort}
 use Rattle.js_doc.specs.Value.{Value, null, truth, whole, text, list, object, Members, no_members, member}
-use Rattle.js_bundle.specs.declared.holding.Holding.{Holding}
-use Rattle.js_bundle.specs.declared.holding.Holding.TheVariants.{One, Listed, Named}
+use Rattle.js_bundle.specs.declared.scan.holding.Holding.{Holding}
+use Rattle.js_bundle.specs.declared.scan.holding.Holding.TheVariants.{One, Listed, Named}
 use Rattle.js_bundle.specs.Document.{Documents}
 use Rattle.js_bundle.specs.Keyword.{Text, member_pairs, keywords, argument}
 use Rattle.js_bundle.specs.Names.{stands_at}

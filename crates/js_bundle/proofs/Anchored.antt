@@ -2,7 +2,7 @@
 use Rattle.std.proofs.Common.{◌≡◌, ℕ, zero, suc, ◌+◌, List, [], ◌∷◌, Bool, true, false, ◌&&◌, ◌||◌, cond, map, length, get_or, Option, Some, None, option_map, option_and_then, option_to_list, slice_get, bytes_eq, codes, if◌then◌else◌, refl, sym, ap, ◌∙◌, subst}
 use Rattle.std.specs.List.{list_any, position_from}
 use Rattle.std.specs.Option.{option_map_or}
-use Rattle.js_bundle.specs.declared.numbering.Numbering.{Numbering}
+use Rattle.js_bundle.specs.declared.index.numbering.Numbering.{Numbering}
 use Rattle.js_bundle.specs.Document.{Documents}
 use Rattle.js_bundle.specs.code.Index.{number_of_key}
 use Rattle.js_bundle.specs.Keyword.{Text, text_argument}

@@ -8,8 +8,8 @@ use Rattle.std.proofs.lemmas.Bool.{and_parts, eqb-true, eqb-false}
 use Rattle.std.proofs.lemmas.List.{append-nil, drop_all, drop_more, length-map, length-take, take_all}
 use Rattle.std.proofs.lemmas.Option.{slice_get-map, slice_get-get_or, slice_get_within}
 use Rattle.js_doc.specs.Pointer.{Tokens}
-use Rattle.js_bundle.specs.declared.numbering.Numbering.{Numbering}
-use Rattle.js_bundle.specs.declared.site.Site as rust
+use Rattle.js_bundle.specs.declared.index.numbering.Numbering.{Numbering}
+use Rattle.js_bundle.specs.declared.scan.site.Site as rust
 use Rattle.js_bundle.specs.code.Index.{ArePut, FindsFirst}
 use Rattle.js_bundle.specs.Keyword.{text_argument}
 use Rattle.js_bundle.specs.Names.{belongs_to, same_tokens, stands_at}

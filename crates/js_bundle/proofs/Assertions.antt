@@ -11,8 +11,8 @@ use Rattle.js_assert.specs.Pattern.{is_in_grammar, nests_too_deep, is_pattern}
 use Rattle.js_assert.proofs.Named.{named-pattern}
 use Rattle.js_bundle.specs.declared.refusal.RefusalKind.{RefusalKind}
 use Rattle.js_bundle.specs.declared.refusal.RefusalKind.TheVariants as kind
-use Rattle.js_bundle.specs.declared.fault.Fault.{Fault}
-use Rattle.js_bundle.specs.declared.fault.Fault.TheVariants.{Memory, Refused}
+use Rattle.js_bundle.specs.declared.check.fault.Fault.{Fault}
+use Rattle.js_bundle.specs.declared.check.fault.Fault.TheVariants.{Memory, Refused}
 use Rattle.js_bundle.specs.Candidate.{Candidate, IsClear, IsStopped}
 use Rattle.js_bundle.specs.Finding.{IsRefusal}
 use Rattle.js_bundle.specs.Keyword.{Text}

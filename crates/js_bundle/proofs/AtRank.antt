@@ -6,8 +6,8 @@ use Rattle.js_doc.specs.Pointer.{Tokens}
 use Rattle.js_doc.specs.Value.{Value, null, truth, whole, text, list, object, Members, no_members, member}
 use Rattle.js_doc.proofs.FiniteMaps.{get_here, get_past}
 use Rattle.url.specs.Parts.{Parts}
-use Rattle.js_bundle.specs.declared.edges.Edges.{Edges}
-use Rattle.js_bundle.specs.declared.holding.Holding.TheVariants.{Named}
+use Rattle.js_bundle.specs.declared.index.edges.Edges.{Edges}
+use Rattle.js_bundle.specs.declared.scan.holding.Holding.TheVariants.{Named}
 use Rattle.js_bundle.specs.declared.keyword_name.KeywordName.{KeywordName}
 use Rattle.js_bundle.specs.Document.{Documents}
 use Rattle.js_bundle.specs.Keyword.{Text, argument, keywords, member_pairs}

@@ -3,7 +3,7 @@ use Rattle.std.proofs.Common.{◌≡◌, ℕ, zero, suc, ◌+◌, ◌<◌, ◌�
 use Rattle.std.proofs.lemmas.Bool.{eqb-true, eqb-false}
 use Rattle.std.proofs.lemmas.List.{append-nil, drop_all, length-map, length-take, length-take-le, take_all}
 use Rattle.std.proofs.lemmas.Option.{slice_get_past}
-use Rattle.js_bundle.specs.declared.site.Site as rust
+use Rattle.js_bundle.specs.declared.scan.site.Site as rust
 use Rattle.js_bundle.specs.code.Scan.{site_of}
 use Rattle.js_bundle.specs.code.Column.{IsColumn, IsTold}
 use Rattle.js_bundle.specs.Resource.{Site}

@@ -7,7 +7,7 @@ use Rattle.std.proofs.lemmas.List.{drop_more, drop_all}
 use Rattle.std.proofs.lemmas.Option.{slice_get_within, slice_get-get_or, get_or_from_slice_get}
 use Rattle.url.specs.Parts.{Parts}
 use Rattle.js_doc.proofs.Named.{is_text-sound}
-use Rattle.js_bundle.specs.declared.reference.DynamicReference.{DynamicReference}
+use Rattle.js_bundle.specs.declared.check.references.DynamicReference.{DynamicReference}
 use Rattle.js_bundle.specs.Candidate.{IsClear}
 use Rattle.js_bundle.specs.code.Column.{IsColumn}
 use Rattle.js_bundle.specs.Document.{Documents}

@@ -6,7 +6,7 @@ use Rattle.js_doc.specs.Seen.{value_of}
 use Rattle.js_doc.specs.Value.{Value, object, items, member, Members}
 use Rattle.js_doc.specs.declared.doc.Doc.{Doc}
 use Rattle.js_bundle.specs.declared.document.Document as rust
-use Rattle.js_bundle.specs.declared.edges.Edges.{Edges}
+use Rattle.js_bundle.specs.declared.index.edges.Edges.{Edges}
 use Rattle.js_bundle.specs.Keyword.{Text}
 use Rattle.js_bundle.specs.KeywordName.{keyword_name}
 use Rattle.js_bundle.specs.Place.{holding}

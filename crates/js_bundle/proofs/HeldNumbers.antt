@@ -8,10 +8,10 @@ use Rattle.url.specs.Parts.{Parts}
 use Rattle.js_doc.specs.Members.{name_cmp, NamesAscend, NamesAscendInMembers}
 use Rattle.js_doc.specs.Pointer.{Tokens}
 use Rattle.js_doc.specs.Value.{Value, null, truth, whole, text, list, object, Members, no_members, member}
-use Rattle.js_bundle.specs.declared.edges.Edges.{Edges}
-use Rattle.js_bundle.specs.declared.holding.Holding.TheVariants.{One, Listed, Named, Nothing}
+use Rattle.js_bundle.specs.declared.index.edges.Edges.{Edges}
+use Rattle.js_bundle.specs.declared.scan.holding.Holding.TheVariants.{One, Listed, Named, Nothing}
 use Rattle.js_bundle.specs.declared.keyword_name.KeywordName.{KeywordName}
-use Rattle.js_bundle.specs.declared.whole_check.Spot as rust
+use Rattle.js_bundle.specs.declared.check.Spot as rust
 use Rattle.js_bundle.specs.Document.{Documents}
 use Rattle.js_bundle.specs.Keyword.{Text, argument, member_pairs}
 use Rattle.js_bundle.specs.KeywordName.{keyword_name}

@@ -13,9 +13,9 @@ use Rattle.js_doc.specs.PointerReading.{pointer_of}
 use Rattle.js_doc.proofs.Named.{is_text-refl, is_text-sound}
 use Rattle.js_doc.proofs.PointerTexts.{pointer_of-text}
 use Rattle.js_bundle.specs.declared.index.Index.{Index}
-use Rattle.js_bundle.specs.declared.names.Root.{Root}
-use Rattle.js_bundle.specs.declared.numbering.Numbering.{Numbering}
-use Rattle.js_bundle.specs.declared.site.Site as rust
+use Rattle.js_bundle.specs.declared.index.place_by_uri.Root.{Root}
+use Rattle.js_bundle.specs.declared.index.numbering.Numbering.{Numbering}
+use Rattle.js_bundle.specs.declared.scan.site.Site as rust
 use Rattle.js_bundle.specs.Finding.{number_named}
 use Rattle.js_bundle.specs.Keyword.{Text, text_argument}
 use Rattle.js_bundle.specs.code.Index.{number_of_key, ArePut, FindsFirst, IsIndex, IsAdded, place_key, place_keys, name_key, name_keys, name_keys_by, number_standing, number_making, number_in, number_under, standing, standing_of}

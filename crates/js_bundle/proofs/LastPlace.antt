@@ -1,7 +1,7 @@
 -- The last of the places that were gone over.
 use Rattle.std.proofs.Common.{◌≡◌, ◌+◌, ◌-◌, ◌<◌, ℕ, List, [], ◌∷◌, ◌++◌, Some, map, take, get_or, length, slice_get, refl, sym, ap, ◌∙◌, arith}
 use Rattle.std.proofs.lemmas.List.{length-append}
-use Rattle.js_bundle.specs.declared.site.Site as rust
+use Rattle.js_bundle.specs.declared.scan.site.Site as rust
 use Rattle.js_bundle.specs.code.Located.{IsLast}
 use Rattle.js_bundle.specs.code.Scan.{site_of}
 use Rattle.js_bundle.proofs.Passes.{map_take_more}

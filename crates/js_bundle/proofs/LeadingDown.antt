@@ -10,8 +10,8 @@ use Rattle.js_doc.specs.Value.{Value, null, truth, whole, text, list, object, It
 use Rattle.js_doc.proofs.Named.{is_text-refl, is_text-sound}
 use Rattle.js_assert.specs.Keyword as assertion
 use Rattle.js_bundle.specs.contracts.keyword_name.KeywordNamePartialEq.TheImpl.{ghosts}
-use Rattle.js_bundle.specs.declared.holding.Holding.{Holding}
-use Rattle.js_bundle.specs.declared.holding.Holding.TheVariants.{One, Listed, Named, Nothing}
+use Rattle.js_bundle.specs.declared.scan.holding.Holding.{Holding}
+use Rattle.js_bundle.specs.declared.scan.holding.Holding.TheVariants.{One, Listed, Named, Nothing}
 use Rattle.js_bundle.specs.Keyword.{Text, member_pairs}
 use Rattle.js_bundle.specs.KeywordName.{keyword_name}
 use Rattle.js_bundle.specs.Place.{one_schema, list_of_schemas, object_of_schemas, holding, values, Located, Place, places_held, places_at, places_of_keywords, places_in_list, places_of_items, places_in_object, places_of_members}

@@ -4,8 +4,8 @@ use Rattle.std.specs.List.{AllByRecursion, IsAmong}
 use Rattle.url.specs.Parts.{Parts}
 use Rattle.js_doc.specs.Pointer.{Tokens}
 use Rattle.js_doc.specs.Value.{Value, null, truth, whole, text, list, object, Items, no_items, item, Members, no_members, member}
-use Rattle.js_bundle.specs.declared.holding.Holding.{Holding}
-use Rattle.js_bundle.specs.declared.holding.Holding.TheVariants.{One, Listed, Named, Nothing}
+use Rattle.js_bundle.specs.declared.scan.holding.Holding.{Holding}
+use Rattle.js_bundle.specs.declared.scan.holding.Holding.TheVariants.{One, Listed, Named, Nothing}
 use Rattle.js_bundle.specs.Keyword.{Text, member_pairs, keywords}
 use Rattle.js_bundle.specs.Place.{holding, values, items_in, IsPlace, at_root, in_keyword, in_list, in_object, Located, Place, places_held, places_at, places_of_keywords, places_in_list, places_of_items, places_in_object, places_of_members}
 use Rattle.js_bundle.specs.PlaceLaws.{Lists, IsListOf}

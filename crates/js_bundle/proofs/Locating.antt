@@ -1,8 +1,8 @@
 -- How the first pass tells where places stand.
 use Rattle.std.proofs.Common.{◌≡◌, ℕ, ◌+◌, ◌<◌, ◌≤◌, List, [], ◌++◌, map, take, drop, get_or, length, refl, ap, subst, arith}
 use Rattle.std.proofs.lemmas.List.{length-map, length-take}
-use Rattle.js_bundle.specs.declared.located.Located.{Located}
-use Rattle.js_bundle.specs.declared.site.Site as rust
+use Rattle.js_bundle.specs.declared.index.positions.Located.{Located}
+use Rattle.js_bundle.specs.declared.scan.site.Site as rust
 use Rattle.js_bundle.specs.code.Index.{IsAdded, IsIndex}
 use Rattle.js_bundle.specs.code.Located.{IsLocated, IsLocatedNext}
 use Rattle.js_bundle.specs.code.Scan.{site_of}

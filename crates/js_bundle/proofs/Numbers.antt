@@ -13,7 +13,7 @@ use Rattle.js_assert.specs.Argument.{has}
 use Rattle.js_assert.specs.Assertion.{Asserted}
 use Rattle.js_assert.specs.Keyword.{keyword_named, name_of}
 use Rattle.js_assert.proofs.Named.{named-name_of}
-use Rattle.js_bundle.specs.declared.assertions_and_patterns.BuiltPattern.{BuiltPattern}
+use Rattle.js_bundle.specs.declared.check.assertions_and_patterns.BuiltPattern.{BuiltPattern}
 use Rattle.js_bundle.specs.AssertionsAndPatterns.{assertions_at, pattern_at, patterns_of, patterns_at}
 use Rattle.js_bundle.specs.Keyword.{Text, member_pairs, keywords, argument}
 use Rattle.js_bundle.specs.Resource.{Site}

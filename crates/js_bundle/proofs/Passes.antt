@@ -2,11 +2,11 @@
 use Rattle.std.proofs.Common.{◌≡◌, ℕ, ◌+◌, ◌<◌, List, [], ◌∷◌, ◌++◌, map, take, drop, get_or, length, sym, ap, ◌∙◌, subst, append_assoc, true, false, is_none, inl, Ok, Some, None}
 use Rattle.std.specs.List.{flat_map}
 use Rattle.std.proofs.lemmas.List.{take_more, drop_more, map-append}
-use Rattle.js_bundle.specs.declared.site.Site as rust
+use Rattle.js_bundle.specs.declared.scan.site.Site as rust
 use Rattle.js_bundle.specs.declared.refusal.Refusal.{Refusal}
 use Rattle.js_bundle.specs.declared.refusal.RefusalKind.TheVariants.{Unresolved}
-use Rattle.js_bundle.specs.declared.fault.Fault.{Fault}
-use Rattle.js_bundle.specs.declared.fault.Fault.TheVariants.{Memory, Refused}
+use Rattle.js_bundle.specs.declared.check.fault.Fault.{Fault}
+use Rattle.js_bundle.specs.declared.check.fault.Fault.TheVariants.{Memory, Refused}
 use Rattle.js_bundle.specs.Candidate.{Candidate, IsClear, IsStopped}
 use Rattle.js_bundle.specs.Finding.{number_named, IsRefusal}
 use Rattle.js_bundle.specs.code.Leads.{Leads}

@@ -1,7 +1,7 @@
 -- One pattern more.
 use Rattle.std.proofs.Common.{◌≡◌, List, [], ◌∷◌, ◌++◌, map, ap, ap₂, ◌∙◌, append_assoc}
 use Rattle.js_doc.specs.Value.{Value}
-use Rattle.js_bundle.specs.declared.assertions_and_patterns.BuiltPattern.{BuiltPattern}
+use Rattle.js_bundle.specs.declared.check.assertions_and_patterns.BuiltPattern.{BuiltPattern}
 use Rattle.js_bundle.specs.AssertionsAndPatterns.{pattern_at}
 use Rattle.js_bundle.specs.Keyword.{Text}
 

@@ -3,7 +3,7 @@ use Rattle.std.proofs.Common.{◌≡◌, ℕ, zero, suc, List, [], ◌∷◌, �
 use Rattle.std.specs.List.{flat_map}
 use Rattle.js_doc.specs.Value.{Value, Named}
 use Rattle.js_doc.proofs.Named.{is_text-sound}
-use Rattle.js_bundle.specs.declared.assertions_and_patterns.BuiltPattern.{BuiltPattern}
+use Rattle.js_bundle.specs.declared.check.assertions_and_patterns.BuiltPattern.{BuiltPattern}
 use Rattle.js_bundle.specs.AssertionsAndPatterns.{pattern_at, patterns_at, patterns_of}
 use Rattle.js_bundle.specs.code.Patterns.{own, AreOwn}
 use Rattle.js_bundle.specs.Keyword.{Text, keywords}

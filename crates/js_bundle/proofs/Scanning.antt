@@ -5,12 +5,12 @@ use Rattle.js_doc.specs.Pointer.{Tokens}
 use Rattle.js_doc.specs.Value.{Value, items, Members, member}
 use Rattle.js_doc.specs.Seen.{value_of}
 use Rattle.js_doc.specs.declared.doc.Doc.{Doc}
-use Rattle.js_bundle.specs.declared.holding.Holding.{Holding}
-use Rattle.js_bundle.specs.declared.holding.Holding.TheVariants.{Nothing}
-use Rattle.js_bundle.specs.declared.scope.Scope.{Scope}
+use Rattle.js_bundle.specs.declared.scan.holding.Holding.{Holding}
+use Rattle.js_bundle.specs.declared.scan.holding.Holding.TheVariants.{Nothing}
+use Rattle.js_bundle.specs.declared.scan.scope.Scope.{Scope}
 use Rattle.std.specs.List.{take-map}
 use Rattle.js_bundle.specs.declared.document.Document as rust
-use Rattle.js_bundle.specs.declared.site.Site as rust_scan
+use Rattle.js_bundle.specs.declared.scan.site.Site as rust_scan
 use Rattle.js_bundle.specs.Keyword.{Text}
 use Rattle.js_bundle.specs.Resource.{Site, root_scope}
 use Rattle.js_bundle.specs.Seen.{document_of}

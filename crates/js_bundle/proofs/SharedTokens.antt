@@ -5,7 +5,7 @@ use Rattle.std.proofs.lemmas.List.{append-nil, length-drop, take-append-drop, ta
 use Rattle.js_doc.specs.Fragment.{fragment_text}
 use Rattle.js_doc.specs.Pointer.{Tokens, pointer_text, token_text}
 use Rattle.js_doc.proofs.Named.{is_text-sound}
-use Rattle.js_bundle.specs.declared.beginning.Beginning.{Beginning}
+use Rattle.js_bundle.specs.declared.index.text_prefix.Beginning.{Beginning}
 use Rattle.js_bundle.specs.code.Beginning.{shared, BeginsKey, BeginsLocation}
 use Rattle.js_bundle.specs.code.Index.{place_key}
 use Rattle.js_bundle.specs.Location.{canonical, location, way}

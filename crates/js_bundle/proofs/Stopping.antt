@@ -1,8 +1,8 @@
 -- Where a check of several parts stops.
 use Rattle.std.proofs.Common.{◌≡◌, List, [], ◌∷◌, ◌++◌, inl, inr, refl, Result, Ok, Err, IfErr, OnOk}
 use Rattle.js_bundle.specs.declared.refusal.Refusal.{Refusal}
-use Rattle.js_bundle.specs.declared.fault.Fault.{Fault}
-use Rattle.js_bundle.specs.declared.fault.Fault.TheVariants.{Memory, Refused}
+use Rattle.js_bundle.specs.declared.check.fault.Fault.{Fault}
+use Rattle.js_bundle.specs.declared.check.fault.Fault.TheVariants.{Memory, Refused}
 use Rattle.js_bundle.specs.Candidate.{Candidate, decided_in, IsClear, IsFirst, IsStopped}
 use Rattle.js_bundle.specs.code.Leads.{Leads}
 

@@ -3,7 +3,7 @@ use Rattle.std.proofs.Common.{◌≡◌, ℕ, ◌+◌, ◌<◌, ◌≤◌, List,
 use Rattle.std.proofs.lemmas.Bool.{leb-false}
 use Rattle.std.proofs.lemmas.List.{append-nil, take-append-drop, take_all, length-append, length-take}
 use Rattle.std.specs.List.{flat_map}
-use Rattle.js_bundle.specs.declared.fault.Fault.{Fault}
+use Rattle.js_bundle.specs.declared.check.fault.Fault.{Fault}
 use Rattle.js_bundle.specs.declared.refusal.RefusalKind.TheVariants.{TooManyPlaces, NotASchema, DuplicateUri}
 use Rattle.js_bundle.specs.Candidate.{IsClear, IsStopped}
 use Rattle.js_bundle.specs.Document.{Documents}

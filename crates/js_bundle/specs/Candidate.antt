@@ -1,8 +1,8 @@
 -- Lists of refusals in order, and which of them may be answered.
 use Rattle.std.specs.Prelude.{◌≡◌, List, [], ◌∷◌, Bool, true, false, ◌⊎◌, if◌then◌else◌}
 use Rattle.js_bundle.specs.declared.refusal.Refusal.{Refusal}
-use Rattle.js_bundle.specs.declared.fault.Fault.{Fault}
-use Rattle.js_bundle.specs.declared.fault.Fault.TheVariants.{Memory, Refused}
+use Rattle.js_bundle.specs.declared.check.fault.Fault.{Fault}
+use Rattle.js_bundle.specs.declared.check.fault.Fault.TheVariants.{Memory, Refused}
 
 -- A refusal that may come. It is decided if it has to come where none comes before it, and given if it may come or not.
 -- Documents that have a given one are accepted only where it is allowed: so they may be where a pattern is too large for

@@ -5,13 +5,13 @@ use Rattle.std.specs.List.{position_from}
 use Rattle.url.specs.Parts.{Parts}
 use Rattle.js_doc.specs.Pointer.{Tokens}
 use Rattle.js_bundle.specs.declared.refusal.Refusal.{Refusal}
-use Rattle.js_bundle.specs.declared.fault.Fault.{Fault}
-use Rattle.js_bundle.specs.declared.fault.Fault.TheVariants.{Memory, Refused}
-use Rattle.js_bundle.specs.declared.reference.DynamicReference.{DynamicReference}
+use Rattle.js_bundle.specs.declared.check.fault.Fault.{Fault}
+use Rattle.js_bundle.specs.declared.check.fault.Fault.TheVariants.{Memory, Refused}
+use Rattle.js_bundle.specs.declared.check.references.DynamicReference.{DynamicReference}
 use Rattle.js_bundle.specs.Keyword.{Text, text_argument}
 use Rattle.js_bundle.specs.Names.{names, named, is_pointer}
-use Rattle.js_bundle.specs.declared.names.NameFault.{NameFault}
-use Rattle.js_bundle.specs.declared.names.NameFault.TheVariants as fault
+use Rattle.js_bundle.specs.declared.index.place_by_uri.NameFault.{NameFault}
+use Rattle.js_bundle.specs.declared.index.place_by_uri.NameFault.TheVariants as fault
 use Rattle.js_doc.specs.PointerReading.{pointer_of}
 use Rattle.std.specs.Option.{option_map_or}
 use Rattle.js_bundle.specs.Resource.{Site}

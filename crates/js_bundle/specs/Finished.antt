@@ -1,7 +1,7 @@
 -- What finished schemas keep of their documents, beside them: for each place, in scan order, what the definitions tell of it.
 use Rattle.std.specs.Prelude.{◌≡◌, map, codes, nat_eq}
 use Rattle.indexmap.specs.IndexMap.{get}
-use Rattle.js_bundle.specs.declared.whole_check.Checked.{Checked}
+use Rattle.js_bundle.specs.declared.check.Checked.{Checked}
 use Rattle.js_bundle.specs.AssertionsAndPatterns.{assertions_at, patterns_at}
 use Rattle.js_bundle.specs.Candidate.{IsClear}
 use Rattle.js_bundle.specs.Document.{Documents}

@@ -1,8 +1,8 @@
 -- What is kept of resources: the number of each place's, and of each resource what `$dynamicAnchor` names in it.
 use Rattle.std.specs.Prelude.{◌≡◌, ℕ, ◌+◌, List, [], ◌∷◌, length, Bool, true, Some, filter, map, slice_get, unwrap_or, option_and_then, option_to_list, codes, if◌then◌else◌}
 use Rattle.std.specs.List.{list_any, position_from, AllByRecursion}
-use Rattle.js_bundle.specs.declared.numbering.Numbering.{Numbering}
-use Rattle.js_bundle.specs.declared.resource_table.Resources.{Resources}
+use Rattle.js_bundle.specs.declared.index.numbering.Numbering.{Numbering}
+use Rattle.js_bundle.specs.declared.index.resource_table.Resources.{Resources}
 use Rattle.js_bundle.specs.code.Index.{ArePut, FindsFirst}
 use Rattle.js_bundle.specs.Keyword.{Text, text_argument}
 use Rattle.js_bundle.specs.Names.{belongs_to, stands_at}

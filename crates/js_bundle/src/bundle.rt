@@ -12,12 +12,12 @@ ghost use Rattle.js_bundle.specs.Refusals.{candidates, refusals, IsRefusalOf, re
 ghost use Rattle.js_bundle.specs.Seen.{document_of};
 ghost use Rattle.js_bundle.specs.Url as spec;
 
+use crate::check::check_whole;
+use crate::check::fault::Fault;
 use crate::document::Document;
-use crate::fault::Fault;
 use crate::refusal::{Refusal, RefusalKind};
 use crate::schemas::Schemas;
 use crate::uri::{LONGEST, has_no_fragment, without_fragment};
-use crate::whole_check::check_whole;
 use js_doc::{Doc, Pointer, ReadFault, read};
 use std::alloc::Global;
 use std::marker::Model;

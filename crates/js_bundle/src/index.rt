@@ -4,11 +4,23 @@ ghost use Rattle.js_bundle.specs.code.Index.{ArePut, IsAdded, IsIndex, place_key
 ghost use Rattle.js_bundle.specs.Names.{known_as};
 ghost use Rattle.js_bundle.specs.code.Scan.{site_of};
 
-use crate::keys::name_key;
+pub(crate) mod edges;
+pub(crate) mod keys;
+pub(crate) mod keyword_table;
+pub(crate) mod location;
+pub(crate) mod numbering;
+pub(crate) mod parts_by_place;
+pub(crate) mod place_by_uri;
+pub(crate) mod positions;
+pub(crate) mod resource_table;
+pub(crate) mod sparse_list;
+pub(crate) mod text_prefix;
+
+use crate::index::keys::name_key;
+use crate::index::numbering::Numbering;
+use crate::index::place_by_uri::is_root;
 use crate::keyword::text_argument;
-use crate::names::is_root;
-use crate::numbering::Numbering;
-use crate::site::Site;
+use crate::scan::site::Site;
 use crate::uri;
 use js_doc::Memory;
 use std::alloc::Global;

@@ -7,11 +7,16 @@ ghost use Rattle.js_bundle.specs.code.Scan.{SameFront, site_of, site_scanned, ha
 ghost use Rattle.js_bundle.specs.Resource.{root_scope};
 ghost use Rattle.js_bundle.specs.Seen.{document_of};
 
+pub(crate) mod holding;
+pub(crate) mod pointers;
+pub(crate) mod scope;
+pub(crate) mod site;
+
 use crate::document::Document;
-use crate::holding::Holding;
-use crate::pointers::shared_further;
-use crate::scope::{Scope, Scopes, scopes_at};
-use crate::site::Site;
+use crate::scan::holding::Holding;
+use crate::scan::pointers::shared_further;
+use crate::scan::scope::{Scope, Scopes, scopes_at};
+use crate::scan::site::Site;
 use js_doc::{Doc, Members, Memory, Pointer};
 use std::alloc::Global;
 use std::sync::Arc;

@@ -6,11 +6,11 @@ ghost use Rattle.js_bundle.specs.Location.{absolute, canonical, location};
 ghost use Rattle.js_bundle.specs.Schemas.{is_place, place_at, place_numbers};
 ghost use Rattle.js_bundle.specs.code.Spot.{spot, spot_of};
 
+use crate::check::{Checked, Spot};
 use crate::document::Document;
-use crate::location::absolute;
+use crate::index::location::absolute;
 use crate::place::Place;
 use crate::uri;
-use crate::whole_check::{Checked, Spot};
 use js_doc::{Doc, Memory, Pointer};
 use std::alloc::Global;
 use std::marker::Model;

@@ -4,7 +4,7 @@ use Rattle.std.specs.Prelude.{◌≡◌, ℕ, suc, [], ◌∷◌, ◌++◌, Opti
 use Rattle.std.specs.Option.{option_map_or}
 use Rattle.js_doc.specs.Fragment.{fragment_text}
 use Rattle.js_doc.specs.Pointer.{Tokens}
-use Rattle.js_bundle.specs.declared.beginning.Beginning.{Beginning}
+use Rattle.js_bundle.specs.declared.index.text_prefix.Beginning.{Beginning}
 use Rattle.js_bundle.specs.code.Index.{place_key}
 use Rattle.js_bundle.specs.Location.{canonical, way}
 use Rattle.js_bundle.specs.Resource.{Site}

@@ -2,10 +2,10 @@
 -- place that a place holds comes next, and the next one after all that stand below that.
 use Rattle.std.specs.Prelude.{ℕ, suc, ◌+◌, List, [], ◌∷◌, ◌++◌, map}
 use Rattle.js_doc.specs.Value.{Value, list, object, Items, no_items, item, Members, no_members, member}
-use Rattle.js_bundle.specs.declared.edges.Edges.{Edges}
-use Rattle.js_bundle.specs.declared.edges.HeldPlaces.{HeldPlaces}
-use Rattle.js_bundle.specs.declared.holding.Holding.{Holding}
-use Rattle.js_bundle.specs.declared.holding.Holding.TheVariants.{One, Listed, Named, Nothing}
+use Rattle.js_bundle.specs.declared.index.edges.Edges.{Edges}
+use Rattle.js_bundle.specs.declared.index.edges.HeldPlaces.{HeldPlaces}
+use Rattle.js_bundle.specs.declared.scan.holding.Holding.{Holding}
+use Rattle.js_bundle.specs.declared.scan.holding.Holding.TheVariants.{One, Listed, Named, Nothing}
 use Rattle.js_bundle.specs.declared.keyword_name.KeywordName.{KeywordName}
 use Rattle.js_bundle.specs.Document.{Documents}
 use Rattle.js_bundle.specs.Keyword.{Text}

@@ -6,8 +6,8 @@ use Rattle.std.specs.Option.{option_or}
 use Rattle.js_doc.specs.Pointer.{Tokens, pointer_text}
 use Rattle.js_doc.specs.PointerReading.{pointer_of}
 use Rattle.js_bundle.specs.declared.index.Index.{Index}
-use Rattle.js_bundle.specs.declared.names.Root.{Root}
-use Rattle.js_bundle.specs.declared.numbering.Numbering.{Numbering}
+use Rattle.js_bundle.specs.declared.index.place_by_uri.Root.{Root}
+use Rattle.js_bundle.specs.declared.index.numbering.Numbering.{Numbering}
 use Rattle.js_bundle.specs.Keyword.{Text, text_argument}
 use Rattle.js_bundle.specs.Names.{is_pointer, is_root, known_as}
 use Rattle.js_bundle.specs.Resource.{Site}

@@ -1,8 +1,8 @@
 -- Where places stand, as the first pass tells it: their keys in the index, which are roots of resources, and their absolute
 -- locations.
 use Rattle.std.specs.Prelude.{◌≡◌, ◌-◌, List, [], ◌∷◌, ◌++◌, length, Option, map, slice_get}
-use Rattle.js_bundle.specs.declared.located.Located.{Located}
-use Rattle.js_bundle.specs.declared.located.Beginnings.{Beginnings}
+use Rattle.js_bundle.specs.declared.index.positions.Located.{Located}
+use Rattle.js_bundle.specs.declared.index.positions.Beginnings.{Beginnings}
 use Rattle.js_bundle.specs.code.Beginning.{BeginsKey, BeginsLocation}
 use Rattle.js_bundle.specs.code.Index.{IsAdded, IsIndex}
 use Rattle.js_bundle.specs.Location.{location}

@@ -2,8 +2,8 @@
 use Rattle.std.specs.Prelude.{ℕ, List, [], Bool, ◌&&◌, ◌∷◌, not, bytes_eq, Option, Some, None, if◌then◌else◌}
 use Rattle.js_doc.specs.Pointer.{Tokens}
 use Rattle.js_doc.specs.Value.{Value, null}
-use Rattle.js_bundle.specs.declared.whole_check.Spot as rust
-use Rattle.js_bundle.specs.declared.scope.Scope.{Scope}
+use Rattle.js_bundle.specs.declared.check.Spot as rust
+use Rattle.js_bundle.specs.declared.scan.scope.Scope.{Scope}
 use Rattle.js_bundle.specs.Keyword.{Text}
 use Rattle.js_bundle.specs.Location.{location}
 use Rattle.js_bundle.specs.Names.{same_tokens}
