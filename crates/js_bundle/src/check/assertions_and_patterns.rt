@@ -7,7 +7,7 @@ ghost use Rattle.js_bundle.specs.Keyword.{keywords};
 ghost use Rattle.js_bundle.specs.Refusals.{at_pattern, name_rules};
 ghost use Rattle.js_bundle.specs.code.Scan.{site_of};
 
-use crate::check::fault::{Fault, refuse_member};
+use crate::check::fault::{CheckFault, refuse_member};
 use crate::refusal::RefusalKind;
 use crate::scan::site::Site;
 use js_assert::{Assertion, Pattern, PatternFault};
@@ -92,7 +92,12 @@ pub(crate) fn keep_assertion(
     Ok(())
 }
 
-fn read_pattern(alloc: Global, site: &Site<'_>, keyword: &str, name: &str) -> Result<Pattern, Fault>
+fn read_pattern(
+    alloc: Global,
+    site: &Site<'_>,
+    keyword: &str,
+    name: &str,
+) -> Result<Pattern, CheckFault>
     ensures clear { OnOk result (IsClear
         (at_pattern (site_of site.now) (keyword.now ∷ name.now ∷ []) name.now)) }
     ensures built { IfOk result (λ p. p ≡ name.now) }
@@ -101,7 +106,7 @@ fn read_pattern(alloc: Global, site: &Site<'_>, keyword: &str, name: &str) -> Re
 {
     match Pattern::new(alloc, name) {
         Ok(pattern) => Ok(pattern),
-        Err(PatternFault::Memory) => Err(Fault::Memory),
+        Err(PatternFault::Memory) => Err(CheckFault::Memory),
         Err(PatternFault::NotAPattern) => {
             Err(refuse_member(alloc, site, keyword, name, RefusalKind::BadPattern))
         }
@@ -118,7 +123,7 @@ pub(crate) fn read_patterns(
     site: &Site<'_>,
     keyword: &str,
     members: &Members,
-) -> Result<(), Fault>
+) -> Result<(), CheckFault>
     ensures clear { OnOk result (IsClear
         (flat_map (λ n. at_pattern (site_of site.now) (keyword.now ∷ n.0 ∷ []) n.0) members.now)) }
     ensures built { OnOk result (out.new.items ≡ out.old.items ++ map pattern_at members.now) }
@@ -142,7 +147,7 @@ pub(crate) fn read_names(
     site: &Site<'_>,
     keyword: &str,
     argument: &Doc,
-) -> Result<(), Fault>
+) -> Result<(), CheckFault>
     ensures clear { OnOk result (IsClear
         (name_rules (site_of site.now) keyword.now (value_of argument.now))) }
     ensures built { OnOk result (out.new.items
@@ -162,7 +167,7 @@ fn read_names_of(
     site: &Site<'_>,
     keyword: &str,
     argument: &Doc,
-) -> Result<(), Fault>
+) -> Result<(), CheckFault>
     ensures clear { OnOk result (IsClear
         (flat_map (λ n. at_pattern (site_of site.now) (keyword.now ∷ n.0 ∷ []) n.0)
         (keywords (value_of argument.now)))) }

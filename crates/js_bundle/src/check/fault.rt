@@ -1,6 +1,6 @@
 //! Why a check stops.
 ghost use Rattle.std.specs.Prelude.{◌≡◌, [], ◌∷◌, IfOk};
-ghost use Rattle.js_bundle.specs.Finding.{IsRefusal, tokens_of};
+ghost use Rattle.js_bundle.specs.Finding.{IsRefusalOrMemory, tokens_of};
 ghost use Rattle.js_bundle.specs.Refusals.{refusal_at};
 ghost use Rattle.js_bundle.specs.code.Scan.{site_of};
 
@@ -11,41 +11,41 @@ use std::alloc::{AllocError, AllocFailed, Global};
 
 /// Why a check stops.
 #[derive(Drop)]
-pub(crate) enum Fault {
+pub(crate) enum CheckFault {
     Memory,
     Refused(Refusal),
 }
 
-impl From<AllocError> for Fault {
+impl From<AllocError> for CheckFault {
     ghost use Rattle.std.specs.Prelude.{◌≡◌};
-    ghost use Rattle.js_bundle.specs.declared.check.fault.Fault.TheVariants.{Memory};
+    ghost use Rattle.js_bundle.specs.declared.check.fault.CheckFault.TheVariants.{Memory};
 
     ghost from_gives = { λ _ e. e ≡ Memory };
 
-    fn from(_refused: AllocError) -> Fault {
-        Fault::Memory
+    fn from(_refused: AllocError) -> CheckFault {
+        CheckFault::Memory
     }
 }
 
-impl<T: Drop> From<AllocFailed<T>> for Fault {
+impl<T: Drop> From<AllocFailed<T>> for CheckFault {
     ghost use Rattle.std.specs.Prelude.{◌≡◌};
-    ghost use Rattle.js_bundle.specs.declared.check.fault.Fault.TheVariants.{Memory};
+    ghost use Rattle.js_bundle.specs.declared.check.fault.CheckFault.TheVariants.{Memory};
 
     ghost from_gives = { λ _ e. e ≡ Memory };
 
-    fn from(_refused: AllocFailed<T>) -> Fault {
-        Fault::Memory
+    fn from(_refused: AllocFailed<T>) -> CheckFault {
+        CheckFault::Memory
     }
 }
 
-impl From<NoMemory> for Fault {
+impl From<NoMemory> for CheckFault {
     ghost use Rattle.std.specs.Prelude.{◌≡◌};
-    ghost use Rattle.js_bundle.specs.declared.check.fault.Fault.TheVariants.{Memory};
+    ghost use Rattle.js_bundle.specs.declared.check.fault.CheckFault.TheVariants.{Memory};
 
     ghost from_gives = { λ _ e. e ≡ Memory };
 
-    fn from(_refused: NoMemory) -> Fault {
-        Fault::Memory
+    fn from(_refused: NoMemory) -> CheckFault {
+        CheckFault::Memory
     }
 }
 
@@ -55,12 +55,12 @@ pub(crate) fn refuse(
     site: &Site<'_>,
     keyword: Option<&str>,
     kind: RefusalKind,
-) -> Fault
-    ensures { IsRefusal (refusal_at (site_of site.now) (tokens_of keyword.entry) kind) result }
+) -> CheckFault
+    ensures { IsRefusalOrMemory (refusal_at (site_of site.now) (tokens_of keyword.entry) kind) result }
 {
     match refusal(alloc, site, keyword, kind) {
-        Ok(refusal) => Fault::Refused(refusal),
-        Err(_) => Fault::Memory,
+        Ok(refusal) => CheckFault::Refused(refusal),
+        Err(_) => CheckFault::Memory,
     }
 }
 
@@ -90,12 +90,12 @@ pub(crate) fn refuse_member(
     keyword: &str,
     name: &str,
     kind: RefusalKind,
-) -> Fault
-    ensures { IsRefusal (refusal_at (site_of site.now) (keyword.now ∷ name.now ∷ []) kind) result }
+) -> CheckFault
+    ensures { IsRefusalOrMemory (refusal_at (site_of site.now) (keyword.now ∷ name.now ∷ []) kind) result }
 {
     match member_refusal(alloc, site, keyword, name, kind) {
-        Ok(refusal) => Fault::Refused(refusal),
-        Err(_) => Fault::Memory,
+        Ok(refusal) => CheckFault::Refused(refusal),
+        Err(_) => CheckFault::Memory,
     }
 }
 

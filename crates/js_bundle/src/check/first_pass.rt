@@ -7,28 +7,33 @@ ghost use Rattle.js_bundle.specs.declared.refusal.RefusalKind.TheVariants.{BadKe
 ghost use Rattle.js_bundle.specs.AssertionsAndPatterns.{assertion_at, assertions_at, patterns_of, patterns_at};
 ghost use Rattle.js_bundle.specs.Candidate.{IsClear, IsStopped};
 ghost use Rattle.js_bundle.specs.Form.{is_formed};
-ghost use Rattle.js_bundle.specs.code.Grouped.{IsGrouped};
-ghost use Rattle.js_bundle.specs.code.Index.{IsIndex};
-ghost use Rattle.js_bundle.specs.code.Located.{BeginTextsOf, IsLast, IsLocated, IsLocatedNext};
+ghost use Rattle.js_bundle.specs.code.PartsByPlace.{ArePartsByPlace};
+ghost use Rattle.js_bundle.specs.code.Index.{IsIndexOf};
+ghost use Rattle.js_bundle.specs.code.Positions.{BeginTexts, IsLast, ArePositionsOf, HasPositionAdded};
 ghost use Rattle.js_bundle.specs.Keyword as words;
 ghost use Rattle.js_bundle.specs.KeywordName.{keyword_names};
 ghost use Rattle.js_bundle.specs.Refusals.{when, decided, on_text, text_rules, at_member, at_site, first_pass};
 ghost use Rattle.js_bundle.specs.code.Scan.{site_of};
 
 use crate::check::assertions_and_patterns::{Built, BuiltTable, keep_assertion, read_names};
-use crate::check::fault::{Fault, refuse};
+use crate::check::fault::{CheckFault, refuse};
 use crate::check::rules::{
     check_anchor, check_dialect, check_id, check_place, is_formed, read_assertion,
 };
 use crate::index::Index;
 use crate::index::keyword_table::KeywordTable;
-use crate::index::positions::{Beginnings, Located};
+use crate::index::positions::{Positions, TextPrefixes};
 use crate::refusal::RefusalKind;
 use crate::scan::site::Site;
 use js_doc::{Doc, Members, Memory};
 use std::alloc::Global;
 
-fn check_form(alloc: Global, site: &Site<'_>, keyword: &str, argument: &Doc) -> Result<(), Fault>
+fn check_form(
+    alloc: Global,
+    site: &Site<'_>,
+    keyword: &str,
+    argument: &Doc,
+) -> Result<(), CheckFault>
     ensures ok { OnOk result (IsClear (when (not (is_formed keyword.now (value_of argument.now)))
         (decided (site_of site.now) (keyword.now ∷ []) BadKeyword))) }
     ensures err { IfErr result (IsStopped (when (not (is_formed keyword.now (value_of argument.now)))
@@ -49,8 +54,8 @@ fn check_text(
     site: &Site<'_>,
     keyword: &str,
     text: &str,
-) -> Result<(), Fault>
-    requires index { IsIndex index.now (map site_of before.now) }
+) -> Result<(), CheckFault>
+    requires index { IsIndexOf index.now (map site_of before.now) }
     requires argument { words.argument keyword.now (value_of site.now.schema.now) ≡ Some (spec.text text.now) }
     ensures ok { OnOk result (IsClear
         (text_rules (map site_of before.now) (site_of site.now) keyword.now text.now)) }
@@ -73,8 +78,8 @@ fn check_argument(
     site: &Site<'_>,
     keyword: &str,
     argument: &Doc,
-) -> Result<(), Fault>
-    requires index { IsIndex index.now (map site_of before.now) }
+) -> Result<(), CheckFault>
+    requires index { IsIndexOf index.now (map site_of before.now) }
     requires argument { words.argument keyword.now (value_of site.now.schema.now) ≡ Some (value_of argument.now) }
     ensures ok { OnOk result (IsClear (on_text
         (text_rules (map site_of before.now) (site_of site.now) keyword.now) (value_of argument.now))) }
@@ -97,8 +102,8 @@ fn check_keyword(
     keyword: &str,
     argument: &Doc,
     siblings: &Members,
-) -> Result<(), Fault>
-    requires index { IsIndex index.now (map site_of before.now) }
+) -> Result<(), CheckFault>
+    requires index { IsIndexOf index.now (map site_of before.now) }
     requires argument { words.argument keyword.now (value_of site.now.schema.now) ≡ Some (value_of argument.now) }
     ensures clear { OnOk result (IsClear
         (at_member (map site_of before.now) (site_of site.now) (keyword.now, value_of argument.now))) }
@@ -124,8 +129,8 @@ fn check_keywords(
     before: &[Site<'_>],
     site: &Site<'_>,
     members: &Members,
-) -> Result<(), Fault>
-    requires index { IsIndex index.now (map site_of before.now) }
+) -> Result<(), CheckFault>
+    requires index { IsIndexOf index.now (map site_of before.now) }
     requires members { value_of site.now.schema.now ≡ spec.object (spec.members members.now) }
     ensures clear { OnOk result (IsClear
         (flat_map (at_member (map site_of before.now) (site_of site.now)) members.now)) }
@@ -157,8 +162,8 @@ fn check_schema(
     index: &Index,
     before: &[Site<'_>],
     site: &Site<'_>,
-) -> Result<(), Fault>
-    requires { IsIndex index.now (map site_of before.now) }
+) -> Result<(), CheckFault>
+    requires { IsIndexOf index.now (map site_of before.now) }
     ensures clear { OnOk result (IsClear (flat_map
         (at_member (map site_of before.now) (site_of site.now)) (words.keywords (site_of site.now).schema))) }
     ensures assertions { OnOk result (built.new.assertions.items ≡ built.old.assertions.items
@@ -181,8 +186,8 @@ fn check_site(
     index: &Index,
     before: &[Site<'_>],
     site: &Site<'_>,
-) -> Result<(), Fault>
-    requires { IsIndex index.now (map site_of before.now) }
+) -> Result<(), CheckFault>
+    requires { IsIndexOf index.now (map site_of before.now) }
     ensures clear { OnOk result (IsClear (at_site (map site_of before.now) (site_of site.now))) }
     ensures assertions { OnOk result (built.new.assertions.items ≡ built.old.assertions.items
         ++ assertions_at (site_of site.now)) }
@@ -198,7 +203,7 @@ fn check_site(
 #[derive(Drop)]
 pub(crate) struct Passed {
     pub(crate) built: BuiltTable,
-    pub(crate) located: Located,
+    pub(crate) positions: Positions,
     pub(crate) keywords: KeywordTable,
 }
 
@@ -209,32 +214,32 @@ impl Passed {
         ensures assertion_ends { IfOk result (λ p. p.built.assertion_ends.items ≡ []) }
         ensures patterns { IfOk result (λ p. p.built.all.patterns.items ≡ []) }
         ensures pattern_ends { IfOk result (λ p. p.built.pattern_ends.items ≡ []) }
-        ensures located { IfOk result (λ p. IsLocated p.located []) }
+        ensures positions { IfOk result (λ p. ArePositionsOf p.positions []) }
         ensures names { IfOk result (λ p. p.keywords.names.items ≡ []) }
         ensures ends { IfOk result (λ p. p.keywords.ends.items ≡ []) }
     {
-        let located = Located::with_capacity(alloc, places)?;
+        let positions = Positions::with_capacity(alloc, places)?;
         Ok(Passed {
             built: BuiltTable::with_capacity(alloc, places)?,
-            located,
+            positions,
             keywords: KeywordTable::with_capacity(alloc, places)?,
         })
     }
 
-    // Adds a place. Its texts are made from the beginnings of those of the place before it.
+    // Adds a place. Its texts are made from the prefixes of those of the place before it.
     fn pass(
         &mut self,
         alloc: Global,
         earlier: &[Site<'_>],
-        beginnings: &mut Beginnings,
+        prefixes: &mut TextPrefixes,
         before: Option<&Site<'_>>,
         site: &Site<'_>,
-    ) -> Result<(), Fault>
-        requires index { IsIndex self.old.located.index (map site_of earlier.now) }
-        requires begin { MatchOption before (Unit {0}) (λ b. BeginTextsOf beginnings.old (site_of b.now)) }
+    ) -> Result<(), CheckFault>
+        requires index { IsIndexOf self.old.positions.index (map site_of earlier.now) }
+        requires begin { MatchOption before (Unit {0}) (λ b. BeginTexts prefixes.old (site_of b.now)) }
         requires before { IsLast (map site_of earlier.now) (option_map (λ b. site_of b.now) before) }
         ensures clear { OnOk result (IsClear (at_site (map site_of earlier.now) (site_of site.now))) }
-        ensures begin { OnOk result (BeginTextsOf beginnings.new (site_of site.now)) }
+        ensures begin { OnOk result (BeginTexts prefixes.new (site_of site.now)) }
         ensures assertions { OnOk result (self.new.built.all.assertions.items
             ≡ self.old.built.all.assertions.items ++ assertions_at (site_of site.now)) }
         ensures assertion_ends { OnOk result (self.new.built.assertion_ends.items
@@ -243,41 +248,42 @@ impl Passed {
             ≡ self.old.built.all.patterns.items ++ patterns_at (site_of site.now)) }
         ensures pattern_ends { OnOk result (self.new.built.pattern_ends.items
             ≡ self.old.built.pattern_ends.items ++ length self.new.built.all.patterns.items ∷ []) }
-        ensures located { OnOk result
-            (IsLocatedNext self.old.located (map site_of earlier.now) (site_of site.now) self.new.located) }
+        ensures positions { OnOk result
+            (HasPositionAdded self.old.positions (map site_of earlier.now) (site_of site.now) self.new.positions) }
         ensures names { OnOk result (self.new.keywords.names.items
             ≡ self.old.keywords.names.items ++ keyword_names (site_of site.now)) }
         ensures ends { OnOk result (self.new.keywords.ends.items
             ≡ self.old.keywords.ends.items ++ length self.new.keywords.names.items ∷ []) }
         ensures err { IfErr result (IsStopped (at_site (map site_of earlier.now) (site_of site.now))) }
     {
-        self.keywords.add(site)?;
-        let index = &self.located.index;
+        self.keywords.add_names(site)?;
+        let index = &self.positions.index;
         check_site(alloc, &mut self.built.all, index, earlier, site)?;
         self.built.end_place()?;
-        self.located.add(alloc, beginnings, earlier, before, site)?;
+        self.positions
+            .add_position(alloc, prefixes, earlier, before, site)?;
         Ok(())
     }
 }
 
 /// The first pass.
-pub(crate) fn first_pass(alloc: Global, sites: &[Site<'_>]) -> Result<Passed, Fault>
+pub(crate) fn first_pass(alloc: Global, sites: &[Site<'_>]) -> Result<Passed, CheckFault>
     ensures clear { OnOk result (IsClear (first_pass [] (map site_of sites.now))) }
-    ensures assertions { IfOk result (λ p. IsGrouped assertions_at (map site_of sites.now)
+    ensures assertions { IfOk result (λ p. ArePartsByPlace assertions_at (map site_of sites.now)
         p.built.all.assertions.items p.built.assertion_ends.items) }
-    ensures patterns { IfOk result (λ p. IsGrouped patterns_at (map site_of sites.now)
+    ensures patterns { IfOk result (λ p. ArePartsByPlace patterns_at (map site_of sites.now)
         p.built.all.patterns.items p.built.pattern_ends.items) }
-    ensures located { IfOk result (λ p. IsLocated p.located (map site_of sites.now)) }
+    ensures positions { IfOk result (λ p. ArePositionsOf p.positions (map site_of sites.now)) }
     ensures keywords { IfOk result
-        (λ p. IsGrouped keyword_names (map site_of sites.now) p.keywords.names.items p.keywords.ends.items) }
+        (λ p. ArePartsByPlace keyword_names (map site_of sites.now) p.keywords.names.items p.keywords.ends.items) }
     ensures err { IfErr result (IsStopped (first_pass [] (map site_of sites.now))) }
 {
     let mut passed = Passed::with_capacity(alloc, sites.len())?;
-    let mut beginnings = Beginnings::new(alloc);
+    let mut prefixes = TextPrefixes::new(alloc);
     let mut before = None;
     for i in 0..sites.len() {
         let site = &sites[i];
-        passed.pass(alloc, &sites[..i], &mut beginnings, before, site)?;
+        passed.pass(alloc, &sites[..i], &mut prefixes, before, site)?;
         before = Some(site);
     }
     Ok(passed)

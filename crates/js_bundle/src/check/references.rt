@@ -4,9 +4,9 @@ ghost use Rattle.indexmap.specs.IndexMap.{get};
 ghost use Rattle.js_bundle.specs.Candidate.{IsClear, IsStopped};
 ghost use Rattle.std.specs.Option.{option_map_or};
 ghost use Rattle.js_bundle.specs.Finding.{number_named, number_of_target, dynamic_as, dynamic_by, dynamic_at, under_number};
-ghost use Rattle.js_bundle.specs.code.Column.{IsColumn, IsTold};
-ghost use Rattle.js_bundle.specs.code.Grouped.{IsGrouped};
-ghost use Rattle.js_bundle.specs.code.Index.{IsIndex};
+ghost use Rattle.js_bundle.specs.code.SparseList.{IsSparseList, HasEntryAdded};
+ghost use Rattle.js_bundle.specs.code.PartsByPlace.{ArePartsByPlace};
+ghost use Rattle.js_bundle.specs.code.Index.{IsIndexOf};
 ghost use Rattle.js_bundle.specs.KeywordName.{keyword_names};
 ghost use Rattle.js_bundle.specs.Names.{makes};
 ghost use Rattle.js_bundle.specs.Refusals.{at_joined_reference, at_reference_text, at_reference, at_references, second_pass};
@@ -15,12 +15,12 @@ ghost use Rattle.js_bundle.specs.code.Scan.{site_of};
 ghost use Rattle.js_bundle.specs.Url.{longest_uri};
 ghost use Rattle.url.specs.Parser.{parse_url};
 
-use crate::check::fault::{Fault, refuse};
+use crate::check::fault::{CheckFault, refuse};
 use crate::index::Index;
 use crate::index::keyword_table::KeywordTable;
-use crate::index::parts_by_place::part;
+use crate::index::parts_by_place::part_of_place;
 use crate::index::place_by_uri::{NameFault, number_named};
-use crate::index::sparse_list::tell;
+use crate::index::sparse_list::add_entry;
 use crate::keyword::text_argument;
 use crate::keyword_name::KeywordName;
 use crate::refusal::RefusalKind;
@@ -38,8 +38,8 @@ fn resolve_url(
     site: &Site<'_>,
     keyword: &str,
     url: Url,
-) -> Result<Option<usize>, Fault>
-    requires { IsIndex index.now (map site_of sites.now) }
+) -> Result<Option<usize>, CheckFault>
+    requires { IsIndexOf index.now (map site_of sites.now) }
     ensures clear { OnOk result (IsClear
         (at_joined_reference (map site_of sites.now) (site_of site.now) (keyword.now ∷ []) (Ok url))) }
     ensures target { IfOk result (λ t. t ≡ number_named (map site_of sites.now) url) }
@@ -52,12 +52,17 @@ fn resolve_url(
         Err(NameFault::NotRead) => {
             Err(refuse(alloc, site, Some(keyword), RefusalKind::BadReference))
         }
-        Err(NameFault::Memory) => Err(Fault::Memory),
+        Err(NameFault::Memory) => Err(CheckFault::Memory),
     }
 }
 
 // The URL that a reference is, joined with the base of its place.
-fn joined_reference(alloc: Global, site: &Site<'_>, keyword: &str, text: &str) -> Result<Url, Fault>
+fn joined_reference(
+    alloc: Global,
+    site: &Site<'_>,
+    keyword: &str,
+    text: &str,
+) -> Result<Url, CheckFault>
     ensures short { OnOk result (nat_lt longest_uri (length text.now) ≡ false) }
     ensures url { IfOk result (λ u. parse_url (Some site.now.own.value.base) text.now ≡ Ok u) }
     ensures err { IfErr result (λ e. (all : List spec.Site) → IsStopped
@@ -68,8 +73,8 @@ fn joined_reference(alloc: Global, site: &Site<'_>, keyword: &str, text: &str) -
     }
     match site.own.base.join(text) {
         Ok(url) => Ok(url),
-        Err(ParseError::OutOfMemory) => Err(Fault::Memory),
-        Err(ParseError::Overflow) => Err(Fault::Memory),
+        Err(ParseError::OutOfMemory) => Err(CheckFault::Memory),
+        Err(ParseError::Overflow) => Err(CheckFault::Memory),
         Err(_) => Err(refuse(alloc, site, Some(keyword), RefusalKind::BadReference)),
     }
 }
@@ -80,8 +85,8 @@ fn resolve_plain(
     index: &Index,
     sites: &[Site<'_>],
     site: &Site<'_>,
-) -> Result<Option<usize>, Fault>
-    requires { IsIndex index.now (map site_of sites.now) }
+) -> Result<Option<usize>, CheckFault>
+    requires { IsIndexOf index.now (map site_of sites.now) }
     ensures clear { OnOk result (IsClear (at_reference (map site_of sites.now) (codes "$ref") (site_of site.now))) }
     ensures target { IfOk result
         (λ t. t ≡ number_of_target (map site_of sites.now) (codes "$ref") (site_of site.now)) }
@@ -124,8 +129,8 @@ fn resolve_dynamic_url(
     sites: &[Site<'_>],
     site: &Site<'_>,
     url: Url,
-) -> Result<Option<DynamicReference>, Fault>
-    requires { IsIndex index.now (map site_of sites.now) }
+) -> Result<Option<DynamicReference>, CheckFault>
+    requires { IsIndexOf index.now (map site_of sites.now) }
     ensures clear { OnOk result (IsClear
         (at_joined_reference (map site_of sites.now) (site_of site.now) (codes "$dynamicRef" ∷ []) (Ok url))) }
     ensures reference { IfOk result (λ r. r ≡ dynamic_by (map site_of sites.now) (Some url)) }
@@ -145,8 +150,8 @@ fn resolve_dynamic(
     index: &Index,
     sites: &[Site<'_>],
     site: &Site<'_>,
-) -> Result<Option<DynamicReference>, Fault>
-    requires { IsIndex index.now (map site_of sites.now) }
+) -> Result<Option<DynamicReference>, CheckFault>
+    requires { IsIndexOf index.now (map site_of sites.now) }
     ensures clear { OnOk result (IsClear
         (at_reference (map site_of sites.now) (codes "$dynamicRef") (site_of site.now))) }
     ensures reference { IfOk result (λ r. r ≡ dynamic_at (map site_of sites.now) (site_of site.now)) }
@@ -172,8 +177,8 @@ fn resolve_both(
     index: &Index,
     sites: &[Site<'_>],
     site: &Site<'_>,
-) -> Result<Targets, Fault>
-    requires { IsIndex index.now (map site_of sites.now) }
+) -> Result<Targets, CheckFault>
+    requires { IsIndexOf index.now (map site_of sites.now) }
     ensures clear { OnOk result (IsClear (at_references (map site_of sites.now) (site_of site.now))) }
     ensures dynamic { IfOk result (λ t. t.dynamic ≡ dynamic_at (map site_of sites.now) (site_of site.now)) }
     ensures plain { IfOk result
@@ -192,8 +197,8 @@ fn targets_of(
     sites: &[Site<'_>],
     site: &Site<'_>,
     names: &[KeywordName],
-) -> Result<Targets, Fault>
-    requires index { IsIndex index.now (map site_of sites.now) }
+) -> Result<Targets, CheckFault>
+    requires index { IsIndexOf index.now (map site_of sites.now) }
     requires names { names.now ≡ keyword_names (site_of site.now) }
     ensures clear { OnOk result (IsClear (at_references (map site_of sites.now) (site_of site.now))) }
     ensures dynamic { IfOk result (λ t. t.dynamic ≡ dynamic_at (map site_of sites.now) (site_of site.now)) }
@@ -231,13 +236,13 @@ pub(crate) struct References {
 }
 
 // Keeps the reference of a place, if it has one.
-fn keep(
+fn keep_dynamic(
     dynamic: &mut IndexMap<usize, DynamicReference>,
     place: usize,
     reference: Option<DynamicReference>,
 ) -> Result<(), Memory>
     requires { get nat_eq dynamic.old place ≡ None }
-    ensures { OnOk result (IsTold (get nat_eq dynamic.old) place reference (get nat_eq dynamic.new)) }
+    ensures { OnOk result (HasEntryAdded (get nat_eq dynamic.old) place reference (get nat_eq dynamic.new)) }
 {
     if let Some(reference) = reference {
         dynamic.insert(place, reference)?;
@@ -251,24 +256,24 @@ pub(crate) fn resolve_all(
     index: &Index,
     sites: &[Site<'_>],
     keywords: &KeywordTable,
-) -> Result<References, Fault>
-    requires index { IsIndex index.now (map site_of sites.now) }
-    requires keywords { IsGrouped keyword_names (map site_of sites.now)
+) -> Result<References, CheckFault>
+    requires index { IsIndexOf index.now (map site_of sites.now) }
+    requires keywords { ArePartsByPlace keyword_names (map site_of sites.now)
         keywords.now.names.items keywords.now.ends.items }
     ensures clear { OnOk result (IsClear (second_pass (map site_of sites.now))) }
-    ensures dynamic { IfOk result (λ r. IsColumn (get nat_eq r.dynamic)
+    ensures dynamic { IfOk result (λ r. IsSparseList (get nat_eq r.dynamic)
         (dynamic_at (map site_of sites.now)) (map site_of sites.now)) }
-    ensures plain { IfOk result (λ r. IsColumn (under_number r.plain.items)
+    ensures plain { IfOk result (λ r. IsSparseList (under_number r.plain.items)
         (number_of_target (map site_of sites.now) (codes "$ref")) (map site_of sites.now)) }
     ensures err { IfErr result (IsStopped (second_pass (map site_of sites.now))) }
 {
     let mut dynamic = IndexMap::new(alloc);
     let mut plain = Vec::new(alloc);
     for i in 0..sites.len() {
-        let names = part(keywords.names.as_slice(), keywords.ends.as_slice(), i);
+        let names = part_of_place(keywords.names.as_slice(), keywords.ends.as_slice(), i);
         let targets = targets_of(alloc, index, sites, &sites[i], names)?;
-        keep(&mut dynamic, i, targets.dynamic)?;
-        tell(&mut plain, i, targets.plain)?;
+        keep_dynamic(&mut dynamic, i, targets.dynamic)?;
+        add_entry(&mut plain, i, targets.plain)?;
     }
     Ok(References { dynamic, plain })
 }

@@ -6,14 +6,14 @@ ghost use Rattle.js_doc.specs.Value as spec;
 ghost use Rattle.js_bundle.specs.declared.refusal.RefusalKind.TheVariants.{TooManyPlaces, NotASchema, DuplicateUri};
 ghost use Rattle.js_bundle.specs.Candidate.{IsClear, IsStopped};
 ghost use Rattle.js_bundle.specs.Form.{is_formed, is_filled_list, is_schema};
-ghost use Rattle.js_bundle.specs.code.Index.{IsIndex};
+ghost use Rattle.js_bundle.specs.code.Index.{IsIndexOf};
 ghost use Rattle.js_bundle.specs.Keyword.{argument};
-ghost use Rattle.js_bundle.specs.Names.{is_root, is_name, begins_name, continues_name};
+ghost use Rattle.js_bundle.specs.Names.{is_root, is_anchor_name, begins_name, continues_name};
 ghost use Rattle.js_bundle.specs.Refusals.{when, decided, is_taken, is_made, is_dialect, at_dialect, at_id, at_anchor, at_place, assertion_rules};
 ghost use Rattle.js_assert.specs.Assertion.{asserted};
 ghost use Rattle.js_bundle.specs.code.Scan.{site_of};
 
-use crate::check::fault::{Fault, refuse};
+use crate::check::fault::{CheckFault, refuse};
 use crate::index::Index;
 use crate::index::keys::name_key;
 use crate::index::place_by_uri::is_root;
@@ -31,10 +31,10 @@ const MOST_PLACES: usize = 100_000;
 
 // Whether a resource before has the URI.
 fn is_taken(index: &Index, before: &[Site<'_>], uri: &Url) -> bool
-    requires { IsIndex index.now (map site_of before.now) }
+    requires { IsIndexOf index.now (map site_of before.now) }
     ensures { result ≡ is_taken (map site_of before.now) uri.now }
 {
-    index.known.get(uri::text_of(uri)).is_some()
+    index.known.number_of(uri::text_of(uri)).is_some()
 }
 
 // Whether a place before makes the name in the same resource.
@@ -45,11 +45,11 @@ fn is_made(
     place: &Site<'_>,
     name: &str,
 ) -> Result<bool, Memory>
-    requires { IsIndex index.now (map site_of before.now) }
+    requires { IsIndexOf index.now (map site_of before.now) }
     ensures { IfOk result (λ b. b ≡ is_made (map site_of before.now) (site_of place.now) name.now) }
 {
     let key = name_key(alloc, place.document, &place.own.resource, name)?;
-    Ok(index.names.get(key.as_str()).is_some())
+    Ok(index.names.number_of(key.as_str()).is_some())
 }
 
 fn begins_name(b: u8) -> bool
@@ -65,8 +65,8 @@ fn continues_name(b: u8) -> bool
 }
 
 // Whether the bytes are an anchor's name (JSON Schema Core, section 8.2.2).
-fn is_name(bytes: &[u8]) -> bool
-    ensures { result ≡ is_name bytes.now }
+fn is_anchor_name(bytes: &[u8]) -> bool
+    ensures { result ≡ is_anchor_name bytes.now }
 {
     match bytes.split_first() {
         Some((first, rest)) => begins_name(*first) && all_continue(rest),
@@ -132,7 +132,7 @@ pub(crate) fn check_dialect(
     site: &Site<'_>,
     keyword: &str,
     text: &str,
-) -> Result<(), Fault>
+) -> Result<(), CheckFault>
     ensures ok { OnOk result (IsClear (at_dialect (site_of site.now) (keyword.now ∷ []) text.now)) }
     ensures err { IfErr result (IsStopped (at_dialect (site_of site.now) (keyword.now ∷ []) text.now)) }
 {
@@ -151,8 +151,8 @@ pub(crate) fn check_id(
     site: &Site<'_>,
     keyword: &str,
     text: &str,
-) -> Result<(), Fault>
-    requires index { IsIndex index.now (map site_of before.now) }
+) -> Result<(), CheckFault>
+    requires index { IsIndexOf index.now (map site_of before.now) }
     requires id { argument (codes "$id") (value_of site.now.schema.now) ≡ Some (spec.text text.now) }
     ensures ok { OnOk result (IsClear
         (at_id (map site_of before.now) (site_of site.now) (keyword.now ∷ []) text.now)) }
@@ -179,14 +179,14 @@ pub(crate) fn check_anchor(
     site: &Site<'_>,
     keyword: &str,
     name: &str,
-) -> Result<(), Fault>
-    requires { IsIndex index.now (map site_of before.now) }
+) -> Result<(), CheckFault>
+    requires { IsIndexOf index.now (map site_of before.now) }
     ensures ok { OnOk result (IsClear
         (at_anchor (map site_of before.now) (site_of site.now) (keyword.now ∷ []) name.now)) }
     ensures err { IfErr result (IsStopped
         (at_anchor (map site_of before.now) (site_of site.now) (keyword.now ∷ []) name.now)) }
 {
-    if !is_name(name.as_bytes()) {
+    if !is_anchor_name(name.as_bytes()) {
         return Err(refuse(alloc, site, Some(keyword), RefusalKind::BadAnchor));
     }
     if is_made(alloc, index, before, site, name)? {
@@ -195,7 +195,7 @@ pub(crate) fn check_anchor(
     Ok(())
 }
 
-fn check_count(alloc: Global, before: &[Site<'_>], site: &Site<'_>) -> Result<(), Fault>
+fn check_count(alloc: Global, before: &[Site<'_>], site: &Site<'_>) -> Result<(), CheckFault>
     ensures ok { OnOk result (IsClear
         (when (nat_le 100000 (length (map site_of before.now))) (decided (site_of site.now) [] TooManyPlaces))) }
     ensures err { IfErr result (IsStopped
@@ -207,7 +207,7 @@ fn check_count(alloc: Global, before: &[Site<'_>], site: &Site<'_>) -> Result<()
     Ok(())
 }
 
-fn check_shape(alloc: Global, site: &Site<'_>) -> Result<(), Fault>
+fn check_shape(alloc: Global, site: &Site<'_>) -> Result<(), CheckFault>
     ensures ok { OnOk result (IsClear
         (when (not (is_schema (value_of site.now.schema.now))) (decided (site_of site.now) [] NotASchema))) }
     ensures err { IfErr result (IsStopped
@@ -225,8 +225,8 @@ fn check_root(
     index: &Index,
     before: &[Site<'_>],
     site: &Site<'_>,
-) -> Result<(), Fault>
-    requires { IsIndex index.now (map site_of before.now) }
+) -> Result<(), CheckFault>
+    requires { IsIndexOf index.now (map site_of before.now) }
     ensures ok { OnOk result (IsClear
         (when (is_root (site_of site.now) && is_taken (map site_of before.now) site.now.above.value.base)
         (decided (site_of site.now) [] DuplicateUri))) }
@@ -246,8 +246,8 @@ pub(crate) fn check_place(
     index: &Index,
     before: &[Site<'_>],
     site: &Site<'_>,
-) -> Result<(), Fault>
-    requires { IsIndex index.now (map site_of before.now) }
+) -> Result<(), CheckFault>
+    requires { IsIndexOf index.now (map site_of before.now) }
     ensures ok { OnOk result (IsClear (at_place (map site_of before.now) (site_of site.now))) }
     ensures err { IfErr result (IsStopped (at_place (map site_of before.now) (site_of site.now))) }
 {
@@ -263,7 +263,7 @@ pub(crate) fn read_assertion(
     keyword: &str,
     argument: &Doc,
     siblings: &Members,
-) -> Result<Option<Assertion>, Fault>
+) -> Result<Option<Assertion>, CheckFault>
     ensures clear { OnOk result (IsClear
         (assertion_rules (site_of site.now) keyword.now (value_of argument.now))) }
     ensures built { IfOk result (λ a. a ≡ asserted keyword.now (value_of argument.now) siblings.now) }
@@ -272,7 +272,7 @@ pub(crate) fn read_assertion(
 {
     match Assertion::read(alloc, keyword, argument, siblings) {
         Ok(assertion) => Ok(assertion),
-        Err(KeywordFault::Memory) => Err(Fault::Memory),
+        Err(KeywordFault::Memory) => Err(CheckFault::Memory),
         Err(KeywordFault::BadKeyword) => {
             Err(refuse(alloc, site, Some(keyword), RefusalKind::BadKeyword))
         }

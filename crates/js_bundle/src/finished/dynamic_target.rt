@@ -26,7 +26,7 @@ impl Schemas {
             (dynamic_target (sites self.now) (path_at self.now path.now)) (place_at self.now place)) }
     {
         match reference_under(&self.kept.references.dynamic, place.number) {
-            Some(reference) => self.led_to(reference, path),
+            Some(reference) => self.target_by_path(reference, path),
             None => place, // never: each reference of finished schemas has its target
         }
     }
@@ -40,13 +40,13 @@ impl Schemas {
             (dynamic_target_in (sites self.now) resources.now) (place_at self.now place)) }
     {
         match reference_under(&self.kept.references.dynamic, place.number) {
-            Some(reference) => self.led_in(reference, resources),
+            Some(reference) => self.target_by_numbers(reference, resources),
             None => place, // never: each reference of finished schemas has its target
         }
     }
 
     // Where a reference leads in a dynamic scope.
-    fn led_to(&self, reference: DynamicReference, path: &[Place]) -> Place
+    fn target_by_path(&self, reference: DynamicReference, path: &[Place]) -> Place
         requires { is_place self.now reference.target ≡ true }
         ensures { StandsFor self.now result (option_map
             (by_scope (sites self.now) (path_at self.now path.now) reference.by_name)
@@ -68,7 +68,7 @@ impl Schemas {
     }
 
     // The same in a scope given by numbers.
-    fn led_in(&self, reference: DynamicReference, resources: &[usize]) -> Place
+    fn target_by_numbers(&self, reference: DynamicReference, resources: &[usize]) -> Place
         requires { is_place self.now reference.target ≡ true }
         ensures { StandsFor self.now result (option_map
             (by_scope (sites self.now) (roots_at (sites self.now) resources.now) reference.by_name)
@@ -142,7 +142,7 @@ fn anchored(anchors: &[Numbering], resource: usize, name: &str) -> Option<usize>
     ensures { result ≡ option_and_then (λ names. number_of_key names name.now) (slice_get anchors.now resource) }
 {
     match anchors.get(resource) {
-        Some(names) => names.get(name),
+        Some(names) => names.number_of(name),
         None => None,
     }
 }

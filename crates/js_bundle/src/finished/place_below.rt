@@ -3,19 +3,18 @@ ghost use Rattle.std.specs.Prelude.{◌≡◌, [], true, false, ℕ, map, slice_
 ghost use Rattle.std.specs.Option.{option_map_or};
 ghost use Rattle.js_doc.specs.Seen.{value_of};
 ghost use Rattle.js_bundle.specs.code.Edges.{edges_of, held_of};
-ghost use Rattle.js_bundle.specs.code.Held.{ends_before, held_in, holds, part, places_of, stands_before, IsNumberAt, IsRankOf, IsSmall};
+ghost use Rattle.js_bundle.specs.code.PlaceBelow.{ends_before, held_in, holds_at_step, value_at_step, numbers_of_keyword, stands_before, IsNumberAt, IsRankOf, IsSmall};
 ghost use Rattle.js_bundle.specs.KeywordName.{keyword_name};
 ghost use Rattle.js_bundle.specs.Place.{holding, items_in};
 ghost use Rattle.js_bundle.specs.Schemas.{is_place, place_at, below, fits, step_of, Finds, FindsSchema, Holds};
-ghost use Rattle.js_bundle.specs.code.Spot.{spot_of};
+ghost use Rattle.js_bundle.specs.code.KeptSite.{kept_site_of};
 
-use crate::check::Spot;
+use crate::check::kept_site::KeptSite;
 use crate::index::edges::{Edges, HeldPlaces};
 use crate::keyword::argument;
 use crate::keyword_name::KeywordName;
 use crate::place::{Place, Step};
-use crate::scan::holding::Holding;
-use crate::scan::holding_of;
+use crate::scan::holding::{Holding, holding_of};
 use crate::schemas::Schemas;
 use js_doc::{Doc, Token};
 
@@ -62,7 +61,7 @@ impl Schemas {
         let edges = self.kept.edges.as_slice();
         let places = places_under(edges, place.number, KeywordName::of(keyword));
         match held_by(schema, keyword, step) {
-            Some(held) => place_with(self.kept.spots.as_slice(), places, step, held),
+            Some(held) => place_with(self.kept.sites.as_slice(), places, step, held),
             None => None,
         }
     }
@@ -70,16 +69,16 @@ impl Schemas {
 
 // The one of these places to which the step leads, with the schema that is held there.
 fn place_with<'a>(
-    spots: &[Spot],
+    sites: &[KeptSite],
     places: &[usize],
     step: Step<'_>,
     held: &'a Doc,
 ) -> Option<(Place, &'a Doc)>
-    ensures found { (n : ℕ) → IsNumberAt (map spot_of spots.now) places.now (step_of step.entry) n
+    ensures found { (n : ℕ) → IsNumberAt (map kept_site_of sites.now) places.now (step_of step.entry) n
         → option_map (λ e. e.0) result ≡ Some n }
     ensures schema { MatchOption result (Unit {0}) (λ e. value_of e.1.now ≡ value_of held.now) }
 {
-    match at_rank(places, rank_in(spots, places, step)) {
+    match at_rank(places, rank_in(sites, places, step)) {
         Some(number) => Some((Place { number }, held)),
         None => None,
     }
@@ -87,39 +86,39 @@ fn place_with<'a>(
 
 // The schema that the keyword of a schema holds at the step.
 fn held_by<'a>(schema: &'a Doc, keyword: &str, step: Step<'_>) -> Option<&'a Doc>
-    ensures held { MatchOption result (holds keyword.now (step_of step.entry) (value_of schema.now) ≡ false)
+    ensures held { MatchOption result (holds_at_step keyword.now (step_of step.entry) (value_of schema.now) ≡ false)
         (λ d. (fits (holding keyword.now) (step_of step.entry) ≡ true)
         × (held_in keyword.now (step_of step.entry) (value_of schema.now) ≡ Some (value_of d.now))) }
     ensures small { IsSmall (step_of step.entry) }
 {
     if fits(holding_of(keyword), step) {
-        held(schema, keyword, step)
+        value_held(schema, keyword, step)
     } else {
         None
     }
 }
 
 // What stands in the keyword's argument at the step, whether or not the keyword holds schemas so.
-fn held<'a>(schema: &'a Doc, keyword: &str, step: Step<'_>) -> Option<&'a Doc>
+fn value_held<'a>(schema: &'a Doc, keyword: &str, step: Step<'_>) -> Option<&'a Doc>
     ensures { option_map (λ d. value_of d.now) result ≡ held_in keyword.now (step_of step.entry) (value_of schema.now) }
 {
     match argument(schema, keyword) {
-        Some(argument) => part(argument, step),
+        Some(argument) => value_at_step(argument, step),
         None => None,
     }
 }
 
-fn part<'a>(value: &'a Doc, step: Step<'_>) -> Option<&'a Doc>
-    ensures { option_map (λ d. value_of d.now) result ≡ part (step_of step.entry) (value_of value.now) }
+fn value_at_step<'a>(value: &'a Doc, step: Step<'_>) -> Option<&'a Doc>
+    ensures { option_map (λ d. value_of d.now) result ≡ value_at_step (step_of step.entry) (value_of value.now) }
 {
     match step {
         Step::Alone => Some(value),
-        Step::Index(index) => item(value, index),
+        Step::Index(index) => item_in_list(value, index),
         Step::Name(name) => argument(value, name),
     }
 }
 
-fn item(list: &Doc, index: usize) -> Option<&Doc>
+fn item_in_list(list: &Doc, index: usize) -> Option<&Doc>
     ensures { option_map (λ d. value_of d.now) result ≡ slice_get (items_in (value_of list.now)) index }
 {
     match list {
@@ -142,16 +141,16 @@ fn fits(holding: Holding, step: Step<'_>) -> bool
 
 /// The places that the keyword of the place with this number holds.
 pub(crate) fn places_under(edges: &[Edges], number: usize, keyword: KeywordName) -> &[usize]
-    ensures { result.now ≡ option_map_or (places_of keyword) (slice_get (map edges_of edges.now) number) [] }
+    ensures { result.now ≡ option_map_or (numbers_of_keyword keyword) (slice_get (map edges_of edges.now) number) [] }
 {
     match edges.get(number) {
-        Some(edges) => places_of(edges.keywords.as_slice(), keyword),
+        Some(edges) => numbers_of_keyword(edges.keywords.as_slice(), keyword),
         None => &[],
     }
 }
 
-fn places_of(keywords: &[HeldPlaces], keyword: KeywordName) -> &[usize]
-    ensures { result.now ≡ places_of keyword (map held_of keywords.now) }
+fn numbers_of_keyword(keywords: &[HeldPlaces], keyword: KeywordName) -> &[usize]
+    ensures { result.now ≡ numbers_of_keyword keyword (map held_of keywords.now) }
 {
     for held in keywords {
         if held.keyword == keyword {
@@ -168,29 +167,29 @@ fn at_rank(places: &[usize], rank: usize) -> Option<usize>
 }
 
 // The rank of the place to which the step leads, among these that a keyword holds.
-fn rank_in(spots: &[Spot], places: &[usize], step: Step<'_>) -> usize
-    ensures { (n : ℕ) → IsNumberAt (map spot_of spots.now) places.now (step_of step.entry) n
+fn rank_in(sites: &[KeptSite], places: &[usize], step: Step<'_>) -> usize
+    ensures { (n : ℕ) → IsNumberAt (map kept_site_of sites.now) places.now (step_of step.entry) n
         → slice_get places.now result ≡ Some n }
 {
     match step {
         Step::Alone => 0,
         Step::Index(index) => index,
-        Step::Name(name) => rank_of(spots, places, name),
+        Step::Name(name) => rank_by_name(sites, places, name),
     }
 }
 
 // How many of the places stand at names that come before this one. Their names ascend.
-fn rank_of(spots: &[Spot], places: &[usize], name: &str) -> usize
-    ensures { (n : ℕ) → IsRankOf (map spot_of spots.now) name.now places.now n → result ≡ n }
+fn rank_by_name(sites: &[KeptSite], places: &[usize], name: &str) -> usize
+    ensures { (n : ℕ) → IsRankOf (map kept_site_of sites.now) name.now places.now n → result ≡ n }
 {
-    places.partition_point(|number| stands_before(spots, *number, name))
+    places.partition_point(|number| stands_before(sites, *number, name))
 }
 
-fn stands_before(spots: &[Spot], number: usize, name: &str) -> bool
-    ensures { result ≡ stands_before (map spot_of spots.now) name.now number }
+fn stands_before(sites: &[KeptSite], number: usize, name: &str) -> bool
+    ensures { result ≡ stands_before (map kept_site_of sites.now) name.now number }
 {
-    match spots.get(number) {
-        Some(spot) => ends_before(spot.pointer.tokens(), name),
+    match sites.get(number) {
+        Some(site) => ends_before(site.pointer.tokens(), name),
         None => false,
     }
 }

@@ -9,7 +9,7 @@ ghost use Rattle.js_bundle.specs.code.Patterns.{AreOwn};
 use crate::check::assertions_and_patterns::BuiltPattern;
 use crate::finished::dynamic_target::reference_under;
 use crate::finished::target::target_under;
-use crate::index::parts_by_place::part;
+use crate::index::parts_by_place::part_of_place;
 use crate::place::Place;
 use crate::schemas::Schemas;
 use js_assert::{Assertion, Pattern};
@@ -30,7 +30,7 @@ impl Schemas {
         requires { is_place self.now place ≡ true }
         ensures { option_map (λ p. p.now) result ≡ option_and_then (pattern name.now) (place_at self.now place) }
     {
-        match find_pattern(self.patterns(place), name) {
+        match find_pattern(self.patterns_of_place(place), name) {
             Some(built) => Some(&built.pattern),
             None => None,
         }
@@ -43,20 +43,20 @@ impl Schemas {
         ensures { option_map assertions_at (place_at self.now place) ≡ Some result.now }
     {
         let built = &self.kept.built;
-        part(
+        part_of_place(
             built.all.assertions.as_slice(),
             built.assertion_ends.as_slice(),
             place.number,
         )
     }
 
-    fn patterns(&self, place: Place) -> &[BuiltPattern]
+    fn patterns_of_place(&self, place: Place) -> &[BuiltPattern]
         requires { is_place self.now place ≡ true }
         ensures patterns { option_map patterns_at (place_at self.now place) ≡ Some result.now }
         ensures read { AreRead self.now }
     {
         let built = &self.kept.built;
-        part(
+        part_of_place(
             built.all.patterns.as_slice(),
             built.pattern_ends.as_slice(),
             place.number,

@@ -4,10 +4,10 @@ ghost use Rattle.js_bundle.specs.Names.{same_tokens};
 ghost use Rattle.js_bundle.specs.Resource.{sites};
 ghost use Rattle.js_bundle.specs.ResourceNumber.{resource_count, resource_number};
 ghost use Rattle.js_bundle.specs.Schemas.{is_place, place_at, resources, lent};
-ghost use Rattle.js_bundle.specs.code.Spot.{spot_of, document_uri, base_made, resource_of};
+ghost use Rattle.js_bundle.specs.code.KeptSite.{kept_site_of, document_uri, base_made, resource_listed};
 ghost use Rattle.js_bundle.specs.Url as spec;
 
-use crate::check::Spot;
+use crate::check::kept_site::KeptSite;
 use crate::place::Place;
 use crate::schemas::Schemas;
 use crate::uri;
@@ -24,11 +24,11 @@ impl Schemas {
         ensures { IfOk result (λ v. map lent v.items ≡ resources self.now) }
     {
         let mut resources = Vec::new(alloc);
-        for number in 0..self.kept.spots.len() {
+        for number in 0..self.kept.sites.len() {
             let place = Place { number };
-            let spot = self.spot(place);
-            push_resource(&mut resources, document_uri(spot), place)?;
-            push_resource(&mut resources, base_made(spot), place)?;
+            let site = self.kept_site(place);
+            push_listed(&mut resources, document_uri(site), place)?;
+            push_listed(&mut resources, base_made(site), place)?;
         }
         Ok(resources)
     }
@@ -49,21 +49,21 @@ impl Schemas {
     }
 }
 
-fn push_resource<'s>(
+fn push_listed<'s>(
     out: &mut Vec<(&'s str, Place)>,
     uri: Option<&'s str>,
     place: Place,
 ) -> Result<(), Memory>
     ensures { OnOk result (map lent out.new.items
-        ≡ map lent out.old.items ++ resource_of place (option_copied uri.entry)) }
+        ≡ map lent out.old.items ++ resource_listed place (option_copied uri.entry)) }
 {
     match uri {
-        Some(uri) => push(out, (uri, place)),
+        Some(uri) => push_pair(out, (uri, place)),
         None => Ok(()),
     }
 }
 
-fn push<T: Drop>(out: &mut Vec<T>, one: T) -> Result<(), Memory>
+fn push_pair<T: Drop>(out: &mut Vec<T>, one: T) -> Result<(), Memory>
     ensures { OnOk result (out.new.items ≡ out.old.items ++ one ∷ []) }
 {
     match out.push(one) {
@@ -73,37 +73,37 @@ fn push<T: Drop>(out: &mut Vec<T>, one: T) -> Result<(), Memory>
 }
 
 // The document's URI, at its root.
-fn document_uri(spot: &Spot) -> Option<&str>
-    ensures { option_copied result ≡ document_uri (spot_of spot.now) }
+fn document_uri(site: &KeptSite) -> Option<&str>
+    ensures { option_copied result ≡ document_uri (kept_site_of site.now) }
 {
-    if is_root(spot) {
-        Some(uri::text_of(&spot.above.base))
+    if is_document_root(site) {
+        Some(uri::text_of(&site.above.base))
     } else {
         None
     }
 }
 
 // What the `$id` makes, unless it is the document's URI at its root.
-fn base_made(spot: &Spot) -> Option<&str>
-    ensures { option_copied result ≡ base_made (spot_of spot.now) }
+fn base_made(site: &KeptSite) -> Option<&str>
+    ensures { option_copied result ≡ base_made (kept_site_of site.now) }
 {
-    let told = is_root(spot) && is_base(spot);
-    if spot.identifies && !told {
-        Some(uri::text_of(&spot.own.base))
+    let told = is_document_root(site) && keeps_base(site);
+    if site.identifies && !told {
+        Some(uri::text_of(&site.own.base))
     } else {
         None
     }
 }
 
-fn is_root(spot: &Spot) -> bool
-    ensures { result ≡ same_tokens spot.now.pointer.value [] }
+fn is_document_root(site: &KeptSite) -> bool
+    ensures { result ≡ same_tokens site.now.pointer.value [] }
 {
-    spot.pointer.tokens().is_empty()
+    site.pointer.tokens().is_empty()
 }
 
 // Whether the place's base is that of the scope it is in.
-fn is_base(spot: &Spot) -> bool
-    ensures { result ≡ bytes_eq (spec.printed spot.now.above.value.base) (spec.printed spot.now.own.value.base) }
+fn keeps_base(site: &KeptSite) -> bool
+    ensures { result ≡ bytes_eq (spec.printed site.now.above.value.base) (spec.printed site.now.own.value.base) }
 {
-    uri::text_of(&spot.above.base) == uri::text_of(&spot.own.base)
+    uri::text_of(&site.above.base) == uri::text_of(&site.own.base)
 }

@@ -9,8 +9,7 @@ ghost use Rattle.js_bundle.specs.code.Edges.{edges_at, edges_from, edges_held, e
 
 use crate::document::Document;
 use crate::keyword_name::KeywordName;
-use crate::scan::holding::Holding;
-use crate::scan::holding_of;
+use crate::scan::holding::{Holding, holding_of};
 use js_doc::{Doc, Members, Memory};
 use std::alloc::Global;
 
@@ -68,13 +67,13 @@ fn link_keywords(alloc: Global, edges: &mut Vec<Edges>, members: &Members) -> Re
     let number = edges.len();
     push_none(alloc, edges)?;
     let keywords = keywords_of(alloc, edges, members)?;
-    put(edges, number, keywords);
+    set_keywords(edges, number, keywords);
     Ok(())
 }
 
 // What the keywords of the place with this number hold.
-#[tactic(auto, using(crate::proofs::EdgesNext::set_map))]
-fn put(edges: &mut Vec<Edges>, number: usize, keywords: Vec<HeldPlaces>)
+#[tactic(auto, using(crate::proofs::Indexing::EdgesNext::set_map))]
+fn set_keywords(edges: &mut Vec<Edges>, number: usize, keywords: Vec<HeldPlaces>)
     requires { number < length edges.now.items }
     ensures { map edges_of edges.new.items
         ≡ slice_set (map edges_of edges.old.items) number (map held_of keywords.items) }

@@ -1,11 +1,11 @@
 //! The keys under which places and names stand in the index: texts of pointers, which determine their tokens.
 ghost use Rattle.std.specs.Prelude.{◌≡◌, ◌≤◌, ◌++◌, [], decimal, drop, take, length, OnOk, IfOk, MatchOption, option_map, string_bytes};
 ghost use Rattle.js_doc.specs.Pointer.{pointer_text, token_text};
-ghost use Rattle.js_bundle.specs.code.Beginning.{BeginsKey, shared_with};
+ghost use Rattle.js_bundle.specs.code.TextPrefix.{BeginsKey, shared_with};
 ghost use Rattle.js_bundle.specs.code.Index.{place_key, name_key};
 ghost use Rattle.js_bundle.specs.code.Scan.{site_of};
 
-use crate::index::text_prefix::{Beginning, room_for};
+use crate::index::text_prefix::{TextPrefix, room_for};
 use crate::scan::site::Site;
 use js_doc::{Memory, Pointer, Token, push_token};
 use std::alloc::Global;
@@ -54,64 +54,64 @@ fn push_tokens(key: &mut String, tokens: &[Token], from: usize) -> Result<(), Me
     Ok(())
 }
 
-/// Makes the key of a place, and its beginning, from the beginning of the key before it.
+/// Makes the key of a place, and its prefix, from the prefix of the key before it.
 pub(crate) fn next_key(
     alloc: Global,
-    beginning: &mut Beginning,
+    prefix: &mut TextPrefix,
     before: Option<&Site<'_>>,
     site: &Site<'_>,
     shared: usize,
 ) -> Result<String, Memory>
-    requires before { MatchOption before (Unit {0}) (λ b. BeginsKey beginning.old (site_of b.now)) }
+    requires before { MatchOption before (Unit {0}) (λ b. BeginsKey prefix.old (site_of b.now)) }
     requires shared { shared ≡ shared_with (option_map (λ b. site_of b.now) before) (site_of site.now) }
-    ensures begins { OnOk result (BeginsKey beginning.new (site_of site.now)) }
+    ensures begins { OnOk result (BeginsKey prefix.new (site_of site.now)) }
     ensures key { IfOk result (λ t. string_bytes t ≡ place_key site.now.document site.now.pointer.value) }
 {
     let tokens = site.pointer.tokens();
     let told = tokens.len().saturating_sub(1);
-    begin(beginning, before, site, shared.min(told))?;
-    extend(beginning, tokens, told)?;
-    let mut key = beginning.copy(alloc, tokens)?;
+    begin_key(prefix, before, site, shared.min(told))?;
+    extend_key(prefix, tokens, told)?;
+    let mut key = prefix.text_with_room(alloc, tokens)?;
     push_tokens(&mut key, tokens, told)?;
     Ok(key)
 }
 
-// Leaves the beginning as it is where it is one of the place's key too, with no more tokens than that. Else it begins
+// Leaves the prefix as it is where it is one of the place's key too, with no more tokens than that. Else it begins
 // with no token.
-fn begin(
-    beginning: &mut Beginning,
+fn begin_key(
+    prefix: &mut TextPrefix,
     before: Option<&Site<'_>>,
     site: &Site<'_>,
     most: usize,
 ) -> Result<(), Memory>
-    requires before { MatchOption before (Unit {0}) (λ b. BeginsKey beginning.old (site_of b.now)) }
+    requires before { MatchOption before (Unit {0}) (λ b. BeginsKey prefix.old (site_of b.now)) }
     requires most { most ≤ shared_with (option_map (λ b. site_of b.now) before) (site_of site.now) }
-    ensures begins { OnOk result (BeginsKey beginning.new (site_of site.now)) }
-    ensures within { OnOk result (beginning.new.tokens ≤ most) }
+    ensures begins { OnOk result (BeginsKey prefix.new (site_of site.now)) }
+    ensures within { OnOk result (prefix.new.tokens ≤ most) }
 {
     match before {
-        Some(before) if before.document == site.document && beginning.tokens <= most => Ok(()),
-        _ => begin_anew(beginning, site.document),
+        Some(before) if before.document == site.document && prefix.tokens <= most => Ok(()),
+        _ => begin_key_anew(prefix, site.document),
     }
 }
 
-fn begin_anew(beginning: &mut Beginning, document: usize) -> Result<(), Memory>
-    ensures text { OnOk result (string_bytes beginning.new.text ≡ place_key document []) }
-    ensures none { OnOk result (beginning.new.tokens ≡ 0) }
+fn begin_key_anew(prefix: &mut TextPrefix, document: usize) -> Result<(), Memory>
+    ensures text { OnOk result (string_bytes prefix.new.text ≡ place_key document []) }
+    ensures none { OnOk result (prefix.new.tokens ≡ 0) }
 {
-    beginning.tokens = 0;
-    beginning.text.clear();
-    push_document(&mut beginning.text, document)
+    prefix.tokens = 0;
+    prefix.text.clear();
+    push_document(&mut prefix.text, document)
 }
 
 // Adds the first tokens to it.
-fn extend(beginning: &mut Beginning, tokens: &[Token], told: usize) -> Result<(), Memory>
+fn extend_key(prefix: &mut TextPrefix, tokens: &[Token], told: usize) -> Result<(), Memory>
     requires { told ≤ length tokens.now }
-    ensures text { OnOk result (string_bytes beginning.new.text
-        ≡ string_bytes beginning.old.text ++ pointer_text (drop beginning.old.tokens (take told tokens.now))) }
-    ensures tokens { OnOk result (beginning.new.tokens ≡ told) }
+    ensures text { OnOk result (string_bytes prefix.new.text
+        ≡ string_bytes prefix.old.text ++ pointer_text (drop prefix.old.tokens (take told tokens.now))) }
+    ensures tokens { OnOk result (prefix.new.tokens ≡ told) }
 {
-    push_tokens(&mut beginning.text, &tokens[..told], beginning.tokens)?;
-    beginning.tokens = told;
+    push_tokens(&mut prefix.text, &tokens[..told], prefix.tokens)?;
+    prefix.tokens = told;
     Ok(())
 }

@@ -4,7 +4,7 @@ ghost use Rattle.js_bundle.specs.KeywordName.{keyword_name, keyword_names};
 ghost use Rattle.js_bundle.specs.code.Scan.{site_of};
 ghost use Rattle.js_bundle.specs.Schemas.{is_place, place_at};
 
-use crate::index::parts_by_place::part;
+use crate::index::parts_by_place::part_of_place;
 use crate::keyword_name::KeywordName;
 use crate::place::Place;
 use crate::scan::site::Site;
@@ -28,7 +28,7 @@ impl Schemas {
         ensures { option_map keyword_names (place_at self.now place) ≡ Some result.now }
     {
         let table = &self.kept.keywords;
-        part(table.names.as_slice(), table.ends.as_slice(), place.number)
+        part_of_place(table.names.as_slice(), table.ends.as_slice(), place.number)
     }
 }
 
@@ -63,7 +63,7 @@ impl KeywordTable {
     }
 
     /// Adds the next place.
-    pub(crate) fn add(&mut self, site: &Site<'_>) -> Result<(), Memory>
+    pub(crate) fn add_names(&mut self, site: &Site<'_>) -> Result<(), Memory>
         ensures names { OnOk result (self.new.names.items ≡ self.old.names.items ++ keyword_names (site_of site.now)) }
         ensures ends { OnOk result (self.new.ends.items ≡ self.old.ends.items ++ length self.new.names.items ∷ []) }
     {

@@ -1,6 +1,6 @@
 //! Numbering of places, each under a text.
 ghost use Rattle.std.specs.Prelude.{◌≡◌, [], ◌∷◌, OnOk, string_bytes, option_to_list, option_copied};
-ghost use Rattle.js_bundle.specs.code.Index.{number_of_key, ArePut};
+ghost use Rattle.js_bundle.specs.code.Index.{number_of_key, AreInserted};
 
 use js_doc::Memory;
 use std::alloc::Global;
@@ -25,15 +25,15 @@ impl Numbering {
     }
 
     /// The number under the text.
-    pub(crate) fn get(&self, text: &str) -> Option<usize>
+    pub(crate) fn number_of(&self, text: &str) -> Option<usize>
         ensures { result ≡ number_of_key self.now text.now }
     {
         self.first.get(text).copied()
     }
 
     /// Puts the number under the text, unless one is there.
-    pub(crate) fn put(&mut self, text: String, number: usize) -> Result<(), Memory>
-        ensures { OnOk result (ArePut self.old (string_bytes text ∷ []) number self.new) }
+    pub(crate) fn insert_first(&mut self, text: String, number: usize) -> Result<(), Memory>
+        ensures { OnOk result (AreInserted self.old (string_bytes text ∷ []) number self.new) }
     {
         match self.first.entry(text)? {
             Entry::Occupied(_) => {}
@@ -45,16 +45,16 @@ impl Numbering {
     }
 
     /// Puts the number under the text, if there is one.
-    pub(crate) fn put_given(
+    pub(crate) fn insert_first_given(
         &mut self,
         alloc: Global,
         text: Option<&str>,
         number: usize,
     ) -> Result<(), Memory>
-        ensures { OnOk result (ArePut self.old (option_to_list (option_copied text.entry)) number self.new) }
+        ensures { OnOk result (AreInserted self.old (option_to_list (option_copied text.entry)) number self.new) }
     {
         match text {
-            Some(text) => self.put(String::from_str(alloc, text)?, number),
+            Some(text) => self.insert_first(String::from_str(alloc, text)?, number),
             None => Ok(()),
         }
     }

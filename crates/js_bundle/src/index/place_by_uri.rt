@@ -3,7 +3,7 @@ ghost use Rattle.std.specs.Prelude.{◌≡◌, ◌++◌, true, false, map, find,
 ghost use Rattle.std.specs.Str.{is_utf8};
 ghost use Rattle.js_doc.specs.PointerReading.{pointer_of};
 ghost use Rattle.js_bundle.specs.Finding.{number_named, is_pointer_read, IfNotRead};
-ghost use Rattle.js_bundle.specs.code.Index.{IsIndex, number_standing, number_making, number_under, standing, standing_of};
+ghost use Rattle.js_bundle.specs.code.Index.{IsIndexOf, number_standing, number_making, number_under, standing, standing_of};
 ghost use Rattle.js_bundle.specs.code.Scan.{site_of};
 ghost use Rattle.js_bundle.specs.Names.{is_root, is_known_as, is_pointer, is_read};
 ghost use Rattle.js_bundle.specs.Url as spec;
@@ -36,10 +36,10 @@ pub(crate) struct Root<'a> {
 
 /// The root of the resource that has the URI.
 fn root_named<'s>(index: &Index, sites: &'s [Site<'_>], uri: &str) -> Option<Root<'s>>
-    requires { IsIndex index.now (map site_of sites.now) }
+    requires { IsIndexOf index.now (map site_of sites.now) }
     ensures { option_map standing_of result ≡ option_map standing (find (is_known_as uri.now) (map site_of sites.now)) }
 {
-    match index.known.get(uri) {
+    match index.known.number_of(uri) {
         Some(number) => root_at(sites, number),
         None => None,
     }
@@ -58,7 +58,7 @@ fn root_at<'s>(sites: &'s [Site<'_>], number: usize) -> Option<Root<'s>>
 }
 
 /// The number of the place at a pointer.
-pub(crate) fn place_at(
+pub(crate) fn number_at(
     alloc: Global,
     index: &Index,
     document: usize,
@@ -67,11 +67,11 @@ pub(crate) fn place_at(
     ensures { IfOk result (λ n. n ≡ number_standing index.now document pointer.now) }
 {
     let key = place_key(alloc, document, pointer)?;
-    Ok(index.places.get(key.as_str()))
+    Ok(index.places.number_of(key.as_str()))
 }
 
 // The number of the place at a pointer from a resource's root.
-fn place_below(
+fn number_below(
     alloc: Global,
     index: &Index,
     root: Root<'_>,
@@ -81,11 +81,11 @@ fn place_below(
         ≡ number_standing index.now root.entry.document (root.entry.pointer.now ++ pointer.now)) }
 {
     let whole = extended(alloc, root.pointer, pointer)?;
-    place_at(alloc, index, root.document, &whole)
+    number_at(alloc, index, root.document, &whole)
 }
 
 // The number of the place with the anchor in a resource.
-fn place_anchored(
+fn number_anchored(
     alloc: Global,
     index: &Index,
     root: Root<'_>,
@@ -95,7 +95,7 @@ fn place_anchored(
         (λ n. n ≡ number_making index.now root.entry.document root.entry.pointer.now name.now) }
 {
     let key = name_key(alloc, root.document, root.pointer, name)?;
-    Ok(index.names.get(key.as_str()))
+    Ok(index.names.number_of(key.as_str()))
 }
 
 /// Whether a fragment is a pointer: it is empty, or begins with `/`.
@@ -150,7 +150,7 @@ fn text_in(bytes: &[u8]) -> Option<&str>
 }
 
 // The number of the place that a fragment names in a resource, if there is one.
-fn place_in(
+fn number_under_root(
     alloc: Global,
     index: &Index,
     root: Option<Root<'_>>,
@@ -162,7 +162,7 @@ fn place_in(
 {
     if !is_pointer(fragment.as_bytes()) {
         return match root {
-            Some(root) => Ok(place_anchored(alloc, index, root, fragment)?),
+            Some(root) => Ok(number_anchored(alloc, index, root, fragment)?),
             None => Ok(None),
         };
     }
@@ -170,13 +170,13 @@ fn place_in(
         return Err(NameFault::NotRead);
     };
     match root {
-        Some(root) => Ok(place_below(alloc, index, root, &pointer)?),
+        Some(root) => Ok(number_below(alloc, index, root, &pointer)?),
         None => Ok(None),
     }
 }
 
 /// The number of the place that a fragment, decoded, names in a resource, if there is one.
-pub(crate) fn place_by_fragment(
+pub(crate) fn number_by_fragment(
     alloc: Global,
     index: &Index,
     root: Option<Root<'_>>,
@@ -187,7 +187,7 @@ pub(crate) fn place_by_fragment(
     ensures err { IfErr result (λ e. IfNotRead e (is_read fragment.now ≡ false)) }
 {
     match text_in(fragment) {
-        Some(fragment) => place_in(alloc, index, root, fragment),
+        Some(fragment) => number_under_root(alloc, index, root, fragment),
         None => Err(NameFault::NotRead),
     }
 }
@@ -199,7 +199,7 @@ pub(crate) fn number_named(
     sites: &[Site<'_>],
     uri: Url,
 ) -> Result<Option<usize>, NameFault>
-    requires { IsIndex index.now (map site_of sites.now) }
+    requires { IsIndexOf index.now (map site_of sites.now) }
     ensures ok { IfOk result (λ n. n ≡ number_named (map site_of sites.now) uri) }
     ensures read { OnOk result (is_read (spec.fragment uri) ≡ true) }
     ensures err { IfErr result (λ e. IfNotRead e (is_read (spec.fragment uri) ≡ false)) }
@@ -207,5 +207,5 @@ pub(crate) fn number_named(
     let fragment = uri::fragment(alloc, &uri)?;
     let bare = uri::without_fragment(uri)?;
     let root = root_named(index, sites, uri::text_of(&bare));
-    place_by_fragment(alloc, index, root, fragment.as_slice())
+    number_by_fragment(alloc, index, root, fragment.as_slice())
 }

@@ -1,23 +1,23 @@
 //! What is kept of resources, by their numbers (JSON Schema Core, sections 4.3.5 and 8.2.1).
 ghost use Rattle.std.specs.Prelude.{◌≡◌, ◌<◌, Some, map, length, codes, slice_get, unwrap_or, option_and_then, option_copied, option_to_list, OnOk, IfOk, MatchOption};
 ghost use Rattle.std.specs.List.{position_from};
-ghost use Rattle.js_bundle.specs.code.Grouped.{IsGrouped};
-ghost use Rattle.js_bundle.specs.code.Index.{IsIndex};
-ghost use Rattle.js_bundle.specs.code.Located.{IsLocated};
+ghost use Rattle.js_bundle.specs.code.PartsByPlace.{ArePartsByPlace};
+ghost use Rattle.js_bundle.specs.code.Index.{IsIndexOf};
+ghost use Rattle.js_bundle.specs.code.Positions.{ArePositionsOf};
 ghost use Rattle.js_bundle.specs.Keyword.{text_argument};
 ghost use Rattle.js_bundle.specs.KeywordName.{keyword_names};
 ghost use Rattle.js_bundle.specs.Names.{belongs_to, same_tokens, stands_at};
 ghost use Rattle.js_bundle.specs.ResourceNumber.{begins_resource, roots, resource_number};
-ghost use Rattle.js_bundle.specs.ResourceTable.{AreAnchors, AreEmpty, AreNamed, AreRooted, IsOpened, IsResourceTable, StandApart, count_of, rank_of_root, ranks_by, ranks_from};
+ghost use Rattle.js_bundle.specs.ResourceTable.{AreAnchors, AreEmpty, AreNamed, AreRooted, IsOpened, IsResourceTable, StandApart, count_begun, rank_of_root, ranks_by, ranks_from};
 ghost use Rattle.js_bundle.specs.code.Scan.{site_of};
 
 use crate::index::Index;
 use crate::index::keyword_table::KeywordTable;
 use crate::index::numbering::Numbering;
-use crate::index::parts_by_place::part;
-use crate::index::place_by_uri::place_at;
-use crate::index::positions::Located;
-use crate::index::sparse_list::is_told;
+use crate::index::parts_by_place::part_of_place;
+use crate::index::place_by_uri::number_at;
+use crate::index::positions::Positions;
+use crate::index::sparse_list::mark_at;
 use crate::keyword::text_argument;
 use crate::keyword_name::KeywordName;
 use crate::scan::site::Site;
@@ -45,10 +45,10 @@ struct Roots {
 pub(crate) fn begins_resource(site: &Site<'_>) -> bool
     ensures { result ≡ begins_resource (site_of site.now) }
 {
-    is_same(&site.pointer, &site.own.resource)
+    is_same_pointer(&site.pointer, &site.own.resource)
 }
 
-fn is_same(first: &Pointer, second: &Pointer) -> bool
+fn is_same_pointer(first: &Pointer, second: &Pointer) -> bool
     ensures { result ≡ same_tokens first.now second.now }
 {
     *first == *second
@@ -61,11 +61,11 @@ fn root_of(
     sites: &[Site<'_>],
     site: &Site<'_>,
 ) -> Result<Option<usize>, Memory>
-    requires { IsIndex index.now (map site_of sites.now) }
+    requires { IsIndexOf index.now (map site_of sites.now) }
     ensures { IfOk result (λ n. n
         ≡ position_from (stands_at site.now.document site.now.own.value.resource) 0 (map site_of sites.now)) }
 {
-    place_at(alloc, index, site.document, &site.own.resource)
+    number_at(alloc, index, site.document, &site.own.resource)
 }
 
 // Opens the resource of a root.
@@ -81,7 +81,7 @@ fn open_resource(alloc: Global, anchors: &mut Vec<Numbering>, begins: bool) -> R
 // The roots, where it is known of each place whether it is one.
 fn roots_of(alloc: Global, begins: &[bool]) -> Result<Roots, Memory>
     ensures ranks { IfOk result (λ r. r.ranks.items ≡ ranks_by 0 begins.now) }
-    ensures many { IfOk result (λ r. length r.anchors.items ≡ count_of begins.now) }
+    ensures many { IfOk result (λ r. length r.anchors.items ≡ count_begun begins.now) }
     ensures empty { IfOk result (λ r. AreEmpty r.anchors.items) }
 {
     let mut ranks = Vec::with_capacity(alloc, begins.len())?;
@@ -109,7 +109,7 @@ fn rank_under(ranks: &[usize], root: Option<usize>) -> usize
 fn is_of_one(before: &Site<'_>, site: &Site<'_>) -> bool
     ensures { result ≡ belongs_to site.now.document site.now.own.value.resource (site_of before.now) }
 {
-    before.document == site.document && is_same(&before.own.resource, &site.own.resource)
+    before.document == site.document && is_same_pointer(&before.own.resource, &site.own.resource)
 }
 
 // The number of a place's resource. That of a root is known, and most other places are of the resource of the one
@@ -125,7 +125,7 @@ fn number_after(
     site: &Site<'_>,
     number: usize,
 ) -> Result<usize, Memory>
-    requires index { IsIndex index.now (map site_of sites.now) }
+    requires index { IsIndexOf index.now (map site_of sites.now) }
     requires apart { StandApart (map site_of sites.now) }
     requires begins { begins.now ≡ map begins_resource (map site_of sites.now) }
     requires ranks { ranks.now ≡ ranks_from 0 (map site_of sites.now) }
@@ -133,7 +133,7 @@ fn number_after(
     requires site { slice_get (map site_of sites.now) number ≡ Some (site_of site.now) }
     ensures { IfOk result (λ n. n ≡ rank_of_root (map site_of sites.now) (site_of site.now)) }
 {
-    if is_told(begins, number) {
+    if mark_at(begins, number) {
         return Ok(rank_under(ranks, Some(number)));
     }
     match before {
@@ -150,7 +150,7 @@ fn number_by_root(
     ranks: &[usize],
     site: &Site<'_>,
 ) -> Result<usize, Memory>
-    requires index { IsIndex index.now (map site_of sites.now) }
+    requires index { IsIndexOf index.now (map site_of sites.now) }
     requires ranks { ranks.now ≡ ranks_from 0 (map site_of sites.now) }
     ensures { IfOk result (λ n. n ≡ rank_of_root (map site_of sites.now) (site_of site.now)) }
 {
@@ -166,7 +166,7 @@ fn numbers_of(
     begins: &[bool],
     ranks: &[usize],
 ) -> Result<Vec<usize>, Memory>
-    requires index { IsIndex index.now (map site_of sites.now) }
+    requires index { IsIndexOf index.now (map site_of sites.now) }
     requires apart { StandApart (map site_of sites.now) }
     requires begins { begins.now ≡ map begins_resource (map site_of sites.now) }
     requires ranks { ranks.now ≡ ranks_from 0 (map site_of sites.now) }
@@ -210,7 +210,7 @@ fn name(
         (option_to_list (text_argument (codes "$dynamicAnchor") (site_of site.now).schema)) number anchors.new.items) }
 {
     let name = dynamic_name(site, names);
-    anchors[resource].put_given(alloc, name, number)
+    anchors[resource].insert_first_given(alloc, name, number)
 }
 
 fn name_all(
@@ -220,7 +220,7 @@ fn name_all(
     keywords: &KeywordTable,
     numbers: &[usize],
 ) -> Result<(), Memory>
-    requires keywords { IsGrouped keyword_names (map site_of sites.now)
+    requires keywords { ArePartsByPlace keyword_names (map site_of sites.now)
         keywords.now.names.items keywords.now.ends.items }
     requires rooted { AreRooted (map site_of sites.now) }
     requires numbers { map Some numbers.now ≡ map (resource_number (map site_of sites.now)) (map site_of sites.now) }
@@ -229,7 +229,7 @@ fn name_all(
     ensures { OnOk result (AreAnchors (roots (map site_of sites.now)) anchors.new.items (map site_of sites.now)) }
 {
     for i in 0..sites.len() {
-        let names = part(keywords.names.as_slice(), keywords.ends.as_slice(), i);
+        let names = part_of_place(keywords.names.as_slice(), keywords.ends.as_slice(), i);
         name(alloc, anchors, numbers[i], &sites[i], names, i)?;
     }
     Ok(())
@@ -238,19 +238,19 @@ fn name_all(
 /// The table of the resources of all places.
 pub(crate) fn resources_of(
     alloc: Global,
-    located: &Located,
+    positions: &Positions,
     sites: &[Site<'_>],
     keywords: &KeywordTable,
 ) -> Result<Resources, Memory>
-    requires located { IsLocated located.now (map site_of sites.now) }
-    requires keywords { IsGrouped keyword_names (map site_of sites.now)
+    requires positions { ArePositionsOf positions.now (map site_of sites.now) }
+    requires keywords { ArePartsByPlace keyword_names (map site_of sites.now)
         keywords.now.names.items keywords.now.ends.items }
     requires rooted { AreRooted (map site_of sites.now) }
     ensures { IfOk result (λ r. IsResourceTable r (map site_of sites.now)) }
 {
-    let begins = located.roots.as_slice();
+    let begins = positions.roots.as_slice();
     let Roots { ranks, mut anchors } = roots_of(alloc, begins)?;
-    let numbers = numbers_of(alloc, &located.index, sites, begins, ranks.as_slice())?;
+    let numbers = numbers_of(alloc, &positions.index, sites, begins, ranks.as_slice())?;
     name_all(alloc, &mut anchors, sites, keywords, numbers.as_slice())?;
     Ok(Resources { numbers, anchors })
 }

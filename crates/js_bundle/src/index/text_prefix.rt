@@ -1,30 +1,30 @@
 //! How the texts of a place's position begin: those of the next place continue from there.
 ghost use Rattle.std.specs.Prelude.{◌≡◌, IfOk, option_map, string_bytes};
-ghost use Rattle.js_bundle.specs.code.Beginning as spec;
+ghost use Rattle.js_bundle.specs.code.TextPrefix as spec;
 ghost use Rattle.js_bundle.specs.code.Scan.{site_of};
 
 use crate::scan::site::Site;
 use js_doc::{Memory, Token};
 use std::alloc::Global;
 
-/// The beginning of such a text: all of it but the last token, which is all that places side by side differ in.
+/// The prefix of such a text: all of it but the last token, which is all that places side by side differ in.
 #[derive(Drop)]
-pub(crate) struct Beginning {
+pub(crate) struct TextPrefix {
     pub(crate) text: String,
     /// How many tokens it contains.
     pub(crate) tokens: usize,
 }
 
-impl Beginning {
-    pub(crate) fn new(alloc: Global) -> Beginning {
-        Beginning {
+impl TextPrefix {
+    pub(crate) fn new(alloc: Global) -> TextPrefix {
+        TextPrefix {
             text: String::new(alloc),
             tokens: 0,
         }
     }
 
     /// Its text, with room for the tokens after it.
-    pub(crate) fn copy(&self, alloc: Global, tokens: &[Token]) -> Result<String, Memory>
+    pub(crate) fn text_with_room(&self, alloc: Global, tokens: &[Token]) -> Result<String, Memory>
         ensures { IfOk result (λ t. string_bytes t ≡ string_bytes self.now.text) }
     {
         let room = self
@@ -53,13 +53,13 @@ pub(crate) fn shared_with(before: Option<&Site<'_>>, site: &Site<'_>) -> usize
     ensures { result ≡ spec.shared_with (option_map (λ b. site_of b.now) before.entry) (site_of site.now) }
 {
     match before {
-        Some(before) => shared(site.pointer.tokens(), before.pointer.tokens()),
+        Some(before) => tokens_alike(site.pointer.tokens(), before.pointer.tokens()),
         None => 0,
     }
 }
 
-fn shared(tokens: &[Token], others: &[Token]) -> usize
-    ensures { result ≡ spec.shared tokens.now others.now }
+fn tokens_alike(tokens: &[Token], others: &[Token]) -> usize
+    ensures { result ≡ spec.tokens_alike tokens.now others.now }
 {
     let most = tokens.len().min(others.len());
     for i in 0..most {

@@ -38,7 +38,7 @@ struct Identity {
 
 impl Scope {
     /// The scope of a document's root.
-    pub(crate) fn root(alloc: Global, uri: &Url) -> Result<Arc<Scope>, Memory>
+    pub(crate) fn of_document(alloc: Global, uri: &Url) -> Result<Arc<Scope>, Memory>
         ensures { IfOk result (λ s. s.value ≡ root_scope uri.now) }
     {
         Scope::new(Pointer::new(alloc), uri.clone()?, alloc)

@@ -8,8 +8,8 @@ use Rattle.js_bundle.specs.Keyword.{Text}
 use Rattle.js_bundle.specs.code.Leads.{Leads}
 use Rattle.js_bundle.specs.Refusals.{at_pattern}
 use Rattle.js_bundle.specs.code.Scan.{site_of}
-use Rattle.js_bundle.proofs.PatternNext.{pattern_next}
-use Rattle.js_bundle.proofs.Stopping.{leads_past}
+use Rattle.js_bundle.proofs.Checking.PatternNext.{pattern_next}
+use Rattle.js_bundle.proofs.Checking.CheckStops.{leads_past}
 use Rattle.js_bundle.proofs.check.assertions_and_patterns.read_patterns.Goals as goal
 
 pub loop-name-preserved : goal.loop-name-preserved

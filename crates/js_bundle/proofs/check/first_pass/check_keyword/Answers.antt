@@ -5,7 +5,7 @@ use Rattle.js_bundle.specs.declared.refusal.RefusalKind.TheVariants.{BadKeyword}
 use Rattle.js_bundle.specs.Form.{is_formed}
 use Rattle.js_bundle.specs.Refusals.{when, decided, on_text, text_rules, assertion_rules, name_rules}
 use Rattle.js_bundle.specs.code.Scan.{site_of}
-use Rattle.js_bundle.proofs.Stopping.{clear_from_ok, stopped_here, stopped_later}
+use Rattle.js_bundle.proofs.Checking.CheckStops.{clear_from_ok, stopped_here, stopped_later}
 use Rattle.js_bundle.proofs.check.first_pass.check_keyword.Goals as goal
 
 pub returns-in_err-check_form-clause-err : goal.returns-in_err-check_form-clause-err

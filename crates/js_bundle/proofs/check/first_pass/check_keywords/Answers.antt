@@ -8,9 +8,9 @@ use Rattle.js_bundle.specs.code.Leads.{Leads}
 use Rattle.js_bundle.specs.Keyword.{argument}
 use Rattle.js_bundle.specs.Refusals.{at_member}
 use Rattle.js_bundle.specs.code.Scan.{site_of}
-use Rattle.js_bundle.proofs.EachArgument.{StandIn, each_stands, argument_stands}
-use Rattle.js_bundle.proofs.Passes.{piece_next}
-use Rattle.js_bundle.proofs.Stopping.{leads_itself, leads_past, leads_stop}
+use Rattle.js_bundle.proofs.Checking.MembersByName.{StandIn, each_stands, argument_stands}
+use Rattle.js_bundle.proofs.Checking.PassNext.{piece_next}
+use Rattle.js_bundle.proofs.Checking.CheckStops.{leads_itself, leads_past, leads_stop}
 use Rattle.js_bundle.proofs.check.first_pass.check_keywords.Goals as goal
 
 pub returns-in_err-check_keyword-clause-err : goal.returns-in_err-check_keyword-clause-err

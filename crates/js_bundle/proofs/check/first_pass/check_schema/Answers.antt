@@ -1,4 +1,4 @@
-use Rattle.js_bundle.proofs.Keywords.{pairs-members}
+use Rattle.js_bundle.proofs.MembersAsList.{pairs-members}
 use Rattle.js_bundle.proofs.check.first_pass.check_schema.Goals as goal
 
 pub returns-in-Members-clause-clear : goal.returns-in-Members-clause-clear

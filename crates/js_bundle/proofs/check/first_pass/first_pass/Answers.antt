@@ -4,11 +4,11 @@ use Rattle.js_bundle.specs.AssertionsAndPatterns.{assertions_at, patterns_at}
 use Rattle.js_bundle.specs.KeywordName.{keyword_names}
 use Rattle.js_bundle.specs.Refusals.{at_site, first_pass}
 use Rattle.js_bundle.specs.code.Scan.{site_of}
-use Rattle.js_bundle.proofs.Grouping.{grouped_next}
-use Rattle.js_bundle.proofs.Locating.{located_next, located_whole}
-use Rattle.js_bundle.proofs.LastPlace.{last_more}
-use Rattle.js_bundle.proofs.Passes.{site_next}
-use Rattle.js_bundle.proofs.Stopping.{leads_past, leads_stop}
+use Rattle.js_bundle.proofs.Indexing.PartsOfPlaces.{grouped_next}
+use Rattle.js_bundle.proofs.Indexing.PositionsNext.{positions_next, positions_whole}
+use Rattle.js_bundle.proofs.Checking.LastPlace.{last_more}
+use Rattle.js_bundle.proofs.Checking.PassNext.{site_next}
+use Rattle.js_bundle.proofs.Checking.CheckStops.{leads_past, leads_stop}
 use Rattle.js_bundle.proofs.check.first_pass.first_pass.Goals as goal
 
 pub returns-in_err-pass-clause-err : goal.returns-in_err-pass-clause-err
@@ -39,10 +39,10 @@ loop-i-preserved c =
           e.patterns e.pattern_ends l.invariant.patterns;
       keywords = grouped_next keyword_names ss l.i x old.keywords.names.items new.keywords.names.items old.keywords.ends.items new.keywords.ends.items (omega arith) c.index-sites-i.is
           e.names e.ends l.invariant.keywords;
-      located = located_next ss l.i x old.located new.located (omega arith) c.index-sites-i.is e.located l.invariant.located;
+      positions = positions_next ss l.i x old.positions new.positions (omega arith) c.index-sites-i.is e.positions l.invariant.positions;
       before = last_more ss l.i x (omega arith) c.index-sites-i.is;
       begin = e.begin;
     }
 
-pub returns-clause-located : goal.returns-clause-located
-returns-clause-located c = located_whole c.args.sites.now c.loop-i.i c.loop-i.passed.located (omega arith) c.loop-i.invariant.located
+pub returns-clause-positions : goal.returns-clause-positions
+returns-clause-positions c = positions_whole c.args.sites.now c.loop-i.i c.loop-i.passed.positions (omega arith) c.loop-i.invariant.positions

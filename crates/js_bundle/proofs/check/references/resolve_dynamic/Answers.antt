@@ -4,7 +4,7 @@ use Rattle.js_bundle.specs.Candidate.{IsStopped}
 use Rattle.js_bundle.specs.code.Scan.{site_of}
 use Rattle.js_bundle.specs.Finding.{dynamic_by}
 use Rattle.js_bundle.specs.Refusals.{at_reference_text}
-use Rattle.js_bundle.proofs.References.{reference_is}
+use Rattle.js_bundle.proofs.Checking.ReferenceTexts.{reference_is}
 use Rattle.js_bundle.proofs.check.references.resolve_dynamic.Goals as goal
 
 pub returns-in_err-url-clause-err : goal.returns-in_err-url-clause-err

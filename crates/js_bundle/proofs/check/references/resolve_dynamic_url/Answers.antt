@@ -3,7 +3,7 @@ use Rattle.std.specs.Option.{option_map_or}
 use Rattle.js_bundle.specs.code.Scan.{site_of}
 use Rattle.js_bundle.specs.Finding.{dynamic_as}
 use Rattle.js_bundle.specs.Names.{makes}
-use Rattle.js_bundle.proofs.References.{dynamic_found}
+use Rattle.js_bundle.proofs.Checking.ReferenceTexts.{dynamic_found}
 use Rattle.js_bundle.proofs.check.references.resolve_dynamic_url.Goals as goal
 
 pub returns-in-Some-clause-reference : goal.returns-in-Some-clause-reference

@@ -1,6 +1,6 @@
 use Rattle.std.proofs.Common.{Some, bytes_eq, sym, ap, ◌∙◌}
 use Rattle.std.proofs.lemmas.Option.{slice_get-get_or}
-use Rattle.js_bundle.proofs.Patterns.{found_own}
+use Rattle.js_bundle.proofs.Finding.PatternsFound.{found_own}
 use Rattle.js_bundle.proofs.finished.place_keywords.find_pattern.Goals as goal
 
 pub returns-in-Some : goal.returns-in-Some

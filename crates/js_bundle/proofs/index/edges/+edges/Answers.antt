@@ -4,7 +4,7 @@ use Rattle.js_doc.specs.Value.{list, object, items, members}
 use Rattle.js_doc.specs.Seen.{value_of, pair_of}
 use Rattle.js_doc.proofs.Smaller.{item_smaller, member_smaller}
 use Rattle.js_bundle.specs.code.Edges.{edges_of, edges_of_keywords, edges_of_members, held_by_keywords, held_of, numbers_of_members}
-use Rattle.js_bundle.proofs.EdgesNext.{item_edges, item_numbers, keyword_edges_next, keyword_held_next, keywords_put, member_edges, member_numbers, put_within}
+use Rattle.js_bundle.proofs.Indexing.EdgesNext.{item_edges, item_numbers, keyword_edges_next, keyword_held_next, keywords_put, member_edges, member_numbers, put_within}
 use Rattle.js_bundle.proofs.index.edges.+edges.Goals as goal
 
 pub link_items-link_one-requires : goal.link_items-link_one-requires
@@ -74,12 +74,12 @@ keywords_of-loop-keyword-preserved t c =
           (ap (λ es. map held_of l.held.items ++ held_by_keywords (length l.edges.items) (members (map pair_of es))) (sym c.in-Some.ensures.steps) ∙ l.invariant.held);
     }
 
-pub link_keywords-put-requires : goal.link_keywords-put-requires
-link_keywords-put-requires t c =
+pub link_keywords-set_keywords-requires : goal.link_keywords-set_keywords-requires
+link_keywords-set_keywords-requires t c =
     put_within c.args.edges.now.items c.push_none.new.edges.items c.keywords_of.new.edges.items (members c.args.members.now) c.len-number.result (omega (arith, c.len-number.ensures, c.args.edges.now.ok.0))
     c.in_ok-push_none.ensures c.in_ok-keywords.ensures.edges
 
 pub link_keywords-returns : goal.link_keywords-returns
 link_keywords-returns t c =
-    keywords_put c.args.edges.now.items c.push_none.new.edges.items c.keywords_of.new.edges.items c.put.new.edges.items (map held_of c.in_ok-keywords.keywords.items) (members c.args.members.now) c.len-number.result
-    (omega (arith, c.len-number.ensures, c.args.edges.now.ok.0)) c.in_ok-push_none.ensures c.in_ok-keywords.ensures.edges c.in_ok-keywords.ensures.held c.put.ensures
+    keywords_put c.args.edges.now.items c.push_none.new.edges.items c.keywords_of.new.edges.items c.set_keywords.new.edges.items (map held_of c.in_ok-keywords.keywords.items) (members c.args.members.now) c.len-number.result
+    (omega (arith, c.len-number.ensures, c.args.edges.now.ok.0)) c.in_ok-push_none.ensures c.in_ok-keywords.ensures.edges c.in_ok-keywords.ensures.held c.set_keywords.ensures

@@ -2,7 +2,7 @@ use Rattle.std.proofs.Common.{◌≡◌, ◌++◌, map, length, sym, subst, arit
 use Rattle.js_doc.specs.Seen.{value_of}
 use Rattle.js_bundle.specs.Seen.{document_of}
 use Rattle.js_bundle.specs.code.Edges.{edges_at, edges_from, edges_of}
-use Rattle.js_bundle.proofs.EdgesNext.{document_edges}
+use Rattle.js_bundle.proofs.Indexing.EdgesNext.{document_edges}
 use Rattle.js_bundle.proofs.index.edges.edges_in.Goals as goal
 
 pub loop-number-preserved : goal.loop-number-preserved

@@ -1,4 +1,4 @@
-use Rattle.js_bundle.proofs.Keywords.{pairs-members}
+use Rattle.js_bundle.proofs.MembersAsList.{pairs-members}
 use Rattle.js_bundle.proofs.index.keyword_table.push_names.Goals as goal
 
 pub returns-in-Members : goal.returns-in-Members

@@ -1,5 +1,5 @@
 use Rattle.std.proofs.Common.{ap, ◌∙◌, Err}
-use Rattle.js_bundle.proofs.Named.{tokens_read, no_tokens_read}
+use Rattle.js_bundle.proofs.Finding.FoundByText.{tokens_read, no_tokens_read}
 use Rattle.js_bundle.proofs.index.place_by_uri.parsed.Goals as goal
 
 pub returns-in-Ok : goal.returns-in-Ok

@@ -1,7 +1,7 @@
 use Rattle.std.proofs.Common.{map, ◌∙◌}
 use Rattle.js_bundle.specs.code.Index.{standing}
 use Rattle.js_bundle.specs.code.Scan.{site_of}
-use Rattle.js_bundle.proofs.Indexed.{known_at}
+use Rattle.js_bundle.proofs.Indexing.IndexFinds.{known_at}
 use Rattle.js_bundle.proofs.index.place_by_uri.root_named.Goals as goal
 
 pub returns-in-Some : goal.returns-in-Some

@@ -1,7 +1,7 @@
 use Rattle.std.proofs.Common.{refl}
 use Rattle.std.specs.Str.{is_utf8}
 use Rattle.std.proofs.lemmas.Str.{is_utf8-from_IsUtf8}
-use Rattle.js_bundle.proofs.Named.{not_utf8}
+use Rattle.js_bundle.proofs.Finding.FoundByText.{not_utf8}
 use Rattle.js_bundle.proofs.index.place_by_uri.text_in.Goals as goal
 
 pub returns-in-Ok : goal.returns-in-Ok

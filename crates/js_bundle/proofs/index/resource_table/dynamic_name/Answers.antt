@@ -1,5 +1,5 @@
 use Rattle.js_bundle.specs.code.Scan.{site_of}
-use Rattle.js_bundle.proofs.NoKeyword.{no_dynamic_anchor}
+use Rattle.js_bundle.proofs.Indexing.NoKeyword.{no_dynamic_anchor}
 use Rattle.js_bundle.proofs.index.resource_table.dynamic_name.Goals as goal
 
 pub returns : goal.returns

@@ -1,6 +1,6 @@
 use Rattle.std.proofs.Common.{get_or, arith}
-use Rattle.js_bundle.proofs.Anchors.{number_under, resource_there, named_next}
-use Rattle.js_bundle.proofs.NamesOf.{names_are}
+use Rattle.js_bundle.proofs.Indexing.ResourceTableMade.{number_under, resource_there, named_next}
+use Rattle.js_bundle.proofs.Indexing.KeywordsOfPlace.{names_are}
 use Rattle.js_bundle.proofs.index.resource_table.name_all.Goals as goal
 
 pub name-requires-clause-resource : goal.name-requires-clause-resource
@@ -16,8 +16,8 @@ name-requires-clause-names c =
     let ss = c.args.sites.now in
     let x = c.index-sites-i.result in
     let table = c.args.keywords.now in
-    names_are ss l.i x table.names.items table.ends.items c.part-names.result.now c.as_slice.result.now c.as_slice-in-loop-i.result.now c.requires.keywords (omega arith) c.index-sites-i.is
-    c.as_slice.ensures.value c.as_slice-in-loop-i.ensures.value c.part-names.ensures
+    names_are ss l.i x table.names.items table.ends.items c.part_of_place-names.result.now c.as_slice.result.now c.as_slice-in-loop-i.result.now c.requires.keywords (omega arith) c.index-sites-i.is
+    c.as_slice.ensures.value c.as_slice-in-loop-i.ensures.value c.part_of_place-names.ensures
 
 pub loop-i-preserved : goal.loop-i-preserved
 loop-i-preserved c =

@@ -1,7 +1,7 @@
 use Rattle.std.proofs.Common.{◌≡◌, map, MatchOption, sym, subst, ◌∙◌}
 use Rattle.js_bundle.specs.ResourceTable.{rank_of_root}
 use Rattle.js_bundle.specs.code.Scan.{site_of}
-use Rattle.js_bundle.proofs.Anchors.{root_rank, root_told, same_rank}
+use Rattle.js_bundle.proofs.Indexing.ResourceTableMade.{root_rank, root_told, same_rank}
 use Rattle.js_bundle.proofs.index.resource_table.number_after.Goals as goal
 
 pub returns-then-is_told : goal.returns-then-is_told

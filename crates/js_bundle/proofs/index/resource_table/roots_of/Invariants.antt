@@ -1,4 +1,4 @@
-use Rattle.js_bundle.proofs.Anchors.{AreOpened}
+use Rattle.js_bundle.proofs.Indexing.ResourceTableMade.{AreOpened}
 use Rattle.js_bundle.proofs.index.resource_table.roots_of.Given as goal
 
 abbrev pub invariant-loop-i : goal.invariant-loop-i
