@@ -4,13 +4,13 @@ use Rattle.js_bundle.specs.code.Scan.{site_of}
 use Rattle.js_bundle.proofs.Indexing.ResourceTableMade.{root_rank, root_told, same_rank}
 use Rattle.js_bundle.proofs.index.resource_table.number_after.Goals as goal
 
-pub returns-then-is_told : goal.returns-then-is_told
-returns-then-is_told c =
+pub returns-then-mark_at : goal.returns-then-mark_at
+returns-then-mark_at c =
     let all = map site_of c.args.sites.now in
     let site = site_of c.args.site.now in
     let n = c.args.number in
     root_rank all n site c.args.ranks.now c.rank_under.result c.requires.apart c.requires.ranks c.requires.site
-    (root_told all n site c.args.begins.now c.is_told.result c.requires.begins c.requires.site c.is_told.ensures c.if-is_told.true) c.rank_under.ensures
+    (root_told all n site c.args.begins.now c.mark_at.result c.requires.begins c.requires.site c.mark_at.ensures c.if-mark_at.true) c.rank_under.ensures
 
 pub returns-in-Some : goal.returns-in-Some
 returns-in-Some c =
