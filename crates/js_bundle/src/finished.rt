@@ -1,5 +1,5 @@
-//! What finished schemas answer: the schemas that the keywords of a place hold, what they ask, where references lead, and
-//! the place of a URI.
+//! What finished schemas answer: the schemas that the keywords of a place hold, what they assert, where references
+//! lead, and which place a URI names.
 
 pub(crate) mod dynamic_target;
 pub(crate) mod entry;

@@ -1,5 +1,8 @@
 //! Schema documents with their URIs: where schemas stand in them, what identifies them, what references lead to,
 //! and what is refused.
+//!
+//! `scan` finds the places of schemas, `index` holds the tables by which they are found again, `check` refuses or keeps
+//! documents, and `finished` is what finished schemas answer.
 #![tactic(auto)]
 
 mod bundle;

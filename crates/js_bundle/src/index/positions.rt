@@ -63,7 +63,8 @@ impl Positions {
         requires begin { MatchOption before (Unit {0}) (λ b. BeginTexts prefixes.old (site_of b.now)) }
         requires before { IsLast (map site_of earlier.now) (option_map (λ b. site_of b.now) before) }
         ensures begin { OnOk result (BeginTexts prefixes.new (site_of site.now)) }
-        ensures positions { OnOk result (HasPositionAdded self.old (map site_of earlier.now) (site_of site.now) self.new) }
+        ensures positions { OnOk result
+            (HasPositionAdded self.old (map site_of earlier.now) (site_of site.now) self.new) }
     {
         let shared = shared_with(before, site);
         self.roots.push(begins_resource(site))?;
