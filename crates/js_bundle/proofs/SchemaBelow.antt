@@ -7,15 +7,15 @@ use Rattle.std.proofs.lemmas.Option.{slice_get-get_or, slice_get-map, slice_get_
 use Rattle.js_doc.specs.Seen.{value_of}
 use Rattle.js_doc.specs.Value.{Value, Values, items}
 use Rattle.js_doc.specs.declared.doc.Doc.{Doc}
-use Rattle.js_bundle.specs.declared.holding.Holding.{Holding}
-use Rattle.js_bundle.specs.declared.holding.Holding.TheVariants.{One, Listed, Named, Nothing}
+use Rattle.js_bundle.specs.declared.scan.holding.Holding.{Holding}
+use Rattle.js_bundle.specs.declared.scan.holding.Holding.TheVariants.{One, Listed, Named, Nothing}
 use Rattle.js_bundle.specs.Document.{Documents}
 use Rattle.js_bundle.specs.Keyword.{Text, argument}
 use Rattle.js_bundle.specs.Place.{holding, values}
 use Rattle.js_bundle.specs.Names.{stands_at}
 use Rattle.js_bundle.specs.Resource.{Site, sites}
 use Rattle.js_bundle.specs.Schemas.{place_at, Finds, FindsSchema, Holds, Step, Alone, Index, Name, fits, step_tokens, below}
-use Rattle.js_bundle.specs.code.Held.{held_in, part}
+use Rattle.js_bundle.specs.code.PlaceBelow.{held_in, value_at_step}
 
 -- ---- the items that the code has
 
@@ -54,7 +54,7 @@ is_named Named n e = refl
 is_named Nothing n e = absurd (cc)
 
 -- a keyword that holds schemas so holds what stands at the step
-held_so : (schema : Value) (k : Text) (step : Step) (u : Value) → fits (holding k) step ≡ true → (o : Option Value) → argument k schema ≡ o → option_and_then (part step) o ≡ Some u
+held_so : (schema : Value) (k : Text) (step : Step) (u : Value) → fits (holding k) step ≡ true → (o : Option Value) → argument k schema ≡ o → option_and_then (value_at_step step) o ≡ Some u
     → Holds schema k step u
 held_so schema k Alone u f None is e = absurd (cc)
 held_so schema k (Index i) u f None is e = absurd (cc)

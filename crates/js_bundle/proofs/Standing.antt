@@ -9,15 +9,15 @@ use Rattle.js_doc.specs.Pointer.{Tokens}
 use Rattle.js_doc.specs.Short.{item_count, IsShort, AreShortItems, AreShortMembers}
 use Rattle.js_doc.specs.Value.{Value, null, truth, whole, text, list, object, Items, no_items, item, Members, no_members, member}
 use Rattle.js_doc.proofs.Named.{is_text-refl, is_text-sound}
-use Rattle.js_bundle.specs.declared.holding.Holding.{Holding}
-use Rattle.js_bundle.specs.declared.holding.Holding.TheVariants.{One, Listed, Named, Nothing}
+use Rattle.js_bundle.specs.declared.scan.holding.Holding.{Holding}
+use Rattle.js_bundle.specs.declared.scan.holding.Holding.TheVariants.{One, Listed, Named, Nothing}
 use Rattle.js_bundle.specs.Document.{Document, Documents}
 use Rattle.js_bundle.specs.Keyword.{Text, member_pairs, keywords}
 use Rattle.js_bundle.specs.Place.{holding, values, items_in, IsPlace, at_root, in_keyword, in_list, in_object, Located, Place, places_held, places_at, places_of_keywords, places_in_list, places_of_items, places_in_object, places_of_members, places_from}
 use Rattle.js_bundle.specs.Resource.{Site, site, sites}
 use Rattle.js_bundle.specs.Seen.{AreOrdered, AreShort}
-use Rattle.js_bundle.proofs.Listing.{Among, is-among, all_append, sound}
-use Rattle.js_bundle.proofs.PlacesApart.{below_all, less_apart, all_as}
+use Rattle.js_bundle.proofs.Listing.LeastSetListed.{Among, is-among, all_append, sound}
+use Rattle.js_bundle.proofs.Listing.PlacesApart.{below_all, less_apart, all_as}
 
 -- ---- one token further
 

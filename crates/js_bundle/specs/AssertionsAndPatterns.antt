@@ -3,7 +3,7 @@ use Rattle.std.specs.Prelude.{List, [], codes, bytes_eq, map, option_to_list, if
 use Rattle.std.specs.List.{flat_map}
 use Rattle.js_doc.specs.Value.{Value, Named}
 use Rattle.js_assert.specs.Assertion.{Asserted, asserted}
-use Rattle.js_bundle.specs.declared.assertions_and_patterns.BuiltPattern.{BuiltPattern}
+use Rattle.js_bundle.specs.declared.check.assertions_and_patterns.BuiltPattern.{BuiltPattern}
 use Rattle.js_bundle.specs.Keyword.{Text, keywords}
 use Rattle.js_bundle.specs.Resource.{Site}
 

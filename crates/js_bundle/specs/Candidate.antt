@@ -1,8 +1,8 @@
 -- Lists of refusals in order, and which of them may be answered.
 use Rattle.std.specs.Prelude.{◌≡◌, List, [], ◌∷◌, Bool, true, false, ◌⊎◌, if◌then◌else◌}
 use Rattle.js_bundle.specs.declared.refusal.Refusal.{Refusal}
-use Rattle.js_bundle.specs.declared.fault.Fault.{Fault}
-use Rattle.js_bundle.specs.declared.fault.Fault.TheVariants.{Memory, Refused}
+use Rattle.js_bundle.specs.declared.check.fault.CheckFault.{CheckFault}
+use Rattle.js_bundle.specs.declared.check.fault.CheckFault.TheVariants.{Memory, Refused}
 
 -- A refusal that may come. It is decided if it has to come where none comes before it, and given if it may come or not.
 -- Documents that have a given one are accepted only where it is allowed: so they may be where a pattern is too large for
@@ -32,6 +32,6 @@ IsFirst [] r = ⊥
 IsFirst (c ∷ cs) r = (r ≡ c.refusal) ⊎ ((c.decided ≡ false) × IsFirst cs r)
 
 -- a check of these may stop so; want of memory may come at any time
-abbrev pub IsStopped : List Candidate → Fault → Type 0
+abbrev pub IsStopped : List Candidate → CheckFault → Type 0
 IsStopped cs Memory = Unit {0}
 IsStopped cs (Refused r) = IsFirst cs r

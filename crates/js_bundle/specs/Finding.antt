@@ -5,13 +5,13 @@ use Rattle.std.specs.List.{position_from}
 use Rattle.url.specs.Parts.{Parts}
 use Rattle.js_doc.specs.Pointer.{Tokens}
 use Rattle.js_bundle.specs.declared.refusal.Refusal.{Refusal}
-use Rattle.js_bundle.specs.declared.fault.Fault.{Fault}
-use Rattle.js_bundle.specs.declared.fault.Fault.TheVariants.{Memory, Refused}
-use Rattle.js_bundle.specs.declared.reference.DynamicReference.{DynamicReference}
+use Rattle.js_bundle.specs.declared.check.fault.CheckFault.{CheckFault}
+use Rattle.js_bundle.specs.declared.check.fault.CheckFault.TheVariants.{Memory, Refused}
+use Rattle.js_bundle.specs.declared.check.references.DynamicReference.{DynamicReference}
 use Rattle.js_bundle.specs.Keyword.{Text, text_argument}
 use Rattle.js_bundle.specs.Names.{names, named, is_pointer}
-use Rattle.js_bundle.specs.declared.names.NameFault.{NameFault}
-use Rattle.js_bundle.specs.declared.names.NameFault.TheVariants as fault
+use Rattle.js_bundle.specs.declared.index.place_by_uri.NameFault.{NameFault}
+use Rattle.js_bundle.specs.declared.index.place_by_uri.NameFault.TheVariants as fault
 use Rattle.js_doc.specs.PointerReading.{pointer_of}
 use Rattle.std.specs.Option.{option_map_or}
 use Rattle.js_bundle.specs.Resource.{Site}
@@ -44,7 +44,7 @@ dynamic_at all place = option_map (dynamic_as (goes_by_name all place)) (number_
 
 -- what a list with an entry for each place has under the number of one
 abbrev pub under_number : {A : Type 0} → List (Option A) → ℕ → Option A
-under_number column n = option_and_then (λ o. o) (slice_get column n)
+under_number entries n = option_and_then (λ o. o) (slice_get entries n)
 
 -- where a first target leads in a dynamic scope: by its own name, where the reference goes by name
 abbrev pub by_scope : List Site → List Site → Bool → Site → Site
@@ -62,9 +62,9 @@ IfNotRead fault.NotRead P = P
 
 -- ---- a refusal, or want of memory
 
-abbrev pub IsRefusal : Refusal → Fault → Type 0
-IsRefusal r Memory = Unit {0}
-IsRefusal r (Refused s) = s ≡ r
+abbrev pub IsRefusalOrMemory : Refusal → CheckFault → Type 0
+IsRefusalOrMemory r Memory = Unit {0}
+IsRefusalOrMemory r (Refused s) = s ≡ r
 
 abbrev pub tokens_of : Option (Bor Text) → Tokens
 tokens_of None = []

@@ -89,6 +89,6 @@ abbrev pub continues_name : ℕ → Bool
 continues_name b = begins_name b || ((nat_le 48 b && nat_le b 57) || (b == 45 || b == 46))
 
 -- a letter or `_`, and then letters, digits, `-`, `_` and `.`
-abbrev pub is_name : Text → Bool
-is_name [] = false
-is_name (b ∷ bs) = begins_name b && list_all continues_name bs
+abbrev pub is_anchor_name : Text → Bool
+is_anchor_name [] = false
+is_anchor_name (b ∷ bs) = begins_name b && list_all continues_name bs

@@ -11,9 +11,9 @@ use Rattle.js_bundle.specs.Place.{IsPlace, Place, places_at, places}
 use Rattle.js_bundle.specs.Seen.{AreRead}
 
 -- the list has a place at the pointer, with this schema
-abbrev pub Lists : Tokens → Value → List Place → Type 0
-Lists p v [] = ⊥
-Lists p v (t ∷ ts) = ((t.spot.pointer ≡ p) × (t.spot.schema ≡ v)) ⊎ Lists p v ts
+abbrev pub ListsPlace : Tokens → Value → List Place → Type 0
+ListsPlace p v [] = ⊥
+ListsPlace p v (t ∷ ts) = ((t.spot.pointer ≡ p) × (t.spot.schema ≡ v)) ⊎ ListsPlace p v ts
 
 -- no two of the places stand at one pointer
 abbrev pub AreApart : List Place → Type 0
@@ -22,7 +22,7 @@ AreApart (t ∷ ts) = AllByRecursion (λ s. ¬ (t.spot.pointer ≡ s.spot.pointe
 
 pub record IsListOf (root : Value) (listed : List Place) : Type 0 where
   pub sound : AllByRecursion (λ t. IsPlace root t.spot.pointer t.spot.schema) listed
-  pub complete : (p : Tokens) (v : Value) → IsPlace root p v → Lists p v listed
+  pub complete : (p : Tokens) (v : Value) → IsPlace root p v → ListsPlace p v listed
 
 -- whatever the number and the URI of the document
 abbrev pub ListsThePlaces : Type 0

@@ -11,14 +11,14 @@ use Rattle.js_assert.specs.Pattern.{is_in_grammar, nests_too_deep}
 use Rattle.js_bundle.specs.declared.refusal.Refusal.{Refusal}
 use Rattle.js_bundle.specs.declared.refusal.RefusalKind.{RefusalKind}
 use Rattle.js_bundle.specs.declared.refusal.RefusalKind.TheVariants.{Memory, UriTooLong, NotASchema, BadKeyword, BadPattern, PatternTooLarge, BadId, BadAnchor, UnknownDialect, DuplicateUri, DuplicateAnchor, TooManyPlaces, BadReference, Unresolved}
-use Rattle.js_bundle.specs.declared.fault.Fault.{Fault}
-use Rattle.js_bundle.specs.declared.fault.Fault.TheVariants as fault
+use Rattle.js_bundle.specs.declared.check.fault.CheckFault.{CheckFault}
+use Rattle.js_bundle.specs.declared.check.fault.CheckFault.TheVariants as fault
 use Rattle.js_bundle.specs.Candidate.{Candidate, IsFirst, decided_in}
 use Rattle.js_bundle.specs.Document.{Documents}
 use Rattle.js_bundle.specs.Keyword.{Text, keywords, text_argument}
 use Rattle.js_bundle.specs.Url.{longest_uri, without_fragment, printed, raw_fragment, fragment}
 use Rattle.js_bundle.specs.Resource.{Site, sites}
-use Rattle.js_bundle.specs.Names.{is_root, is_known_as, belongs_to, makes, is_read, named, is_name}
+use Rattle.js_bundle.specs.Names.{is_root, is_known_as, belongs_to, makes, is_read, named, is_anchor_name}
 use Rattle.js_bundle.specs.Form.{is_schema, is_formed}
 
 -- ---- a line of the list
@@ -78,7 +78,7 @@ at_id before place further t =
 -- of an anchor of either kind (section 8.2.2)
 abbrev pub at_anchor : List Site → Site → Tokens → Text → List Candidate
 at_anchor before place further name =
-    if is_name name then when (is_made before place name) (decided place further DuplicateAnchor) else decided place further BadAnchor
+    if is_anchor_name name then when (is_made before place name) (decided place further DuplicateAnchor) else decided place further BadAnchor
 
 -- of `$schema` (section 8.1.1): one dialect is served
 abbrev pub is_dialect : Text → Bool
@@ -173,6 +173,6 @@ IsRefusalOf documents r = (r ≡ no_memory) ⊎ IsFirst (candidates documents) r
 -- ---- words for the parts
 
 -- the refusal that is told of a check's fault
-abbrev pub refusal_of : Fault → Refusal
+abbrev pub refusal_of : CheckFault → Refusal
 refusal_of fault.Memory = no_memory
 refusal_of (fault.Refused r) = r

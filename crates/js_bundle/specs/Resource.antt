@@ -7,7 +7,7 @@ use Rattle.url.specs.Parts.{Parts}
 use Rattle.url.specs.Parser.{parse_url}
 use Rattle.js_doc.specs.Pointer.{Tokens}
 use Rattle.js_doc.specs.Value.{Value}
-use Rattle.js_bundle.specs.declared.scope.Scope.{Scope}
+use Rattle.js_bundle.specs.declared.scan.scope.Scope.{Scope}
 use Rattle.js_bundle.specs.Keyword.{Text, argument, as_text, has}
 use Rattle.js_bundle.specs.Document.{Documents}
 use Rattle.js_bundle.specs.Place.{Place, Located, places}

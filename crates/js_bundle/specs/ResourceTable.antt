@@ -1,9 +1,9 @@
 -- What is kept of resources: the number of each place's, and of each resource what `$dynamicAnchor` names in it.
 use Rattle.std.specs.Prelude.{◌≡◌, ℕ, ◌+◌, List, [], ◌∷◌, length, Bool, true, Some, filter, map, slice_get, unwrap_or, option_and_then, option_to_list, codes, if◌then◌else◌}
 use Rattle.std.specs.List.{list_any, position_from, AllByRecursion}
-use Rattle.js_bundle.specs.declared.numbering.Numbering.{Numbering}
-use Rattle.js_bundle.specs.declared.resource_table.Resources.{Resources}
-use Rattle.js_bundle.specs.code.Index.{ArePut, FindsFirst}
+use Rattle.js_bundle.specs.declared.index.numbering.Numbering.{Numbering}
+use Rattle.js_bundle.specs.declared.index.resource_table.Resources.{Resources}
+use Rattle.js_bundle.specs.code.Index.{AreInserted, FindsFirst}
 use Rattle.js_bundle.specs.Keyword.{Text, text_argument}
 use Rattle.js_bundle.specs.Names.{belongs_to, stands_at}
 use Rattle.js_bundle.specs.Resource.{Site}
@@ -33,8 +33,8 @@ abbrev pub ranks_from : ℕ → List Site → List ℕ
 ranks_from n places = ranks_by n (map begins_resource places)
 
 -- how many are roots
-abbrev pub count_of : List Bool → ℕ
-count_of told = length (filter (λ begins. begins) told)
+abbrev pub count_begun : List Bool → ℕ
+count_begun told = length (filter (λ begins. begins) told)
 
 -- how many roots stand before the root of a place's resource
 abbrev pub rank_of_root : List Site → Site → ℕ
@@ -51,7 +51,7 @@ pub record IsOpened (at_root : Bool) (old new : List Numbering) : Type 0 where
 -- the names have the place's number in the resource with the number n, each unless it had one before
 pub record AreNamed (old : List Numbering) (n : ℕ) (names : List Text) (place : ℕ) (new : List Numbering) : Type 0 where
   pub many : length new ≡ length old
-  pub here : (a b : Numbering) → slice_get old n ≡ Some a → slice_get new n ≡ Some b → ArePut a names place b
+  pub here : (a b : Numbering) → slice_get old n ≡ Some a → slice_get new n ≡ Some b → AreInserted a names place b
   pub others : (m : ℕ) → ¬ (m ≡ n) → slice_get new m ≡ slice_get old m
 
 -- no two places stand at one pointer of one document

@@ -8,8 +8,8 @@ use Rattle.url.specs.Parser.{Parsed, parse_url}
 use Rattle.js_doc.specs.Pointer.{Tokens}
 use Rattle.js_doc.specs.Value.{Value}
 use Rattle.js_assert.specs.Assertion.{Asserted, asserted}
-use Rattle.js_bundle.specs.declared.holding.Holding.{Holding}
-use Rattle.js_bundle.specs.declared.holding.Holding.TheVariants.{One, Listed, Named}
+use Rattle.js_bundle.specs.declared.scan.holding.Holding.{Holding}
+use Rattle.js_bundle.specs.declared.scan.holding.Holding.TheVariants.{One, Listed, Named}
 use Rattle.js_bundle.specs.declared.place.Step as rust
 use Rattle.js_bundle.specs.declared.place.Step.TheVariants as rust_step
 use Rattle.js_bundle.specs.declared.refusal.EntryFault.{EntryFault}

@@ -12,12 +12,12 @@ ghost use Rattle.js_bundle.specs.Refusals.{candidates, refusals, IsRefusalOf, re
 ghost use Rattle.js_bundle.specs.Seen.{document_of};
 ghost use Rattle.js_bundle.specs.Url as spec;
 
+use crate::check::check_whole;
+use crate::check::fault::CheckFault;
 use crate::document::Document;
-use crate::fault::Fault;
 use crate::refusal::{Refusal, RefusalKind};
 use crate::schemas::Schemas;
 use crate::uri::{LONGEST, has_no_fragment, without_fragment};
-use crate::whole_check::check_whole;
 use js_doc::{Doc, Pointer, ReadFault, read};
 use std::alloc::Global;
 use std::marker::Model;
@@ -72,8 +72,8 @@ impl Bundle {
         ensures err { OnErr result (self.new ≡ self.old) }
     {
         let alloc = *self.documents.allocator();
-        let document = taken(alloc, self.documents.len(), uri, bytes)?;
-        append(&mut self.documents, document)?;
+        let document = read_document(alloc, self.documents.len(), uri, bytes)?;
+        append_document(&mut self.documents, document)?;
         Ok(())
     }
 
@@ -90,11 +90,11 @@ impl Bundle {
     {
         root.lawful();
         let alloc = *self.documents.allocator();
-        let uri = match taken_uri(alloc, self.documents.len(), uri) {
+        let uri = match checked_uri(alloc, self.documents.len(), uri) {
             Ok(uri) => uri,
             Err(refusal) => return Err((refusal, root)),
         };
-        put(&mut self.documents, uri, root)?;
+        append_value(&mut self.documents, uri, root)?;
         Ok(())
     }
 }
@@ -130,16 +130,16 @@ impl Bundle {
     }
 }
 
-fn refusal_of(alloc: Global, fault: Fault) -> Refusal
+fn refusal_of(alloc: Global, fault: CheckFault) -> Refusal
     ensures { result ≡ refusal_of fault }
 {
     match fault {
-        Fault::Memory => refused(alloc, 0, RefusalKind::Memory),
-        Fault::Refused(refusal) => refusal,
+        CheckFault::Memory => refusal_with(alloc, 0, RefusalKind::Memory),
+        CheckFault::Refused(refusal) => refusal,
     }
 }
 
-fn append(documents: &mut Vec<Document>, document: Document) -> Result<(), Refusal>
+fn append_document(documents: &mut Vec<Document>, document: Document) -> Result<(), Refusal>
     ensures ok { OnOk result (documents.new.items ≡ documents.old.items ++ document ∷ []) }
     ensures err { OnErr result (documents.new.items ≡ documents.old.items) }
     ensures refused { IfErr result
@@ -149,12 +149,12 @@ fn append(documents: &mut Vec<Document>, document: Document) -> Result<(), Refus
     let alloc = *documents.allocator();
     match documents.push(document) {
         Ok(()) => Ok(()),
-        Err(_) => Err(refused(alloc, held, RefusalKind::Memory)),
+        Err(_) => Err(refusal_with(alloc, held, RefusalKind::Memory)),
     }
 }
 
 // The same; a refused value is returned.
-fn put(documents: &mut Vec<Document>, uri: Url, root: Doc) -> Result<(), (Refusal, Doc)>
+fn append_value(documents: &mut Vec<Document>, uri: Url, root: Doc) -> Result<(), (Refusal, Doc)>
     ensures ok { OnOk result (documents.new.items ≡ documents.old.items ++ record { uri = uri; root = root } ∷ []) }
     ensures err { OnErr result (documents.new.items ≡ documents.old.items) }
     ensures refused { IfErr result
@@ -165,18 +165,21 @@ fn put(documents: &mut Vec<Document>, uri: Url, root: Doc) -> Result<(), (Refusa
     let alloc = *documents.allocator();
     match documents.push(Document { uri, root }) {
         Ok(()) => Ok(()),
-        Err(failed) => Err((refused(alloc, held, RefusalKind::Memory), failed.value.root)),
+        Err(failed) => Err((
+            refusal_with(alloc, held, RefusalKind::Memory),
+            failed.value.root,
+        )),
     }
 }
 
 // The document, unless there are too many already.
-fn taken(alloc: Global, held: usize, uri: &str, bytes: &[u8]) -> Result<Document, Refusal>
+fn read_document(alloc: Global, held: usize, uri: &str, bytes: &[u8]) -> Result<Document, Refusal>
     ensures ok { IfOk result (λ d. IsTaken held uri.now bytes.now (document_of d)) }
     ensures ascends { IfOk result (λ d. NamesAscend (value_of d.root)) }
     ensures short { IfOk result (λ d. IsShort (value_of d.root)) }
     ensures err { IfErr result (IsRefusedBy held uri.now bytes.now) }
 {
-    let uri = taken_uri(alloc, held, uri)?;
+    let uri = checked_uri(alloc, held, uri)?;
     match read(alloc, bytes) {
         Ok(root) => Ok(Document { uri, root }),
         Err(fault) => Err(unread(alloc, held, fault)),
@@ -184,24 +187,24 @@ fn taken(alloc: Global, held: usize, uri: &str, bytes: &[u8]) -> Result<Document
 }
 
 // A document's URI, unless there are too many documents already.
-fn taken_uri(alloc: Global, held: usize, uri: &str) -> Result<Url, Refusal>
+fn checked_uri(alloc: Global, held: usize, uri: &str) -> Result<Url, Refusal>
     ensures ok { IfOk result (λ u. IsUnder held uri.now u) }
     ensures err { IfErr result (IsUriRefusedBy held uri.now) }
 {
     if MOST_DOCUMENTS <= held {
-        return Err(refused(alloc, held, RefusalKind::TooManyDocuments));
+        return Err(refusal_with(alloc, held, RefusalKind::TooManyDocuments));
     }
     if LONGEST < uri.len() {
-        return Err(refused(alloc, held, RefusalKind::UriTooLong));
+        return Err(refusal_with(alloc, held, RefusalKind::UriTooLong));
     }
-    match document_uri(alloc, uri) {
+    match parsed_uri(alloc, uri) {
         Ok(uri) => Ok(uri),
-        Err(UriFault::Memory) => Err(refused(alloc, held, RefusalKind::Memory)),
-        Err(UriFault::Bad) => Err(refused(alloc, held, RefusalKind::BadUri)),
+        Err(UriFault::Memory) => Err(refusal_with(alloc, held, RefusalKind::Memory)),
+        Err(UriFault::Bad) => Err(refusal_with(alloc, held, RefusalKind::BadUri)),
     }
 }
 
-fn refused(alloc: Global, document: usize, kind: RefusalKind) -> Refusal
+fn refusal_with(alloc: Global, document: usize, kind: RefusalKind) -> Refusal
     ensures { result ≡ record { document = document; place = []; kind = kind } }
 {
     Refusal {
@@ -215,8 +218,8 @@ fn unread(alloc: Global, document: usize, fault: ReadFault) -> Refusal
     ensures { result ≡ refusal_of_read document fault }
 {
     match fault {
-        ReadFault::Memory => refused(alloc, document, RefusalKind::Memory),
-        ReadFault::NotJson => refused(alloc, document, RefusalKind::NotJson),
+        ReadFault::Memory => refusal_with(alloc, document, RefusalKind::Memory),
+        ReadFault::NotJson => refusal_with(alloc, document, RefusalKind::NotJson),
         ReadFault::NotWhole(place) => Refusal {
             document,
             place,
@@ -233,12 +236,12 @@ pub(crate) enum UriFault {
 }
 
 // The URI under which a document is added.
-fn document_uri(alloc: Global, text: &str) -> Result<Url, UriFault>
+fn parsed_uri(alloc: Global, text: &str) -> Result<Url, UriFault>
     ensures ok { IfOk result (λ u. IsUriOf text.now u) }
     ensures err { IfErr result (IsUriFault (parse_url None text.now)) }
 {
     match Url::parse(alloc, text) {
-        Ok(url) => unfragmented(url),
+        Ok(url) => without_empty_fragment(url),
         Err(ParseError::OutOfMemory) => Err(UriFault::Memory),
         Err(ParseError::Overflow) => Err(UriFault::Memory),
         Err(_) => Err(UriFault::Bad),
@@ -246,7 +249,7 @@ fn document_uri(alloc: Global, text: &str) -> Result<Url, UriFault>
 }
 
 // The URL without its fragment, which is to be empty.
-fn unfragmented(url: Url) -> Result<Url, UriFault>
+fn without_empty_fragment(url: Url) -> Result<Url, UriFault>
     ensures ok { IfOk result (λ u. (spec.raw_fragment url ≡ []) × (u ≡ spec.without_fragment url)) }
     ensures err { IfErr result (IsUriFault (Ok url)) }
 {

@@ -1,14 +1,26 @@
 //! What finds places without a search: by the URI of a resource, by where they stand, by the names that they make.
 ghost use Rattle.std.specs.Prelude.{◌≡◌, [], OnOk, string_bytes, option_copied, option_to_list};
-ghost use Rattle.js_bundle.specs.code.Index.{ArePut, IsAdded, IsIndex, place_key, name_keys_by, name_keys, root_uris, made_uris};
+ghost use Rattle.js_bundle.specs.code.Index.{AreInserted, HasPlaceAdded, IsIndexOf, place_key, name_keys_by, name_keys, root_uris, made_uris};
 ghost use Rattle.js_bundle.specs.Names.{known_as};
 ghost use Rattle.js_bundle.specs.code.Scan.{site_of};
 
-use crate::keys::name_key;
+pub(crate) mod edges;
+pub(crate) mod keys;
+pub(crate) mod keyword_table;
+pub(crate) mod location;
+pub(crate) mod numbering;
+pub(crate) mod parts_by_place;
+pub(crate) mod place_by_uri;
+pub(crate) mod positions;
+pub(crate) mod resource_table;
+pub(crate) mod sparse_list;
+pub(crate) mod text_prefix;
+
+use crate::index::keys::name_key;
+use crate::index::numbering::Numbering;
+use crate::index::place_by_uri::is_root;
 use crate::keyword::text_argument;
-use crate::names::is_root;
-use crate::numbering::Numbering;
-use crate::site::Site;
+use crate::scan::site::Site;
 use crate::uri;
 use js_doc::Memory;
 use std::alloc::Global;
@@ -27,7 +39,7 @@ pub(crate) struct Index {
 impl Index {
     /// The index of no places.
     pub(crate) fn new(alloc: Global) -> Index
-        ensures { IsIndex result [] }
+        ensures { IsIndexOf result [] }
     {
         Index {
             known: Numbering::new(alloc),
@@ -37,7 +49,7 @@ impl Index {
     }
 
     /// Adds the next place, which stands under this key.
-    pub(crate) fn add(
+    pub(crate) fn add_place(
         &mut self,
         alloc: Global,
         site: &Site<'_>,
@@ -45,13 +57,13 @@ impl Index {
         key: String,
     ) -> Result<(), Memory>
         requires { string_bytes key ≡ place_key site.now.document site.now.pointer.value }
-        ensures { OnOk result (IsAdded self.old (site_of site.now) number self.new) }
+        ensures { OnOk result (HasPlaceAdded self.old (site_of site.now) number self.new) }
     {
         // read, so that it is known to be small: keys of different documents then differ
         let _document = site.document;
-        put_known(alloc, &mut self.known, site, number)?;
-        self.places.put(key, number)?;
-        put_names(alloc, &mut self.names, site, number)
+        insert_uris(alloc, &mut self.known, site, number)?;
+        self.places.insert_first(key, number)?;
+        insert_names(alloc, &mut self.names, site, number)
     }
 }
 
@@ -77,44 +89,44 @@ fn made_uri<'s>(site: &'s Site<'_>) -> Option<&'s str>
     }
 }
 
-fn put_known(
+fn insert_uris(
     alloc: Global,
     known: &mut Numbering,
     site: &Site<'_>,
     number: usize,
 ) -> Result<(), Memory>
-    ensures { OnOk result (ArePut known.old (known_as (site_of site.now)) number known.new) }
+    ensures { OnOk result (AreInserted known.old (known_as (site_of site.now)) number known.new) }
 {
-    known.put_given(alloc, root_uri(site), number)?;
-    known.put_given(alloc, made_uri(site), number)
+    known.insert_first_given(alloc, root_uri(site), number)?;
+    known.insert_first_given(alloc, made_uri(site), number)
 }
 
-fn put_name(
+fn insert_name(
     alloc: Global,
     names: &mut Numbering,
     site: &Site<'_>,
     keyword: &str,
     number: usize,
 ) -> Result<(), Memory>
-    ensures { OnOk result (ArePut names.old (name_keys_by keyword.now (site_of site.now)) number names.new) }
+    ensures { OnOk result (AreInserted names.old (name_keys_by keyword.now (site_of site.now)) number names.new) }
 {
     match text_argument(site.schema, keyword) {
         Some(name) => {
             let key = name_key(alloc, site.document, &site.own.resource, name)?;
-            names.put(key, number)
+            names.insert_first(key, number)
         }
         None => Ok(()),
     }
 }
 
-fn put_names(
+fn insert_names(
     alloc: Global,
     names: &mut Numbering,
     site: &Site<'_>,
     number: usize,
 ) -> Result<(), Memory>
-    ensures { OnOk result (ArePut names.old (name_keys (site_of site.now)) number names.new) }
+    ensures { OnOk result (AreInserted names.old (name_keys (site_of site.now)) number names.new) }
 {
-    put_name(alloc, names, site, "$anchor", number)?;
-    put_name(alloc, names, site, "$dynamicAnchor", number)
+    insert_name(alloc, names, site, "$anchor", number)?;
+    insert_name(alloc, names, site, "$dynamicAnchor", number)
 }

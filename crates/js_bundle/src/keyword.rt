@@ -11,7 +11,7 @@ pub(crate) fn argument<'a>(schema: &'a Doc, keyword: &str) -> Option<&'a Doc>
     ensures { option_map (λ d. value_of d.now) result ≡ argument keyword.now (value_of schema.now) }
 {
     match schema {
-        Doc::Members(members) => member(members, keyword),
+        Doc::Members(members) => member_value(members, keyword),
         _ => None,
     }
 }
@@ -23,7 +23,7 @@ pub(crate) fn has(schema: &Doc, keyword: &str) -> bool
     argument(schema, keyword).is_some()
 }
 
-fn member<'a>(members: &'a Members, name: &str) -> Option<&'a Doc>
+fn member_value<'a>(members: &'a Members, name: &str) -> Option<&'a Doc>
     ensures { option_map (λ d. value_of d.now) result ≡ get name.now members.now }
 {
     members.get(name)

@@ -2,46 +2,26 @@
 ghost use Rattle.std.specs.Prelude.{◌≡◌, [], ◌∷◌, ◌++◌, OnOk, IfOk, map};
 ghost use Rattle.js_doc.specs.Seen.{value_of};
 ghost use Rattle.js_doc.specs.Value as spec;
-ghost use Rattle.js_bundle.specs.Place.{holding};
 ghost use Rattle.js_bundle.specs.code.Scan.{SameFront, site_of, site_scanned, handed_down, sites_held, sites_at, sites_of_keyword, sites_of_keywords, sites_in_list, sites_of_items, sites_in_object, sites_of_members, scanned};
 ghost use Rattle.js_bundle.specs.Resource.{root_scope};
 ghost use Rattle.js_bundle.specs.Seen.{document_of};
 
+pub(crate) mod holding;
+pub(crate) mod pointers;
+pub(crate) mod scope;
+pub(crate) mod site;
+
 use crate::document::Document;
-use crate::holding::Holding;
-use crate::pointers::shared_further;
-use crate::scope::{Scope, Scopes, scopes_at};
-use crate::site::Site;
+use crate::scan::holding::{Holding, holding_of};
+use crate::scan::pointers::shared_further;
+use crate::scan::scope::{Scope, Scopes, scopes_at};
+use crate::scan::site::Site;
 use js_doc::{Doc, Members, Memory, Pointer};
 use std::alloc::Global;
 use std::sync::Arc;
 
 /// The scan lists no more places: one more than a bundle may have.
 const MOST_SITES: usize = 100_001;
-
-/// How a keyword's argument holds schemas.
-#[tactic(auto, unfolding(crate::specs::Place::holding))]
-pub(crate) fn holding_of(keyword: &str) -> Holding
-    ensures { result ≡ holding keyword.now }
-{
-    match keyword {
-        "not"
-        | "if"
-        | "then"
-        | "else"
-        | "items"
-        | "contains"
-        | "additionalProperties"
-        | "propertyNames"
-        | "unevaluatedItems"
-        | "unevaluatedProperties" => Holding::One,
-        "allOf" | "anyOf" | "oneOf" | "prefixItems" => Holding::Listed,
-        "$defs" | "definitions" | "properties" | "patternProperties" | "dependentSchemas" => {
-            Holding::Named
-        }
-        _ => Holding::Nothing,
-    }
-}
 
 // Lists one place, and answers the scope of what stands below it.
 fn add_site<'a>(
@@ -223,7 +203,7 @@ fn scan_document<'a>(
     ensures { OnOk result (SameFront (map site_of out.new.items) (map site_of out.old.items
         ++ sites_at number (root_scope document.now.uri) [] (value_of document.now.root))) }
 {
-    let above = Scope::root(alloc, &document.uri)?;
+    let above = Scope::of_document(alloc, &document.uri)?;
     let at = Arc::new(alloc, Pointer::new(alloc))?;
     scan_schema(alloc, out, number, &above, &at, &document.root)
 }

@@ -4,13 +4,14 @@ ghost use Rattle.js_doc.specs.Seen.{value_of};
 ghost use Rattle.js_bundle.specs.Finding.{tokens_of};
 ghost use Rattle.js_bundle.specs.Location.{absolute, canonical, location};
 ghost use Rattle.js_bundle.specs.Schemas.{is_place, place_at, place_numbers};
-ghost use Rattle.js_bundle.specs.code.Spot.{spot, spot_of};
+ghost use Rattle.js_bundle.specs.code.KeptSite.{kept_site, kept_site_of};
 
+use crate::check::Checked;
+use crate::check::kept_site::KeptSite;
 use crate::document::Document;
-use crate::location::absolute;
+use crate::index::location::absolute_location;
 use crate::place::Place;
 use crate::uri;
-use crate::whole_check::{Checked, Spot};
 use js_doc::{Doc, Memory, Pointer};
 use std::alloc::Global;
 use std::marker::Model;
@@ -31,12 +32,12 @@ impl Model for Schemas {
 
     ghost coded = { documents_code };
 
-    ghost use Rattle.js_bundle.specs.Finished.{IsFinished};
+    ghost use Rattle.js_bundle.specs.Finished.{IsCheckOf};
     ghost use Rattle.js_bundle.specs.Seen.{document_of};
 
     ghost view = { λ s. map document_of s.documents.items };
 
-    ghost invariant = { λ s. IsFinished (map document_of s.documents.items) s.kept };
+    ghost invariant = { λ s. IsCheckOf (map document_of s.documents.items) s.kept };
 }
 
 impl Schemas {
@@ -44,15 +45,15 @@ impl Schemas {
     pub fn has(&self, place: Place) -> bool
         ensures { result ≡ is_place self.now place }
     {
-        place.number < self.kept.spots.len()
+        place.number < self.kept.sites.len()
     }
 
     // What is kept of a place.
-    pub(crate) fn spot(&self, place: Place) -> &Spot
+    pub(crate) fn kept_site(&self, place: Place) -> &KeptSite
         requires { is_place self.now place ≡ true }
-        ensures { option_map spot (place_at self.now place) ≡ Some (spot_of result.now) }
+        ensures { option_map kept_site (place_at self.now place) ≡ Some (kept_site_of result.now) }
     {
-        &self.kept.spots[place.number]
+        &self.kept.sites[place.number]
     }
 
     /// The number of the place's document, the first one's 0.
@@ -60,7 +61,7 @@ impl Schemas {
         requires { is_place self.now place ≡ true }
         ensures { option_map (λ s. s.document) (place_at self.now place) ≡ Some result }
     {
-        self.spot(place).document
+        self.kept_site(place).document
     }
 
     /// Where in its document the place stands.
@@ -68,7 +69,7 @@ impl Schemas {
         requires { is_place self.now place ≡ true }
         ensures { option_map (λ s. s.pointer) (place_at self.now place) ≡ Some result.now }
     {
-        &self.spot(place).pointer
+        &self.kept_site(place).pointer
     }
 
     /// The schema that stands at the place.
@@ -76,9 +77,9 @@ impl Schemas {
         requires { is_place self.now place ≡ true }
         ensures { option_map (λ s. s.schema) (place_at self.now place) ≡ Some (value_of result.now) }
     {
-        let spot = self.spot(place);
-        let root = &self.documents[spot.document].root;
-        match root.at(&spot.pointer) {
+        let site = self.kept_site(place);
+        let root = &self.documents[site.document].root;
+        match root.at(&site.pointer) {
             Some(schema) => schema,
             None => root, // never: a place stands in its document
         }
@@ -89,7 +90,7 @@ impl Schemas {
         requires { is_place self.now place ≡ true }
         ensures { option_map canonical (place_at self.now place) ≡ Some result.now }
     {
-        uri::text_of(&self.spot(place).own.base)
+        uri::text_of(&self.kept_site(place).own.base)
     }
 
     /// The absolute location of the place, or of a keyword of it (JSON Schema Core, section 12.3.2): the canonical URI
@@ -107,8 +108,8 @@ impl Schemas {
         ensures { IfOk result (λ t. option_map (λ s. absolute s (tokens_of keyword.entry)) (place_at self.now place)
             ≡ Some (string_bytes t)) }
     {
-        let spot = self.spot(place);
-        absolute(alloc, &spot.own, &spot.pointer, keyword)
+        let site = self.kept_site(place);
+        absolute_location(alloc, &site.own, &site.pointer, keyword)
     }
 
     /// The absolute location of the place, lent.
@@ -128,7 +129,7 @@ impl Schemas {
         ensures { IfOk result (λ v. v.items ≡ place_numbers self.now) }
     {
         let mut places = Vec::new(alloc);
-        for number in 0..self.kept.spots.len() {
+        for number in 0..self.kept.sites.len() {
             places.push(Place { number })?;
         }
         Ok(places)

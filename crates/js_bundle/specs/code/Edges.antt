@@ -2,10 +2,10 @@
 -- place that a place holds comes next, and the next one after all that stand below that.
 use Rattle.std.specs.Prelude.{ℕ, suc, ◌+◌, List, [], ◌∷◌, ◌++◌, map}
 use Rattle.js_doc.specs.Value.{Value, list, object, Items, no_items, item, Members, no_members, member}
-use Rattle.js_bundle.specs.declared.edges.Edges.{Edges}
-use Rattle.js_bundle.specs.declared.edges.HeldPlaces.{HeldPlaces}
-use Rattle.js_bundle.specs.declared.holding.Holding.{Holding}
-use Rattle.js_bundle.specs.declared.holding.Holding.TheVariants.{One, Listed, Named, Nothing}
+use Rattle.js_bundle.specs.declared.index.edges.Edges.{Edges}
+use Rattle.js_bundle.specs.declared.index.edges.HeldPlaces.{HeldPlaces}
+use Rattle.js_bundle.specs.declared.scan.holding.Holding.{Holding}
+use Rattle.js_bundle.specs.declared.scan.holding.Holding.TheVariants.{One, Listed, Named, Nothing}
 use Rattle.js_bundle.specs.declared.keyword_name.KeywordName.{KeywordName}
 use Rattle.js_bundle.specs.Document.{Documents}
 use Rattle.js_bundle.specs.Keyword.{Text}
@@ -72,62 +72,62 @@ abbrev pub numbers_held : Holding → ℕ → Value → List ℕ
 numbers_held h n v = by_holding [] h (n ∷ []) (numbers_in_list n v) (numbers_in_object n v)
 
 -- a keyword that holds schemas, with their numbers
-abbrev pub Held : Type 0
-Held = KeywordName × List ℕ
+abbrev pub HeldNumbers : Type 0
+HeldNumbers = KeywordName × List ℕ
 
 -- an entry for a keyword that holds schemas, none for another one
 abbrev pub one_entry : {A : Type 0} → Holding → A → List A
 one_entry h entry = by_holding [] h (entry ∷ []) (entry ∷ []) (entry ∷ [])
 
-abbrev pub held_by_keywords : ℕ → Members → List Held
+abbrev pub held_by_keywords : ℕ → Members → List HeldNumbers
 held_by_keywords n no_members = []
 held_by_keywords n (member k v ms) = one_entry (holding k) (keyword_name k, numbers_held (holding k) n v) ++ held_by_keywords (n + count_of_keyword k v) ms
 
 -- what the keywords of the place with this number hold
-abbrev pub held_at : ℕ → Value → List Held
-held_at n (object ms) = held_by_keywords (suc n) ms
-held_at n _ = []
+abbrev pub held_by_place : ℕ → Value → List HeldNumbers
+held_by_place n (object ms) = held_by_keywords (suc n) ms
+held_by_place n _ = []
 
 -- ---- those of a place and of all below it, in scan order
 
 abbrev mutual
-  pub edges_at : ℕ → Value → List (List Held)
+  pub edges_at : ℕ → Value → List (List HeldNumbers)
   edges_at n (object ms) = held_by_keywords (suc n) ms ∷ edges_of_keywords (suc n) ms
   edges_at n _ = [] ∷ []
 
-  pub edges_of_keywords : ℕ → Members → List (List Held)
+  pub edges_of_keywords : ℕ → Members → List (List HeldNumbers)
   edges_of_keywords n no_members = []
   edges_of_keywords n (member k v ms) =
       by_holding [] (holding k) (edges_at n v) (edges_in_list n v) (edges_in_object n v) ++ edges_of_keywords (n + count_of_keyword k v) ms
 
-  pub edges_in_list : ℕ → Value → List (List Held)
+  pub edges_in_list : ℕ → Value → List (List HeldNumbers)
   edges_in_list n (list vs) = edges_of_items n vs
   edges_in_list n _ = []
 
-  pub edges_of_items : ℕ → Items → List (List Held)
+  pub edges_of_items : ℕ → Items → List (List HeldNumbers)
   edges_of_items n no_items = []
   edges_of_items n (item v vs) = edges_at n v ++ edges_of_items (n + count v) vs
 
-  pub edges_in_object : ℕ → Value → List (List Held)
+  pub edges_in_object : ℕ → Value → List (List HeldNumbers)
   edges_in_object n (object ms) = edges_of_members n ms
   edges_in_object n _ = []
 
-  pub edges_of_members : ℕ → Members → List (List Held)
+  pub edges_of_members : ℕ → Members → List (List HeldNumbers)
   edges_of_members n no_members = []
   edges_of_members n (member name v ms) = edges_at n v ++ edges_of_members (n + count v) ms
 
-abbrev pub edges_held : Holding → ℕ → Value → List (List Held)
+abbrev pub edges_held : Holding → ℕ → Value → List (List HeldNumbers)
 edges_held h n v = by_holding [] h (edges_at n v) (edges_in_list n v) (edges_in_object n v)
 
 -- of the documents, whose first place has the number n
-abbrev pub edges_from : ℕ → Documents → List (List Held)
+abbrev pub edges_from : ℕ → Documents → List (List HeldNumbers)
 edges_from n [] = []
 edges_from n (d ∷ ds) = edges_at n d.root ++ edges_from (n + count d.root) ds
 
 -- ---- what the code has
 
-abbrev pub held_of : HeldPlaces → Held
+abbrev pub held_of : HeldPlaces → HeldNumbers
 held_of h = (h.keyword, h.places.items)
 
-abbrev pub edges_of : Edges → List Held
+abbrev pub edges_of : Edges → List HeldNumbers
 edges_of e = map held_of e.keywords.items

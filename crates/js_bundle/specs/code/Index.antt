@@ -6,12 +6,12 @@ use Rattle.std.specs.Option.{option_or}
 use Rattle.js_doc.specs.Pointer.{Tokens, pointer_text}
 use Rattle.js_doc.specs.PointerReading.{pointer_of}
 use Rattle.js_bundle.specs.declared.index.Index.{Index}
-use Rattle.js_bundle.specs.declared.names.Root.{Root}
-use Rattle.js_bundle.specs.declared.numbering.Numbering.{Numbering}
+use Rattle.js_bundle.specs.declared.index.place_by_uri.Root.{Root}
+use Rattle.js_bundle.specs.declared.index.numbering.Numbering.{Numbering}
 use Rattle.js_bundle.specs.Keyword.{Text, text_argument}
 use Rattle.js_bundle.specs.Names.{is_pointer, is_root, known_as}
 use Rattle.js_bundle.specs.Resource.{Site}
-use Rattle.js_bundle.specs.code.Spot.{Spot}
+use Rattle.js_bundle.specs.code.KeptSite.{KeptSite}
 use Rattle.js_bundle.specs.Url.{printed}
 
 -- ---- numbers under texts
@@ -20,7 +20,7 @@ abbrev pub number_of_key : Numbering → Text → Option ℕ
 number_of_key numbers key = get_by_text numbers.first key
 
 -- each of the keys has the number, unless it had one before
-pub record ArePut (old : Numbering) (keys : List Text) (n : ℕ) (new : Numbering) : Type 0 where
+pub record AreInserted (old : Numbering) (keys : List Text) (n : ℕ) (new : Numbering) : Type 0 where
   pub told : (key : Text) → number_of_key new key ≡ option_or (number_of_key old key) (if list_any (bytes_eq key) keys then Some n else None)
 
 -- ---- the keys of a place
@@ -55,18 +55,18 @@ name_keys place = name_keys_by (codes "$anchor") place ++ name_keys_by (codes "$
 pub record FindsFirst (keys : Site → List Text) (numbers : Numbering) (places : List Site) : Type 0 where
   pub first : (key : Text) → number_of_key numbers key ≡ position_from (λ place. list_any (bytes_eq key) (keys place)) 0 places
 
-pub record IsIndex (index : Index) (all : List Site) : Type 0 where
+pub record IsIndexOf (index : Index) (all : List Site) : Type 0 where
   pub counted : AllByRecursion (λ place. place.document < 2 ^ 64) all
   pub known : FindsFirst known_as index.known all
   pub standing : FindsFirst place_keys index.places all
   pub named : FindsFirst name_keys index.names all
 
 -- a place more
-pub record IsAdded (old : Index) (place : Site) (n : ℕ) (new : Index) : Type 0 where
+pub record HasPlaceAdded (old : Index) (place : Site) (n : ℕ) (new : Index) : Type 0 where
   pub counted : place.document < 2 ^ 64
-  pub known : ArePut old.known (known_as place) n new.known
-  pub standing : ArePut old.places (place_keys place) n new.places
-  pub named : ArePut old.names (name_keys place) n new.names
+  pub known : AreInserted old.known (known_as place) n new.known
+  pub standing : AreInserted old.places (place_keys place) n new.places
+  pub named : AreInserted old.names (name_keys place) n new.names
 
 -- ---- what the index tells
 
@@ -100,5 +100,5 @@ standing place = record { document = place.document; pointer = place.pointer }
 abbrev pub standing_of : Root → Standing
 standing_of root = record { document = root.document; pointer = root.pointer.now }
 
-abbrev pub spot_standing : Spot → Standing
-spot_standing spot = record { document = spot.document; pointer = spot.pointer }
+abbrev pub kept_standing : KeptSite → Standing
+kept_standing kept_site = record { document = kept_site.document; pointer = kept_site.pointer }

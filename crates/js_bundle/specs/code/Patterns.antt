@@ -1,6 +1,6 @@
 -- The patterns of `patternProperties` as they are kept, each under its name, which is its text.
 use Rattle.std.specs.Prelude.{◌≡◌, ℕ, List, Some, slice_get}
-use Rattle.js_bundle.specs.declared.assertions_and_patterns.BuiltPattern.{BuiltPattern}
+use Rattle.js_bundle.specs.declared.check.assertions_and_patterns.BuiltPattern.{BuiltPattern}
 use Rattle.js_bundle.specs.Keyword.{Text}
 
 abbrev pub own : Text → BuiltPattern

@@ -1,4 +1,4 @@
-use Rattle.js_bundle.proofs.RootNumbers.{scope_by_numbers}
+use Rattle.js_bundle.proofs.Indexing.ResourceNumbers.{scope_by_numbers}
 use Rattle.js_bundle.proofs.laws.numbers_tell_the_dynamic_scope.Goals as goal
 
 pub returns : goal.returns

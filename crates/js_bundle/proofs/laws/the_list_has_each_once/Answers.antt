@@ -1,5 +1,5 @@
 use Rattle.std.proofs.Common.{[]}
-use Rattle.js_bundle.proofs.PlacesApart.{apart_at}
+use Rattle.js_bundle.proofs.Listing.PlacesApart.{apart_at}
 use Rattle.js_bundle.proofs.laws.the_list_has_each_once.Goals as goal
 
 pub returns : goal.returns

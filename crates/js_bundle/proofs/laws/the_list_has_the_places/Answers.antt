@@ -1,4 +1,4 @@
-use Rattle.js_bundle.proofs.Listing.{listing}
+use Rattle.js_bundle.proofs.Listing.LeastSetListed.{listing}
 use Rattle.js_bundle.proofs.laws.the_list_has_the_places.Goals as goal
 
 pub returns : goal.returns

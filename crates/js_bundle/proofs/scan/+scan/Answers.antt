@@ -5,7 +5,7 @@ use Rattle.js_doc.specs.Value.{list, object, items, members}
 use Rattle.js_doc.specs.Seen.{value_of, pair_of}
 use Rattle.js_doc.proofs.Smaller.{item_smaller, member_smaller}
 use Rattle.js_bundle.specs.code.Scan.{SameFront, site_of, most_sites, sites_of_keywords, sites_of_members}
-use Rattle.js_bundle.proofs.Scanning.{front_full, item_next, keyword_next, member_next}
+use Rattle.js_bundle.proofs.Listing.ScanNext.{front_full, item_next, keyword_next, member_next}
 use Rattle.js_bundle.proofs.scan.+scan.Goals as goal
 
 pub scan_schema-returns-then-len-ge-MOST_SITES : goal.scan_schema-returns-then-len-ge-MOST_SITES

@@ -1,7 +1,7 @@
 use Rattle.std.proofs.Common.{map, arith}
 use Rattle.js_bundle.specs.Seen.{document_of}
 use Rattle.js_bundle.specs.code.Scan.{site_of, sites_from}
-use Rattle.js_bundle.proofs.Scanning.{document_next, scanned_all}
+use Rattle.js_bundle.proofs.Listing.ScanNext.{document_next, scanned_all}
 use Rattle.js_bundle.proofs.scan.scan.Goals as goal
 
 pub loop-number-preserved : goal.loop-number-preserved

@@ -3,8 +3,8 @@ use Rattle.js_bundle.specs.Candidate.{IsClear}
 use Rattle.js_bundle.specs.Depth.{NoneTooDeep}
 use Rattle.js_bundle.specs.Refusals.{candidates}
 use Rattle.js_bundle.specs.Seen.{document_of}
-use Rattle.js_bundle.proofs.Depth.{none_too_deep}
-use Rattle.js_bundle.proofs.Stopping.{none_decided}
+use Rattle.js_bundle.proofs.Checking.Depth.{none_too_deep}
+use Rattle.js_bundle.proofs.Checking.CheckStops.{none_decided}
 use Rattle.js_bundle.proofs.bundle.Bundle.finish.Goals as goal
 
 pub returns-in-Ok-clause-none : goal.returns-in-Ok-clause-none

@@ -1,4 +1,4 @@
-use Rattle.js_bundle.proofs.KeywordTables.{applying_is, other_is}
+use Rattle.js_bundle.proofs.NameTables.{applying_is, other_is}
 use Rattle.js_bundle.proofs.keyword_name.KeywordName.of.Goals as goal
 
 pub returns-in-Some : goal.returns-in-Some

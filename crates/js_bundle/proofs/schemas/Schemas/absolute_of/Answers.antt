@@ -1,7 +1,7 @@
 use Rattle.std.proofs.Common.{map, Some, ap, ◌∙◌, sym}
 use Rattle.js_bundle.specs.Location.{location}
 use Rattle.js_bundle.specs.Seen.{document_of}
-use Rattle.js_bundle.proofs.Kept.{kept_as}
+use Rattle.js_bundle.proofs.Finding.KeptOfPlaces.{kept_as}
 use Rattle.js_bundle.proofs.schemas.Schemas.absolute_of.Goals as goal
 
 pub returns : goal.returns

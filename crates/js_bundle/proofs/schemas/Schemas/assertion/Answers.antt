@@ -1,5 +1,5 @@
 use Rattle.std.proofs.Common.{option_map}
-use Rattle.js_bundle.proofs.UnderNumber.{assertion_is}
+use Rattle.js_bundle.proofs.Finding.KeptUnderNumber.{assertion_is}
 use Rattle.js_bundle.proofs.schemas.Schemas.assertion.Goals as goal
 
 pub returns : goal.returns

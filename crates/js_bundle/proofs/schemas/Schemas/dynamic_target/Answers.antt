@@ -2,11 +2,11 @@ use Rattle.std.proofs.Common.{map, nat_eq}
 use Rattle.indexmap.specs.IndexMap.{get}
 use Rattle.js_bundle.specs.Schemas.{path_at}
 use Rattle.js_bundle.specs.Seen.{document_of}
-use Rattle.js_bundle.proofs.Dynamic.{reference_is, target_place, led, reference_missing}
+use Rattle.js_bundle.proofs.Finding.DynamicTargets.{reference_is, target_place, led, reference_missing}
 use Rattle.js_bundle.proofs.schemas.Schemas.dynamic_target.Goals as goal
 
-pub led_to-requires : goal.led_to-requires
-led_to-requires c =
+pub target_by_path-requires : goal.target_by_path-requires
+target_by_path-requires c =
     let n = c.place.inside.number in
     target_place c.args.self.now c.args.place c.in-Some.reference
     (reference_is (map document_of c.self.inside.documents.items) c.args.self.now (get nat_eq c.self.inside.kept.references.dynamic) n c.args.place c.in-Some.reference c.self.view_is c.place.view_is c.self.invariant.dynamic
@@ -15,9 +15,9 @@ led_to-requires c =
 pub returns-in-Some : goal.returns-in-Some
 returns-in-Some c =
     let n = c.place.inside.number in
-    led c.args.self.now (path_at c.args.self.now c.args.path.now) c.args.place c.led_to.result c.in-Some.reference
+    led c.args.self.now (path_at c.args.self.now c.args.path.now) c.args.place c.target_by_path.result c.in-Some.reference
     (reference_is (map document_of c.self.inside.documents.items) c.args.self.now (get nat_eq c.self.inside.kept.references.dynamic) n c.args.place c.in-Some.reference c.self.view_is c.place.view_is c.self.invariant.dynamic
-    c.in-Some.ensures) c.led_to.ensures
+    c.in-Some.ensures) c.target_by_path.ensures
 
 pub returns-in-None : goal.returns-in-None
 returns-in-None c =

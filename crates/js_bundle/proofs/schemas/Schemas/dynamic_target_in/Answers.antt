@@ -3,11 +3,11 @@ use Rattle.indexmap.specs.IndexMap.{get}
 use Rattle.js_bundle.specs.Resource.{sites}
 use Rattle.js_bundle.specs.ResourceNumber.{roots_at}
 use Rattle.js_bundle.specs.Seen.{document_of}
-use Rattle.js_bundle.proofs.Dynamic.{reference_is, target_place, led, reference_missing}
+use Rattle.js_bundle.proofs.Finding.DynamicTargets.{reference_is, target_place, led, reference_missing}
 use Rattle.js_bundle.proofs.schemas.Schemas.dynamic_target_in.Goals as goal
 
-pub led_in-requires : goal.led_in-requires
-led_in-requires c =
+pub target_by_numbers-requires : goal.target_by_numbers-requires
+target_by_numbers-requires c =
     let n = c.place.inside.number in
     target_place c.args.self.now c.args.place c.in-Some.reference
     (reference_is (map document_of c.self.inside.documents.items) c.args.self.now (get nat_eq c.self.inside.kept.references.dynamic) n c.args.place c.in-Some.reference c.self.view_is c.place.view_is c.self.invariant.dynamic
@@ -16,9 +16,9 @@ led_in-requires c =
 pub returns-in-Some : goal.returns-in-Some
 returns-in-Some c =
     let n = c.place.inside.number in
-    led c.args.self.now (roots_at (sites c.args.self.now) c.args.resources.now) c.args.place c.led_in.result c.in-Some.reference
+    led c.args.self.now (roots_at (sites c.args.self.now) c.args.resources.now) c.args.place c.target_by_numbers.result c.in-Some.reference
     (reference_is (map document_of c.self.inside.documents.items) c.args.self.now (get nat_eq c.self.inside.kept.references.dynamic) n c.args.place c.in-Some.reference c.self.view_is c.place.view_is c.self.invariant.dynamic
-    c.in-Some.ensures) c.led_in.ensures
+    c.in-Some.ensures) c.target_by_numbers.ensures
 
 pub returns-in-None : goal.returns-in-None
 returns-in-None c =

@@ -1,5 +1,5 @@
 use Rattle.std.proofs.Common.{[], ◌∷◌, ◌++◌, sym, ap, ◌∙◌}
-use Rattle.js_bundle.proofs.Kept.{one_more}
+use Rattle.js_bundle.proofs.Finding.KeptOfPlaces.{one_more}
 use Rattle.js_bundle.proofs.schemas.Schemas.places.Goals as goal
 
 pub loop-number-preserved : goal.loop-number-preserved

@@ -4,11 +4,11 @@ use Rattle.js_doc.specs.Seen.{value_of}
 use Rattle.js_bundle.specs.Schemas.{step_of}
 use Rattle.js_bundle.specs.Seen.{document_of}
 use Rattle.js_bundle.specs.code.Edges.{edges_of}
-use Rattle.js_bundle.specs.code.Held.{places_of, IsNumberAt}
-use Rattle.js_bundle.specs.code.Spot.{spot_of}
-use Rattle.js_bundle.proofs.Absent.{finds_nothing}
-use Rattle.js_bundle.proofs.Held.{held_found}
-use Rattle.js_bundle.proofs.HeldNumbers.{finds_by_number}
+use Rattle.js_bundle.specs.code.PlaceBelow.{numbers_of_keyword, IsNumberAt}
+use Rattle.js_bundle.specs.code.KeptSite.{kept_site_of}
+use Rattle.js_bundle.proofs.Finding.NoPlaceBelow.{finds_nothing}
+use Rattle.js_bundle.proofs.Finding.HeldIsFound.{held_found}
+use Rattle.js_bundle.proofs.Finding.HeldByNumber.{finds_by_number}
 use Rattle.js_bundle.proofs.SchemaBelow.{finds_held_by, schema_with}
 use Rattle.js_bundle.proofs.schemas.Schemas.schema_below.Goals as goal
 
@@ -20,10 +20,10 @@ returns-in-Some-clause-found c =
     let found = option_map (λ e. e.0) c.place_with.result in
     finds_held_by c.args.self.now c.args.place c.args.keyword.now (step_of c.args.step) (value_of c.args.schema.now) (value_of c.in-Some.held.now) (option_map (λ e. e.0) c.place_with.result)
     c.requires.schema c.in-Some.ensures.held.0 c.in-Some.ensures.held.1
-    (finds_by_number (map document_of c.self.inside.documents.items) c.args.self.now c.self.inside.kept.spots.items c.self.inside.kept.edges.items n c.args.place c.args.keyword.now step c.of.result numbers found
-    c.self.view_is c.place.view_is c.self.invariant.read c.self.invariant.spots c.self.invariant.edges c.of.ensures
-    (c.places_under-places.ensures ∙ ap (λ es. option_map_or (places_of c.of.result) (slice_get (map edges_of es) n) []) c.as_slice-edges.ensures.value)
-    (λ m h. c.place_with.ensures.found m (subst (λ ss. IsNumberAt (map spot_of ss) numbers step m) (sym c.as_slice.ensures.value) h)))
+    (finds_by_number (map document_of c.self.inside.documents.items) c.args.self.now c.self.inside.kept.sites.items c.self.inside.kept.edges.items n c.args.place c.args.keyword.now step c.of.result numbers found
+    c.self.view_is c.place.view_is c.self.invariant.read c.self.invariant.kept_sites c.self.invariant.edges c.of.ensures
+    (c.places_under-places.ensures ∙ ap (λ es. option_map_or (numbers_of_keyword c.of.result) (slice_get (map edges_of es) n) []) c.as_slice-edges.ensures.value)
+    (λ m h. c.place_with.ensures.found m (subst (λ ss. IsNumberAt (map kept_site_of ss) numbers step m) (sym c.as_slice.ensures.value) h)))
 
 pub returns-in-Some-clause-held : goal.returns-in-Some-clause-held
 returns-in-Some-clause-held c =

@@ -1,0 +1,28 @@
+-- What the text of a reference leads to.
+use Rattle.std.proofs.Common.{◌≡◌, ℕ, List, length, nat_lt, Some, None, Ok, false, option_map, option_and_then, slice_get, if◌then◌else◌, codes, sym, ap, ap₂, ◌∙◌}
+use Rattle.std.specs.Option.{option_map_or}
+use Rattle.url.specs.Parts.{Parts}
+use Rattle.url.specs.Parser.{parse_url}
+use Rattle.js_bundle.specs.Finding.{number_named, dynamic_as, dynamic_by}
+use Rattle.js_bundle.specs.Keyword.{Text, text_argument}
+use Rattle.js_bundle.specs.Names.{makes, names, named}
+use Rattle.js_bundle.specs.Resource.{Site, joined}
+use Rattle.js_bundle.specs.Target.{reference}
+use Rattle.js_bundle.specs.Url.{longest_uri, fragment, parsed}
+use Rattle.js_bundle.proofs.Finding.FoundByText.{found_at}
+
+-- a text that is joined to a URL
+joined_is : (base : Parts) (t : Text) (u : Parts) → nat_lt longest_uri (length t) ≡ false → parse_url (Some base) t ≡ Ok u → joined base t ≡ Some u
+joined_is base t u short read = ap (λ b. if b then None else parsed (parse_url (Some base) t)) short ∙ ap parsed read
+
+pub reference_is : (keyword : Text) (place : Site) (t : Text) (u : Parts) → Some t ≡ text_argument keyword place.schema → nat_lt longest_uri (length t) ≡ false
+    → parse_url (Some place.own.base) t ≡ Ok u → reference keyword place ≡ Some u
+reference_is keyword place t u is short read = ap (option_and_then (joined place.own.base)) (sym is) ∙ joined_is place.own.base t u short read
+
+-- ---- a `$dynamicRef`
+
+pub dynamic_found : (all : List Site) (uri : Parts) (n : ℕ) → number_named all uri ≡ Some n
+    → Some (dynamic_as (option_map_or (makes (codes "$dynamicAnchor") (fragment uri)) (slice_get all n) false) n) ≡ dynamic_by all (Some uri)
+dynamic_found all uri n e =
+    let first : slice_get all n ≡ named all uri = ap (option_and_then (slice_get all)) (sym e) ∙ found_at (names all uri) all in
+    ap₂ (λ o t. option_map (dynamic_as (option_map_or (makes (codes "$dynamicAnchor") (fragment uri)) o false)) t) first (sym e)

@@ -1,0 +1,220 @@
+-- What a number finds in a list; and what was built of a place, by its name.
+use Rattle.std.proofs.Common.{◌≡◌, ℕ, suc, ◌+◌, List, [], ◌∷◌, ◌++◌, Bool, true, false, cond, if◌then◌else◌, map, nat_eq, inl, inr, codes, option_to_list, Option, Some, None, option_map, option_and_then, slice_get, find, flat_map, refl, sym, ap, ◌∙◌, subst, arith}
+use Rattle.std.specs.List.{position_from}
+use Rattle.std.specs.Option.{option_or}
+use Rattle.std.specs.Str.{bytes_eq}
+use Rattle.std.proofs.lemmas.Bool.{eqb-false}
+use Rattle.std.proofs.lemmas.List.{append-nil}
+use Rattle.std.proofs.lemmas.List.Folds.{find-append}
+use Rattle.js_doc.specs.Members.{get, NamesAscend, NamesAscendInMembers}
+use Rattle.js_doc.specs.Value.{Value, null, truth, whole, text, list, object, Members, no_members, member, Named}
+use Rattle.js_doc.proofs.Named.{is_text-refl, is_text-sound, member_is}
+use Rattle.js_assert.specs.Argument.{has}
+use Rattle.js_assert.specs.Assertion.{Asserted}
+use Rattle.js_assert.specs.Keyword.{keyword_named, name_of}
+use Rattle.js_assert.proofs.Named.{named-name_of}
+use Rattle.js_bundle.specs.declared.check.assertions_and_patterns.BuiltPattern.{BuiltPattern}
+use Rattle.js_bundle.specs.AssertionsAndPatterns.{assertions_at, pattern_at, patterns_of, patterns_at}
+use Rattle.js_bundle.specs.Keyword.{Text, member_pairs, keywords, argument}
+use Rattle.js_bundle.specs.Resource.{Site}
+use Rattle.js_bundle.specs.Schemas.{assertion, pattern}
+use Rattle.js_bundle.proofs.Listing.LeastSetListed.{Among}
+use Rattle.js_bundle.proofs.Listing.PlacesApart.{below_all, less_apart}
+
+-- ---- the first that passes, and its number
+
+pub record IsNumbered {A : Type 0} (f : A → Bool) (n : ℕ) (xs : List A) (k : ℕ) : Type 0 where
+  pub index : ℕ
+  pub is : k ≡ n + index
+  pub element : A
+  pub found : find f xs ≡ Some element
+  pub stands : slice_get xs index ≡ Some element
+  pub passes : f element ≡ true
+
+numbered_by : {A : Type 0} (f : A → Bool) (n : ℕ) (x : A) (xs : List A) (k : ℕ) (b : Bool) → f x ≡ b → position_from f n (x ∷ xs) ≡ Some k
+    → (position_from f (n + 1) xs ≡ Some k → IsNumbered f (n + 1) xs k) → IsNumbered f n (x ∷ xs) k
+numbered_by f n x xs k true e h more =
+    let same : Some n ≡ Some k = sym (ap (λ b. cond b (Some n) (position_from f (n + 1) xs)) e) ∙ h in
+    let number : n ≡ k = cc in
+    record { index = 0; is = omega (arith, number); element = x; found = ap (λ b. cond b (Some x) (find f xs)) e; stands = refl; passes = e }
+numbered_by f n x xs k false e h more =
+    let m = more (sym (ap (λ b. cond b (Some n) (position_from f (n + 1) xs)) e) ∙ h) in
+    record { index = suc m.index; is = omega (arith, m.is); element = m.element; found = ap (λ b. cond b (Some x) (find f xs)) e ∙ m.found; stands = m.stands; passes = m.passes }
+
+numbered_from : {A : Type 0} (f : A → Bool) (n : ℕ) (xs : List A) (k : ℕ) → position_from f n xs ≡ Some k → IsNumbered f n xs k
+numbered_from f n [] k h = absurd (cc)
+numbered_from f n (x ∷ xs) k h = numbered_by f n x xs k (f x) refl h (numbered_from f (n + 1) xs k)
+
+pub number_finds : {A : Type 0} (f : A → Bool) (xs : List A) (n : ℕ) → position_from f 0 xs ≡ Some n → (x : A) × (find f xs ≡ Some x) × (slice_get xs n ≡ Some x)
+number_finds f xs n h =
+    let m = numbered_from f 0 xs n h in
+    let number : m.index ≡ n = omega (arith, m.is) in
+    (m.element, m.found, subst (λ i. slice_get xs i ≡ Some m.element) number m.stands)
+
+-- the same, where the element of that number is known
+pub number_finds_it : {A : Type 0} (f : A → Bool) (xs : List A) (n : ℕ) (x : A) → position_from f 0 xs ≡ Some n → slice_get xs n ≡ Some x → find f xs ≡ Some x
+number_finds_it f xs n x h e = let r = number_finds f xs n h in r.1 ∙ sym r.2 ∙ e
+
+-- it passes the test
+pub number_passes : {A : Type 0} (f : A → Bool) (xs : List A) (n : ℕ) (x : A) → position_from f 0 xs ≡ Some n → slice_get xs n ≡ Some x → f x ≡ true
+number_passes f xs n x h e =
+    let m = numbered_from f 0 xs n h in
+    let number : m.index ≡ n = omega (arith, m.is) in
+    let same : Some m.element ≡ Some x = sym m.stands ∙ ap (slice_get xs) number ∙ e in
+    let element : m.element ≡ x = cc in
+    ap f (sym element) ∙ m.passes
+
+none_by : {A : Type 0} (f : A → Bool) (n : ℕ) (x : A) (xs : List A) (b : Bool) → f x ≡ b → position_from f n (x ∷ xs) ≡ None → (position_from f (n + 1) xs ≡ None → find f xs ≡ None) → find f (x ∷ xs) ≡ None
+none_by f n x xs true e h more = let some : Some n ≡ None = sym (ap (λ b. cond b (Some n) (position_from f (n + 1) xs)) e) ∙ h in absurd (cc)
+none_by f n x xs false e h more = ap (λ b. cond b (Some x) (find f xs)) e ∙ more (sym (ap (λ b. cond b (Some n) (position_from f (n + 1) xs)) e) ∙ h)
+
+pub no_number : {A : Type 0} (f : A → Bool) (n : ℕ) (xs : List A) → position_from f n xs ≡ None → find f xs ≡ None
+no_number f n [] h = refl
+no_number f n (x ∷ xs) h = none_by f n x xs (f x) refl h (no_number f (n + 1) xs)
+
+-- ---- what was built of a place
+
+left_none : {A : Type 0} (a b : Option A) → a ≡ None → option_or a b ≡ b
+left_none a b e = ap (λ x. option_or x b) e
+
+equal_by : (n : ℕ) (b : Bool) → nat_eq n n ≡ b → nat_eq n n ≡ true
+equal_by n true e = e
+equal_by n false e = absurd (eqb-false n n e refl)
+
+pub nat_eq-refl : (n : ℕ) → nat_eq n n ≡ true
+nat_eq-refl n = equal_by n (nat_eq n n) refl
+
+unlike_by : (k l : Text) (b : Bool) → bytes_eq k l ≡ b → ¬ (k ≡ l) → bytes_eq k l ≡ false
+unlike_by k l true e n = absurd (n (is_text-sound k l e))
+unlike_by k l false e n = e
+
+unlike : (k l : Text) → ¬ (k ≡ l) → bytes_eq k l ≡ false
+unlike k l n = unlike_by k l (bytes_eq k l) refl n
+
+-- ---- assertions
+
+pub get_first : (k l : Text) (v : Value) (ms : Named) → get k ((l, v) ∷ ms) ≡ (if bytes_eq k l then Some v else get k ms)
+get_first k l v ms = sym (member_is k ((l, v) ∷ ms)) ∙ ap (λ x. if bytes_eq k l then Some v else x) (member_is k ms)
+
+-- `named` says which names make an assertion, `make` what it is, and `name` what made it: no name of the type between is known here
+module _ {K : Type 0} (named : Text → Option K) (make : Value → K → Asserted) (name : Asserted → Text) (told : (l : Text) (v : Value) (n : K) → named l ≡ Some n → l ≡ name (make v n)) where
+  abbrev one_built : Text × Value → List Asserted
+  one_built m = option_to_list (option_map (make m.1) (named m.0))
+
+  module _ (k : Text) where
+    abbrev under : Asserted → Bool
+    under a = bytes_eq k (name a)
+
+    abbrev asserts : Value → Option Asserted
+    asserts v = option_map (make v) (named k)
+
+    other_passed : (l : Text) (v : Value) (o : Option K) → named l ≡ o → bytes_eq k l ≡ false → find under (option_to_list (option_map (make v) o)) ≡ None
+    other_passed l v None is e = refl
+    other_passed l v (Some n) is e =
+        let other : bytes_eq k (name (make v n)) ≡ false = ap (bytes_eq k) (sym (told l v n is)) ∙ e in
+        ap (λ b. cond b (Some (make v n)) None) other
+
+    -- a name that makes no assertion makes none with any argument
+    gone : (l : Text) (v : Value) (b : Bool) → bytes_eq k l ≡ b → named k ≡ None → find under (one_built (l, v)) ≡ None
+    gone l v true e none =
+        let same : k ≡ l = is_text-sound k l e in
+        ap (λ o. find under (option_to_list (option_map (make v) o))) (ap named (sym same) ∙ none)
+    gone l v false e none = ap (λ o. find under (option_to_list (option_map (make v) o))) refl ∙ other_passed l v (named l) refl e
+
+    no_more : named k ≡ None → (ms : Named) → find under (flat_map one_built ms) ≡ None
+    no_more none [] = refl
+    no_more none (m ∷ ms) =
+        find-append under (one_built m) (flat_map one_built ms) ∙ left_none (find under (one_built m)) (find under (flat_map one_built ms)) (gone m.0 m.1 (bytes_eq k m.0) refl none) ∙ no_more none ms
+
+    none_asserted : named k ≡ None → (o : Option Value) → option_and_then asserts o ≡ None
+    none_asserted none None = refl
+    none_asserted none (Some v) = ap (option_map (make v)) none
+
+    first_built : (n : K) → named k ≡ Some n → (l : Text) (v : Value) (ms : Named) (b : Bool) → bytes_eq k l ≡ b
+        → find under (flat_map one_built ms) ≡ option_and_then asserts (get k ms)
+        → find under (flat_map one_built ((l, v) ∷ ms)) ≡ option_and_then asserts (if b then Some v else get k ms)
+    first_built n is l v ms true e more =
+        let same : k ≡ l = is_text-sound k l e in
+        let here : option_map (make v) (named l) ≡ Some (make v n) = ap (option_map (make v)) (ap named (sym same) ∙ is) in
+        let under_it : bytes_eq k (name (make v n)) ≡ true = ap (bytes_eq k) (sym (told k v n is) ∙ same) ∙ e in
+        ap (λ o. find under (option_to_list o ++ flat_map one_built ms)) here
+        ∙ ap (λ b. cond b (Some (make v n)) (find under (flat_map one_built ms))) under_it
+        ∙ sym (ap (option_map (make v)) is)
+    first_built n is l v ms false e more =
+        find-append under (one_built (l, v)) (flat_map one_built ms) ∙ left_none (find under (one_built (l, v))) (find under (flat_map one_built ms)) (other_passed l v (named l) refl e)
+        ∙ more
+
+    some_built : (n : K) → named k ≡ Some n → (ms : Named) → find under (flat_map one_built ms) ≡ option_and_then asserts (get k ms)
+    some_built n is [] = refl
+    some_built n is (m ∷ ms) = first_built n is m.0 m.1 ms (bytes_eq k m.0) refl (some_built n is ms) ∙ ap (option_and_then asserts) (sym (get_first k m.0 m.1 ms))
+
+    built_by : (o : Option K) → named k ≡ o → (ms : Named) → find under (flat_map one_built ms) ≡ option_and_then asserts (get k ms)
+    built_by None is ms = no_more is ms ∙ sym (none_asserted is (get k ms))
+    built_by (Some n) is ms = some_built n is ms
+
+-- the assertion of a place's keyword is what is found under that name
+pub assertion_found : (k : Text) (s : Site) → find (λ a. bytes_eq k (name_of a.keyword)) (assertions_at s) ≡ assertion k s
+assertion_found k s = built_by keyword_named (λ v n. record { keyword = n; argument = v; beside_contains = has (codes "contains") (keywords s.schema) }) (λ a. name_of a.keyword) (λ l v n is. named-name_of l n is) k (keyword_named k) refl (keywords s.schema)
+
+-- ---- patterns
+
+abbrev the_patterns : Text
+the_patterns = codes "patternProperties"
+
+no_patterns : (ms : Members) → ((l : Text) (w : Value) → Among (l, w) (member_pairs ms) → ¬ (the_patterns ≡ l)) → flat_map patterns_of (member_pairs ms) ≡ []
+no_patterns no_members h = refl
+no_patterns (member l v ms) h =
+    let other : bytes_eq l the_patterns ≡ false = unlike l the_patterns (λ e. h l v (inl refl) (sym e)) in
+    ap (λ b. (if b then map pattern_at (keywords v) else []) ++ flat_map patterns_of (member_pairs ms)) other ∙ no_patterns ms (λ k w a. h k w (inr a))
+
+module _ (name : Text) where
+  abbrev so_named : BuiltPattern → Bool
+  so_named b = bytes_eq name b.name
+
+  one_pattern : (l : Text) (v : Value) (ms : Named) (b : Bool) → bytes_eq name l ≡ b
+      → option_map (λ b. b.pattern) (find so_named (map pattern_at ms)) ≡ option_map (λ u. name) (get name ms)
+      → option_map (λ b. b.pattern) (find so_named (map pattern_at ((l, v) ∷ ms))) ≡ option_map (λ u. name) (if b then Some v else get name ms)
+  one_pattern l v ms true e more =
+      let same : name ≡ l = is_text-sound name l e in
+      ap (λ b. option_map (λ b. b.pattern) (cond b (Some (pattern_at (l, v))) (find so_named (map pattern_at ms)))) e ∙ ap Some (sym same)
+  one_pattern l v ms false e more = ap (λ b. option_map (λ b. b.pattern) (cond b (Some (pattern_at (l, v))) (find so_named (map pattern_at ms)))) e ∙ more
+
+  patterns_found : (ms : Named) → option_map (λ b. b.pattern) (find so_named (map pattern_at ms)) ≡ option_map (λ u. name) (get name ms)
+  patterns_found [] = refl
+  patterns_found (m ∷ ms) = one_pattern m.0 m.1 ms (bytes_eq name m.0) refl (patterns_found ms) ∙ ap (option_map (λ u. name)) (sym (get_first name m.0 m.1 ms))
+
+  abbrev of_argument : Value → Option Text
+  of_argument v = option_map (λ u. name) (argument name v)
+
+  by_keyword : (l : Text) (v : Value) (ms : Members) (b : Bool) → bytes_eq l the_patterns ≡ b → (l ≡ the_patterns → flat_map patterns_of (member_pairs ms) ≡ [])
+      → option_map (λ b. b.pattern) (find so_named (flat_map patterns_of (member_pairs ms))) ≡ option_and_then of_argument (get the_patterns (member_pairs ms))
+      → option_map (λ b. b.pattern) (find so_named ((if b then map pattern_at (keywords v) else []) ++ flat_map patterns_of (member_pairs ms))) ≡ option_and_then of_argument (get the_patterns ((l, v) ∷ member_pairs ms))
+  by_keyword l v ms true e none more =
+      let same : l ≡ the_patterns = is_text-sound l the_patterns e in
+      let here : bytes_eq the_patterns l ≡ true = ap (bytes_eq the_patterns) same ∙ is_text-refl the_patterns in
+      ap (λ r. option_map (λ b. b.pattern) (find so_named (map pattern_at (keywords v) ++ r))) (none same)
+      ∙ ap (λ r. option_map (λ b. b.pattern) (find so_named r)) (append-nil (map pattern_at (keywords v)))
+      ∙ patterns_found (keywords v)
+      ∙ ap (option_and_then of_argument) (sym (get_first the_patterns l v (member_pairs ms) ∙ ap (λ b. if b then Some v else get the_patterns (member_pairs ms)) here))
+  by_keyword l v ms false e none more =
+      let other : bytes_eq the_patterns l ≡ false = unlike the_patterns l (λ same. absurd (let yes : bytes_eq l the_patterns ≡ true = ap (λ x. bytes_eq x the_patterns) (sym same) ∙ is_text-refl the_patterns in cc)) in
+      more ∙ ap (option_and_then of_argument) (sym (get_first the_patterns l v (member_pairs ms) ∙ ap (λ b. if b then Some v else get the_patterns (member_pairs ms)) other))
+
+  pattern_in : (ms : Members) → NamesAscendInMembers ms → option_map (λ b. b.pattern) (find so_named (flat_map patterns_of (member_pairs ms))) ≡ option_and_then of_argument (get the_patterns (member_pairs ms))
+  pattern_in no_members a = refl
+  pattern_in (member l v ms) a =
+      by_keyword l v ms (bytes_eq l the_patterns) refl
+      (λ same. no_patterns ms (λ k w h e. less_apart l k (below_all l ms a.0 a.2 k w h) (same ∙ e)))
+      (pattern_in ms a.2)
+
+  pattern_of : (v : Value) → NamesAscend v → option_map (λ b. b.pattern) (find so_named (flat_map patterns_of (keywords v))) ≡ option_and_then of_argument (argument the_patterns v)
+  pattern_of null a = refl
+  pattern_of (truth b) a = refl
+  pattern_of (whole z) a = refl
+  pattern_of (text t) a = refl
+  pattern_of (list vs) a = refl
+  pattern_of (object ms) a = pattern_in ms a
+
+-- the pattern of a name among a place's `patternProperties` is what is found under that name
+pub pattern_found : (name : Text) (s : Site) → NamesAscend s.schema → option_map (λ b. b.pattern) (find (λ b. bytes_eq name b.name) (patterns_at s)) ≡ pattern name s
+pattern_found name s a = pattern_of name s.schema a

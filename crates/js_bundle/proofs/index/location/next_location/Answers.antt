@@ -1,0 +1,30 @@
+use Rattle.std.proofs.Common.{◌≡◌, ◌++◌, drop, take, length, string_bytes, ap, ◌∙◌, arith}
+use Rattle.js_doc.specs.Fragment.{fragment_text}
+use Rattle.js_bundle.specs.code.TextPrefix.{BeginsLocation}
+use Rattle.js_bundle.specs.code.Scan.{site_of}
+use Rattle.js_bundle.specs.Location.{way}
+use Rattle.js_bundle.proofs.Indexing.SharedTokens.{location_begins, location_ends}
+use Rattle.js_bundle.proofs.index.location.next_location.Goals as goal
+
+is_way : (c : goal.In_ok-push_way) → c.way_from-way.result.now ≡ way (site_of c.args.site.now)
+is_way c =
+    c.way_from-way.ensures ∙ ap (λ ts. drop (length c.tokens-root.result.now) ts) (c.tokens.ensures ∙ c.deref-2.ensures)
+    ∙ ap (λ ts. drop (length ts) c.args.site.now.pointer.value) (c.tokens-root.ensures ∙ ap (λ s. s.resource) c.deref.ensures)
+
+begins : (c : goal.In_ok-push_way) → BeginsLocation c.extend_location.new.prefix (site_of c.args.site.now)
+begins c =
+    let b = c.begin_location.new.prefix in
+    let told = c.saturating_sub-told.result in
+    let within = c.in_ok-begin_location.ensures.within in
+    let least = c.min.ensures in
+    location_begins b c.extend_location.new.prefix (site_of c.args.site.now) told c.in_ok-begin_location.ensures.begins (omega (arith, within, least))
+    (c.in_ok-extend_location.ensures.text ∙ ap (λ ts. string_bytes b.text ++ fragment_text (drop b.tokens (take told ts))) (is_way c)) c.in_ok-extend_location.ensures.tokens
+
+pub returns-clause-begins : goal.returns-clause-begins
+returns-clause-begins c = begins c
+
+pub returns-clause-location : goal.returns-clause-location
+returns-clause-location c =
+    let told = c.saturating_sub-told.result in
+    location_ends c.extend_location.new.prefix (site_of c.args.site.now) told (string_bytes c.in_ok-text.text) (string_bytes c.push_way.new.text) (begins c) c.in_ok-extend_location.ensures.tokens c.in_ok-text.ensures
+    (c.in_ok-push_way.ensures ∙ ap (λ ts. string_bytes c.in_ok-text.text ++ fragment_text (drop told ts)) (is_way c))

@@ -1,5 +1,0 @@
-use Rattle.js_bundle.proofs.Keywords.{pairs-members}
-use Rattle.js_bundle.proofs.keyword_table.push_names.Goals as goal
-
-pub returns-in-Members : goal.returns-in-Members
-returns-in-Members c = rw c.in-Members.is (rw (pairs-members c.in-Members.members) c.push_members.ensures)

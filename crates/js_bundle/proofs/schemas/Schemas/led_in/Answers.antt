@@ -1,8 +1,0 @@
-use Rattle.js_bundle.specs.Resource.{sites}
-use Rattle.js_bundle.specs.ResourceNumber.{roots_at}
-use Rattle.js_bundle.proofs.Dynamic.{stays}
-use Rattle.js_bundle.proofs.schemas.Schemas.led_in.Goals as goal
-
-pub returns-then-not-reference : goal.returns-then-not-reference
-returns-then-not-reference c =
-    stays c.args.self.now (roots_at (sites c.args.self.now) c.args.resources.now) c.args.reference.by_name c.args.reference.target c.requires c.if-not-reference.true

@@ -1,7 +1,0 @@
-use Rattle.js_bundle.specs.Schemas.{path_at}
-use Rattle.js_bundle.proofs.Dynamic.{stays}
-use Rattle.js_bundle.proofs.schemas.Schemas.led_to.Goals as goal
-
-pub returns-then-not-reference : goal.returns-then-not-reference
-returns-then-not-reference c =
-    stays c.args.self.now (path_at c.args.self.now c.args.path.now) c.args.reference.by_name c.args.reference.target c.requires c.if-not-reference.true

@@ -1,9 +1,0 @@
-use Rattle.std.proofs.Common.{map}
-use Rattle.js_bundle.specs.Seen.{document_of}
-use Rattle.js_bundle.proofs.Kept.{kept_spot}
-use Rattle.js_bundle.proofs.schemas.Schemas.spot.Goals as goal
-
-pub returns : goal.returns
-returns c =
-    kept_spot (map document_of c.self.inside.documents.items) c.args.self.now c.self.inside.kept.spots.items c.place.inside.number c.args.place c.index.result.now c.self.view_is c.place.view_is
-    c.self.invariant.spots c.requires c.index.ensures

@@ -1,0 +1,132 @@
+//! The check of documents as a whole.
+ghost use Rattle.std.specs.Prelude.{◌≡◌, codes, map, nat_eq, OnOk, IfOk, IfErr};
+ghost use Rattle.indexmap.specs.IndexMap.{get};
+ghost use Rattle.js_bundle.specs.AssertionsAndPatterns.{assertions_at, patterns_at};
+ghost use Rattle.js_bundle.specs.Candidate.{IsClear, IsStopped};
+ghost use Rattle.js_bundle.specs.code.SparseList.{IsSparseList};
+ghost use Rattle.js_bundle.specs.code.Edges.{edges_from, edges_of};
+ghost use Rattle.js_bundle.specs.Finding.{dynamic_at, number_of_target, under_number};
+ghost use Rattle.js_bundle.specs.code.PartsByPlace.{ArePartsByPlace};
+ghost use Rattle.js_bundle.specs.code.Index.{IsIndexOf};
+ghost use Rattle.js_bundle.specs.code.Positions.{ArePositionsOf};
+ghost use Rattle.js_bundle.specs.KeywordName.{keyword_names};
+ghost use Rattle.js_bundle.specs.Location.{location};
+ghost use Rattle.js_bundle.specs.Refusals.{candidates, second_pass};
+ghost use Rattle.js_bundle.specs.Resource.{sites};
+ghost use Rattle.js_bundle.specs.ResourceTable.{AreRooted, IsResourceTable};
+ghost use Rattle.js_bundle.specs.code.Scan.{site_of};
+ghost use Rattle.js_bundle.specs.Seen.{document_of, AreRead};
+ghost use Rattle.js_bundle.specs.code.KeptSite.{kept_site, kept_site_of};
+
+pub(crate) mod assertions_and_patterns;
+pub(crate) mod fault;
+pub(crate) mod first_pass;
+pub(crate) mod kept_site;
+pub(crate) mod references;
+pub(crate) mod rules;
+
+use crate::check::assertions_and_patterns::BuiltTable;
+use crate::check::fault::CheckFault;
+use crate::check::first_pass::first_pass;
+use crate::check::kept_site::{KeptSite, kept_sites_of};
+use crate::check::references::{References, resolve_all};
+use crate::document::Document;
+use crate::index::Index;
+use crate::index::edges::{Edges, edges_in};
+use crate::index::keyword_table::KeywordTable;
+use crate::index::positions::Positions;
+use crate::index::resource_table::{Resources, resources_of};
+use crate::scan::scan;
+use crate::scan::site::Site;
+use js_doc::Text;
+use std::alloc::Global;
+
+/// What is kept of checked documents, place by place.
+#[derive(Drop)]
+pub(crate) struct Checked {
+    pub(crate) sites: Vec<KeptSite>,
+    pub(crate) built: BuiltTable,
+    pub(crate) keywords: KeywordTable,
+    pub(crate) references: References,
+    /// The absolute location of each.
+    pub(crate) locations: Vec<Text>,
+    pub(crate) index: Index,
+    pub(crate) resources: Resources,
+    /// What each place holds.
+    pub(crate) edges: Vec<Edges>,
+}
+
+/// What is looked up once all places are in the index.
+#[derive(Drop)]
+struct LookedUp {
+    references: References,
+    resources: Resources,
+}
+
+// What references lead to, and the resources.
+fn look_up(
+    alloc: Global,
+    positions: &Positions,
+    sites: &[Site<'_>],
+    keywords: &KeywordTable,
+) -> Result<LookedUp, CheckFault>
+    requires positions { ArePositionsOf positions.now (map site_of sites.now) }
+    requires keywords { ArePartsByPlace keyword_names (map site_of sites.now)
+        keywords.now.names.items keywords.now.ends.items }
+    requires rooted { AreRooted (map site_of sites.now) }
+    ensures clear { OnOk result (IsClear (second_pass (map site_of sites.now))) }
+    ensures dynamic { IfOk result (λ l. IsSparseList (get nat_eq l.references.dynamic)
+        (dynamic_at (map site_of sites.now)) (map site_of sites.now)) }
+    ensures plain { IfOk result (λ l. IsSparseList (under_number l.references.plain.items)
+        (number_of_target (map site_of sites.now) (codes "$ref")) (map site_of sites.now)) }
+    ensures resources { IfOk result (λ l. IsResourceTable l.resources (map site_of sites.now)) }
+    ensures err { IfErr result (IsStopped (second_pass (map site_of sites.now))) }
+{
+    let references = resolve_all(alloc, &positions.index, sites, keywords)?;
+    let resources = resources_of(alloc, positions, sites, keywords)?;
+    Ok(LookedUp {
+        references,
+        resources,
+    })
+}
+
+/// Checks documents whole: each place with its keywords, and then each reference.
+pub(crate) fn check_whole(alloc: Global, documents: &[Document]) -> Result<Checked, CheckFault>
+    requires { AreRead (map document_of documents.now) }
+    ensures clear { OnOk result (IsClear (candidates (map document_of documents.now))) }
+    ensures kept_sites { IfOk result
+        (λ c. map kept_site_of c.sites.items ≡ map kept_site (sites (map document_of documents.now))) }
+    ensures assertions { IfOk result (λ c. ArePartsByPlace assertions_at (sites (map document_of documents.now))
+        c.built.all.assertions.items c.built.assertion_ends.items) }
+    ensures patterns { IfOk result (λ c. ArePartsByPlace patterns_at (sites (map document_of documents.now))
+        c.built.all.patterns.items c.built.pattern_ends.items) }
+    ensures keywords { IfOk result (λ c. ArePartsByPlace keyword_names (sites (map document_of documents.now))
+        c.keywords.names.items c.keywords.ends.items) }
+    ensures dynamic { IfOk result (λ c. IsSparseList (get nat_eq c.references.dynamic)
+        (dynamic_at (sites (map document_of documents.now))) (sites (map document_of documents.now))) }
+    ensures plain { IfOk result (λ c. IsSparseList (under_number c.references.plain.items)
+        (number_of_target (sites (map document_of documents.now)) (codes "$ref"))
+        (sites (map document_of documents.now))) }
+    ensures locations { IfOk result (λ c. c.locations.items
+        ≡ map location (sites (map document_of documents.now))) }
+    ensures index { IfOk result (λ c. IsIndexOf c.index (sites (map document_of documents.now))) }
+    ensures resources { IfOk result
+        (λ c. IsResourceTable c.resources (sites (map document_of documents.now))) }
+    ensures edges { IfOk result (λ c. map edges_of c.edges.items ≡ edges_from 0 (map document_of documents.now)) }
+    ensures err { IfErr result (IsStopped (candidates (map document_of documents.now))) }
+{
+    let sites = scan(alloc, documents)?;
+    let passed = first_pass(alloc, sites.as_slice())?;
+    let found = look_up(alloc, &passed.positions, sites.as_slice(), &passed.keywords)?;
+    let edges = edges_in(alloc, documents)?;
+    Ok(Checked {
+        sites: kept_sites_of(alloc, sites)?,
+        built: passed.built,
+        keywords: passed.keywords,
+        references: found.references,
+        locations: passed.positions.locations,
+        index: passed.positions.index,
+        resources: found.resources,
+        edges,
+    })
+}

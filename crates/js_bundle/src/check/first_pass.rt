@@ -1,0 +1,290 @@
+//! The first pass: each place and its keywords, in scan order.
+ghost use Rattle.std.specs.Prelude.{◌≡◌, ◌++◌, [], ◌∷◌, Some, length, not, map, option_map, MatchOption, OnOk, IfOk, IfErr};
+ghost use Rattle.std.specs.List.{flat_map};
+ghost use Rattle.js_doc.specs.Seen.{value_of};
+ghost use Rattle.js_doc.specs.Value as spec;
+ghost use Rattle.js_bundle.specs.declared.refusal.RefusalKind.TheVariants.{BadKeyword};
+ghost use Rattle.js_bundle.specs.AssertionsAndPatterns.{assertion_at, assertions_at, patterns_of, patterns_at};
+ghost use Rattle.js_bundle.specs.Candidate.{IsClear, IsStopped};
+ghost use Rattle.js_bundle.specs.Form.{is_formed};
+ghost use Rattle.js_bundle.specs.code.PartsByPlace.{ArePartsByPlace};
+ghost use Rattle.js_bundle.specs.code.Index.{IsIndexOf};
+ghost use Rattle.js_bundle.specs.code.Positions.{BeginTexts, IsLast, ArePositionsOf, HasPositionAdded};
+ghost use Rattle.js_bundle.specs.Keyword as words;
+ghost use Rattle.js_bundle.specs.KeywordName.{keyword_names};
+ghost use Rattle.js_bundle.specs.Refusals.{when, decided, on_text, text_rules, at_member, at_site, first_pass};
+ghost use Rattle.js_bundle.specs.code.Scan.{site_of};
+
+use crate::check::assertions_and_patterns::{Built, BuiltTable, keep_assertion, read_names};
+use crate::check::fault::{CheckFault, refuse};
+use crate::check::rules::{
+    check_anchor, check_dialect, check_id, check_place, is_formed, read_assertion,
+};
+use crate::index::Index;
+use crate::index::keyword_table::KeywordTable;
+use crate::index::positions::{Positions, TextPrefixes};
+use crate::refusal::RefusalKind;
+use crate::scan::site::Site;
+use js_doc::{Doc, Members, Memory};
+use std::alloc::Global;
+
+fn check_form(
+    alloc: Global,
+    site: &Site<'_>,
+    keyword: &str,
+    argument: &Doc,
+) -> Result<(), CheckFault>
+    ensures ok { OnOk result (IsClear (when (not (is_formed keyword.now (value_of argument.now)))
+        (decided (site_of site.now) (keyword.now ∷ []) BadKeyword))) }
+    ensures err { IfErr result (IsStopped (when (not (is_formed keyword.now (value_of argument.now)))
+        (decided (site_of site.now) (keyword.now ∷ []) BadKeyword))) }
+{
+    if is_formed(keyword, argument) {
+        Ok(())
+    } else {
+        Err(refuse(alloc, site, Some(keyword), RefusalKind::BadKeyword))
+    }
+}
+
+// The rules of a keyword whose argument is a text.
+fn check_text(
+    alloc: Global,
+    index: &Index,
+    before: &[Site<'_>],
+    site: &Site<'_>,
+    keyword: &str,
+    text: &str,
+) -> Result<(), CheckFault>
+    requires index { IsIndexOf index.now (map site_of before.now) }
+    requires argument { words.argument keyword.now (value_of site.now.schema.now) ≡ Some (spec.text text.now) }
+    ensures ok { OnOk result (IsClear
+        (text_rules (map site_of before.now) (site_of site.now) keyword.now text.now)) }
+    ensures err { IfErr result (IsStopped
+        (text_rules (map site_of before.now) (site_of site.now) keyword.now text.now)) }
+{
+    match keyword {
+        "$schema" => check_dialect(alloc, site, keyword, text),
+        "$id" => check_id(alloc, index, before, site, keyword, text),
+        "$anchor" => check_anchor(alloc, index, before, site, keyword, text),
+        "$dynamicAnchor" => check_anchor(alloc, index, before, site, keyword, text),
+        _ => Ok(()),
+    }
+}
+
+fn check_argument(
+    alloc: Global,
+    index: &Index,
+    before: &[Site<'_>],
+    site: &Site<'_>,
+    keyword: &str,
+    argument: &Doc,
+) -> Result<(), CheckFault>
+    requires index { IsIndexOf index.now (map site_of before.now) }
+    requires argument { words.argument keyword.now (value_of site.now.schema.now) ≡ Some (value_of argument.now) }
+    ensures ok { OnOk result (IsClear (on_text
+        (text_rules (map site_of before.now) (site_of site.now) keyword.now) (value_of argument.now))) }
+    ensures err { IfErr result (IsStopped (on_text
+        (text_rules (map site_of before.now) (site_of site.now) keyword.now) (value_of argument.now))) }
+{
+    match argument {
+        Doc::Text(text) => check_text(alloc, index, before, site, keyword, text.as_str()),
+        _ => Ok(()),
+    }
+}
+
+// The rules of a keyword, its form first.
+fn check_keyword(
+    alloc: Global,
+    built: &mut Built,
+    index: &Index,
+    before: &[Site<'_>],
+    site: &Site<'_>,
+    keyword: &str,
+    argument: &Doc,
+    siblings: &Members,
+) -> Result<(), CheckFault>
+    requires index { IsIndexOf index.now (map site_of before.now) }
+    requires argument { words.argument keyword.now (value_of site.now.schema.now) ≡ Some (value_of argument.now) }
+    ensures clear { OnOk result (IsClear
+        (at_member (map site_of before.now) (site_of site.now) (keyword.now, value_of argument.now))) }
+    ensures assertions { OnOk result (built.new.assertions.items ≡ built.old.assertions.items
+        ++ assertion_at siblings.now (keyword.now, value_of argument.now)) }
+    ensures patterns { OnOk result (built.new.patterns.items ≡ built.old.patterns.items
+        ++ patterns_of (keyword.now, value_of argument.now)) }
+    ensures err { IfErr result (IsStopped
+        (at_member (map site_of before.now) (site_of site.now) (keyword.now, value_of argument.now))) }
+{
+    check_form(alloc, site, keyword, argument)?;
+    let assertion = read_assertion(alloc, site, keyword, argument, siblings)?;
+    keep_assertion(&mut built.assertions, assertion)?;
+    check_argument(alloc, index, before, site, keyword, argument)?;
+    read_names(alloc, &mut built.patterns, site, keyword, argument)
+}
+
+// The rules of all of a place's keywords, by name ascending.
+fn check_keywords(
+    alloc: Global,
+    built: &mut Built,
+    index: &Index,
+    before: &[Site<'_>],
+    site: &Site<'_>,
+    members: &Members,
+) -> Result<(), CheckFault>
+    requires index { IsIndexOf index.now (map site_of before.now) }
+    requires members { value_of site.now.schema.now ≡ spec.object (spec.members members.now) }
+    ensures clear { OnOk result (IsClear
+        (flat_map (at_member (map site_of before.now) (site_of site.now)) members.now)) }
+    ensures assertions { OnOk result (built.new.assertions.items ≡ built.old.assertions.items
+        ++ flat_map (assertion_at members.now) members.now) }
+    ensures patterns { OnOk result (built.new.patterns.items ≡ built.old.patterns.items
+        ++ flat_map patterns_of members.now) }
+    ensures err { IfErr result (IsStopped
+        (flat_map (at_member (map site_of before.now) (site_of site.now)) members.now)) }
+{
+    for (keyword, argument) in members.pairs() {
+        check_keyword(
+            alloc,
+            built,
+            index,
+            before,
+            site,
+            keyword.as_str(),
+            argument,
+            members,
+        )?;
+    }
+    Ok(())
+}
+
+fn check_schema(
+    alloc: Global,
+    built: &mut Built,
+    index: &Index,
+    before: &[Site<'_>],
+    site: &Site<'_>,
+) -> Result<(), CheckFault>
+    requires { IsIndexOf index.now (map site_of before.now) }
+    ensures clear { OnOk result (IsClear (flat_map
+        (at_member (map site_of before.now) (site_of site.now)) (words.keywords (site_of site.now).schema))) }
+    ensures assertions { OnOk result (built.new.assertions.items ≡ built.old.assertions.items
+        ++ assertions_at (site_of site.now)) }
+    ensures patterns { OnOk result (built.new.patterns.items ≡ built.old.patterns.items
+        ++ patterns_at (site_of site.now)) }
+    ensures err { IfErr result (IsStopped (flat_map
+        (at_member (map site_of before.now) (site_of site.now)) (words.keywords (site_of site.now).schema))) }
+{
+    match site.schema {
+        Doc::Members(members) => check_keywords(alloc, built, index, before, site, members),
+        _ => Ok(()),
+    }
+}
+
+// The rules of a place, and of its keywords.
+fn check_site(
+    alloc: Global,
+    built: &mut Built,
+    index: &Index,
+    before: &[Site<'_>],
+    site: &Site<'_>,
+) -> Result<(), CheckFault>
+    requires { IsIndexOf index.now (map site_of before.now) }
+    ensures clear { OnOk result (IsClear (at_site (map site_of before.now) (site_of site.now))) }
+    ensures assertions { OnOk result (built.new.assertions.items ≡ built.old.assertions.items
+        ++ assertions_at (site_of site.now)) }
+    ensures patterns { OnOk result (built.new.patterns.items ≡ built.old.patterns.items
+        ++ patterns_at (site_of site.now)) }
+    ensures err { IfErr result (IsStopped (at_site (map site_of before.now) (site_of site.now))) }
+{
+    check_place(alloc, index, before, site)?;
+    check_schema(alloc, built, index, before, site)
+}
+
+/// What the first pass has of the places.
+#[derive(Drop)]
+pub(crate) struct Passed {
+    pub(crate) built: BuiltTable,
+    pub(crate) positions: Positions,
+    pub(crate) keywords: KeywordTable,
+}
+
+impl Passed {
+    // The same for no places, with room for this many.
+    fn with_capacity(alloc: Global, places: usize) -> Result<Passed, Memory>
+        ensures assertions { IfOk result (λ p. p.built.all.assertions.items ≡ []) }
+        ensures assertion_ends { IfOk result (λ p. p.built.assertion_ends.items ≡ []) }
+        ensures patterns { IfOk result (λ p. p.built.all.patterns.items ≡ []) }
+        ensures pattern_ends { IfOk result (λ p. p.built.pattern_ends.items ≡ []) }
+        ensures positions { IfOk result (λ p. ArePositionsOf p.positions []) }
+        ensures names { IfOk result (λ p. p.keywords.names.items ≡ []) }
+        ensures ends { IfOk result (λ p. p.keywords.ends.items ≡ []) }
+    {
+        let positions = Positions::with_capacity(alloc, places)?;
+        Ok(Passed {
+            built: BuiltTable::with_capacity(alloc, places)?,
+            positions,
+            keywords: KeywordTable::with_capacity(alloc, places)?,
+        })
+    }
+
+    // Adds a place. Its texts are made from the prefixes of those of the place before it.
+    fn pass(
+        &mut self,
+        alloc: Global,
+        earlier: &[Site<'_>],
+        prefixes: &mut TextPrefixes,
+        before: Option<&Site<'_>>,
+        site: &Site<'_>,
+    ) -> Result<(), CheckFault>
+        requires index { IsIndexOf self.old.positions.index (map site_of earlier.now) }
+        requires begin { MatchOption before (Unit {0}) (λ b. BeginTexts prefixes.old (site_of b.now)) }
+        requires before { IsLast (map site_of earlier.now) (option_map (λ b. site_of b.now) before) }
+        ensures clear { OnOk result (IsClear (at_site (map site_of earlier.now) (site_of site.now))) }
+        ensures begin { OnOk result (BeginTexts prefixes.new (site_of site.now)) }
+        ensures assertions { OnOk result (self.new.built.all.assertions.items
+            ≡ self.old.built.all.assertions.items ++ assertions_at (site_of site.now)) }
+        ensures assertion_ends { OnOk result (self.new.built.assertion_ends.items
+            ≡ self.old.built.assertion_ends.items ++ length self.new.built.all.assertions.items ∷ []) }
+        ensures patterns { OnOk result (self.new.built.all.patterns.items
+            ≡ self.old.built.all.patterns.items ++ patterns_at (site_of site.now)) }
+        ensures pattern_ends { OnOk result (self.new.built.pattern_ends.items
+            ≡ self.old.built.pattern_ends.items ++ length self.new.built.all.patterns.items ∷ []) }
+        ensures positions { OnOk result
+            (HasPositionAdded self.old.positions (map site_of earlier.now) (site_of site.now) self.new.positions) }
+        ensures names { OnOk result (self.new.keywords.names.items
+            ≡ self.old.keywords.names.items ++ keyword_names (site_of site.now)) }
+        ensures ends { OnOk result (self.new.keywords.ends.items
+            ≡ self.old.keywords.ends.items ++ length self.new.keywords.names.items ∷ []) }
+        ensures err { IfErr result (IsStopped (at_site (map site_of earlier.now) (site_of site.now))) }
+    {
+        self.keywords.add_names(site)?;
+        let index = &self.positions.index;
+        check_site(alloc, &mut self.built.all, index, earlier, site)?;
+        self.built.end_place()?;
+        self.positions
+            .add_position(alloc, prefixes, earlier, before, site)?;
+        Ok(())
+    }
+}
+
+/// The first pass.
+pub(crate) fn first_pass(alloc: Global, sites: &[Site<'_>]) -> Result<Passed, CheckFault>
+    ensures clear { OnOk result (IsClear (first_pass [] (map site_of sites.now))) }
+    ensures assertions { IfOk result (λ p. ArePartsByPlace assertions_at (map site_of sites.now)
+        p.built.all.assertions.items p.built.assertion_ends.items) }
+    ensures patterns { IfOk result (λ p. ArePartsByPlace patterns_at (map site_of sites.now)
+        p.built.all.patterns.items p.built.pattern_ends.items) }
+    ensures positions { IfOk result (λ p. ArePositionsOf p.positions (map site_of sites.now)) }
+    ensures keywords { IfOk result
+        (λ p. ArePartsByPlace keyword_names (map site_of sites.now) p.keywords.names.items p.keywords.ends.items) }
+    ensures err { IfErr result (IsStopped (first_pass [] (map site_of sites.now))) }
+{
+    let mut passed = Passed::with_capacity(alloc, sites.len())?;
+    let mut prefixes = TextPrefixes::new(alloc);
+    let mut before = None;
+    for i in 0..sites.len() {
+        let site = &sites[i];
+        passed.pass(alloc, &sites[..i], &mut prefixes, before, site)?;
+        before = Some(site);
+    }
+    Ok(passed)
+}

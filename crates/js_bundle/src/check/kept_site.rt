@@ -1,0 +1,49 @@
+//! What is kept of a place once its document is checked.
+ghost use Rattle.std.specs.Prelude.{◌≡◌, map, IfOk};
+ghost use Rattle.js_bundle.specs.code.KeptSite.{kept_site, kept_site_of};
+ghost use Rattle.js_bundle.specs.code.Scan.{site_of};
+
+use crate::scan::scope::Scope;
+use crate::scan::site::Site;
+use js_doc::{Memory, Pointer};
+use std::alloc::Global;
+use std::sync::Arc;
+
+/// Where a place stands. Its schema is in its document.
+#[derive(Drop)]
+pub(crate) struct KeptSite {
+    pub(crate) document: usize,
+    pub(crate) pointer: Arc<Pointer>,
+    /// The scope that the place is in.
+    pub(crate) above: Arc<Scope>,
+    /// Its own.
+    pub(crate) own: Arc<Scope>,
+    /// Whether its `$id` makes a base.
+    pub(crate) identifies: bool,
+}
+
+/// What is kept of each.
+pub(crate) fn kept_sites_of(alloc: Global, sites: Vec<Site<'_>>) -> Result<Vec<KeptSite>, Memory>
+    ensures { IfOk result (λ v. map kept_site_of v.items ≡ map kept_site (map site_of sites.entry.items)) }
+{
+    let mut kept = Vec::with_capacity(alloc, sites.len())?;
+    for site in sites {
+        let Site {
+            document,
+            pointer,
+            above,
+            own,
+            identifies,
+            bare: _,
+            schema: _,
+        } = site;
+        kept.push(KeptSite {
+            document,
+            pointer,
+            above,
+            own,
+            identifies,
+        })?;
+    }
+    Ok(kept)
+}

@@ -1,0 +1,286 @@
+//! The rules of the first pass, each by itself.
+ghost use Rattle.std.specs.Prelude.{◌≡◌, ◌&&◌, ◌||◌, [], ◌∷◌, Some, true, false, not, nat_le, codes, length, map, OnOk, IfOk, IfErr};
+ghost use Rattle.std.specs.List.{list_all};
+ghost use Rattle.js_doc.specs.Seen.{value_of};
+ghost use Rattle.js_doc.specs.Value as spec;
+ghost use Rattle.js_bundle.specs.declared.refusal.RefusalKind.TheVariants.{TooManyPlaces, NotASchema, DuplicateUri};
+ghost use Rattle.js_bundle.specs.Candidate.{IsClear, IsStopped};
+ghost use Rattle.js_bundle.specs.Form.{is_formed, is_filled_list, is_schema};
+ghost use Rattle.js_bundle.specs.code.Index.{IsIndexOf};
+ghost use Rattle.js_bundle.specs.Keyword.{argument};
+ghost use Rattle.js_bundle.specs.Names.{is_root, is_anchor_name, begins_name, continues_name};
+ghost use Rattle.js_bundle.specs.Refusals.{when, decided, is_taken, is_made, is_dialect, at_dialect, at_id, at_anchor, at_place, assertion_rules};
+ghost use Rattle.js_assert.specs.Assertion.{asserted};
+ghost use Rattle.js_bundle.specs.code.Scan.{site_of};
+
+use crate::check::fault::{CheckFault, refuse};
+use crate::index::Index;
+use crate::index::keys::name_key;
+use crate::index::place_by_uri::is_root;
+use crate::keyword::as_text;
+use crate::refusal::RefusalKind;
+use crate::scan::site::Site;
+use crate::uri::{self, LONGEST};
+use js_assert::{Assertion, KeywordFault};
+use js_doc::{Doc, Members, Memory};
+use std::alloc::Global;
+use url::Url;
+
+/// A bundle has no more places.
+const MOST_PLACES: usize = 100_000;
+
+// Whether a resource before has the URI.
+fn is_taken(index: &Index, before: &[Site<'_>], uri: &Url) -> bool
+    requires { IsIndexOf index.now (map site_of before.now) }
+    ensures { result ≡ is_taken (map site_of before.now) uri.now }
+{
+    index.known.number_of(uri::text_of(uri)).is_some()
+}
+
+// Whether a place before makes the name in the same resource.
+fn is_made(
+    alloc: Global,
+    index: &Index,
+    before: &[Site<'_>],
+    place: &Site<'_>,
+    name: &str,
+) -> Result<bool, Memory>
+    requires { IsIndexOf index.now (map site_of before.now) }
+    ensures { IfOk result (λ b. b ≡ is_made (map site_of before.now) (site_of place.now) name.now) }
+{
+    let key = name_key(alloc, place.document, &place.own.resource, name)?;
+    Ok(index.names.number_of(key.as_str()).is_some())
+}
+
+fn begins_name(b: u8) -> bool
+    ensures { result ≡ begins_name b }
+{
+    b'A' <= b && b <= b'Z' || (b'a' <= b && b <= b'z' || b == b'_')
+}
+
+fn continues_name(b: u8) -> bool
+    ensures { result ≡ continues_name b }
+{
+    begins_name(b) || (b'0' <= b && b <= b'9' || (b == b'-' || b == b'.'))
+}
+
+// Whether the bytes are an anchor's name (JSON Schema Core, section 8.2.2).
+fn is_anchor_name(bytes: &[u8]) -> bool
+    ensures { result ≡ is_anchor_name bytes.now }
+{
+    match bytes.split_first() {
+        Some((first, rest)) => begins_name(*first) && all_continue(rest),
+        None => false,
+    }
+}
+
+fn all_continue(bytes: &[u8]) -> bool
+    ensures { result ≡ list_all continues_name bytes.now }
+{
+    bytes.iter().all(|b| continues_name(*b))
+}
+
+fn is_filled(docs: &[Doc]) -> bool
+    ensures { result ≡ is_filled_list (spec.list (spec.items (map value_of docs.now))) }
+{
+    match docs.first() {
+        Some(_) => true,
+        None => false,
+    }
+}
+
+/// Whether the argument has the form that the keyword asks for, assertions aside.
+pub(crate) fn is_formed(keyword: &str, argument: &Doc) -> bool
+    ensures { result ≡ is_formed keyword.now (value_of argument.now) }
+{
+    match keyword {
+        "$schema" | "$id" | "$ref" | "$dynamicRef" | "$anchor" | "$dynamicAnchor" => {
+            matches!(argument, Doc::Text(_))
+        }
+        "allOf" | "anyOf" | "oneOf" | "prefixItems" => match argument {
+            Doc::List(items) => is_filled(items.as_slice()),
+            _ => false,
+        },
+        "$defs" | "definitions" | "properties" | "patternProperties" | "dependentSchemas" => {
+            matches!(argument, Doc::Members(_))
+        }
+        _ => true,
+    }
+}
+
+fn is_schema(value: &Doc) -> bool
+    ensures { result ≡ is_schema (value_of value.now) }
+{
+    match value {
+        Doc::Truth(_) => true,
+        Doc::Members(_) => true,
+        _ => false,
+    }
+}
+
+// One dialect is served (JSON Schema Core, section 8.1.1).
+fn is_dialect(text: &str) -> bool
+    ensures { result ≡ is_dialect text.now }
+{
+    text == "https://json-schema.org/draft/2020-12/schema"
+        || text == "https://json-schema.org/draft/2020-12/schema#"
+}
+
+/// The rule of `$schema`.
+pub(crate) fn check_dialect(
+    alloc: Global,
+    site: &Site<'_>,
+    keyword: &str,
+    text: &str,
+) -> Result<(), CheckFault>
+    ensures ok { OnOk result (IsClear (at_dialect (site_of site.now) (keyword.now ∷ []) text.now)) }
+    ensures err { IfErr result (IsStopped (at_dialect (site_of site.now) (keyword.now ∷ []) text.now)) }
+{
+    if is_dialect(text) {
+        Ok(())
+    } else {
+        Err(refuse(alloc, site, Some(keyword), RefusalKind::UnknownDialect))
+    }
+}
+
+/// The rules of `$id` (JSON Schema Core, section 8.2.1). The scan joined it.
+pub(crate) fn check_id(
+    alloc: Global,
+    index: &Index,
+    before: &[Site<'_>],
+    site: &Site<'_>,
+    keyword: &str,
+    text: &str,
+) -> Result<(), CheckFault>
+    requires index { IsIndexOf index.now (map site_of before.now) }
+    requires id { argument (codes "$id") (value_of site.now.schema.now) ≡ Some (spec.text text.now) }
+    ensures ok { OnOk result (IsClear
+        (at_id (map site_of before.now) (site_of site.now) (keyword.now ∷ []) text.now)) }
+    ensures err { IfErr result (IsStopped
+        (at_id (map site_of before.now) (site_of site.now) (keyword.now ∷ []) text.now)) }
+{
+    if LONGEST < text.len() {
+        return Err(refuse(alloc, site, Some(keyword), RefusalKind::UriTooLong));
+    }
+    if !site.bare {
+        return Err(refuse(alloc, site, Some(keyword), RefusalKind::BadId));
+    }
+    if is_taken(index, before, &site.own.base) {
+        return Err(refuse(alloc, site, Some(keyword), RefusalKind::DuplicateUri));
+    }
+    Ok(())
+}
+
+/// The rules of `$anchor` and of `$dynamicAnchor` (JSON Schema Core, section 8.2.2).
+pub(crate) fn check_anchor(
+    alloc: Global,
+    index: &Index,
+    before: &[Site<'_>],
+    site: &Site<'_>,
+    keyword: &str,
+    name: &str,
+) -> Result<(), CheckFault>
+    requires { IsIndexOf index.now (map site_of before.now) }
+    ensures ok { OnOk result (IsClear
+        (at_anchor (map site_of before.now) (site_of site.now) (keyword.now ∷ []) name.now)) }
+    ensures err { IfErr result (IsStopped
+        (at_anchor (map site_of before.now) (site_of site.now) (keyword.now ∷ []) name.now)) }
+{
+    if !is_anchor_name(name.as_bytes()) {
+        return Err(refuse(alloc, site, Some(keyword), RefusalKind::BadAnchor));
+    }
+    if is_made(alloc, index, before, site, name)? {
+        return Err(refuse(alloc, site, Some(keyword), RefusalKind::DuplicateAnchor));
+    }
+    Ok(())
+}
+
+fn check_count(alloc: Global, before: &[Site<'_>], site: &Site<'_>) -> Result<(), CheckFault>
+    ensures ok { OnOk result (IsClear
+        (when (nat_le 100000 (length (map site_of before.now))) (decided (site_of site.now) [] TooManyPlaces))) }
+    ensures err { IfErr result (IsStopped
+        (when (nat_le 100000 (length (map site_of before.now))) (decided (site_of site.now) [] TooManyPlaces))) }
+{
+    if MOST_PLACES <= before.len() {
+        return Err(refuse(alloc, site, None, RefusalKind::TooManyPlaces));
+    }
+    Ok(())
+}
+
+fn check_shape(alloc: Global, site: &Site<'_>) -> Result<(), CheckFault>
+    ensures ok { OnOk result (IsClear
+        (when (not (is_schema (value_of site.now.schema.now))) (decided (site_of site.now) [] NotASchema))) }
+    ensures err { IfErr result (IsStopped
+        (when (not (is_schema (value_of site.now.schema.now))) (decided (site_of site.now) [] NotASchema))) }
+{
+    if is_schema(site.schema) {
+        Ok(())
+    } else {
+        Err(refuse(alloc, site, None, RefusalKind::NotASchema))
+    }
+}
+
+fn check_root(
+    alloc: Global,
+    index: &Index,
+    before: &[Site<'_>],
+    site: &Site<'_>,
+) -> Result<(), CheckFault>
+    requires { IsIndexOf index.now (map site_of before.now) }
+    ensures ok { OnOk result (IsClear
+        (when (is_root (site_of site.now) && is_taken (map site_of before.now) site.now.above.value.base)
+        (decided (site_of site.now) [] DuplicateUri))) }
+    ensures err { IfErr result (IsStopped
+        (when (is_root (site_of site.now) && is_taken (map site_of before.now) site.now.above.value.base)
+        (decided (site_of site.now) [] DuplicateUri))) }
+{
+    if is_root(site) && is_taken(index, before, &site.above.base) {
+        return Err(refuse(alloc, site, None, RefusalKind::DuplicateUri));
+    }
+    Ok(())
+}
+
+/// The rules of a place itself.
+pub(crate) fn check_place(
+    alloc: Global,
+    index: &Index,
+    before: &[Site<'_>],
+    site: &Site<'_>,
+) -> Result<(), CheckFault>
+    requires { IsIndexOf index.now (map site_of before.now) }
+    ensures ok { OnOk result (IsClear (at_place (map site_of before.now) (site_of site.now))) }
+    ensures err { IfErr result (IsStopped (at_place (map site_of before.now) (site_of site.now))) }
+{
+    check_count(alloc, before, site)?;
+    check_shape(alloc, site)?;
+    check_root(alloc, index, before, site)
+}
+
+/// Reads a keyword's argument as an assertion's. None where the keyword is no assertion.
+pub(crate) fn read_assertion(
+    alloc: Global,
+    site: &Site<'_>,
+    keyword: &str,
+    argument: &Doc,
+    siblings: &Members,
+) -> Result<Option<Assertion>, CheckFault>
+    ensures clear { OnOk result (IsClear
+        (assertion_rules (site_of site.now) keyword.now (value_of argument.now))) }
+    ensures built { IfOk result (λ a. a ≡ asserted keyword.now (value_of argument.now) siblings.now) }
+    ensures err { IfErr result (IsStopped
+        (assertion_rules (site_of site.now) keyword.now (value_of argument.now))) }
+{
+    match Assertion::read(alloc, keyword, argument, siblings) {
+        Ok(assertion) => Ok(assertion),
+        Err(KeywordFault::Memory) => Err(CheckFault::Memory),
+        Err(KeywordFault::BadKeyword) => {
+            Err(refuse(alloc, site, Some(keyword), RefusalKind::BadKeyword))
+        }
+        Err(KeywordFault::NotAPattern) => {
+            Err(refuse(alloc, site, Some(keyword), RefusalKind::BadPattern))
+        }
+        Err(KeywordFault::PatternTooLarge) => {
+            Err(refuse(alloc, site, Some(keyword), RefusalKind::PatternTooLarge))
+        }
+    }
+}

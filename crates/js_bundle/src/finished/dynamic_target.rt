@@ -1,0 +1,158 @@
+//! What dynamic references lead to (JSON Schema Core, sections 7.1 and 8.2.3.2).
+ghost use Rattle.std.specs.Prelude.{◌≡◌, true, codes, nat_eq, slice_get, option_map, option_and_then};
+ghost use Rattle.indexmap.specs.IndexMap.{get};
+ghost use Rattle.js_bundle.specs.Finding.{by_scope};
+ghost use Rattle.js_bundle.specs.code.Index.{number_of_key};
+ghost use Rattle.js_bundle.specs.Resource.{sites};
+ghost use Rattle.js_bundle.specs.ResourceNumber.{dynamic_target_in, roots, roots_at};
+ghost use Rattle.js_bundle.specs.Schemas.{is_place, has_keyword, place_at, path_at, StandsFor, Finds};
+ghost use Rattle.js_bundle.specs.Target.{dynamic_anchor, dynamic_target, outermost};
+
+use crate::check::references::DynamicReference;
+use crate::index::numbering::Numbering;
+use crate::keyword::text_argument;
+use crate::place::Place;
+use crate::schemas::Schemas;
+use indexmap::IndexMap;
+
+impl Schemas {
+    /// The place that the `$dynamicRef` of the place names in a dynamic scope (JSON Schema Core, section 8.2.3.2):
+    /// `path` has all the places that were applied, from the entry to this one, both included. Where the reference goes
+    /// by a name that `$dynamicAnchor` makes, the first place of the path whose resource has that name by
+    /// `$dynamicAnchor` decides. The place must have a `$dynamicRef`: ask `has_dynamic_ref`. It takes no memory.
+    pub fn dynamic_target(&self, place: Place, path: &[Place]) -> Place
+        requires { has_keyword (codes "$dynamicRef") self.now place ≡ true }
+        ensures { StandsFor self.now result (option_and_then
+            (dynamic_target (sites self.now) (path_at self.now path.now)) (place_at self.now place)) }
+    {
+        match reference_under(&self.kept.references.dynamic, place.number) {
+            Some(reference) => self.target_by_path(reference, path),
+            None => place, // never: each reference of finished schemas has its target
+        }
+    }
+
+    /// The same in a dynamic scope given by the numbers of its resources, from the entry's to the place's: the first of
+    /// these that has the name decides. A path and the numbers of its resources, repeated neighbours left out, lead to
+    /// the same place (`laws::numbers_tell_the_dynamic_scope`). It takes no memory.
+    pub fn dynamic_target_in(&self, place: Place, resources: &[usize]) -> Place
+        requires { has_keyword (codes "$dynamicRef") self.now place ≡ true }
+        ensures { StandsFor self.now result (option_and_then
+            (dynamic_target_in (sites self.now) resources.now) (place_at self.now place)) }
+    {
+        match reference_under(&self.kept.references.dynamic, place.number) {
+            Some(reference) => self.target_by_numbers(reference, resources),
+            None => place, // never: each reference of finished schemas has its target
+        }
+    }
+
+    // Where a reference leads in a dynamic scope.
+    fn target_by_path(&self, reference: DynamicReference, path: &[Place]) -> Place
+        requires { is_place self.now reference.target ≡ true }
+        ensures { StandsFor self.now result (option_map
+            (by_scope (sites self.now) (path_at self.now path.now) reference.by_name)
+            (place_at self.now reference.target)) }
+    {
+        let first = Place {
+            number: reference.target,
+        };
+        if !reference.by_name {
+            return first;
+        }
+        match text_argument(self.schema(first), "$dynamicAnchor") {
+            Some(name) => match self.outermost(name, path) {
+                Some(place) => place,
+                None => first,
+            },
+            None => first,
+        }
+    }
+
+    // The same in a scope given by numbers.
+    fn target_by_numbers(&self, reference: DynamicReference, resources: &[usize]) -> Place
+        requires { is_place self.now reference.target ≡ true }
+        ensures { StandsFor self.now result (option_map
+            (by_scope (sites self.now) (roots_at (sites self.now) resources.now) reference.by_name)
+            (place_at self.now reference.target)) }
+    {
+        let first = Place {
+            number: reference.target,
+        };
+        if !reference.by_name {
+            return first;
+        }
+        match text_argument(self.schema(first), "$dynamicAnchor") {
+            Some(name) => match self.outermost_in(name, resources) {
+                Some(place) => place,
+                None => first,
+            },
+            None => first,
+        }
+    }
+
+    // The place with this name in the first resource of the path that has one.
+    fn outermost(&self, name: &str, path: &[Place]) -> Option<Place>
+        ensures { Finds self.now result (outermost (sites self.now) name.now (path_at self.now path.now)) }
+    {
+        for place in path {
+            if let Some(found) = self.dynamic_anchor(name, *place) {
+                return Some(found);
+            }
+        }
+        None
+    }
+
+    // The same for resources by their numbers.
+    fn outermost_in(&self, name: &str, resources: &[usize]) -> Option<Place>
+        ensures { Finds self.now result
+            (outermost (sites self.now) name.now (roots_at (sites self.now) resources.now)) }
+    {
+        for resource in resources {
+            if let Some(found) = self.anchor_in(name, *resource) {
+                return Some(found);
+            }
+        }
+        None
+    }
+
+    // The place to which `$dynamicAnchor` gives the name, in the resource of a place.
+    fn dynamic_anchor(&self, name: &str, place: Place) -> Option<Place>
+        ensures { Finds self.now result
+            (option_and_then (dynamic_anchor (sites self.now) name.now) (place_at self.now place)) }
+    {
+        if !self.has(place) {
+            return None;
+        }
+        self.anchor_in(name, self.resource_number(place))
+    }
+
+    // The same in the resource with the number.
+    fn anchor_in(&self, name: &str, resource: usize) -> Option<Place>
+        ensures { Finds self.now result
+            (option_and_then (dynamic_anchor (sites self.now) name.now) (slice_get (roots (sites self.now)) resource)) }
+    {
+        match anchored(self.kept.resources.anchors.as_slice(), resource, name) {
+            Some(number) => Some(Place { number }),
+            None => None,
+        }
+    }
+}
+
+// The number that is kept under a name, in the resource with the number.
+fn anchored(anchors: &[Numbering], resource: usize, name: &str) -> Option<usize>
+    ensures { result ≡ option_and_then (λ names. number_of_key names name.now) (slice_get anchors.now resource) }
+{
+    match anchors.get(resource) {
+        Some(names) => names.number_of(name),
+        None => None,
+    }
+}
+
+/// The reference that is kept under a place's number.
+pub(crate) fn reference_under(
+    references: &IndexMap<usize, DynamicReference>,
+    place: usize,
+) -> Option<DynamicReference>
+    ensures { result ≡ get nat_eq references.now place }
+{
+    references.get(&place).copied()
+}

@@ -1,0 +1,83 @@
+//! Entries: the URI of the schema with which a judgement begins.
+ghost use Rattle.std.specs.Prelude.{◌≡◌, ◌≤◌, true, None, OnOk, IfOk, IfErr, find, length, map, option_map, slice_get};
+ghost use Rattle.url.specs.Parser.{parse_url};
+ghost use Rattle.js_bundle.specs.code.Index.{standing, standing_of, kept_standing};
+ghost use Rattle.js_bundle.specs.code.KeptSite.{kept_site_of};
+ghost use Rattle.js_bundle.specs.Names.{is_known_as, is_read, named};
+ghost use Rattle.js_bundle.specs.Resource.{sites};
+ghost use Rattle.js_bundle.specs.Schemas.{entry, is_place, StandsFor, IsEntryFault, IsNameFault, IsReadEntry};
+ghost use Rattle.js_bundle.specs.Url.{fragment, longest_uri};
+
+use crate::check::kept_site::KeptSite;
+use crate::index::place_by_uri::{NameFault, Root, number_by_fragment};
+use crate::place::Place;
+use crate::refusal::EntryFault;
+use crate::schemas::Schemas;
+use crate::uri::{self, LONGEST};
+use std::alloc::Global;
+use url::{ParseError, Url};
+
+impl Schemas {
+    /// The place that the URI names (JSON Schema Core, sections 8.2.1, 8.2.2 and 9.2.1).
+    ///
+    /// # Errors
+    /// In this order: `UriTooLong`, if it has more than 65,536 bytes; `BadUri`, if it is no absolute URL, or its
+    /// fragment isn't read; `Unresolved`, if it names no place; `Memory` at any point.
+    pub fn entry(&self, alloc: Global, uri: &str) -> Result<Place, EntryFault>
+        ensures ok { IfOk result (λ p. StandsFor self.now p (entry self.now (parse_url None uri.now))) }
+        ensures place { IfOk result (λ p. is_place self.now p ≡ true) }
+        ensures short { OnOk result (length uri.now ≤ longest_uri) }
+        ensures read { OnOk result (IsReadEntry (parse_url None uri.now)) }
+        ensures err { IfErr result (IsEntryFault self.now uri.now) }
+    {
+        if LONGEST < uri.len() {
+            return Err(EntryFault::UriTooLong);
+        }
+        match Url::parse(alloc, uri) {
+            Ok(url) => self.place_by_url(alloc, url),
+            Err(ParseError::OutOfMemory) => Err(EntryFault::Memory),
+            Err(ParseError::Overflow) => Err(EntryFault::Memory),
+            Err(_) => Err(EntryFault::BadUri),
+        }
+    }
+
+    // The place that a URL names.
+    fn place_by_url(&self, alloc: Global, url: Url) -> Result<Place, EntryFault>
+        ensures ok { IfOk result (λ p. StandsFor self.now p (named (sites self.now) url)) }
+        ensures place { IfOk result (λ p. is_place self.now p ≡ true) }
+        ensures read { OnOk result (is_read (fragment url) ≡ true) }
+        ensures err { IfErr result (IsNameFault self.now url) }
+    {
+        let fragment = uri::fragment(alloc, &url)?;
+        let bare = uri::without_fragment(url)?;
+        let root = self.kept_root_named(uri::text_of(&bare));
+        match number_by_fragment(alloc, &self.kept.index, root, fragment.as_slice()) {
+            Ok(Some(number)) => Ok(Place { number }),
+            Ok(None) => Err(EntryFault::Unresolved),
+            Err(NameFault::NotRead) => Err(EntryFault::BadUri),
+            Err(NameFault::Memory) => Err(EntryFault::Memory),
+        }
+    }
+
+    // The root of the resource that has the URI.
+    fn kept_root_named(&self, uri: &str) -> Option<Root<'_>>
+        ensures { option_map standing_of result ≡ option_map standing (find (is_known_as uri.now) (sites self.now)) }
+    {
+        match self.kept.index.known.number_of(uri) {
+            Some(number) => kept_root_at(self.kept.sites.as_slice(), number),
+            None => None,
+        }
+    }
+}
+
+fn kept_root_at(sites: &[KeptSite], number: usize) -> Option<Root<'_>>
+    ensures { option_map standing_of result ≡ option_map kept_standing (slice_get (map kept_site_of sites.now) number) }
+{
+    match sites.get(number) {
+        Some(site) => Some(Root {
+            document: site.document,
+            pointer: &site.pointer,
+        }),
+        None => None,
+    }
+}

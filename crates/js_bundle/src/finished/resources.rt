@@ -1,0 +1,109 @@
+//! The resources of finished schemas (JSON Schema Core, sections 4.3.5 and 8.2.1).
+ghost use Rattle.std.specs.Prelude.{◌≡◌, ◌++◌, ◌&&◌, [], ◌∷◌, Some, true, map, bytes_eq, option_copied, option_and_then, IfOk, OnOk};
+ghost use Rattle.js_bundle.specs.Names.{same_tokens};
+ghost use Rattle.js_bundle.specs.Resource.{sites};
+ghost use Rattle.js_bundle.specs.ResourceNumber.{resource_count, resource_number};
+ghost use Rattle.js_bundle.specs.Schemas.{is_place, place_at, resources, lent};
+ghost use Rattle.js_bundle.specs.code.KeptSite.{kept_site_of, document_uri, base_made, resource_listed};
+ghost use Rattle.js_bundle.specs.Url as spec;
+
+use crate::check::kept_site::KeptSite;
+use crate::place::Place;
+use crate::schemas::Schemas;
+use crate::uri;
+use js_doc::Memory;
+use std::alloc::Global;
+
+impl Schemas {
+    /// The URIs by which resources are known, each with the root of its resource, in scan order. A document's URI comes
+    /// before its root's base; where they are the same, it is listed once.
+    ///
+    /// # Errors
+    /// `Memory`.
+    pub fn resources(&self, alloc: Global) -> Result<Vec<(&str, Place)>, Memory>
+        ensures { IfOk result (λ v. map lent v.items ≡ resources self.now) }
+    {
+        let mut resources = Vec::new(alloc);
+        for number in 0..self.kept.sites.len() {
+            let place = Place { number };
+            let site = self.kept_site(place);
+            push_listed(&mut resources, document_uri(site), place)?;
+            push_listed(&mut resources, base_made(site), place)?;
+        }
+        Ok(resources)
+    }
+
+    /// The number of the place's resource: how many resources have their root before its own in scan order.
+    pub fn resource_number(&self, place: Place) -> usize
+        requires { is_place self.now place ≡ true }
+        ensures { option_and_then (resource_number (sites self.now)) (place_at self.now place) ≡ Some result }
+    {
+        self.kept.resources.numbers[place.number]
+    }
+
+    /// How many resources there are. Each number is below.
+    pub fn resource_count(&self) -> usize
+        ensures { result ≡ resource_count (sites self.now) }
+    {
+        self.kept.resources.anchors.len()
+    }
+}
+
+fn push_listed<'s>(
+    out: &mut Vec<(&'s str, Place)>,
+    uri: Option<&'s str>,
+    place: Place,
+) -> Result<(), Memory>
+    ensures { OnOk result (map lent out.new.items
+        ≡ map lent out.old.items ++ resource_listed place (option_copied uri.entry)) }
+{
+    match uri {
+        Some(uri) => push_pair(out, (uri, place)),
+        None => Ok(()),
+    }
+}
+
+fn push_pair<T: Drop>(out: &mut Vec<T>, one: T) -> Result<(), Memory>
+    ensures { OnOk result (out.new.items ≡ out.old.items ++ one ∷ []) }
+{
+    match out.push(one) {
+        Ok(()) => Ok(()),
+        Err(_) => Err(Memory),
+    }
+}
+
+// The document's URI, at its root.
+fn document_uri(site: &KeptSite) -> Option<&str>
+    ensures { option_copied result ≡ document_uri (kept_site_of site.now) }
+{
+    if is_document_root(site) {
+        Some(uri::text_of(&site.above.base))
+    } else {
+        None
+    }
+}
+
+// What the `$id` makes, unless it is the document's URI at its root.
+fn base_made(site: &KeptSite) -> Option<&str>
+    ensures { option_copied result ≡ base_made (kept_site_of site.now) }
+{
+    let told = is_document_root(site) && keeps_base(site);
+    if site.identifies && !told {
+        Some(uri::text_of(&site.own.base))
+    } else {
+        None
+    }
+}
+
+fn is_document_root(site: &KeptSite) -> bool
+    ensures { result ≡ same_tokens site.now.pointer.value [] }
+{
+    site.pointer.tokens().is_empty()
+}
+
+// Whether the place's base is that of the scope it is in.
+fn keeps_base(site: &KeptSite) -> bool
+    ensures { result ≡ bytes_eq (spec.printed site.now.above.value.base) (spec.printed site.now.own.value.base) }
+{
+    uri::text_of(&site.above.base) == uri::text_of(&site.own.base)
+}

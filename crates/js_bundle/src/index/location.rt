@@ -1,0 +1,143 @@
+//! Absolute locations (JSON Schema Core, section 12.3.2).
+ghost use Rattle.std.specs.Prelude.{◌≡◌, ◌≤◌, ◌-◌, ◌++◌, ◌&&◌, ◌==◌, bytes_eq, codes, drop, take, length, option_map, string_bytes, IfOk, OnOk, MatchOption};
+ghost use Rattle.js_doc.specs.Fragment.{fragment_text};
+ghost use Rattle.js_bundle.specs.Finding.{tokens_of};
+ghost use Rattle.js_bundle.specs.code.TextPrefix.{BeginsLocation, shared_with};
+ghost use Rattle.js_bundle.specs.code.Scan.{site_of};
+ghost use Rattle.js_bundle.specs.Location.{location};
+ghost use Rattle.js_bundle.specs.Url.{printed};
+
+use crate::index::text_prefix::TextPrefix;
+use crate::scan::scope::Scope;
+use crate::scan::site::Site;
+use crate::uri;
+use js_doc::{Memory, Pointer, Token, push_fragment_token};
+use std::alloc::Global;
+
+/// The absolute location of what stands at the pointer in a resource, or of a keyword there.
+pub(crate) fn absolute_location(
+    alloc: Global,
+    scope: &Scope,
+    pointer: &Pointer,
+    keyword: Option<&str>,
+) -> Result<String, Memory>
+    ensures { IfOk result (λ t. string_bytes t ≡ printed scope.now.base
+        ++ (codes "#" ++ fragment_text (drop (length scope.now.resource) pointer.now ++ tokens_of keyword.entry))) }
+{
+    let mut text = String::new(alloc);
+    push_resource_uri(&mut text, scope)?;
+    push_way(&mut text, pointer.tokens(), scope.resource.tokens().len())?;
+    push_keyword(&mut text, keyword)?;
+    Ok(text)
+}
+
+// The resource's URI and a `#`.
+fn push_resource_uri(text: &mut String, scope: &Scope) -> Result<(), Memory>
+    ensures { OnOk result (string_bytes text.new ≡ string_bytes text.old ++ (printed scope.now.base ++ codes "#")) }
+{
+    text.push_str(uri::text_of(&scope.base))?;
+    text.push('#')?;
+    Ok(())
+}
+
+// The tokens after the first ones, as a fragment.
+fn push_way(text: &mut String, tokens: &[Token], from: usize) -> Result<(), Memory>
+    ensures { OnOk result (string_bytes text.new ≡ string_bytes text.old ++ fragment_text (drop from tokens.now)) }
+{
+    for i in from..tokens.len() {
+        push_fragment_token(text, tokens[i].as_str())?;
+    }
+    Ok(())
+}
+
+fn push_keyword(text: &mut String, keyword: Option<&str>) -> Result<(), Memory>
+    ensures { OnOk result (string_bytes text.new ≡ string_bytes text.old ++ fragment_text (tokens_of keyword.entry)) }
+{
+    match keyword {
+        Some(keyword) => push_fragment_token(text, keyword),
+        None => Ok(()),
+    }
+}
+
+/// Makes the location of a place, and its prefix, from the prefix of the location before it.
+pub(crate) fn next_location(
+    alloc: Global,
+    prefix: &mut TextPrefix,
+    before: Option<&Site<'_>>,
+    site: &Site<'_>,
+    shared: usize,
+) -> Result<String, Memory>
+    requires before { MatchOption before (Unit {0}) (λ b. BeginsLocation prefix.old (site_of b.now)) }
+    requires shared { shared ≡ shared_with (option_map (λ b. site_of b.now) before) (site_of site.now) }
+    ensures begins { OnOk result (BeginsLocation prefix.new (site_of site.now)) }
+    ensures location { IfOk result (λ t. string_bytes t ≡ location (site_of site.now)) }
+{
+    let root = site.own.resource.tokens().len();
+    let way = way_from(site.pointer.tokens(), root);
+    let told = way.len().saturating_sub(1);
+    begin_location(prefix, before, site, shared.saturating_sub(root).min(told))?;
+    extend_location(prefix, way, told)?;
+    let mut text = prefix.text_with_room(alloc, way)?;
+    push_way(&mut text, way, told)?;
+    Ok(text)
+}
+
+// The tokens after those of the resource's root.
+fn way_from(tokens: &[Token], root: usize) -> &[Token]
+    ensures { result.now ≡ drop root tokens.now }
+{
+    match tokens.get(root..) {
+        Some(way) => way,
+        None => &[],
+    }
+}
+
+// Leaves the prefix as it is where it is one of the place's location too, with no more tokens than that. Else it
+// begins with no token.
+fn begin_location(
+    prefix: &mut TextPrefix,
+    before: Option<&Site<'_>>,
+    site: &Site<'_>,
+    most: usize,
+) -> Result<(), Memory>
+    requires before { MatchOption before (Unit {0}) (λ b. BeginsLocation prefix.old (site_of b.now)) }
+    requires most { most ≤ shared_with (option_map (λ b. site_of b.now) before) (site_of site.now)
+        - length site.now.own.value.resource }
+    ensures begins { OnOk result (BeginsLocation prefix.new (site_of site.now)) }
+    ensures within { OnOk result (prefix.new.tokens ≤ most) }
+{
+    match before {
+        Some(before) if has_base_and_depth_of(before, site) && prefix.tokens <= most => Ok(()),
+        _ => begin_location_anew(prefix, &site.own),
+    }
+}
+
+// Whether the resources of the two have the same URI, and roots as deep.
+fn has_base_and_depth_of(before: &Site<'_>, site: &Site<'_>) -> bool
+    ensures { result ≡ (bytes_eq (printed before.now.own.value.base) (printed site.now.own.value.base)
+        && length before.now.own.value.resource == length site.now.own.value.resource) }
+{
+    uri::text_of(&before.own.base) == uri::text_of(&site.own.base)
+        && before.own.resource.tokens().len() == site.own.resource.tokens().len()
+}
+
+fn begin_location_anew(prefix: &mut TextPrefix, scope: &Scope) -> Result<(), Memory>
+    ensures text { OnOk result (string_bytes prefix.new.text ≡ printed scope.now.base ++ codes "#") }
+    ensures none { OnOk result (prefix.new.tokens ≡ 0) }
+{
+    prefix.tokens = 0;
+    prefix.text.clear();
+    push_resource_uri(&mut prefix.text, scope)
+}
+
+// Adds the first tokens of the way to it.
+fn extend_location(prefix: &mut TextPrefix, way: &[Token], told: usize) -> Result<(), Memory>
+    requires { told ≤ length way.now }
+    ensures text { OnOk result (string_bytes prefix.new.text
+        ≡ string_bytes prefix.old.text ++ fragment_text (drop prefix.old.tokens (take told way.now))) }
+    ensures tokens { OnOk result (prefix.new.tokens ≡ told) }
+{
+    push_way(&mut prefix.text, &way[..told], prefix.tokens)?;
+    prefix.tokens = told;
+    Ok(())
+}

@@ -1,0 +1,28 @@
+//! A place, as the scan finds it.
+ghost use Rattle.std.specs.Prelude.{◌≡◌};
+ghost use Rattle.js_doc.specs.Seen.{value_of};
+ghost use Rattle.js_bundle.specs.Resource.{identified, scope_or};
+ghost use Rattle.js_bundle.specs.code.Identity.{is_bare};
+
+use crate::scan::scope::Scope;
+use js_doc::{Doc, Pointer};
+use std::sync::Arc;
+
+/// A place, as the scan finds it.
+#[derive(Drop)]
+pub(crate) struct Site<'a> {
+    pub(crate) document: usize,
+    pub(crate) pointer: Arc<Pointer>,
+    /// The scope that the place is in.
+    pub(crate) above: Arc<Scope>,
+    /// Its own.
+    pub(crate) own: Arc<Scope>,
+    /// Whether its `$id` makes a base.
+    pub(crate) identifies: bool,
+    /// Whether its `$id` gives a URI without a fragment, or with an empty one.
+    pub(crate) bare: bool,
+    pub(crate) schema: &'a Doc,
+    ghost based: { own.value.base
+        ≡ (scope_or (identified above.value.base (value_of schema.now)) pointer.value above.value).base },
+    ghost told: { bare ≡ is_bare above.value.base (value_of schema.now) },
+}
