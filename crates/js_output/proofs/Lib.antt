@@ -2,6 +2,7 @@ pub mod CauseLists
 pub mod BundleCauses
 pub mod Sites
 pub mod Recorded
+pub mod RowsThere
 pub mod Sending
 pub mod Answering
 pub mod FinishedSchemas

@@ -2,13 +2,14 @@
 ghost use Rattle.std.specs.Prelude.{◌≡◌, true, IfErr, IfOk};
 ghost use Rattle.js_doc.specs.Seen.{value_of};
 ghost use Rattle.js_bundle.specs.Schemas.{is_place, place_at};
+ghost use Rattle.js_eval.specs.Walked.{NoneStands, OnTooLarge};
 ghost use Rattle.js_output.specs.Outcome.{AreResultRows, IsWalkFault};
 
 use crate::fault::Fault;
 use bumpalo::Bump;
 use js_bundle::{Place, Schemas};
 use js_doc::Doc;
-use js_eval::{walk_noted_rows, walk_rows};
+use js_eval::{WalkFault, walk_noted_rows, walk_rows};
 use js_tree::{Format, RelativeRows};
 use std::alloc::Global;
 
@@ -28,11 +29,31 @@ pub(crate) fn rows_of<'a>(
     ensures fault { IfErr result (IsWalkFault schemas.now
         (place_at schemas.now place) (value_of instance.now)) }
 {
-    let rows = match format {
-        Format::Verbose => walk_rows(alloc, arena, schemas, place, instance)?,
+    match walked(alloc, arena, schemas, place, format, instance) {
+        Ok(rows) => Ok(rows),
+        Err(fault) => Err(Fault::from(fault)),
+    }
+}
+
+// Walks with the rows that the format needs.
+fn walked<'a>(
+    alloc: Global,
+    arena: &'a Bump,
+    schemas: &'a Schemas,
+    place: Place,
+    format: Format,
+    instance: &'a Doc,
+) -> Result<RelativeRows<'a>, WalkFault>
+    requires { is_place schemas.now place ≡ true }
+    ensures rows { IfOk result (AreResultRows format schemas.now
+        (place_at schemas.now place) (value_of instance.now)) }
+    ensures fault { IfErr result (λ e. OnTooLarge e
+        (NoneStands schemas.now place (value_of instance.now))) }
+{
+    match format {
+        Format::Verbose => walk_rows(alloc, arena, schemas, place, instance),
         Format::Flag | Format::Basic | Format::Detailed | Format::Merged => {
-            walk_noted_rows(alloc, arena, schemas, place, instance)?
+            walk_noted_rows(alloc, arena, schemas, place, instance)
         }
-    };
-    Ok(rows)
+    }
 }
