@@ -1,4 +1,4 @@
-use Rattle.std.proofs.Common.{subst, ap, ◌∙◌, [], ◌∷◌, ◌++◌}
+use Rattle.std.proofs.Common.{refl, subst, ap, ◌∙◌, [], ◌∷◌, ◌++◌}
 use Rattle.std.proofs.lemmas.Result.{err_from_is_err_and}
 use Rattle.js_doc.specs.Compact.{compact}
 use Rattle.js_doc.specs.Seen.{value_of}
@@ -29,6 +29,20 @@ returns-in_err-write_detailed-clause-answer g c =
     let (write, begun) = c.in_err-write_detailed.ensures.sent (recorded Detailed t) rows in
     rw (p.1, p.2) (tells-begun docs entry (value_of c.args.instance.now) Detailed t is stands taken c.args.out.now c.write_detailed.new.out c.in_err-write_detailed.field-0.0
     (write, subst (λ v. SendsBeginning taken c.args.out.now c.write_detailed.new.out (compact v ++ 10 ∷ [])) (recorded_form Detailed t) begun))
+
+pub returns-in_err-write_detailed-clause-late : goal.returns-in_err-write_detailed-clause-late
+returns-in_err-write_detailed-clause-late g c =
+    let p = err_from_is_err_and c.from_residual-in_err-write_detailed.result c.from_residual-in_err-write_detailed.ensures.1 in
+    let (t, is, stands, rows) = c.in_ok-rows.ensures.rows in
+    let (write, begun) = c.in_err-write_detailed.ensures.sent (recorded Detailed t) rows in
+    rw (p.1, p.2, write) tt
+
+pub returns-in_err-write_detailed-clause-nothing : goal.returns-in_err-write_detailed-clause-nothing
+returns-in_err-write_detailed-clause-nothing g c =
+    let p = err_from_is_err_and c.from_residual-in_err-write_detailed.result c.from_residual-in_err-write_detailed.ensures.1 in
+    let (t, is, stands, rows) = c.in_ok-rows.ensures.rows in
+    let (write, begun) = c.in_err-write_detailed.ensures.sent (recorded Detailed t) rows in
+    rw (p.1, p.2, write) (λ other. absurd (other refl))
 
 pub returns-clause-answer : goal.returns-clause-answer
 returns-clause-answer g c =
