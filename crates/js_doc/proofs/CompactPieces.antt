@@ -13,9 +13,9 @@ item_left ds i d later h is = ap (λ xs. compact_items later (items_seen xs)) (d
 pub item_end : (ds : List Doc) (i : ℕ) (later : Bool) → length ds ≤ i → compact_items later (items_seen (drop i ds)) ≡ 93 ∷ []
 item_end ds i later h = ap (λ xs. compact_items later (items_seen xs)) (drop_all i ds h)
 
-pub entry_left : (es left : List Entry) (name : String Global) (d : Doc) (later : Bool) (k : List ℕ) → es ≡ (name, d) ∷ left → k ≡ string_bytes name
-    → compact_members later (members_seen es) ≡ comma_if later ++ (quoted k ++ (58 ∷ [] ++ (compact (value_of d) ++ compact_members true (members_seen left))))
-entry_left es left name d later k e f = rw (e, f)
+pub entry_left : (es : List Entry) (i : ℕ) (e : Entry) (later : Bool) (k : List ℕ) → i < length es → get_or es i e ≡ e → k ≡ string_bytes e.0
+    → compact_members later (members_seen (drop i es)) ≡ comma_if later ++ (quoted k ++ (58 ∷ [] ++ (compact (value_of e.1) ++ compact_members true (members_seen (drop (i + 1) es)))))
+entry_left es i e later k h is f = rw (drop_more es i e h, is, f)
 
-pub entry_end : (es : List Entry) (later : Bool) → es ≡ [] → compact_members later (members_seen es) ≡ 125 ∷ []
-entry_end es later e = rw e
+pub entry_end : (es : List Entry) (i : ℕ) (later : Bool) → length es ≤ i → compact_members later (members_seen (drop i es)) ≡ 125 ∷ []
+entry_end es i later h = ap (λ xs. compact_members later (members_seen xs)) (drop_all i es h)

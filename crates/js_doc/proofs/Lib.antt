@@ -19,4 +19,5 @@ pub mod TokenBytes
 pub mod PlainTokens
 pub mod Named
 pub mod FiniteMaps
+pub mod Placing
 pub mod Smaller
