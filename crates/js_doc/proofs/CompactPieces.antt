@@ -1,10 +1,10 @@
 -- What is left to write of items or of members, a piece at a time.
-use Rattle.std.proofs.Common.{◌≡◌, ℕ, ◌+◌, ◌<◌, ◌≤◌, Bool, true, List, [], ◌∷◌, ◌++◌, length, drop, get_or, String, Global, string_bytes, ap, ◌∙◌}
+use Rattle.std.proofs.Common.{◌≡◌, ℕ, ◌+◌, ◌<◌, ◌≤◌, Bool, true, List, [], ◌∷◌, ◌++◌, length, drop, get_or, string_bytes, ap, ◌∙◌}
 use Rattle.std.proofs.lemmas.List.{drop_more, drop_all}
 use Rattle.js_doc.specs.Seen.{value_of, items_seen, members_seen}
 use Rattle.js_doc.specs.Compact.{quoted, compact, comma_if, compact_items, compact_members}
 use Rattle.js_doc.specs.declared.doc.Doc.{Doc}
-use Rattle.js_doc.proofs.Entries.{Entry}
+use Rattle.js_doc.proofs.Alike.{Entry}
 
 pub item_left : (ds : List Doc) (i : ℕ) (d : Doc) (later : Bool) → i < length ds → get_or ds i d ≡ d
     → compact_items later (items_seen (drop i ds)) ≡ comma_if later ++ (compact (value_of d) ++ compact_items true (items_seen (drop (i + 1) ds)))

@@ -2,7 +2,6 @@ pub mod BytesGone
 pub mod Extending
 pub mod EscapeMasks
 pub mod QuotedRuns
-pub mod Entries
 pub mod CompactPieces
 pub mod PartLists
 pub mod Alike

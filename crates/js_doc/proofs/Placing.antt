@@ -1,5 +1,5 @@
 -- Where a name stands among members whose names ascend, and what is got and put there.
-use Rattle.std.proofs.Common.{◌≡◌, ℕ, ◌+◌, ◌-◌, ◌<◌, ◌≤◌, suc, zero, List, [], ◌∷◌, ◌++◌, map, length, get_or, set, take, drop, insert, option_map, slice_get, Some, None, String, Global, Ordering, Less, Equal, Greater, string_bytes, refl, sym, ap, ◌∙◌, subst, arith}
+use Rattle.std.proofs.Common.{◌≡◌, ℕ, ◌+◌, ◌<◌, ◌≤◌, suc, zero, List, [], ◌∷◌, ◌++◌, map, length, get_or, set, insert, option_map, slice_get, Some, None, String, Global, Ordering, Less, Equal, Greater, string_bytes, refl, sym, ap, ◌∙◌, subst, arith}
 use Rattle.std.proofs.lemmas.Cmp.{nat_list_cmp_total}
 use Rattle.std.specs.Ordering.{match_ordering, ordering_reverse}
 use Rattle.js_doc.specs.Value.{Value, Named, object, members}
@@ -9,7 +9,7 @@ use Rattle.js_doc.specs.Lawful.{IsLawful}
 use Rattle.js_doc.specs.Seen.{value_of, pair_of, members_seen}
 use Rattle.js_doc.specs.code.Places.{rank, rank_past, GoesTo, StandsAt, IsAboveAll}
 use Rattle.js_doc.specs.declared.doc.Doc.{Doc}
-use Rattle.js_doc.proofs.Entries.{Entry}
+use Rattle.js_doc.proofs.Alike.{Entry}
 use Rattle.js_doc.proofs.FiniteMaps.{name_equal, get_below}
 use Rattle.js_doc.proofs.Ascending.{members_ascend-put}
 use Rattle.js_doc.proofs.Shortness.{members_short-put}

@@ -1,4 +1,4 @@
-use Rattle.std.proofs.Common.{◌≡◌, ◌+◌, ◌-◌, ◌<◌, length, get_or, Equal, Greater, arith}
+use Rattle.std.proofs.Common.{◌≡◌, ◌-◌, length, get_or, Equal, Greater, arith}
 use Rattle.js_doc.proofs.Placing.{compared, stands_at, goes_first, goes_last}
 use Rattle.js_doc.proofs.places.place.Goals as goal
 

@@ -1,4 +1,4 @@
-use Rattle.std.proofs.Common.{◌≤◌, map, length, set, string_bytes, sym, ◌∙◌, subst, arith}
+use Rattle.std.proofs.Common.{◌≤◌, map, length, set, sym, ◌∙◌, subst, arith}
 use Rattle.js_doc.specs.Members.{IsAscending}
 use Rattle.js_doc.specs.Seen.{pair_of}
 use Rattle.js_doc.specs.code.Places.{GoesTo}
