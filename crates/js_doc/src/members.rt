@@ -1,4 +1,5 @@
-ghost use Rattle.std.specs.Prelude.{◌≡◌, ◌↔◌, [], IsTrue, length, map, option_map, slice_get, IfOk, OnOk, OnErr, string_bytes};
+ghost use Rattle.std.specs.Prelude.{◌≡◌, ◌↔◌, [], IsTrue, length, map, slice_get, string_bytes};
+ghost use Rattle.std.specs.Prelude.{option_map, IfOk, OnOk, OnErr};
 ghost use Rattle.js_doc.specs.Members.{IsAscending, get, put};
 ghost use Rattle.js_doc.specs.code.Places.{IsAboveAll};
 

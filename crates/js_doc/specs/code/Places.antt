@@ -22,7 +22,8 @@ GoesTo k ms i = (rank k ms ≡ i) × (rank_past k ms ≡ i)
 
 -- k is the name at i
 abbrev pub StandsAt : List ℕ → List (String Global × Doc) → ℕ → Type 0
-StandsAt k es i = (i < length es) × ((d : String Global × Doc) → name_cmp k (string_bytes (slice_index_or es i d).0) ≡ Equal)
+StandsAt k es i =
+    (i < length es) × ((d : String Global × Doc) → name_cmp k (string_bytes (slice_index_or es i d).0) ≡ Equal)
 
 -- k is above all names
 abbrev pub IsAboveAll : {A : Type 0} → List ℕ → List (List ℕ × A) → Type 0

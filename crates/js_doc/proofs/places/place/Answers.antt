@@ -11,7 +11,8 @@ returns-in-Greater-clause-err c =
     let last = length es - 1 in
     let e = get_or es last c.index-entries-len.result in
     let some : length es ≡ 0 → ⊥ = c.if-len-eq0.false in
-    goes_last c.args.name.now es last c.index-entries-len.result c.requires (omega (arith, some)) (compared c.args.name.now c.as_str.result.now e Greater c.cmp.result c.cmp.ensures c.as_str.ensures.value c.in-Greater.is)
+    let is = compared c.args.name.now _ e Greater _ c.cmp.ensures c.as_str.ensures.value c.in-Greater.is in
+    goes_last c.args.name.now es last c.index-entries-len.result c.requires (omega (arith, some)) is
 
 pub returns-in-Equal-clause-ok : goal.returns-in-Equal-clause-ok
 returns-in-Equal-clause-ok c =
@@ -19,4 +20,5 @@ returns-in-Equal-clause-ok c =
     let last = length es - 1 in
     let e = get_or es last c.index-entries-len.result in
     let some : length es ≡ 0 → ⊥ = c.if-len-eq0.false in
-    stands_at c.args.name.now es last c.index-entries-len.result (omega (arith, some)) (compared c.args.name.now c.as_str.result.now e Equal c.cmp.result c.cmp.ensures c.as_str.ensures.value c.in-Equal.is)
+    let is = compared c.args.name.now _ e Equal _ c.cmp.ensures c.as_str.ensures.value c.in-Equal.is in
+    stands_at c.args.name.now es last c.index-entries-len.result (omega (arith, some)) is

@@ -12,9 +12,10 @@ loop-low-preserved-in-Less c =
     let at = l.low + (l.high - l.low) / 2 in
     let below : at < l.high = omega (arith, c.loop-low-test.true) in
     let h : at < length es = omega (arith, below, l.invariant.2) in
-    let e = get_or es at c.index-entries-middle.result in (
+    let i = c.index-entries-middle.result in
+    let is = compared c.args.name.now _ (get_or es at i) Less _ c.cmp.ensures c.as_str.ensures.value c.in-Less.is in (
       l.invariant.0,
-      goes_below c.args.name.now es at c.index-entries-middle.result h (compared c.args.name.now c.as_str.result.now e Less c.cmp.result c.cmp.ensures c.as_str.ensures.value c.in-Less.is),
+      goes_below c.args.name.now es at i h is,
       omega (arith, h),
     )
 
@@ -25,8 +26,9 @@ returns-in-Equal-clause-ok c =
     let at = l.low + (l.high - l.low) / 2 in
     let below : at < l.high = omega (arith, c.loop-low-test.true) in
     let h : at < length es = omega (arith, below, l.invariant.2) in
-    let e = get_or es at c.index-entries-middle.result in
-    stands_at c.args.name.now es at c.index-entries-middle.result h (compared c.args.name.now c.as_str.result.now e Equal c.cmp.result c.cmp.ensures c.as_str.ensures.value c.in-Equal.is)
+    let i = c.index-entries-middle.result in
+    let is = compared c.args.name.now _ (get_or es at i) Equal _ c.cmp.ensures c.as_str.ensures.value c.in-Equal.is in
+    stands_at c.args.name.now es at i h is
 
 pub loop-low-preserved : goal.loop-low-preserved
 loop-low-preserved c =
@@ -35,8 +37,10 @@ loop-low-preserved c =
     let at = l.low + (l.high - l.low) / 2 in
     let below : at < l.high = omega (arith, c.loop-low-test.true) in
     let h : at < length es = omega (arith, below, l.invariant.2) in
-    let e = get_or es at c.index-entries-middle.result in
-    let past = goes_above c.args.name.now es at c.index-entries-middle.result c.requires h (compared c.args.name.now c.as_str.result.now e Greater c.cmp.result c.cmp.ensures c.as_str.ensures.value c.in-Greater.is) in (
+    let i = c.index-entries-middle.result in
+    let e = get_or es at i in
+    let is = compared c.args.name.now _ e Greater _ c.cmp.ensures c.as_str.ensures.value c.in-Greater.is in
+    let past = goes_above c.args.name.now es at i c.requires h is in (
       omega (arith, past),
       l.invariant.1,
       l.invariant.2,
@@ -44,4 +48,5 @@ loop-low-preserved c =
 
 pub returns-clause-err : goal.returns-clause-err
 returns-clause-err c =
-    let l = c.loop-low in goes_between c.args.name.now c.args.entries.now l.low l.high l.invariant.0 l.invariant.1 c.loop-low-test.false
+    let l = c.loop-low in
+    goes_between c.args.name.now c.args.entries.now l.low l.high l.invariant.0 l.invariant.1 c.loop-low-test.false

@@ -4,7 +4,9 @@ use Rattle.js_doc.specs.code.Places.{rank, rank_past}
 use Rattle.js_doc.proofs.places.search.Given as goal
 
 abbrev pub invariant-loop-low : goal.invariant-loop-low
-invariant-loop-low l = (l.low ≤ rank l.name (map pair_of l.entries)) × (rank_past l.name (map pair_of l.entries) ≤ l.high) × (l.high ≤ length l.entries)
+invariant-loop-low l =
+    let ms = map pair_of l.entries in
+    (l.low ≤ rank l.name ms) × (rank_past l.name ms ≤ l.high) × (l.high ≤ length l.entries)
 
 abbrev pub decreases-loop-low : goal.decreases-loop-low
 decreases-loop-low l = l.high - l.low

@@ -4,4 +4,5 @@ use Rattle.js_doc.proofs.Ascending.{members_ascend-list}
 use Rattle.js_doc.proofs.members.Members.pairs.Goals as goal
 
 pub returns-clause-ascending : goal.returns-clause-ascending
-returns-clause-ascending c = rw (← c.self.view_is) (members_ascend-list (map pair_of c.self.inside.entries.items) c.self.invariant.0)
+returns-clause-ascending c =
+    rw (← c.self.view_is) (members_ascend-list (map pair_of c.self.inside.entries.items) c.self.invariant.0)
