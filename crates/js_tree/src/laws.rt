@@ -131,8 +131,8 @@ pub fn relative_rows_are_those_of_the_tree()
     ensures { RelativeHolds }
 {}
 
-/// After the events of such a tree, a `RelativeRows` that trims has its trimmed tree's rows, but none if of that the
-/// root alone is left and has no note.
+/// After the events of such a tree, a `RelativeRows` that trims has its trimmed tree's rows, but none if only the root
+/// is left and has no note.
 pub fn trimming_rows_are_those_of_the_trimmed_tree()
     ensures { TrimmingHolds }
 {}

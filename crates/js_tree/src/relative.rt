@@ -189,9 +189,8 @@ impl<'a> RelativeRows<'a> {
         }
     }
 
-    /// Whether a node that opens and closes at once, passing and without a note, leaves nothing behind, wherever it
-    /// is. Who sends nodes may then leave it out. With `trimming` it is so, but not claimed of rows that are as many
-    /// as a vector can hold, since one more couldn't be added.
+    /// Whether a node that opens and closes at once, passing and without a note, would leave the rows as they are. The
+    /// caller may then leave it out. True with `trimming`, unless the rows are as many as a vector can hold.
     #[inline(always)]
     pub fn drops_silent(&self) -> bool
         ensures { result ≡ true → DropsSilent self.now }
