@@ -19,8 +19,8 @@ pub(crate) struct Keyword<'a> {
     ghost named: { kind ≡ table.kind name.now },
 }
 
-/// Whether it is sure that a keyword's name is written as it is, in a pointer, in a fragment and in a JSON string: those
-/// of the standard's applicators and assertions are.
+/// Whether a keyword's name is known to need no escapes in a pointer, in a fragment or in a JSON string. Those of the
+/// standard's applicators and assertions need none.
 pub(crate) fn is_written_as_it_is(kind: Kind, _name: &str) -> bool
     requires { kind ≡ table.kind _name.now }
     ensures { IsTrue result → IsWrittenAsItIs _name.now }

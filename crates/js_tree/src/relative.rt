@@ -125,8 +125,8 @@ impl<'a> RelativeRows<'a> {
         Ok(())
     }
 
-    /// A node of a keyword opens, whose name its absolute location adds to that of its schema, behind a slash. The name
-    /// has to stand in a JSON string as it is (`stand_as_they_are` of js_doc). That is cheaper than `enter`: if the keyword
+    /// The node of a keyword opens. Its absolute location adds a slash and this name to that of its schema. The name
+    /// must stand in a JSON string as it is (`stand_as_they_are` of js_doc). Cheaper than `enter`: if the keyword
     /// location adds the same, the row borrows the name.
     ///
     /// # Errors
