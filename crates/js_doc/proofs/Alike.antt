@@ -40,7 +40,24 @@ Entry = String Global × Doc
 abbrev pub SameEntries : List Entry → List Entry → Bool
 SameEntries a b = same_tree (to_members (members_seen a)) (to_members (members_seen b))
 
--- the entries at the front decide, or those after them
-pub entries_step : (x y : Entry) (a b : List Entry) (r s : Bool) → bytes_eq (string_bytes x.0) (string_bytes y.0) ≡ r → same (value_of x.1) (value_of y.1) ≡ s
+pub entries_apart : (a b : List Entry) → (length a ≡ length b → ⊥) → false ≡ SameEntries a b
+entries_apart [] [] h = absurd (h refl)
+entries_apart [] (y ∷ b) h = refl
+entries_apart (x ∷ a) [] h = refl
+entries_apart (x ∷ a) (y ∷ b) h =
+    let head = same_tree (to_text (string_bytes x.0)) (to_text (string_bytes y.0)) && same (value_of x.1) (value_of y.1) in
+    sym (and_right head (SameEntries a b) (sym (entries_apart a b (λ e. h (ap suc e)))))
+
+entries_head : (x y : Entry) (a b : List Entry) (r s : Bool) → bytes_eq (string_bytes x.0) (string_bytes y.0) ≡ r → same (value_of x.1) (value_of y.1) ≡ s
     → SameEntries (x ∷ a) (y ∷ b) ≡ (r && s) && SameEntries a b
-entries_step x y a b r s e f = ap (λ c. c && SameEntries a b) (ap₂ (λ c d. c && d) (same_text (string_bytes x.0) (string_bytes y.0) ∙ e) f)
+entries_head x y a b r s e f = ap (λ c. c && SameEntries a b) (ap₂ (λ c d. c && d) (same_text (string_bytes x.0) (string_bytes y.0) ∙ e) f)
+
+-- the entries at i decide, or those after them
+pub entries_step : (a b : List Entry) (i : ℕ) (d e : Entry) (r s : Bool) → i < length a → i < length b → bytes_eq (string_bytes (get_or a i d).0) (string_bytes (get_or b i e).0) ≡ r
+    → same (value_of (get_or a i d).1) (value_of (get_or b i e).1) ≡ s
+    → SameEntries (drop i a) (drop i b) ≡ (r && s) && SameEntries (drop (i + 1) a) (drop (i + 1) b)
+entries_step a b i d e r s p q f g =
+    ap₂ SameEntries (drop_more a i d p) (drop_more b i e q) ∙ entries_head (get_or a i d) (get_or b i e) (drop (i + 1) a) (drop (i + 1) b) r s f g
+
+pub entries_end : (a b : List Entry) (i : ℕ) → length a ≤ i → length b ≤ i → SameEntries (drop i a) (drop i b) ≡ true
+entries_end a b i p q = ap₂ SameEntries (drop_all i a p) (drop_all i b q)

@@ -3,7 +3,7 @@ use Rattle.std.proofs.Common.{◌≡◌, ℕ, List, [], ◌∷◌, ◌++◌, Ord
 use Rattle.std.proofs.lemmas.Cmp.{nat_list_cmp_total}
 use Rattle.std.specs.Ordering.{match_ordering, ordering_reverse}
 use Rattle.js_doc.specs.Value.{Value, Named, members}
-use Rattle.js_doc.specs.Members.{name_cmp, put, IsBelowFirst, NamesAscend, NamesAscendInItems, NamesAscendInMembers}
+use Rattle.js_doc.specs.Members.{name_cmp, put, IsBelowHead, IsAscending, IsBelowFirst, NamesAscend, NamesAscendInItems, NamesAscendInMembers}
 use Rattle.js_doc.specs.Seen.{value_of, items_seen}
 use Rattle.js_doc.specs.declared.doc.Doc.{Doc}
 
@@ -32,3 +32,12 @@ put_ascends k v m ms Greater e s h more = (below_first-put m.0 k v ms (nat_list_
 pub members_ascend-put : (k : List ℕ) (v : Value) (ms : Named) → NamesAscendInMembers (members ms) → NamesAscend v → NamesAscendInMembers (members (put k v ms))
 members_ascend-put k v [] s h = (tt, h, tt)
 members_ascend-put k v (m ∷ ms) s h = put_ascends k v m ms (name_cmp k m.0) refl s h (members_ascend-put k v ms s.2 h)
+
+below_head : (k : List ℕ) (ms : Named) → IsBelowFirst k (members ms) → IsBelowHead k ms
+below_head k [] s = tt
+below_head k (m ∷ ms) s = s
+
+-- members whose names ascend, as a list
+pub members_ascend-list : (ms : Named) → NamesAscendInMembers (members ms) → IsAscending ms
+members_ascend-list [] s = tt
+members_ascend-list (m ∷ ms) s = (below_head m.0 ms s.0, members_ascend-list ms s.2)

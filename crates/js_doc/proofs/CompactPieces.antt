@@ -1,10 +1,10 @@
 -- What is left to write of items or of members, a piece at a time.
-use Rattle.std.proofs.Common.{◌≡◌, ℕ, ◌+◌, ◌<◌, ◌≤◌, Bool, true, List, [], ◌∷◌, ◌++◌, length, drop, get_or, String, Global, string_bytes, ap, ◌∙◌}
+use Rattle.std.proofs.Common.{◌≡◌, ℕ, ◌+◌, ◌<◌, ◌≤◌, Bool, true, List, [], ◌∷◌, ◌++◌, length, drop, get_or, string_bytes, ap, ◌∙◌}
 use Rattle.std.proofs.lemmas.List.{drop_more, drop_all}
 use Rattle.js_doc.specs.Seen.{value_of, items_seen, members_seen}
 use Rattle.js_doc.specs.Compact.{quoted, compact, comma_if, compact_items, compact_members}
 use Rattle.js_doc.specs.declared.doc.Doc.{Doc}
-use Rattle.js_doc.proofs.Entries.{Entry}
+use Rattle.js_doc.proofs.Alike.{Entry}
 
 pub item_left : (ds : List Doc) (i : ℕ) (d : Doc) (later : Bool) → i < length ds → get_or ds i d ≡ d
     → compact_items later (items_seen (drop i ds)) ≡ comma_if later ++ (compact (value_of d) ++ compact_items true (items_seen (drop (i + 1) ds)))
@@ -13,9 +13,9 @@ item_left ds i d later h is = ap (λ xs. compact_items later (items_seen xs)) (d
 pub item_end : (ds : List Doc) (i : ℕ) (later : Bool) → length ds ≤ i → compact_items later (items_seen (drop i ds)) ≡ 93 ∷ []
 item_end ds i later h = ap (λ xs. compact_items later (items_seen xs)) (drop_all i ds h)
 
-pub entry_left : (es left : List Entry) (name : String Global) (d : Doc) (later : Bool) (k : List ℕ) → es ≡ (name, d) ∷ left → k ≡ string_bytes name
-    → compact_members later (members_seen es) ≡ comma_if later ++ (quoted k ++ (58 ∷ [] ++ (compact (value_of d) ++ compact_members true (members_seen left))))
-entry_left es left name d later k e f = rw (e, f)
+pub entry_left : (es : List Entry) (i : ℕ) (e : Entry) (later : Bool) (k : List ℕ) → i < length es → get_or es i e ≡ e → k ≡ string_bytes e.0
+    → compact_members later (members_seen (drop i es)) ≡ comma_if later ++ (quoted k ++ (58 ∷ [] ++ (compact (value_of e.1) ++ compact_members true (members_seen (drop (i + 1) es)))))
+entry_left es i e later k h is f = rw (drop_more es i e h, is, f)
 
-pub entry_end : (es : List Entry) (later : Bool) → es ≡ [] → compact_members later (members_seen es) ≡ 125 ∷ []
-entry_end es later e = rw e
+pub entry_end : (es : List Entry) (i : ℕ) (later : Bool) → length es ≤ i → compact_members later (members_seen (drop i es)) ≡ 125 ∷ []
+entry_end es i later h = ap (λ xs. compact_members later (members_seen xs)) (drop_all i es h)

@@ -1,6 +1,5 @@
 -- Escaping a token, a character at a time.
-use Rattle.std.proofs.Common.{◌≡◌, ℕ, ◌+◌, ◌/◌, ◌<◌, ◌≤◌, Bool, IsTrue, true, false, not, ◌||◌, cond, ◌==◌, List, [], ◌∷◌, ◌++◌, ltb, lit<, refl, sym, ap, ◌∙◌, arith}
-use Rattle.std.specs.List.{list_any}
+use Rattle.std.proofs.Common.{◌≡◌, ℕ, ◌+◌, ◌/◌, ◌<◌, ◌≤◌, Bool, true, false, cond, ◌==◌, List, [], ◌∷◌, ◌++◌, ltb, lit<, refl, ap, ◌∙◌, arith}
 use lib.Utf8.{encode, next}
 use Rattle.js_doc.specs.Pointer.{escape}
 

@@ -13,6 +13,7 @@ use Rattle.js_doc.specs.Value as doc
 use Rattle.js_doc.specs.Value.{Items, no_items, item, Members, no_members, member, members}
 use Rattle.js_doc.specs.Members.{put}
 use Rattle.js_doc.specs.Seen.{value_of, items_seen}
+use Rattle.js_doc.specs.code.Places.{IsAboveAll}
 use Rattle.js_doc.specs.WholeNumbers.{Found, under, found_both, value_in, items_in, members_in}
 use Rattle.js_doc.specs.Reading.{IsConversionFault, Lifts}
 use Rattle.js_doc.specs.declared.doc.Doc.{Doc}
@@ -100,6 +101,31 @@ pub members_extend : (done : List Entry) (e : Entry) (more : List Entry) (ms : d
     → IsStrictlySortedBy string_cmp (keys_of (done ++ e ∷ more))
     → members_in (members_view (done ++ e ∷ [])) ≡ Ok (members (put (string_bytes e.0) x ms))
 members_extend done e more ms x is h s = data_extend done e more (members ms) x is h s ∙ ap Ok (sym (members-put (string_bytes e.0) x ms))
+
+abbrev name_or : List ℕ → Members → List ℕ
+name_or d no_members = d
+name_or d (member k v ms) = k
+
+abbrev rest_or : Members → Members → Members
+rest_or d no_members = d
+rest_or d (member k v ms) = ms
+
+-- the names found ascend, so the next one is above them
+pub above_found : (done : List Entry) (e : Entry) (more : List Entry) (ms : doc.Named) → members_in (members_view done) ≡ Ok (members ms) → IsStrictlySortedBy string_cmp (keys_of (done ++ e ∷ more))
+    → IsAboveAll (string_bytes e.0) ms
+unfolding IsStrictlySortedBy
+above_found [] e more [] is s = tt
+above_found [] e more (m ∷ ms) is s = let none = ok_inj no_members (members (m ∷ ms)) is in absurd (cc)
+above_found (first ∷ done) e more [] is s =
+    let i = inverted (member (string_bytes first.0)) (string_bytes first.0) (value_in (view first.1)) (members_in (members_view done)) no_members is in
+    let none = i.4 in absurd (cc)
+above_found (first ∷ done) e more (m ∷ ms) is s =
+    let i = inverted (member (string_bytes first.0)) (string_bytes first.0) (value_in (view first.1)) (members_in (members_view done)) (members (m ∷ ms)) is in
+    let name : string_bytes first.0 ≡ m.0 = ap (name_or []) i.4 in
+    let rest : i.1 ≡ members ms = ap (rest_or no_members) i.4 in
+    let above : slice_cmp nat_cmp (string_bytes e.0) (string_bytes first.0) ≡ Greater =
+    nat_list_cmp_total.antisymm (string_bytes e.0) (string_bytes first.0) ∙ ap ordering_reverse (below_middle first done e more s.0) in
+    (subst (λ n. slice_cmp nat_cmp (string_bytes e.0) n ≡ Greater) name above, above_found done e more ms (i.3 ∙ ap Ok rest) s.1)
 
 pub members_stop : (done : List Entry) (e : Entry) (more : List Entry) (ms : Members) (p : List (List ℕ)) → members_in (members_view done) ≡ Ok ms → value_in (view e.1) ≡ Err p
     → members_in (members_view (done ++ e ∷ more)) ≡ Err (string_bytes e.0 ∷ p)

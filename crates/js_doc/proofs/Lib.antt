@@ -2,7 +2,6 @@ pub mod BytesGone
 pub mod Extending
 pub mod EscapeMasks
 pub mod QuotedRuns
-pub mod Entries
 pub mod CompactPieces
 pub mod PartLists
 pub mod Alike
@@ -19,4 +18,5 @@ pub mod TokenBytes
 pub mod PlainTokens
 pub mod Named
 pub mod FiniteMaps
+pub mod Placing
 pub mod Smaller

@@ -59,10 +59,10 @@ fn convert_owned_members(alloc: Global, map: Map<String, Value>) -> Result<Membe
     ensures ok { IfOk result (λ m. members_in (members_view map.entries) ≡ Ok (members m)) }
     ensures err { IfErr result (λ e. IsConversionFault (members_in (members_view map.entries)) e) }
 {
-    let mut members = Members::new(alloc);
+    let mut members = Members::with_capacity(alloc, map.len())?;
     for (name, value) in map {
         match convert_owned(alloc, value) {
-            Ok(doc) => members.put(name, doc)?,
+            Ok(doc) => members.push(name, doc)?,
             Err(fault) => return Err(fault.lifted(Text::new(name))),
         }
     }

@@ -6,7 +6,6 @@ use crate::items::Items;
 use crate::members::Members;
 use crate::memory::Memory;
 use std::alloc::Global;
-use std::collections::BTreeMap;
 
 impl Doc {
     /// A copy that shares no memory with the value.
@@ -33,7 +32,7 @@ fn copy_doc(alloc: Global, doc: &Doc) -> Result<Doc, Memory>
             items: copy_items(alloc, list.items.as_slice())?,
         })),
         Doc::Members(members) => Ok(Doc::Members(Members {
-            entries: copy_entries(alloc, &members.entries)?,
+            entries: copy_entries(alloc, members.entries.as_slice())?,
         })),
     }
 }
@@ -50,16 +49,13 @@ fn copy_items(alloc: Global, docs: &[Doc]) -> Result<Vec<Doc>, Memory>
 }
 
 #[cycle(copy)]
-fn copy_entries(
-    alloc: Global,
-    entries: &BTreeMap<String, Doc>,
-) -> Result<BTreeMap<String, Doc>, Memory>
-    ensures { IfOk result (λ m. map pair_of m.entries ≡ map pair_of entries.now.entries) }
+fn copy_entries(alloc: Global, entries: &[(String, Doc)]) -> Result<Vec<(String, Doc)>, Memory>
+    ensures { IfOk result (λ v. map pair_of v.items ≡ map pair_of entries.now) }
 {
-    let mut copies = BTreeMap::new(alloc);
-    for (name, doc) in entries.iter() {
+    let mut copies = Vec::with_capacity(alloc, entries.len())?;
+    for (name, doc) in entries {
         let name = name.clone()?;
-        drop(copies.insert(name, copy_doc(alloc, doc)?)?);
+        copies.push((name, copy_doc(alloc, doc)?))?;
     }
     Ok(copies)
 }

@@ -5,7 +5,6 @@ ghost use Rattle.js_doc.specs.Equality.{same, same_tree};
 ghost use Rattle.js_doc.specs.Seen.{value_of, items_seen, members_seen};
 
 use crate::doc::Doc;
-use std::collections::BTreeMap;
 
 impl PartialEq for Doc {
     ghost use Rattle.js_doc.specs.Equality.{same, same-equivalence};
@@ -56,7 +55,7 @@ fn equal(a: &Doc, b: &Doc) -> bool
             false
         },
         Doc::Members(x) => if let Doc::Members(y) = b {
-            equal_entries(&x.entries, &y.entries)
+            equal_entries(x.entries.as_slice(), y.entries.as_slice())
         } else {
             false
         },
@@ -79,15 +78,15 @@ fn equal_items(a: &[Doc], b: &[Doc]) -> bool
 }
 
 #[cycle(equal)]
-fn equal_entries(a: &BTreeMap<String, Doc>, b: &BTreeMap<String, Doc>) -> bool
-    ensures { result
-        ≡ same_tree (to_members (members_seen a.now.entries)) (to_members (members_seen b.now.entries)) }
+fn equal_entries(a: &[(String, Doc)], b: &[(String, Doc)]) -> bool
+    ensures { result ≡ same_tree (to_members (members_seen a.now)) (to_members (members_seen b.now)) }
 {
-    let mut others = b.iter();
-    for (name, x) in a.iter() {
-        let Some((other_name, y)) = others.next() else {
-            return false;
-        };
+    if a.len() != b.len() {
+        return false;
+    }
+    for i in 0..a.len() {
+        let (name, x) = &a[i];
+        let (other_name, y) = &b[i];
         if name != other_name {
             return false;
         }
@@ -95,5 +94,5 @@ fn equal_entries(a: &BTreeMap<String, Doc>, b: &BTreeMap<String, Doc>) -> bool
             return false;
         }
     }
-    others.next().is_none()
+    true
 }

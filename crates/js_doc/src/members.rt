@@ -1,18 +1,20 @@
-ghost use Rattle.std.specs.Prelude.{◌≡◌, ◌↔◌, [], IsTrue, length, map, option_map, OnOk, OnErr, string_bytes};
+ghost use Rattle.std.specs.Prelude.{◌≡◌, ◌↔◌, [], IsTrue, length, map, slice_get, string_bytes};
+ghost use Rattle.std.specs.Prelude.{option_map, IfOk, OnOk, OnErr};
 ghost use Rattle.js_doc.specs.Members.{IsAscending, get, put};
+ghost use Rattle.js_doc.specs.code.Places.{IsAboveAll};
 
 use crate::doc::Doc;
 use crate::memory::Memory;
-use std::alloc::Global;
-use std::collections::BTreeMap;
-use std::collections::btree_map::Iter;
+use crate::pairs::Pairs;
+use crate::places::{place, search};
+use std::alloc::{AllocError, Global};
 use std::marker::Model;
 
 /// The members of an object: each name once, in ascending order of its bytes (RFC 8259, section 4).
 #[cycle(doc)]
 #[derive(Debug, Drop)]
 pub struct Members {
-    pub(crate) entries: BTreeMap<String, Doc>,
+    pub(crate) entries: Vec<(String, Doc)>,
 }
 
 impl Model for Members {
@@ -27,19 +29,19 @@ impl Model for Members {
 
     ghost use Rattle.js_doc.specs.Seen.{pair_of};
 
-    ghost view = { λ m. map pair_of m.entries.entries };
+    ghost view = { λ m. map pair_of m.entries.items };
 
     ghost use Rattle.js_doc.specs.Lawful.{IsLawful};
     ghost use Rattle.js_doc.specs.Seen.{members_seen};
     ghost use Rattle.js_doc.specs.Value.{object};
 
-    ghost invariant = { λ m. IsLawful (object (members_seen m.entries.entries)) };
+    ghost invariant = { λ m. IsLawful (object (members_seen m.entries.items)) };
 
     ghost size = { named_depth };
 
     ghost use Rattle.js_doc.specs.Falls.{members_fall};
 
-    ghost size_decreases = { λ m h. members_fall m.entries.entries };
+    ghost size_decreases = { λ m h. members_fall m };
 }
 
 impl Members {
@@ -52,15 +54,41 @@ impl Members {
         ensures { result ≡ [] }
     {
         Members {
-            entries: BTreeMap::new(alloc),
+            entries: Vec::new(alloc),
         }
+    }
+
+    /// No members, with room for some.
+    ///
+    /// # Errors
+    /// No memory.
+    pub(crate) fn with_capacity(alloc: Global, capacity: usize) -> Result<Members, AllocError>
+        ensures { IfOk result (λ m. m ≡ []) }
+    {
+        Ok(Members {
+            entries: Vec::with_capacity(alloc, capacity)?,
+        })
     }
 
     /// The value under the name, or None where there is none.
     pub fn get(&self, name: &str) -> Option<&Doc>
         ensures { option_map (λ d. value_of d.now) result ≡ get name.now self.now }
     {
-        self.entries.get(name)
+        match search(self.entries.as_slice(), name) {
+            Ok(rank) => Some(&self.entries[rank].1),
+            Err(_) => None,
+        }
+    }
+
+    /// The member that stands at the rank, counted from 0 in the order of the names, or None where there are no more
+    /// than so many. It takes the same time at each rank.
+    pub fn nth(&self, rank: usize) -> Option<(&str, &Doc)>
+        ensures { option_map (λ m. (m.0.now, value_of m.1.now)) result ≡ slice_get self.now rank }
+    {
+        match self.entries.get(rank) {
+            Some((name, doc)) => Some((name.as_str(), doc)),
+            None => None,
+        }
     }
 
     /// How many members there are.
@@ -78,14 +106,15 @@ impl Members {
     }
 
     /// The members, by name ascending.
-    pub fn pairs(&self) -> Iter<'_, String, Doc>
+    pub fn pairs(&self) -> Pairs<'_>
         ensures pairs { map pair_of result ≡ self.now }
         ensures ascending { IsAscending self.now }
     {
-        self.entries.iter()
+        Pairs::new(self.entries.as_slice())
     }
 
-    /// Puts the value under the name, in place of the one that stood there.
+    /// Puts the value under the name, in place of the one that stood there. A name above all others goes to the end
+    /// without a search.
     ///
     /// # Errors
     /// `Memory`; then the members are as they were.
@@ -94,7 +123,24 @@ impl Members {
         ensures err { OnErr result (self.new ≡ self.old) }
     {
         doc.lawful();
-        drop(self.entries.insert(name, doc)?);
+        match place(self.entries.as_slice(), name.as_str()) {
+            Ok(rank) => self.entries[rank] = (name, doc),
+            Err(rank) => self.entries.insert(rank, (name, doc))?,
+        }
+        Ok(())
+    }
+
+    /// Puts the value under a name that is above all others.
+    ///
+    /// # Errors
+    /// `Memory`; then the members are as they were.
+    pub(crate) fn push(&mut self, name: String, value: Doc) -> Result<(), Memory>
+        requires { IsAboveAll (string_bytes name) self.old }
+        ensures ok { OnOk result (self.new ≡ put (string_bytes name) (value_of value) self.old) }
+        ensures err { OnErr result (self.new ≡ self.old) }
+    {
+        value.lawful();
+        self.entries.push((name, value))?;
         Ok(())
     }
 

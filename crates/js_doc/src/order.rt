@@ -8,7 +8,6 @@ ghost use Rattle.js_doc.specs.code.Kinds.{kind_rank};
 
 use crate::doc::Doc;
 use std::cmp::Ordering;
-use std::collections::BTreeMap;
 
 impl Ord for Doc {
     ghost use Rattle.std.specs.Prelude.{refl};
@@ -77,7 +76,7 @@ fn compare(a: &Doc, b: &Doc) -> Ordering
             compare_kinds(a, b)
         },
         Doc::Members(x) => if let Doc::Members(y) = b {
-            compare_entries(&x.entries, &y.entries)
+            compare_entries(x.entries.as_slice(), y.entries.as_slice())
         } else {
             compare_kinds(a, b)
         },
@@ -146,12 +145,11 @@ fn compare_items(a: &[Doc], b: &[Doc]) -> Ordering
 }
 
 #[cycle(compare)]
-fn compare_entries(a: &BTreeMap<String, Doc>, b: &BTreeMap<String, Doc>) -> Ordering
-    ensures { result
-        ≡ tree_order (to_members (members_seen a.now.entries)) (to_members (members_seen b.now.entries)) }
+fn compare_entries(a: &[(String, Doc)], b: &[(String, Doc)]) -> Ordering
+    ensures { result ≡ tree_order (to_members (members_seen a.now)) (to_members (members_seen b.now)) }
 {
     let mut others = b.iter();
-    for (name, x) in a.iter() {
+    for (name, x) in a {
         let Some((other_name, y)) = others.next() else {
             return Ordering::Greater;
         };

@@ -12,7 +12,6 @@ use crate::memory::Memory;
 use crate::quoting::put_string;
 use crate::whole::Whole;
 use std::alloc::Global;
-use std::collections::BTreeMap;
 
 /// The value as compact JSON: no space between tokens, an object's names ascending by their bytes, numbers in
 /// plain decimals, texts escaped as `serde_json` escapes them.
@@ -42,7 +41,7 @@ pub fn put_text<O: Out>(doc: &Doc, out: &mut O) -> Result<(), Stopped>
         Doc::Whole(whole) => put_number(*whole, out),
         Doc::Text(text) => put_string(text.as_str(), out),
         Doc::List(items) => put_items(items.items.as_slice(), out),
-        Doc::Members(members) => put_members(&members.entries, out),
+        Doc::Members(members) => put_members(members.entries.as_slice(), out),
     }
 }
 
@@ -72,13 +71,12 @@ fn put_items<O: Out>(docs: &[Doc], out: &mut O) -> Result<(), Stopped>
 }
 
 #[cycle(put_text)]
-fn put_members<O: Out>(entries: &BTreeMap<String, Doc>, out: &mut O) -> Result<(), Stopped>
-    ensures { Puts (O.progress out.old) (O.progress out.new)
-        (compact (object (members_seen entries.now.entries))) result }
+fn put_members<O: Out>(entries: &[(String, Doc)], out: &mut O) -> Result<(), Stopped>
+    ensures { Puts (O.progress out.old) (O.progress out.new) (compact (object (members_seen entries.now))) result }
 {
     out.put(b"{")?;
     let mut later = false;
-    for (name, doc) in entries.iter() {
+    for (name, doc) in entries {
         put_comma(later, out)?;
         put_string(name.as_str(), out)?;
         out.put(b":")?;

@@ -9,9 +9,8 @@ use crate::instance::Instance;
 use crate::member_cursor::{object_at, pattern_of};
 use crate::searchers::{NamedPattern, Searchers};
 use js_bundle::{Place, Schemas};
-use js_doc::{Doc, Members, Memory};
+use js_doc::{Doc, Members, Memory, Pairs};
 use std::alloc::Global;
-use std::collections::btree_map::Iter;
 
 /// For one pattern: whether it matches each name of an object. Names are asked for in ascending order, and some may be
 /// skipped.
@@ -22,7 +21,7 @@ pub(crate) struct PatternAnswers<'p> {
     /// Whether the pattern matches, for each member.
     all: Vec<bool>,
     /// The members that haven't been asked for.
-    left: Iter<'p, String, Doc>,
+    left: Pairs<'p>,
     /// The index of the first of them.
     next: usize,
     ghost right: { all.items ≡ map (λ m. matches pattern.now m.0) members.now },

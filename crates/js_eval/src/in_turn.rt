@@ -9,14 +9,13 @@ use crate::by_name::kind_of_named;
 use crate::keyword::Keyword;
 use crate::turn::{Turn, turn_of};
 use js_bundle::KeywordName;
-use js_doc::{Doc, Members};
-use std::collections::btree_map::Iter;
+use js_doc::{Doc, Members, Pairs};
 
 /// The members that are left, and which keyword of the standard each of them is.
 #[derive(Drop)]
 pub(crate) struct Every<'a> {
     names: &'a [KeywordName],
-    pub left: Iter<'a, String, Doc>,
+    pub left: Pairs<'a>,
     ghost in_step: { names.now ≡ keyword_names_of (map pair_of left) },
 }
 

@@ -25,10 +25,9 @@ use crate::name_set::{is_in, set_of};
 use crate::schema::argument_in;
 use crate::searchers::{NamedPattern, Searchers};
 use js_bundle::{Place, Schemas, Step};
-use js_doc::{Doc, Members, Memory};
+use js_doc::{Doc, Members, Memory, Pairs};
 use std::alloc::Global;
 use std::collections::BTreeSet;
-use std::collections::btree_map::Iter;
 
 /// Which members a keyword chooses, by their names.
 #[derive(Drop)]
@@ -55,7 +54,7 @@ pub(crate) struct Adjacent<'a> {
 pub(crate) struct MemberCursor<'a> {
     pub held: Held<'a>,
     pub to: To<'a>,
-    pub members: Iter<'a, String, Doc>,
+    pub members: Pairs<'a>,
     pub choice: Choice<'a>,
 }
 
@@ -229,7 +228,7 @@ fn next_member<'a>(
     schemas: &'a Schemas,
     searchers: &Searchers<'a>,
     choice: &Choice<'a>,
-    members: &mut Iter<'a, String, Doc>,
+    members: &mut Pairs<'a>,
 ) -> Result<Option<(&'a str, &'a Doc)>, Memory>
     ensures { IfOk result (λ o. MatchOption o (members_left choice.now members.old ≡ [])
         (λ m. members_left choice.now members.old

@@ -23,10 +23,9 @@ use crate::bundled::ranked_below;
 use crate::instance::{Applied, Instance};
 use crate::keyword::Keyword;
 use js_bundle::{Place, Schemas, Step};
-use js_doc::{Doc, Members, Memory};
+use js_doc::{Doc, Members, Memory, Pairs};
 use std::alloc::Global;
 use std::cmp::Ordering;
-use std::collections::btree_map::Iter;
 
 /// The names in `properties` that are still to come, and the members to find them among.
 #[derive(Drop)]
@@ -34,7 +33,7 @@ pub(crate) struct NameCursor<'a> {
     pub place: Place,
     pub schema: &'a Doc,
     pub keyword: Keyword<'a>,
-    pub names: Iter<'a, String, Doc>,
+    pub names: Pairs<'a>,
     /// The number of names before the next one.
     pub rank: usize,
     pub among: Among<'a>,
@@ -46,7 +45,7 @@ pub(crate) enum Among<'a> {
     /// All: each name is looked up.
     All(&'a Members),
     /// Those behind the last that had a name. Boxed, because each level of the recursion holds a cursor.
-    Left(Box<Iter<'a, String, Doc>>),
+    Left(Box<Pairs<'a>>),
 }
 
 /// The schema of each name that a member has, applied to the member. It looks each name up.
@@ -154,7 +153,7 @@ pub(crate) fn next_of_names<'a>(
 
 // The next name that a member has: its rank among all names, the name, its schema and the member.
 fn next_name<'a>(
-    names: &mut Iter<'a, String, Doc>,
+    names: &mut Pairs<'a>,
     rank: &mut usize,
     among: &mut Among<'a>,
 ) -> Option<(usize, &'a str, &'a Doc, &'a Doc)>
@@ -175,7 +174,7 @@ fn next_name<'a>(
 }
 
 fn next_looked_up<'a>(
-    names: &mut Iter<'a, String, Doc>,
+    names: &mut Pairs<'a>,
     rank: &mut usize,
     members: &'a Members,
 ) -> Option<(usize, &'a str, &'a Doc, &'a Doc)>
@@ -202,9 +201,9 @@ fn next_looked_up<'a>(
 
 // It compares the first names of both sides, and passes over the lesser one until they are equal.
 fn next_in_step<'a>(
-    names: &mut Iter<'a, String, Doc>,
+    names: &mut Pairs<'a>,
     rank: &mut usize,
-    members: &mut Iter<'a, String, Doc>,
+    members: &mut Pairs<'a>,
 ) -> Option<(usize, &'a str, &'a Doc, &'a Doc)>
     requires few { rank.old + length names.old < 2 ^ 64 }
     requires ascend { IsAscending (map pair_of names.old) × IsAscending (map pair_of members.old) }

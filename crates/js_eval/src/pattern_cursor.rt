@@ -16,9 +16,8 @@ use crate::instance::{Applied, Instance};
 use crate::member_cursor::pattern_of;
 use crate::searchers::{NamedPattern, Searchers};
 use js_bundle::{Place, Schemas, Step};
-use js_doc::{Doc, Members, Memory};
+use js_doc::{Doc, Members, Memory, Pairs};
 use std::alloc::Global;
-use std::collections::btree_map::Iter;
 
 /// The patterns that are still to come, and the members that are left for the present one.
 #[derive(Drop)]
@@ -26,14 +25,14 @@ pub(crate) struct PatternCursor<'a> {
     pub place: Place,
     pub schema: &'a Doc,
     pub keyword: &'a str,
-    pub patterns: Iter<'a, String, Doc>,
+    pub patterns: Pairs<'a>,
     pub members: &'a Members,
     /// The present pattern, or None at the start. Then come its text, the place of its schema, and that schema.
     pub present: Option<NamedPattern<'a>>,
     pub name: &'a str,
     pub below: Place,
     pub schema_below: &'a Doc,
-    pub left: Iter<'a, String, Doc>,
+    pub left: Pairs<'a>,
     /// Whether the matches of the patterns are stored, because `additionalProperties` of the same schema has needed
     /// them.
     pub is_kept: bool,
@@ -167,7 +166,7 @@ fn next_member<'a>(
     searchers: &Searchers<'a>,
     pattern: NamedPattern<'a>,
     is_kept: bool,
-    members: &mut Iter<'a, String, Doc>,
+    members: &mut Pairs<'a>,
 ) -> Result<Option<(&'a str, &'a Doc)>, Memory>
     ensures { IfOk result (λ o. MatchOption o
         (filter (λ m. matches pattern.entry.text.now m.0) (map pair_of members.old) ≡ [])

@@ -5,15 +5,18 @@ ghost use Rattle.js_bundle.specs.Schemas.{is_place, place_at};
 ghost use Rattle.js_output.specs.Outcome.{IsMerged, IsWalkFault};
 
 use crate::fault::Fault;
+use crate::rows::rows_of;
+use bumpalo::Bump;
 use js_bundle::{Place, Schemas};
 use js_doc::Doc;
-use js_eval::walk;
-use js_tree::{Tree, merge_condense, prune};
+use js_tree::{Format, Tree, merged_tree};
 use std::alloc::Global;
 
-/// Judges the instance at the place. What the format doesn't show is removed in place.
+/// Judges the instance at the place, and keeps rows of what detailed or merged can show. Only the nodes that condensing
+/// keeps become a tree. What the rows keep of their locations stands in the arena.
 pub(crate) fn merged_of<'a>(
     alloc: Global,
+    arena: &'a Bump,
     schemas: &'a Schemas,
     place: Place,
     instance: &'a Doc,
@@ -24,10 +27,9 @@ pub(crate) fn merged_of<'a>(
     ensures fault { IfErr result (IsWalkFault schemas.now
         (place_at schemas.now place) (value_of instance.now)) }
 {
-    match walk(alloc, schemas, place, instance) {
-        Ok(tree) => Ok(merge_condense(prune(tree))),
-        Err(fault) => Err(Fault::from(fault)),
-    }
+    let rows = rows_of(alloc, arena, schemas, place, Format::Merged, instance)?;
+    let tree = merged_tree(alloc, &rows)?;
+    Ok(tree)
 }
 
 /// The verdict of the tree.

@@ -165,7 +165,8 @@ fn tell_merged<W: Write>(
     ensures unflushed { Unflushed out.old out.new }
     ensures sink_stays { out.old.failed ≡ true → out.new ≡ out.old }
 {
-    let tree = merged_of(alloc, schemas, place, instance)?;
+    let arena = Bump::new(alloc);
+    let tree = merged_of(alloc, &arena, schemas, place, instance)?;
     let valid = root_is_valid(&tree);
     write_tree(&tree, out)?;
     Ok(valid)

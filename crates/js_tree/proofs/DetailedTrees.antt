@@ -38,7 +38,7 @@ left_trees-placed v k i (tree u below after) =
     left_trees_at (has_verdict v u) v k i u below after refl (left_trees-placed v (k ++ u.keyword) (i ++ u.instance) below) (left_trees-placed v k i after)
 
 -- as many trees are left as there are trees of which something is left
-count_left : (v : Bool) (k i : List ℕ) (f : Forest OutputUnit) → tree_count (condensed v k i f) ≡ left_trees v f
+pub count_left : (v : Bool) (k i : List ℕ) (f : Forest OutputUnit) → tree_count (condensed v k i f) ≡ left_trees v f
 count_left v k i f = tree_count-kept_below noted (pruned_below (has_verdict v) (placed k i f)) ∙ left_trees-placed v k i f
 
 none_of : (n : ℕ) (g : Forest OutputUnit) → tree_count g ≡ n → at_least_one n ≡ false → node_values g ≡ []

@@ -12,6 +12,7 @@ pub mod Giving
 pub mod MarkedRows
 pub mod Marks
 pub mod Forests
+pub mod KeptRows
 pub mod KeptTree
 pub mod ListedRows
 pub mod ListedUnits
@@ -37,6 +38,7 @@ pub mod Steps
 pub mod Telling
 pub mod TrimmedTold
 pub mod Trimming
+pub mod UndoneEscapes
 pub mod VerdictTold
 pub mod DetailedTrees
 pub mod Differing

@@ -1,12 +1,15 @@
 -- The laws of the third rule, said of result trees.
 use Rattle.std.proofs.Common.{◌≡◌, ◌<◌, true, refl, ap, sym, ◌∙◌}
 use Rattle.js_tree.specs.Alike.{same_but_keyword}
-use Rattle.js_tree.specs.Forest.{node_count}
+use Rattle.js_tree.specs.Forest.{Forest, empty, node_count}
+use Rattle.js_tree.specs.Merged.{MergeRun, condensed, ended, then_on}
 use Rattle.js_tree.specs.MergedResult.{merged, NormalOfThree, RunOfThree, StepOfThree}
 use Rattle.js_tree.specs.OutputUnit.{OutputUnit, noted}
-use Rattle.js_tree.specs.Result.{ResultTree}
+use Rattle.js_tree.specs.Result.{ResultTree, kept}
+use Rattle.js_tree.specs.Step.{ForestRun, done, next}
 use Rattle.js_tree.proofs.AlikeUnits.{same_but_keyword_equiv, same_but_keyword_decides}
 use Rattle.js_tree.proofs.Forests.{same_tree}
+use Rattle.js_tree.proofs.KeptTree.{kept_is_reached}
 use Rattle.js_tree.proofs.MergedTree.{merge_step-merged_below, merge_run-merged_below, normal-merged_below, merged_below_is_reached, merge_step_leaves_fewer, merged_below_is_normal}
 
 -- units that are the same but for their keyword locations have a note or have none
@@ -20,6 +23,14 @@ step_of_three-merged t u s =
 pub run_of_three-merged : (t u : ResultTree) → RunOfThree t u → merged u ≡ merged t
 run_of_three-merged t u r =
     same_tree (merged t) (merged u) r.0 (sym (merge_run-merged_below noted same_but_keyword same_but_keyword_equiv same_notes r.1))
+
+-- a run of the two rules is one of the three
+run_of_two : {f g : Forest OutputUnit} → ForestRun noted f g → MergeRun noted same_but_keyword empty f g
+run_of_two done = ended
+run_of_two (next s r) = then_on (condensed s) (run_of_two r)
+
+pub merged-kept : (t : ResultTree) → merged (kept t) ≡ merged t
+merged-kept t = run_of_three-merged t (kept t) (refl, run_of_two (kept_is_reached noted t.below))
 
 pub normal_of_three-merged : (t : ResultTree) → NormalOfThree t → merged t ≡ t
 normal_of_three-merged t n = ap (λ f. record { root = t.root; below = f }) (normal-merged_below noted same_but_keyword same_but_keyword_equiv same_notes t.below n)

@@ -7,3 +7,4 @@ pub mod Order
 pub mod Put
 pub mod RelativeText
 pub mod Search
+pub mod Unescaped

@@ -84,6 +84,13 @@ pub fn normal_ends_of_three_are_the_merged_tree()
     ensures { (t u : ResultTree) → RunOfThree t u → NormalOfThree u → u ≡ merged t }
 {}
 
+/// What merging makes of the kept tree is what it makes of the tree: condensing first changes nothing. Nor does
+/// trimming before that.
+pub fn the_kept_tree_has_the_same_merged_tree()
+    ensures kept { (t : ResultTree) → merged (kept t) ≡ merged t }
+    ensures trimmed { (t : ResultTree) → merged (kept (pruned (trimmed_tree t))) ≡ merged (pruned t) }
+{}
+
 /// The steps of the three rules are exactly the possible moves.
 pub fn steps_of_three_are_moves()
     ensures { (t u : ResultTree) → StepOfThree t u ↔ ((m : Move) × (moved m t ≡ Some u)) }

@@ -8,7 +8,7 @@ use Rattle.js_doc.specs.Value.{members}
 use Rattle.js_doc.specs.Seen.{items_seen}
 use Rattle.js_doc.specs.WholeNumbers.{value_in, items_in, members_in}
 use Rattle.js_doc.specs.Reading.{Lifts}
-use Rattle.js_doc.proofs.Finding.{Entry, items_extend, items_stop, snoc_items_seen, members_extend, members_stop, lifted_stops}
+use Rattle.js_doc.proofs.Finding.{Entry, items_extend, items_stop, snoc_items_seen, members_extend, members_stop, above_found, lifted_stops}
 use Rattle.js_doc.proofs.conversion.+convert_owned.Goals as goal
 
 pub convert_owned_items-loop-value-init : goal.convert_owned_items-loop-value-init
@@ -50,7 +50,16 @@ convert_owned_items-returns-clause-ok t c =
 
 pub convert_owned_members-loop-name-init : goal.convert_owned_members-loop-name-init
 convert_owned_members-loop-name-init t c =
-    ([], sym c.into_iter-name-iterator.ensures.into_iter_gives.0, ap (λ ms. Ok (members ms)) (sym c.new-members.ensures))
+    ([], sym c.into_iter-name-iterator.ensures.into_iter_gives.0, ap (λ ms. Ok (members ms)) (sym c.in_ok-members.ensures))
+
+pub convert_owned_members-push-requires : goal.convert_owned_members-push-requires
+convert_owned_members-push-requires t c =
+    let l = c.loop-name in
+    let done = l.invariant.0 in
+    let e : Entry = (c.in-Some.name, c.in-Some.value) in
+    let left = c.next.new.self in
+    let all : c.args.map.entries ≡ done ++ e ∷ left = l.invariant.1 ∙ ap (λ es. done ++ es) c.in-Some.ensures.steps in
+    above_found done e left l.members l.invariant.2 (subst (λ es. IsStrictlySortedBy string_cmp (keys_of es)) all c.into_iter-name-iterator.ensures.into_iter_gives.5)
 
 pub convert_owned_members-loop-name-preserved : goal.convert_owned_members-loop-name-preserved
 convert_owned_members-loop-name-preserved t c =
@@ -61,7 +70,7 @@ convert_owned_members-loop-name-preserved t c =
     let all : c.args.map.entries ≡ done ++ e ∷ left = l.invariant.1 ∙ ap (λ es. done ++ es) c.in-Some.ensures.steps in (
       done ++ e ∷ [],
       all ∙ sym (append_assoc done (e ∷ []) left),
-      members_extend done e left l.members _ l.invariant.2 c.in-Ok.ensures.ok (subst (λ es. IsStrictlySortedBy string_cmp (keys_of es)) all c.into_iter-name-iterator.ensures.into_iter_gives.5) ∙ ap (λ ms. Ok (members ms)) (sym c.in_ok-put-in-Ok.ensures.ok),
+      members_extend done e left l.members _ l.invariant.2 c.in-Ok.ensures.ok (subst (λ es. IsStrictlySortedBy string_cmp (keys_of es)) all c.into_iter-name-iterator.ensures.into_iter_gives.5) ∙ ap (λ ms. Ok (members ms)) (sym c.in_ok-push-in-Ok.ensures.ok),
     )
 
 pub convert_owned_members-returns-in-Err-clause-err : goal.convert_owned_members-returns-in-Err-clause-err

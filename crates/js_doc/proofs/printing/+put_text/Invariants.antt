@@ -10,4 +10,4 @@ invariant-put_items-loop-doc g l =
 
 abbrev pub invariant-put_members-loop-name : goal.invariant-put_members-loop-name
 invariant-put_members-loop-name g l =
-    Wrote (g.O.Out.progress l.fn.out) (g.O.Out.progress l.out) (compact_members l.later (members_seen l.name-iterator)) (123 ∷ compact_members false (members_seen l.entries.entries))
+    Wrote (g.O.Out.progress l.fn.out) (g.O.Out.progress l.out) (compact_members l.later (members_seen (drop l.name-index l.entries))) (123 ∷ compact_members false (members_seen l.entries))

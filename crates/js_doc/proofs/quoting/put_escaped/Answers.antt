@@ -1,4 +1,4 @@
-use Rattle.std.proofs.Common.{◌+◌, [], ◌∷◌, ◌++◌, get_or, zero-le, rules}
+use Rattle.std.proofs.Common.{◌+◌, [], ◌++◌, get_or, zero-le, rules}
 use Rattle.json.specs.Print.{escape, escape_byte}
 use Rattle.js_doc.proofs.BytesGone.{starts, goes_on, same_left, puts_err, all_gone}
 use Rattle.js_doc.proofs.QuotedRuns.{escaped_from, run, run_first, escape_next, none_left}

@@ -1,5 +1,8 @@
-use Rattle.js_doc.proofs.Entries.{sorted-ascending}
+use Rattle.std.proofs.Common.{map}
+use Rattle.js_doc.specs.Seen.{pair_of}
+use Rattle.js_doc.proofs.Ascending.{members_ascend-list}
 use Rattle.js_doc.proofs.members.Members.pairs.Goals as goal
 
 pub returns-clause-ascending : goal.returns-clause-ascending
-returns-clause-ascending c = rw (← c.self.view_is) (sorted-ascending c.self.inside.entries.entries c.iter.ensures.ordered)
+returns-clause-ascending c =
+    rw (← c.self.view_is) (members_ascend-list (map pair_of c.self.inside.entries.items) c.self.invariant.0)

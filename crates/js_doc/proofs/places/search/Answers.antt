@@ -1,0 +1,52 @@
+use Rattle.std.proofs.Common.{◌+◌, ◌-◌, ◌/◌, ◌<◌, length, get_or, Less, Equal, Greater, arith}
+use Rattle.js_doc.proofs.Placing.{compared, stands_at, goes_below, goes_above, goes_between, ranks_fit}
+use Rattle.js_doc.proofs.places.search.Goals as goal
+
+pub loop-low-init : goal.loop-low-init
+loop-low-init c = (omega arith, (ranks_fit c.args.name.now c.args.entries.now).1, omega arith)
+
+pub loop-low-preserved-in-Less : goal.loop-low-preserved-in-Less
+loop-low-preserved-in-Less c =
+    let l = c.loop-low in
+    let es = c.args.entries.now in
+    let at = l.low + (l.high - l.low) / 2 in
+    let below : at < l.high = omega (arith, c.loop-low-test.true) in
+    let h : at < length es = omega (arith, below, l.invariant.2) in
+    let i = c.index-entries-middle.result in
+    let is = compared c.args.name.now _ (get_or es at i) Less _ c.cmp.ensures c.as_str.ensures.value c.in-Less.is in (
+      l.invariant.0,
+      goes_below c.args.name.now es at i h is,
+      omega (arith, h),
+    )
+
+pub returns-in-Equal-clause-ok : goal.returns-in-Equal-clause-ok
+returns-in-Equal-clause-ok c =
+    let l = c.loop-low in
+    let es = c.args.entries.now in
+    let at = l.low + (l.high - l.low) / 2 in
+    let below : at < l.high = omega (arith, c.loop-low-test.true) in
+    let h : at < length es = omega (arith, below, l.invariant.2) in
+    let i = c.index-entries-middle.result in
+    let is = compared c.args.name.now _ (get_or es at i) Equal _ c.cmp.ensures c.as_str.ensures.value c.in-Equal.is in
+    stands_at c.args.name.now es at i h is
+
+pub loop-low-preserved : goal.loop-low-preserved
+loop-low-preserved c =
+    let l = c.loop-low in
+    let es = c.args.entries.now in
+    let at = l.low + (l.high - l.low) / 2 in
+    let below : at < l.high = omega (arith, c.loop-low-test.true) in
+    let h : at < length es = omega (arith, below, l.invariant.2) in
+    let i = c.index-entries-middle.result in
+    let e = get_or es at i in
+    let is = compared c.args.name.now _ e Greater _ c.cmp.ensures c.as_str.ensures.value c.in-Greater.is in
+    let past = goes_above c.args.name.now es at i c.requires h is in (
+      omega (arith, past),
+      l.invariant.1,
+      l.invariant.2,
+    )
+
+pub returns-clause-err : goal.returns-clause-err
+returns-clause-err c =
+    let l = c.loop-low in
+    goes_between c.args.name.now c.args.entries.now l.low l.high l.invariant.0 l.invariant.1 c.loop-low-test.false

@@ -1,0 +1,81 @@
+//! The members of an object, one after the other.
+ghost use Rattle.std.specs.Prelude.{◌≡◌, length, ⊤};
+ghost use Rattle.std.specs.Iterator.{at_most};
+ghost use Rattle.std.specs.Map.Iter.{TakesFirst, deref_pair};
+
+use crate::doc::Doc;
+use std::alloc::AllocError;
+use std::iter::FusedIterator;
+use std::marker::Model;
+use std::slice;
+
+/// The members of an object that are left, by name ascending.
+#[derive(Drop)]
+pub struct Pairs<'a> {
+    rest: slice::Iter<'a, (String, Doc)>,
+}
+
+impl<'a> Model for Pairs<'a> {
+    ghost use Rattle.std.specs.Prelude.{List, String};
+    ghost use Rattle.std.specs.Slice.Iter.{iter_rest};
+    ghost use Rattle.std.specs.declared.alloc.Global.{Global};
+    ghost use Rattle.js_doc.specs.declared.doc.Doc.{Doc};
+
+    ghost Value = { List (String Global × Doc) };
+
+    ghost use Rattle.std.specs.Coded.{codes};
+    ghost use Rattle.js_doc.specs.Coding.{value_code};
+
+    ghost coded = { Prim.hlevel (codes, value_code) };
+
+    ghost view = { λ p. iter_rest p.rest };
+}
+
+impl<'a> Pairs<'a> {
+    pub(crate) fn new(entries: &'a [(String, Doc)]) -> Pairs<'a>
+        ensures { result ≡ entries.now }
+    {
+        Pairs {
+            rest: entries.iter(),
+        }
+    }
+}
+
+impl<'a> Iterator for Pairs<'a> {
+    type Item = (&'a String, &'a Doc);
+
+    ghost next_gives = { TakesFirst deref_pair };
+
+    ghost remaining = { λ s. at_most (length s) };
+
+    #[inline]
+    fn next(&mut self) -> Option<(&'a String, &'a Doc)> {
+        let (name, doc) = self.rest.next()?;
+        Some((name, doc))
+    }
+
+    fn size_hint(&self) -> (usize, Option<usize>) {
+        let len = self.len();
+        (len, Some(len))
+    }
+}
+
+impl<'a> FusedIterator for Pairs<'a> {}
+
+impl<'a> ExactSizeIterator for Pairs<'a> {
+    fn len(&self) -> usize {
+        self.rest.len()
+    }
+}
+
+impl<'a> Clone for Pairs<'a> {
+    ghost is_clone = { λ s r. r ≡ s };
+
+    ghost is_infallible = { λ _. ⊤ };
+
+    fn clone(&self) -> Result<Self, AllocError> {
+        Ok(Pairs {
+            rest: self.rest.clone()?,
+        })
+    }
+}
