@@ -1,8 +1,9 @@
 -- Tokens that are written as they are, in a pointer's text and in a fragment.
-use Rattle.std.proofs.Common.{◌≡◌, ℕ, ◌≤◌, Bool, true, false, not, ◌&&◌, ◌==◌, ltb, List, [], ◌∷◌, flat_map, refl, sym, ap, ◌∙◌, arith}
+use Rattle.std.proofs.Common.{◌≡◌, ℕ, ◌≤◌, Bool, true, false, not, ◌&&◌, ◌==◌, ltb, List, [], ◌∷◌, flat_map, refl, sym, ap, subst, ◌∙◌, arith}
 use Rattle.std.specs.List.{list_all}
 use Rattle.std.proofs.lemmas.Bool.{agree_below, agree_below_at, and_parts, cond_both}
 use Rattle.std.proofs.lemmas.Bool.Decides.{nat_tests}
+use Rattle.js_doc.specs.Escapes.{stands}
 use Rattle.js_doc.specs.Pointer.{escape}
 use Rattle.js_doc.specs.Fragment.{is_fragment_char, fragment_byte}
 use Rattle.js_doc.specs.code.Plain.{is_kept, is_plain}
@@ -58,3 +59,24 @@ encoded_alone (b ∷ bs) e =
 
 pub all_plain : (bs : List ℕ) → list_all is_plain bs ≡ true → flat_map fragment_byte (escape bs) ≡ bs
 all_plain bs e = ap (flat_map fragment_byte) (all_kept bs (kept_too bs e)) ∙ encoded_alone bs e
+
+-- ---- in a JSON string
+
+-- every plain byte is above the quotation mark
+low : agree_below is_plain (λ b. false) 35 ≡ true
+low = refl
+
+above_marks : (b : ℕ) (v w : Bool) → ltb b 35 ≡ v → b == 92 ≡ w → is_plain b ≡ true → stands b ≡ true
+above_marks b true w l m e = let no : is_plain b ≡ false = agree_below_at is_plain (λ b. false) 35 b low (grind (arith, nat_tests, l)) in absurd cc
+above_marks b false true l m e =
+    let is : b ≡ 92 = grind (arith, nat_tests, m) in
+    let no : is_plain 92 ≡ true = subst (λ c. is_plain c ≡ true) is e in
+    absurd cc
+above_marks b false false l m e = grind (arith, nat_tests, l, m)
+
+pub all_stand : (bs : List ℕ) → list_all is_plain bs ≡ true → list_all stands bs ≡ true
+all_stand [] e = refl
+all_stand (b ∷ bs) e =
+    let p = and_parts (is_plain b) (list_all is_plain bs) e in
+    let here = above_marks b (ltb b 35) (b == 92) refl refl p.0 in
+    rw here (all_stand bs p.1)

@@ -1,6 +1,7 @@
 //! A pointer's tokens, and how they stand in its text and in a fragment, one at a time.
-ghost use Rattle.std.specs.Prelude.{◌≡◌, ◌++◌, IfOk, OnErr, OnOk, flat_map, string_bytes};
+ghost use Rattle.std.specs.Prelude.{◌≡◌, ◌∷◌, ◌++◌, IfOk, IsTrue, OnErr, OnOk, flat_map, string_bytes, true};
 ghost use Rattle.std.specs.List.{list_all};
+ghost use Rattle.js_doc.specs.Escapes.{stands};
 ghost use Rattle.js_doc.specs.Pointer.{escape, token_text};
 ghost use Rattle.js_doc.specs.Fragment.{fragment_byte, fragment_token};
 ghost use Rattle.js_doc.specs.code.Extends.{Extends};
@@ -144,6 +145,17 @@ fn push_encoded(out: &mut String, token: &str) -> Result<(), Memory>
         push_escaped(out, piece)?;
     }
     Ok(())
+}
+
+/// Whether the token is known to be written as it is: in a pointer's text (RFC 6901, section 3), in a fragment of a URI
+/// (section 6) and in a JSON string (RFC 8259, section 7). That is true of ASCII letters, digits, `$`, `-`, `.` and `_`,
+/// of which most names consist. It allocates nothing.
+pub fn is_plain_token(token: &str) -> bool
+    ensures pointer { IsTrue result → escape token.now ≡ token.now }
+    ensures fragment { IsTrue result → fragment_token token.now ≡ 47 ∷ token.now }
+    ensures string { IsTrue result → list_all stands token.now ≡ true }
+{
+    is_plain(token.as_bytes())
 }
 
 // Whether the token is sure to be written as it is: most names have only letters and digits.

@@ -18,27 +18,6 @@ use Rattle.js_eval.specs.Kind.{Applicator, applicators, kind, kind_in}
 use Rattle.js_eval.specs.code.Standard.{IsWrittenAsItIs}
 use Rattle.js_eval.specs.declared.kind.Kind.TheVariants.{Annotation, Assertion}
 
--- ---- in a JSON string
-
--- every plain byte is above the quotation mark
-low : agree_below is_plain (λ b. false) 35 ≡ true
-low = refl
-
-above_marks : (b : ℕ) (v w : Bool) → ltb b 35 ≡ v → b == 92 ≡ w → is_plain b ≡ true → stands b ≡ true
-above_marks b true w l m e = let no : is_plain b ≡ false = agree_below_at is_plain (λ b. false) 35 b low (grind (arith, nat_tests, l)) in absurd cc
-above_marks b false true l m e =
-    let is : b ≡ 92 = grind (arith, nat_tests, m) in
-    let no : is_plain 92 ≡ true = subst (λ c. is_plain c ≡ true) is e in
-    absurd cc
-above_marks b false false l m e = grind (arith, nat_tests, l, m)
-
-all_stand : (bs : List ℕ) → list_all is_plain bs ≡ true → list_all stands bs ≡ true
-all_stand [] e = refl
-all_stand (b ∷ bs) e =
-    let p = and_parts (is_plain b) (list_all is_plain bs) e in
-    let here = above_marks b (ltb b 35) (b == 92) refl refl p.0 in
-    rw here (all_stand bs p.1)
-
 -- ---- names of keywords
 
 abbrev IsPlain : List ℕ → Type 0
