@@ -5,6 +5,7 @@ ghost use Rattle.js_doc.specs.Seen.{pair_of};
 ghost use Rattle.js_doc.specs.code.Places.{StandsAt, GoesTo};
 
 use crate::doc::Doc;
+use crate::names::name_order;
 use std::cmp::Ordering;
 
 // The rank of the name's member, or the rank that it would have.
@@ -17,7 +18,7 @@ pub(crate) fn search(entries: &[(String, Doc)], name: &str) -> Result<usize, usi
     let mut high = entries.len();
     while low < high {
         let middle = low + (high - low) / 2;
-        match name.cmp(entries[middle].0.as_str()) {
+        match name_order(name, entries[middle].0.as_str()) {
             Ordering::Less => high = middle,
             Ordering::Equal => return Ok(middle),
             Ordering::Greater => low = middle + 1,
@@ -36,7 +37,7 @@ pub(crate) fn place(entries: &[(String, Doc)], name: &str) -> Result<usize, usiz
     if len == 0 {
         return Err(0);
     }
-    match name.cmp(entries[len - 1].0.as_str()) {
+    match name_order(name, entries[len - 1].0.as_str()) {
         Ordering::Greater => Err(len),
         Ordering::Equal => Ok(len - 1),
         Ordering::Less => search(entries, name),

@@ -6,7 +6,7 @@ ghost use Rattle.js_eval.specs.code.Standard.{IsWrittenAsItIs};
 
 use crate::kind::Kind;
 use js_bundle::KeywordName;
-use js_doc::Doc;
+use js_doc::{Doc, is_plain_token};
 
 /// A keyword's name, which keyword of the standard it is, its kind, and its argument.
 #[derive(Clone, Copy)]
@@ -20,10 +20,13 @@ pub(crate) struct Keyword<'a> {
 }
 
 /// Whether a keyword's name is known to need no escapes in a pointer, in a fragment or in a JSON string. Those of the
-/// standard's applicators and assertions need none.
-pub(crate) fn is_written_as_it_is(kind: Kind, _name: &str) -> bool
-    requires { kind ≡ table.kind _name.now }
-    ensures { IsTrue result → IsWrittenAsItIs _name.now }
+/// standard's applicators and assertions need none, so only the others are looked at.
+pub(crate) fn is_written_as_it_is(kind: Kind, name: &str) -> bool
+    requires { kind ≡ table.kind name.now }
+    ensures { IsTrue result → IsWrittenAsItIs name.now }
 {
-    !matches!(kind, Kind::Annotation)
+    if matches!(kind, Kind::Annotation) {
+        return is_plain_token(name);
+    }
+    true
 }

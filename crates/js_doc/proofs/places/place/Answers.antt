@@ -11,7 +11,7 @@ returns-in-Greater-clause-err c =
     let last = length es - 1 in
     let e = get_or es last c.index-entries-len.result in
     let some : length es ≡ 0 → ⊥ = c.if-len-eq0.false in
-    let is = compared c.args.name.now _ e Greater _ c.cmp.ensures c.as_str.ensures.value c.in-Greater.is in
+    let is = compared c.args.name.now _ e Greater _ c.name_order.ensures c.as_str.ensures.value c.in-Greater.is in
     goes_last c.args.name.now es last c.index-entries-len.result c.requires (omega (arith, some)) is
 
 pub returns-in-Equal-clause-ok : goal.returns-in-Equal-clause-ok
@@ -20,5 +20,5 @@ returns-in-Equal-clause-ok c =
     let last = length es - 1 in
     let e = get_or es last c.index-entries-len.result in
     let some : length es ≡ 0 → ⊥ = c.if-len-eq0.false in
-    let is = compared c.args.name.now _ e Equal _ c.cmp.ensures c.as_str.ensures.value c.in-Equal.is in
+    let is = compared c.args.name.now _ e Equal _ c.name_order.ensures c.as_str.ensures.value c.in-Equal.is in
     stands_at c.args.name.now es last c.index-entries-len.result (omega (arith, some)) is

@@ -13,7 +13,7 @@ loop-low-preserved-in-Less c =
     let below : at < l.high = omega (arith, c.loop-low-test.true) in
     let h : at < length es = omega (arith, below, l.invariant.2) in
     let i = c.index-entries-middle.result in
-    let is = compared c.args.name.now _ (get_or es at i) Less _ c.cmp.ensures c.as_str.ensures.value c.in-Less.is in (
+    let is = compared c.args.name.now _ (get_or es at i) Less _ c.name_order.ensures c.as_str.ensures.value c.in-Less.is in (
       l.invariant.0,
       goes_below c.args.name.now es at i h is,
       omega (arith, h),
@@ -27,7 +27,7 @@ returns-in-Equal-clause-ok c =
     let below : at < l.high = omega (arith, c.loop-low-test.true) in
     let h : at < length es = omega (arith, below, l.invariant.2) in
     let i = c.index-entries-middle.result in
-    let is = compared c.args.name.now _ (get_or es at i) Equal _ c.cmp.ensures c.as_str.ensures.value c.in-Equal.is in
+    let is = compared c.args.name.now _ (get_or es at i) Equal _ c.name_order.ensures c.as_str.ensures.value c.in-Equal.is in
     stands_at c.args.name.now es at i h is
 
 pub loop-low-preserved : goal.loop-low-preserved
@@ -39,7 +39,7 @@ loop-low-preserved c =
     let h : at < length es = omega (arith, below, l.invariant.2) in
     let i = c.index-entries-middle.result in
     let e = get_or es at i in
-    let is = compared c.args.name.now _ e Greater _ c.cmp.ensures c.as_str.ensures.value c.in-Greater.is in
+    let is = compared c.args.name.now _ e Greater _ c.name_order.ensures c.as_str.ensures.value c.in-Greater.is in
     let past = goes_above c.args.name.now es at i c.requires h is in (
       omega (arith, past),
       l.invariant.1,
