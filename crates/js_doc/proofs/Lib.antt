@@ -17,6 +17,7 @@ pub mod FragmentBytes
 pub mod TokenBytes
 pub mod PlainTokens
 pub mod Named
+pub mod LastToken
 pub mod FiniteMaps
 pub mod Placing
 pub mod Smaller

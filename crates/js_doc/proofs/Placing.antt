@@ -1,18 +1,21 @@
 -- Where a name stands among members whose names ascend, and what is got and put there.
 use Rattle.std.proofs.Common.{◌≡◌, ℕ, ◌+◌, ◌<◌, ◌≤◌, suc, zero, List, [], ◌∷◌, ◌++◌, map, length, get_or, set, insert}
 use Rattle.std.proofs.Common.{Some, None, String, Global, Ordering, Less}
-use Rattle.std.proofs.Common.{Equal, Greater, string_bytes, refl, sym, ap, ◌∙◌, subst, arith}
+use Rattle.std.proofs.Common.{Equal, Greater, true, string_bytes, refl, sym, ap, ◌∙◌, subst, arith}
 use Rattle.std.proofs.lemmas.Cmp.{nat_list_cmp_total}
+use Rattle.std.specs.Cmp.{tied_itself}
 use Rattle.std.specs.Ordering.{match_ordering, ordering_reverse}
 use Rattle.js_doc.specs.Value.{Value, Named, object, members}
 use Rattle.js_doc.specs.Members.{name_cmp, get, put, IsAscending, NamesAscendInMembers}
 use Rattle.js_doc.specs.Short.{AreShortMembers}
 use Rattle.js_doc.specs.Lawful.{IsLawful}
+use Rattle.js_doc.specs.Lookup.{is_text}
 use Rattle.js_doc.specs.Seen.{value_of, pair_of, members_seen}
 use Rattle.js_doc.specs.code.Places.{rank, rank_past, GoesTo, StandsAt, IsAboveAll}
 use Rattle.js_doc.specs.declared.doc.Doc.{Doc}
 use Rattle.js_doc.proofs.Alike.{Entry}
 use Rattle.js_doc.proofs.FiniteMaps.{name_equal, get_below}
+use Rattle.js_doc.proofs.Named.{is_text-sound}
 use Rattle.js_doc.proofs.Ascending.{members_ascend-put}
 use Rattle.js_doc.proofs.Shortness.{members_short-put}
 
@@ -54,6 +57,13 @@ same_at (f ∷ es) (suc i) d e h = same_at es i d e (omega (arith, h))
 pub stands_at : (k : List ℕ) (es : List Entry) (i : ℕ) (e : Entry) → i < length es
     → name_cmp k (name_at es i e) ≡ Equal → StandsAt k es i
 stands_at k es i e h q = (h, λ d. ap (λ f. name_cmp k (string_bytes f.0)) (same_at es i d e h) ∙ q)
+
+-- an entry whose name is k, wherever it was looked for
+pub named_stands : (k : List ℕ) (es : List Entry) (i : ℕ) (e : Entry) (x : List ℕ) → i < length es → e ≡ get_or es i e
+    → x ≡ string_bytes e.0 → is_text k x ≡ true → StandsAt k es i
+named_stands k es i e x h at is named =
+    let same : name_at es i e ≡ k = ap (λ f. string_bytes f.0) (sym at) ∙ sym (is_text-sound k x named ∙ is) in
+    stands_at k es i e h (ap (name_cmp k) same ∙ tied_itself nat_list_cmp_total k)
 
 past_head : (a n : ℕ) (o : Ordering) → a ≤ n → match_ordering o 0 1 (suc a) ≤ suc n
 past_head a n Less h = omega arith
