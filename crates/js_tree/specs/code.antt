@@ -7,4 +7,3 @@ pub mod Order
 pub mod Put
 pub mod RelativeText
 pub mod Search
-pub mod Unescaped

@@ -1,22 +1,21 @@
 //! The tree that pruning and condensing leave, from relative rows.
-ghost use Rattle.std.specs.Prelude.{◌≡◌, ◌++◌, ◌∷◌, [], Bool, IfOk, List, OnOk, string_bytes, ℕ};
+ghost use Rattle.std.specs.Prelude.{◌≡◌, ◌++◌, ◌∷◌, [], Bool, IfOk, List, OnOk, ℕ};
 ghost use Rattle.js_tree.specs.Forest.{Forest, empty, forest_of, tree, ◌⊹◌};
 ghost use Rattle.js_tree.specs.Locations.{AreAt, HasRoom, HasRoomFor, IsBack};
 ghost use Rattle.js_tree.specs.Marks.{AreMarksOf};
 ghost use Rattle.js_tree.specs.OutputUnit.{OutputUnit};
-ghost use Rattle.js_tree.specs.RelativeState.{AreRowsOf, AreWhole, part};
+ghost use Rattle.js_tree.specs.RelativeState.{AreRowsOf, AreWhole};
 ghost use Rattle.js_tree.specs.Result.{ResultTree, kept, pruned};
 ghost use Rattle.js_tree.specs.code.Listing.{AreMarkedRows, condensed, kept_node};
 ghost use Rattle.js_tree.specs.code.RelativeText.{IsAbsolute, unit_there};
-ghost use Rattle.js_tree.specs.code.Unescaped.{unescaped};
 
 use crate::locations::Locations;
 use crate::relative::{RelativeRow, RelativeRows};
 use crate::relative_marks::{Mark, RelativeMarks};
 use crate::tree::{Tree, Trees};
-use crate::unescaping::{push_unescaped, text_of};
+use crate::unescaping::text_of;
 use crate::unit::Unit;
-use js_doc::{Memory, Text};
+use js_doc::Memory;
 use std::alloc::Global;
 
 /// What the marks say is left of the rows' tree, with whole locations: the tree of the detailed format (JSON Schema
@@ -206,33 +205,9 @@ fn unit_at<'a>(
 {
     Ok(Unit {
         valid: row.valid,
-        keyword: text_of(alloc, locations.keyword.as_slice())?,
-        absolute: absolute_of(alloc, row)?,
-        instance: text_of(alloc, locations.instance.as_slice())?,
+        keyword: text_of(alloc, "", false, locations.keyword.as_slice())?,
+        absolute: text_of(alloc, row.schema, row.absolute_slash, row.absolute)?,
+        instance: text_of(alloc, "", false, locations.instance.as_slice())?,
         note: row.note.copy(alloc)?,
     })
-}
-
-fn absolute_of(alloc: Global, row: &RelativeRow) -> Result<Text, Memory>
-    ensures { (absolute : List ℕ) → IsAbsolute row.now absolute → IfOk result (λ t. t ≡ absolute) }
-{
-    let room = row
-        .schema
-        .len()
-        .saturating_add(row.absolute.len())
-        .saturating_add(1);
-    let mut text = String::with_capacity(alloc, room)?;
-    text.push_str(row.schema)?;
-    push_part(alloc, &mut text, row.absolute_slash, row.absolute)?;
-    Ok(Text::new(text))
-}
-
-fn push_part(alloc: Global, text: &mut String, slash: bool, escaped: &[u8]) -> Result<(), Memory>
-    ensures { IfOk result (λ _. string_bytes text.new ≡ string_bytes text.old ++ unescaped (part slash escaped.now)) }
-{
-    if !slash {
-        return push_unescaped(alloc, text, escaped);
-    }
-    text.push_str("/")?;
-    push_unescaped(alloc, text, escaped)
 }

@@ -236,7 +236,7 @@ fn put_opening<O: Out>(later: bool, row: &RelativeRow, out: &mut O) -> Result<()
 }
 
 /// Writes a part of a location.
-fn put_part<O: Out>(slash: bool, text: &[u8], out: &mut O) -> Result<(), Stopped>
+pub(crate) fn put_part<O: Out>(slash: bool, text: &[u8], out: &mut O) -> Result<(), Stopped>
     ensures { Puts (O.progress out.old) (O.progress out.new) (part slash text.now) result }
 {
     if !slash {

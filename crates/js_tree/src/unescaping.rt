@@ -1,104 +1,62 @@
-//! Texts from parts that have JSON escapes (RFC 8259, section 7).
-ghost use Rattle.std.specs.Prelude.{◌≡◌, ◌<◌, ◌∷◌, ◌++◌, IfOk, List, ℕ, string_bytes};
-ghost use Rattle.json.specs.Print.{escape};
-ghost use Rattle.js_tree.specs.code.Unescaped.{hex_value, meant_by, unescaped, unescaped_from};
+//! Texts from parts of locations, which have JSON escapes (RFC 8259, section 7).
+ghost use Rattle.std.specs.Prelude.{◌≡◌, ◌++◌, IfOk, List, ℕ};
+ghost use Rattle.json.specs.Print.{escape, quoted};
+ghost use Rattle.js_tree.specs.RelativeState.{part};
 
-use js_doc::{Memory, Out, Text, stand_as_they_are};
+use crate::relative_text::put_part;
+use js_doc::{Memory, Out, Text, put_escaped, stand_as_they_are};
+use json::{Reader, Scratch, Token};
 use std::alloc::Global;
 
-// How far an escape has been read. A code escape that is written has two zeros, and then the digits of its byte.
-#[derive(Clone, Copy)]
-pub(crate) enum Within {
-    Nothing,
-    Escape,
-    FirstZero,
-    SecondZero,
-    FirstDigit,
-    SecondDigit(u8),
-}
-
-/// The text of which these bytes are the escaped form.
-pub(crate) fn text_of(alloc: Global, escaped: &[u8]) -> Result<Text, Memory>
-    ensures { IfOk result (λ t. (text : List ℕ) → escaped.now ≡ escape text → t ≡ text) }
+/// The text `plain`, then a slash if there is one, and then what `escaped` is the escaped form of. Most parts have no
+/// escapes.
+pub(crate) fn text_of(
+    alloc: Global,
+    plain: &str,
+    slash: bool,
+    escaped: &[u8],
+) -> Result<Text, Memory>
+    ensures { IfOk result (λ t. (text : List ℕ) → escape plain.now ++ part slash escaped.now ≡ escape text
+        → t ≡ text) }
 {
-    let mut text = String::with_capacity(alloc, escaped.len())?;
-    push_unescaped(alloc, &mut text, escaped)?;
+    if !stand_as_they_are(escaped) {
+        return read_text(alloc, plain, slash, escaped);
+    }
+    let room = plain
+        .len()
+        .saturating_add(escaped.len())
+        .saturating_add(usize::from(slash));
+    let mut text = String::with_capacity(alloc, room)?;
+    text.push_str(plain)?;
+    put_part(slash, escaped, &mut text)?;
     Ok(Text::new(text))
 }
 
-/// Adds to the text what the bytes are the escaped form of. Most have no escapes.
-pub(crate) fn push_unescaped(alloc: Global, text: &mut String, escaped: &[u8]) -> Result<(), Memory>
-    ensures { IfOk result (λ _. string_bytes text.new ≡ string_bytes text.old ++ unescaped escaped.now) }
+// The same where there are escapes: the reader of JSON undoes them, also those of `plain`, which are put in here.
+fn read_text(alloc: Global, plain: &str, slash: bool, escaped: &[u8]) -> Result<Text, Memory>
+    ensures { IfOk result (λ t. (text : List ℕ) → escape plain.now ++ part slash escaped.now ≡ escape text
+        → t ≡ text) }
 {
-    if stand_as_they_are(escaped) {
-        text.put(escaped)?;
-        return Ok(());
-    }
-    let bytes = unescaped(alloc, escaped)?;
-    text.put(bytes.as_slice())?;
-    Ok(())
+    let mut json = String::new(alloc);
+    json.put(b"\"")?;
+    put_escaped(plain.as_bytes(), &mut json)?;
+    put_part(slash, escaped, &mut json)?;
+    json.put(b"\"")?;
+    read_string(alloc, json.as_str())
 }
 
-// What the bytes are the escaped form of.
-fn unescaped(alloc: Global, escaped: &[u8]) -> Result<Vec<u8>, Memory>
-    ensures { IfOk result (λ bytes. bytes.items ≡ unescaped escaped.now) }
+// The text of a JSON string; what rows hold always makes one. It isn't inlined, since the reader's scratch space is
+// large and lies on the stack.
+#[inline(never)]
+fn read_string(alloc: Global, json: &str) -> Result<Text, Memory>
+    ensures { IfOk result (λ t. (text : List ℕ) → json.now ≡ quoted text → t ≡ text) }
 {
-    let mut bytes = Vec::with_capacity(alloc, escaped.len())?;
-    let mut within = Within::Nothing;
-    for byte in escaped {
-        within = read_byte(within, *byte, &mut bytes)?;
-    }
-    Ok(bytes)
-}
-
-// Reads one more byte, and adds what has been read if it ends with it.
-fn read_byte(within: Within, byte: u8, bytes: &mut Vec<u8>) -> Result<Within, Memory>
-    ensures { IfOk result (λ next. (rest : List ℕ) → bytes.new.items ++ unescaped_from next rest
-        ≡ bytes.old.items ++ unescaped_from within (byte ∷ rest)) }
-{
-    match within {
-        Within::Nothing => {
-            if byte == b'\\' {
-                return Ok(Within::Escape);
-            }
-            bytes.push(byte)?;
-            Ok(Within::Nothing)
-        }
-        Within::Escape => {
-            if byte == b'u' {
-                return Ok(Within::FirstZero);
-            }
-            bytes.push(meant_by(byte))?;
-            Ok(Within::Nothing)
-        }
-        Within::FirstZero => Ok(Within::SecondZero),
-        Within::SecondZero => Ok(Within::FirstDigit),
-        Within::FirstDigit => Ok(Within::SecondDigit(byte)),
-        Within::SecondDigit(first) => {
-            bytes.push(hex_value(first) * 16 + hex_value(byte))?;
-            Ok(Within::Nothing)
-        }
-    }
-}
-
-// What the letter of a short escape stands for.
-fn meant_by(letter: u8) -> u8
-    ensures { result ≡ meant_by letter }
-{
-    match letter {
-        b'b' => 8,
-        b'f' => 12,
-        b'n' => b'\n',
-        b'r' => b'\r',
-        b't' => b'\t',
-        _ => letter,
-    }
-}
-
-// The value of a hex digit. The low bits of the digits are 0 to 9, and those of the letters 1 to 6.
-fn hex_value(digit: u8) -> u8
-    ensures value { result ≡ hex_value digit }
-    ensures bound { result < 16 }
-{
-    (digit % 16 + digit / 64 * 9) % 16
+    let mut scratch = Scratch::new(alloc);
+    let mut reader = Reader::new(json, &mut scratch)?;
+    let Some(Token::String(text)) = reader.next() else {
+        return Err(Memory);
+    };
+    let mut copy = String::with_capacity(alloc, text.len())?;
+    copy.push_str(text)?;
+    Ok(Text::new(copy))
 }
