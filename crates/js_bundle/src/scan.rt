@@ -25,11 +25,11 @@ const MOST_SITES: usize = 100_001;
 
 // Lists one place, and answers the scope of what stands below it.
 fn add_site<'a>(
-    alloc: Global,
     out: &mut Vec<Site<'a>>,
     document: usize,
     above: &Arc<Scope>,
     pointer: &Arc<Pointer>,
+    rank: u32,
     schema: &'a Doc,
 ) -> Result<Arc<Scope>, Memory>
     ensures added { OnOk result (map site_of out.new.items ≡ map site_of out.old.items
@@ -42,7 +42,7 @@ fn add_site<'a>(
         below,
         identifies,
         bare,
-    } = scopes_at(alloc, above, pointer, schema)?;
+    } = scopes_at(*out.allocator(), above, pointer, schema)?;
     out.push(Site {
         document,
         pointer: pointer.clone()?,
@@ -50,6 +50,7 @@ fn add_site<'a>(
         own,
         identifies,
         bare,
+        rank,
         schema,
     })?;
     Ok(below)
@@ -57,11 +58,11 @@ fn add_site<'a>(
 
 #[cycle(scan)]
 fn scan_schema<'a>(
-    alloc: Global,
     out: &mut Vec<Site<'a>>,
     document: usize,
     above: &Arc<Scope>,
     pointer: &Arc<Pointer>,
+    rank: u32,
     schema: &'a Doc,
 ) -> Result<(), Memory>
     ensures { OnOk result (SameFront (map site_of out.new.items) (map site_of out.old.items
@@ -70,16 +71,15 @@ fn scan_schema<'a>(
     if MOST_SITES <= out.len() {
         return Ok(());
     }
-    let below = add_site(alloc, out, document, above, pointer, schema)?;
+    let below = add_site(out, document, above, pointer, rank, schema)?;
     match schema {
-        Doc::Members(members) => scan_keywords(alloc, out, document, &below, pointer, members),
+        Doc::Members(members) => scan_keywords(out, document, &below, pointer, members),
         _ => Ok(()),
     }
 }
 
 #[cycle(scan)]
 fn scan_keywords<'a>(
-    alloc: Global,
     out: &mut Vec<Site<'a>>,
     document: usize,
     above: &Arc<Scope>,
@@ -89,28 +89,30 @@ fn scan_keywords<'a>(
     ensures { OnOk result (SameFront (map site_of out.new.items) (map site_of out.old.items
         ++ sites_of_keywords document above.now.value pointer.now (spec.members members.now))) }
 {
+    let mut rank = 0_u32;
     for (keyword, argument) in members.pairs() {
         scan_keyword(
-            alloc,
             out,
             document,
             above,
             pointer,
             keyword.as_str(),
+            rank,
             argument,
         )?;
+        rank = rank.saturating_add(1);
     }
     Ok(())
 }
 
 #[cycle(scan)]
 fn scan_keyword<'a>(
-    alloc: Global,
     out: &mut Vec<Site<'a>>,
     document: usize,
     above: &Arc<Scope>,
     pointer: &Pointer,
     keyword: &str,
+    rank: u32,
     argument: &'a Doc,
 ) -> Result<(), Memory>
     ensures { OnOk result (SameFront (map site_of out.new.items) (map site_of out.old.items
@@ -121,18 +123,18 @@ fn scan_keyword<'a>(
     if matches!(held, Holding::Nothing) {
         return Ok(());
     }
-    let at = shared_further(alloc, pointer, keyword)?;
-    scan_held(alloc, out, document, above, &at, held, argument)
+    let at = shared_further(*out.allocator(), pointer, keyword)?;
+    scan_held(out, document, above, &at, held, rank, argument)
 }
 
 #[cycle(scan)]
 fn scan_held<'a>(
-    alloc: Global,
     out: &mut Vec<Site<'a>>,
     document: usize,
     above: &Arc<Scope>,
     pointer: &Arc<Pointer>,
     held: Holding,
+    rank: u32,
     argument: &'a Doc,
 ) -> Result<(), Memory>
     ensures { OnOk result (SameFront (map site_of out.new.items) (map site_of out.old.items
@@ -141,13 +143,13 @@ fn scan_held<'a>(
         (sites_in_object document above.now.value pointer.now.value (value_of argument.now)))) }
 {
     match held {
-        Holding::One => scan_schema(alloc, out, document, above, pointer, argument),
+        Holding::One => scan_schema(out, document, above, pointer, rank, argument),
         Holding::Listed => match argument {
-            Doc::List(items) => scan_items(alloc, out, document, above, pointer, items.as_slice()),
+            Doc::List(items) => scan_items(out, document, above, pointer, items.as_slice()),
             _ => Ok(()),
         },
         Holding::Named => match argument {
-            Doc::Members(members) => scan_members(alloc, out, document, above, pointer, members),
+            Doc::Members(members) => scan_members(out, document, above, pointer, members),
             _ => Ok(()),
         },
         Holding::Nothing => Ok(()),
@@ -156,7 +158,6 @@ fn scan_held<'a>(
 
 #[cycle(scan)]
 fn scan_items<'a>(
-    alloc: Global,
     out: &mut Vec<Site<'a>>,
     document: usize,
     above: &Arc<Scope>,
@@ -168,16 +169,15 @@ fn scan_items<'a>(
         (spec.items (map value_of schemas.now)))) }
 {
     for i in 0..schemas.len() {
-        let token = i.to_string(alloc)?;
-        let at = shared_further(alloc, pointer, token.as_str())?;
-        scan_schema(alloc, out, document, above, &at, &schemas[i])?;
+        let token = i.to_string(*out.allocator())?;
+        let at = shared_further(*out.allocator(), pointer, token.as_str())?;
+        scan_schema(out, document, above, &at, 0, &schemas[i])?;
     }
     Ok(())
 }
 
 #[cycle(scan)]
 fn scan_members<'a>(
-    alloc: Global,
     out: &mut Vec<Site<'a>>,
     document: usize,
     above: &Arc<Scope>,
@@ -187,9 +187,11 @@ fn scan_members<'a>(
     ensures { OnOk result (SameFront (map site_of out.new.items) (map site_of out.old.items
         ++ sites_of_members document above.now.value pointer.now (spec.members members.now))) }
 {
+    let mut rank = 0_u32;
     for (name, schema) in members.pairs() {
-        let at = shared_further(alloc, pointer, name.as_str())?;
-        scan_schema(alloc, out, document, above, &at, schema)?;
+        let at = shared_further(*out.allocator(), pointer, name.as_str())?;
+        scan_schema(out, document, above, &at, rank, schema)?;
+        rank = rank.saturating_add(1);
     }
     Ok(())
 }
@@ -205,7 +207,7 @@ fn scan_document<'a>(
 {
     let above = Scope::of_document(alloc, &document.uri)?;
     let at = Arc::new(alloc, Pointer::new(alloc))?;
-    scan_schema(alloc, out, number, &above, &at, &document.root)
+    scan_schema(out, number, &above, &at, 0, &document.root)
 }
 
 /// The places of the documents, in order: as many as a bundle may have, and one more.

@@ -79,7 +79,7 @@ impl Schemas {
     {
         let site = self.kept_site(place);
         let root = &self.documents[site.document].root;
-        match root.at(&site.pointer) {
+        match root.at_with_hint(&site.pointer, site.rank as usize) {
             Some(schema) => schema,
             None => root, // never: a place stands in its document
         }

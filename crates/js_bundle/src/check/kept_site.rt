@@ -20,6 +20,8 @@ pub(crate) struct KeptSite {
     pub(crate) own: Arc<Scope>,
     /// Whether its `$id` makes a base.
     pub(crate) identifies: bool,
+    /// How many members stand before it in its object: a hint for finding it again. In a list it is 0.
+    pub(crate) rank: u32,
 }
 
 /// What is kept of each.
@@ -35,6 +37,7 @@ pub(crate) fn kept_sites_of(alloc: Global, sites: Vec<Site<'_>>) -> Result<Vec<K
             own,
             identifies,
             bare: _,
+            rank,
             schema: _,
         } = site;
         kept.push(KeptSite {
@@ -43,6 +46,7 @@ pub(crate) fn kept_sites_of(alloc: Global, sites: Vec<Site<'_>>) -> Result<Vec<K
             above,
             own,
             identifies,
+            rank,
         })?;
     }
     Ok(kept)

@@ -21,6 +21,8 @@ pub(crate) struct Site<'a> {
     pub(crate) identifies: bool,
     /// Whether its `$id` gives a URI without a fragment, or with an empty one.
     pub(crate) bare: bool,
+    /// How many members stand before it in its object: a hint for finding it again. In a list it is 0.
+    pub(crate) rank: u32,
     pub(crate) schema: &'a Doc,
     ghost based: { own.value.base
         ≡ (scope_or (identified above.value.base (value_of schema.now)) pointer.value above.value).base },
