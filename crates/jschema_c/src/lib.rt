@@ -47,7 +47,7 @@ pub extern "C" fn jschema_add(
     let Some(mut session) = handle.take(alloc) else {
         return Status::Misused.code();
     };
-    let status = session.add(alloc, uri, document);
+    let status = session.add_document(alloc, uri, document);
     handle.put(session);
     status.code()
 }
@@ -60,7 +60,7 @@ pub extern "C" fn jschema_finish(alloc: Global, handle: &mut Handle) -> u32
     let Some(mut session) = handle.take(alloc) else {
         return Status::Misused.code();
     };
-    let status = session.finish(alloc);
+    let status = session.finish_documents(alloc);
     handle.put(session);
     status.code()
 }
@@ -92,7 +92,7 @@ pub extern "C" fn jschema_entry(
     let Some(mut session) = handle.take(alloc) else {
         return Status::Misused.code();
     };
-    let status = session.enter(alloc, uri, number);
+    let status = session.number_entry(alloc, uri, number);
     handle.put(session);
     status.code()
 }
@@ -112,7 +112,7 @@ pub extern "C" fn jschema_check(
     let Some(mut session) = handle.take(alloc) else {
         return Status::Misused.code();
     };
-    let status = session.check(alloc, entry, instance, format);
+    let status = session.check_instance(alloc, entry, instance, format);
     handle.put(session);
     status.code()
 }
