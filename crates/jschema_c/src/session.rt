@@ -5,7 +5,7 @@ ghost use Rattle.jschema_c.specs.Session.{Adds, Finishes, Lists, Enters, Checks,
 ghost use Rattle.js_bundle.specs.Schemas.{is_place, place_at};
 ghost use Rattle.js_output.specs.Outcome.{InstanceOutcome};
 
-use crate::status::{Status, format_of};
+use crate::status::{Status, format_numbered};
 use js_bundle::{Bundle, Place, Schemas};
 use js_output::{Fault, Sink, judge, list_places, refusal_line};
 use js_tree::Format;
@@ -198,7 +198,7 @@ fn checked(
     let Some(place) = entries.get(entry) else {
         return Ok(Status::Misused);
     };
-    let Some(format) = format_of(format) else {
+    let Some(format) = format_numbered(format) else {
         return Ok(Status::Misused);
     };
     if !schemas.has(*place) {
