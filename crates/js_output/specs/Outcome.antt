@@ -159,8 +159,8 @@ recorded Verbose t = t
 recorded _ t = trimmed_tree t
 
 -- the rows are those that the format needs of the result within the limits
-abbrev pub AreResultRows : Format → bundle.Documents → Option Site → Value → RelativeRows → Type 0
-AreResultRows format documents entry v rows =
+abbrev pub AreRowsInFormat : Format → bundle.Documents → Option Site → Value → RelativeRows → Type 0
+AreRowsInFormat format documents entry v rows =
     (t : ResultTree) × IsResultOf documents entry v t × IsWithinLimits t × AreRowsOf rows (recorded format t)
 
 -- the tree is what merged shows of it
