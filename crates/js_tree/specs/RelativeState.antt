@@ -141,7 +141,7 @@ abbrev pub IsRootAt : List ℕ → Bool → OutputUnit → Type 0
 IsRootAt absolute valid u = (u.keyword ≡ []) × (u.instance ≡ []) × (u.absolute ≡ absolute) × (u.valid ≡ valid)
 
 -- a node that opens and closes at once, passing and without a note, leads from the rows back to them, wherever it is
-abbrev pub DropsSilent : RelativeRows → Type 0
-DropsSilent rows = (keyword absolute instance : List ℕ)
+abbrev pub DropsSilentLeaf : RelativeRows → Type 0
+DropsSilentLeaf rows = (keyword absolute instance : List ℕ)
     → Passes (λ a e b. relative_state b ≡ relative_after (relative_state a) e)
     (opening keyword absolute instance ∷ closing true silent ∷ []) rows rows
