@@ -10,7 +10,7 @@ use Rattle.js_eval.specs.SchemaSet.{Text, SchemaSet}
 use Rattle.js_eval.specs.declared.kind.Kind.{Kind}
 use Rattle.js_tree.specs.Events.{Event, opening, closing}
 use Rattle.js_eval.specs.Walk.Keeping.{keeps, names_origin, indexes_origin}
-use Rattle.js_eval.specs.Walk.Told.{IsAt, IsBack, NodeWalked, NodeTold, KeywordWalked, KeywordTold, EachWalked, EachTold, passes_at, says_at, schema_says, at_name, at_step}
+use Rattle.js_eval.specs.Walk.Told.{IsAt, IsWayRestored, NodeWalked, NodeTold, KeywordWalked, KeywordTold, EachWalked, EachTold, passes_at, says_at, schema_says, at_name, at_step}
 use Rattle.js_eval.specs.Walk.Scope.{HasGrown}
 use Rattle.js_eval.specs.declared.walking.way.Mark.{Mark}
 use Rattle.js_eval.specs.declared.walking.way.Start.{Start}
@@ -101,17 +101,17 @@ module _ {M H K C P : Type 0} (S : SchemaSet P) (text_of : M → Text) (takes : 
   pub record NodeDone (n : ℕ) (above : List P) (place : P) (v : Value) (valid : Bool) (w w' : Way M H K) (c d : C) : Type 0 where
     pub walked : NodeWalked S n above place v valid (map text_of w.names.items) (map text_of w'.names.items) w.indexes.items w'.indexes.items w.left w'.left
     pub told : (at : Location) → IsAt at w.keyword w.instance → NodeTold S n above place v takes at c d
-    pub back : IsBack w w'
+    pub back : IsWayRestored w w'
     pub falls : w'.left < w.left
 
   pub record KeywordDone (n : ℕ) (path : List P) (place : P) (v : Value) (k : Keyword) (matching : ℕ) (apps : List (Application P)) (j : Judged) (w w' : Way M H K) (c d : C) : Type 0 where
     pub walked : KeywordWalked S n path place v k matching apps j.passes j.held (map text_of w.names.items) (map text_of w'.names.items) w.indexes.items w'.indexes.items w.left w'.left
     pub told : (at : Location) → IsAt at w.keyword w.instance → KeywordTold S n path place v k takes at matching apps c d
-    pub back : IsBack w w'
+    pub back : IsWayRestored w w'
     pub falls : w'.left < w.left
 
   pub record EachDone (n : ℕ) (path : List P) (κ : Kind) (apps : List (Application P)) (t : Tally) (w w' : Way M H K) (c d : C) : Type 0 where
     pub walked : EachWalked S n path κ apps t.asked t.held (map text_of w.names.items) (map text_of w'.names.items) w.indexes.items w'.indexes.items w.left w'.left
     pub told : (at : Location) → IsAt at w.keyword w.instance → EachTold S n path takes at apps c d
-    pub back : IsBack w w'
+    pub back : IsWayRestored w w'
     pub falls : w'.left ≤ w.left
