@@ -7,7 +7,7 @@ use Rattle.js_tree.specs.code.Compacting.{left, left_of, left_tree_count, stays,
 use Rattle.js_tree.specs.Flat.{flat, flat_of}
 use Rattle.js_tree.specs.FlatState.{FlatRow, row_of}
 use Rattle.js_tree.specs.Forest.{Forest, empty, tree, ◌⊹◌, node_count, tree_count}
-use Rattle.js_tree.specs.Kept.{is_kept, kept_below, noted_trees}
+use Rattle.js_tree.specs.Kept.{is_kept_node, kept_below, noted_trees}
 use Rattle.js_tree.specs.OutputUnit.{OutputUnit, noted}
 use Rattle.js_tree.specs.Pruned.{pruned_below}
 use Rattle.js_tree.specs.Result.{ResultTree, has_verdict}
@@ -349,7 +349,7 @@ pruned_at false v u below after rest e i j =
     ∙ (ap (gathered (Verdict v) (length (marked_rows (Verdict v) below))) (append_assoc (marked_rows (Verdict v) below) (marked_rows (Verdict v) after) rest)
     ∙ (gathered-gone (Verdict v) (marked_rows (Verdict v) below) (marked_rows (Verdict v) after ++ rest) ∙ j)))
 
-kept_at : (b : Bool) (u : OutputUnit) (below after : Forest OutputUnit) (rest : List Row) → (noted u || at_least_two (left_tree_count Noted below)) ≡ b → is_kept noted u below ≡ b
+kept_at : (b : Bool) (u : OutputUnit) (below after : Forest OutputUnit) (rest : List Row) → (noted u || at_least_two (left_tree_count Noted below)) ≡ b → is_kept_node noted u below ≡ b
     → ((zs : List Row) → gathered Noted 0 (marked_rows Noted below ++ zs) ≡ flat_of (kept_below noted below) ++ gathered Noted 0 zs)
     → gathered Noted 0 (marked_rows Noted after ++ rest) ≡ flat_of (kept_below noted after) ++ gathered Noted 0 rest
     → gathered Noted 0 (marked_rows Noted (tree u below after) ++ rest) ≡ flat_of (kept_below noted (tree u below after)) ++ gathered Noted 0 rest
@@ -367,7 +367,7 @@ gathered-marked_rows (Verdict v) empty rest = refl
 gathered-marked_rows Noted empty rest = refl
 gathered-marked_rows (Verdict v) (tree u below after) rest = pruned_at (has_verdict v u) v u below after rest refl (λ zs. gathered-marked_rows (Verdict v) below zs) (gathered-marked_rows (Verdict v) after rest)
 gathered-marked_rows Noted (tree u below after) rest =
-    kept_at (is_kept noted u below) u below after rest (ap (λ n. noted u || at_least_two n) (left_tree_count-noted below)) refl (λ zs. gathered-marked_rows Noted below zs) (gathered-marked_rows Noted after rest)
+    kept_at (is_kept_node noted u below) u below after rest (ap (λ n. noted u || at_least_two n) (left_tree_count-noted below)) refl (λ zs. gathered-marked_rows Noted below zs) (gathered-marked_rows Noted after rest)
 
 -- ---- one row more is gone past
 
