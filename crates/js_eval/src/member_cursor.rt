@@ -13,7 +13,7 @@ ghost use Rattle.js_eval.specs.Applications.{among_names, application};
 ghost use Rattle.js_eval.specs.code.Applied.{IsHeld, applied_of};
 ghost use Rattle.js_eval.specs.code.Asked.{IsApplied};
 ghost use Rattle.js_eval.specs.Bundle.{schemas_of};
-ghost use Rattle.js_eval.specs.code.Cursors.{is_chosen, is_matched, is_named, members_asked, members_left, named_in};
+ghost use Rattle.js_eval.specs.code.Cursors.{is_chosen, is_matched, is_named, members_asked, chosen_members, named_in};
 ghost use Rattle.js_eval.specs.code.Standing.{StandsAt};
 ghost use Rattle.js_eval.specs.SchemaSet as spec;
 ghost use Rattle.js_eval.specs.Seen.{instance_of, texts_of};
@@ -230,9 +230,9 @@ fn next_member<'a>(
     choice: &Choice<'a>,
     members: &mut Pairs<'a>,
 ) -> Result<Option<(&'a str, &'a Doc)>, Memory>
-    ensures { IfOk result (λ o. MatchOption o (members_left choice.now members.old ≡ [])
-        (λ m. members_left choice.now members.old
-        ≡ (m.0.now, value_of m.1.now) ∷ members_left choice.now members.new)) }
+    ensures { IfOk result (λ o. MatchOption o (chosen_members choice.now members.old ≡ [])
+        (λ m. chosen_members choice.now members.old
+        ≡ (m.0.now, value_of m.1.now) ∷ chosen_members choice.now members.new)) }
 {
     while let Some((name, member)) = members.next() {
         let name = name.as_str();

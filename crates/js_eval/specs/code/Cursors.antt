@@ -70,11 +70,11 @@ is_chosen (choice.Additional adjacent) name = not (is_named adjacent.properties 
 is_chosen (choice.Except names) name = not (is_key names.keys name)
 
 -- those of the members that are chosen
-abbrev pub members_left : Choice → List (String Global × Doc) → Named
-members_left choice members = filter (λ m. is_chosen choice m.0) (map pair_of members)
+abbrev pub chosen_members : Choice → List (String Global × Doc) → Named
+chosen_members choice members = filter (λ m. is_chosen choice m.0) (map pair_of members)
 
 abbrev pub members_asked : Documents → MemberCursor → List (Application Site)
-members_asked documents c = map (λ m. applied documents c.held c.to (Name m.0) m.1) (members_left c.choice c.members)
+members_asked documents c = map (λ m. applied documents c.held c.to (Name m.0) m.1) (chosen_members c.choice c.members)
 
 -- ---- the members whose names patterns match
 
