@@ -55,13 +55,13 @@ at_in to.Part step = step
 at_in to.Name step = step
 at_in (to.Whole value) step = Alone
 
-abbrev pub value_in : To → Step → Value → Value
-value_in to.Part step part = part
-value_in to.Name (Name name) part = text name
-value_in to.Name Alone part = part
-value_in to.Name (Index i) part = part
-value_in (to.Whole value) step part = instance_of value
+abbrev pub applied_value : To → Step → Value → Value
+applied_value to.Part step part = part
+applied_value to.Name (Name name) part = text name
+applied_value to.Name Alone part = part
+applied_value to.Name (Index i) part = part
+applied_value (to.Whole value) step part = instance_of value
 
 abbrev pub applied : Documents → Held → To → Step → Value → Application Site
 applied documents held on step part =
-    record { place = site_in documents held step; step = step_in held step; at = at_in on step; value = value_in on step part }
+    record { place = site_in documents held step; step = step_in held step; at = at_in on step; value = applied_value on step part }
