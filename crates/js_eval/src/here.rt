@@ -5,7 +5,7 @@ ghost use Rattle.js_doc.specs.Fragment.{fragment_token};
 ghost use Rattle.js_eval.specs.Bundle.{schemas_of};
 ghost use Rattle.js_eval.specs.code.Standing.{StandsAt};
 ghost use Rattle.js_doc.specs.Seen.{value_of as schema_value};
-ghost use Rattle.js_eval.specs.Evaluated.{index_in, name_in};
+ghost use Rattle.js_eval.specs.Evaluated.{index_in_step, name_in_step};
 ghost use Rattle.js_eval.specs.Seen.{instance_of, step_of};
 ghost use Rattle.js_eval.specs.Sited.{numbered_site};
 ghost use Rattle.js_eval.specs.Walk.Told.{at_step, schema_says};
@@ -262,7 +262,7 @@ fn value_of<'a>(_step: Step<'a>, value: Instance<'a>, _doc: Option<&'a Doc>) -> 
 }
 
 fn member_at<'a>(at: Step<'a>, _doc: Option<&'a Doc>) -> Option<&'a str>
-    ensures { map (λ name. name.now) (option_to_list result) ≡ name_in (step_of at.entry) }
+    ensures { map (λ name. name.now) (option_to_list result) ≡ name_in_step (step_of at.entry) }
 {
     match at {
         Step::Name(name) => Some(name),
@@ -272,7 +272,7 @@ fn member_at<'a>(at: Step<'a>, _doc: Option<&'a Doc>) -> Option<&'a str>
 }
 
 fn item_at<'a>(at: Step<'a>, _doc: Option<&'a Doc>) -> Option<usize>
-    ensures { option_to_list result ≡ index_in (step_of at.entry) }
+    ensures { option_to_list result ≡ index_in_step (step_of at.entry) }
 {
     match at {
         Step::Index(index) => Some(index),

@@ -2,7 +2,7 @@
 use Rattle.std.specs.Prelude.{◌≡◌, ℕ, ◌+◌, ◌<◌, ◌≤◌, Bool, cond, List, [], ◌∷◌, ◌++◌, Some, None, map, take, drop, length}
 use Rattle.js_doc.specs.Value.{Value}
 use Rattle.js_eval.specs.Applications.{Application}
-use Rattle.js_eval.specs.Evaluated.{name_in, index_in}
+use Rattle.js_eval.specs.Evaluated.{name_in_step, index_in_step}
 use Rattle.js_eval.specs.Keywords.{Keyword}
 use Rattle.js_eval.specs.Location.{Location}
 use Rattle.js_eval.specs.Passes.{how_many}
@@ -45,8 +45,8 @@ pub record CameBack {M H K P : Type 0} (text_of : M → Text) (len : K → ℕ) 
   pub scope : w'.scope ≡ w.scope
   pub keyword : w'.keyword ≡ take (len here.keyword) w.keyword
   pub instance : w'.instance ≡ take (len here.instance) w.instance
-  pub names : map text_of w'.names.items ≡ take here.names (map text_of w.names.items) ++ keeps (names_origin κ) holds (name_in a.at) (drop here.names (map text_of w.names.items))
-  pub indexes : w'.indexes.items ≡ take here.indexes w.indexes.items ++ keeps (indexes_origin κ) holds (index_in a.at) (drop here.indexes w.indexes.items)
+  pub names : map text_of w'.names.items ≡ take here.names (map text_of w.names.items) ++ keeps (names_origin κ) holds (name_in_step a.at) (drop here.names (map text_of w.names.items))
+  pub indexes : w'.indexes.items ≡ take here.indexes w.indexes.items ++ keeps (indexes_origin κ) holds (index_in_step a.at) (drop here.indexes w.indexes.items)
   pub left : w'.left ≡ w.left
 
 -- this is whether a keyword passes, of which this many applications hold
