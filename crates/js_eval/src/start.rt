@@ -85,9 +85,9 @@ pub(crate) fn start<'a>(
         Kind::DynamicReference => Ok(referred_dynamically(
             schemas, place, schema, path, scope, value,
         )),
-        Kind::AllOf => Ok(start_items::listed(place, schema, keyword, value)),
-        Kind::AnyOf => Ok(start_items::listed(place, schema, keyword, value)),
-        Kind::OneOf => Ok(start_items::listed(place, schema, keyword, value)),
+        Kind::AllOf => Ok(start_items::each_in_list(place, schema, keyword, value)),
+        Kind::AnyOf => Ok(start_items::each_in_list(place, schema, keyword, value)),
+        Kind::OneOf => Ok(start_items::each_in_list(place, schema, keyword, value)),
         Kind::Not => Ok(held(schemas, place, schema, keyword, value)),
         Kind::If => Ok(held(schemas, place, schema, keyword, value)),
         Kind::Then => Ok(held_then(schemas, place, schema, keyword, facts.condition, value)),

@@ -26,7 +26,7 @@ use js_doc::{Doc, Memory};
 use std::alloc::Global;
 
 /// Each schema of a keyword's list, applied to the value itself.
-pub(crate) fn listed<'a>(
+pub(crate) fn each_in_list<'a>(
     place: Place,
     schema: &'a Doc,
     keyword: Keyword<'a>,
