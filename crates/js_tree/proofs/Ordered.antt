@@ -13,7 +13,7 @@ use Rattle.js_tree.specs.Merged.{alike, alike_trees}
 use Rattle.js_tree.specs.Note.{Note, silent, error, value, names, index, indexes, truly}
 use Rattle.js_tree.specs.OutputUnit.{OutputUnit}
 use Rattle.js_tree.specs.Result.{ResultTree}
-use Rattle.js_tree.specs.code.Order.{kind, note_order, unit_order, forest_order, tree_order}
+use Rattle.js_tree.specs.code.Order.{kind, note_order, unit_order, forest_order, result_tree_order}
 use Rattle.js_tree.proofs.AlikeUnits.{same_but_keyword_decides}
 use Rattle.js_tree.proofs.Steps.{and_left, and_right}
 
@@ -131,8 +131,8 @@ forest_order-total : IsTotalOrder forest_order
 forest_order-total =
     subst IsTotalOrder (λ i f g. (written_order f g [] [] ∙ then_equal (forest_order f g)) i) (on_total (λ f. written f []) (lists_total (options_total unit_order-total)))
 
-pub tree_order-total : IsTotalOrder tree_order
-tree_order-total = then_total (on_total (λ t. t.root) unit_order-total) (on_total (λ t. t.below) forest_order-total)
+pub result_tree_order-total : IsTotalOrder result_tree_order
+result_tree_order-total = then_total (on_total (λ t. t.root) unit_order-total) (on_total (λ t. t.below) forest_order-total)
 
 forest_order-alike : (f g : Forest OutputUnit) → alike same_but_keyword f g ≡ true → forest_order f g ≡ Equal
 forest_order-alike empty empty e = refl
@@ -143,6 +143,6 @@ forest_order-alike (tree u below after) (tree v under others) e =
     rw (unit_order-alike u v (and_left (same_but_keyword u v) _ here), forest_order-alike below under (and_right (same_but_keyword u v) _ here))
     (forest_order-alike after others (and_right (alike_trees same_but_keyword u below v under) _ e))
 
-pub tree_order-alike : (t u : ResultTree) → alike_trees same_but_keyword t.root t.below u.root u.below ≡ true → tree_order t u ≡ Equal
-tree_order-alike t u e =
+pub result_tree_order-alike : (t u : ResultTree) → alike_trees same_but_keyword t.root t.below u.root u.below ≡ true → result_tree_order t u ≡ Equal
+result_tree_order-alike t u e =
     rw (unit_order-alike t.root u.root (and_left (same_but_keyword t.root u.root) _ e), forest_order-alike t.below u.below (and_right (same_but_keyword t.root u.root) _ e)) refl

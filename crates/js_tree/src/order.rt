@@ -2,7 +2,7 @@
 ghost use Rattle.std.specs.Prelude.{◌≡◌};
 ghost use Rattle.js_tree.specs.Forest.{forest_of};
 ghost use Rattle.js_tree.specs.Seen.{note_of};
-ghost use Rattle.js_tree.specs.code.Order.{kind, note_order, unit_order, tree_order, forest_order};
+ghost use Rattle.js_tree.specs.code.Order.{kind, note_order, unit_order, result_tree_order, forest_order};
 
 use crate::note::Note;
 use crate::tree::Tree;
@@ -80,7 +80,7 @@ impl<'a> Unit<'a> {
 /// Orders trees by their roots, and then by their children one by one. It stops at the first node that differs.
 #[cycle(compare)]
 pub(crate) fn compare(a: &Tree, b: &Tree) -> Ordering
-    ensures { result ≡ tree_order a.now b.now }
+    ensures { result ≡ result_tree_order a.now b.now }
 {
     let roots = a.unit.compare(&b.unit);
     if roots.is_ne() {

@@ -37,9 +37,9 @@ forest_order empty (tree v under others) = Less
 forest_order (tree u below after) empty = Greater
 forest_order (tree u below after) (tree v under others) = ordering_then (ordering_then (unit_order u v) (forest_order below under)) (forest_order after others)
 
-abbrev pub tree_order : ResultTree → ResultTree → Ordering
-tree_order t u = ordering_then (unit_order t.root u.root) (forest_order t.below u.below)
+abbrev pub result_tree_order : ResultTree → ResultTree → Ordering
+result_tree_order t u = ordering_then (unit_order t.root u.root) (forest_order t.below u.below)
 
 -- the tree at i comes before the one at j
 abbrev pub IsBefore : List ResultTree → ℕ → ℕ → Type 0
-IsBefore ts i j = (d : ResultTree) → tree_order (get_or ts i d) (get_or ts j d) ≡ Less
+IsBefore ts i j = (d : ResultTree) → result_tree_order (get_or ts i d) (get_or ts j d) ≡ Less
