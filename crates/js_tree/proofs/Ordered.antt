@@ -13,7 +13,7 @@ use Rattle.js_tree.specs.Merged.{alike, alike_trees}
 use Rattle.js_tree.specs.Note.{Note, silent, error, value, names, index, indexes, truly}
 use Rattle.js_tree.specs.OutputUnit.{OutputUnit}
 use Rattle.js_tree.specs.Result.{ResultTree}
-use Rattle.js_tree.specs.code.Order.{kind, note_order, unit_order, forest_order, result_tree_order}
+use Rattle.js_tree.specs.code.Order.{note_rank, note_order, unit_order, forest_order, result_tree_order}
 use Rattle.js_tree.proofs.AlikeUnits.{same_but_keyword_decides}
 use Rattle.js_tree.proofs.Steps.{and_left, and_right}
 
@@ -39,7 +39,7 @@ said (indexes is) = is ∷ []
 said truly = []
 
 abbrev said_order : Note → Note → Ordering
-said_order = then_cmp (on kind nat_cmp) (on said (slice_cmp (slice_cmp nat_cmp)))
+said_order = then_cmp (on note_rank nat_cmp) (on said (slice_cmp (slice_cmp nat_cmp)))
 
 said-note_order : (m n : Note) → said_order m n ≡ note_order m n
 said-note_order silent silent = refl
@@ -93,7 +93,7 @@ said-note_order truly (indexes b) = refl
 said-note_order truly truly = refl
 
 said_order-total : IsTotalOrder said_order
-said_order-total = then_total (on_total kind nat_cmp_total) (on_total said (lists_total nat_list_cmp_total))
+said_order-total = then_total (on_total note_rank nat_cmp_total) (on_total said (lists_total nat_list_cmp_total))
 
 note_order-total : IsTotalOrder note_order
 note_order-total = subst IsTotalOrder (λ i m n. said-note_order m n i) said_order-total

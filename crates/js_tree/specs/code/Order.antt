@@ -9,14 +9,14 @@ use Rattle.js_tree.specs.Note.{Note, silent, error, value, names, index, indexes
 use Rattle.js_tree.specs.OutputUnit.{OutputUnit}
 use Rattle.js_tree.specs.Result.{ResultTree}
 
-abbrev pub kind : Note → ℕ
-kind silent = 0
-kind (error text) = 1
-kind (value v) = 2
-kind (names ns) = 3
-kind (index i) = 4
-kind (indexes is) = 5
-kind truly = 6
+abbrev pub note_rank : Note → ℕ
+note_rank silent = 0
+note_rank (error text) = 1
+note_rank (value v) = 2
+note_rank (names ns) = 3
+note_rank (index i) = 4
+note_rank (indexes is) = 5
+note_rank truly = 6
 
 -- by kind, and within a kind by content; but values are all equal
 abbrev pub note_order : Note → Note → Ordering
@@ -24,7 +24,7 @@ note_order (error a) (error b) = slice_cmp nat_cmp a b
 note_order (names a) (names b) = slice_cmp (slice_cmp nat_cmp) a b
 note_order (index m) (index n) = nat_cmp m n
 note_order (indexes a) (indexes b) = slice_cmp nat_cmp a b
-note_order m n = nat_cmp (kind m) (kind n)
+note_order m n = nat_cmp (note_rank m) (note_rank n)
 
 -- by verdict, instance location, absolute keyword location and note
 abbrev pub unit_order : OutputUnit → OutputUnit → Ordering
