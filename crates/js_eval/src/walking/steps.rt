@@ -59,7 +59,7 @@ pub(crate) fn close_schema<W: World, H: PointerText + Drop, R: Reporter<W, H>>(
         (W.site world.now place) start valid way.old way.new into.old into.new) }
 {
     into.close_schema(alloc, world, place, schema, valid)?;
-    way.path.pop();
+    way.path.leave_place();
     way.scope.cut(start.scope);
     cut_unless(&mut way.names, start.names, valid);
     cut_unless(&mut way.indexes, start.indexes, valid);
