@@ -60,7 +60,7 @@ pub(crate) fn close_schema<W: World, H: PointerText + Drop, R: Reporter<W, H>>(
 {
     into.close_schema(alloc, world, place, schema, valid)?;
     way.path.leave_place();
-    way.scope.cut(start.scope);
+    way.scope.go_back_to(start.scope);
     cut_unless(&mut way.names, start.names, valid);
     cut_unless(&mut way.indexes, start.indexes, valid);
     Ok(())
@@ -127,7 +127,7 @@ pub(crate) fn asked<W: World, H: PointerText + Drop>(
     world.asking(
         alloc,
         &way.path,
-        way.scope.resources(),
+        way.scope.resource_numbers(),
         case.place,
         case.schema,
         case.value,
