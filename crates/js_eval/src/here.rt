@@ -303,7 +303,7 @@ impl Here<'_> {
     /// # Errors
     /// `Memory` if an allocation fails.
     #[tactic(auto, using(crate::proofs::Paths::location_is))]
-    pub fn absolute(&self, alloc: Global, place: Place) -> Result<Text, Memory>
+    pub fn absolute_schema(&self, alloc: Global, place: Place) -> Result<Text, Memory>
         requires { is_place self.now.schemas.now place ≡ true }
         ensures { IfOk result (λ t. t ≡ (schemas_of self.now.schemas.now).absolute
             (numbered_site self.now.schemas.now place) None) }
