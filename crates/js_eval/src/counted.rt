@@ -192,9 +192,9 @@ fn has_match<'a>(
 {
     let named = NamedPattern::new(pattern, pattern.as_str());
     match value {
-        Instance::Doc(Doc::Text(text)) => searchers.matches(alloc, named, text.as_str()),
+        Instance::Doc(Doc::Text(text)) => searchers.matches_name(alloc, named, text.as_str()),
         Instance::Doc(_) => Ok(true),
-        Instance::Name(name) => searchers.matches(alloc, named, name),
+        Instance::Name(name) => searchers.matches_name(alloc, named, name),
     }
 }
 

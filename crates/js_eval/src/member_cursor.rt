@@ -325,7 +325,7 @@ fn matches<'a>(
     ensures { IfOk result (λ b. b ≡ matches pattern.now name.now) }
 {
     match pattern_of(schemas, place, pattern) {
-        Some(built) => searchers.matches(alloc, built, name),
+        Some(built) => searchers.matches_name(alloc, built, name),
         None => Err(Memory), // never: finished schemas have all their patterns
     }
 }

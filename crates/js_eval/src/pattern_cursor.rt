@@ -195,6 +195,6 @@ fn is_match<'a>(
     if is_kept {
         searchers.matches_as_kept(alloc, pattern, name)
     } else {
-        searchers.matches(alloc, pattern, name)
+        searchers.matches_name(alloc, pattern, name)
     }
 }
