@@ -121,7 +121,7 @@ impl<'a> Tree<'a> {
         self.unit.is_noted() || self.children.len() >= 2
     }
     /// The mark that was set last.
-    pub(crate) fn mark(&self) -> usize {
+    pub(crate) fn last_mark(&self) -> usize {
         self.children.mark.get()
     }
 
