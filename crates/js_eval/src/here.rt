@@ -22,7 +22,7 @@ use crate::kind::Kind;
 use crate::others::others_at;
 use crate::schema::is_accepting;
 use crate::searchers::Searchers;
-use crate::start::{Facts, Scene, start};
+use crate::start::{Facts, Scene, asking_of_keyword};
 use crate::telling::schema_note;
 use crate::walking::{Others, Path, PointerText, Tally, Trail, World};
 use js_bundle::{Place, Schemas, Step};
@@ -156,7 +156,7 @@ impl<'a> World for Here<'a> {
             names,
             indexes,
         };
-        start(alloc, self.schemas, scene, facts, keyword)
+        asking_of_keyword(alloc, self.schemas, scene, facts, keyword)
     }
 
     fn next(&self, alloc: Global, asking: &mut Asking<'a>) -> Result<Option<Applied<'a>>, Memory> {

@@ -55,7 +55,7 @@ pub(crate) struct Facts<'s, 'a> {
 ///
 /// # Errors
 /// `Memory` if an allocation fails.
-pub(crate) fn start<'a>(
+pub(crate) fn asking_of_keyword<'a>(
     alloc: Global,
     schemas: &'a Schemas,
     scene: Scene<'_, 'a>,
