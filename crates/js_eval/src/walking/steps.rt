@@ -242,7 +242,7 @@ pub(crate) fn childless_node<W: World, H: PointerText + Drop, R: Reporter<W, H>>
         way.left -= 1;
         return Ok(judged);
     }
-    let here = way.mark();
+    let here = way.current_marks();
     open_keyword(alloc, world, way, into, case.place, case.keyword)?;
     close_judged(alloc, world, way, into, case, here, judged, matching)?;
     Ok(judged)
