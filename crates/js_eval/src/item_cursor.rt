@@ -59,7 +59,7 @@ pub(crate) fn each_listed<'a>(
 
 /// Each schema of a keyword's list, applied to the item at the same index.
 #[tactic(auto, using(crate::proofs::ItemsLeft::all_left))]
-pub(crate) fn each_in_step<'a>(
+pub(crate) fn each_at_index<'a>(
     alloc: Global,
     place: Place,
     schema: &'a Doc,

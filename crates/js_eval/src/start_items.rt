@@ -17,7 +17,7 @@ ghost use Rattle.js_eval.specs.Sited.{numbered_site};
 use crate::bundled::held_below;
 use crate::cursor::Asking;
 use crate::instance::{Instance, array_in};
-use crate::item_cursor::{each_except, each_from, each_in_step};
+use crate::item_cursor::{each_except, each_from, each_at_index};
 use crate::keyword::Keyword;
 use crate::list_cursor::ListCursor;
 use crate::schema::argument_in;
@@ -67,7 +67,7 @@ pub(crate) fn prefix<'a>(
         (indexed (instance_of value.entry))) }
     ensures is { IsAsking schemas.now result }
 {
-    Asking::Items(each_in_step(
+    Asking::Items(each_at_index(
         alloc,
         place,
         schema,
