@@ -63,7 +63,7 @@ pub(crate) fn below<'a>(
 }
 
 /// The same, if the caller already knows the subschema, and its rank among all subschemas of the keyword.
-pub(crate) fn ranked_below<'a>(
+pub(crate) fn below_at_rank<'a>(
     schemas: &Schemas,
     place: Place,
     schema: &'a Doc,
@@ -98,7 +98,7 @@ pub(crate) fn held_below<'a>(
     ensures site { numbered_site schemas.now result.0
         ≡ (schemas_of schemas.now).below (numbered_site schemas.now place) keyword.entry.name.now spec.Alone }
 {
-    ranked_below(
+    below_at_rank(
         schemas,
         place,
         schema,

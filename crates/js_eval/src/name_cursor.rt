@@ -19,7 +19,7 @@ ghost use Rattle.js_eval.specs.SchemaSet as spec;
 ghost use Rattle.js_eval.specs.Seen.{keyword_of};
 ghost use Rattle.js_eval.specs.Sited.{numbered_site};
 
-use crate::bundled::ranked_below;
+use crate::bundled::below_at_rank;
 use crate::instance::{Applied, Instance};
 use crate::keyword::Keyword;
 use js_bundle::{Place, Schemas, Step};
@@ -133,7 +133,7 @@ pub(crate) fn next_of_names<'a>(
         &mut cursor.among,
     )?;
     let step = Step::Name(name);
-    let (place, schema) = ranked_below(
+    let (place, schema) = below_at_rank(
         schemas,
         cursor.place,
         cursor.schema,
