@@ -17,7 +17,7 @@ ghost use Rattle.js_eval.specs.Sited.{numbered_site};
 use crate::bundled::held_below;
 use crate::cursor::Asking;
 use crate::instance::{Instance, array_in};
-use crate::item_cursor::{each_except, each_from, each_at_index};
+use crate::item_cursor::{each_at_index, each_except, each_from};
 use crate::keyword::Keyword;
 use crate::list_cursor::ListCursor;
 use crate::schema::argument_in;
