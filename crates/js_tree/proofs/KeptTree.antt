@@ -1,7 +1,7 @@
 -- The kept tree: a step leaves it as it was, a normal tree is its own, each tree is led to it, and it has the same units.
 use Rattle.std.proofs.Common.{◌≡◌, ℕ, zero, suc, ◌+◌, Bool, true, false, ◌||◌, if◌then◌else◌, ◌∷◌, ◌++◌, refl, ap, sym, ◌∙◌, arith, append_assoc}
 use Rattle.js_tree.specs.Forest.{Forest, empty, tree, Rose, ◌⊹◌, tree_count}
-use Rattle.js_tree.specs.Step.{at_least_one, at_least_two, ForestStep, dropped, lifted, inside, beside, ForestRun, done, next, NormalForest, StepBelow, RunBelow, stands, all_stand}
+use Rattle.js_tree.specs.Step.{at_least_one, at_least_two, ForestStep, dropped, lifted, inside, beside, ForestRun, done, next, NormalForest, StepBelow, RunBelow, node_stands, all_stand}
 use Rattle.js_tree.specs.Kept.{noted_trees, is_kept_node, kept_below, kept_by}
 use Rattle.js_tree.specs.Units.{units_below, units_by}
 use Rattle.js_tree.proofs.Forests.{append-empty, tree_count-append, same_tree}
@@ -60,15 +60,15 @@ module _ {A : Type 0} (noted : A → Bool) where
   normal-noted_trees : (f : Forest A) → all_stand noted f ≡ true → noted_trees noted f ≡ tree_count f
   normal-noted_trees empty n = refl
   normal-noted_trees (tree a below after) n =
-      let here = and_left (stands noted a below) _ n in
-      let rest = and_right (stands noted a below) _ n in
+      let here = and_left (node_stands noted a below) _ n in
+      let rest = and_right (node_stands noted a below) _ n in
       rw (normal-noted_trees below (and_left (all_stand noted below) _ rest), normal-noted_trees after (and_right (all_stand noted below) _ rest), two_are_one (noted a) (tree_count below) here) refl
 
   all_stand-kept_below : (f : Forest A) → all_stand noted f ≡ true → kept_below noted f ≡ f
   all_stand-kept_below empty n = refl
   all_stand-kept_below (tree a below after) n =
-      let here = and_left (stands noted a below) _ n in
-      let rest = and_right (stands noted a below) _ n in
+      let here = and_left (node_stands noted a below) _ n in
+      let rest = and_right (node_stands noted a below) _ n in
       let under = and_left (all_stand noted below) _ rest in
       rw (normal-noted_trees below under, here, all_stand-kept_below below under, all_stand-kept_below after (and_right (all_stand noted below) _ rest)) refl
 
@@ -93,8 +93,8 @@ module _ {A : Type 0} (noted : A → Bool) where
   all_stand-append : (f g : Forest A) → all_stand noted f ≡ true → all_stand noted g ≡ true → all_stand noted (f ⊹ g) ≡ true
   all_stand-append empty g n m = m
   all_stand-append (tree a below after) g n m =
-      let here = and_left (stands noted a below) _ n in
-      let rest = and_right (stands noted a below) _ n in
+      let here = and_left (node_stands noted a below) _ n in
+      let rest = and_right (node_stands noted a below) _ n in
       rw (here, and_left (all_stand noted below) _ rest, all_stand-append after g (and_right (all_stand noted below) _ rest) m) refl
 
   kept_stands_at : (v : Bool) (a : A) (below after : Forest A) → is_kept_node noted a below ≡ v → all_stand noted (kept_below noted below) ≡ true → all_stand noted (kept_below noted after) ≡ true
