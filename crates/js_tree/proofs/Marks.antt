@@ -4,7 +4,7 @@ use Rattle.std.proofs.lemmas.List.{append_assoc, append-nil, length-append, leng
 use Rattle.std.proofs.Math.Seq.{drop-length}
 use Rattle.std.specs.List.{swap}
 use Rattle.js_tree.specs.code.Compacting.{left, left_of, left_tree_count, stays, room, marked_rows, gone_with, gathered, IsRemaining, AreMarkedTrees}
-use Rattle.js_tree.specs.Flat.{flat, flat_of}
+use Rattle.js_tree.specs.Flat.{flat_form, flat_of}
 use Rattle.js_tree.specs.FlatState.{FlatRow, row_of}
 use Rattle.js_tree.specs.Forest.{Forest, empty, tree, ◌⊹◌, node_count, tree_count}
 use Rattle.js_tree.specs.Kept.{is_kept_node, kept_below, noted_trees}
@@ -409,8 +409,8 @@ stays_here k rows count i d new c l e f =
 
 -- ---- the whole
 
-pub flat-flat_of : (t : ResultTree) → flat t ≡ flat_of (tree t.root t.below empty)
-flat-flat_of t = ap (λ xs. (t.root, suc (node_count t.below)) ∷ xs) (sym (append-nil (flat_of t.below)))
+pub flat_form-flat_of : (t : ResultTree) → flat_form t ≡ flat_of (tree t.root t.below empty)
+flat_form-flat_of t = ap (λ xs. (t.root, suc (node_count t.below)) ∷ xs) (sym (append-nil (flat_of t.below)))
 
 take_drop_one : (k : Keep) (t : ResultTree) (rows : List Row) → rows ≡ marked_rows k (tree t.root t.below empty) → map row_of (take 1 rows) ++ gathered k 0 (drop 1 rows) ≡ (t.root, suc (node_count t.below)) ∷ flat_of (left k t.below)
 take_drop_one k t rows e =
@@ -445,7 +445,7 @@ root_sized (r ∷ rows) u size count fs d new e f =
     ap (λ y. y ∷ map row_of rows) (f ∙ ap (λ y. (y.0, count)) p) ∙ ap (λ xs. (u, count) ∷ xs) q
 
 pub keeps : (k : Keep) (t : ResultTree) (marks all front : List Row) (count : ℕ) (d new : Row) → marks ≡ marked_rows k (tree t.root t.below empty) → map row_of (take count all) ≡ map row_of (take 1 marks) ++ gathered k 0 (drop 1 marks)
-    → count ≤ length all → front ≡ take count all → row_of new ≡ ((get_or front 0 d).unit, count) → map row_of (set front 0 new) ≡ flat (left_of k t)
+    → count ≤ length all → front ≡ take count all → row_of new ≡ ((get_or front 0 d).unit, count) → map row_of (set front 0 new) ≡ flat_form (left_of k t)
 keeps k t marks all front count d new m g c f e =
     let w : map row_of front ≡ (t.root, suc (node_count t.below)) ∷ flat_of (left k t.below) = ap (map row_of) f ∙ (g ∙ take_drop_one k t marks m) in
     let n : length front ≡ count = ap length f ∙ take_length count all c in

@@ -1,7 +1,7 @@
 //! Pruning and condensing of flat forms, in place.
 ghost use Rattle.std.specs.Prelude.{◌≡◌, ◌<◌, ◌≤◌, ◌+◌, ◌^◌, ◌++◌, List, drop, take, length, map, suc};
 ghost use Rattle.js_tree.specs.code.Compacting.{AreMarkedTrees, gathered, left, left_of, left_tree_count, marked_rows, gone_with, room, stays};
-ghost use Rattle.js_tree.specs.Flat.{flat, flat_of};
+ghost use Rattle.js_tree.specs.Flat.{flat_form, flat_of};
 ghost use Rattle.js_tree.specs.FlatState.{IsWholeTree, noted_of, row_of, flat_state, whole_tree};
 ghost use Rattle.js_tree.specs.Forest.{Forest, node_count};
 ghost use Rattle.js_tree.specs.OutputUnit.{OutputUnit};
@@ -92,9 +92,9 @@ pub fn flat_condense(flat: Flat) -> Flat
 }
 
 fn keep_rows(rows: &mut Vec<Row>, keep: Keep)
-    requires { (t : ResultTree) × (map row_of rows.old.items ≡ flat t) }
-    ensures { (t : ResultTree) → map row_of rows.old.items ≡ flat t
-        → map row_of rows.new.items ≡ flat (left_of keep t) }
+    requires { (t : ResultTree) × (map row_of rows.old.items ≡ flat_form t) }
+    ensures { (t : ResultTree) → map row_of rows.old.items ≡ flat_form t
+        → map row_of rows.new.items ≡ flat_form (left_of keep t) }
 {
     mark(rows, keep);
     let count = gather(rows, keep);
