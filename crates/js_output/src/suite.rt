@@ -85,7 +85,11 @@ fn tell_suite<W: Write>(
 }
 
 // All allocations come before the first byte is written.
-fn tell_lines<W: Write>(alloc: Global, lines: &[TestLine], out: &mut Sink<W>) -> Result<Counts, Fault>
+fn tell_lines<W: Write>(
+    alloc: Global,
+    lines: &[TestLine],
+    out: &mut Sink<W>,
+) -> Result<Counts, Fault>
     ensures answer { SendsLines W.contents out.old out.new lines.now result }
     ensures nothing { IfErr result (λ e. e ≢ Fault.Write → out.new ≡ out.old) }
     ensures unflushed { Unflushed out.old out.new }

@@ -35,7 +35,11 @@ pub(crate) struct TestLine {
 }
 
 /// The text of all lines, with the counts at the end.
-pub(crate) fn lines_text(alloc: Global, lines: &[TestLine], counts: Counts) -> Result<String, Memory>
+pub(crate) fn lines_text(
+    alloc: Global,
+    lines: &[TestLine],
+    counts: Counts,
+) -> Result<String, Memory>
     requires { counts ≡ counts_of lines.now }
     ensures { IfOk result (λ text. string_bytes text ≡ lines_text lines.now) }
 {
