@@ -12,7 +12,11 @@ use js_eval::{verdict, walk, walk_into};
 use js_tree::{Boxed, Collector, Flat, Head, Note, Verdict};
 use std::test::Fail;
 
-pub fn answer_on_result(rt: &HostRuntime, schemas: &Schemas, words: &[&str]) -> Result<String, Fail> {
+pub fn answer_on_result(
+    rt: &HostRuntime,
+    schemas: &Schemas,
+    words: &[&str],
+) -> Result<String, Fail> {
     let place = schemas.entry(rt.alloc(), word_at(words, 0))?;
     let value = read(rt.alloc(), word_at(words, 1).as_bytes())?;
     let call = word_at(words, 2);
