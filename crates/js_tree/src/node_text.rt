@@ -19,7 +19,11 @@ pub(crate) fn put_head<O: Out>(unit: &Unit, out: &mut O) -> Result<(), Stopped>
 }
 
 /// Writes the members before `annotations`: the absolute keyword location, and the annotation if the note is one.
-pub(crate) fn put_opening_members<O: Out>(absolute: &str, note: &Note, out: &mut O) -> Result<(), Stopped>
+pub(crate) fn put_opening_members<O: Out>(
+    absolute: &str,
+    note: &Note,
+    out: &mut O,
+) -> Result<(), Stopped>
     ensures { Puts (O.progress out.old) (O.progress out.new) (beginning_text absolute.now (note_of note.now)) result }
 {
     put_member(b"{\"absoluteKeywordLocation\":", absolute, out)?;
