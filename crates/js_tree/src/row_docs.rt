@@ -36,7 +36,8 @@ pub fn flat_doc(alloc: Global, flat: &Flat, format: Format) -> Result<Doc, Memor
 
 fn flag_doc(alloc: Global, rows: &[Row]) -> Result<Doc, Memory>
     requires { (t : ResultTree) × (map row_of rows.now ≡ flat_form t) }
-    ensures { IfOk result (λ doc. (t : ResultTree) → map row_of rows.now ≡ flat_form t → value_of doc ≡ flag t.root.valid) }
+    ensures { IfOk result (λ doc. (t : ResultTree) → map row_of rows.now ≡ flat_form t
+        → value_of doc ≡ flag t.root.valid) }
 {
     let row = &rows[0];
     let root = &row.unit;
