@@ -3,7 +3,7 @@ ghost use Rattle.std.specs.Prelude.{◌≡◌, ◌++◌, IfOk, None, OnOk, Some,
 ghost use Rattle.js_bundle.specs.Schemas.{is_place};
 ghost use Rattle.js_doc.specs.Fragment.{fragment_token};
 ghost use Rattle.js_eval.specs.Bundle.{schemas_of};
-ghost use Rattle.js_eval.specs.code.Standing.{StandsAt};
+ghost use Rattle.js_eval.specs.code.Standing.{IsSchemaAt};
 ghost use Rattle.js_doc.specs.Seen.{value_of as schema_value};
 ghost use Rattle.js_eval.specs.Evaluated.{index_in_step, name_in_step};
 ghost use Rattle.js_eval.specs.Seen.{instance_of, step_of};
@@ -340,7 +340,7 @@ impl Here<'_> {
         _place: Place,
         schema: &Doc,
     ) -> Result<Note<'n>, Memory>
-        requires { StandsAt self.now.schemas.now _place (schema_value schema.now) }
+        requires { IsSchemaAt self.now.schemas.now _place (schema_value schema.now) }
         ensures { IfOk result (λ n. note_of n
             ≡ schema_says (schemas_of self.now.schemas.now) (numbered_site self.now.schemas.now _place)) }
     {

@@ -7,7 +7,7 @@ use Rattle.js_bundle.specs.Document.{Documents}
 use Rattle.js_bundle.specs.Resource.{Site}
 use Rattle.js_eval.specs.Applications.{Application}
 use Rattle.js_eval.specs.Bundle.{schemas_of}
-use Rattle.js_eval.specs.code.Standing.{StandsAt}
+use Rattle.js_eval.specs.code.Standing.{IsSchemaAt}
 use Rattle.js_eval.specs.SchemaSet.{Step, Alone, Index, Name}
 use Rattle.js_eval.specs.Seen.{step_of, instance_of}
 use Rattle.js_eval.specs.Sited.{numbered_site}
@@ -32,7 +32,7 @@ kept_schema (One place schema) = value_of schema.now
 kept_schema (Each place schema keyword) = value_of schema.now
 
 abbrev pub IsHeld : Documents → Held → Type 0
-IsHeld documents held = StandsAt documents (kept_place held) (kept_schema held)
+IsHeld documents held = IsSchemaAt documents (kept_place held) (kept_schema held)
 
 abbrev pub site_in : Documents → Held → Step → Site
 site_in documents (One place schema) step = numbered_site documents place
