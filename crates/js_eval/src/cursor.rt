@@ -43,7 +43,8 @@ pub(crate) fn alone<'a>(place: Place, schema: &'a Doc, value: Instance<'a>) -> A
           at = spec.Alone;
           value = instance_of value.entry;
         } ∷ [] }
-    ensures is { (documents : Documents) → IsSchemaAt documents place (value_of schema.now) → IsAsking documents result }
+    ensures is { (documents : Documents) → IsSchemaAt documents place (value_of schema.now)
+        → IsAsking documents result }
 {
     Asking::One(Some(Applied {
         place,

@@ -38,7 +38,8 @@ pub(crate) fn each_in_list<'a>(
         ≡ map (λ e. application (schemas_of documents) (numbered_site documents place) keyword.entry.name.now
         (spec.Index e.0) spec.Alone (instance_of value.entry))
         (indexed (value_of keyword.entry.argument.now)) }
-    ensures is { (documents : Documents) → IsSchemaAt documents place (value_of schema.now) → IsAsking documents result }
+    ensures is { (documents : Documents) → IsSchemaAt documents place (value_of schema.now)
+        → IsAsking documents result }
 {
     Asking::List(ListCursor {
         place,
