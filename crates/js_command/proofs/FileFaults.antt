@@ -8,7 +8,7 @@ use Rattle.js_output.specs.declared.fault.Fault.{Fault}
 use Rattle.js_output.specs.declared.fault.Fault.TheVariants as fault
 use Rattle.js_command.specs.Answer.{AreHeld}
 use Rattle.js_command.specs.Files.{HeldByPath, MayFit, IsFileFault, IsFirstFileFault}
-use Rattle.js_command.specs.Words.{Pairs, files_of}
+use Rattle.js_command.specs.Words.{DocumentPairs, files_of}
 use Rattle.js_command.specs.code.Tasks.{pairs_seen}
 use Rattle.js_command.specs.declared.words.DocumentFile.{DocumentFile}
 
@@ -35,7 +35,7 @@ fault_before held (path ∷ paths) more f (inl h) = inl h
 fault_before held (path ∷ paths) more f (inr (fits, h)) = inr (fits, fault_before held paths more f h)
 
 -- the documents were taken, and this file isn't
-pub fault_last : (held : HeldByPath) (pairs : Pairs) (documents : DocumentTexts) (path : List ℕ) (f : Fault) → AreHeld held pairs documents → IsFileFault (held path) f
+pub fault_last : (held : HeldByPath) (pairs : DocumentPairs) (documents : DocumentTexts) (path : List ℕ) (f : Fault) → AreHeld held pairs documents → IsFileFault (held path) f
     → IsFirstFileFault held (files_of pairs ++ path ∷ []) f
 fault_last held [] [] path f holds h = inl h
 fault_last held (p ∷ ps) (d ∷ ds) path f (same, is, few, rest) h = inr (may_fit (held p.1) d.1 is few, fault_last held ps ds path f rest h)

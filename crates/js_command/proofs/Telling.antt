@@ -18,7 +18,7 @@ use Rattle.js_command.specs.Files.{HeldByPath, IsFirstFileFault}
 use Rattle.js_command.specs.Status.{misuse_status}
 use Rattle.js_command.specs.declared.words.Misuse.{Misuse}
 use Rattle.js_command.specs.declared.words.Misuse.TheVariants as misuse
-use Rattle.js_command.specs.Words.{Pairs, files_of, Request, pair, check, suite, places, request_of}
+use Rattle.js_command.specs.Words.{DocumentPairs, files_of, Request, pair, check, suite, places, request_of}
 use Rattle.js_command.proofs.FileFaults.{input_fault}
 
 -- a file isn't taken
@@ -45,7 +45,7 @@ module _ (words : List (List ℕ)) (held : HeldByPath) (input : Option (List ℕ
 
 -- ---- a check, and places
 
-module _ {D : Type 0} (held : HeldByPath) (pairs : Pairs) (documents : DocumentTexts) (taken : D → Option (List ℕ)) (old new : Tracked D) where
+module _ {D : Type 0} (held : HeldByPath) (pairs : DocumentPairs) (documents : DocumentTexts) (taken : D → Option (List ℕ)) (old new : Tracked D) where
   pub check_told : (format : Format) (instance entry bytes : List ℕ) (answer : Result Bool Fault) → AreHeld held pairs documents → IsLeft (held instance) bytes
       → Answers telling_output (Outcome documents entry format) (beginning_causes documents entry) (Some bytes) taken old new answer
       → Performs (RequestOutcome held None false (check format instance entry pairs)) taken old new answer
@@ -89,7 +89,7 @@ module _ {D : Type 0} (held : HeldByPath) (pairs : Pairs) (documents : DocumentT
 
 -- ---- a file isn't taken
 
-module _ {D : Type 0} (held : HeldByPath) (pairs : Pairs) (taken : D → Option (List ℕ)) (old new : Tracked D) where
+module _ {D : Type 0} (held : HeldByPath) (pairs : DocumentPairs) (taken : D → Option (List ℕ)) (old new : Tracked D) where
   pub check_untaken : (format : Format) (instance entry : List ℕ) (e : Fault) → (¬ (e ≡ fault.Memory) → IsFirstFileFault held (files_of pairs ++ instance ∷ []) e)
       → Performs (RequestOutcome held None false (check format instance entry pairs)) taken old new (Err e)
   check_untaken format instance entry e h =

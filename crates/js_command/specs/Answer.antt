@@ -12,11 +12,11 @@ use Rattle.js_output.specs.declared.suite_lines.Counts.{Counts}
 use Rattle.js_output.specs.declared.fault.Fault.{Fault}
 use Rattle.js_output.specs.declared.fault.Fault.TheVariants as fault
 use Rattle.js_command.specs.Files.{HeldByPath, IsFirstFileFault}
-use Rattle.js_command.specs.Words.{Pairs, files_of, Request, pair, check, suite, places, request_of}
+use Rattle.js_command.specs.Words.{DocumentPairs, files_of, Request, pair, check, suite, places, request_of}
 use Rattle.js_command.specs.declared.words.Misuse.{Misuse}
 
 -- each document has its URI, and is what its file holds, within the limit
-abbrev pub AreHeld : HeldByPath → Pairs → DocumentTexts → Type 0
+abbrev pub AreHeld : HeldByPath → DocumentPairs → DocumentTexts → Type 0
 AreHeld held [] [] = ⊤
 AreHeld held (p ∷ ps) (d ∷ ds) = (d.0 ≡ p.0) × IsLeft (held p.1) d.1 × (length d.1 ≤ input_limit) × AreHeld held ps ds
 AreHeld held _ _ = ⊥
@@ -51,7 +51,7 @@ OverFiles held paths Unread Expected answer = Expected answer
 
 -- The text of the last file is read again, from memory, once the documents are accepted. That this reading doesn't
 -- fail is no promise of its reader.
-abbrev pub MayReadAgain : HeldByPath → Pairs → (DocumentTexts → Causes) → Type 0
+abbrev pub MayReadAgain : HeldByPath → DocumentPairs → (DocumentTexts → Causes) → Type 0
 MayReadAgain held pairs causes = (documents : DocumentTexts) × AreHeld held pairs documents × MayGoOn (causes documents)
 
 -- what comes of a request; `failed` if the standard input has failed at the end

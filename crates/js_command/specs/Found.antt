@@ -5,19 +5,19 @@ use Rattle.clap.specs.Words.{Row, Text, first_of, all_of, fault_of, subcommand_o
 use Rattle.clap.specs.declared.error.kind.ErrorKind.{ErrorKind}
 use Rattle.clap.specs.declared.error.kind.ErrorKind.TheVariants as kind
 use Rattle.js_command.specs.Grammar.{grammar}
-use Rattle.js_command.specs.Words.{Pairs, Request, pairs_in, format_of, check_by, suite_by, places_by}
+use Rattle.js_command.specs.Words.{DocumentPairs, Request, pairs_in, format_of, check_by, suite_by, places_by}
 use Rattle.js_command.specs.declared.words.Misuse.{Misuse}
 use Rattle.js_command.specs.declared.words.Misuse.TheVariants as misuse
 
-abbrev pub check_in : Option Text → Option Text → Option Text → Option Pairs → Result Request Misuse
+abbrev pub check_in : Option Text → Option Text → Option Text → Option DocumentPairs → Result Request Misuse
 check_in (Some format) (Some instance) (Some entry) ps = check_by (format_of format) instance entry ps
 check_in _ _ _ _ = Err misuse.OtherForm
 
-abbrev pub suite_in : Option Text → Option Pairs → Result Request Misuse
+abbrev pub suite_in : Option Text → Option DocumentPairs → Result Request Misuse
 suite_in None ps = Err misuse.OtherForm
 suite_in (Some file) ps = suite_by file ps
 
-abbrev pub pairs_of : List Row → Option Pairs
+abbrev pub pairs_of : List Row → Option DocumentPairs
 pairs_of rows = pairs_in (unwrap_or (all_of (codes "PAIRS") rows) [])
 
 abbrev pub request_in : Text → List Row → Result Request Misuse

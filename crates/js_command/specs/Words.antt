@@ -10,18 +10,18 @@ use Rattle.js_command.specs.declared.words.Misuse.{Misuse}
 use Rattle.js_command.specs.declared.words.Misuse.TheVariants as misuse
 
 -- URIs, each with the file of its document
-abbrev pub Pairs : Type 0
-Pairs = List (Text × Text)
+abbrev pub DocumentPairs : Type 0
+DocumentPairs = List (Text × Text)
 
 -- the files of the documents
-abbrev pub files_of : Pairs → List Text
+abbrev pub files_of : DocumentPairs → List Text
 files_of pairs = map (λ p. p.1) pairs
 
 pub data Request : Type 0 where
   pair : Request
-  check : Format → Text → Text → Pairs → Request
-  suite : Text → Pairs → Request
-  places : Pairs → Request
+  check : Format → Text → Text → DocumentPairs → Request
+  suite : Text → DocumentPairs → Request
+  places : DocumentPairs → Request
 
 abbrev pub format_of : Text → Option Format
 format_of word =
@@ -32,17 +32,17 @@ format_of word =
     else (if bytes_eq word (codes "verbose") then Some Verbose else None))))
 
 -- words two by two
-abbrev pub pairs_after : Text × Text → Option Pairs → Option Pairs
+abbrev pub pairs_after : Text × Text → Option DocumentPairs → Option DocumentPairs
 pairs_after p None = None
 pairs_after p (Some ps) = Some (p ∷ ps)
 
-abbrev pub pairs_in : List Text → Option Pairs
+abbrev pub pairs_in : List Text → Option DocumentPairs
 pairs_in [] = Some []
 pairs_in (uri ∷ []) = None
 pairs_in (uri ∷ file ∷ words) = pairs_after (uri, file) (pairs_in words)
 
 -- `FORMAT INSTANCE ENTRY [URI FILE]...`; a wrong format comes before an odd number of words
-abbrev pub check_by : Option Format → Text → Text → Option Pairs → Result Request Misuse
+abbrev pub check_by : Option Format → Text → Text → Option DocumentPairs → Result Request Misuse
 check_by None instance entry ps = Err misuse.OtherForm
 check_by (Some format) instance entry None = Err misuse.OddPairs
 check_by (Some format) instance entry (Some ps) = Ok (check format instance entry ps)
@@ -52,7 +52,7 @@ check_asked (format ∷ instance ∷ entry ∷ words) = check_by (format_of form
 check_asked _ = Err misuse.OtherForm
 
 -- `SUITE [URI FILE]...`
-abbrev pub suite_by : Text → Option Pairs → Result Request Misuse
+abbrev pub suite_by : Text → Option DocumentPairs → Result Request Misuse
 suite_by file None = Err misuse.OddPairs
 suite_by file (Some ps) = Ok (suite file ps)
 
@@ -61,7 +61,7 @@ suite_asked (file ∷ words) = suite_by file (pairs_in words)
 suite_asked [] = Err misuse.OtherForm
 
 -- `[URI FILE]...`
-abbrev pub places_by : Option Pairs → Result Request Misuse
+abbrev pub places_by : Option DocumentPairs → Result Request Misuse
 places_by None = Err misuse.OddPairs
 places_by (Some ps) = Ok (places ps)
 

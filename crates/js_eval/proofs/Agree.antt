@@ -138,7 +138,7 @@ module _ {Place : Type 0} (S : SchemaSet Place) (w x : Known Place) (agree : Agr
   abbrev is_other : Keyword → Bool
   is_other k = not (is_unevaluated (kind k.0))
 
-  others_settled : KeywordsSettled → list_all (λ k. verdict.keyword_settled S w above place v k && is_other k) (verdict.others S w above place v) ≡ true
+  others_settled : KeywordsSettled → list_all (λ k. verdict.keyword_settled S w above place v k && is_other k) (verdict.other_keywords S w above place v) ≡ true
   others_settled h = all_filtered (verdict.keyword_settled S w above place v) is_other (keywords (S.schema place)) h
 
   evaluated_names_same : KeywordsSettled → verdict.evaluated_names S w above place v ≡ verdict.evaluated_names S x above place v
@@ -148,7 +148,7 @@ module _ {Place : Type 0} (S : SchemaSet Place) (w x : Known Place) (agree : Agr
       (λ k s. let p = and_parts _ _ s in
       names_alike (verdict.matching S w above place v) (verdict.matching S x above place v) k (verdict.others_ask S w above place v k) (verdict.others_ask S x above place v k)
       (matching_same h) (others_ask_same h k) (other_settled k p.0 (not_true (is_unevaluated (kind k.0)) p.1)))
-      (verdict.others S w above place v) (others_settled h)
+      (verdict.other_keywords S w above place v) (others_settled h)
 
   evaluated_indexes_same : KeywordsSettled → verdict.evaluated_indexes S w above place v ≡ verdict.evaluated_indexes S x above place v
   evaluated_indexes_same h =
@@ -157,7 +157,7 @@ module _ {Place : Type 0} (S : SchemaSet Place) (w x : Known Place) (agree : Agr
       (λ k s. let p = and_parts _ _ s in
       indexes_alike (verdict.matching S w above place v) (verdict.matching S x above place v) k (verdict.others_ask S w above place v k) (verdict.others_ask S x above place v k)
       (matching_same h) (others_ask_same h k) (other_settled k p.0 (not_true (is_unevaluated (kind k.0)) p.1)))
-      (verdict.others S w above place v) (others_settled h)
+      (verdict.other_keywords S w above place v) (others_settled h)
 
   -- ---- every keyword
 

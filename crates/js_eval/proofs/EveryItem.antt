@@ -7,7 +7,7 @@ use Rattle.std.proofs.lemmas.Bool.Decides.{nat_tests}
 use Rattle.js_doc.specs.Value.{Value}
 use Rattle.js_assert.specs.Argument.{values}
 use Rattle.js_eval.specs.Applications.{Application, among_indexes, indexed, indexed_from}
-use Rattle.js_eval.specs.Evaluated.{index_in, indexes_applied}
+use Rattle.js_eval.specs.Evaluated.{index_in_step, indexes_applied}
 use Rattle.js_eval.specs.Laws.{is_every_item, are_each_among}
 use Rattle.js_eval.specs.Note.{are_all_items}
 use Rattle.js_eval.proofs.Lists.{and_same}
@@ -17,7 +17,7 @@ positions_of es = map (λ e. e.0) es
 
 -- ---- what is applied to items, by their indexes
 
-module _ {P : Type 0} (f : ℕ × Value → Application P) (at : (e : ℕ × Value) → index_in (f e).at ≡ e.0 ∷ []) where
+module _ {P : Type 0} (f : ℕ × Value → Application P) (at : (e : ℕ × Value) → index_in_step (f e).at ≡ e.0 ∷ []) where
   pub applied_to : (es : List (ℕ × Value)) → indexes_applied (map f es) ≡ positions_of es
   applied_to [] = refl
   applied_to (e ∷ es) = let a = at e in let r = applied_to es in cc

@@ -78,8 +78,8 @@ module _ {Place : Type 0} (S : SchemaSet Place) (path : List Place) (place : Pla
   abbrev on_item : Step → ℕ × Value → Application Place
   on_item step e = application S place k.0 step (Index e.0) e.1
 
-  abbrev on_member : Step → Text × Value → Application Place
-  on_member step m = application S place k.0 step (Name m.0) m.1
+  abbrev applied_to_member : Step → Text × Value → Application Place
+  applied_to_member step m = application S place k.0 step (Name m.0) m.1
 
   abbrev pub asks_of : Kind → List (Application Place)
   -- 8.2.3.1: the schema that the reference leads to, on v
@@ -109,19 +109,19 @@ module _ {Place : Type 0} (S : SchemaSet Place) (path : List Place) (place : Pla
   -- 10.3.1.3: the schema on each item
   asks_of Contains = map (on_item Alone) (indexed v)
   -- 10.3.2.1: the schema of each name that a member has, on the member
-  asks_of Properties = map (λ m. on_member (Name m.0) m) (filter (λ m. has m.0 (entries k.1)) (entries v))
+  asks_of Properties = map (λ m. applied_to_member (Name m.0) m) (filter (λ m. has m.0 (entries k.1)) (entries v))
   -- 10.3.2.2: for each pattern, its schema on each member whose name it matches
-  asks_of PatternProperties = flat_map (λ p. map (on_member (Name p.0)) (filter (λ m. matches p.0 m.0) (entries v))) (entries k.1)
+  asks_of PatternProperties = flat_map (λ p. map (applied_to_member (Name p.0)) (filter (λ m. matches p.0 m.0) (entries v))) (entries k.1)
   -- 10.3.2.3: the schema on each member that `properties` doesn't name and no pattern of `patternProperties` matches
   asks_of AdditionalProperties =
-      map (on_member Alone) (filter (λ m. not (is_property siblings m.0 || matches_pattern siblings m.0)) (entries v))
+      map (applied_to_member Alone) (filter (λ m. not (is_property siblings m.0 || matches_pattern siblings m.0)) (entries v))
   -- 10.3.2.4: the schema on each name, as a string; that it has the member's instance location is this project's own
   -- choice
-  asks_of PropertyNames = map (λ m. on_member Alone (m.0, text m.0)) (entries v)
+  asks_of PropertyNames = map (λ m. applied_to_member Alone (m.0, text m.0)) (entries v)
   -- 11.2: the schema on each item that is not evaluated
   asks_of UnevaluatedItems = map (on_item Alone) (filter (λ e. not (among_indexes e.0 indexes)) (indexed v))
   -- 11.3: the schema on each member that is not evaluated
-  asks_of UnevaluatedProperties = map (on_member Alone) (filter (λ m. not (among_names m.0 names)) (entries v))
+  asks_of UnevaluatedProperties = map (applied_to_member Alone) (filter (λ m. not (among_names m.0 names)) (entries v))
   -- assertions and annotations ask for nothing
   asks_of Assertion = []
   asks_of Annotation = []

@@ -7,20 +7,20 @@ use Rattle.js_eval.specs.SchemaSet.{Text, Step, Index, Name}
 use Rattle.js_eval.specs.declared.kind.Kind.{Kind}
 use Rattle.js_eval.specs.declared.kind.Kind.TheVariants.{Reference, DynamicReference, AllOf, AnyOf, OneOf, If, Then, Else, DependentSchemas, PrefixItems, Items, Contains, Properties, PatternProperties, AdditionalProperties, UnevaluatedItems, UnevaluatedProperties}
 
-abbrev pub name_in : Step → List Text
-name_in (Name name) = name ∷ []
-name_in _ = []
+abbrev pub name_in_step : Step → List Text
+name_in_step (Name name) = name ∷ []
+name_in_step _ = []
 
-abbrev pub index_in : Step → List ℕ
-index_in (Index i) = i ∷ []
-index_in _ = []
+abbrev pub index_in_step : Step → List ℕ
+index_in_step (Index i) = i ∷ []
+index_in_step _ = []
 
 -- the members, and the items, that schemas were applied to
 abbrev pub names_applied : {Place : Type 0} → List (Application Place) → List Text
-names_applied apps = flat_map (λ a. name_in a.at) apps
+names_applied apps = flat_map (λ a. name_in_step a.at) apps
 
 abbrev pub indexes_applied : {Place : Type 0} → List (Application Place) → List ℕ
-indexes_applied apps = flat_map (λ a. index_in a.at) apps
+indexes_applied apps = flat_map (λ a. index_in_step a.at) apps
 
 -- ---- the tables: a keyword asks for these applications, of which those in `holding` hold. `names` and `indexes`: what
 -- the schemas of those that hold have evaluated themselves.

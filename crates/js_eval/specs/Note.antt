@@ -51,8 +51,8 @@ said_of_object (object _) note = note
 said_of_object _ note = silent
 
 -- the names of v's members that are among these, ascending, each once
-abbrev pub members_among : Value → List Text → List Text
-members_among v among = filter (λ name. among_names name among) (map (λ m. m.0) (entries v))
+abbrev pub member_names_among : Value → List Text → List Text
+member_names_among v among = filter (λ name. among_names name among) (map (λ m. m.0) (entries v))
 
 -- ---- a keyword's note: v is evaluated under the keyword k among its siblings, with these applications, of which those
 -- in `holding` hold. `matching`: how many items of v match the adjacent `contains`.
@@ -77,7 +77,7 @@ module _ {Place : Type 0} (siblings : Named) (v : Value) (matching : ℕ) (k : K
   annotation_of Contains = said_of_array v (true_or (are_all_items v (indexes_applied holding)) (indexes (indexes_applied holding)))
   -- 10.3.2: the names of the members that it was applied to
   annotation_of Properties = said_of_object v (names (names_applied apps))
-  annotation_of PatternProperties = said_of_object v (names (members_among v (names_applied apps)))
+  annotation_of PatternProperties = said_of_object v (names (member_names_among v (names_applied apps)))
   annotation_of AdditionalProperties = said_of_object v (names (names_applied apps))
   -- 11
   annotation_of UnevaluatedItems = if_any (indexes_applied apps)

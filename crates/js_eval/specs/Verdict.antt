@@ -72,8 +72,8 @@ module _ {Place : Type 0} (S : SchemaSet Place) (known : Known Place) (above : L
 
   -- ---- the other keywords than the two unevaluated ones
 
-  abbrev pub others : List Keyword
-  others = filter (λ k. not (is_unevaluated (kind k.0))) (keywords (S.schema place))
+  abbrev pub other_keywords : List Keyword
+  other_keywords = filter (λ k. not (is_unevaluated (kind k.0))) (keywords (S.schema place))
 
   abbrev pub others_ask : Keyword → List (Application Place)
   others_ask k = asks_of S path place siblings v condition [] [] k (kind k.0)
@@ -87,10 +87,10 @@ module _ {Place : Type 0} (S : SchemaSet Place) (known : Known Place) (above : L
   -- The members, and the items, that the others have evaluated (11.2, 11.3). None is lost by leaving both unevaluated
   -- keywords out for either of them: `unevaluatedItems` evaluates no members, and `unevaluatedProperties` no items.
   abbrev pub evaluated_names : List Text
-  evaluated_names = flat_map (λ k. names_by matching k (others_ask k)) others
+  evaluated_names = flat_map (λ k. names_by matching k (others_ask k)) other_keywords
 
   abbrev pub evaluated_indexes : List ℕ
-  evaluated_indexes = flat_map (λ k. indexes_by matching k (others_ask k)) others
+  evaluated_indexes = flat_map (λ k. indexes_by matching k (others_ask k)) other_keywords
 
   -- ---- every keyword
 

@@ -177,7 +177,7 @@ fn asked_of_each<'p>(
 {
     let mut all = Vec::with_capacity(alloc, members.len())?;
     for (name, _) in members.pairs() {
-        all.push(searchers.matches(alloc, pattern, name.as_str())?)?;
+        all.push(searchers.matches_name(alloc, pattern, name.as_str())?)?;
     }
     Ok(all)
 }

@@ -1,9 +1,9 @@
 //! Applications: which subschema of a keyword is applied to which part of a value.
 ghost use Rattle.std.specs.Prelude.{◌≡◌};
 ghost use Rattle.js_doc.specs.Seen.{value_of};
-ghost use Rattle.js_eval.specs.code.Applied.{IsHeld, applied, applied_of, at_in, site_in, step_in, value_in};
+ghost use Rattle.js_eval.specs.code.Applied.{IsHeld, applied, applied_of, at_in, site_in, step_in, applied_value};
 ghost use Rattle.js_eval.specs.code.Asked.{IsApplied};
-ghost use Rattle.js_eval.specs.code.Standing.{StandsAt};
+ghost use Rattle.js_eval.specs.code.Standing.{IsSchemaAt};
 ghost use Rattle.js_eval.specs.Seen.{instance_of, step_of};
 ghost use Rattle.js_eval.specs.Sited.{numbered_site};
 ghost use Rattle.js_eval.specs.declared.applied.To.TheVariants as to;
@@ -38,7 +38,7 @@ impl<'a> Held<'a> {
     // The schema for the part at this step, with its place.
     fn schema(&self, schemas: &'a Schemas, step: Step<'_>) -> (Place, &'a Doc)
         requires { IsHeld schemas.now self.now }
-        ensures is { StandsAt schemas.now result.0 (value_of result.1.now) }
+        ensures is { IsSchemaAt schemas.now result.0 (value_of result.1.now) }
         ensures site { numbered_site schemas.now result.0 ≡ site_in schemas.now self.now (step_of step.entry) }
     {
         match self {
@@ -69,7 +69,7 @@ impl<'a> To<'a> {
     }
 
     fn value(&self, step: Step<'a>, part: &'a Doc) -> Instance<'a>
-        ensures { instance_of result ≡ value_in self.now (step_of step.entry) (value_of part.now) }
+        ensures { instance_of result ≡ applied_value self.now (step_of step.entry) (value_of part.now) }
     {
         match self {
             To::Part => Instance::Doc(part),
@@ -81,7 +81,7 @@ impl<'a> To<'a> {
 
 // The name of a member, as a string.
 fn named<'a>(step: Step<'a>, part: &'a Doc) -> Instance<'a>
-    ensures { instance_of result ≡ value_in to.Name (step_of step.entry) (value_of part.now) }
+    ensures { instance_of result ≡ applied_value to.Name (step_of step.entry) (value_of part.now) }
 {
     match step {
         Step::Name(name) => Instance::Name(name),

@@ -13,7 +13,7 @@ ghost use Rattle.js_bundle.specs.Ranked.{HoldsAtRank, is_alone};
 ghost use Rattle.js_eval.specs.Bundle.{schemas_of};
 ghost use Rattle.js_eval.specs.code.Holding.{IsIn, held_at};
 ghost use Rattle.js_eval.specs.code.Standard.{keyword_names_of};
-ghost use Rattle.js_eval.specs.code.Standing.{StandsAt};
+ghost use Rattle.js_eval.specs.code.Standing.{IsSchemaAt};
 ghost use Rattle.js_eval.specs.SchemaSet as spec;
 ghost use Rattle.js_eval.specs.Seen.{keyword_of, step_of};
 ghost use Rattle.js_eval.specs.Sited.{numbered_site, resource_of};
@@ -51,8 +51,8 @@ pub(crate) fn below<'a>(
     keyword: &str,
     step: Step<'_>,
 ) -> (Place, &'a Doc)
-    requires { StandsAt schemas.now place (value_of schema.now) }
-    ensures is { StandsAt schemas.now result.0 (value_of result.1.now) }
+    requires { IsSchemaAt schemas.now place (value_of schema.now) }
+    ensures is { IsSchemaAt schemas.now result.0 (value_of result.1.now) }
     ensures site { numbered_site schemas.now result.0
         ≡ (schemas_of schemas.now).below (numbered_site schemas.now place) keyword.now (step_of step.entry) }
 {
@@ -63,7 +63,7 @@ pub(crate) fn below<'a>(
 }
 
 /// The same, if the caller already knows the subschema, and its rank among all subschemas of the keyword.
-pub(crate) fn ranked_below<'a>(
+pub(crate) fn below_at_rank<'a>(
     schemas: &Schemas,
     place: Place,
     schema: &'a Doc,
@@ -72,9 +72,9 @@ pub(crate) fn ranked_below<'a>(
     rank: usize,
     held: &'a Doc,
 ) -> (Place, &'a Doc)
-    requires place { StandsAt schemas.now place (value_of schema.now) }
+    requires place { IsSchemaAt schemas.now place (value_of schema.now) }
     requires held { HoldsAtRank (value_of schema.now) keyword.name.now (step_of step) rank (value_of held.now) }
-    ensures is { StandsAt schemas.now result.0 (value_of result.1.now) }
+    ensures is { IsSchemaAt schemas.now result.0 (value_of result.1.now) }
     ensures site { numbered_site schemas.now result.0
         ≡ (schemas_of schemas.now).below (numbered_site schemas.now place) keyword.entry.name.now (step_of step.entry) }
 {
@@ -91,14 +91,14 @@ pub(crate) fn held_below<'a>(
     schema: &'a Doc,
     keyword: Keyword<'a>,
 ) -> (Place, &'a Doc)
-    requires place { StandsAt schemas.now place (value_of schema.now) }
+    requires place { IsSchemaAt schemas.now place (value_of schema.now) }
     requires kind { held_at keyword.kind ≡ is_alone }
     requires keyword { IsIn (value_of schema.now) (keyword_of keyword) }
-    ensures is { StandsAt schemas.now result.0 (value_of result.1.now) }
+    ensures is { IsSchemaAt schemas.now result.0 (value_of result.1.now) }
     ensures site { numbered_site schemas.now result.0
         ≡ (schemas_of schemas.now).below (numbered_site schemas.now place) keyword.entry.name.now spec.Alone }
 {
-    ranked_below(
+    below_at_rank(
         schemas,
         place,
         schema,
@@ -111,8 +111,8 @@ pub(crate) fn held_below<'a>(
 
 /// The schema that `$ref` refers to, and its place (Core, section 8.2.3.1).
 pub(crate) fn target_at<'a>(schemas: &'a Schemas, place: Place, schema: &'a Doc) -> (Place, &'a Doc)
-    requires { StandsAt schemas.now place (value_of schema.now) }
-    ensures is { StandsAt schemas.now result.0 (value_of result.1.now) }
+    requires { IsSchemaAt schemas.now place (value_of schema.now) }
+    ensures is { IsSchemaAt schemas.now result.0 (value_of result.1.now) }
     ensures site { numbered_site schemas.now result.0
         ≡ (schemas_of schemas.now).target (numbered_site schemas.now place) }
 {
@@ -135,10 +135,10 @@ pub(crate) fn dynamic_target_at<'a>(
     path: &Path,
     resources: &[usize],
 ) -> (Place, &'a Doc)
-    requires schema { StandsAt schemas.now place (value_of schema.now) }
+    requires schema { IsSchemaAt schemas.now place (value_of schema.now) }
     requires path { list_all (is_place schemas.now) path.now ≡ true }
     requires resources { resources.now ≡ dedup nat_eq (map (resource_of schemas.now) path.now) }
-    ensures is { StandsAt schemas.now result.0 (value_of result.1.now) }
+    ensures is { IsSchemaAt schemas.now result.0 (value_of result.1.now) }
     ensures site { numbered_site schemas.now result.0
         ≡ (schemas_of schemas.now).dynamic_target (map (numbered_site schemas.now) path.now)
         (numbered_site schemas.now place) }

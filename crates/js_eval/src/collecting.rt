@@ -41,7 +41,7 @@ impl<'a, C: Collector<'a>> Reporter<Here<'a>, HeldText> for Collecting<'a, C> {
         keyword_location: &Trail<HeldText>,
         instance_location: &Trail<HeldText>,
     ) -> Result<(), Memory> {
-        let absolute = world.absolute(alloc, place)?;
+        let absolute = world.absolute_schema(alloc, place)?;
         self.collector
             .enter(head(keyword_location, absolute, instance_location)?)
     }

@@ -8,7 +8,7 @@ ghost use Rattle.js_assert.specs.Pattern.{matches};
 ghost use Rattle.js_bundle.specs.Schemas.{is_place};
 ghost use Rattle.js_doc.specs.Seen.{value_of};
 ghost use Rattle.js_eval.specs.Bundle.{schemas_of};
-ghost use Rattle.js_eval.specs.code.Standing.{StandsAt};
+ghost use Rattle.js_eval.specs.code.Standing.{IsSchemaAt};
 ghost use Rattle.js_eval.specs.Keywords as table;
 ghost use Rattle.js_eval.specs.Passes.{all, any, how_many, may_contain_none, passes_of};
 ghost use Rattle.js_eval.specs.Seen.{instance_of, keyword_of};
@@ -44,7 +44,7 @@ pub(crate) fn passes<'a>(
     tally: Tally,
     matching: u64,
 ) -> Result<bool, Memory>
-    requires schema { StandsAt schemas.now place (value_of schema.now) }
+    requires schema { IsSchemaAt schemas.now place (value_of schema.now) }
     requires keyword { IsKeywordAt (schemas_of schemas.now) (numbered_site schemas.now place) (keyword_of keyword) }
     ensures { IfOk result (λ b. (verdicts : List Bool) → length verdicts ≡ tally.asked → how_many verdicts ≡ tally.held
         → b ≡ passes_at (schemas_of schemas.now) (numbered_site schemas.now place) (instance_of value.entry) matching
@@ -192,9 +192,9 @@ fn has_match<'a>(
 {
     let named = NamedPattern::new(pattern, pattern.as_str());
     match value {
-        Instance::Doc(Doc::Text(text)) => searchers.matches(alloc, named, text.as_str()),
+        Instance::Doc(Doc::Text(text)) => searchers.matches_name(alloc, named, text.as_str()),
         Instance::Doc(_) => Ok(true),
-        Instance::Name(name) => searchers.matches(alloc, named, name),
+        Instance::Name(name) => searchers.matches_name(alloc, named, name),
     }
 }
 

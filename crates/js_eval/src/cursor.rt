@@ -4,7 +4,7 @@ ghost use Rattle.js_bundle.specs.Document.{Documents};
 ghost use Rattle.js_doc.specs.Seen.{value_of};
 ghost use Rattle.js_eval.specs.code.Applied.{applied_of};
 ghost use Rattle.js_eval.specs.code.Asked.{IsApplied, IsAsking, IsOne, asked, one_asked};
-ghost use Rattle.js_eval.specs.code.Standing.{StandsAt};
+ghost use Rattle.js_eval.specs.code.Standing.{IsSchemaAt};
 ghost use Rattle.js_eval.specs.SchemaSet as spec;
 ghost use Rattle.js_eval.specs.Seen.{instance_of};
 ghost use Rattle.js_eval.specs.Sited.{numbered_site};
@@ -43,7 +43,8 @@ pub(crate) fn alone<'a>(place: Place, schema: &'a Doc, value: Instance<'a>) -> A
           at = spec.Alone;
           value = instance_of value.entry;
         } ∷ [] }
-    ensures is { (documents : Documents) → StandsAt documents place (value_of schema.now) → IsAsking documents result }
+    ensures is { (documents : Documents) → IsSchemaAt documents place (value_of schema.now)
+        → IsAsking documents result }
 {
     Asking::One(Some(Applied {
         place,

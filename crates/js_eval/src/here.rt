@@ -3,9 +3,9 @@ ghost use Rattle.std.specs.Prelude.{◌≡◌, ◌++◌, IfOk, None, OnOk, Some,
 ghost use Rattle.js_bundle.specs.Schemas.{is_place};
 ghost use Rattle.js_doc.specs.Fragment.{fragment_token};
 ghost use Rattle.js_eval.specs.Bundle.{schemas_of};
-ghost use Rattle.js_eval.specs.code.Standing.{StandsAt};
+ghost use Rattle.js_eval.specs.code.Standing.{IsSchemaAt};
 ghost use Rattle.js_doc.specs.Seen.{value_of as schema_value};
-ghost use Rattle.js_eval.specs.Evaluated.{index_in, name_in};
+ghost use Rattle.js_eval.specs.Evaluated.{index_in_step, name_in_step};
 ghost use Rattle.js_eval.specs.Seen.{instance_of, step_of};
 ghost use Rattle.js_eval.specs.Sited.{numbered_site};
 ghost use Rattle.js_eval.specs.Walk.Told.{at_step, schema_says};
@@ -22,7 +22,7 @@ use crate::kind::Kind;
 use crate::others::others_at;
 use crate::schema::is_accepting;
 use crate::searchers::Searchers;
-use crate::start::{Facts, Scene, start};
+use crate::start::{Facts, Scene, asking_of_keyword};
 use crate::telling::schema_note;
 use crate::walking::{Others, Path, PointerText, Tally, Trail, World};
 use js_bundle::{Place, Schemas, Step};
@@ -156,7 +156,7 @@ impl<'a> World for Here<'a> {
             names,
             indexes,
         };
-        start(alloc, self.schemas, scene, facts, keyword)
+        asking_of_keyword(alloc, self.schemas, scene, facts, keyword)
     }
 
     fn next(&self, alloc: Global, asking: &mut Asking<'a>) -> Result<Option<Applied<'a>>, Memory> {
@@ -262,7 +262,7 @@ fn value_of<'a>(_step: Step<'a>, value: Instance<'a>, _doc: Option<&'a Doc>) -> 
 }
 
 fn member_at<'a>(at: Step<'a>, _doc: Option<&'a Doc>) -> Option<&'a str>
-    ensures { map (λ name. name.now) (option_to_list result) ≡ name_in (step_of at.entry) }
+    ensures { map (λ name. name.now) (option_to_list result) ≡ name_in_step (step_of at.entry) }
 {
     match at {
         Step::Name(name) => Some(name),
@@ -272,7 +272,7 @@ fn member_at<'a>(at: Step<'a>, _doc: Option<&'a Doc>) -> Option<&'a str>
 }
 
 fn item_at<'a>(at: Step<'a>, _doc: Option<&'a Doc>) -> Option<usize>
-    ensures { option_to_list result ≡ index_in (step_of at.entry) }
+    ensures { option_to_list result ≡ index_in_step (step_of at.entry) }
 {
     match at {
         Step::Index(index) => Some(index),
@@ -303,7 +303,7 @@ impl Here<'_> {
     /// # Errors
     /// `Memory` if an allocation fails.
     #[tactic(auto, using(crate::proofs::Paths::location_is))]
-    pub fn absolute(&self, alloc: Global, place: Place) -> Result<Text, Memory>
+    pub fn absolute_schema(&self, alloc: Global, place: Place) -> Result<Text, Memory>
         requires { is_place self.now.schemas.now place ≡ true }
         ensures { IfOk result (λ t. t ≡ (schemas_of self.now.schemas.now).absolute
             (numbered_site self.now.schemas.now place) None) }
@@ -340,7 +340,7 @@ impl Here<'_> {
         _place: Place,
         schema: &Doc,
     ) -> Result<Note<'n>, Memory>
-        requires { StandsAt self.now.schemas.now _place (schema_value schema.now) }
+        requires { IsSchemaAt self.now.schemas.now _place (schema_value schema.now) }
         ensures { IfOk result (λ n. note_of n
             ≡ schema_says (schemas_of self.now.schemas.now) (numbered_site self.now.schemas.now _place)) }
     {

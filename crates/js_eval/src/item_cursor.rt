@@ -8,7 +8,7 @@ ghost use Rattle.js_eval.specs.code.Applied.{IsHeld, applied_of};
 ghost use Rattle.js_eval.specs.code.Asked.{IsApplied};
 ghost use Rattle.js_eval.specs.Bundle.{schemas_of};
 ghost use Rattle.js_eval.specs.code.Cursors.{AreMarked, is_marked, items_asked, items_left};
-ghost use Rattle.js_eval.specs.code.Standing.{StandsAt};
+ghost use Rattle.js_eval.specs.code.Standing.{IsSchemaAt};
 ghost use Rattle.js_eval.specs.SchemaSet as spec;
 ghost use Rattle.js_eval.specs.Seen.{instance_of};
 ghost use Rattle.js_eval.specs.Sited.{numbered_site};
@@ -45,7 +45,7 @@ pub(crate) fn each_listed<'a>(
         ≡ map (λ e. application (schemas_of documents) (numbered_site documents place) keyword.now
         (spec.Index e.0) spec.Alone (instance_of value.entry))
         (indexed_from 0 (map value_of list.now)) }
-    ensures held { (documents : Documents) → StandsAt documents place (value_of schema.now)
+    ensures held { (documents : Documents) → IsSchemaAt documents place (value_of schema.now)
         → IsHeld documents result.held }
 {
     ItemCursor {
@@ -59,7 +59,7 @@ pub(crate) fn each_listed<'a>(
 
 /// Each schema of a keyword's list, applied to the item at the same index.
 #[tactic(auto, using(crate::proofs::ItemsLeft::all_left))]
-pub(crate) fn each_in_step<'a>(
+pub(crate) fn each_at_index<'a>(
     alloc: Global,
     place: Place,
     schema: &'a Doc,
@@ -71,7 +71,7 @@ pub(crate) fn each_in_step<'a>(
         ≡ map (λ e. application (schemas_of documents) (numbered_site documents place) keyword.now (spec.Index e.0)
         (spec.Index e.0) e.1)
         (filter (λ e. nat_lt e.0 (length list.now)) (indexed_from 0 (map value_of items.now))) }
-    ensures held { (documents : Documents) → StandsAt documents place (value_of schema.now)
+    ensures held { (documents : Documents) → IsSchemaAt documents place (value_of schema.now)
         → IsHeld documents result.held }
 {
     ItemCursor {
@@ -106,7 +106,7 @@ pub(crate) fn each_from<'a>(
         ≡ map (λ e.
         record { place = numbered_site documents below; step = spec.Alone; at = spec.Index e.0; value = e.1 })
         (filter (λ e. nat_le first e.0) (indexed_from 0 (map value_of items.now))) }
-    ensures held { (documents : Documents) → StandsAt documents below (value_of schema.now)
+    ensures held { (documents : Documents) → IsSchemaAt documents below (value_of schema.now)
         → IsHeld documents result.held }
 {
     ItemCursor {
@@ -133,7 +133,7 @@ pub(crate) fn each_except<'a>(
         ≡ map (λ e.
         record { place = numbered_site documents below; step = spec.Alone; at = spec.Index e.0; value = e.1 })
         (filter (λ e. not (among_indexes e.0 indexes.now)) (indexed_from 0 (map value_of items.now)))) }
-    ensures held { IfOk result (λ c. (documents : Documents) → StandsAt documents below (value_of schema.now)
+    ensures held { IfOk result (λ c. (documents : Documents) → IsSchemaAt documents below (value_of schema.now)
         → IsHeld documents c.held) }
 {
     Ok(ItemCursor {

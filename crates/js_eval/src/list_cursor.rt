@@ -4,7 +4,7 @@ ghost use Rattle.js_eval.specs.code.Applied.{applied_of};
 ghost use Rattle.js_eval.specs.code.Asked.{IsApplied};
 ghost use Rattle.js_eval.specs.code.ListLeft.{IsList, list_asked};
 
-use crate::bundled::ranked_below;
+use crate::bundled::below_at_rank;
 use crate::instance::{Applied, Instance};
 use crate::keyword::Keyword;
 use js_bundle::{Place, Schemas, Step};
@@ -41,7 +41,7 @@ pub(crate) fn next_in_list<'a>(
     let held = &list[index];
     cursor.next = index + 1;
     let step = Step::Index(index);
-    let (place, schema) = ranked_below(
+    let (place, schema) = below_at_rank(
         schemas,
         cursor.place,
         cursor.schema,

@@ -13,8 +13,8 @@ ghost use Rattle.js_eval.specs.Applications.{among_names, application};
 ghost use Rattle.js_eval.specs.code.Applied.{IsHeld, applied_of};
 ghost use Rattle.js_eval.specs.code.Asked.{IsApplied};
 ghost use Rattle.js_eval.specs.Bundle.{schemas_of};
-ghost use Rattle.js_eval.specs.code.Cursors.{is_chosen, is_matched, is_named, members_asked, members_left, named_in};
-ghost use Rattle.js_eval.specs.code.Standing.{StandsAt};
+ghost use Rattle.js_eval.specs.code.Cursors.{is_chosen, is_matched, is_named, members_asked, chosen_members, named_in};
+ghost use Rattle.js_eval.specs.code.Standing.{IsSchemaAt};
 ghost use Rattle.js_eval.specs.SchemaSet as spec;
 ghost use Rattle.js_eval.specs.Seen.{instance_of, texts_of};
 ghost use Rattle.js_eval.specs.Sited.{numbered_site};
@@ -70,7 +70,7 @@ pub(crate) fn each_named<'a>(
         ≡ map (λ m. application (schemas_of documents) (numbered_site documents place) keyword.now (spec.Name m.0)
         (spec.Name m.0) m.1)
         (filter (λ m. has m.0 named.now) members.now) }
-    ensures held { (documents : Documents) → StandsAt documents place (value_of schema.now)
+    ensures held { (documents : Documents) → IsSchemaAt documents place (value_of schema.now)
         → IsHeld documents result.held }
 {
     MemberCursor {
@@ -94,7 +94,7 @@ pub(crate) fn each_in_place<'a>(
         ≡ map (λ m. application (schemas_of documents) (numbered_site documents place) keyword.now
         (spec.Name m.0) spec.Alone (instance_of value.entry))
         (filter (λ m. has m.0 members.now) named.now) }
-    ensures held { (documents : Documents) → StandsAt documents place (value_of schema.now)
+    ensures held { (documents : Documents) → IsSchemaAt documents place (value_of schema.now)
         → IsHeld documents result.held }
 {
     MemberCursor {
@@ -112,7 +112,7 @@ pub(crate) fn each_name<'a>(below: Place, schema: &'a Doc, members: &'a Members)
         ≡ map (λ m.
         record { place = numbered_site documents below; step = spec.Alone; at = spec.Name m.0; value = text m.0 })
         members.now }
-    ensures held { (documents : Documents) → StandsAt documents below (value_of schema.now)
+    ensures held { (documents : Documents) → IsSchemaAt documents below (value_of schema.now)
         → IsHeld documents result.held }
 {
     MemberCursor {
@@ -136,7 +136,7 @@ pub(crate) fn each_additional<'a>(
         ≡ map (λ m.
         record { place = numbered_site documents below; step = spec.Alone; at = spec.Name m.0; value = m.1 })
         (filter (λ m. not (is_named properties.entry m.0 || is_matched patterns.entry m.0)) members.now) }
-    ensures held { (documents : Documents) → StandsAt documents below (value_of schema.now)
+    ensures held { (documents : Documents) → IsSchemaAt documents below (value_of schema.now)
         → IsHeld documents result.held }
 {
     MemberCursor {
@@ -166,7 +166,7 @@ pub(crate) fn each_other<'a>(
         ≡ map (λ m.
         record { place = numbered_site documents below; step = spec.Alone; at = spec.Name m.0; value = m.1 })
         (filter (λ m. not (among_names m.0 (texts_of names.now))) members.now)) }
-    ensures held { IfOk result (λ c. (documents : Documents) → StandsAt documents below (value_of schema.now)
+    ensures held { IfOk result (λ c. (documents : Documents) → IsSchemaAt documents below (value_of schema.now)
         → IsHeld documents c.held) }
 {
     let set = set_of(alloc, names)?;
@@ -230,9 +230,9 @@ fn next_member<'a>(
     choice: &Choice<'a>,
     members: &mut Pairs<'a>,
 ) -> Result<Option<(&'a str, &'a Doc)>, Memory>
-    ensures { IfOk result (λ o. MatchOption o (members_left choice.now members.old ≡ [])
-        (λ m. members_left choice.now members.old
-        ≡ (m.0.now, value_of m.1.now) ∷ members_left choice.now members.new)) }
+    ensures { IfOk result (λ o. MatchOption o (chosen_members choice.now members.old ≡ [])
+        (λ m. chosen_members choice.now members.old
+        ≡ (m.0.now, value_of m.1.now) ∷ chosen_members choice.now members.new)) }
 {
     while let Some((name, member)) = members.next() {
         let name = name.as_str();
@@ -325,7 +325,7 @@ fn matches<'a>(
     ensures { IfOk result (λ b. b ≡ matches pattern.now name.now) }
 {
     match pattern_of(schemas, place, pattern) {
-        Some(built) => searchers.matches(alloc, built, name),
+        Some(built) => searchers.matches_name(alloc, built, name),
         None => Err(Memory), // never: finished schemas have all their patterns
     }
 }

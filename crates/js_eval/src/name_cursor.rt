@@ -14,12 +14,12 @@ ghost use Rattle.js_eval.specs.code.Applied.{applied_of};
 ghost use Rattle.js_eval.specs.code.Asked.{IsApplied};
 ghost use Rattle.js_eval.specs.code.Holding.{IsIn, held_at};
 ghost use Rattle.js_eval.specs.code.NamesLeft.{AreLeft, IsNames, members_among, names_asked, names_left};
-ghost use Rattle.js_eval.specs.code.Standing.{StandsAt};
+ghost use Rattle.js_eval.specs.code.Standing.{IsSchemaAt};
 ghost use Rattle.js_eval.specs.SchemaSet as spec;
 ghost use Rattle.js_eval.specs.Seen.{keyword_of};
 ghost use Rattle.js_eval.specs.Sited.{numbered_site};
 
-use crate::bundled::ranked_below;
+use crate::bundled::below_at_rank;
 use crate::instance::{Applied, Instance};
 use crate::keyword::Keyword;
 use js_bundle::{Place, Schemas, Step};
@@ -63,7 +63,7 @@ pub(crate) fn each_of_names<'a>(
         ≡ map (λ m. application (schemas_of documents) (numbered_site documents place) keyword.entry.name.now
         (spec.Name m.0) (spec.Name m.0) m.1)
         (filter (λ m. has m.0 named.now) members.now) }
-    ensures is { (documents : Documents) → StandsAt documents place (value_of schema.now) → IsNames documents result }
+    ensures is { (documents : Documents) → IsSchemaAt documents place (value_of schema.now) → IsNames documents result }
 {
     names_ascend(members);
     NameCursor {
@@ -102,7 +102,7 @@ pub(crate) fn each_in_step<'a>(
         ≡ map (λ m. application (schemas_of documents) (numbered_site documents place) keyword.entry.name.now
         (spec.Name m.0) (spec.Name m.0) m.1)
         (filter (λ m. has m.0 named.now) members.now)) }
-    ensures is { IfOk result (λ c. (documents : Documents) → StandsAt documents place (value_of schema.now)
+    ensures is { IfOk result (λ c. (documents : Documents) → IsSchemaAt documents place (value_of schema.now)
         → IsNames documents c) }
 {
     let left = Box::new(alloc, members.pairs())?;
@@ -133,7 +133,7 @@ pub(crate) fn next_of_names<'a>(
         &mut cursor.among,
     )?;
     let step = Step::Name(name);
-    let (place, schema) = ranked_below(
+    let (place, schema) = below_at_rank(
         schemas,
         cursor.place,
         cursor.schema,

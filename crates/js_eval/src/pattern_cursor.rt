@@ -8,7 +8,7 @@ ghost use Rattle.js_doc.specs.Seen.{pair_of, value_of};
 ghost use Rattle.js_eval.specs.code.Applied.{applied_of};
 ghost use Rattle.js_eval.specs.code.Asked.{ArePatterns, IsApplied};
 ghost use Rattle.js_eval.specs.code.Cursors.{IsBegun, matching_asked, on_matched_member, patterns_asked};
-ghost use Rattle.js_eval.specs.code.Standing.{StandsAt};
+ghost use Rattle.js_eval.specs.code.Standing.{IsSchemaAt};
 ghost use Rattle.js_eval.specs.Sited.{numbered_site};
 
 use crate::bundled::below;
@@ -50,7 +50,7 @@ pub(crate) fn each_matching<'a>(
     ensures asked { (documents : Documents) → patterns_asked documents result
         ≡ flat_map (λ p. matching_asked documents
         (numbered_site documents place) keyword.now p.0 members.now) patterns.now }
-    ensures are { (documents : Documents) → StandsAt documents place (value_of schema.now)
+    ensures are { (documents : Documents) → IsSchemaAt documents place (value_of schema.now)
         → ArePatterns documents result }
 {
     PatternCursor {
@@ -139,7 +139,7 @@ fn begin<'a>(
     cursor: &mut PatternCursor<'a>,
     name: &'a str,
 ) -> Result<NamedPattern<'a>, Memory>
-    requires { StandsAt schemas.now cursor.old.place (value_of cursor.old.schema.now) }
+    requires { IsSchemaAt schemas.now cursor.old.place (value_of cursor.old.schema.now) }
     ensures { IfOk result (λ p. IsBegun schemas.now name.now p cursor.old cursor.new) }
 {
     match pattern_of(schemas, cursor.place, name) {
@@ -195,6 +195,6 @@ fn is_match<'a>(
     if is_kept {
         searchers.matches_as_kept(alloc, pattern, name)
     } else {
-        searchers.matches(alloc, pattern, name)
+        searchers.matches_name(alloc, pattern, name)
     }
 }

@@ -78,7 +78,7 @@ impl<'p> Searchers<'p> {
     /// # Errors
     /// `Memory` if an allocation fails.
     #[inline(never)]
-    pub fn matches(
+    pub fn matches_name(
         &self,
         alloc: Global,
         named: NamedPattern<'p>,
@@ -146,7 +146,7 @@ impl<'p> Searchers<'p> {
     {
         match self.kept_answer(named.text, name) {
             Some(answer) => Ok(answer),
-            None => self.matches(alloc, named, name),
+            None => self.matches_name(alloc, named, name),
         }
     }
 

@@ -8,7 +8,7 @@ ghost use Rattle.js_bundle.specs.Ranked.{is_alone};
 ghost use Rattle.js_eval.specs.Applications.{application, asks_of, if_fails, if_holds};
 ghost use Rattle.js_eval.specs.code.Asked.{IsAsking, asked};
 ghost use Rattle.js_eval.specs.code.Holding.{IsIn, held_at};
-ghost use Rattle.js_eval.specs.code.Standing.{StandsAt};
+ghost use Rattle.js_eval.specs.code.Standing.{IsSchemaAt};
 ghost use Rattle.js_eval.specs.Bundle.{schemas_of};
 ghost use Rattle.js_eval.specs.SchemaSet as spec;
 ghost use Rattle.js_eval.specs.Seen.{instance_of, keyword_of, texts_of};
@@ -55,14 +55,14 @@ pub(crate) struct Facts<'s, 'a> {
 ///
 /// # Errors
 /// `Memory` if an allocation fails.
-pub(crate) fn start<'a>(
+pub(crate) fn asking_of_keyword<'a>(
     alloc: Global,
     schemas: &'a Schemas,
     scene: Scene<'_, 'a>,
     facts: Facts<'_, 'a>,
     keyword: Keyword<'a>,
 ) -> Result<Asking<'a>, Memory>
-    requires schema { StandsAt schemas.now scene.place (value_of scene.schema.now) }
+    requires schema { IsSchemaAt schemas.now scene.place (value_of scene.schema.now) }
     requires path { list_all (is_place schemas.now) scene.path.now ≡ true }
     requires resources { scene.scope.now ≡ dedup nat_eq (map (resource_of schemas.now) scene.path.now) }
     requires keyword { IsIn (value_of scene.schema.now) (keyword_of keyword) }
@@ -85,9 +85,9 @@ pub(crate) fn start<'a>(
         Kind::DynamicReference => Ok(referred_dynamically(
             schemas, place, schema, path, scope, value,
         )),
-        Kind::AllOf => Ok(start_items::listed(place, schema, keyword, value)),
-        Kind::AnyOf => Ok(start_items::listed(place, schema, keyword, value)),
-        Kind::OneOf => Ok(start_items::listed(place, schema, keyword, value)),
+        Kind::AllOf => Ok(start_items::each_in_list(place, schema, keyword, value)),
+        Kind::AnyOf => Ok(start_items::each_in_list(place, schema, keyword, value)),
+        Kind::OneOf => Ok(start_items::each_in_list(place, schema, keyword, value)),
         Kind::Not => Ok(held(schemas, place, schema, keyword, value)),
         Kind::If => Ok(held(schemas, place, schema, keyword, value)),
         Kind::Then => Ok(held_then(schemas, place, schema, keyword, facts.condition, value)),
@@ -138,7 +138,7 @@ fn referred<'a>(
     schema: &'a Doc,
     value: Instance<'a>,
 ) -> Asking<'a>
-    requires { StandsAt schemas.now place (value_of schema.now) }
+    requires { IsSchemaAt schemas.now place (value_of schema.now) }
     ensures asked { asked schemas.now result ≡ record {
       place = (schemas_of schemas.now).target (numbered_site schemas.now place);
       step = spec.Alone;
@@ -160,7 +160,7 @@ fn referred_dynamically<'a>(
     resources: &[usize],
     value: Instance<'a>,
 ) -> Asking<'a>
-    requires schema { StandsAt schemas.now place (value_of schema.now) }
+    requires schema { IsSchemaAt schemas.now place (value_of schema.now) }
     requires path { list_all (is_place schemas.now) path.now ≡ true }
     requires resources { resources.now ≡ dedup nat_eq (map (resource_of schemas.now) path.now) }
     ensures asked { asked schemas.now result
@@ -185,7 +185,7 @@ fn held<'a>(
     keyword: Keyword<'a>,
     value: Instance<'a>,
 ) -> Asking<'a>
-    requires place { StandsAt schemas.now place (value_of schema.now) }
+    requires place { IsSchemaAt schemas.now place (value_of schema.now) }
     requires kind { held_at keyword.kind ≡ is_alone }
     requires keyword { IsIn (value_of schema.now) (keyword_of keyword) }
     ensures asked { asked schemas.now result
@@ -207,7 +207,7 @@ fn held_then<'a>(
     condition: Option<bool>,
     value: Instance<'a>,
 ) -> Asking<'a>
-    requires place { StandsAt schemas.now place (value_of schema.now) }
+    requires place { IsSchemaAt schemas.now place (value_of schema.now) }
     requires kind { held_at keyword.kind ≡ is_alone }
     requires keyword { IsIn (value_of schema.now) (keyword_of keyword) }
     ensures asked { asked schemas.now result ≡ if_holds condition
@@ -232,7 +232,7 @@ fn held_else<'a>(
     condition: Option<bool>,
     value: Instance<'a>,
 ) -> Asking<'a>
-    requires place { StandsAt schemas.now place (value_of schema.now) }
+    requires place { IsSchemaAt schemas.now place (value_of schema.now) }
     requires kind { held_at keyword.kind ≡ is_alone }
     requires keyword { IsIn (value_of schema.now) (keyword_of keyword) }
     ensures asked { asked schemas.now result ≡ if_fails condition

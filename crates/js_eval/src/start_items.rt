@@ -8,7 +8,7 @@ ghost use Rattle.js_bundle.specs.Ranked.{is_alone, is_index};
 ghost use Rattle.js_eval.specs.Applications.{among_indexes, application, indexed, prefix_length};
 ghost use Rattle.js_eval.specs.code.Asked.{IsAsking, asked};
 ghost use Rattle.js_eval.specs.code.Holding.{IsIn, held_at};
-ghost use Rattle.js_eval.specs.code.Standing.{StandsAt};
+ghost use Rattle.js_eval.specs.code.Standing.{IsSchemaAt};
 ghost use Rattle.js_eval.specs.Bundle.{schemas_of};
 ghost use Rattle.js_eval.specs.SchemaSet as spec;
 ghost use Rattle.js_eval.specs.Seen.{instance_of, keyword_of};
@@ -17,7 +17,7 @@ ghost use Rattle.js_eval.specs.Sited.{numbered_site};
 use crate::bundled::held_below;
 use crate::cursor::Asking;
 use crate::instance::{Instance, array_in};
-use crate::item_cursor::{each_except, each_from, each_in_step};
+use crate::item_cursor::{each_at_index, each_except, each_from};
 use crate::keyword::Keyword;
 use crate::list_cursor::ListCursor;
 use crate::schema::argument_in;
@@ -26,7 +26,7 @@ use js_doc::{Doc, Memory};
 use std::alloc::Global;
 
 /// Each schema of a keyword's list, applied to the value itself.
-pub(crate) fn listed<'a>(
+pub(crate) fn each_in_list<'a>(
     place: Place,
     schema: &'a Doc,
     keyword: Keyword<'a>,
@@ -38,7 +38,8 @@ pub(crate) fn listed<'a>(
         ≡ map (λ e. application (schemas_of documents) (numbered_site documents place) keyword.entry.name.now
         (spec.Index e.0) spec.Alone (instance_of value.entry))
         (indexed (value_of keyword.entry.argument.now)) }
-    ensures is { (documents : Documents) → StandsAt documents place (value_of schema.now) → IsAsking documents result }
+    ensures is { (documents : Documents) → IsSchemaAt documents place (value_of schema.now)
+        → IsAsking documents result }
 {
     Asking::List(ListCursor {
         place,
@@ -59,7 +60,7 @@ pub(crate) fn prefix<'a>(
     keyword: Keyword<'a>,
     value: Instance<'a>,
 ) -> Asking<'a>
-    requires { StandsAt schemas.now place (value_of schema.now) }
+    requires { IsSchemaAt schemas.now place (value_of schema.now) }
     ensures asked { asked schemas.now result
         ≡ map (λ e. application (schemas_of schemas.now) (numbered_site schemas.now place) keyword.entry.name.now
         (spec.Index e.0) (spec.Index e.0) e.1)
@@ -67,7 +68,7 @@ pub(crate) fn prefix<'a>(
         (indexed (instance_of value.entry))) }
     ensures is { IsAsking schemas.now result }
 {
-    Asking::Items(each_in_step(
+    Asking::Items(each_at_index(
         alloc,
         place,
         schema,
@@ -86,7 +87,7 @@ pub(crate) fn following<'a>(
     keyword: Keyword<'a>,
     value: Instance<'a>,
 ) -> Asking<'a>
-    requires place { StandsAt schemas.now place (value_of schema.now) }
+    requires place { IsSchemaAt schemas.now place (value_of schema.now) }
     requires kind { held_at keyword.kind ≡ is_alone }
     requires keyword { IsIn (value_of schema.now) (keyword_of keyword) }
     ensures asked { asked schemas.now result
@@ -115,7 +116,7 @@ pub(crate) fn every<'a>(
     keyword: Keyword<'a>,
     value: Instance<'a>,
 ) -> Asking<'a>
-    requires place { StandsAt schemas.now place (value_of schema.now) }
+    requires place { IsSchemaAt schemas.now place (value_of schema.now) }
     requires kind { held_at keyword.kind ≡ is_alone }
     requires keyword { IsIn (value_of schema.now) (keyword_of keyword) }
     ensures asked { asked schemas.now result
@@ -136,7 +137,7 @@ fn from_index<'a>(
     value: Instance<'a>,
     first: usize,
 ) -> Asking<'a>
-    requires place { StandsAt schemas.now place (value_of schema.now) }
+    requires place { IsSchemaAt schemas.now place (value_of schema.now) }
     requires kind { held_at keyword.kind ≡ is_alone }
     requires keyword { IsIn (value_of schema.now) (keyword_of keyword) }
     ensures asked { asked schemas.now result
@@ -172,7 +173,7 @@ pub(crate) fn unevaluated_items<'a>(
     indexes: &[usize],
     value: Instance<'a>,
 ) -> Result<Asking<'a>, Memory>
-    requires place { StandsAt schemas.now place (value_of schema.now) }
+    requires place { IsSchemaAt schemas.now place (value_of schema.now) }
     requires kind { held_at keyword.kind ≡ is_alone }
     requires keyword { IsIn (value_of schema.now) (keyword_of keyword) }
     ensures asked { IfOk result (λ a. asked schemas.now a

@@ -11,7 +11,7 @@ ghost use Rattle.js_bundle.specs.Ranked.{is_alone, is_name};
 ghost use Rattle.js_eval.specs.Applications.{among_names, application, is_property, matches_pattern};
 ghost use Rattle.js_eval.specs.code.Asked.{IsAsking, asked};
 ghost use Rattle.js_eval.specs.code.Holding.{IsIn, held_at};
-ghost use Rattle.js_eval.specs.code.Standing.{StandsAt};
+ghost use Rattle.js_eval.specs.code.Standing.{IsSchemaAt};
 ghost use Rattle.js_eval.specs.Bundle.{schemas_of};
 ghost use Rattle.js_eval.specs.SchemaSet as spec;
 ghost use Rattle.js_eval.specs.Seen.{instance_of, keyword_of, texts_of};
@@ -53,7 +53,7 @@ pub(crate) fn dependent<'a>(
     keyword: Keyword<'a>,
     value: Instance<'a>,
 ) -> Result<Asking<'a>, Memory>
-    requires { StandsAt schemas.now place (value_of schema.now) }
+    requires { IsSchemaAt schemas.now place (value_of schema.now) }
     ensures asked { IfOk result (λ a. asked schemas.now a
         ≡ map (λ m. application (schemas_of schemas.now) (numbered_site schemas.now place) keyword.entry.name.now
         (spec.Name m.0) spec.Alone (instance_of value.entry))
@@ -89,7 +89,7 @@ pub(crate) fn properties<'a>(
         ≡ map (λ m. application (schemas_of documents) (numbered_site documents place) keyword.entry.name.now
         (spec.Name m.0) (spec.Name m.0) m.1)
         (filter (λ m. has m.0 (entries (value_of keyword.entry.argument.now))) (entries (instance_of value.entry)))) }
-    ensures is { IfOk result (λ a. (documents : Documents) → StandsAt documents place (value_of schema.now)
+    ensures is { IfOk result (λ a. (documents : Documents) → IsSchemaAt documents place (value_of schema.now)
         → IsAsking documents a) }
 {
     let Some(named) = object_in(keyword.argument) else {
@@ -116,7 +116,7 @@ fn named_members<'a>(
         ≡ map (λ m. application (schemas_of documents) (numbered_site documents place) keyword.entry.name.now
         (spec.Name m.0) (spec.Name m.0) m.1)
         (filter (λ m. has m.0 named.now) members.now)) }
-    ensures is { IfOk result (λ a. (documents : Documents) → StandsAt documents place (value_of schema.now)
+    ensures is { IfOk result (λ a. (documents : Documents) → IsSchemaAt documents place (value_of schema.now)
         → IsAsking documents a) }
 {
     if named.len() / MANY_MORE > members.len() {
@@ -143,7 +143,7 @@ pub(crate) fn patterns<'a>(
     keyword: Keyword<'a>,
     value: Instance<'a>,
 ) -> Result<Asking<'a>, Memory>
-    requires { StandsAt schemas.now place (value_of schema.now) }
+    requires { IsSchemaAt schemas.now place (value_of schema.now) }
     ensures asked { IfOk result (λ a. asked schemas.now a
         ≡ flat_map (λ p. map (λ m. application (schemas_of schemas.now)
         (numbered_site schemas.now place) keyword.entry.name.now (spec.Name p.0) (spec.Name m.0) m.1)
@@ -182,7 +182,7 @@ pub(crate) fn additional<'a>(
     keyword: Keyword<'a>,
     value: Instance<'a>,
 ) -> Result<Asking<'a>, Memory>
-    requires place { StandsAt schemas.now place (value_of schema.now) }
+    requires place { IsSchemaAt schemas.now place (value_of schema.now) }
     requires kind { held_at keyword.kind ≡ is_alone }
     requires keyword { IsIn (value_of schema.now) (keyword_of keyword) }
     ensures asked { IfOk result (λ a. asked schemas.now a
@@ -216,7 +216,7 @@ pub(crate) fn property_names<'a>(
     keyword: Keyword<'a>,
     value: Instance<'a>,
 ) -> Result<Asking<'a>, Memory>
-    requires place { StandsAt schemas.now place (value_of schema.now) }
+    requires place { IsSchemaAt schemas.now place (value_of schema.now) }
     requires kind { held_at keyword.kind ≡ is_alone }
     requires keyword { IsIn (value_of schema.now) (keyword_of keyword) }
     ensures asked { IfOk result (λ a. asked schemas.now a
@@ -248,7 +248,7 @@ pub(crate) fn unevaluated_properties<'a>(
     evaluated: &[&'a str],
     value: Instance<'a>,
 ) -> Result<Asking<'a>, Memory>
-    requires place { StandsAt schemas.now place (value_of schema.now) }
+    requires place { IsSchemaAt schemas.now place (value_of schema.now) }
     requires kind { held_at keyword.kind ≡ is_alone }
     requires keyword { IsIn (value_of schema.now) (keyword_of keyword) }
     ensures asked { IfOk result (λ a. asked schemas.now a

@@ -272,9 +272,9 @@ fn members_in_order<'a>(
     applied: &[&'a str],
 ) -> Result<Note<'a>, Memory>
     ensures { IfOk result (λ n. note_of n ≡ spec.said_of_object (instance_of value.entry)
-        (spec.names (spec.members_among (instance_of value.entry) (texts_of applied.now)))) }
+        (spec.names (spec.member_names_among (instance_of value.entry) (texts_of applied.now)))) }
 {
-    let names = members_among(alloc, value, applied)?;
+    let names = member_names_among(alloc, value, applied)?;
     Ok(names_on_object(value, names))
 }
 
@@ -288,13 +288,13 @@ fn names_on_object<'a>(value: Instance<'a>, names: Vec<&'a str>) -> Note<'a>
 }
 
 // The names of a value's members that are among these.
-fn members_among<'a>(
+fn member_names_among<'a>(
     alloc: Global,
     value: Instance<'a>,
     among: &[&'a str],
 ) -> Result<Vec<&'a str>, Memory>
     ensures { IfOk result (λ ns. texts_of ns.items
-        ≡ spec.members_among (instance_of value.entry) (texts_of among.now)) }
+        ≡ spec.member_names_among (instance_of value.entry) (texts_of among.now)) }
 {
     match value.object() {
         Some(members) => names_among(alloc, members, among),

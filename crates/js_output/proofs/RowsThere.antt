@@ -12,7 +12,7 @@ use Rattle.js_bundle.specs.Document.{Documents}
 use Rattle.js_bundle.specs.Schemas.{is_place, place_at}
 use Rattle.js_eval.specs.Walked as walked
 use Rattle.js_eval.specs.declared.walking.fault.WalkFault.{WalkFault}
-use Rattle.js_output.specs.Outcome.{AreResultRows, recorded}
+use Rattle.js_output.specs.Outcome.{AreRowsInFormat, recorded}
 use Rattle.js_output.proofs.Sites.{result-there}
 
 -- one of these formats
@@ -26,13 +26,13 @@ noted_recorded format t (inr (inr (inl e))) = ap (λ f. recorded f t) e
 noted_recorded format t (inr (inr (inr e))) = ap (λ f. recorded f t) e
 
 module _ (docs : Documents) (n : ℕ) (v : Value) (there : is_place docs n ≡ true) where
-  pub all_there : (format : Format) (r : Result RelativeRows WalkFault) → format ≡ Verbose → IfOk r (walked.AreResultRows docs n v) → IfOk r (AreResultRows format docs (place_at docs n) v)
+  pub all_there : (format : Format) (r : Result RelativeRows WalkFault) → format ≡ Verbose → IfOk r (walked.AreResultRows docs n v) → IfOk r (AreRowsInFormat format docs (place_at docs n) v)
   all_there format (Ok rows) e h =
       let (t, within, are) = h in
       (t, result-there docs n v there t within.is, within.stands, subst (λ f. AreRowsOf rows (recorded f t)) (sym e) are)
   all_there format (Err f) e h = tt
 
-  pub noted_there : (format : Format) (r : Result RelativeRows WalkFault) → IsOther format → IfOk r (walked.AreNotedRows docs n v) → IfOk r (AreResultRows format docs (place_at docs n) v)
+  pub noted_there : (format : Format) (r : Result RelativeRows WalkFault) → IsOther format → IfOk r (walked.AreNotedRows docs n v) → IfOk r (AreRowsInFormat format docs (place_at docs n) v)
   noted_there format (Ok rows) e h =
       let (t, within, are) = h in
       (t, result-there docs n v there t within.is, within.stands, subst (AreRowsOf rows) (sym (noted_recorded format t e)) are)

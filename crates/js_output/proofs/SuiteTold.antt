@@ -9,7 +9,7 @@ use Rattle.js_output.specs.declared.fault.Fault.{Fault}
 use Rattle.js_output.specs.declared.fault.Fault.TheVariants as fault
 use Rattle.js_output.specs.declared.fault.SuiteFault.{SuiteFault}
 use Rattle.js_output.specs.declared.suite_lines.Counts.{Counts}
-use Rattle.js_output.specs.declared.suite_lines.Line.{Line}
+use Rattle.js_output.specs.declared.suite_lines.TestLine.{TestLine}
 
 -- of what the suite's text is read as
 module _ {D : Type 0} (documents : DocumentTexts) (taken : D → Option (List ℕ)) (found : Result (List SuiteGroup) SuiteFault) where
@@ -20,7 +20,7 @@ module _ {D : Type 0} (documents : DocumentTexts) (taken : D → Option (List �
   suite-fault sink _ h = absurd h
 
   -- its lines are told
-  pub suite-lines : (groups : List SuiteGroup) (lines : List Line) (old new : Tracked D) (answer : Result Counts Fault) → found ≡ Ok groups
+  pub suite-lines : (groups : List SuiteGroup) (lines : List TestLine) (old new : Tracked D) (answer : Result Counts Fault) → found ≡ Ok groups
       → AreLines documents 0 groups lines → SendsLines taken old new lines answer → Tells telling_lines (ReadLines documents found) taken old new answer
   suite-lines groups lines old new (Ok counts) is h (counted, sent) = (lines, subst (λ r. ReadLines documents r (Ok lines)) (sym is) h, counted, sent)
   suite-lines groups lines old new (Err fault.Memory) is h sent = tt

@@ -150,8 +150,8 @@ IsInstanceFault f = IsLateOrMemory f
 -- ---- words for the parts
 
 -- this is the verdict of the result within the limits
-abbrev pub IsJudged : bundle.Documents → Option Site → Value → Bool → Type 0
-IsJudged documents entry v valid = (t : ResultTree) × IsResultOf documents entry v t × IsWithinLimits t × (valid ≡ t.root.valid)
+abbrev pub IsVerdictOf : bundle.Documents → Option Site → Value → Bool → Type 0
+IsVerdictOf documents entry v valid = (t : ResultTree) × IsResultOf documents entry v t × IsWithinLimits t × (valid ≡ t.root.valid)
 
 -- the tree whose rows are kept for a format: no format but verbose shows anything of silent leaves
 abbrev pub recorded : Format → ResultTree → ResultTree
@@ -159,8 +159,8 @@ recorded Verbose t = t
 recorded _ t = trimmed_tree t
 
 -- the rows are those that the format needs of the result within the limits
-abbrev pub AreResultRows : Format → bundle.Documents → Option Site → Value → RelativeRows → Type 0
-AreResultRows format documents entry v rows =
+abbrev pub AreRowsInFormat : Format → bundle.Documents → Option Site → Value → RelativeRows → Type 0
+AreRowsInFormat format documents entry v rows =
     (t : ResultTree) × IsResultOf documents entry v t × IsWithinLimits t × AreRowsOf rows (recorded format t)
 
 -- the tree is what merged shows of it

@@ -16,9 +16,9 @@ use Rattle.js_output.specs.declared.fault.Fault.{Fault}
 use Rattle.js_output.specs.declared.fault.Fault.TheVariants as fault
 use Rattle.js_output.specs.declared.fault.SuiteFault.{SuiteFault}
 use Rattle.js_output.specs.declared.suite_lines.Counts.{Counts}
-use Rattle.js_output.specs.declared.suite_lines.Line.{Line}
-use Rattle.js_output.specs.declared.suite_lines.Status.{Status}
-use Rattle.js_output.specs.declared.suite_lines.Status.TheVariants.{Pass, Fail, Skip}
+use Rattle.js_output.specs.declared.suite_lines.TestLine.{TestLine}
+use Rattle.js_output.specs.declared.suite_lines.TestStatus.{TestStatus}
+use Rattle.js_output.specs.declared.suite_lines.TestStatus.TheVariants.{Pass, Fail, Skip}
 
 -- ---- the documents of a group: those that are passed in, and its schema, which is the entry
 
@@ -61,56 +61,56 @@ IsBasis documents g (Some schema) (Some all) = MayGoOn (group_causes documents g
 abbrev pub HasVerdict : bundle.Documents → Option Site → Value → Bool → Type 0
 HasVerdict documents entry v valid = (t : ResultTree) × IsResultOf documents entry v t × IsWithinLimits t × (t.root.valid ≡ valid)
 
-abbrev pub IsStatusOn : bundle.Documents → Option Site → Value → Bool → Status → Type 0
+abbrev pub IsStatusOn : bundle.Documents → Option Site → Value → Bool → TestStatus → Type 0
 IsStatusOn documents entry v valid Pass = HasVerdict documents entry v valid
 IsStatusOn documents entry v valid Fail = HasVerdict documents entry v (not valid)
 IsStatusOn documents entry v valid Skip = NoResultStands documents entry v
 
 -- by the documents that its group is judged by, and its instance
-abbrev pub IsStatusBy : Option bundle.Documents → ℕ → Option Value → Bool → Status → Type 0
+abbrev pub IsStatusBy : Option bundle.Documents → ℕ → Option Value → Bool → TestStatus → Type 0
 IsStatusBy (Some all) g (Some v) valid status = IsStatusOn all (entry_place all (group_uri g)) v valid status
 IsStatusBy _ g _ valid status = status ≡ Skip
 
 -- ---- lines
 
 module _ (basis : Option bundle.Documents) (g : ℕ) where
-  pub record IsLine (n : ℕ) (test : SuiteTest) (line : Line) : Type 0 where
+  pub record IsLine (n : ℕ) (test : SuiteTest) (line : TestLine) : Type 0 where
     pub status : IsStatusBy basis g test.instance test.valid line.status
     pub group : line.group ≡ g
     pub number : line.test ≡ n
     pub description : line.description ≡ test.description
 
   -- of tests, the first of which has the number n
-  abbrev pub AreTestLines : ℕ → List SuiteTest → List Line → Type 0
+  abbrev pub AreTestLines : ℕ → List SuiteTest → List TestLine → Type 0
   AreTestLines n [] lines = lines ≡ []
   AreTestLines n (test ∷ tests) [] = ⊥
   AreTestLines n (test ∷ tests) (line ∷ lines) = IsLine n test line × AreTestLines (n + 1) tests lines
 
-abbrev pub AreGroupLines : DocumentTexts → ℕ → SuiteGroup → List Line → Type 0
+abbrev pub AreGroupLines : DocumentTexts → ℕ → SuiteGroup → List TestLine → Type 0
 AreGroupLines documents g group lines = (basis : Option bundle.Documents) × IsBasis documents g group.schema basis × AreTestLines basis g 0 group.tests lines
 
 -- of groups, the first of which has the number g
-abbrev pub AreLines : DocumentTexts → ℕ → List SuiteGroup → List Line → Type 0
+abbrev pub AreLines : DocumentTexts → ℕ → List SuiteGroup → List TestLine → Type 0
 AreLines documents g [] lines = lines ≡ []
 AreLines documents g (group ∷ groups) lines =
-    (these : List Line) × (later : List Line) × (lines ≡ these ++ later) × AreGroupLines documents g group these × AreLines documents (g + 1) groups later
+    (these : List TestLine) × (later : List TestLine) × (lines ≡ these ++ later) × AreGroupLines documents g group these × AreLines documents (g + 1) groups later
 
 -- ---- the outcome
 
 -- what a suite's text is read as: its lines come, or its fault
-abbrev pub ReadLines : DocumentTexts → Result (List SuiteGroup) SuiteFault → Result (List Line) Fault → Type 0
+abbrev pub ReadLines : DocumentTexts → Result (List SuiteGroup) SuiteFault → Result (List TestLine) Fault → Type 0
 ReadLines documents (Ok groups) (Ok lines) = AreLines documents 0 groups lines
 ReadLines documents (Ok groups) (Err f) = ⊥
 ReadLines documents (Err e) answer = answer ≡ Err (fault.Suite e)
 
 -- the documents alone come first
-abbrev pub SuiteOutcome : DocumentTexts → List ℕ → Result (List Line) Fault → Type 0
+abbrev pub SuiteOutcome : DocumentTexts → List ℕ → Result (List TestLine) Fault → Type 0
 SuiteOutcome documents bytes = After (documents_causes documents) (OfInput bytes (ReadLines documents (suite_reading bytes)))
 
 -- ---- what is returned
 
 -- the counts; the lines' text is written
-abbrev pub telling_lines : Telling (List Line) Counts
+abbrev pub telling_lines : Telling (List TestLine) Counts
 telling_lines = record { answer = counts_of; text = lines_text }
 
 -- ---- words for the parts
@@ -123,7 +123,7 @@ IsSuiteLate fault.Write = ⊤
 IsSuiteLate _ = ⊥
 
 -- these lines are reported, or why they aren't
-abbrev pub SendsLines : {D : Type 0} → (D → Option (List ℕ)) → Tracked D → Tracked D → List Line → Result Counts Fault → Type 0
+abbrev pub SendsLines : {D : Type 0} → (D → Option (List ℕ)) → Tracked D → Tracked D → List TestLine → Result Counts Fault → Type 0
 SendsLines taken old new lines (Ok counts) = (counts_of lines ≡ counts) × Sends taken old new (lines_text lines)
 SendsLines taken old new lines (Err fault.Memory) = ⊤
 SendsLines taken old new lines (Err fault.Write) = SendsBeginning taken old new (lines_text lines)

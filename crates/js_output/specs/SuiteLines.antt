@@ -2,37 +2,37 @@
 use Rattle.std.specs.Prelude.{ℕ, List, [], ◌∷◌, ◌++◌, Bool, true, false, count_by, flat_map, codes, decimal}
 use Rattle.js_doc.specs.Compact.{quoted}
 use Rattle.js_output.specs.declared.suite_lines.Counts.{Counts}
-use Rattle.js_output.specs.declared.suite_lines.Line.{Line}
-use Rattle.js_output.specs.declared.suite_lines.Status.{Status}
-use Rattle.js_output.specs.declared.suite_lines.Status.TheVariants.{Pass, Fail, Skip}
+use Rattle.js_output.specs.declared.suite_lines.TestLine.{TestLine}
+use Rattle.js_output.specs.declared.suite_lines.TestStatus.{TestStatus}
+use Rattle.js_output.specs.declared.suite_lines.TestStatus.TheVariants.{Pass, Fail, Skip}
 
 -- ---- a line for each test
 
-abbrev pub status_word : Status → List ℕ
+abbrev pub status_word : TestStatus → List ℕ
 status_word Pass = codes "pass"
 status_word Fail = codes "fail"
 status_word Skip = codes "skip"
 
 -- the status, the numbers of the group and of the test in it, and the description as JSON text
-abbrev pub line_text : Line → List ℕ
+abbrev pub line_text : TestLine → List ℕ
 line_text line =
     status_word line.status ++ codes " " ++ decimal line.group ++ codes "." ++ decimal line.test ++ codes " " ++ quoted line.description ++ 10 ∷ []
 
 -- ---- how many there are of each status
 
-abbrev pub is_pass : Status → Bool
+abbrev pub is_pass : TestStatus → Bool
 is_pass Pass = true
 is_pass _ = false
 
-abbrev pub is_fail : Status → Bool
+abbrev pub is_fail : TestStatus → Bool
 is_fail Fail = true
 is_fail _ = false
 
-abbrev pub is_skip : Status → Bool
+abbrev pub is_skip : TestStatus → Bool
 is_skip Skip = true
 is_skip _ = false
 
-abbrev pub counts_of : List Line → Counts
+abbrev pub counts_of : List TestLine → Counts
 counts_of lines =
     record {
       passed = count_by (λ line. is_pass line.status) lines;
@@ -46,5 +46,5 @@ counts_text counts =
 
 -- ---- the whole
 
-abbrev pub lines_text : List Line → List ℕ
+abbrev pub lines_text : List TestLine → List ℕ
 lines_text lines = flat_map line_text lines ++ counts_text (counts_of lines)

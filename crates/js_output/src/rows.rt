@@ -3,7 +3,7 @@ ghost use Rattle.std.specs.Prelude.{◌≡◌, true, IfErr, IfOk};
 ghost use Rattle.js_doc.specs.Seen.{value_of};
 ghost use Rattle.js_bundle.specs.Schemas.{is_place, place_at};
 ghost use Rattle.js_eval.specs.Walked.{NoneStands, OnTooLarge};
-ghost use Rattle.js_output.specs.Outcome.{AreResultRows, IsWalkFault};
+ghost use Rattle.js_output.specs.Outcome.{AreRowsInFormat, IsWalkFault};
 
 use crate::fault::Fault;
 use bumpalo::Bump;
@@ -24,7 +24,7 @@ pub(crate) fn rows_of<'a>(
     instance: &'a Doc,
 ) -> Result<RelativeRows<'a>, Fault>
     requires { is_place schemas.now place ≡ true }
-    ensures rows { IfOk result (AreResultRows format schemas.now
+    ensures rows { IfOk result (AreRowsInFormat format schemas.now
         (place_at schemas.now place) (value_of instance.now)) }
     ensures fault { IfErr result (IsWalkFault schemas.now
         (place_at schemas.now place) (value_of instance.now)) }
@@ -45,7 +45,7 @@ fn walked<'a>(
     instance: &'a Doc,
 ) -> Result<RelativeRows<'a>, WalkFault>
     requires { is_place schemas.now place ≡ true }
-    ensures rows { IfOk result (AreResultRows format schemas.now
+    ensures rows { IfOk result (AreRowsInFormat format schemas.now
         (place_at schemas.now place) (value_of instance.now)) }
     ensures fault { IfErr result (λ e. OnTooLarge e
         (NoneStands schemas.now place (value_of instance.now))) }

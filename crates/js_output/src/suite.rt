@@ -13,7 +13,7 @@ use crate::input::read_all;
 use crate::sink::Sink;
 use crate::source::Source;
 use crate::suite_judging::judged_lines;
-use crate::suite_lines::{Counts, Line, counts_of, lines_text};
+use crate::suite_lines::{Counts, TestLine, counts_of, lines_text};
 use crate::suite_text::suite_from;
 use std::alloc::Global;
 use std::io::{Read, Write};
@@ -85,7 +85,11 @@ fn tell_suite<W: Write>(
 }
 
 // All allocations come before the first byte is written.
-fn tell_lines<W: Write>(alloc: Global, lines: &[Line], out: &mut Sink<W>) -> Result<Counts, Fault>
+fn tell_lines<W: Write>(
+    alloc: Global,
+    lines: &[TestLine],
+    out: &mut Sink<W>,
+) -> Result<Counts, Fault>
     ensures answer { SendsLines W.contents out.old out.new lines.now result }
     ensures nothing { IfErr result (λ e. e ≢ Fault.Write → out.new ≡ out.old) }
     ensures unflushed { Unflushed out.old out.new }

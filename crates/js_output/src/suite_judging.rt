@@ -8,12 +8,12 @@ ghost use Rattle.js_output.specs.Entry.{IsEntry};
 ghost use Rattle.js_output.specs.Suite.{AreGroupLines, AreLines, AreTestLines, IsBasis, IsLine, IsStatusOn, adding_causes_with, causes_with, documents_with, group_causes, group_uri, whole_causes, with_root, with_schema};
 ghost use Rattle.js_output.specs.code.SuiteJudging.{IsJudge, IsStatusAt, IsThere, IsNotMemory, basis_of, compared};
 ghost use Rattle.js_output.specs.SuiteText.{groups_seen, group_seen, tests_seen, test_seen};
-ghost use Rattle.js_output.specs.declared.suite_lines.Line.{Line};
+ghost use Rattle.js_output.specs.declared.suite_lines.TestLine.{TestLine};
 
 use crate::documents::{bundled, finish_bundle};
 use crate::entry::{Entry, entry_place};
 use crate::fault::Fault;
-use crate::suite_lines::{Line, Status};
+use crate::suite_lines::{TestLine, TestStatus};
 use crate::suite_text::{SuiteGroup, SuiteTest};
 use crate::telling::verdict_of;
 use js_bundle::Bundle;
@@ -26,7 +26,7 @@ pub(crate) fn judged_lines(
     alloc: Global,
     docs: &[(&str, &[u8])],
     groups: &[SuiteGroup],
-) -> Result<Vec<Line>, Memory>
+) -> Result<Vec<TestLine>, Memory>
     ensures { IfOk result (λ v. AreLines (documents_of docs.now) 0 (groups_seen groups.now) v.items) }
 {
     let mut lines = Vec::new(alloc);
@@ -41,9 +41,9 @@ fn judge_group(
     docs: &[(&str, &[u8])],
     number: usize,
     group: &SuiteGroup,
-    lines: &mut Vec<Line>,
+    lines: &mut Vec<TestLine>,
 ) -> Result<(), Memory>
-    ensures { OnOk result ((these : List Line) × (lines.new.items ≡ lines.old.items ++ these)
+    ensures { OnOk result ((these : List TestLine) × (lines.new.items ≡ lines.old.items ++ these)
         × AreGroupLines (documents_of docs.now) number (group_seen group.now) these) }
 {
     let entry = group_entry(alloc, docs, number, &group.schema)?;
@@ -55,10 +55,10 @@ fn judge_tests(
     entry: &Option<Entry>,
     group: usize,
     tests: &[SuiteTest],
-    lines: &mut Vec<Line>,
+    lines: &mut Vec<TestLine>,
 ) -> Result<(), Memory>
     requires { IsJudge group entry.now }
-    ensures { OnOk result ((these : List Line) × (lines.new.items ≡ lines.old.items ++ these)
+    ensures { OnOk result ((these : List TestLine) × (lines.new.items ≡ lines.old.items ++ these)
         × AreTestLines (basis_of entry.now) group 0 (tests_seen tests.now) these) }
 {
     for number in 0..tests.len() {
@@ -74,13 +74,13 @@ fn judged_line(
     group: usize,
     number: usize,
     test: &SuiteTest,
-) -> Result<Line, Memory>
+) -> Result<TestLine, Memory>
     requires { IsJudge group entry.now }
     ensures { IfOk result (IsLine (basis_of entry.now) group number (test_seen test.now)) }
 {
     let status = status_of(alloc, entry, test)?;
     let description = test.description.copy()?;
-    Ok(Line {
+    Ok(TestLine {
         status,
         group,
         test: number,
@@ -196,38 +196,38 @@ fn entry_in(alloc: Global, bundle: Bundle, uri: &str) -> Result<Entry, Fault>
     Ok(Entry { schemas, place })
 }
 
-fn status_of(alloc: Global, entry: &Option<Entry>, test: &SuiteTest) -> Result<Status, Memory>
+fn status_of(alloc: Global, entry: &Option<Entry>, test: &SuiteTest) -> Result<TestStatus, Memory>
     requires { IsThere entry.now }
     ensures { IfOk result
         (IsStatusAt entry.now (option_map value_of test.now.instance) test.now.valid) }
 {
     let Some(entry) = entry else {
-        return Ok(Status::Skip);
+        return Ok(TestStatus::Skip);
     };
     let Some(instance) = &test.instance else {
-        return Ok(Status::Skip);
+        return Ok(TestStatus::Skip);
     };
     judged(alloc, entry, instance, test.valid)
 }
 
-fn judged(alloc: Global, entry: &Entry, instance: &Doc, valid: bool) -> Result<Status, Memory>
+fn judged(alloc: Global, entry: &Entry, instance: &Doc, valid: bool) -> Result<TestStatus, Memory>
     requires { is_place entry.now.schemas entry.now.place ≡ true }
     ensures { IfOk result (IsStatusOn entry.now.schemas
         (place_at entry.now.schemas entry.now.place) (value_of instance.now) valid) }
 {
     match verdict_of(alloc, &entry.schemas, entry.place, instance) {
         Ok(found) => Ok(compared(found, valid)),
-        Err(Fault::TooLarge) => Ok(Status::Skip),
+        Err(Fault::TooLarge) => Ok(TestStatus::Skip),
         Err(_) => Err(Memory),
     }
 }
 
-fn compared(found: bool, valid: bool) -> Status
+fn compared(found: bool, valid: bool) -> TestStatus
     ensures { result ≡ compared found valid }
 {
     if found == valid {
-        Status::Pass
+        TestStatus::Pass
     } else {
-        Status::Fail
+        TestStatus::Fail
     }
 }

@@ -18,7 +18,7 @@ pub struct Counts {
 
 /// The status of a test.
 #[derive(Clone, Copy)]
-pub(crate) enum Status {
+pub(crate) enum TestStatus {
     Pass,
     Fail,
     Skip,
@@ -27,15 +27,19 @@ pub(crate) enum Status {
 /// The line of a test: its status, the number of its group and its own in the group, both counted
 /// from 0, and its description.
 #[derive(Drop)]
-pub(crate) struct Line {
-    pub(crate) status: Status,
+pub(crate) struct TestLine {
+    pub(crate) status: TestStatus,
     pub(crate) group: usize,
     pub(crate) test: usize,
     pub(crate) description: Text,
 }
 
 /// The text of all lines, with the counts at the end.
-pub(crate) fn lines_text(alloc: Global, lines: &[Line], counts: Counts) -> Result<String, Memory>
+pub(crate) fn lines_text(
+    alloc: Global,
+    lines: &[TestLine],
+    counts: Counts,
+) -> Result<String, Memory>
     requires { counts ≡ counts_of lines.now }
     ensures { IfOk result (λ text. string_bytes text ≡ lines_text lines.now) }
 {
@@ -47,7 +51,7 @@ pub(crate) fn lines_text(alloc: Global, lines: &[Line], counts: Counts) -> Resul
     Ok(text)
 }
 
-fn push_line(alloc: Global, text: &mut String, line: &Line) -> Result<(), Memory>
+fn push_line(alloc: Global, text: &mut String, line: &TestLine) -> Result<(), Memory>
     ensures { OnOk result (string_bytes text.new ≡ string_bytes text.old ++ line_text line.now) }
 {
     let line = line_text(alloc, line)?;
@@ -55,10 +59,10 @@ fn push_line(alloc: Global, text: &mut String, line: &Line) -> Result<(), Memory
     Ok(())
 }
 
-fn line_text(alloc: Global, line: &Line) -> Result<String, Memory>
+fn line_text(alloc: Global, line: &TestLine) -> Result<String, Memory>
     ensures { IfOk result (λ text. string_bytes text ≡ line_text line.now) }
 {
-    let Line {
+    let TestLine {
         status,
         group,
         test,
@@ -71,13 +75,13 @@ fn line_text(alloc: Global, line: &Line) -> Result<String, Memory>
     Ok(text)
 }
 
-fn status_word(status: Status) -> &'static str
+fn status_word(status: TestStatus) -> &'static str
     ensures { result.now ≡ status_word status }
 {
     match status {
-        Status::Pass => "pass",
-        Status::Fail => "fail",
-        Status::Skip => "skip",
+        TestStatus::Pass => "pass",
+        TestStatus::Fail => "fail",
+        TestStatus::Skip => "skip",
     }
 }
 
@@ -101,7 +105,7 @@ fn counts_text(alloc: Global, counts: Counts) -> Result<String, Memory>
 }
 
 /// How many lines have each status.
-pub(crate) fn counts_of(lines: &[Line]) -> Counts
+pub(crate) fn counts_of(lines: &[TestLine]) -> Counts
     ensures { result ≡ counts_of lines.now }
 {
     let mut passed = 0;
@@ -109,9 +113,9 @@ pub(crate) fn counts_of(lines: &[Line]) -> Counts
     let mut skipped = 0;
     for line in lines {
         match line.status {
-            Status::Pass => passed += 1,
-            Status::Fail => failed += 1,
-            Status::Skip => skipped += 1,
+            TestStatus::Pass => passed += 1,
+            TestStatus::Fail => failed += 1,
+            TestStatus::Skip => skipped += 1,
         }
     }
     Counts {

@@ -4,7 +4,7 @@ ghost use Rattle.js_doc.specs.Seen.{value_of};
 ghost use Rattle.js_tree.specs.declared.forms.Format.TheVariants.{Detailed, Flag, Merged};
 ghost use Rattle.js_bundle.specs.Schemas.{is_place, place_at};
 ghost use Rattle.js_output.specs.Device.{Unflushed};
-ghost use Rattle.js_output.specs.Outcome.{ValueOutcome, TextOutcome, telling_output, IsLateOrMemory, IsJudged, IsOfRows, IsWalkFault};
+ghost use Rattle.js_output.specs.Outcome.{ValueOutcome, TextOutcome, telling_output, IsLateOrMemory, IsVerdictOf, IsOfRows, IsWalkFault};
 ghost use Rattle.js_output.specs.Telling.{Tells};
 
 use crate::fault::Fault;
@@ -180,7 +180,7 @@ pub(crate) fn verdict_of(
     instance: &Doc,
 ) -> Result<bool, Fault>
     requires { is_place schemas.now place ≡ true }
-    ensures judged { IfOk result (IsJudged schemas.now
+    ensures judged { IfOk result (IsVerdictOf schemas.now
         (place_at schemas.now place) (value_of instance.now)) }
     ensures fault { IfErr result (IsWalkFault schemas.now
         (place_at schemas.now place) (value_of instance.now)) }

@@ -86,12 +86,12 @@ fn answer(
     words: &[&str],
 ) -> Result<String, Fail> {
     match words {
-        ["value", words @ ..] => values::answer(rt, words),
-        ["place", words @ ..] => places::answer(rt, schemas, words),
-        ["result", words @ ..] => results::answer(rt, schemas, words),
-        ["hand-made", words @ ..] => hand_made::answer(rt, words),
-        ["devices", words @ ..] => devices::answer(rt, documents, words),
-        ["command", words @ ..] => commands::answer(rt, words),
+        ["value", words @ ..] => values::answer_on_value(rt, words),
+        ["place", words @ ..] => places::answer_at_place(rt, schemas, words),
+        ["result", words @ ..] => results::answer_on_result(rt, schemas, words),
+        ["hand-made", words @ ..] => hand_made::answer_on_hand_made(rt, words),
+        ["devices", words @ ..] => devices::answer_over_devices(rt, documents, words),
+        ["command", words @ ..] => commands::answer_of_command(rt, words),
         _ => Err(Fail::from("it is no question")),
     }
 }

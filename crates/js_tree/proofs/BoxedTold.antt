@@ -7,7 +7,7 @@ use Rattle.js_tree.specs.Forest.{Forest, empty, tree, forest_of, ◌⊹◌}
 use Rattle.js_tree.specs.Note.{Note}
 use Rattle.js_tree.specs.OutputUnit.{OutputUnit}
 use Rattle.js_tree.specs.Result.{ResultTree}
-use Rattle.js_tree.specs.declared.boxed.OpenNode.{OpenNode}
+use Rattle.js_tree.specs.declared.boxed.OpenTree.{OpenTree}
 use Rattle.js_tree.specs.declared.boxed.Boxed.{Boxed}
 use Rattle.js_tree.proofs.Forests.{append-empty, append-append, forest_of-append}
 use Rattle.js_tree.proofs.Telling.{passes-after_all, after_all-append}
@@ -45,7 +45,7 @@ boxed_closes_all t c d h p = ap (λ s. s.frames) (passes-after_all boxed_state b
 
 -- ---- the code's list of open nodes
 
-frames_of-append : (os : List OpenNode) (o : OpenNode) (frames : List Frame) → frames_of (os ++ o ∷ []) frames ≡ frame_of o ∷ frames_of os frames
+frames_of-append : (os : List OpenTree) (o : OpenTree) (frames : List Frame) → frames_of (os ++ o ∷ []) frames ≡ frame_of o ∷ frames_of os frames
 frames_of-append [] o frames = refl
 frames_of-append (x ∷ os) o frames = frames_of-append os o (frame_of x ∷ frames)
 
@@ -53,17 +53,17 @@ abbrev holding : Option ResultTree → List Frame → BoxedState
 holding found frames = record { frames = frames; found = found }
 
 -- one more node is open
-pub opens : (found : Option ResultTree) (old new : List OpenNode) (o : OpenNode) → is_some found ≡ false → new ≡ old ++ o ∷ [] → forest_of o.children.items ≡ empty
+pub opens : (found : Option ResultTree) (old new : List OpenTree) (o : OpenTree) → is_some found ≡ false → new ≡ old ++ o ∷ [] → forest_of o.children.items ≡ empty
     → holding found (frames_of new []) ≡ boxed_opened found (frames_of old []) o.head.keyword o.head.absolute o.head.instance
 opens None old new o h e f =
     ap (holding None) (ap (λ xs. frames_of xs []) e ∙ (frames_of-append old o [] ∙ ap (λ b. record { keyword = o.head.keyword; absolute = o.head.absolute; instance = o.head.instance; below = b } ∷ frames_of old []) f))
 opens (Some t) old new o h e f = cc
 
-abbrev tree_of : OpenNode → Bool → Note → ResultTree
+abbrev tree_of : OpenTree → Bool → Note → ResultTree
 tree_of o valid note = record { root = unit_of (frame_of o) valid note; below = (frame_of o).below }
 
 -- the innermost node closes below p, which is then q
-pub closes : (found : Option ResultTree) (old rest : List OpenNode) (o p q : OpenNode) (valid : Bool) (note : Note) (t : ResultTree) → old ≡ (rest ++ p ∷ []) ++ o ∷ [] → t ≡ tree_of o valid note
+pub closes : (found : Option ResultTree) (old rest : List OpenTree) (o p q : OpenTree) (valid : Bool) (note : Note) (t : ResultTree) → old ≡ (rest ++ p ∷ []) ++ o ∷ [] → t ≡ tree_of o valid note
     → q.head ≡ p.head → q.children.items ≡ p.children.items ++ t ∷ []
     → holding found (frames_of (rest ++ q ∷ []) []) ≡ boxed_closed found (frames_of old []) valid note
 closes found old rest o p q valid note t e f g h =
@@ -76,10 +76,10 @@ closes found old rest o p q valid note t e f g h =
     ap (holding found) (frames_of-append rest q [] ∙ ap (λ w. w ∷ frames_of rest []) b) ∙ ap (λ frames. boxed_closed found frames valid note) (sym a)
 
 -- both are put back
-pub put_back : (found : Option ResultTree) (old rest : List OpenNode) (o p q : OpenNode) → old ≡ (rest ++ p ∷ []) ++ o ∷ [] → q.head ≡ p.head → q.children.items ≡ p.children.items
+pub put_back : (found : Option ResultTree) (old rest : List OpenTree) (o p q : OpenTree) → old ≡ (rest ++ p ∷ []) ++ o ∷ [] → q.head ≡ p.head → q.children.items ≡ p.children.items
     → holding found (frames_of ((rest ++ q ∷ []) ++ o ∷ []) []) ≡ holding found (frames_of old [])
 put_back found old rest o p q e f g =
-    let a : (r : OpenNode) → frames_of ((rest ++ r ∷ []) ++ o ∷ []) [] ≡ frame_of o ∷ frame_of r ∷ frames_of rest [] =
+    let a : (r : OpenTree) → frames_of ((rest ++ r ∷ []) ++ o ∷ []) [] ≡ frame_of o ∷ frame_of r ∷ frames_of rest [] =
     λ r. frames_of-append (rest ++ r ∷ []) o [] ∙ ap (λ frames. frame_of o ∷ frames) (frames_of-append rest r []) in
     let b : frame_of q ≡ frame_of p =
     ap (λ w. record { keyword = w.keyword; absolute = w.absolute; instance = w.instance; below = forest_of q.children.items }) f
@@ -87,6 +87,6 @@ put_back found old rest o p q e f g =
     ap (holding found) (a q ∙ (ap (λ w. frame_of o ∷ w ∷ frames_of rest []) b ∙ (sym (a p) ∙ ap (λ xs. frames_of xs []) (sym e))))
 
 -- a node is open
-pub one_open : (os rest : List OpenNode) (o : OpenNode) → os ≡ rest ++ o ∷ [] → frames_of os [] ≡ [] → ⊥
+pub one_open : (os rest : List OpenTree) (o : OpenTree) → os ≡ rest ++ o ∷ [] → frames_of os [] ≡ [] → ⊥
 one_open os rest o e f =
     let k : frame_of o ∷ frames_of rest [] ≡ [] = sym (ap (λ xs. frames_of xs []) e ∙ frames_of-append rest o []) ∙ f in cc

@@ -6,8 +6,8 @@ use Rattle.std.proofs.lemmas.List.{take-set, take-set-le, drop-set-lt, length-se
 use Rattle.std.proofs.lemmas.List.Edits.{swap_is}
 use Rattle.std.specs.List.{swap}
 use Rattle.js_tree.specs.Forest.{Forest, empty, tree, Rose, forest_of, ◌⊹◌, tree_count}
-use Rattle.js_tree.specs.Step.{at_least_two, stands}
-use Rattle.js_tree.specs.Kept.{is_kept, kept_below}
+use Rattle.js_tree.specs.Step.{at_least_two, node_stands}
+use Rattle.js_tree.specs.Kept.{is_kept_node, kept_below}
 use Rattle.js_tree.specs.Pruned.{pruned_below}
 use Rattle.js_tree.proofs.Forests.{append-empty, append-append, forest_of-append, tree_count-forest_of}
 use Rattle.js_tree.proofs.Steps.{or_right}
@@ -74,18 +74,18 @@ module _ {A : Type 0} (noted : A → Bool) where
   pub kept_below-append : (f g : Forest A) → kept_below noted (f ⊹ g) ≡ (kept_below noted f ⊹ kept_below noted g)
   kept_below-append empty g = refl
   kept_below-append (tree a below after) g =
-      rw (kept_below-append after g) (kept_before (is_kept noted a below) a (kept_below noted below) (kept_below noted after) (kept_below noted g))
+      rw (kept_below-append after g) (kept_before (is_kept_node noted a below) a (kept_below noted below) (kept_below noted after) (kept_below noted g))
 
   -- a node is kept exactly if it stands over what is kept below it
-  kept_stands : (a : A) (f : Forest A) → stands noted a (kept_below noted f) ≡ is_kept noted a f
+  kept_stands : (a : A) (f : Forest A) → node_stands noted a (kept_below noted f) ≡ is_kept_node noted a f
   kept_stands a f = rw (tree_count-kept_below noted f) refl
 
-  pub one_stays : (a : A) (f g : Forest A) → g ≡ kept_below noted f → stands noted a g ≡ true → kept_below noted (tree a f empty) ≡ tree a g empty
-  one_stays a f g e s = let k : is_kept noted a f ≡ true = sym (kept_stands a f) ∙ ap (stands noted a) (sym e) ∙ s in rw (k, ← e) refl
+  pub one_stays : (a : A) (f g : Forest A) → g ≡ kept_below noted f → node_stands noted a g ≡ true → kept_below noted (tree a f empty) ≡ tree a g empty
+  one_stays a f g e s = let k : is_kept_node noted a f ≡ true = sym (kept_stands a f) ∙ ap (node_stands noted a) (sym e) ∙ s in rw (k, ← e) refl
 
-  pub one_goes : (a : A) (f g : Forest A) → g ≡ kept_below noted f → stands noted a g ≡ false → kept_below noted (tree a f empty) ≡ g
+  pub one_goes : (a : A) (f g : Forest A) → g ≡ kept_below noted f → node_stands noted a g ≡ false → kept_below noted (tree a f empty) ≡ g
   one_goes a f g e s =
-      let k : is_kept noted a f ≡ false = sym (kept_stands a f) ∙ ap (stands noted a) (sym e) ∙ s in rw (k, ← e) (append-empty g)
+      let k : is_kept_node noted a f ≡ false = sym (kept_stands a f) ∙ ap (node_stands noted a) (sym e) ∙ s in rw (k, ← e) (append-empty g)
 
   -- a node that doesn't stand has at most one child
   at_most_one : (n : ℕ) → at_least_two n ≡ false → n < 2
@@ -93,7 +93,7 @@ module _ {A : Type 0} (noted : A → Bool) where
   at_most_one (suc zero) e = omega arith
   at_most_one (suc (suc n)) e = cc
 
-  pub few_children : (a : A) (ts : List (Rose A)) → stands noted a (forest_of ts) ≡ false → length ts < 2
+  pub few_children : (a : A) (ts : List (Rose A)) → node_stands noted a (forest_of ts) ≡ false → length ts < 2
   few_children a ts e =
       at_most_one (length ts) (ap at_least_two (sym (tree_count-forest_of ts)) ∙ or_right (noted a) (at_least_two (tree_count (forest_of ts))) e)
 

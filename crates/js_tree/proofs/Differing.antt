@@ -10,13 +10,13 @@ use Rattle.js_tree.specs.Alike.{same_but_keyword}
 use Rattle.js_tree.specs.Forest.{Forest, empty, tree, Rose, forest_of, ◌⊹◌}
 use Rattle.js_tree.specs.Merged.{alike_trees, has_alike, none_alike, unlike, firsts}
 use Rattle.js_tree.specs.Result.{ResultTree}
-use Rattle.js_tree.specs.code.Order.{tree_order, IsBefore}
+use Rattle.js_tree.specs.code.Order.{result_tree_order, IsBefore}
 use Rattle.js_tree.proofs.AlikeUnits.{some_tree}
 use Rattle.js_tree.proofs.Forests.{forest_of-append}
 use Rattle.js_tree.proofs.Giving.{has_alike_unlike, firsts_last, firsts_through, with_last}
 use Rattle.js_tree.proofs.MergedTest.{none_alike_step, not_true}
 use Rattle.js_tree.proofs.MergedTree.{found_alike, found_last, found_past}
-use Rattle.js_tree.proofs.Ordered.{tree_order-total, tree_order-alike}
+use Rattle.js_tree.proofs.Ordered.{result_tree_order-total, result_tree_order-alike}
 use Rattle.js_tree.proofs.Places.{AreFalling, AreBelow, all_apart, one_more}
 use Rattle.js_tree.proofs.Steps.{and_left, and_right}
 
@@ -99,7 +99,7 @@ module _ {A : Type 0} (same : A → A → Bool) where
 -- ---- a list of places in order
 
 abbrev place_order : List ResultTree → ℕ → ℕ → Ordering
-place_order ts = on (λ i. get_or ts i some_tree) tree_order
+place_order ts = on (λ i. get_or ts i some_tree) result_tree_order
 
 -- so many places are gone through, each after the one before it in the order of trees, up to this one
 abbrev pub IsReached : List ResultTree → ℕ → ℕ → Type 0
@@ -111,7 +111,7 @@ reached_first ts place h = ([], ((tt, tt), ((h, tt), refl)))
 pub reached_next : (ts : List ResultTree) (place next seen : ℕ) → next < length ts → IsBefore ts place next → IsReached ts place seen → IsReached ts next (seen + 1)
 reached_next ts place next seen h b r =
     let n : suc (suc (length r.0)) ≡ seen + 1 = omega (arith, r.1.1.1) in
-    (place ∷ r.0, (one_more (place_order ts) (on_total (λ i. get_or ts i some_tree) tree_order-total) place next r.0 (b some_tree) r.1.0, ((h, r.1.1.0), n)))
+    (place ∷ r.0, (one_more (place_order ts) (on_total (λ i. get_or ts i some_tree) result_tree_order-total) place next r.0 (b some_tree) r.1.0, ((h, r.1.1.0), n)))
 
 none_earlier : (ts : List ResultTree) (place : ℕ) → IsReached ts place (length ts) → (i : ℕ) → i < length ts
     → has_alike same_but_keyword (forest_of (take i ts)) (get_or ts i some_tree).root (get_or ts i some_tree).below ≡ false
@@ -121,8 +121,8 @@ none_earlier ts place r i h = at (has_alike same_but_keyword (forest_of (take i 
     at false e = refl
     at true e =
         let found = found-place same_but_keyword i ts some_tree (get_or ts i some_tree) e in
-        let tied = tree_order-alike (get_or ts found.0 some_tree) (get_or ts i some_tree) found.1.1.1 in
-        let one : found.0 ≡ i = all_apart (place_order ts) (on_total (λ i. get_or ts i some_tree) tree_order-total) (length ts) (place ∷ r.0) r.1.0 r.1.1.0 r.1.1.1 found.0 i found.1.1.0 h tied in
+        let tied = result_tree_order-alike (get_or ts found.0 some_tree) (get_or ts i some_tree) found.1.1.1 in
+        let one : found.0 ≡ i = all_apart (place_order ts) (on_total (λ i. get_or ts i some_tree) result_tree_order-total) (length ts) (place ∷ r.0) r.1.0 r.1.1.0 r.1.1.1 found.0 i found.1.1.0 h tied in
         absurd (omega (arith, one, found.1.0))
 
 -- where all are gone through, none are alike
@@ -204,6 +204,6 @@ alike_again ts p q x y b h l e f a t =
     let k : p < length ts = omega (arith, h, l) in two_alike same_but_keyword ts some_tree p q h l (alike_read ts p q x y some_tree k l e f (sym a ∙ t))
 
 pub before_read : (ts : List ResultTree) (p q : ℕ) (x y : ResultTree) → p < length ts → q < length ts → x ≡ get_or ts p x → y ≡ get_or ts q y
-    → tree_order x y ≡ Less → IsBefore ts p q
+    → result_tree_order x y ≡ Less → IsBefore ts p q
 before_read ts p q x y h l e f a d =
-    let both = read_as ts p q x y d h l e f in ap (λ t. tree_order t (get_or ts q d)) (sym both.0) ∙ ap (tree_order x) (sym both.1) ∙ a
+    let both = read_as ts p q x y d h l e f in ap (λ t. result_tree_order t (get_or ts q d)) (sym both.0) ∙ ap (result_tree_order x) (sym both.1) ∙ a

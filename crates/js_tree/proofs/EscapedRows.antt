@@ -15,7 +15,7 @@ use Rattle.js_tree.specs.declared.locations.Locations.{Locations}
 use Rattle.js_tree.specs.declared.relative.RelativeRow.{RelativeRow}
 use Rattle.js_tree.specs.declared.relative.RelativeRows.{RelativeRows}
 use Rattle.js_tree.proofs.FlatRows.{SomeTree, all_gone, first_tree, some_tree}
-use Rattle.js_tree.proofs.Marks.{flat-flat_of}
+use Rattle.js_tree.proofs.Marks.{flat_form-flat_of}
 
 -- ---- the trees of rows
 
@@ -67,7 +67,7 @@ next_tree rows n (tree u below after) x e h is =
       unit_is = t.unit_is ∙ unit;
       size = t.size ∙ ap (λ f. suc (node_count f)) forest;
       fits = t.fits;
-      all = t.all ∙ (ap (λ v. flat_of (tree v t.below empty)) unit ∙ (ap (λ f. flat_of (tree (escaped_unit u) f empty)) forest ∙ sym (flat-flat_of (escaped_tree one))));
+      all = t.all ∙ (ap (λ v. flat_of (tree v t.below empty)) unit ∙ (ap (λ f. flat_of (tree (escaped_unit u) f empty)) forest ∙ sym (flat_form-flat_of (escaped_tree one))));
       more = t.more ∙ ap flat_of rest;
     }
 

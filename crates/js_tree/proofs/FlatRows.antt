@@ -1,7 +1,7 @@
 -- Rows of trees side by side, gone through tree by tree.
 use Rattle.std.proofs.Common.{◌≡◌, ℕ, zero, suc, ◌+◌, ◌-◌, ◌≤◌, ◌<◌, List, [], ◌∷◌, ◌++◌, length, take, drop, map, get_or, refl, ap, sym, subst, ◌∙◌, arith}
 use Rattle.std.proofs.lemmas.List.{append_assoc, append-nil, length-append, length-map, length-drop, length-take, drop_more}
-use Rattle.js_tree.specs.Flat.{flat, flat_of}
+use Rattle.js_tree.specs.Flat.{flat_form, flat_of}
 use Rattle.js_tree.specs.FlatState.{FlatRow}
 use Rattle.js_tree.specs.Forest.{Forest, empty, tree, ◌⊹◌, node_count}
 use Rattle.js_tree.specs.OutputUnit.{OutputUnit}
@@ -132,11 +132,11 @@ all_gone row_of rows n (tree u below after) e h =
 
 -- ---- the rows of one tree
 
-pub root_row : {R : Type 0} (row_of : R → FlatRow) (rows : List R) (t : ResultTree) (x : R) → map row_of rows ≡ flat t → x ≡ get_or rows 0 x → (row_of x).0 ≡ t.root
+pub root_row : {R : Type 0} (row_of : R → FlatRow) (rows : List R) (t : ResultTree) (x : R) → map row_of rows ≡ flat_form t → x ≡ get_or rows 0 x → (row_of x).0 ≡ t.root
 root_row row_of [] t x e is = absurd cc
 root_row row_of (r ∷ rows) t x e is = let k : row_of r ≡ (t.root, suc (node_count t.below)) = cc in ap (λ y. (row_of y).0) is ∙ ap (λ y. y.0) k
 
-pub rows_below : {R : Type 0} (row_of : R → FlatRow) (rows : List R) (t : ResultTree) → map row_of rows ≡ flat t → map row_of (drop 1 rows) ≡ flat_of t.below
+pub rows_below : {R : Type 0} (row_of : R → FlatRow) (rows : List R) (t : ResultTree) → map row_of rows ≡ flat_form t → map row_of (drop 1 rows) ≡ flat_of t.below
 rows_below row_of [] t e = absurd cc
 rows_below row_of (r ∷ rows) t e = let k : map row_of rows ≡ flat_of t.below = cc in k
 

@@ -3,7 +3,7 @@ use Rattle.std.specs.Prelude.{◌≡◌, ◌≢◌, ℕ, zero, suc, ◌-◌, ◌
 use Rattle.std.proofs.Common.{arith, ap, sym, ◌∙◌, append-nil}
 use Rattle.std.proofs.lemmas.List.{append_assoc, length-append, length-map, map-append}
 use Rattle.js_tree.specs.Events.{closing, events, events_of, Passes, after_all}
-use Rattle.js_tree.specs.Flat.{flat, flat_of}
+use Rattle.js_tree.specs.Flat.{flat_form, flat_of}
 use Rattle.js_tree.specs.FlatState.{FlatRow, FlatState, flat_start, opening_row, flat_opened, closed_row, with_closed, flat_closed, flat_after, open_numbers, flat_state}
 use Rattle.js_tree.specs.Forest.{Forest, empty, tree, node_count}
 use Rattle.js_tree.specs.Note.{Note}
@@ -50,13 +50,13 @@ told_below (tree u below rest) rows n numbers =
     ∙ (told_below rest (rows ++ (u, suc (node_count below)) ∷ flat_of below) n numbers
     ∙ ap (λ zs. at zs (n ∷ numbers)) (append_assoc rows ((u, suc (node_count below)) ∷ flat_of below) (flat_of rest))))))
 
-told : (t : ResultTree) → after_all flat_after flat_start (events t) ≡ at (flat t) []
+told : (t : ResultTree) → after_all flat_after flat_start (events t) ≡ at (flat_form t) []
 told t =
     after_all-append flat_after (at (unknown t.root ∷ []) (0 ∷ [])) (events_of t.below) (closing t.root.valid t.root.note ∷ [])
     ∙ (ap (λ s. flat_after s (closing t.root.valid t.root.note)) (told_below t.below (unknown t.root ∷ []) 0 [])
     ∙ closed_at [] t.root t.below [])
 
-pub flat_held : (t : ResultTree) (c d : Flat) → flat_state c ≡ flat_start → Passes (λ a e b. flat_state b ≡ flat_after (flat_state a) e) (events t) c d → flat_state d ≡ at (flat t) []
+pub flat_held : (t : ResultTree) (c d : Flat) → flat_state c ≡ flat_start → Passes (λ a e b. flat_state b ≡ flat_after (flat_state a) e) (events t) c d → flat_state d ≡ at (flat_form t) []
 flat_held t c d h p = passes-after_all flat_state flat_after (events t) c d p ∙ (ap (λ s. after_all flat_after s (events t)) h ∙ told t)
 
 -- ---- the code's rows and numbers

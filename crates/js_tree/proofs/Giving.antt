@@ -3,7 +3,7 @@ use Rattle.std.proofs.Common.{◌≡◌, ℕ, ◌+◌, ◌<◌, Bool, true, fals
 use Rattle.std.proofs.Math.Seq.{take-suc}
 use Rattle.std.specs.Cmp.{IsEquivalence}
 use Rattle.js_tree.specs.Forest.{Forest, empty, tree, Rose, forest_of, ◌⊹◌}
-use Rattle.js_tree.specs.Step.{stands}
+use Rattle.js_tree.specs.Step.{node_stands}
 use Rattle.js_tree.specs.Merged.{alike_trees, has_alike, unlike, firsts, over, given_trees, merged_below}
 use Rattle.js_tree.proofs.Forests.{append-empty, append-append, forest_of-append}
 use Rattle.js_tree.proofs.AlikeTrees.{alike_trees-congr}
@@ -91,8 +91,8 @@ module _ {A : Type 0} (noted : A → Bool) (same : A → A → Bool) where
       rw (given_trees-append after g) (sym (append-append (over noted same a (merged_below noted same below)) (given_trees noted same after) (given_trees noted same g)))
 
   -- a node that stands over what is merged below it is given, else what is merged below it
-  pub one_given : (a : A) (f g : Forest A) → g ≡ merged_below noted same f → stands noted a g ≡ true → given_trees noted same (tree a f empty) ≡ tree a g empty
+  pub one_given : (a : A) (f g : Forest A) → g ≡ merged_below noted same f → node_stands noted a g ≡ true → given_trees noted same (tree a f empty) ≡ tree a g empty
   one_given a f g e s = rw (← e, s) refl
 
-  pub one_passed : (a : A) (f g : Forest A) → g ≡ merged_below noted same f → stands noted a g ≡ false → given_trees noted same (tree a f empty) ≡ g
+  pub one_passed : (a : A) (f g : Forest A) → g ≡ merged_below noted same f → node_stands noted a g ≡ false → given_trees noted same (tree a f empty) ≡ g
   one_passed a f g e s = rw (← e, s) (append-empty g)

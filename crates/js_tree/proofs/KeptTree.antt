@@ -1,8 +1,8 @@
 -- The kept tree: a step leaves it as it was, a normal tree is its own, each tree is led to it, and it has the same units.
 use Rattle.std.proofs.Common.{◌≡◌, ℕ, zero, suc, ◌+◌, Bool, true, false, ◌||◌, if◌then◌else◌, ◌∷◌, ◌++◌, refl, ap, sym, ◌∙◌, arith, append_assoc}
 use Rattle.js_tree.specs.Forest.{Forest, empty, tree, Rose, ◌⊹◌, tree_count}
-use Rattle.js_tree.specs.Step.{at_least_one, at_least_two, ForestStep, dropped, lifted, inside, beside, ForestRun, done, next, NormalForest, StepBelow, RunBelow, stands, all_stand}
-use Rattle.js_tree.specs.Kept.{noted_trees, is_kept, kept_below, kept_by}
+use Rattle.js_tree.specs.Step.{at_least_one, at_least_two, ForestStep, dropped, lifted, inside, beside, ForestRun, done, next, NormalForest, StepBelow, RunBelow, node_stands, all_stand}
+use Rattle.js_tree.specs.Kept.{noted_trees, is_kept_node, kept_below, kept_by}
 use Rattle.js_tree.specs.Units.{units_below, units_by}
 use Rattle.js_tree.proofs.Forests.{append-empty, tree_count-append, same_tree}
 use Rattle.js_tree.proofs.Steps.{and_left, and_right, or_left, or_right, normal-all_stand, all_stand-normal, run_append, run_inside, run_beside}
@@ -47,7 +47,7 @@ module _ {A : Type 0} (noted : A → Bool) where
   step-kept_below (dropped n) = rw n refl
   step-kept_below (lifted {b = b} {below = below} {after = after} n) =
       rw (n, one_not_two (noted b || at_least_one (noted_trees noted below)))
-      (kept_alone (is_kept noted b below) b (kept_below noted below) (kept_below noted after))
+      (kept_alone (is_kept_node noted b below) b (kept_below noted below) (kept_below noted after))
   step-kept_below (inside s) = rw (step-noted_trees s, step-kept_below s) refl
   step-kept_below (beside s) = rw (step-kept_below s) refl
 
@@ -60,15 +60,15 @@ module _ {A : Type 0} (noted : A → Bool) where
   normal-noted_trees : (f : Forest A) → all_stand noted f ≡ true → noted_trees noted f ≡ tree_count f
   normal-noted_trees empty n = refl
   normal-noted_trees (tree a below after) n =
-      let here = and_left (stands noted a below) _ n in
-      let rest = and_right (stands noted a below) _ n in
+      let here = and_left (node_stands noted a below) _ n in
+      let rest = and_right (node_stands noted a below) _ n in
       rw (normal-noted_trees below (and_left (all_stand noted below) _ rest), normal-noted_trees after (and_right (all_stand noted below) _ rest), two_are_one (noted a) (tree_count below) here) refl
 
   all_stand-kept_below : (f : Forest A) → all_stand noted f ≡ true → kept_below noted f ≡ f
   all_stand-kept_below empty n = refl
   all_stand-kept_below (tree a below after) n =
-      let here = and_left (stands noted a below) _ n in
-      let rest = and_right (stands noted a below) _ n in
+      let here = and_left (node_stands noted a below) _ n in
+      let rest = and_right (node_stands noted a below) _ n in
       let under = and_left (all_stand noted below) _ rest in
       rw (normal-noted_trees below under, here, all_stand-kept_below below under, all_stand-kept_below after (and_right (all_stand noted below) _ rest)) refl
 
@@ -77,7 +77,7 @@ module _ {A : Type 0} (noted : A → Bool) where
 
   -- ---- the kept tree is normal
 
-  kept_trees_at : (v : Bool) (a : A) (below after : Forest A) → is_kept noted a below ≡ v → tree_count (kept_below noted below) ≡ noted_trees noted below → tree_count (kept_below noted after) ≡ noted_trees noted after
+  kept_trees_at : (v : Bool) (a : A) (below after : Forest A) → is_kept_node noted a below ≡ v → tree_count (kept_below noted below) ≡ noted_trees noted below → tree_count (kept_below noted after) ≡ noted_trees noted after
       → tree_count (if v then tree a (kept_below noted below) (kept_below noted after) else (kept_below noted below ⊹ kept_below noted after)) ≡ noted_trees noted (tree a below after)
   kept_trees_at true a below after e i j = rw (two_are_one (noted a) (noted_trees noted below) e) (ap suc j)
   kept_trees_at false a below after e i j =
@@ -88,23 +88,23 @@ module _ {A : Type 0} (noted : A → Bool) where
   pub tree_count-kept_below : (f : Forest A) → tree_count (kept_below noted f) ≡ noted_trees noted f
   tree_count-kept_below empty = refl
   tree_count-kept_below (tree a below after) =
-      kept_trees_at (is_kept noted a below) a below after refl (tree_count-kept_below below) (tree_count-kept_below after)
+      kept_trees_at (is_kept_node noted a below) a below after refl (tree_count-kept_below below) (tree_count-kept_below after)
 
   all_stand-append : (f g : Forest A) → all_stand noted f ≡ true → all_stand noted g ≡ true → all_stand noted (f ⊹ g) ≡ true
   all_stand-append empty g n m = m
   all_stand-append (tree a below after) g n m =
-      let here = and_left (stands noted a below) _ n in
-      let rest = and_right (stands noted a below) _ n in
+      let here = and_left (node_stands noted a below) _ n in
+      let rest = and_right (node_stands noted a below) _ n in
       rw (here, and_left (all_stand noted below) _ rest, all_stand-append after g (and_right (all_stand noted below) _ rest) m) refl
 
-  kept_stands_at : (v : Bool) (a : A) (below after : Forest A) → is_kept noted a below ≡ v → all_stand noted (kept_below noted below) ≡ true → all_stand noted (kept_below noted after) ≡ true
+  kept_stands_at : (v : Bool) (a : A) (below after : Forest A) → is_kept_node noted a below ≡ v → all_stand noted (kept_below noted below) ≡ true → all_stand noted (kept_below noted after) ≡ true
       → all_stand noted (if v then tree a (kept_below noted below) (kept_below noted after) else (kept_below noted below ⊹ kept_below noted after)) ≡ true
   kept_stands_at true a below after e i j = rw (tree_count-kept_below below, e, i, j) refl
   kept_stands_at false a below after e i j = all_stand-append (kept_below noted below) (kept_below noted after) i j
 
   kept_stands : (f : Forest A) → all_stand noted (kept_below noted f) ≡ true
   kept_stands empty = refl
-  kept_stands (tree a below after) = kept_stands_at (is_kept noted a below) a below after refl (kept_stands below) (kept_stands after)
+  kept_stands (tree a below after) = kept_stands_at (is_kept_node noted a below) a below after refl (kept_stands below) (kept_stands after)
 
   pub kept_is_normal : (f : Forest A) → NormalForest noted (kept_below noted f)
   kept_is_normal f = all_stand-normal noted (kept_below noted f) (kept_stands f)
@@ -116,7 +116,7 @@ module _ {A : Type 0} (noted : A → Bool) where
   goes a (tree b below empty) after e t = next (lifted e) done
   goes a (tree b below (tree c under others)) after e t = cc
 
-  reached_at : (v : Bool) (a : A) (below after : Forest A) → is_kept noted a below ≡ v → ForestRun noted below (kept_below noted below) → ForestRun noted after (kept_below noted after)
+  reached_at : (v : Bool) (a : A) (below after : Forest A) → is_kept_node noted a below ≡ v → ForestRun noted below (kept_below noted below) → ForestRun noted after (kept_below noted after)
       → ForestRun noted (tree a below after) (if v then tree a (kept_below noted below) (kept_below noted after) else (kept_below noted below ⊹ kept_below noted after))
   reached_at true a below after e p q = run_append noted (run_inside noted p) (run_beside noted q)
   reached_at false a below after e p q =
@@ -125,7 +125,7 @@ module _ {A : Type 0} (noted : A → Bool) where
 
   pub kept_is_reached : (f : Forest A) → ForestRun noted f (kept_below noted f)
   kept_is_reached empty = done
-  kept_is_reached (tree a below after) = reached_at (is_kept noted a below) a below after refl (kept_is_reached below) (kept_is_reached after)
+  kept_is_reached (tree a below after) = reached_at (is_kept_node noted a below) a below after refl (kept_is_reached below) (kept_is_reached after)
 
   -- ---- the units stay, one by one and in their order
 
@@ -134,7 +134,7 @@ module _ {A : Type 0} (noted : A → Bool) where
   units_below-append (tree a below after) g =
       rw (units_below-append after g) (sym (append_assoc (if noted a then a ∷ units_below noted below else units_below noted below) (units_below noted after) (units_below noted g)))
 
-  kept_units_at : (v : Bool) (a : A) (below after : Forest A) → is_kept noted a below ≡ v → units_below noted (kept_below noted below) ≡ units_below noted below → units_below noted (kept_below noted after) ≡ units_below noted after
+  kept_units_at : (v : Bool) (a : A) (below after : Forest A) → is_kept_node noted a below ≡ v → units_below noted (kept_below noted below) ≡ units_below noted below → units_below noted (kept_below noted after) ≡ units_below noted after
       → units_below noted (if v then tree a (kept_below noted below) (kept_below noted after) else (kept_below noted below ⊹ kept_below noted after)) ≡ units_below noted (tree a below after)
   kept_units_at true a below after e i j = rw (i, j) refl
   kept_units_at false a below after e i j =
@@ -143,7 +143,7 @@ module _ {A : Type 0} (noted : A → Bool) where
   units_below-kept_below : (f : Forest A) → units_below noted (kept_below noted f) ≡ units_below noted f
   units_below-kept_below empty = refl
   units_below-kept_below (tree a below after) =
-      kept_units_at (is_kept noted a below) a below after refl (units_below-kept_below below) (units_below-kept_below after)
+      kept_units_at (is_kept_node noted a below) a below after refl (units_below-kept_below below) (units_below-kept_below after)
 
   -- ---- the same of trees
 

@@ -21,7 +21,7 @@ use Rattle.js_tree.specs.declared.relative.RelativeRow.{RelativeRow}
 use Rattle.js_tree.specs.declared.relative.RelativeRows.{RelativeRows}
 use Rattle.js_tree.proofs.EscapedRows.{NextTree, no_trees}
 use Rattle.js_tree.proofs.ListedUnits.{array_text, gone_through, later_after-append, listed_all, passed_over, values_text-append}
-use Rattle.js_tree.proofs.Marks.{flat-flat_of}
+use Rattle.js_tree.proofs.Marks.{flat_form-flat_of}
 use Rattle.js_tree.proofs.NodeTexts.{leaf_text_is, list_text_is}
 use Rattle.js_tree.proofs.Pieces.{nothing_goes}
 use Rattle.js_tree.proofs.Placing.{placed_tree_again}
@@ -184,7 +184,7 @@ pub whole_rows : (rows : RelativeRows) (t : ResultTree) (found : List RelativeRo
 whole_rows rows t found e h = ap (map relative_row) e ∙ ap (λ s. s.rows) h.rows_are
 
 pub whole_rows_of : (rows : RelativeRows) (t : ResultTree) (found : List RelativeRow) → found ≡ rows.rows.items → AreRowsOf rows t → AreRowsOfTrees found (whole_of t)
-whole_rows_of rows t found e h = whole_rows rows t found e h ∙ flat-flat_of (escaped_tree (relative_tree t))
+whole_rows_of rows t found e h = whole_rows rows t found e h ∙ flat_form-flat_of (escaped_tree (relative_tree t))
 
 list_in_parts : (valid : Bool) (vs : List Value) → (list_start valid ++ codes "[") ++ (values_text false vs ++ (codes "]" ++ valid_text valid)) ≡ list_start valid ++ (compact (list (items vs)) ++ valid_text valid)
 list_in_parts valid vs =

@@ -15,7 +15,7 @@ use Rattle.js_tree.proofs.DetailedTrees.{first_left}
 use Rattle.js_tree.proofs.ChildTexts.{rest_of}
 use Rattle.js_tree.proofs.EscapedRows.{NextTree, count-escaped}
 use Rattle.js_tree.proofs.FlatRows.{FirstTree, all_gone, drop-append, drop-drop, rows_below}
-use Rattle.js_tree.proofs.Marks.{flat-flat_of}
+use Rattle.js_tree.proofs.Marks.{flat_form-flat_of}
 use Rattle.js_tree.proofs.FlatTold.{length-flat_of}
 
 pub length-marked : (v : Bool) (f : Forest OutputUnit) → length (marked v f) ≡ node_count f
@@ -125,7 +125,7 @@ pub root_mark : (rows : List RelativeRow) (marks : List Mark) (v : Bool) (u : Ou
 root_mark rows marks v u below h = ap first_mark h.marks_are
 
 pub flat_rows : (rows : List RelativeRow) (marks : List Mark) (v : Bool) (u : OutputUnit) (below : Forest OutputUnit) → AreMarkedRows rows marks v (tree u below empty) → AreRowsOfTree rows (record { root = u; below = below })
-flat_rows rows marks v u below h = h.rows_are ∙ sym (flat-flat_of (escaped_tree (record { root = u; below = below })))
+flat_rows rows marks v u below h = h.rows_are ∙ sym (flat_form-flat_of (escaped_tree (record { root = u; below = below })))
 
 pub marked_below : (rows : List RelativeRow) (marks : List Mark) (v : Bool) (u : OutputUnit) (below : Forest OutputUnit) → AreMarkedRows rows marks v (tree u below empty)
     → AreMarkedRows (take (length rows - 1) (drop 1 rows)) (take (length marks - 1) (drop 1 marks)) v below
@@ -144,6 +144,6 @@ pub marked_next : (v : Bool) (marks : List Mark) (rows : List RelativeRow) (next
 marked_next v marks rows next f x t e =
     let size : next + x.size - next ≡ x.size = omega arith in
     record {
-      rows_are = ap (λ n. map relative_row (take n (drop next rows))) size ∙ (t.all ∙ flat-flat_of (escaped_tree (record { root = t.unit; below = t.below })));
+      rows_are = ap (λ n. map relative_row (take n (drop next rows))) size ∙ (t.all ∙ flat_form-flat_of (escaped_tree (record { root = t.unit; below = t.below })));
       marks_are = ap (λ n. take n (drop next marks)) size ∙ (next_marks v marks rows next f x t e).these;
     }

@@ -3,11 +3,11 @@ use Rattle.std.proofs.Common.{◌≡◌, ℕ, zero, suc, ◌+◌, ◌-◌, ◌�
 use Rattle.std.proofs.lemmas.List.{append_assoc, append-nil, length-append, length-map, map-append, map-set, set-get_or, drop_all, drop_more, drop-set, take-set-le, drop-set-lt, length-set, get_or-set_same}
 use Rattle.std.proofs.Math.Seq.{drop-length}
 use Rattle.std.specs.List.{swap}
-use Rattle.js_tree.specs.code.Compacting.{left, left_of, left_trees, stays, room, marked, gone_with, gathered, IsRemaining, AreMarkedTrees}
-use Rattle.js_tree.specs.Flat.{flat, flat_of}
+use Rattle.js_tree.specs.code.Compacting.{left, left_of, left_tree_count, stays, room, marked_rows, gone_with, gathered, IsRemaining, AreMarkedTrees}
+use Rattle.js_tree.specs.Flat.{flat_form, flat_of}
 use Rattle.js_tree.specs.FlatState.{FlatRow, row_of}
 use Rattle.js_tree.specs.Forest.{Forest, empty, tree, ◌⊹◌, node_count, tree_count}
-use Rattle.js_tree.specs.Kept.{is_kept, kept_below, noted_trees}
+use Rattle.js_tree.specs.Kept.{is_kept_node, kept_below, noted_trees}
 use Rattle.js_tree.specs.OutputUnit.{OutputUnit, noted}
 use Rattle.js_tree.specs.Pruned.{pruned_below}
 use Rattle.js_tree.specs.Result.{ResultTree, has_verdict}
@@ -27,15 +27,15 @@ left-append : (k : Keep) (f g : Forest OutputUnit) → left k (f ⊹ g) ≡ (lef
 left-append (Verdict v) f g = pruned_below-append (has_verdict v) f g
 left-append Noted f g = kept_below-append noted f g
 
-marked-append : (k : Keep) (f g : Forest OutputUnit) → marked k (f ⊹ g) ≡ marked k f ++ marked k g
-marked-append k empty g = refl
-marked-append k (tree u below after) g =
-    let r : Row = record { unit = u; size = suc (node_count below); room = node_count (left k (tree u below empty)); stays = stays k u (left_trees k below) } in
-    ap (λ xs. r ∷ (marked k below ++ xs)) (marked-append k after g) ∙ ap (λ xs. r ∷ xs) (sym (append_assoc (marked k below) (marked k after) (marked k g)))
+marked_rows-append : (k : Keep) (f g : Forest OutputUnit) → marked_rows k (f ⊹ g) ≡ marked_rows k f ++ marked_rows k g
+marked_rows-append k empty g = refl
+marked_rows-append k (tree u below after) g =
+    let r : Row = record { unit = u; size = suc (node_count below); room = node_count (left k (tree u below empty)); stays = stays k u (left_tree_count k below) } in
+    ap (λ xs. r ∷ (marked_rows k below ++ xs)) (marked_rows-append k after g) ∙ ap (λ xs. r ∷ xs) (sym (append_assoc (marked_rows k below) (marked_rows k after) (marked_rows k g)))
 
-pub length-marked : (k : Keep) (f : Forest OutputUnit) → length (marked k f) ≡ node_count f
-length-marked k empty = refl
-length-marked k (tree u below after) = omega (arith, length-append (marked k below) (marked k after), length-marked k below, length-marked k after)
+pub length-marked_rows : (k : Keep) (f : Forest OutputUnit) → length (marked_rows k f) ≡ node_count f
+length-marked_rows k empty = refl
+length-marked_rows k (tree u below after) = omega (arith, length-append (marked_rows k below) (marked_rows k after), length-marked_rows k below, length-marked_rows k after)
 
 -- what is left of a tree and of those after it
 node_count-left : (k : Keep) (u : OutputUnit) (below after : Forest OutputUnit) → node_count (left k (tree u below after)) ≡ node_count (left k (tree u below empty)) + node_count (left k after)
@@ -64,14 +64,14 @@ kept_some : (u : OutputUnit) (below : Forest OutputUnit) → at_least_one (node_
 kept_some u below =
     some_node (kept_below noted (tree u below empty)) ∙ (ap at_least_one (tree_count-kept_below noted (tree u below empty)) ∙ one_if (noted u || at_least_one (noted_trees noted below)))
 
-left_trees-noted : (f : Forest OutputUnit) → left_trees Noted f ≡ noted_trees noted f
-left_trees-noted empty = refl
-left_trees-noted (tree u below after) = rw (kept_some u below, left_trees-noted after) refl
+left_tree_count-noted : (f : Forest OutputUnit) → left_tree_count Noted f ≡ noted_trees noted f
+left_tree_count-noted empty = refl
+left_tree_count-noted (tree u below after) = rw (kept_some u below, left_tree_count-noted after) refl
 
-pub room_is : (k : Keep) (u : OutputUnit) (below : Forest OutputUnit) → room k (stays k u (left_trees k below)) (node_count (left k below)) ≡ node_count (left k (tree u below empty))
+pub room_is : (k : Keep) (u : OutputUnit) (below : Forest OutputUnit) → room k (stays k u (left_tree_count k below)) (node_count (left k below)) ≡ node_count (left k (tree u below empty))
 room_is (Verdict v) u below = sym (pruned_room (has_verdict v u) u (pruned_below (has_verdict v) below))
 room_is Noted u below =
-    ap (λ n. room Noted (stays Noted u n) (node_count (kept_below noted below))) (left_trees-noted below)
+    ap (λ n. room Noted (stays Noted u n) (node_count (kept_below noted below))) (left_tree_count-noted below)
     ∙ sym (kept_room (noted u || at_least_two (noted_trees noted below)) u (kept_below noted below))
 
 -- ---- no more is left than there was
@@ -94,16 +94,16 @@ fewer_left Noted empty = omega arith
 fewer_left k (tree u below after) =
     let e = node_count-left k u below after in
     let r = room_is k u below in
-    let l = fewer_room k (stays k u (left_trees k below)) (node_count (left k below)) (node_count below) (fewer_left k below) in
+    let l = fewer_room k (stays k u (left_tree_count k below)) (node_count (left k below)) (node_count below) (fewer_left k below) in
     omega (arith, e, r, l, fewer_left k after)
 
 few_at : (b : Bool) (n m l : ℕ) → n ≤ l → (if b then suc n else n) ≤ suc (m + l)
 few_at true n m l h = omega arith
 few_at false n m l h = omega arith
 
-pub fewer_trees : (k : Keep) (f : Forest OutputUnit) → left_trees k f ≤ node_count f
+pub fewer_trees : (k : Keep) (f : Forest OutputUnit) → left_tree_count k f ≤ node_count f
 fewer_trees k empty = omega arith
-fewer_trees k (tree u below after) = few_at (at_least_one (node_count (left k (tree u below empty)))) (left_trees k after) (node_count below) (node_count after) (fewer_trees k after)
+fewer_trees k (tree u below after) = few_at (at_least_one (node_count (left k (tree u below empty)))) (left_tree_count k after) (node_count below) (node_count after) (fewer_trees k after)
 
 -- ---- the forest of the rows from one on
 
@@ -152,8 +152,8 @@ pub rows_of : (rows : List Row) (f : Forest OutputUnit) → map row_of rows ≡ 
 rows_of rows f e = sym (length-map rows row_of) ∙ (ap length e ∙ length-flat_of f)
 
 -- what stands after the row is marked, below the node and after it
-pub marked_after : (k : Keep) (rows : List Row) (f : Forest OutputUnit) (n : ℕ) (a : At n f) → drop (suc n) rows ≡ marked k (from (suc n) f) → drop (suc n) rows ≡ marked k a.below ++ marked k a.after
-marked_after k rows f n a e = e ∙ (ap (marked k) a.next ∙ marked-append k a.below a.after)
+pub marked_after : (k : Keep) (rows : List Row) (f : Forest OutputUnit) (n : ℕ) (a : At n f) → drop (suc n) rows ≡ marked_rows k (from (suc n) f) → drop (suc n) rows ≡ marked_rows k a.below ++ marked_rows k a.after
+marked_after k rows f n a e = e ∙ (ap (marked_rows k) a.next ∙ marked_rows-append k a.below a.after)
 
 plus_one : (n : ℕ) → n + 1 ≡ suc n
 plus_one n = omega arith
@@ -166,15 +166,15 @@ row_is r u size room stays e f g h =
     ∙ ap (λ x. record { unit = u; size = size; room = room; stays = x }) h))
 
 -- one row more is marked
-pub marks_one : (k : Keep) (rows : List Row) (f : Forest OutputUnit) (n : ℕ) (new : Row) → n < length rows → (a : At n f) → drop (suc n) rows ≡ marked k (from (suc n) f)
-    → new.unit ≡ a.unit → new.size ≡ suc (node_count a.below) → new.room ≡ room k (stays k a.unit (left_trees k a.below)) (node_count (left k a.below)) → new.stays ≡ stays k a.unit (left_trees k a.below)
-    → drop n (set rows n new) ≡ marked k (from n f)
+pub marks_one : (k : Keep) (rows : List Row) (f : Forest OutputUnit) (n : ℕ) (new : Row) → n < length rows → (a : At n f) → drop (suc n) rows ≡ marked_rows k (from (suc n) f)
+    → new.unit ≡ a.unit → new.size ≡ suc (node_count a.below) → new.room ≡ room k (stays k a.unit (left_tree_count k a.below)) (node_count (left k a.below)) → new.stays ≡ stays k a.unit (left_tree_count k a.below)
+    → drop n (set rows n new) ≡ marked_rows k (from n f)
 marks_one k rows f n new h a m u s p q =
     drop-set rows n new h
     ∙ (ap (λ i. new ∷ drop i rows) (plus_one n)
     ∙ (ap (λ xs. new ∷ xs) (marked_after k rows f n a m)
-    ∙ (ap (λ y. y ∷ (marked k a.below ++ marked k a.after)) (row_is new a.unit (suc (node_count a.below)) (node_count (left k (tree a.unit a.below empty))) (stays k a.unit (left_trees k a.below)) u s (p ∙ room_is k a.unit a.below) q)
-    ∙ ap (marked k) (sym a.is))))
+    ∙ (ap (λ y. y ∷ (marked_rows k a.below ++ marked_rows k a.after)) (row_is new a.unit (suc (node_count a.below)) (node_count (left k (tree a.unit a.below empty))) (stays k a.unit (left_tree_count k a.below)) u s (p ∙ room_is k a.unit a.below) q)
+    ∙ ap (marked_rows k) (sym a.is))))
 
 -- a row that is marked tells of its node what it did
 pub tells_same : (rows : List Row) (n : ℕ) (d new : Row) → row_of new ≡ row_of (get_or rows n d) → map row_of (set rows n new) ≡ map row_of rows
@@ -182,8 +182,8 @@ tells_same rows n d new e =
     map-set row_of rows n new ∙ (ap (set (map row_of rows) n) e ∙ (sym (map-set row_of rows n (get_or rows n d)) ∙ ap (map row_of) (set-get_or rows n d)))
 
 -- before any row is marked
-pub mark_start : (k : Keep) (rows : List Row) (f : Forest OutputUnit) → map row_of rows ≡ flat_of f → drop (length rows) rows ≡ marked k (from (length rows) f)
-mark_start k rows f e = let l = rows_of rows f e in drop-length rows ∙ ap (marked k) (sym (from-all (length rows) f (omega (arith, l))))
+pub mark_start : (k : Keep) (rows : List Row) (f : Forest OutputUnit) → map row_of rows ≡ flat_of f → drop (length rows) rows ≡ marked_rows k (from (length rows) f)
+mark_start k rows f e = let l = rows_of rows f e in drop-length rows ∙ ap (marked_rows k) (sym (from-all (length rows) f (omega (arith, l))))
 
 pub node_count-from : (n : ℕ) (f : Forest OutputUnit) → n ≤ node_count f → n + node_count (from n f) ≡ node_count f
 node_count-from zero f h = omega arith
@@ -217,7 +217,7 @@ record Next (k : Keep) (rows rest : List Row) (g : Forest OutputUnit) (n : ℕ) 
   pub is : g ≡ tree unit below after
   pub size : x.size ≡ suc (node_count below)
   pub room : x.room ≡ node_count (left k (tree unit below empty))
-  pub more : drop (n + x.size) rows ≡ marked k after ++ rest
+  pub more : drop (n + x.size) rows ≡ marked_rows k after ++ rest
 
 cons_head : (x y : Row) (xs ys : List Row) → x ∷ xs ≡ y ∷ ys → x ≡ y
 cons_head x y xs ys e = cc
@@ -225,14 +225,14 @@ cons_head x y xs ys e = cc
 cons_tail : (x y : Row) (xs ys : List Row) → x ∷ xs ≡ y ∷ ys → xs ≡ ys
 cons_tail x y xs ys e = cc
 
-next_tree : (k : Keep) (rows rest : List Row) (g : Forest OutputUnit) (n end : ℕ) (x : Row) → drop n rows ≡ marked k g ++ rest → n + node_count g ≡ end → n < end → end ≤ length rows → x ≡ get_or rows n x → Next k rows rest g n x
+next_tree : (k : Keep) (rows rest : List Row) (g : Forest OutputUnit) (n end : ℕ) (x : Row) → drop n rows ≡ marked_rows k g ++ rest → n + node_count g ≡ end → n < end → end ≤ length rows → x ≡ get_or rows n x → Next k rows rest g n x
 next_tree k rows rest empty n end x d c h b e = absurd (omega (arith, c, h))
 next_tree k rows rest (tree u below after) n end x d c h b e =
-    let r : Row = record { unit = u; size = suc (node_count below); room = node_count (left k (tree u below empty)); stays = stays k u (left_trees k below) } in
-    let p : get_or rows n x ∷ drop (n + 1) rows ≡ r ∷ ((marked k below ++ marked k after) ++ rest) = sym (drop_more rows n x (omega (arith, h, b))) ∙ d in
-    let q : x ≡ r = e ∙ cons_head (get_or rows n x) r (drop (n + 1) rows) ((marked k below ++ marked k after) ++ rest) p in
+    let r : Row = record { unit = u; size = suc (node_count below); room = node_count (left k (tree u below empty)); stays = stays k u (left_tree_count k below) } in
+    let p : get_or rows n x ∷ drop (n + 1) rows ≡ r ∷ ((marked_rows k below ++ marked_rows k after) ++ rest) = sym (drop_more rows n x (omega (arith, h, b))) ∙ d in
+    let q : x ≡ r = e ∙ cons_head (get_or rows n x) r (drop (n + 1) rows) ((marked_rows k below ++ marked_rows k after) ++ rest) p in
     let s : x.size ≡ suc (node_count below) = ap (λ y. y.size) q in
-    let i : n + x.size ≡ (n + 1) + length (marked k below) = omega (arith, s, length-marked k below) in
+    let i : n + x.size ≡ (n + 1) + length (marked_rows k below) = omega (arith, s, length-marked_rows k below) in
     record {
       unit = u;
       below = below;
@@ -242,9 +242,9 @@ next_tree k rows rest (tree u below after) n end x d c h b e =
       room = ap (λ y. y.room) q;
       more =
           ap (λ m. drop m rows) i
-          ∙ (drop-drop (n + 1) (length (marked k below)) rows
-          ∙ (ap (drop (length (marked k below))) (cons_tail (get_or rows n x) r (drop (n + 1) rows) ((marked k below ++ marked k after) ++ rest) p ∙ append_assoc (marked k below) (marked k after) rest)
-          ∙ drop-append (marked k below) (marked k after ++ rest)));
+          ∙ (drop-drop (n + 1) (length (marked_rows k below)) rows
+          ∙ (ap (drop (length (marked_rows k below))) (cons_tail (get_or rows n x) r (drop (n + 1) rows) ((marked_rows k below ++ marked_rows k after) ++ rest) p ∙ append_assoc (marked_rows k below) (marked_rows k after) rest)
+          ∙ drop-append (marked_rows k below) (marked_rows k after ++ rest)));
     }
 
 some_left : (n : ℕ) → 0 < n → at_least_one n ≡ true
@@ -256,14 +256,14 @@ none_left zero h = refl
 none_left (suc n) h = absurd (omega (arith, h))
 
 -- of one tree more something is left, or nothing is
-one_tree : (k : Keep) (u : OutputUnit) (below after : Forest OutputUnit) → 0 < node_count (left k (tree u below empty)) → left_trees k (tree u below after) ≡ suc (left_trees k after)
+one_tree : (k : Keep) (u : OutputUnit) (below after : Forest OutputUnit) → 0 < node_count (left k (tree u below empty)) → left_tree_count k (tree u below after) ≡ suc (left_tree_count k after)
 one_tree k u below after h = rw (some_left (node_count (left k (tree u below empty))) h) refl
 
-no_tree : (k : Keep) (u : OutputUnit) (below after : Forest OutputUnit) → node_count (left k (tree u below empty)) ≡ 0 → left_trees k (tree u below after) ≡ left_trees k after
+no_tree : (k : Keep) (u : OutputUnit) (below after : Forest OutputUnit) → node_count (left k (tree u below empty)) ≡ 0 → left_tree_count k (tree u below after) ≡ left_tree_count k after
 no_tree k u below after h = rw (none_left (node_count (left k (tree u below empty))) h) refl
 
 trees_at : (k : Keep) (g after below : Forest OutputUnit) (u : OutputUnit) (trees trees' all room : ℕ) → ((0 < room) × (trees' ≡ trees + 1)) ⊎ ((room ≡ 0) × (trees' ≡ trees))
-    → left_trees k g ≡ left_trees k (tree u below after) → room ≡ node_count (left k (tree u below empty)) → trees + left_trees k g ≡ all → trees' + left_trees k after ≡ all
+    → left_tree_count k g ≡ left_tree_count k (tree u below after) → room ≡ node_count (left k (tree u below empty)) → trees + left_tree_count k g ≡ all → trees' + left_tree_count k after ≡ all
 trees_at k g after below u trees trees' all room (inl p) s r e = let o = one_tree k u below after (omega (arith, p.0, r)) in omega (arith, p.1, o, s, e)
 trees_at k g after below u trees trees' all room (inr p) s r e = let o = no_tree k u below after (omega (arith, p.0, r)) in omega (arith, p.1, o, s, e)
 
@@ -274,10 +274,10 @@ remaining_more rows first end n trees nodes trees' x i h b e w k f rest d c =
     let q = next_tree k rows rest t.0 n end x t.1 t.2 h b e in
     let m : node_count t.0 ≡ suc (node_count q.below + node_count q.after) = ap node_count q.is in
     let l : node_count (left k t.0) ≡ node_count (left k (tree q.unit q.below empty)) + node_count (left k q.after) = ap (λ g. node_count (left k g)) q.is ∙ node_count-left k q.unit q.below q.after in
-    let s : left_trees k t.0 ≡ left_trees k (tree q.unit q.below q.after) = ap (left_trees k) q.is in
+    let s : left_tree_count k t.0 ≡ left_tree_count k (tree q.unit q.below q.after) = ap (left_tree_count k) q.is in
     let r = q.room in
     let z = q.size in
-    let y : trees' + left_trees k q.after ≡ left_trees k f = trees_at k t.0 q.after q.below q.unit trees trees' (left_trees k f) x.room w s r t.3 in
+    let y : trees' + left_tree_count k q.after ≡ left_tree_count k f = trees_at k t.0 q.after q.below q.unit trees trees' (left_tree_count k f) x.room w s r t.3 in
     (q.after, q.more, omega (arith, m, z, t.2), y, omega (arith, l, r, t.4))
 
 left_empty : (k : Keep) → node_count (left k empty) ≡ 0
@@ -288,12 +288,12 @@ no_node : (f : Forest OutputUnit) → node_count f ≡ 0 → f ≡ empty
 no_node empty e = refl
 no_node (tree u below after) e = absurd (omega (arith, e))
 
-pub remaining_all : (rows : List Row) (first end n trees nodes : ℕ) → IsRemaining rows first end n trees nodes → end ≤ n → (k : Keep) (f : Forest OutputUnit) (rest : List Row) → drop first rows ≡ marked k f ++ rest → first + node_count f ≡ end
-    → (trees ≡ left_trees k f) × (nodes ≡ node_count (left k f))
+pub remaining_all : (rows : List Row) (first end n trees nodes : ℕ) → IsRemaining rows first end n trees nodes → end ≤ n → (k : Keep) (f : Forest OutputUnit) (rest : List Row) → drop first rows ≡ marked_rows k f ++ rest → first + node_count f ≡ end
+    → (trees ≡ left_tree_count k f) × (nodes ≡ node_count (left k f))
 remaining_all rows first end n trees nodes i h k f rest d c =
     let t = i k f rest d c in
     let z : t.0 ≡ empty = no_node t.0 (let p = t.2 in omega (arith, p, h)) in
-    let a : left_trees k t.0 ≡ 0 = ap (left_trees k) z in
+    let a : left_tree_count k t.0 ≡ 0 = ap (left_tree_count k) z in
     let b : node_count (left k t.0) ≡ 0 = ap (λ g. node_count (left k g)) z ∙ left_empty k in
     let p = t.3 in
     let q = t.4 in
@@ -316,7 +316,7 @@ remaining_fits rows first end n trees nodes x m i h b e =
       omega (arith, c, s, p),
       omega (arith, s),
       omega (arith, l, r, v, w, fewer_left m.0 m.1),
-      λ z. let o : left_trees m.0 t.0 ≡ suc (left_trees m.0 q.after) = ap (left_trees m.0) q.is ∙ one_tree m.0 q.unit q.below q.after (omega (arith, z, r)) in omega (arith, o, u, w, fewer_trees m.0 m.1),
+      λ z. let o : left_tree_count m.0 t.0 ≡ suc (left_tree_count m.0 q.after) = ap (left_tree_count m.0) q.is ∙ one_tree m.0 q.unit q.below q.after (omega (arith, z, r)) in omega (arith, o, u, w, fewer_trees m.0 m.1),
     )
 
 -- ---- what marked rows leave
@@ -335,39 +335,39 @@ plus_none : (n : ℕ) → n + 0 ≡ n
 plus_none n = omega arith
 
 pruned_at : (b v : Bool) (u : OutputUnit) (below after : Forest OutputUnit) (rest : List Row) → has_verdict v u ≡ b
-    → ((zs : List Row) → gathered (Verdict v) 0 (marked (Verdict v) below ++ zs) ≡ flat_of (pruned_below (has_verdict v) below) ++ gathered (Verdict v) 0 zs)
-    → gathered (Verdict v) 0 (marked (Verdict v) after ++ rest) ≡ flat_of (pruned_below (has_verdict v) after) ++ gathered (Verdict v) 0 rest
-    → gathered (Verdict v) 0 (marked (Verdict v) (tree u below after) ++ rest) ≡ flat_of (pruned_below (has_verdict v) (tree u below after)) ++ gathered (Verdict v) 0 rest
+    → ((zs : List Row) → gathered (Verdict v) 0 (marked_rows (Verdict v) below ++ zs) ≡ flat_of (pruned_below (has_verdict v) below) ++ gathered (Verdict v) 0 zs)
+    → gathered (Verdict v) 0 (marked_rows (Verdict v) after ++ rest) ≡ flat_of (pruned_below (has_verdict v) after) ++ gathered (Verdict v) 0 rest
+    → gathered (Verdict v) 0 (marked_rows (Verdict v) (tree u below after) ++ rest) ≡ flat_of (pruned_below (has_verdict v) (tree u below after)) ++ gathered (Verdict v) 0 rest
 pruned_at true v u below after rest e i j =
     rw e
-    (ap (λ n. (u, suc n) ∷ gathered (Verdict v) 0 ((marked (Verdict v) below ++ marked (Verdict v) after) ++ rest)) (plus_none (node_count (pruned_below (has_verdict v) below)))
-    ∙ ap (λ xs. (u, suc (node_count (pruned_below (has_verdict v) below))) ∷ xs) (both (Verdict v) (marked (Verdict v) below) (marked (Verdict v) after) rest (flat_of (pruned_below (has_verdict v) below)) (flat_of (pruned_below (has_verdict v) after)) i j))
+    (ap (λ n. (u, suc n) ∷ gathered (Verdict v) 0 ((marked_rows (Verdict v) below ++ marked_rows (Verdict v) after) ++ rest)) (plus_none (node_count (pruned_below (has_verdict v) below)))
+    ∙ ap (λ xs. (u, suc (node_count (pruned_below (has_verdict v) below))) ∷ xs) (both (Verdict v) (marked_rows (Verdict v) below) (marked_rows (Verdict v) after) rest (flat_of (pruned_below (has_verdict v) below)) (flat_of (pruned_below (has_verdict v) after)) i j))
 pruned_at false v u below after rest e i j =
-    let z : suc (node_count below) - 1 ≡ length (marked (Verdict v) below) = omega (arith, length-marked (Verdict v) below) in
+    let z : suc (node_count below) - 1 ≡ length (marked_rows (Verdict v) below) = omega (arith, length-marked_rows (Verdict v) below) in
     rw e
-    (ap (λ n. gathered (Verdict v) n ((marked (Verdict v) below ++ marked (Verdict v) after) ++ rest)) z
-    ∙ (ap (gathered (Verdict v) (length (marked (Verdict v) below))) (append_assoc (marked (Verdict v) below) (marked (Verdict v) after) rest)
-    ∙ (gathered-gone (Verdict v) (marked (Verdict v) below) (marked (Verdict v) after ++ rest) ∙ j)))
+    (ap (λ n. gathered (Verdict v) n ((marked_rows (Verdict v) below ++ marked_rows (Verdict v) after) ++ rest)) z
+    ∙ (ap (gathered (Verdict v) (length (marked_rows (Verdict v) below))) (append_assoc (marked_rows (Verdict v) below) (marked_rows (Verdict v) after) rest)
+    ∙ (gathered-gone (Verdict v) (marked_rows (Verdict v) below) (marked_rows (Verdict v) after ++ rest) ∙ j)))
 
-kept_at : (b : Bool) (u : OutputUnit) (below after : Forest OutputUnit) (rest : List Row) → (noted u || at_least_two (left_trees Noted below)) ≡ b → is_kept noted u below ≡ b
-    → ((zs : List Row) → gathered Noted 0 (marked Noted below ++ zs) ≡ flat_of (kept_below noted below) ++ gathered Noted 0 zs)
-    → gathered Noted 0 (marked Noted after ++ rest) ≡ flat_of (kept_below noted after) ++ gathered Noted 0 rest
-    → gathered Noted 0 (marked Noted (tree u below after) ++ rest) ≡ flat_of (kept_below noted (tree u below after)) ++ gathered Noted 0 rest
+kept_at : (b : Bool) (u : OutputUnit) (below after : Forest OutputUnit) (rest : List Row) → (noted u || at_least_two (left_tree_count Noted below)) ≡ b → is_kept_node noted u below ≡ b
+    → ((zs : List Row) → gathered Noted 0 (marked_rows Noted below ++ zs) ≡ flat_of (kept_below noted below) ++ gathered Noted 0 zs)
+    → gathered Noted 0 (marked_rows Noted after ++ rest) ≡ flat_of (kept_below noted after) ++ gathered Noted 0 rest
+    → gathered Noted 0 (marked_rows Noted (tree u below after) ++ rest) ≡ flat_of (kept_below noted (tree u below after)) ++ gathered Noted 0 rest
 kept_at true u below after rest e f i j =
     rw (e, f)
-    (ap (λ n. (u, suc n) ∷ gathered Noted 0 ((marked Noted below ++ marked Noted after) ++ rest)) (plus_none (node_count (kept_below noted below)))
-    ∙ ap (λ xs. (u, suc (node_count (kept_below noted below))) ∷ xs) (both Noted (marked Noted below) (marked Noted after) rest (flat_of (kept_below noted below)) (flat_of (kept_below noted after)) i j))
+    (ap (λ n. (u, suc n) ∷ gathered Noted 0 ((marked_rows Noted below ++ marked_rows Noted after) ++ rest)) (plus_none (node_count (kept_below noted below)))
+    ∙ ap (λ xs. (u, suc (node_count (kept_below noted below))) ∷ xs) (both Noted (marked_rows Noted below) (marked_rows Noted after) rest (flat_of (kept_below noted below)) (flat_of (kept_below noted after)) i j))
 kept_at false u below after rest e f i j =
     rw (e, f)
-    (both Noted (marked Noted below) (marked Noted after) rest (flat_of (kept_below noted below)) (flat_of (kept_below noted after)) i j
+    (both Noted (marked_rows Noted below) (marked_rows Noted after) rest (flat_of (kept_below noted below)) (flat_of (kept_below noted after)) i j
     ∙ ap (λ xs. xs ++ gathered Noted 0 rest) (sym (flat_of-append (kept_below noted below) (kept_below noted after))))
 
-pub gathered-marked : (k : Keep) (f : Forest OutputUnit) (rest : List Row) → gathered k 0 (marked k f ++ rest) ≡ flat_of (left k f) ++ gathered k 0 rest
-gathered-marked (Verdict v) empty rest = refl
-gathered-marked Noted empty rest = refl
-gathered-marked (Verdict v) (tree u below after) rest = pruned_at (has_verdict v u) v u below after rest refl (λ zs. gathered-marked (Verdict v) below zs) (gathered-marked (Verdict v) after rest)
-gathered-marked Noted (tree u below after) rest =
-    kept_at (is_kept noted u below) u below after rest (ap (λ n. noted u || at_least_two n) (left_trees-noted below)) refl (λ zs. gathered-marked Noted below zs) (gathered-marked Noted after rest)
+pub gathered-marked_rows : (k : Keep) (f : Forest OutputUnit) (rest : List Row) → gathered k 0 (marked_rows k f ++ rest) ≡ flat_of (left k f) ++ gathered k 0 rest
+gathered-marked_rows (Verdict v) empty rest = refl
+gathered-marked_rows Noted empty rest = refl
+gathered-marked_rows (Verdict v) (tree u below after) rest = pruned_at (has_verdict v u) v u below after rest refl (λ zs. gathered-marked_rows (Verdict v) below zs) (gathered-marked_rows (Verdict v) after rest)
+gathered-marked_rows Noted (tree u below after) rest =
+    kept_at (is_kept_node noted u below) u below after rest (ap (λ n. noted u || at_least_two n) (left_tree_count-noted below)) refl (λ zs. gathered-marked_rows Noted below zs) (gathered-marked_rows Noted after rest)
 
 -- ---- one row more is gone past
 
@@ -409,13 +409,13 @@ stays_here k rows count i d new c l e f =
 
 -- ---- the whole
 
-pub flat-flat_of : (t : ResultTree) → flat t ≡ flat_of (tree t.root t.below empty)
-flat-flat_of t = ap (λ xs. (t.root, suc (node_count t.below)) ∷ xs) (sym (append-nil (flat_of t.below)))
+pub flat_form-flat_of : (t : ResultTree) → flat_form t ≡ flat_of (tree t.root t.below empty)
+flat_form-flat_of t = ap (λ xs. (t.root, suc (node_count t.below)) ∷ xs) (sym (append-nil (flat_of t.below)))
 
-take_drop_one : (k : Keep) (t : ResultTree) (rows : List Row) → rows ≡ marked k (tree t.root t.below empty) → map row_of (take 1 rows) ++ gathered k 0 (drop 1 rows) ≡ (t.root, suc (node_count t.below)) ∷ flat_of (left k t.below)
+take_drop_one : (k : Keep) (t : ResultTree) (rows : List Row) → rows ≡ marked_rows k (tree t.root t.below empty) → map row_of (take 1 rows) ++ gathered k 0 (drop 1 rows) ≡ (t.root, suc (node_count t.below)) ∷ flat_of (left k t.below)
 take_drop_one k t rows e =
     ap (λ xs. map row_of (take 1 xs) ++ gathered k 0 (drop 1 xs)) e
-    ∙ ap (λ xs. (t.root, suc (node_count t.below)) ∷ xs) (gathered-marked k t.below [] ∙ append-nil (flat_of (left k t.below)))
+    ∙ ap (λ xs. (t.root, suc (node_count t.below)) ∷ xs) (gathered-marked_rows k t.below [] ∙ append-nil (flat_of (left k t.below)))
 
 tail_of : (x y : FlatRow) (xs ys : List FlatRow) → x ∷ xs ≡ y ∷ ys → xs ≡ ys
 tail_of x y xs ys e = cc
@@ -444,8 +444,8 @@ root_sized (r ∷ rows) u size count fs d new e f =
     let q : map row_of rows ≡ fs = tail_of (row_of r) (u, size) (map row_of rows) fs e in
     ap (λ y. y ∷ map row_of rows) (f ∙ ap (λ y. (y.0, count)) p) ∙ ap (λ xs. (u, count) ∷ xs) q
 
-pub keeps : (k : Keep) (t : ResultTree) (marks all front : List Row) (count : ℕ) (d new : Row) → marks ≡ marked k (tree t.root t.below empty) → map row_of (take count all) ≡ map row_of (take 1 marks) ++ gathered k 0 (drop 1 marks)
-    → count ≤ length all → front ≡ take count all → row_of new ≡ ((get_or front 0 d).unit, count) → map row_of (set front 0 new) ≡ flat (left_of k t)
+pub keeps : (k : Keep) (t : ResultTree) (marks all front : List Row) (count : ℕ) (d new : Row) → marks ≡ marked_rows k (tree t.root t.below empty) → map row_of (take count all) ≡ map row_of (take 1 marks) ++ gathered k 0 (drop 1 marks)
+    → count ≤ length all → front ≡ take count all → row_of new ≡ ((get_or front 0 d).unit, count) → map row_of (set front 0 new) ≡ flat_form (left_of k t)
 keeps k t marks all front count d new m g c f e =
     let w : map row_of front ≡ (t.root, suc (node_count t.below)) ∷ flat_of (left k t.below) = ap (map row_of) f ∙ (g ∙ take_drop_one k t marks m) in
     let n : length front ≡ count = ap length f ∙ take_length count all c in

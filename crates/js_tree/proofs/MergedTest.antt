@@ -3,7 +3,7 @@ use Rattle.std.proofs.Common.{◌≡◌, ℕ, ◌+◌, ◌<◌, Bool, true, fals
 use Rattle.std.proofs.Math.Seq.{take-suc}
 use Rattle.std.proofs.lemmas.List.{drop_more}
 use Rattle.js_tree.specs.Forest.{Forest, empty, tree, Rose, forest_of, ◌⊹◌}
-use Rattle.js_tree.specs.Step.{stands, all_stand}
+use Rattle.js_tree.specs.Step.{node_stands, all_stand}
 use Rattle.js_tree.specs.Merged.{has_alike, none_alike, all_merged, MergeStep, condensed, doubled, deeper, further, MergeNormal}
 use Rattle.js_tree.proofs.Forests.{forest_of-append}
 use Rattle.js_tree.proofs.Steps.{and_left, and_right, normal-all_stand, all_stand-normal}
@@ -35,7 +35,7 @@ module _ {A : Type 0} (noted : A → Bool) (same : A → A → Bool) where
   normal-all_merged : (before f : Forest A) → NormalAfter before f → all_merged noted same f ≡ true
   normal-all_merged before empty n = refl
   normal-all_merged before (tree a below after) n =
-      let here : stands noted a below ≡ true = and_left (stands noted a below) _ (normal-all_stand noted (tree a below after) (λ g s. n g (condensed s))) in
+      let here : node_stands noted a below ≡ true = and_left (node_stands noted a below) _ (normal-all_stand noted (tree a below after) (λ g s. n g (condensed s))) in
       let down : NormalAfter empty below = λ g s. n _ (deeper s) in
       rw (here, normal-none_alike empty below down, normal-all_merged empty below down, normal-all_merged (before ⊹ tree a below empty) after (λ g s. n _ (further s))) refl
 
@@ -45,19 +45,19 @@ module _ {A : Type 0} (noted : A → Bool) (same : A → A → Bool) where
   all_merged-all_stand : (f : Forest A) → all_merged noted same f ≡ true → all_stand noted f ≡ true
   all_merged-all_stand empty e = refl
   all_merged-all_stand (tree a below after) e =
-      let here = and_left (stands noted a below && none_alike same empty below) _ e in
-      let rest = and_right (stands noted a below && none_alike same empty below) _ e in
-      rw (and_left (stands noted a below) _ here, all_merged-all_stand below (and_left (all_merged noted same below) _ rest), all_merged-all_stand after (and_right (all_merged noted same below) _ rest)) refl
+      let here = and_left (node_stands noted a below && none_alike same empty below) _ e in
+      let rest = and_right (node_stands noted a below && none_alike same empty below) _ e in
+      rw (and_left (node_stands noted a below) _ here, all_merged-all_stand below (and_left (all_merged noted same below) _ rest), all_merged-all_stand after (and_right (all_merged noted same below) _ rest)) refl
 
   step_not_merged : {before f g : Forest A} → MergeStep noted same before f g → none_alike same before f ≡ true → all_merged noted same f ≡ true → ⊥
   step_not_merged (condensed {f = f} {g = g} s) d e = all_stand-normal noted f (all_merged-all_stand f e) g s
   step_not_merged {before = before} (doubled {below = below} {a = a} h) d e = not_true (has_alike same before a below) h (and_left (not (has_alike same before a below)) _ d)
   step_not_merged (deeper {f = f} {a = a} s) d e =
-      let here = and_left (stands noted a f && none_alike same empty f) _ e in
-      let rest = and_right (stands noted a f && none_alike same empty f) _ e in
-      step_not_merged s (and_right (stands noted a f) _ here) (and_left (all_merged noted same f) _ rest)
+      let here = and_left (node_stands noted a f && none_alike same empty f) _ e in
+      let rest = and_right (node_stands noted a f && none_alike same empty f) _ e in
+      step_not_merged s (and_right (node_stands noted a f) _ here) (and_left (all_merged noted same f) _ rest)
   step_not_merged {before = before} (further {below = below} {a = a} s) d e =
-      let rest = and_right (stands noted a below && none_alike same empty below) _ e in
+      let rest = and_right (node_stands noted a below && none_alike same empty below) _ e in
       step_not_merged s (and_right (not (has_alike same before a below)) _ d) (and_right (all_merged noted same below) _ rest)
 
   pub tests_normal : (f : Forest A) → (none_alike same empty f && all_merged noted same f) ≡ true → MergeNormal noted same f

@@ -3,7 +3,7 @@
 use Rattle.std.proofs.Common.{◌≡◌, suc, ◌≤◌, ◌<◌, Bool, true, false, ◌||◌, if◌then◌else◌, refl, ap, sym, ◌∙◌, arith}
 use Rattle.std.specs.Cmp.{IsEquivalence}
 use Rattle.js_tree.specs.Forest.{Forest, empty, tree, ◌⊹◌, node_count, tree_count}
-use Rattle.js_tree.specs.Step.{at_least_two, ForestStep, dropped, lifted, inside, beside, stands}
+use Rattle.js_tree.specs.Step.{at_least_two, ForestStep, dropped, lifted, inside, beside, node_stands}
 use Rattle.js_tree.specs.Merged.{alike, alike_trees, has_alike, unlike, firsts, over, given_trees, merged_below, MergeStep, condensed, doubled, deeper, further, MergeRun, ended, then_on, MergeNormal}
 use Rattle.js_tree.proofs.AlikeTrees.{alike_trees-refl, alike_trees-symm, alike_trees-congr}
 use Rattle.js_tree.proofs.Forests.{append-empty, append-append}
@@ -188,14 +188,14 @@ module _ {A : Type 0} (noted : A → Bool) (same : A → A → Bool) (e : IsEqui
       let rest = alike-firsts after others (and_right (alike_trees same a below b under) _ p) in
       rw (here, alike-unlike a below b under (firsts same after) (firsts same others) here rest) refl
 
-  alike-over_at : (v : Bool) (a b : A) (f g : Forest A) → stands noted a f ≡ v → stands noted b g ≡ v → same a b ≡ true → alike same f g ≡ true → alike same (over noted same a f) (over noted same b g) ≡ true
+  alike-over_at : (v : Bool) (a b : A) (f g : Forest A) → node_stands noted a f ≡ v → node_stands noted b g ≡ v → same a b ≡ true → alike same f g ≡ true → alike same (over noted same a f) (over noted same b g) ≡ true
   alike-over_at true a b f g v w s p = rw (v, w) (rw (s, p) refl)
   alike-over_at false a b f g v w s p = rw (v, w) p
 
   alike-over : (a b : A) (f g : Forest A) → same a b ≡ true → alike same f g ≡ true → alike same (over noted same a f) (over noted same b g) ≡ true
   alike-over a b f g s p =
-      let both : stands noted a f ≡ stands noted b g = λ i. notes a b s i || at_least_two (alike-tree_count f g p i) in
-      alike-over_at (stands noted a f) a b f g refl (sym both) s p
+      let both : node_stands noted a f ≡ node_stands noted b g = λ i. notes a b s i || at_least_two (alike-tree_count f g p i) in
+      alike-over_at (node_stands noted a f) a b f g refl (sym both) s p
 
   alike-given : (f g : Forest A) → alike same f g ≡ true → alike same (given_trees noted same f) (given_trees noted same g) ≡ true
   alike-given empty empty p = refl
@@ -218,7 +218,7 @@ module _ {A : Type 0} (noted : A → Bool) (same : A → A → Bool) (e : IsEqui
       alike-over a b (merged_below noted same below) (merged_below noted same under) (and_left (same a b) _ h)
       (alike-firsts (given_trees noted same below) (given_trees noted same under) (alike-given below under (and_right (same a b) _ h)))
 
-  one_over : (v : Bool) (a b : A) (m : Forest A) → noted a ≡ false → stands noted b m ≡ v → firsts same m ≡ m
+  one_over : (v : Bool) (a b : A) (m : Forest A) → noted a ≡ false → node_stands noted b m ≡ v → firsts same m ≡ m
       → over noted same a (firsts same ((if v then tree b m empty else m) ⊹ empty)) ≡ (if v then tree b m empty else m)
   one_over true a b m n w i = rw n refl
   one_over false a b m n w i = rw (append-empty m, i, n, or_right (noted b) (at_least_two (tree_count m)) w) refl
@@ -228,7 +228,7 @@ module _ {A : Type 0} (noted : A → Bool) (same : A → A → Bool) (e : IsEqui
   step-merged_below (dropped n) = rw n refl
   step-merged_below (lifted {a = a} {b = b} {below = below} {after = after} n) =
       let m = merged_below noted same below in
-      ap (λ x. firsts same (x ⊹ given_trees noted same after)) (one_over (stands noted b m) a b m n refl (firsts-firsts same e (given_trees noted same below)))
+      ap (λ x. firsts same (x ⊹ given_trees noted same after)) (one_over (node_stands noted b m) a b m n refl (firsts-firsts same e (given_trees noted same below)))
   step-merged_below (inside {a = a} {after = after} s) = ap (λ m. firsts same (over noted same a m ⊹ given_trees noted same after)) (step-merged_below s)
   step-merged_below (beside {a = a} {below = below} {f = f} {g = g} s) =
       sym (firsts-append same e (gives a below) (given_trees noted same f))
@@ -296,7 +296,7 @@ module _ {A : Type 0} (noted : A → Bool) (same : A → A → Bool) (e : IsEqui
   normal-given before empty n = refl
   normal-given before (tree a below after) n =
       let i : NormalAfter empty below = λ g s. n _ (deeper s) in
-      let here : stands noted a below ≡ true = and_left (stands noted a below) _ (normal-all_stand noted (tree a below after) (λ g s. n g (condensed s))) in
+      let here : node_stands noted a below ≡ true = and_left (node_stands noted a below) _ (normal-all_stand noted (tree a below after) (λ g s. n g (condensed s))) in
       let m : merged_below noted same below ≡ below = ap (firsts same) (normal-given empty below i) ∙ normal-firsts empty below i in
       rw (m, here, normal-given (before ⊹ tree a below empty) after (λ g s. n _ (further s))) refl
 
@@ -348,7 +348,7 @@ module _ {A : Type 0} (noted : A → Bool) (same : A → A → Bool) (e : IsEqui
   run-few before (tree b under empty) after a n w = then_on (condensed (lifted n)) ended
   run-few before (tree b under (tree c deep others)) after a n w = absurd cc
 
-  run-over : (v : Bool) (before m after : Forest A) (a : A) → stands noted a m ≡ v → MergeRun noted same before (tree a m after) ((if v then tree a m empty else m) ⊹ after)
+  run-over : (v : Bool) (before m after : Forest A) (a : A) → node_stands noted a m ≡ v → MergeRun noted same before (tree a m after) ((if v then tree a m empty else m) ⊹ after)
   run-over true before m after a w = ended
   run-over false before m after a w = run-few before m after a (or_left (noted a) (at_least_two (tree_count m)) w) (or_right (noted a) (at_least_two (tree_count m)) w)
 
@@ -358,7 +358,7 @@ module _ {A : Type 0} (noted : A → Bool) (same : A → A → Bool) (e : IsEqui
       let m = merged_below noted same below in
       let x = gives a below in
       merge_run-append (run_deeper (merge_run-append (run-given empty below) (run-firsts empty (given_trees noted same below))))
-      (merge_run-append (run-over (stands noted a m) before m after a refl) (run_past before x after (given_trees noted same after) (run-given (before ⊹ x) after)))
+      (merge_run-append (run-over (node_stands noted a m) before m after a refl) (run_past before x after (given_trees noted same after) (run-given (before ⊹ x) after)))
 
   pub merged_below_is_reached : (f : Forest A) → MergeRun noted same empty f (merged_below noted same f)
   merged_below_is_reached f = merge_run-append (run-given empty f) (run-firsts empty (given_trees noted same f))

@@ -4,7 +4,7 @@ use Rattle.std.proofs.Common.{◌≡◌, Bool, true, false, ◌||◌, ◌&&◌, 
 use Rattle.std.specs.Cmp.{IsEquivalence}
 use Rattle.std.specs.List.{list_any}
 use Rattle.js_tree.specs.Forest.{Forest, empty, tree, Rose, tree_count}
-use Rattle.js_tree.specs.Step.{at_least_two, stands}
+use Rattle.js_tree.specs.Step.{at_least_two, node_stands}
 use Rattle.js_tree.specs.Sublist.{Sublist, no_more, left_out, taken, none_lost}
 use Rattle.js_tree.specs.Units.{units_below, units_by}
 use Rattle.js_tree.specs.Merged.{alike, alike_trees, unlike, firsts, over, given_trees, merged_below, merged_by}
@@ -123,13 +123,13 @@ module _ {A : Type 0} (noted : A → Bool) where
   abbrev rooted : A → List A → List A
   rooted a units = if noted a then a ∷ units else units
 
-  over_units_at : (v : Bool) (a : A) (m : Forest A) → stands noted a m ≡ v → units_below noted (if v then tree a m empty else m) ≡ rooted a (units_below noted m)
+  over_units_at : (v : Bool) (a : A) (m : Forest A) → node_stands noted a m ≡ v → units_below noted (if v then tree a m empty else m) ≡ rooted a (units_below noted m)
   over_units_at true a m v = append-nil (rooted a (units_below noted m))
   over_units_at false a m v = rw (or_left (noted a) (at_least_two (tree_count m)) v) refl
 
   module _ (same : A → A → Bool) where
     over_units : (a : A) (m : Forest A) → units_below noted (over noted same a m) ≡ rooted a (units_below noted m)
-    over_units a m = over_units_at (stands noted a m) a m refl
+    over_units a m = over_units_at (node_stands noted a m) a m refl
 
     given_units : (a : A) (below after : Forest A) → units_below noted (given_trees noted same (tree a below after)) ≡ rooted a (units_below noted (merged_below noted same below)) ++ units_below noted (given_trees noted same after)
     given_units a below after =

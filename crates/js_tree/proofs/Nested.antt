@@ -3,7 +3,7 @@ use Rattle.std.proofs.Common.{◌≡◌, ℕ, zero, suc, ◌+◌, ◌-◌, ◌�
 use Rattle.std.proofs.lemmas.Bool.Decides.{nat_tests}
 use Rattle.std.proofs.lemmas.Bool.{le-ltb, ltb-false}
 use Rattle.std.proofs.lemmas.List.{drop_more}
-use Rattle.js_tree.specs.Flat.{flat, flat_of}
+use Rattle.js_tree.specs.Flat.{flat_form, flat_of}
 use Rattle.js_tree.specs.FlatState.{row_of}
 use Rattle.js_tree.specs.Forest.{Forest, empty, tree, ◌⊹◌, node_count}
 use Rattle.js_tree.specs.code.Nesting.{ends_after}
@@ -11,7 +11,7 @@ use Rattle.js_tree.specs.OutputUnit.{OutputUnit}
 use Rattle.js_tree.specs.Result.{ResultTree}
 use Rattle.js_tree.specs.declared.flat.Row.{Row}
 use Rattle.js_tree.proofs.FlatRows.{flat_of-append, map-drop, first_tree, all_gone}
-use Rattle.js_tree.proofs.Marks.{from, flat_of-from, flat-flat_of, rows_of}
+use Rattle.js_tree.proofs.Marks.{from, flat_of-from, flat_form-flat_of, rows_of}
 
 -- the trees in front, and those after them
 pub record Parted (n : ℕ) (f : Forest OutputUnit) : Type 0 where
@@ -94,23 +94,23 @@ pub from_there : (rows : List Row) (n : ℕ) (f : Forest OutputUnit) → map row
 from_there rows n f e = (from n f, map-drop row_of n rows ∙ (ap (drop n) e ∙ sym (flat_of-from n f)))
 
 -- a tree that has all of the nodes stands alone
-pub alone : (rows : List Row) (x : Row) (f : Forest OutputUnit) → map row_of rows ≡ flat_of f → 0 < length rows → x ≡ get_or rows 0 x → x.size ≡ length rows → (t : ResultTree) × (map row_of rows ≡ flat t)
+pub alone : (rows : List Row) (x : Row) (f : Forest OutputUnit) → map row_of rows ≡ flat_of f → 0 < length rows → x ≡ get_or rows 0 x → x.size ≡ length rows → (t : ResultTree) × (map row_of rows ≡ flat_form t)
 alone rows x f e lt is s =
     let t = first_tree row_of rows 0 f x e lt is in
     let gone : t.after ≡ empty = all_gone row_of rows (0 + x.size) t.after t.more (omega (arith, s)) in
-    (record { root = t.unit; below = t.below }, e ∙ (ap flat_of t.is ∙ (ap (λ g. flat_of (tree t.unit t.below g)) gone ∙ sym (flat-flat_of (record { root = t.unit; below = t.below })))))
+    (record { root = t.unit; below = t.below }, e ∙ (ap flat_of t.is ∙ (ap (λ g. flat_of (tree t.unit t.below g)) gone ∙ sym (flat_form-flat_of (record { root = t.unit; below = t.below })))))
 
 -- a tree has all of the nodes
-pub whole_sized : (rows : List Row) (x : Row) (t : ResultTree) → map row_of rows ≡ flat t → 0 < length rows → x ≡ get_or rows 0 x → x.size ≡ length rows
+pub whole_sized : (rows : List Row) (x : Row) (t : ResultTree) → map row_of rows ≡ flat_form t → 0 < length rows → x ≡ get_or rows 0 x → x.size ≡ length rows
 whole_sized [] x t e lt is = absurd (omega (arith, lt))
 whole_sized (r ∷ rows) x t e lt is =
     let k : row_of r ≡ (t.root, suc (node_count t.below)) = cc in
     let s : r.size ≡ suc (node_count t.below) = ap (λ y. y.1) k in
-    let n : suc (length rows) ≡ suc (node_count t.below + 0) = rows_of (r ∷ rows) (tree t.root t.below empty) (e ∙ flat-flat_of t) in
+    let n : suc (length rows) ≡ suc (node_count t.below + 0) = rows_of (r ∷ rows) (tree t.root t.below empty) (e ∙ flat_form-flat_of t) in
     let i : x.size ≡ r.size = ap (λ (y : Row). y.size) is in
     omega (arith, s, n, i)
 
-pub some_row : (rows : List Row) (t : ResultTree) → map row_of rows ≡ flat t → 0 < length rows
+pub some_row : (rows : List Row) (t : ResultTree) → map row_of rows ≡ flat_form t → 0 < length rows
 some_row [] t e = absurd cc
 some_row (r ∷ rows) t e = omega arith
 

@@ -1,6 +1,6 @@
 -- The units with a note, of a tree and of its rows.
 use Rattle.std.proofs.Common.{◌≡◌, Bool, true, false, if◌then◌else◌, List, [], ◌∷◌, ◌++◌, ℕ, ◌+◌, ◌<◌, ◌≤◌, length, drop, get_or, map, refl, ap, sym, ◌∙◌}
-use Rattle.js_tree.specs.Flat.{flat, flat_of}
+use Rattle.js_tree.specs.Flat.{flat_form, flat_of}
 use Rattle.js_tree.specs.FlatState.{FlatRow, noted_of}
 use Rattle.js_tree.specs.Form.{node_value}
 use Rattle.js_tree.specs.Forest.{Forest, empty, tree}
@@ -23,13 +23,13 @@ noted_of-flat_of empty = refl
 noted_of-flat_of (tree u below after) =
     rw (noted_of-append (flat_of below) (flat_of after), noted_of-flat_of below, noted_of-flat_of after) (first (noted u) u (units_below noted below) (units_below noted after))
 
-pub noted_of-flat : (t : ResultTree) → noted_of (flat t) ≡ units t
-noted_of-flat t = rw (noted_of-flat_of t.below) refl
+pub noted_of-flat_form : (t : ResultTree) → noted_of (flat_form t) ≡ units t
+noted_of-flat_form t = rw (noted_of-flat_of t.below) refl
 
 -- condensing leaves the units
-pub noted_of-condensed : (old new : List FlatRow) (t : ResultTree) → old ≡ flat t → new ≡ flat (kept t) → noted_of new ≡ noted_of old
+pub noted_of-condensed : (old new : List FlatRow) (t : ResultTree) → old ≡ flat_form t → new ≡ flat_form (kept t) → noted_of new ≡ noted_of old
 noted_of-condensed old new t is condensed =
-    ap noted_of condensed ∙ (noted_of-flat (kept t) ∙ (units-kept noted t ∙ sym (ap noted_of is ∙ noted_of-flat t)))
+    ap noted_of condensed ∙ (noted_of-flat_form (kept t) ∙ (units-kept noted t ∙ sym (ap noted_of is ∙ noted_of-flat_form t)))
 
 -- ---- the units of the rows that are left, as nodes without children
 

@@ -13,7 +13,7 @@ use Rattle.js_tree.specs.Merged.{alike, alike_trees}
 use Rattle.js_tree.specs.Note.{Note, silent, error, value, names, index, indexes, truly}
 use Rattle.js_tree.specs.OutputUnit.{OutputUnit}
 use Rattle.js_tree.specs.Result.{ResultTree}
-use Rattle.js_tree.specs.code.Order.{kind, note_order, unit_order, forest_order, tree_order}
+use Rattle.js_tree.specs.code.Order.{note_rank, note_order, unit_order, forest_order, result_tree_order}
 use Rattle.js_tree.proofs.AlikeUnits.{same_but_keyword_decides}
 use Rattle.js_tree.proofs.Steps.{and_left, and_right}
 
@@ -39,7 +39,7 @@ said (indexes is) = is ∷ []
 said truly = []
 
 abbrev said_order : Note → Note → Ordering
-said_order = then_cmp (on kind nat_cmp) (on said (slice_cmp (slice_cmp nat_cmp)))
+said_order = then_cmp (on note_rank nat_cmp) (on said (slice_cmp (slice_cmp nat_cmp)))
 
 said-note_order : (m n : Note) → said_order m n ≡ note_order m n
 said-note_order silent silent = refl
@@ -93,7 +93,7 @@ said-note_order truly (indexes b) = refl
 said-note_order truly truly = refl
 
 said_order-total : IsTotalOrder said_order
-said_order-total = then_total (on_total kind nat_cmp_total) (on_total said (lists_total nat_list_cmp_total))
+said_order-total = then_total (on_total note_rank nat_cmp_total) (on_total said (lists_total nat_list_cmp_total))
 
 note_order-total : IsTotalOrder note_order
 note_order-total = subst IsTotalOrder (λ i m n. said-note_order m n i) said_order-total
@@ -131,8 +131,8 @@ forest_order-total : IsTotalOrder forest_order
 forest_order-total =
     subst IsTotalOrder (λ i f g. (written_order f g [] [] ∙ then_equal (forest_order f g)) i) (on_total (λ f. written f []) (lists_total (options_total unit_order-total)))
 
-pub tree_order-total : IsTotalOrder tree_order
-tree_order-total = then_total (on_total (λ t. t.root) unit_order-total) (on_total (λ t. t.below) forest_order-total)
+pub result_tree_order-total : IsTotalOrder result_tree_order
+result_tree_order-total = then_total (on_total (λ t. t.root) unit_order-total) (on_total (λ t. t.below) forest_order-total)
 
 forest_order-alike : (f g : Forest OutputUnit) → alike same_but_keyword f g ≡ true → forest_order f g ≡ Equal
 forest_order-alike empty empty e = refl
@@ -143,6 +143,6 @@ forest_order-alike (tree u below after) (tree v under others) e =
     rw (unit_order-alike u v (and_left (same_but_keyword u v) _ here), forest_order-alike below under (and_right (same_but_keyword u v) _ here))
     (forest_order-alike after others (and_right (alike_trees same_but_keyword u below v under) _ e))
 
-pub tree_order-alike : (t u : ResultTree) → alike_trees same_but_keyword t.root t.below u.root u.below ≡ true → tree_order t u ≡ Equal
-tree_order-alike t u e =
+pub result_tree_order-alike : (t u : ResultTree) → alike_trees same_but_keyword t.root t.below u.root u.below ≡ true → result_tree_order t u ≡ Equal
+result_tree_order-alike t u e =
     rw (unit_order-alike t.root u.root (and_left (same_but_keyword t.root u.root) _ e), forest_order-alike t.below u.below (and_right (same_but_keyword t.root u.root) _ e)) refl

@@ -3,7 +3,7 @@ use Rattle.std.proofs.Common.{◌≡◌, ℕ, ◌+◌, ◌-◌, ◌<◌, List, [
 use Rattle.std.proofs.lemmas.List.{length-append, length-take, length-drop}
 use Rattle.std.proofs.lemmas.List.Sums.{sum_by-cons}
 use Rattle.std.specs.List.{sum_by}
-use Rattle.js_tree.specs.Flat.{flat}
+use Rattle.js_tree.specs.Flat.{flat_form}
 use Rattle.js_tree.specs.Locations.{HasRoom, IsDown}
 use Rattle.js_tree.specs.RelativeState.{keyword_part, relative_row}
 use Rattle.js_tree.specs.Result.{ResultTree}
@@ -28,7 +28,7 @@ room_below old new rows x h some is d = record {
 
 -- ---- the rows of a tree
 
-pub some_row : (rows : List RelativeRow) (t : ResultTree) → map relative_row rows ≡ flat t → 0 < length rows
+pub some_row : (rows : List RelativeRow) (t : ResultTree) → map relative_row rows ≡ flat_form t → 0 < length rows
 some_row [] t e = absurd cc
 some_row (r ∷ rows) t e = omega arith
 

@@ -8,7 +8,7 @@ use Rattle.json.specs.Print.{escape}
 use Rattle.js_tree.specs.Events.{closing, opening}
 use Rattle.js_tree.specs.FlatState.{FlatRow, opening_row}
 use Rattle.js_tree.specs.Note.{silent}
-use Rattle.js_tree.specs.RelativeState.{DropsSilent, OpenNode, RelativeState, escaped_row, node_above, open_at, open_nodes, relative_after, relative_closed, relative_opened, relative_row, relative_state, rows_closed, row_goes}
+use Rattle.js_tree.specs.RelativeState.{DropsSilentLeaf, OpenNode, RelativeState, escaped_row, node_above, open_at, open_nodes, relative_after, relative_closed, relative_opened, relative_row, relative_state, rows_closed, row_goes}
 use Rattle.js_tree.specs.declared.note.Note.TheVariants as note
 use Rattle.js_tree.specs.declared.relative.OpenNode.{OpenNode as DeclaredOpen}
 use Rattle.js_tree.specs.declared.relative.RelativeRow.{RelativeRow}
@@ -106,7 +106,7 @@ opened_with old rows (o ∷ nodes) keyword absolute instance few shallow = pushe
 
 -- if there is room for a row and for an open node
 pub drops_silent : (rows : RelativeRows) → rows.trims ≡ true → length rows.rows.items + 1 < 2 ^ 63
-    → length rows.nodes.items + 1 < 2 ^ 63 → DropsSilent rows
+    → length rows.nodes.items + 1 < 2 ^ 63 → DropsSilentLeaf rows
 drops_silent rows e few shallow = λ keyword absolute instance.
     let m = opened_with rows rows.rows.items rows.nodes.items keyword absolute instance few shallow in
     (m.0, m.1, (rows, sym (ap (λ s. relative_after s (closing true silent)) m.1 ∙ leaves_nothing (relative_state rows) keyword absolute instance true e), refl))

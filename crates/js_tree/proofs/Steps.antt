@@ -2,7 +2,7 @@
 use Rattle.std.proofs.Common.{◌≡◌, ℕ, zero, suc, ◌+◌, ◌≤◌, ◌<◌, Bool, true, false, ◌||◌, ◌&&◌, leb, refl, arith}
 use Rattle.std.proofs.lemmas.Bool.{le-leb}
 use Rattle.js_tree.specs.Forest.{Forest, empty, tree, node_count, tree_count}
-use Rattle.js_tree.specs.Step.{at_least_two, ForestStep, dropped, lifted, inside, beside, ForestRun, done, next, NormalForest, stands, all_stand}
+use Rattle.js_tree.specs.Step.{at_least_two, ForestStep, dropped, lifted, inside, beside, ForestRun, done, next, NormalForest, node_stands, all_stand}
 
 -- ---- tests
 
@@ -64,7 +64,7 @@ module _ {A : Type 0} (noted : A → Bool) where
   normal_stands_at false a (tree b below empty) after e n = absurd (n _ (lifted e))
   normal_stands_at false a (tree b below (tree c under others)) after e n = refl
 
-  normal_stands : (a : A) (below after : Forest A) → NormalForest noted (tree a below after) → stands noted a below ≡ true
+  normal_stands : (a : A) (below after : Forest A) → NormalForest noted (tree a below after) → node_stands noted a below ≡ true
   normal_stands a below after n = normal_stands_at (noted a) a below after refl n
 
   -- the test tells normal forests
@@ -77,9 +77,9 @@ module _ {A : Type 0} (noted : A → Bool) where
   step_not_all_stand (dropped n) e = let h = rw n at e in cc
   step_not_all_stand (lifted n) e = let h = rw n at e in cc
   step_not_all_stand (inside {a = a} {f = f} {after = after} s) e =
-      step_not_all_stand s (and_left _ (all_stand noted after) (and_right (stands noted a f) _ e))
+      step_not_all_stand s (and_left _ (all_stand noted after) (and_right (node_stands noted a f) _ e))
   step_not_all_stand (beside {a = a} {below = below} s) e =
-      step_not_all_stand s (and_right (all_stand noted below) _ (and_right (stands noted a below) _ e))
+      step_not_all_stand s (and_right (all_stand noted below) _ (and_right (node_stands noted a below) _ e))
 
   pub all_stand-normal : (f : Forest A) → all_stand noted f ≡ true → NormalForest noted f
   all_stand-normal f e g s = step_not_all_stand s e

@@ -5,7 +5,7 @@ use Rattle.js_tree.specs.Forest.{Forest, empty, tree, forest_of, ◌⊹◌}
 use Rattle.js_tree.specs.Note.{Note}
 use Rattle.js_tree.specs.OutputUnit.{OutputUnit}
 use Rattle.js_tree.specs.Result.{ResultTree}
-use Rattle.js_tree.specs.declared.boxed.OpenNode.{OpenNode}
+use Rattle.js_tree.specs.declared.boxed.OpenTree.{OpenTree}
 use Rattle.js_tree.specs.declared.boxed.Boxed.{Boxed}
 
 -- an open node: its locations, and the closed trees below it
@@ -45,11 +45,11 @@ abbrev pub boxed_after : BoxedState → Event → BoxedState
 boxed_after s (opening keyword absolute instance) = boxed_opened s.found s.frames keyword absolute instance
 boxed_after s (closing valid note) = boxed_closed s.found s.frames valid note
 
-abbrev pub frame_of : OpenNode → Frame
+abbrev pub frame_of : OpenTree → Frame
 frame_of o = record { keyword = o.head.keyword; absolute = o.head.absolute; instance = o.head.instance; below = forest_of o.children.items }
 
 -- the last of the list comes first
-abbrev pub frames_of : List OpenNode → List Frame → List Frame
+abbrev pub frames_of : List OpenTree → List Frame → List Frame
 frames_of [] frames = frames
 frames_of (o ∷ os) frames = frames_of os (frame_of o ∷ frames)
 

@@ -8,5 +8,5 @@ module _ {A : Type 0} where
   flat_of empty = []
   flat_of (tree a below after) = (a, suc (node_count below)) ∷ (flat_of below ++ flat_of after)
 
-  abbrev pub flat : Rose A → List (A × ℕ)
-  flat t = (t.root, suc (node_count t.below)) ∷ flat_of t.below
+  abbrev pub flat_form : Rose A → List (A × ℕ)
+  flat_form t = (t.root, suc (node_count t.below)) ∷ flat_of t.below

@@ -1,7 +1,7 @@
 -- The state of a collector of the flat form.
 use Rattle.std.specs.Prelude.{◌≡◌, ℕ, zero, suc, ◌-◌, Bool, false, if◌then◌else◌, List, [], ◌∷◌, ◌++◌, length, map}
 use Rattle.js_tree.specs.Events.{Event, opening, closing}
-use Rattle.js_tree.specs.Flat.{flat}
+use Rattle.js_tree.specs.Flat.{flat_form}
 use Rattle.js_tree.specs.Note.{Note, silent}
 use Rattle.js_tree.specs.OutputUnit.{OutputUnit, noted}
 use Rattle.js_tree.specs.Result.{ResultTree}
@@ -21,7 +21,7 @@ flat_start = record { rows = []; numbers = [] }
 
 -- the state after a whole tree
 abbrev pub whole_tree : ResultTree → FlatState
-whole_tree t = record { rows = flat t; numbers = [] }
+whole_tree t = record { rows = flat_form t; numbers = [] }
 
 -- it is the state after some whole tree
 abbrev pub IsWholeTree : FlatState → Type 0

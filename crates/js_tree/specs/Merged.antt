@@ -3,7 +3,7 @@
 -- of the labels with a note, and `same` of labels that are equal in all that counts.
 use Rattle.std.specs.Prelude.{◌≡◌, Bool, true, false, not, ◌||◌, ◌&&◌, if◌then◌else◌}
 use Rattle.js_tree.specs.Forest.{Forest, empty, tree, Rose, ◌⊹◌}
-use Rattle.js_tree.specs.Step.{ForestStep, stands}
+use Rattle.js_tree.specs.Step.{ForestStep, node_stands}
 
 -- ---- alike trees
 
@@ -54,7 +54,7 @@ module _ {A : Type 0} (noted : A → Bool) (same : A → A → Bool) where
 
   -- the node over the trees if it has a note or there are at least two of them, else the trees themselves
   abbrev pub over : A → Forest A → Forest A
-  over a trees = if stands noted a trees then tree a trees empty else trees
+  over a trees = if node_stands noted a trees then tree a trees empty else trees
 
   -- what each tree gives, in order: its node over what its children give, without those alike to an earlier one
   abbrev pub given_trees : Forest A → Forest A
@@ -85,7 +85,7 @@ module _ {A : Type 0} (noted : A → Bool) (same : A → A → Bool) where
   -- no condensing step is possible at any node, and no node has children that are alike
   abbrev pub all_merged : Forest A → Bool
   all_merged empty = true
-  all_merged (tree a below after) = (stands noted a below && none_alike same empty below) && (all_merged below && all_merged after)
+  all_merged (tree a below after) = (node_stands noted a below && none_alike same empty below) && (all_merged below && all_merged after)
 
   -- no step is possible in the trees, if there are none before them
   abbrev pub MergeNormal : Forest A → Type 0

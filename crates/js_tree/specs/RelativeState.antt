@@ -2,7 +2,7 @@
 use Rattle.std.specs.Prelude.{◌≡◌, ℕ, ◌-◌, Bool, true, false, not, ◌&&◌, if◌then◌else◌, nat_eq, List, [], ◌∷◌, ◌++◌, drop, length, map, take}
 use Rattle.json.specs.Print.{escape}
 use Rattle.js_tree.specs.Events.{Event, Passes, opening, closing}
-use Rattle.js_tree.specs.Flat.{flat}
+use Rattle.js_tree.specs.Flat.{flat_form}
 use Rattle.js_tree.specs.FlatState.{FlatRow, opening_row, with_closed}
 use Rattle.js_tree.specs.Note.{Note, silent, speaks}
 use Rattle.js_tree.specs.OutputUnit.{OutputUnit}
@@ -33,7 +33,7 @@ abbrev pub trimming_start : RelativeState
 trimming_start = record { rows = []; nodes = []; trims = true }
 
 abbrev pub rows_of_tree : ResultTree → List FlatRow
-rows_of_tree t = flat (escaped_tree (relative_tree t))
+rows_of_tree t = flat_form (escaped_tree (relative_tree t))
 
 -- a whole tree's
 abbrev pub whole_relative : Bool → ResultTree → RelativeState
@@ -141,7 +141,7 @@ abbrev pub IsRootAt : List ℕ → Bool → OutputUnit → Type 0
 IsRootAt absolute valid u = (u.keyword ≡ []) × (u.instance ≡ []) × (u.absolute ≡ absolute) × (u.valid ≡ valid)
 
 -- a node that opens and closes at once, passing and without a note, leads from the rows back to them, wherever it is
-abbrev pub DropsSilent : RelativeRows → Type 0
-DropsSilent rows = (keyword absolute instance : List ℕ)
+abbrev pub DropsSilentLeaf : RelativeRows → Type 0
+DropsSilentLeaf rows = (keyword absolute instance : List ℕ)
     → Passes (λ a e b. relative_state b ≡ relative_after (relative_state a) e)
     (opening keyword absolute instance ∷ closing true silent ∷ []) rows rows

@@ -16,8 +16,8 @@ ResultTree = Rose OutputUnit
 
 -- ---- the two condensing rules
 
-abbrev pub Step : ResultTree → ResultTree → Type 0
-Step = StepBelow noted
+abbrev pub ResultStep : ResultTree → ResultTree → Type 0
+ResultStep = StepBelow noted
 
 abbrev pub Run : ResultTree → ResultTree → Type 0
 Run = RunBelow noted

@@ -39,10 +39,10 @@ module _ {A : Type 0} (noted : A → Bool) where
   RunBelow t u = (u.root ≡ t.root) × ForestRun t.below u.below
 
   -- no step is possible at a node with a note or with at least two children
-  abbrev pub stands : A → Forest A → Bool
-  stands a below = noted a || at_least_two (tree_count below)
+  abbrev pub node_stands : A → Forest A → Bool
+  node_stands a below = noted a || at_least_two (tree_count below)
 
   -- no step is possible at any node: the test of a normal forest
   abbrev pub all_stand : Forest A → Bool
   all_stand empty = true
-  all_stand (tree a below after) = stands a below && (all_stand below && all_stand after)
+  all_stand (tree a below after) = node_stands a below && (all_stand below && all_stand after)

@@ -12,7 +12,7 @@ use std::alloc::Global;
 
 // A node that has opened and not closed yet, with the finished subtrees below it.
 #[derive(Debug, Drop)]
-struct OpenNode<'a> {
+struct OpenTree<'a> {
     head: Head,
     children: Vec<Tree<'a>>,
 }
@@ -23,7 +23,7 @@ struct OpenNode<'a> {
 pub struct Boxed<'a> {
     alloc: Global,
     // The open nodes, from the root down.
-    nodes: Vec<OpenNode<'a>>,
+    nodes: Vec<OpenTree<'a>>,
     found: Option<Tree<'a>>,
 }
 
@@ -69,7 +69,7 @@ impl<'a> Collector<'a> for Boxed<'a> {
         ensures ok { IsSome (boxed_state self.old).found → IsOk result }
     {
         if self.found.is_none() {
-            let node = OpenNode {
+            let node = OpenTree {
                 head,
                 children: Vec::new(self.alloc),
             };
@@ -110,13 +110,13 @@ impl<'a> Collector<'a> for Boxed<'a> {
 }
 
 /// The tree of a node that closes with this verdict and this note.
-fn closed<'a>(node: OpenNode<'a>, valid: bool, note: Note<'a>) -> Tree<'a>
+fn closed<'a>(node: OpenTree<'a>, valid: bool, note: Note<'a>) -> Tree<'a>
     ensures { result ≡ record {
       root = unit_of (frame_of node.entry) valid (note_of note.entry);
       below = (frame_of node.entry).below;
     } }
 {
-    let OpenNode { head, children } = node;
+    let OpenTree { head, children } = node;
     Tree {
         unit: Unit {
             valid,

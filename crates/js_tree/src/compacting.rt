@@ -1,7 +1,7 @@
 //! Pruning and condensing of flat forms, in place.
 ghost use Rattle.std.specs.Prelude.{◌≡◌, ◌<◌, ◌≤◌, ◌+◌, ◌^◌, ◌++◌, List, drop, take, length, map, suc};
-ghost use Rattle.js_tree.specs.code.Compacting.{AreMarkedTrees, gathered, left, left_of, left_trees, marked, gone_with, room, stays};
-ghost use Rattle.js_tree.specs.Flat.{flat, flat_of};
+ghost use Rattle.js_tree.specs.code.Compacting.{AreMarkedTrees, gathered, left, left_of, left_tree_count, marked_rows, gone_with, room, stays};
+ghost use Rattle.js_tree.specs.Flat.{flat_form, flat_of};
 ghost use Rattle.js_tree.specs.FlatState.{IsWholeTree, noted_of, row_of, flat_state, whole_tree};
 ghost use Rattle.js_tree.specs.Forest.{Forest, node_count};
 ghost use Rattle.js_tree.specs.OutputUnit.{OutputUnit};
@@ -92,9 +92,9 @@ pub fn flat_condense(flat: Flat) -> Flat
 }
 
 fn keep_rows(rows: &mut Vec<Row>, keep: Keep)
-    requires { (t : ResultTree) × (map row_of rows.old.items ≡ flat t) }
-    ensures { (t : ResultTree) → map row_of rows.old.items ≡ flat t
-        → map row_of rows.new.items ≡ flat (left_of keep t) }
+    requires { (t : ResultTree) × (map row_of rows.old.items ≡ flat_form t) }
+    ensures { (t : ResultTree) → map row_of rows.old.items ≡ flat_form t
+        → map row_of rows.new.items ≡ flat_form (left_of keep t) }
 {
     mark(rows, keep);
     let count = gather(rows, keep);
@@ -106,7 +106,7 @@ fn keep_rows(rows: &mut Vec<Row>, keep: Keep)
 fn mark(rows: &mut [Row], keep: Keep)
     requires { (f : Forest OutputUnit) × (map row_of rows.old ≡ flat_of f) }
     ensures same { map row_of rows.new ≡ map row_of rows.old }
-    ensures marked { (f : Forest OutputUnit) → map row_of rows.old ≡ flat_of f → rows.new ≡ marked keep f }
+    ensures marked { (f : Forest OutputUnit) → map row_of rows.old ≡ flat_of f → rows.new ≡ marked_rows keep f }
 {
     for i in (0..rows.len()).rev() {
         let remaining = children(rows, i + 1, i + rows[i].size);
@@ -122,9 +122,9 @@ fn mark(rows: &mut [Row], keep: Keep)
 fn children(rows: &[Row], first: usize, end: usize) -> Remaining
     requires within { end ≤ length rows.now }
     requires marked { AreMarkedTrees rows.now first end }
-    ensures { (k : OfKeep) (f : Forest OutputUnit) (rest : List OfRow) → drop first rows.now ≡ marked k f ++ rest
+    ensures { (k : OfKeep) (f : Forest OutputUnit) (rest : List OfRow) → drop first rows.now ≡ marked_rows k f ++ rest
         → first + node_count f ≡ end
-        → (result.trees ≡ left_trees k f) × (result.nodes ≡ node_count (left k f)) }
+        → (result.trees ≡ left_tree_count k f) × (result.nodes ≡ node_count (left k f)) }
 {
     let mut remaining = Remaining { trees: 0, nodes: 0 };
     let mut next = first;

@@ -62,7 +62,7 @@ fn condense_one(tree: &mut Tree) -> bool
 {
     condense_children(&mut tree.children);
     // Checked after the children are condensed, because some may be gone.
-    let stays = tree.stands();
+    let stays = tree.node_stands();
     if stays {
         return true;
     }
@@ -86,7 +86,7 @@ fn all_stand(trees: &[Tree]) -> bool
     ensures { result ≡ all_stand noted (forest_of trees.now) }
 {
     for tree in trees {
-        if !tree.stands() {
+        if !tree.node_stands() {
             return false;
         }
         if !all_stand(tree.children.as_slice()) {

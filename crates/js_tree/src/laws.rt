@@ -11,7 +11,7 @@ ghost use Rattle.js_tree.specs.Events.{closing, opening};
 ghost use Rattle.js_tree.specs.Note.{silent};
 ghost use Rattle.js_tree.specs.Relative.{IsLocated, placed_tree, relative_tree};
 ghost use Rattle.js_tree.specs.RelativeState.{RelativeState, relative_after};
-ghost use Rattle.js_tree.specs.Result.{ResultTree, Normal, Run, Step, kept, moved, pruned, units};
+ghost use Rattle.js_tree.specs.Result.{ResultTree, Normal, Run, ResultStep, kept, moved, pruned, units};
 ghost use Rattle.js_tree.specs.declared.moves.Move.{Move};
 ghost use Rattle.js_tree.specs.Merged.{alike, firsts, has_alike};
 ghost use Rattle.js_tree.specs.MergedResult.{merged, without_keywords, NormalOfThree, RunOfThree, StepOfThree};
@@ -23,7 +23,7 @@ use crate::tree::Tree;
 
 /// A step, wherever it is made, doesn't change the kept tree.
 pub fn a_step_leaves_the_kept_tree()
-    ensures { (t u : ResultTree) → Step t u → kept u ≡ kept t }
+    ensures { (t u : ResultTree) → ResultStep t u → kept u ≡ kept t }
 {}
 
 /// A normal tree is its own kept tree.
@@ -33,12 +33,12 @@ pub fn a_normal_tree_is_its_kept_tree()
 
 /// The steps are exactly the possible moves by the two rules of `condense`.
 pub fn steps_are_moves()
-    ensures { (t u : ResultTree) → Step t u ↔ ((m : Move) × IsTrue (of_two m.rule) × (moved m t ≡ Some u)) }
+    ensures { (t u : ResultTree) → ResultStep t u ↔ ((m : Move) × IsTrue (of_two m.rule) × (moved m t ≡ Some u)) }
 {}
 
 /// A step removes exactly one node.
 pub fn a_step_takes_one_node()
-    ensures { (t u : ResultTree) → Step t u → node_count u.below + 1 ≡ node_count t.below }
+    ensures { (t u : ResultTree) → ResultStep t u → node_count u.below + 1 ≡ node_count t.below }
 {}
 
 /// From each tree a run leads to its kept tree, which is normal.

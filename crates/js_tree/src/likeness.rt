@@ -111,6 +111,6 @@ pub(crate) fn comes_again_at_mark(trees: &[Tree], count: usize, index: usize) ->
         (get_or trees.now index d).below ≡ true }
 {
     let tree = &trees[index];
-    let place = tree.mark();
+    let place = tree.last_mark();
     place < count && are_alike(&trees[place], tree)
 }

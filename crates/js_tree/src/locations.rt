@@ -35,7 +35,7 @@ impl Locations {
     }
 
     /// Goes from the node above to the node of the row. It allocates nothing.
-    pub(crate) fn go_down(&mut self, row: &RelativeRow)
+    pub(crate) fn go_to_node(&mut self, row: &RelativeRow)
         requires { HasRoom self.old (row.now ∷ []) }
         ensures { IsDown self.old row.now self.new }
     {

@@ -70,7 +70,7 @@ fn merge_one(tree: &mut Tree) -> bool
 {
     merge_children(&mut tree.children);
     // Checked after the children are merged, because some may be gone.
-    let stays = tree.stands();
+    let stays = tree.node_stands();
     if stays {
         return true;
     }
@@ -172,7 +172,7 @@ fn all_merged(trees: &[Tree]) -> bool
     ensures { result ≡ all_merged noted same_but_keyword (forest_of trees.now) }
 {
     for tree in trees {
-        if !tree.stands() {
+        if !tree.node_stands() {
             return false;
         }
         if !siblings_differ(tree.children.as_slice()) {

@@ -1,6 +1,6 @@
 //! Whether rows are the flat form of trees.
 ghost use Rattle.std.specs.Prelude.{◌≡◌, ◌<◌, ◌≤◌, ◌+◌, ◌↔◌, IsTrue, drop, length, map};
-ghost use Rattle.js_tree.specs.Flat.{flat, flat_of};
+ghost use Rattle.js_tree.specs.Flat.{flat_form, flat_of};
 ghost use Rattle.js_tree.specs.FlatState.{row_of};
 ghost use Rattle.js_tree.specs.Forest.{Forest};
 ghost use Rattle.js_tree.specs.code.Nesting.{ends_after};
@@ -11,7 +11,7 @@ use crate::flat::Row;
 
 /// Whether the rows are those of one tree. Takes linear time, and allocates nothing.
 pub(crate) fn are_of_a_tree(rows: &[Row]) -> bool
-    ensures { IsTrue result ↔ ((t : ResultTree) × (map row_of rows.now ≡ flat t)) }
+    ensures { IsTrue result ↔ ((t : ResultTree) × (map row_of rows.now ≡ flat_form t)) }
 {
     if rows.is_empty() {
         return false;

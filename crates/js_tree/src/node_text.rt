@@ -15,11 +15,15 @@ use js_doc::{Doc, Out, Stopped, Whole, put_number, put_string, put_text};
 pub(crate) fn put_head<O: Out>(unit: &Unit, out: &mut O) -> Result<(), Stopped>
     ensures { Puts (O.progress out.old) (O.progress out.new) (head_text unit.now) result }
 {
-    put_beginning(unit.absolute.as_str(), &unit.note, out)
+    put_opening_members(unit.absolute.as_str(), &unit.note, out)
 }
 
 /// Writes the members before `annotations`: the absolute keyword location, and the annotation if the note is one.
-pub(crate) fn put_beginning<O: Out>(absolute: &str, note: &Note, out: &mut O) -> Result<(), Stopped>
+pub(crate) fn put_opening_members<O: Out>(
+    absolute: &str,
+    note: &Note,
+    out: &mut O,
+) -> Result<(), Stopped>
     ensures { Puts (O.progress out.old) (O.progress out.new) (beginning_text absolute.now (note_of note.now)) result }
 {
     put_member(b"{\"absoluteKeywordLocation\":", absolute, out)?;
@@ -30,7 +34,7 @@ pub(crate) fn put_beginning<O: Out>(absolute: &str, note: &Note, out: &mut O) ->
 pub(crate) fn put_tail<O: Out>(unit: &Unit, out: &mut O) -> Result<(), Stopped>
     ensures { Puts (O.progress out.old) (O.progress out.new) (tail_text unit.now) result }
 {
-    put_end(
+    put_closing_members(
         unit.instance.as_str(),
         unit.keyword.as_str(),
         unit.valid,
@@ -39,7 +43,7 @@ pub(crate) fn put_tail<O: Out>(unit: &Unit, out: &mut O) -> Result<(), Stopped>
 }
 
 /// Writes the members after `errors`: the instance location, the keyword location and the verdict.
-pub(crate) fn put_end<O: Out>(
+pub(crate) fn put_closing_members<O: Out>(
     instance: &str,
     keyword: &str,
     valid: bool,

@@ -2,7 +2,7 @@
 ghost use Rattle.std.specs.Prelude.{◌≡◌};
 ghost use Rattle.js_tree.specs.Forest.{forest_of};
 ghost use Rattle.js_tree.specs.Seen.{note_of};
-ghost use Rattle.js_tree.specs.code.Order.{kind, note_order, unit_order, tree_order, forest_order};
+ghost use Rattle.js_tree.specs.code.Order.{note_rank, note_order, unit_order, result_tree_order, forest_order};
 
 use crate::note::Note;
 use crate::tree::Tree;
@@ -11,8 +11,8 @@ use std::cmp::Ordering;
 
 impl<'a> Note<'a> {
     /// The rank of the note's kind.
-    fn kind(&self) -> u8
-        ensures { result ≡ kind (note_of self.now) }
+    fn note_rank(&self) -> u8
+        ensures { result ≡ note_rank (note_of self.now) }
     {
         match self {
             Note::Silent => 0,
@@ -34,24 +34,24 @@ impl<'a> Note<'a> {
             Note::Error(a) => if let Note::Error(b) = other {
                 a.as_str().cmp(b.as_str())
             } else {
-                self.kind().cmp(&other.kind())
+                self.note_rank().cmp(&other.note_rank())
             },
             Note::Names(a) => if let Note::Names(b) = other {
                 a.as_slice().cmp(b.as_slice())
             } else {
-                self.kind().cmp(&other.kind())
+                self.note_rank().cmp(&other.note_rank())
             },
             Note::Index(a) => if let Note::Index(b) = other {
                 a.cmp(b)
             } else {
-                self.kind().cmp(&other.kind())
+                self.note_rank().cmp(&other.note_rank())
             },
             Note::Indexes(a) => if let Note::Indexes(b) = other {
                 a.as_slice().cmp(b.as_slice())
             } else {
-                self.kind().cmp(&other.kind())
+                self.note_rank().cmp(&other.note_rank())
             },
-            _ => self.kind().cmp(&other.kind()),
+            _ => self.note_rank().cmp(&other.note_rank()),
         }
     }
 }
@@ -80,7 +80,7 @@ impl<'a> Unit<'a> {
 /// Orders trees by their roots, and then by their children one by one. It stops at the first node that differs.
 #[cycle(compare)]
 pub(crate) fn compare(a: &Tree, b: &Tree) -> Ordering
-    ensures { result ≡ tree_order a.now b.now }
+    ensures { result ≡ result_tree_order a.now b.now }
 {
     let roots = a.unit.compare(&b.unit);
     if roots.is_ne() {

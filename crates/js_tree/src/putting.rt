@@ -2,7 +2,7 @@
 ghost use Rattle.std.specs.Prelude.{◌≡◌, map};
 ghost use Rattle.js_doc.specs.BytesOut.{Puts};
 ghost use Rattle.js_doc.specs.Compact.{compact};
-ghost use Rattle.js_tree.specs.Flat.{flat};
+ghost use Rattle.js_tree.specs.Flat.{flat_form};
 ghost use Rattle.js_tree.specs.FlatState.{IsWholeTree, flat_state, whole_tree};
 ghost use Rattle.js_tree.specs.Form.{flag, shown};
 ghost use Rattle.js_tree.specs.Result.{ResultTree};
@@ -28,8 +28,8 @@ pub fn put_flat<O: Out>(flat: &Flat, format: Format, out: &mut O) -> Result<(), 
 }
 
 fn put_rows<L: Line, O: Out>(rows: &[L], format: Format, out: &mut O) -> Result<(), Stopped>
-    requires { (t : ResultTree) × (map L.flat_row rows.now ≡ flat t) }
-    ensures { (t : ResultTree) → map L.flat_row rows.now ≡ flat t
+    requires { (t : ResultTree) × (map L.flat_row rows.now ≡ flat_form t) }
+    ensures { (t : ResultTree) → map L.flat_row rows.now ≡ flat_form t
         → Puts (O.progress out.old) (O.progress out.new) (compact (shown format t)) result }
 {
     let root = &rows[0];

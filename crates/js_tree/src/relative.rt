@@ -4,7 +4,7 @@ ghost use Rattle.std.specs.List.{list_all};
 ghost use Rattle.json.specs.Print.{escape};
 ghost use Rattle.js_doc.specs.Escapes.{stands};
 ghost use Rattle.js_tree.specs.Events.{opening, closing};
-ghost use Rattle.js_tree.specs.RelativeState.{AreRowsOf, AreTrimmedOf, AreWhole, DropsSilent, IsRootAt, node_above, open_node, open_nodes, part, relative_after, relative_start, relative_state, row_goes, trimming_start};
+ghost use Rattle.js_tree.specs.RelativeState.{AreRowsOf, AreTrimmedOf, AreWhole, DropsSilentLeaf, IsRootAt, node_above, open_node, open_nodes, part, relative_after, relative_start, relative_state, row_goes, trimming_start};
 ghost use Rattle.js_tree.specs.Result.{ResultTree};
 ghost use Rattle.js_tree.specs.Seen.{note_of};
 ghost use Rattle.js_tree.specs.Trimmed.{trimmed_tree};
@@ -193,7 +193,7 @@ impl<'a> RelativeRows<'a> {
     /// caller may then leave it out. True with `trimming`, unless the rows are as many as a vector can hold.
     #[inline(always)]
     pub fn drops_silent(&self) -> bool
-        ensures { result ≡ true → DropsSilent self.now }
+        ensures { result ≡ true → DropsSilentLeaf self.now }
     {
         self.trims && self.rows.len() < MOST && self.nodes.len() < MOST
     }

@@ -64,7 +64,7 @@ fn put_node<O: Out>(
     let mark = &marks[0];
     let some = mark.below;
     let valid = row.valid;
-    locations.go_down(row);
+    locations.go_to_node(row);
     put_beginning(later, row, out)?;
     put_children(
         valid,
@@ -204,7 +204,7 @@ fn put_below<O: Out>(
     ensures back { OnOk result (IsBack locations.old locations.new) }
 {
     let row = &rows[0];
-    locations.go_down(row);
+    locations.go_to_node(row);
     let later = put_trees(later, &rows[1..], &marks[1..], locations, out)?;
     locations.go_back(row);
     Ok(later)

@@ -56,7 +56,7 @@ fn keep_node<'a>(
     ensures back { OnOk result (IsBack locations.old locations.new) }
 {
     let row = &rows[0];
-    locations.go_down(row);
+    locations.go_to_node(row);
     let mut trees = Vec::new(alloc);
     keep_trees(alloc, &rows[1..], &marks[1..], locations, &mut trees)?;
     let node = node_at(alloc, row, locations, trees)?;
@@ -167,7 +167,7 @@ fn keep_below<'a>(
     ensures back { OnOk result (IsBack locations.old locations.new) }
 {
     let row = &rows[0];
-    locations.go_down(row);
+    locations.go_to_node(row);
     keep_trees(alloc, &rows[1..], &marks[1..], locations, trees)?;
     locations.go_back(row);
     Ok(())

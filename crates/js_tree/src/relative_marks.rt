@@ -1,6 +1,6 @@
 //! What pruning and condensing leave of a tree, from relative rows.
 ghost use Rattle.std.specs.Prelude.{◌≡◌, ◌++◌, ◌||◌, IfOk, if◌then◌else◌, map};
-ghost use Rattle.js_tree.specs.Flat.{flat, flat_of};
+ghost use Rattle.js_tree.specs.Flat.{flat_form, flat_of};
 ghost use Rattle.js_tree.specs.Forest.{Forest, empty, tree};
 ghost use Rattle.js_tree.specs.Marks.{AreMarksOf, left_trees, mark_of, marked};
 ghost use Rattle.js_tree.specs.OutputUnit.{OutputUnit};
@@ -64,8 +64,8 @@ fn mark_trees(verdict: bool, rows: &[RelativeRow], marks: &mut Vec<Mark>) -> Res
 // Marks the tree of the rows. Returns 1 if something is left of it, and otherwise 0.
 #[cycle(mark_trees)]
 fn mark_tree(verdict: bool, rows: &[RelativeRow], marks: &mut Vec<Mark>) -> Result<usize, Memory>
-    requires { (r : ResultTree) × (map relative_row rows.now ≡ flat r) }
-    ensures { IfOk result (λ trees. (r : ResultTree) → map relative_row rows.now ≡ flat r
+    requires { (r : ResultTree) × (map relative_row rows.now ≡ flat_form r) }
+    ensures { IfOk result (λ trees. (r : ResultTree) → map relative_row rows.now ≡ flat_form r
         → (marks.new.items ≡ marks.old.items ++ marked verdict (tree r.root r.below empty))
         × (trees ≡ left_trees verdict (tree r.root r.below empty))) }
 {

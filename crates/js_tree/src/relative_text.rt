@@ -55,7 +55,7 @@ fn put_tree<O: Out>(
     ensures back { OnOk result (IsBack locations.old locations.new) }
 {
     let row = &rows[0];
-    locations.go_down(row);
+    locations.go_to_node(row);
     put_node(later, row, &rows[1..], locations, out)?;
     locations.go_back(row);
     Ok(())

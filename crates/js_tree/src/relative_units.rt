@@ -90,7 +90,7 @@ fn put_tree<O: Out>(
     ensures back { OnOk result (IsBack locations.old locations.new) }
 {
     let row = &rows[0];
-    locations.go_down(row);
+    locations.go_to_node(row);
     let later = put_noted(later, row, locations, out)?;
     let later = put_trees(verdict, later, &rows[1..], locations, out)?;
     locations.go_back(row);

@@ -1,7 +1,7 @@
 //! JSON documents made from a flat form.
 ghost use Rattle.std.specs.Prelude.{◌≡◌, [], IfOk, map};
 ghost use Rattle.js_doc.specs.Seen.{value_of};
-ghost use Rattle.js_tree.specs.Flat.{flat, flat_of};
+ghost use Rattle.js_tree.specs.Flat.{flat_form, flat_of};
 ghost use Rattle.js_tree.specs.FlatState.{IsWholeTree, noted_of, row_of, flat_state, whole_tree};
 ghost use Rattle.js_tree.specs.Forest.{Forest};
 ghost use Rattle.js_tree.specs.Form.{flag, node_value, node_values, shown, unit_list, verbose};
@@ -35,8 +35,9 @@ pub fn flat_doc(alloc: Global, flat: &Flat, format: Format) -> Result<Doc, Memor
 }
 
 fn flag_doc(alloc: Global, rows: &[Row]) -> Result<Doc, Memory>
-    requires { (t : ResultTree) × (map row_of rows.now ≡ flat t) }
-    ensures { IfOk result (λ doc. (t : ResultTree) → map row_of rows.now ≡ flat t → value_of doc ≡ flag t.root.valid) }
+    requires { (t : ResultTree) × (map row_of rows.now ≡ flat_form t) }
+    ensures { IfOk result (λ doc. (t : ResultTree) → map row_of rows.now ≡ flat_form t
+        → value_of doc ≡ flag t.root.valid) }
 {
     let row = &rows[0];
     let root = &row.unit;
@@ -44,8 +45,8 @@ fn flag_doc(alloc: Global, rows: &[Row]) -> Result<Doc, Memory>
 }
 
 fn unit_list_doc(alloc: Global, rows: &[Row]) -> Result<Doc, Memory>
-    requires { (t : ResultTree) × (map row_of rows.now ≡ flat t) }
-    ensures { IfOk result (λ doc. (t : ResultTree) → map row_of rows.now ≡ flat t → value_of doc ≡ unit_list t) }
+    requires { (t : ResultTree) × (map row_of rows.now ≡ flat_form t) }
+    ensures { IfOk result (λ doc. (t : ResultTree) → map row_of rows.now ≡ flat_form t → value_of doc ≡ unit_list t) }
 {
     let docs = noted_docs(alloc, rows)?;
     let row = &rows[0];
@@ -70,8 +71,8 @@ fn noted_docs(alloc: Global, rows: &[Row]) -> Result<Vec<Doc>, Memory>
 /// The document of the tree with these rows.
 #[cycle(root_doc)]
 fn root_doc(alloc: Global, rows: &[Row]) -> Result<Doc, Memory>
-    requires { (t : ResultTree) × (map row_of rows.now ≡ flat t) }
-    ensures { IfOk result (λ doc. (t : ResultTree) → map row_of rows.now ≡ flat t → value_of doc ≡ verbose t) }
+    requires { (t : ResultTree) × (map row_of rows.now ≡ flat_form t) }
+    ensures { IfOk result (λ doc. (t : ResultTree) → map row_of rows.now ≡ flat_form t → value_of doc ≡ verbose t) }
 {
     let children = root_docs(alloc, &rows[1..])?;
     let row = &rows[0];

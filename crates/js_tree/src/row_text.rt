@@ -3,7 +3,7 @@ ghost use Rattle.std.specs.Prelude.{◌≡◌, [], false, map, true};
 ghost use Rattle.js_doc.specs.BytesOut.{Puts};
 ghost use Rattle.js_doc.specs.Compact.{compact};
 ghost use Rattle.js_doc.specs.Value.{items, list};
-ghost use Rattle.js_tree.specs.Flat.{flat, flat_of};
+ghost use Rattle.js_tree.specs.Flat.{flat_form, flat_of};
 ghost use Rattle.js_tree.specs.FlatState.{noted_of};
 ghost use Rattle.js_tree.specs.Forest.{Forest};
 ghost use Rattle.js_tree.specs.Form.{array_of_some, node_value, node_values, unit_list, verbose, value_if};
@@ -18,8 +18,8 @@ use js_doc::{Out, Stopped};
 /// Writes the tree with these rows.
 #[cycle(put_root)]
 pub(crate) fn put_root<L: Line, O: Out>(rows: &[L], out: &mut O) -> Result<(), Stopped>
-    requires { (t : ResultTree) × (map L.flat_row rows.now ≡ flat t) }
-    ensures { (t : ResultTree) → map L.flat_row rows.now ≡ flat t
+    requires { (t : ResultTree) × (map L.flat_row rows.now ≡ flat_form t) }
+    ensures { (t : ResultTree) → map L.flat_row rows.now ≡ flat_form t
         → Puts (O.progress out.old) (O.progress out.new) (compact (verbose t)) result }
 {
     let row = &rows[0];
@@ -79,8 +79,8 @@ fn put_roots<L: Line, O: Out>(rows: &[L], out: &mut O) -> Result<(), Stopped>
 
 /// Writes an object with the verdict and with the noted units, each without children.
 pub(crate) fn put_units<L: Line, O: Out>(rows: &[L], out: &mut O) -> Result<(), Stopped>
-    requires { (t : ResultTree) × (map L.flat_row rows.now ≡ flat t) }
-    ensures { (t : ResultTree) → map L.flat_row rows.now ≡ flat t
+    requires { (t : ResultTree) × (map L.flat_row rows.now ≡ flat_form t) }
+    ensures { (t : ResultTree) → map L.flat_row rows.now ≡ flat_form t
         → Puts (O.progress out.old) (O.progress out.new) (compact (unit_list t)) result }
 {
     let root = &rows[0];

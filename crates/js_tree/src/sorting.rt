@@ -66,7 +66,7 @@ fn stays_first(trees: &[Tree], left: usize, right: usize) -> bool {
 
 fn mark(trees: &[Tree], place: usize) -> usize {
     match trees.get(place) {
-        Some(tree) => tree.mark(),
+        Some(tree) => tree.last_mark(),
         None => NOWHERE,
     }
 }
@@ -87,7 +87,7 @@ pub(crate) fn differ_by_list(trees: &[Tree], first: usize) -> Option<bool>
     }
     let mut place = first;
     for seen in 1..trees.len() {
-        let next = trees[place].mark();
+        let next = trees[place].last_mark();
         if !is_before(trees, place, next) {
             return if are_alike_at(trees, place, next) {
                 Some(false)

@@ -1,7 +1,7 @@
 //! Result trees.
 ghost use Rattle.std.specs.Prelude.{◌≡◌, ◌∷◌, ◌++◌, ◌↔◌, IsTrue, MatchOption, [], length};
 ghost use Rattle.js_tree.specs.OutputUnit.{noted};
-ghost use Rattle.js_tree.specs.Step.{stands};
+ghost use Rattle.js_tree.specs.Step.{node_stands};
 
 use crate::unit::Unit;
 use std::cell::Cell;
@@ -115,13 +115,13 @@ impl<'a> Trees<'a> {
 
 impl<'a> Tree<'a> {
     /// Whether condensing leaves the node in place: it has a note, or at least two children.
-    pub(crate) fn stands(&self) -> bool
-        ensures { result ≡ stands noted self.now.root self.now.below }
+    pub(crate) fn node_stands(&self) -> bool
+        ensures { result ≡ node_stands noted self.now.root self.now.below }
     {
         self.unit.is_noted() || self.children.len() >= 2
     }
     /// The mark that was set last.
-    pub(crate) fn mark(&self) -> usize {
+    pub(crate) fn last_mark(&self) -> usize {
         self.children.mark.get()
     }
 

@@ -14,12 +14,12 @@ pub record IsNew (s : Session) : Type 0 where
   pub text : s.text.items ≡ []
 
 -- the number is that of a status, which the call answers
-abbrev pub Answers : ℕ → (Status → Type 0) → Type 0
-Answers number Call = (s : Status) × (number ≡ code s) × Call s
+abbrev pub AnswersNumber : ℕ → (Status → Type 0) → Type 0
+AnswersNumber number Call = (s : Status) × (number ≡ code s) × Call s
 
 -- a call on an empty handle is misused and leaves it empty
 abbrev pub OnHandle : (Session → Session → Status → Type 0) → Option Session → Option Session → ℕ → Type 0
-OnHandle Call (Some before) (Some after) number = Answers number (Call before after)
+OnHandle Call (Some before) (Some after) number = AnswersNumber number (Call before after)
 OnHandle Call (Some before) None number = ⊥
 OnHandle Call None after number = (number ≡ code status.Misused) × (after ≡ None)
 

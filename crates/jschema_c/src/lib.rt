@@ -27,7 +27,7 @@ pub extern "C" fn jschema_new(alloc: Global, handle: &mut Handle) -> u32
     jschema_free(alloc, handle);
     match Box::new(alloc, Session::new(alloc)) {
         Ok(made) => {
-            handle.put(made);
+            handle.put_session(made);
             Status::Done.code()
         }
         Err(_) => Status::Failed.code(),
@@ -44,11 +44,11 @@ pub extern "C" fn jschema_add(
 ) -> u32
     ensures { OnHandle (SessionAdds uri.now document.now) handle.old.value handle.new.value result }
 {
-    let Some(mut session) = handle.take(alloc) else {
+    let Some(mut session) = handle.take_session(alloc) else {
         return Status::Misused.code();
     };
-    let status = session.add(alloc, uri, document);
-    handle.put(session);
+    let status = session.add_document(alloc, uri, document);
+    handle.put_session(session);
     status.code()
 }
 
@@ -57,11 +57,11 @@ pub extern "C" fn jschema_add(
 pub extern "C" fn jschema_finish(alloc: Global, handle: &mut Handle) -> u32
     ensures { OnHandle SessionFinishes handle.old.value handle.new.value result }
 {
-    let Some(mut session) = handle.take(alloc) else {
+    let Some(mut session) = handle.take_session(alloc) else {
         return Status::Misused.code();
     };
-    let status = session.finish(alloc);
-    handle.put(session);
+    let status = session.finish_documents(alloc);
+    handle.put_session(session);
     status.code()
 }
 
@@ -70,11 +70,11 @@ pub extern "C" fn jschema_finish(alloc: Global, handle: &mut Handle) -> u32
 pub extern "C" fn jschema_places(alloc: Global, handle: &mut Handle) -> u32
     ensures { OnHandle SessionLists handle.old.value handle.new.value result }
 {
-    let Some(mut session) = handle.take(alloc) else {
+    let Some(mut session) = handle.take_session(alloc) else {
         return Status::Misused.code();
     };
     let status = session.list(alloc);
-    handle.put(session);
+    handle.put_session(session);
     status.code()
 }
 
@@ -89,11 +89,11 @@ pub extern "C" fn jschema_entry(
     ensures { OnHandle (SessionEnters uri.now number.old number.new) handle.old.value
         handle.new.value result }
 {
-    let Some(mut session) = handle.take(alloc) else {
+    let Some(mut session) = handle.take_session(alloc) else {
         return Status::Misused.code();
     };
-    let status = session.enter(alloc, uri, number);
-    handle.put(session);
+    let status = session.number_entry(alloc, uri, number);
+    handle.put_session(session);
     status.code()
 }
 
@@ -109,11 +109,11 @@ pub extern "C" fn jschema_check(
     ensures { OnHandle (SessionChecks entry instance.now format) handle.old.value
         handle.new.value result }
 {
-    let Some(mut session) = handle.take(alloc) else {
+    let Some(mut session) = handle.take_session(alloc) else {
         return Status::Misused.code();
     };
-    let status = session.check(alloc, entry, instance, format);
-    handle.put(session);
+    let status = session.check_instance(alloc, entry, instance, format);
+    handle.put_session(session);
     status.code()
 }
 
@@ -125,14 +125,14 @@ pub extern "C" fn jschema_text(alloc: Global, handle: &mut Handle, out: &mut [u8
         × (out.new ≡ copied s.text.items out.old)) }
     ensures stays { handle.new.value ≡ handle.old.value }
 {
-    let Some(session) = handle.take(alloc) else {
+    let Some(session) = handle.take_session(alloc) else {
         return 0;
     };
     let text = session.text.as_slice();
     let whole = text.len();
     let fits = whole.min(out.len());
     out[..fits].copy_from_slice(&text[..fits]);
-    handle.put(session);
+    handle.put_session(session);
     whole
 }
 
@@ -141,7 +141,7 @@ pub extern "C" fn jschema_text(alloc: Global, handle: &mut Handle, out: &mut [u8
 pub extern "C" fn jschema_free(alloc: Global, handle: &mut Handle)
     ensures { handle.new.value ≡ None }
 {
-    drop(handle.take(alloc));
+    drop(handle.take_session(alloc));
 }
 
 /// The library's version: 10,000 for each major one, 100 for each minor one, and the patch.

@@ -5,7 +5,7 @@ ghost use Rattle.jschema_c.specs.Session.{Adds, Finishes, Lists, Enters, Checks,
 ghost use Rattle.js_bundle.specs.Schemas.{is_place, place_at};
 ghost use Rattle.js_output.specs.Outcome.{InstanceOutcome};
 
-use crate::status::{Status, format_of};
+use crate::status::{Status, format_numbered};
 use js_bundle::{Bundle, Place, Schemas};
 use js_output::{Fault, Sink, judge, list_places, refusal_line};
 use js_tree::Format;
@@ -42,7 +42,7 @@ impl Session {
     }
 
     /// Adds a document.
-    pub(crate) fn add(&mut self, alloc: Global, uri: &[u8], document: &[u8]) -> Status
+    pub(crate) fn add_document(&mut self, alloc: Global, uri: &[u8], document: &[u8]) -> Status
         ensures { SessionAdds uri.now document.now self.old self.new result }
     {
         let came = added(&mut self.phase, uri, document);
@@ -50,7 +50,7 @@ impl Session {
     }
 
     /// Finishes the documents.
-    pub(crate) fn finish(&mut self, alloc: Global) -> Status
+    pub(crate) fn finish_documents(&mut self, alloc: Global) -> Status
         ensures { SessionFinishes self.old self.new result }
     {
         let came = finished(alloc, &mut self.phase);
@@ -68,7 +68,7 @@ impl Session {
     }
 
     /// Looks an entry up, and numbers it.
-    pub(crate) fn enter(&mut self, alloc: Global, uri: &[u8], number: &mut usize) -> Status
+    pub(crate) fn number_entry(&mut self, alloc: Global, uri: &[u8], number: &mut usize) -> Status
         ensures { SessionEnters uri.now number.old number.new self.old self.new result }
     {
         let came = entered(alloc, &self.phase, uri, &mut self.entries, number);
@@ -76,7 +76,7 @@ impl Session {
     }
 
     /// Checks an instance.
-    pub(crate) fn check(
+    pub(crate) fn check_instance(
         &mut self,
         alloc: Global,
         entry: usize,
@@ -198,7 +198,7 @@ fn checked(
     let Some(place) = entries.get(entry) else {
         return Ok(Status::Misused);
     };
-    let Some(format) = format_of(format) else {
+    let Some(format) = format_numbered(format) else {
         return Ok(Status::Misused);
     };
     if !schemas.has(*place) {

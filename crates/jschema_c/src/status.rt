@@ -35,7 +35,7 @@ impl Status {
 }
 
 /// The format that has the number.
-pub(crate) fn format_of(number: u32) -> Option<Format>
+pub(crate) fn format_numbered(number: u32) -> Option<Format>
     ensures { MatchOption result (last_format < number) (λ f. number ≡ format_number f) }
 {
     match number {

@@ -3,14 +3,14 @@ use Rattle.std.specs.Prelude.{◌≡◌, Bool, true, List, map, Option, None, Re
 use Rattle.js_output.specs.Device.{Tracked}
 use Rattle.js_output.specs.declared.fault.Fault.{Fault}
 use Rattle.js_output.specs.declared.fault.Fault.TheVariants as fault
-use Rattle.js_command.specs.Words.{Pairs, Request, pair, check, suite, places}
+use Rattle.js_command.specs.Words.{DocumentPairs, Request, pair, check, suite, places}
 use Rattle.js_command.specs.declared.words.DocumentFile.{DocumentFile}
 use Rattle.js_command.specs.declared.words.Misuse.{Misuse}
 use Rattle.js_command.specs.declared.words.Misuse.TheVariants as misuse
 use Rattle.js_command.specs.declared.words.Task.{Task}
 use Rattle.js_command.specs.declared.words.Task.TheVariants as task
 
-abbrev pub pairs_seen : List DocumentFile → Pairs
+abbrev pub pairs_seen : List DocumentFile → DocumentPairs
 pairs_seen ds = map (λ d. (d.uri.now, d.file.now)) ds
 
 abbrev pub request_seen : Task → Request
@@ -25,7 +25,7 @@ IsMisuse asked misuse.Memory = ⊤
 IsMisuse asked m = asked ≡ Err m
 
 -- why they have no pairs
-abbrev pub IsNoPairs : Option Pairs → Misuse → Type 0
+abbrev pub IsNoPairs : Option DocumentPairs → Misuse → Type 0
 IsNoPairs found misuse.Memory = ⊤
 IsNoPairs found misuse.OddPairs = found ≡ None
 IsNoPairs found misuse.OtherForm = ⊥

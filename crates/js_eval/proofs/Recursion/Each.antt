@@ -10,7 +10,7 @@ use Rattle.std.proofs.lemmas.List.Sums.{sum_by-append, sum_by-cons}
 use Rattle.js_doc.specs.Pointer.{pointer_text}
 use Rattle.js_tree.specs.Forest.{empty, tree, ◌⊹◌}
 use Rattle.js_eval.specs.Applications.{Application}
-use Rattle.js_eval.specs.Evaluated.{name_in, index_in}
+use Rattle.js_eval.specs.Evaluated.{name_in_step, index_in_step}
 use Rattle.js_eval.specs.Location.{Location, at_application, step_tokens}
 use Rattle.js_eval.specs.SchemaSet.{Text, SchemaSet}
 use Rattle.js_eval.specs.Verdict.{within}
@@ -72,8 +72,8 @@ module _ {P C : Type 0} (S : SchemaSet P) (n : ℕ) (path : List P) (κ : Kind) 
       → EachSoFar all (a ∷ rest) asked held names names' indexes indexes' old left keyword instance c d
       → NodeWalked S n path a.place a.value holds names' names₁ indexes' indexes₁ left left₁
       → ((at : Location) → IsAt at (at_step keyword a.step) (at_step instance a.at) → NodeTold S n path a.place a.value takes at d e)
-      → names₂ ≡ take (length names') names₁ ++ keeps (names_origin κ) holds (name_in a.at) (drop (length names') names₁)
-      → indexes₂ ≡ take (length indexes') indexes₁ ++ keeps (indexes_origin κ) holds (index_in a.at) (drop (length indexes') indexes₁)
+      → names₂ ≡ take (length names') names₁ ++ keeps (names_origin κ) holds (name_in_step a.at) (drop (length names') names₁)
+      → indexes₂ ≡ take (length indexes') indexes₁ ++ keeps (indexes_origin κ) holds (index_in_step a.at) (drop (length indexes') indexes₁)
       → EachSoFar all rest (asked + 1) (held + cond holds 1 0) names names₂ indexes indexes₂ old left₁ keyword instance c e
   each_more all rest a asked held names names' names₁ names₂ indexes indexes' indexes₁ indexes₂ old left left₁ keyword instance c d e holds so node tells f g =
       let w = so.walked in
@@ -85,14 +85,14 @@ module _ {P C : Type 0} (S : SchemaSet P) (n : ℕ) (path : List P) (κ : Kind) 
           many = ap (λ m. m + 1) w.many ∙ sym (length-append so.done (a ∷ []));
           holding = let x = counted_more (holds_at S n path) so.done a in let y = node.verdict in let z = w.holding in cc;
           of_names =
-              let x = kept_behind (keeps (names_origin κ) holds (name_in a.at)) names' _ names₁ names₂ node.of_names f in
+              let x = kept_behind (keeps (names_origin κ) holds (name_in_step a.at)) names' _ names₁ names₂ node.of_names f in
               let y = names_more S n path κ so.done a node.settled in
-              let z = append_assoc names (names_given S n path κ so.done) (keeps (names_origin κ) (holds_at S n path a) (name_in a.at) ((within S n).names path a.place a.value)) in
+              let z = append_assoc names (names_given S n path κ so.done) (keeps (names_origin κ) (holds_at S n path a) (name_in_step a.at) ((within S n).names path a.place a.value)) in
               let v = node.verdict in let u = w.of_names in cc;
           of_indexes =
-              let x = kept_behind (keeps (indexes_origin κ) holds (index_in a.at)) indexes' _ indexes₁ indexes₂ node.of_indexes g in
+              let x = kept_behind (keeps (indexes_origin κ) holds (index_in_step a.at)) indexes' _ indexes₁ indexes₂ node.of_indexes g in
               let y = indexes_more S n path κ so.done a node.settled in
-              let z = append_assoc indexes (indexes_given S n path κ so.done) (keeps (indexes_origin κ) (holds_at S n path a) (index_in a.at) ((within S n).indexes path a.place a.value)) in
+              let z = append_assoc indexes (indexes_given S n path κ so.done) (keeps (indexes_origin κ) (holds_at S n path a) (index_in_step a.at) ((within S n).indexes path a.place a.value)) in
               let v = node.verdict in let u = w.of_indexes in cc;
           spent = omega (arith, w.spent, node.spent, sum_by-append (nodes_at S n path) so.done (a ∷ []), sum_by-cons (nodes_at S n path) a []);
         };

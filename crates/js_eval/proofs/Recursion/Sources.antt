@@ -6,7 +6,7 @@ use Rattle.std.proofs.lemmas.List.Elements.{filter-append}
 use Rattle.std.proofs.lemmas.List.Concat.{flat_map-append}
 use Rattle.js_doc.specs.Value.{Value}
 use Rattle.js_eval.specs.Applications.{Application}
-use Rattle.js_eval.specs.Evaluated.{names_of, indexes_of, names_applied, indexes_applied, name_in, index_in}
+use Rattle.js_eval.specs.Evaluated.{names_of, indexes_of, names_applied, indexes_applied, name_in_step, index_in_step}
 use Rattle.js_eval.specs.SchemaSet.{Text, SchemaSet}
 use Rattle.js_eval.specs.Verdict.{within, schema_settled, schema_passes}
 use Rattle.js_eval.specs.declared.kind.Kind.{Kind}
@@ -84,27 +84,27 @@ module _ {P : Type 0} (S : SchemaSet P) where
     indexes_of_none = indexes_by_source {P = P} [] [] [] κ ∙ from_none (indexes_origin κ)
 
     pub names_more : (apps : List (Application P)) (a : Application P) → settled_at S n path a ≡ true
-        → names_given S n path κ (apps ++ a ∷ []) ≡ names_given S n path κ apps ++ keeps (names_origin κ) (holds_at S n path a) (name_in a.at) ((within S n).names path a.place a.value)
+        → names_given S n path κ (apps ++ a ∷ []) ≡ names_given S n path κ apps ++ keeps (names_origin κ) (holds_at S n path a) (name_in_step a.at) ((within S n).names path a.place a.value)
     unfolding names_given
     names_more apps a h =
-        let e1 = flat_more (λ x. name_in x.at) apps a in
-        let e2 = flat_filter_more (λ x. name_in x.at) (holds_at S n path) apps a in
+        let e1 = flat_more (λ x. name_in_step x.at) apps a in
+        let e2 = flat_filter_more (λ x. name_in_step x.at) (holds_at S n path) apps a in
         let e3 = flat_filter_more (λ x. (within S n).names path x.place x.value) (holds_at S n path) apps a in
         let e4 = names_if_holds n path a.place a.value h in
         let e5 = names_by_source (apps ++ a ∷ []) (filter (holds_at S n path) (apps ++ a ∷ [])) (flat_map (λ x. (within S n).names path x.place x.value) (filter (holds_at S n path) (apps ++ a ∷ []))) κ in
         let e6 = names_by_source apps (filter (holds_at S n path) apps) (flat_map (λ x. (within S n).names path x.place x.value) (filter (holds_at S n path) apps)) κ in
-        let e7 = source_more (names_origin κ) (names_applied apps) (names_applied (filter (holds_at S n path) apps)) (flat_map (λ x. (within S n).names path x.place x.value) (filter (holds_at S n path) apps)) (holds_at S n path a) (name_in a.at) ((within S n).names path a.place a.value) in
+        let e7 = source_more (names_origin κ) (names_applied apps) (names_applied (filter (holds_at S n path) apps)) (flat_map (λ x. (within S n).names path x.place x.value) (filter (holds_at S n path) apps)) (holds_at S n path a) (name_in_step a.at) ((within S n).names path a.place a.value) in
         cc
 
     pub indexes_more : (apps : List (Application P)) (a : Application P) → settled_at S n path a ≡ true
-        → indexes_given S n path κ (apps ++ a ∷ []) ≡ indexes_given S n path κ apps ++ keeps (indexes_origin κ) (holds_at S n path a) (index_in a.at) ((within S n).indexes path a.place a.value)
+        → indexes_given S n path κ (apps ++ a ∷ []) ≡ indexes_given S n path κ apps ++ keeps (indexes_origin κ) (holds_at S n path a) (index_in_step a.at) ((within S n).indexes path a.place a.value)
     unfolding indexes_given
     indexes_more apps a h =
-        let e1 = flat_more (λ x. index_in x.at) apps a in
-        let e2 = flat_filter_more (λ x. index_in x.at) (holds_at S n path) apps a in
+        let e1 = flat_more (λ x. index_in_step x.at) apps a in
+        let e2 = flat_filter_more (λ x. index_in_step x.at) (holds_at S n path) apps a in
         let e3 = flat_filter_more (λ x. (within S n).indexes path x.place x.value) (holds_at S n path) apps a in
         let e4 = indexes_if_holds n path a.place a.value h in
         let e5 = indexes_by_source (apps ++ a ∷ []) (filter (holds_at S n path) (apps ++ a ∷ [])) (flat_map (λ x. (within S n).indexes path x.place x.value) (filter (holds_at S n path) (apps ++ a ∷ []))) κ in
         let e6 = indexes_by_source apps (filter (holds_at S n path) apps) (flat_map (λ x. (within S n).indexes path x.place x.value) (filter (holds_at S n path) apps)) κ in
-        let e7 = source_more (indexes_origin κ) (indexes_applied apps) (indexes_applied (filter (holds_at S n path) apps)) (flat_map (λ x. (within S n).indexes path x.place x.value) (filter (holds_at S n path) apps)) (holds_at S n path a) (index_in a.at) ((within S n).indexes path a.place a.value) in
+        let e7 = source_more (indexes_origin κ) (indexes_applied apps) (indexes_applied (filter (holds_at S n path) apps)) (flat_map (λ x. (within S n).indexes path x.place x.value) (filter (holds_at S n path) apps)) (holds_at S n path a) (index_in_step a.at) ((within S n).indexes path a.place a.value) in
         cc

@@ -2,7 +2,7 @@
 use Rattle.std.specs.Prelude.{◌≡◌, ℕ, ◌+◌, ◌<◌, ◌≤◌, Bool, cond, List, [], ◌∷◌, ◌++◌, Some, None, map, take, drop, length}
 use Rattle.js_doc.specs.Value.{Value}
 use Rattle.js_eval.specs.Applications.{Application}
-use Rattle.js_eval.specs.Evaluated.{name_in, index_in}
+use Rattle.js_eval.specs.Evaluated.{name_in_step, index_in_step}
 use Rattle.js_eval.specs.Keywords.{Keyword}
 use Rattle.js_eval.specs.Location.{Location}
 use Rattle.js_eval.specs.Passes.{how_many}
@@ -10,7 +10,7 @@ use Rattle.js_eval.specs.SchemaSet.{Text, SchemaSet}
 use Rattle.js_eval.specs.declared.kind.Kind.{Kind}
 use Rattle.js_tree.specs.Events.{Event, opening, closing}
 use Rattle.js_eval.specs.Walk.Keeping.{keeps, names_origin, indexes_origin}
-use Rattle.js_eval.specs.Walk.Told.{IsAt, IsBack, NodeWalked, NodeTold, KeywordWalked, KeywordTold, EachWalked, EachTold, passes_at, says_at, schema_says, at_name, at_step}
+use Rattle.js_eval.specs.Walk.Told.{IsAt, IsWayRestored, NodeWalked, NodeTold, KeywordWalked, KeywordTold, EachWalked, EachTold, passes_at, says_at, schema_says, at_name, at_step}
 use Rattle.js_eval.specs.Walk.Scope.{HasGrown}
 use Rattle.js_eval.specs.declared.walking.way.Mark.{Mark}
 use Rattle.js_eval.specs.declared.walking.way.Start.{Start}
@@ -45,8 +45,8 @@ pub record CameBack {M H K P : Type 0} (text_of : M → Text) (len : K → ℕ) 
   pub scope : w'.scope ≡ w.scope
   pub keyword : w'.keyword ≡ take (len here.keyword) w.keyword
   pub instance : w'.instance ≡ take (len here.instance) w.instance
-  pub names : map text_of w'.names.items ≡ take here.names (map text_of w.names.items) ++ keeps (names_origin κ) holds (name_in a.at) (drop here.names (map text_of w.names.items))
-  pub indexes : w'.indexes.items ≡ take here.indexes w.indexes.items ++ keeps (indexes_origin κ) holds (index_in a.at) (drop here.indexes w.indexes.items)
+  pub names : map text_of w'.names.items ≡ take here.names (map text_of w.names.items) ++ keeps (names_origin κ) holds (name_in_step a.at) (drop here.names (map text_of w.names.items))
+  pub indexes : w'.indexes.items ≡ take here.indexes w.indexes.items ++ keeps (indexes_origin κ) holds (index_in_step a.at) (drop here.indexes w.indexes.items)
   pub left : w'.left ≡ w.left
 
 -- this is whether a keyword passes, of which this many applications hold
@@ -101,17 +101,17 @@ module _ {M H K C P : Type 0} (S : SchemaSet P) (text_of : M → Text) (takes : 
   pub record NodeDone (n : ℕ) (above : List P) (place : P) (v : Value) (valid : Bool) (w w' : Way M H K) (c d : C) : Type 0 where
     pub walked : NodeWalked S n above place v valid (map text_of w.names.items) (map text_of w'.names.items) w.indexes.items w'.indexes.items w.left w'.left
     pub told : (at : Location) → IsAt at w.keyword w.instance → NodeTold S n above place v takes at c d
-    pub back : IsBack w w'
+    pub back : IsWayRestored w w'
     pub falls : w'.left < w.left
 
   pub record KeywordDone (n : ℕ) (path : List P) (place : P) (v : Value) (k : Keyword) (matching : ℕ) (apps : List (Application P)) (j : Judged) (w w' : Way M H K) (c d : C) : Type 0 where
     pub walked : KeywordWalked S n path place v k matching apps j.passes j.held (map text_of w.names.items) (map text_of w'.names.items) w.indexes.items w'.indexes.items w.left w'.left
     pub told : (at : Location) → IsAt at w.keyword w.instance → KeywordTold S n path place v k takes at matching apps c d
-    pub back : IsBack w w'
+    pub back : IsWayRestored w w'
     pub falls : w'.left < w.left
 
   pub record EachDone (n : ℕ) (path : List P) (κ : Kind) (apps : List (Application P)) (t : Tally) (w w' : Way M H K) (c d : C) : Type 0 where
     pub walked : EachWalked S n path κ apps t.asked t.held (map text_of w.names.items) (map text_of w'.names.items) w.indexes.items w'.indexes.items w.left w'.left
     pub told : (at : Location) → IsAt at w.keyword w.instance → EachTold S n path takes at apps c d
-    pub back : IsBack w w'
+    pub back : IsWayRestored w w'
     pub falls : w'.left ≤ w.left

@@ -59,7 +59,7 @@ unfoldable pub at_step : Text → Step → Text
 at_step trail s = trail ++ pointer_text (step_tokens s)
 
 -- the path, its resources and the trails are as before
-pub record IsBack {M H K : Type 0} (w w' : Way M H K) : Type 0 where
+pub record IsWayRestored {M H K : Type 0} (w w' : Way M H K) : Type 0 where
   pub path : w'.path ≡ w.path
   pub scope : w'.scope ≡ w.scope
   pub keyword : w'.keyword ≡ w.keyword

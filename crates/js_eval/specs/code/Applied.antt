@@ -7,7 +7,7 @@ use Rattle.js_bundle.specs.Document.{Documents}
 use Rattle.js_bundle.specs.Resource.{Site}
 use Rattle.js_eval.specs.Applications.{Application}
 use Rattle.js_eval.specs.Bundle.{schemas_of}
-use Rattle.js_eval.specs.code.Standing.{StandsAt}
+use Rattle.js_eval.specs.code.Standing.{IsSchemaAt}
 use Rattle.js_eval.specs.SchemaSet.{Step, Alone, Index, Name}
 use Rattle.js_eval.specs.Seen.{step_of, instance_of}
 use Rattle.js_eval.specs.Sited.{numbered_site}
@@ -32,7 +32,7 @@ kept_schema (One place schema) = value_of schema.now
 kept_schema (Each place schema keyword) = value_of schema.now
 
 abbrev pub IsHeld : Documents → Held → Type 0
-IsHeld documents held = StandsAt documents (kept_place held) (kept_schema held)
+IsHeld documents held = IsSchemaAt documents (kept_place held) (kept_schema held)
 
 abbrev pub site_in : Documents → Held → Step → Site
 site_in documents (One place schema) step = numbered_site documents place
@@ -55,13 +55,13 @@ at_in to.Part step = step
 at_in to.Name step = step
 at_in (to.Whole value) step = Alone
 
-abbrev pub value_in : To → Step → Value → Value
-value_in to.Part step part = part
-value_in to.Name (Name name) part = text name
-value_in to.Name Alone part = part
-value_in to.Name (Index i) part = part
-value_in (to.Whole value) step part = instance_of value
+abbrev pub applied_value : To → Step → Value → Value
+applied_value to.Part step part = part
+applied_value to.Name (Name name) part = text name
+applied_value to.Name Alone part = part
+applied_value to.Name (Index i) part = part
+applied_value (to.Whole value) step part = instance_of value
 
 abbrev pub applied : Documents → Held → To → Step → Value → Application Site
 applied documents held on step part =
-    record { place = site_in documents held step; step = step_in held step; at = at_in on step; value = value_in on step part }
+    record { place = site_in documents held step; step = step_in held step; at = at_in on step; value = applied_value on step part }

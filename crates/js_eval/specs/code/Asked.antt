@@ -9,7 +9,7 @@ use Rattle.js_eval.specs.code.Applied.{IsHeld, applied_of}
 use Rattle.js_eval.specs.code.Cursors.{items_asked, members_asked, patterns_asked}
 use Rattle.js_eval.specs.code.ListLeft.{IsList, list_asked}
 use Rattle.js_eval.specs.code.NamesLeft.{IsNames, names_asked}
-use Rattle.js_eval.specs.code.Standing.{StandsAt}
+use Rattle.js_eval.specs.code.Standing.{IsSchemaAt}
 use Rattle.js_eval.specs.declared.instance.Applied.{Applied}
 use Rattle.js_eval.specs.declared.cursor.Asking.{Asking}
 use Rattle.js_eval.specs.declared.cursor.Asking.TheVariants.{One, List, Names, Items, Members, Patterns}
@@ -30,7 +30,7 @@ asked documents (Patterns c) = patterns_asked documents c.value
 -- ---- it was made for these
 
 abbrev pub IsApplied : Documents → Applied → Type 0
-IsApplied documents a = StandsAt documents a.place (value_of a.schema.now)
+IsApplied documents a = IsSchemaAt documents a.place (value_of a.schema.now)
 
 abbrev pub IsOne : Documents → Option Applied → Type 0
 IsOne documents None = Unit {0}
@@ -38,7 +38,7 @@ IsOne documents (Some a) = IsApplied documents a
 
 -- the place with the patterns, and that of the present one's schema
 abbrev pub ArePatterns : Documents → PatternCursor → Type 0
-ArePatterns documents c = StandsAt documents c.place (value_of c.schema.now) × StandsAt documents c.below (value_of c.schema_below.now)
+ArePatterns documents c = IsSchemaAt documents c.place (value_of c.schema.now) × IsSchemaAt documents c.below (value_of c.schema_below.now)
 
 abbrev pub IsAsking : Documents → Asking → Type 0
 IsAsking documents (One one) = IsOne documents one

@@ -14,7 +14,7 @@ use Rattle.js_bundle.specs.Document.{Documents}
 use Rattle.js_bundle.specs.Resource.{Site}
 use Rattle.js_eval.specs.Applications.{Application, application, among_indexes, among_names, indexed_from}
 use Rattle.js_eval.specs.code.Applied.{applied}
-use Rattle.js_eval.specs.code.Standing.{StandsAt}
+use Rattle.js_eval.specs.code.Standing.{IsSchemaAt}
 use Rattle.js_eval.specs.Bundle.{schemas_of}
 use Rattle.js_eval.specs.SchemaSet.{Text, Index, Name}
 use Rattle.js_eval.specs.Sited.{numbered_site}
@@ -70,11 +70,11 @@ is_chosen (choice.Additional adjacent) name = not (is_named adjacent.properties 
 is_chosen (choice.Except names) name = not (is_key names.keys name)
 
 -- those of the members that are chosen
-abbrev pub members_left : Choice → List (String Global × Doc) → Named
-members_left choice members = filter (λ m. is_chosen choice m.0) (map pair_of members)
+abbrev pub chosen_members : Choice → List (String Global × Doc) → Named
+chosen_members choice members = filter (λ m. is_chosen choice m.0) (map pair_of members)
 
 abbrev pub members_asked : Documents → MemberCursor → List (Application Site)
-members_asked documents c = map (λ m. applied documents c.held c.to (Name m.0) m.1) (members_left c.choice c.members)
+members_asked documents c = map (λ m. applied documents c.held c.to (Name m.0) m.1) (chosen_members c.choice c.members)
 
 -- ---- the members whose names patterns match
 
@@ -104,7 +104,7 @@ pub record IsBegun (documents : Documents) (name : Text) (pattern : NamedPattern
   pub present : d.present ≡ Some pattern
   pub pattern_is : pattern.text.now ≡ name
   pub asks : present_asked documents d.present d.below d.name.now d.left ≡ matching_asked documents (numbered_site documents c.place) c.keyword.now name c.members.now
-  pub is : StandsAt documents d.below (value_of d.schema_below.now)
+  pub is : IsSchemaAt documents d.below (value_of d.schema_below.now)
   pub place : d.place ≡ c.place
   pub schema : d.schema ≡ c.schema
   pub keyword : d.keyword ≡ c.keyword

@@ -11,7 +11,7 @@ use Rattle.js_eval.specs.SchemaSet.{Alone, Index}
 use Rattle.js_eval.specs.Seen.{instance_of, keyword_of}
 use Rattle.js_eval.specs.Sited.{numbered_site}
 use Rattle.js_eval.specs.code.Holding.{IsIn, held_at}
-use Rattle.js_eval.specs.code.Standing.{StandsAt}
+use Rattle.js_eval.specs.code.Standing.{IsSchemaAt}
 use Rattle.js_eval.specs.declared.list_cursor.ListCursor.{ListCursor}
 
 abbrev pub list_asked : Documents → ListCursor → List (Application Site)
@@ -22,5 +22,5 @@ list_asked documents c =
 -- the list is that of the keyword of a place with this schema
 abbrev pub IsList : Documents → ListCursor → Type 0
 IsList documents c =
-    StandsAt documents c.place (value_of c.schema.now) × (held_at c.keyword.kind ≡ is_index) × IsIn (value_of c.schema.now) (keyword_of c.keyword)
+    IsSchemaAt documents c.place (value_of c.schema.now) × (held_at c.keyword.kind ≡ is_index) × IsIn (value_of c.schema.now) (keyword_of c.keyword)
     × (map value_of c.list.now ≡ values (value_of c.keyword.argument.now))

@@ -15,7 +15,7 @@ use Rattle.js_eval.specs.SchemaSet.{Name, Text}
 use Rattle.js_eval.specs.Seen.{keyword_of}
 use Rattle.js_eval.specs.Sited.{numbered_site}
 use Rattle.js_eval.specs.code.Holding.{IsIn, held_at}
-use Rattle.js_eval.specs.code.Standing.{StandsAt}
+use Rattle.js_eval.specs.code.Standing.{IsSchemaAt}
 use Rattle.js_eval.specs.declared.name_cursor.Among.{Among}
 use Rattle.js_eval.specs.declared.name_cursor.Among.TheVariants.{All, Left}
 use Rattle.js_eval.specs.declared.name_cursor.NameCursor.{NameCursor}
@@ -43,6 +43,6 @@ AreLeft all rank names = map pair_of names ≡ drop rank all
 -- the names are those of the keyword of a place with this schema, and both sides ascend
 abbrev pub IsNames : Documents → NameCursor → Type 0
 IsNames documents c =
-    StandsAt documents c.place (value_of c.schema.now) × (held_at c.keyword.kind ≡ is_name) × IsIn (value_of c.schema.now) (keyword_of c.keyword)
+    IsSchemaAt documents c.place (value_of c.schema.now) × (held_at c.keyword.kind ≡ is_name) × IsIn (value_of c.schema.now) (keyword_of c.keyword)
     × AreLeft (entries (value_of c.keyword.argument.now)) c.rank c.names × (c.rank + length c.names < 2 ^ 64)
     × IsAscending (map pair_of c.names) × IsAscending (members_among c.among)

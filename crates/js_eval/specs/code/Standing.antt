@@ -6,5 +6,5 @@ use Rattle.js_bundle.specs.Schemas.{is_place}
 use Rattle.js_eval.specs.Sited.{numbered_site}
 
 -- the number is that of a place, and this is the schema there
-abbrev pub StandsAt : Documents → ℕ → Value → Type 0
-StandsAt documents n schema = (is_place documents n ≡ true) × (schema ≡ (numbered_site documents n).schema)
+abbrev pub IsSchemaAt : Documents → ℕ → Value → Type 0
+IsSchemaAt documents n schema = (is_place documents n ≡ true) × (schema ≡ (numbered_site documents n).schema)

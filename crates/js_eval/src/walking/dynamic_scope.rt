@@ -49,14 +49,14 @@ impl DynamicScope {
     }
 
     /// Goes back to the first `len` resources.
-    pub fn cut(&mut self, len: usize)
+    pub fn go_back_to(&mut self, len: usize)
         ensures { self.new ≡ take len self.old }
     {
         self.numbers.truncate(len);
     }
 
     /// The numbers of the resources.
-    pub fn resources(&self) -> &[usize]
+    pub fn resource_numbers(&self) -> &[usize]
         ensures { result.now ≡ self.now }
     {
         self.numbers.as_slice()

@@ -40,7 +40,7 @@ impl Path {
 
     /// Leaves the last place.
     #[inline(always)]
-    pub fn pop(&mut self)
+    pub fn leave_place(&mut self)
         ensures { (base : List ℕ) (last : ℕ) → self.old ≡ base ++ last ∷ [] → self.new ≡ base }
     {
         self.places = self.places.without_last();

@@ -137,7 +137,7 @@ pub(crate) fn keyword_node<W: World, H: PointerText + Drop, R: Reporter<W, H>>(
         let judged = childless_node(alloc, world, way, into, case, known.matching)?;
         return Ok(judged);
     }
-    let here = way.mark();
+    let here = way.current_marks();
     let mut asking = asked(alloc, world, way, case, start, known.condition)?;
     open_keyword(alloc, world, way, into, case.place, case.keyword)?;
     let tally = applications(
@@ -183,7 +183,7 @@ pub(crate) fn applications<W: World, H: PointerText + Drop, R: Reporter<W, H>>(
     let _left = way.left;
     let mut tally = Tally { asked: 0, held: 0 };
     'each: while let Some(application) = world.next(alloc, asking)? {
-        let here = way.mark();
+        let here = way.current_marks();
         go_down(world, way, application)?;
         let holds = node(
             alloc,

@@ -59,8 +59,8 @@ pub(crate) fn close_schema<W: World, H: PointerText + Drop, R: Reporter<W, H>>(
         (W.site world.now place) start valid way.old way.new into.old into.new) }
 {
     into.close_schema(alloc, world, place, schema, valid)?;
-    way.path.pop();
-    way.scope.cut(start.scope);
+    way.path.leave_place();
+    way.scope.go_back_to(start.scope);
     cut_unless(&mut way.names, start.names, valid);
     cut_unless(&mut way.indexes, start.indexes, valid);
     Ok(())
@@ -127,7 +127,7 @@ pub(crate) fn asked<W: World, H: PointerText + Drop>(
     world.asking(
         alloc,
         &way.path,
-        way.scope.resources(),
+        way.scope.resource_numbers(),
         case.place,
         case.schema,
         case.value,
@@ -242,7 +242,7 @@ pub(crate) fn childless_node<W: World, H: PointerText + Drop, R: Reporter<W, H>>
         way.left -= 1;
         return Ok(judged);
     }
-    let here = way.mark();
+    let here = way.current_marks();
     open_keyword(alloc, world, way, into, case.place, case.keyword)?;
     close_judged(alloc, world, way, into, case, here, judged, matching)?;
     Ok(judged)

@@ -49,7 +49,7 @@ impl<M, H: PointerText + Drop> Way<M, H> {
     }
 
     /// The present lengths of the lists and positions of the trails.
-    pub fn mark(&self) -> Mark<H::Mark>
+    pub fn current_marks(&self) -> Mark<H::Mark>
         ensures { MarkOf H.length_at self.now result }
     {
         Mark {

@@ -6,7 +6,7 @@ ghost use Rattle.js_doc.specs.Value.{Value as JsonValue};
 ghost use Rattle.js_assert.specs.Argument.{entries};
 ghost use Rattle.js_bundle.specs.Resource.{Site};
 ghost use Rattle.js_eval.specs.Applications.{Application as Applied};
-ghost use Rattle.js_eval.specs.Evaluated.{name_in, index_in};
+ghost use Rattle.js_eval.specs.Evaluated.{name_in_step, index_in_step};
 ghost use Rattle.js_eval.specs.Keywords as table;
 ghost use Rattle.js_eval.specs.Passes.{how_many};
 ghost use Rattle.js_eval.specs.SchemaSet.{Text as Bytes, SchemaSet};
@@ -179,11 +179,11 @@ pub(crate) trait World {
 
     /// The name of the member that it is applied to, if it is applied to one.
     fn member(&self, application: Self::Application) -> Option<Self::Name>
-        ensures { map text_of (option_to_list result) ≡ name_in (application_of self.now application).at };
+        ensures { map text_of (option_to_list result) ≡ name_in_step (application_of self.now application).at };
 
     /// The index of the item that it is applied to, if it is applied to one.
     fn item(&self, application: Self::Application) -> Option<usize>
-        ensures { option_to_list result ≡ index_in (application_of self.now application).at };
+        ensures { option_to_list result ≡ index_in_step (application_of self.now application).at };
 
     /// Whether a keyword passes. `tally`: the number of its applications, and of those that succeed; `matching`: the
     /// number of items that match the adjacent `contains`.

@@ -9,8 +9,8 @@ use Rattle.js_output.specs.Suite.{IsStatusOn, group_uri}
 use Rattle.js_output.specs.declared.entry.Entry as rust
 use Rattle.js_output.specs.declared.fault.Fault.{Fault}
 use Rattle.js_output.specs.declared.fault.Fault.TheVariants as fault
-use Rattle.js_output.specs.declared.suite_lines.Status.{Status}
-use Rattle.js_output.specs.declared.suite_lines.Status.TheVariants.{Pass, Fail, Skip}
+use Rattle.js_output.specs.declared.suite_lines.TestStatus.{TestStatus}
+use Rattle.js_output.specs.declared.suite_lines.TestStatus.TheVariants.{Pass, Fail, Skip}
 
 -- the documents that the tests are judged by
 abbrev pub basis_of : Option rust.Entry → Option Documents
@@ -25,7 +25,7 @@ abbrev pub IsThere : Option rust.Entry → Type 0
 IsThere None = ⊤
 IsThere (Some e) = is_place e.schemas e.place ≡ true
 
-abbrev pub IsStatusAt : Option rust.Entry → Option Value → Bool → Status → Type 0
+abbrev pub IsStatusAt : Option rust.Entry → Option Value → Bool → TestStatus → Type 0
 IsStatusAt (Some e) (Some v) valid status = IsStatusOn e.schemas (place_at e.schemas e.place) v valid status
 IsStatusAt _ _ valid status = status ≡ Skip
 
@@ -35,7 +35,7 @@ IsNotMemory fault.Memory = ⊥
 IsNotMemory _ = ⊤
 
 -- the verdict that was found, and the expected one
-abbrev pub compared : Bool → Bool → Status
+abbrev pub compared : Bool → Bool → TestStatus
 compared true true = Pass
 compared false false = Pass
 compared _ _ = Fail

@@ -9,7 +9,7 @@ use std::io::ErrorKind;
 use std::test::Fail;
 
 /// The exit status, how often the output was called, what it took, and what went to standard error.
-pub fn answer(rt: &HostRuntime, words: &[&str]) -> Result<String, Fail> {
+pub fn answer_of_command(rt: &HostRuntime, words: &[&str]) -> Result<String, Fail> {
     let alloc = rt.alloc();
     let input = word_at(words, 0).as_bytes();
     let read_fails = word_at(words, 1).parse::<u64>()?;

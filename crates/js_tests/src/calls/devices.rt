@@ -15,7 +15,11 @@ use std::test::Fail;
 
 /// What the run answers, and how often its reader and its writer were called; what one more `read_all` and a flush
 /// answer, how often they were called then, and whether the source and the sink have failed; and what was written.
-pub fn answer(rt: &HostRuntime, documents: &str, words: &[&str]) -> Result<String, Fail> {
+pub fn answer_over_devices(
+    rt: &HostRuntime,
+    documents: &str,
+    words: &[&str],
+) -> Result<String, Fail> {
     let alloc = rt.alloc();
     let kind = match word_at(words, 4) {
         "interrupted" => ErrorKind::Interrupted,

@@ -11,7 +11,12 @@ use std::alloc::Global;
 use std::test::Fail;
 
 /// What the call answers on the rows; if it takes a format, on what that format shows of them.
-pub fn answer(rt: &HostRuntime, call: &str, format: &str, flat: Flat) -> Result<String, Fail> {
+pub fn answer_on_flat_list(
+    rt: &HostRuntime,
+    call: &str,
+    format: &str,
+    flat: Flat,
+) -> Result<String, Fail> {
     let flat = whole(flat)?;
     match call {
         "flat_units" => {

@@ -8,7 +8,7 @@ use js_tree::{Boxed, Collector, Flat, Head, Indexes, Names, Note, Verdict};
 use std::alloc::Global;
 use std::test::Fail;
 
-pub fn answer(rt: &HostRuntime, words: &[&str]) -> Result<String, Fail> {
+pub fn answer_on_hand_made(rt: &HostRuntime, words: &[&str]) -> Result<String, Fail> {
     let alloc = rt.alloc();
     let value = read(alloc, word_at(words, 0).as_bytes())?;
     let events = word_at(words, 1);
@@ -26,7 +26,7 @@ pub fn answer(rt: &HostRuntime, words: &[&str]) -> Result<String, Fail> {
     if call.contains("flat") {
         let mut flat = Flat::new(alloc);
         tell(alloc, events, &value, &mut flat)?;
-        return flat_lists::answer(rt, call, more, flat);
+        return flat_lists::answer_on_flat_list(rt, call, more, flat);
     }
     let mut boxed = Boxed::new(alloc);
     tell(alloc, events, &value, &mut boxed)?;
@@ -34,7 +34,7 @@ pub fn answer(rt: &HostRuntime, words: &[&str]) -> Result<String, Fail> {
     let tree = boxed.tree();
     mark_end(rt);
     match tree {
-        Some(tree) => trees::answer(rt, call, more, tree),
+        Some(tree) => trees::answer_on_tree(rt, call, more, tree),
         None => Err(Fail::from("the root has closed")),
     }
 }

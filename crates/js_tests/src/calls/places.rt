@@ -10,7 +10,11 @@ use js_doc::{read, text};
 use std::alloc::Global;
 use std::test::Fail;
 
-pub fn answer(rt: &HostRuntime, schemas: &Schemas, words: &[&str]) -> Result<String, Fail> {
+pub fn answer_at_place(
+    rt: &HostRuntime,
+    schemas: &Schemas,
+    words: &[&str],
+) -> Result<String, Fail> {
     let question = word_at(words, 1);
     mark_begin_if(rt, question == "entry");
     let found = schemas.entry(rt.alloc(), word_at(words, 0));

@@ -12,7 +12,11 @@ use js_eval::{verdict, walk, walk_into};
 use js_tree::{Boxed, Collector, Flat, Head, Note, Verdict};
 use std::test::Fail;
 
-pub fn answer(rt: &HostRuntime, schemas: &Schemas, words: &[&str]) -> Result<String, Fail> {
+pub fn answer_on_result(
+    rt: &HostRuntime,
+    schemas: &Schemas,
+    words: &[&str],
+) -> Result<String, Fail> {
     let place = schemas.entry(rt.alloc(), word_at(words, 0))?;
     let value = read(rt.alloc(), word_at(words, 1).as_bytes())?;
     let call = word_at(words, 2);
@@ -77,7 +81,7 @@ fn on_tree<'a>(
     };
     mark_end(rt);
     match made {
-        Ok(Some(tree)) => trees::answer(rt, call, word_at(words, 3), tree),
+        Ok(Some(tree)) => trees::answer_on_tree(rt, call, word_at(words, 3), tree),
         Ok(None) => Err(Fail::from("the root has closed")),
         Err(fault) => Ok(format!(in alloc; "{fault:?}")?),
     }
@@ -99,7 +103,7 @@ fn on_rows<'a>(
     let made = walk_into(alloc, schemas, place, value, Flat::new(alloc));
     mark_end(rt);
     match made {
-        Ok(flat) => flat_lists::answer(rt, call, word_at(words, 3), flat),
+        Ok(flat) => flat_lists::answer_on_flat_list(rt, call, word_at(words, 3), flat),
         Err((fault, _flat)) => Ok(format!(in alloc; "{fault:?}")?),
     }
 }

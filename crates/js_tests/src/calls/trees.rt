@@ -10,7 +10,12 @@ use std::alloc::Global;
 use std::test::Fail;
 
 /// What the call answers on the tree. `more` is a format or moves, for the calls that take them.
-pub fn answer(rt: &HostRuntime, call: &str, more: &str, tree: Tree) -> Result<String, Fail> {
+pub fn answer_on_tree(
+    rt: &HostRuntime,
+    call: &str,
+    more: &str,
+    tree: Tree,
+) -> Result<String, Fail> {
     match call {
         "units" => {
             mark_begin(rt);

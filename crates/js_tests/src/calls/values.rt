@@ -12,7 +12,7 @@ use std::test::Fail;
 /// More bytes than any text of a question has.
 pub const ROOM: usize = 16_777_216;
 
-pub fn answer(rt: &HostRuntime, words: &[&str]) -> Result<String, Fail> {
+pub fn answer_on_value(rt: &HostRuntime, words: &[&str]) -> Result<String, Fail> {
     let call = word_at(words, 0);
     let first = word_at(words, 1);
     let second = word_at(words, 2);

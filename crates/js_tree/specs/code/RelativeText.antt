@@ -3,7 +3,7 @@ use Rattle.std.specs.Prelude.{◌≡◌, ℕ, Bool, true, false, not, List, ◌�
 use Rattle.json.specs.Print.{escape}
 use Rattle.js_doc.specs.Compact.{comma_if}
 use Rattle.js_doc.specs.Value.{Value}
-use Rattle.js_tree.specs.Flat.{flat, flat_of}
+use Rattle.js_tree.specs.Flat.{flat_form, flat_of}
 use Rattle.js_tree.specs.Forest.{Forest}
 use Rattle.js_tree.specs.Form.{array_of_some, value_if}
 use Rattle.js_tree.specs.OutputUnit.{OutputUnit}
@@ -19,7 +19,7 @@ abbrev pub AreRowsOfTrees : List RelativeRow → Forest OutputUnit → Type 0
 AreRowsOfTrees rows f = map relative_row rows ≡ flat_of (escaped f)
 
 abbrev pub AreRowsOfTree : List RelativeRow → ResultTree → Type 0
-AreRowsOfTree rows t = map relative_row rows ≡ flat (escaped_tree t)
+AreRowsOfTree rows t = map relative_row rows ≡ flat_form (escaped_tree t)
 
 -- it is the absolute location of the row's node, without the escapes
 abbrev pub IsAbsolute : RelativeRow → List ℕ → Type 0

@@ -6,8 +6,8 @@ use Rattle.js_eval.specs.Seen.{keyword_of}
 use Rattle.js_eval.proofs.Holding.{item_ranked}
 use Rattle.js_eval.proofs.list_cursor.next_in_list.Goals as goal
 
-pub ranked_below-place-requires-clause-held : goal.ranked_below-place-requires-clause-held
-ranked_below-place-requires-clause-held c =
+pub below_at_rank-place-requires-clause-held : goal.below_at_rank-place-requires-clause-held
+below_at_rank-place-requires-clause-held c =
     let k = c.args.cursor.now.keyword in
     let list = c.args.cursor.now.list.now in
     let i = c.args.cursor.now.next in

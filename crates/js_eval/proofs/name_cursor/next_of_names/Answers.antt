@@ -4,8 +4,8 @@ use Rattle.js_eval.specs.Seen.{keyword_of}
 use Rattle.js_eval.proofs.Holding.{member_ranked}
 use Rattle.js_eval.proofs.name_cursor.next_of_names.Goals as goal
 
-pub ranked_below-place-requires-clause-held : goal.ranked_below-place-requires-clause-held
-ranked_below-place-requires-clause-held c =
+pub below_at_rank-place-requires-clause-held : goal.below_at_rank-place-requires-clause-held
+below_at_rank-place-requires-clause-held c =
     let k = c.args.cursor.now.keyword in
     member_ranked k.which k.kind (value_of c.args.cursor.now.schema.now) (keyword_of k) c.in_ok-rank.name.now c.in_ok-rank.rank (value_of c.in_ok-rank.held.now)
     k.known k.named c.requires.1 c.requires.2 (c.in_ok-rank.ensures.left (entries (value_of k.argument.now)) c.requires.3).1

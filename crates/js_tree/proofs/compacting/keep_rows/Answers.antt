@@ -2,11 +2,11 @@ use Rattle.std.proofs.Common.{◌≡◌, ◌++◌, length, take, drop, map, ap, 
 use Rattle.js_tree.specs.code.Compacting.{gathered}
 use Rattle.js_tree.specs.FlatState.{row_of}
 use Rattle.js_tree.specs.Forest.{tree, empty}
-use Rattle.js_tree.proofs.Marks.{keeps, flat-flat_of, whole_slice}
+use Rattle.js_tree.proofs.Marks.{keeps, flat_form-flat_of, whole_slice}
 use Rattle.js_tree.proofs.compacting.keep_rows.Goals as goal
 
 pub mark-requires : goal.mark-requires
-mark-requires c = let t = c.requires.0 in (tree t.root t.below empty, ap (map row_of) c.deref_mut.ensures.value ∙ (c.requires.1 ∙ flat-flat_of t))
+mark-requires c = let t = c.requires.0 in (tree t.root t.below empty, ap (map row_of) c.deref_mut.ensures.value ∙ (c.requires.1 ∙ flat_form-flat_of t))
 
 pub returns : goal.returns
 returns c = λ t e.
@@ -23,7 +23,7 @@ returns c = λ t e.
     let most = c.gather-count.ensures.at_most in
     let same = ap length second in
     keeps c.args.keep t marks all c.truncate.new.self.items c.gather-count.result c.index_mut.result.now _
-    (c.mark.ensures.marked (tree t.root t.below empty) (ap (map row_of) first ∙ (e ∙ flat-flat_of t)))
+    (c.mark.ensures.marked (tree t.root t.below empty) (ap (map row_of) first ∙ (e ∙ flat_form-flat_of t)))
     (c.gather-count.ensures.gathered ∙ ap (λ xs. map row_of (take 1 xs) ++ gathered c.args.keep 0 (drop 1 xs)) second)
     (omega (arith, most, same, n))
     (c.truncate.ensures.items ∙ (ap (λ xs. take c.gather-count.result (take c.args.rows.now.len (all ++ drop (length all) xs))) s ∙ ap (take c.gather-count.result) w))

@@ -1,5 +1,5 @@
 use Rattle.std.proofs.Common.{◌≡◌, drop, map}
-use Rattle.js_tree.specs.code.Compacting.{marked}
+use Rattle.js_tree.specs.code.Compacting.{marked_rows}
 use Rattle.js_tree.specs.Flat.{flat_of}
 use Rattle.js_tree.specs.FlatState.{row_of}
 use Rattle.js_tree.specs.Forest.{Forest}
@@ -10,5 +10,5 @@ use Rattle.js_tree.proofs.compacting.mark.Given as goal
 abbrev pub invariant-loop-i : goal.invariant-loop-i
 invariant-loop-i l = record {
   same : map row_of l.rows ≡ map row_of l.initial.rows;
-  marked : (f : Forest OutputUnit) → map row_of l.initial.rows ≡ flat_of f → drop l.i l.rows ≡ marked l.keep (from l.i f);
+  marked : (f : Forest OutputUnit) → map row_of l.initial.rows ≡ flat_of f → drop l.i l.rows ≡ marked_rows l.keep (from l.i f);
 }

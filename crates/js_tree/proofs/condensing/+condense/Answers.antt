@@ -53,11 +53,11 @@ opened t u e = ap (λ v. kept_below noted (node v.root v.below empty)) (sym e)
 pub condense_one-returns-then-stays : goal.condense_one-returns-then-stays
 condense_one-returns-then-stays t c =
     opened (record { root = c.tree.inside.unit; below = forest_of c.tree.inside.children }) c.args.tree.now c.tree.view_is
-    ∙ one_stays noted c.tree.inside.unit (forest_of c.tree.inside.children) (forest_of c.condense_children.new.children) c.condense_children.ensures (sym c.stands-stays.ensures ∙ c.if-stays.true)
+    ∙ one_stays noted c.tree.inside.unit (forest_of c.tree.inside.children) (forest_of c.condense_children.new.children) c.condense_children.ensures (sym c.node_stands-stays.ensures ∙ c.if-stays.true)
 
 pub condense_one-returns-in-Some : goal.condense_one-returns-in-Some
 condense_one-returns-in-Some t c =
-    let s = sym c.stands-stays.ensures ∙ c.if-stays.false in
+    let s = sym c.node_stands-stays.ensures ∙ c.if-stays.false in
     let few = few_children noted c.tree.inside.unit c.condense_children.new.children s in
     opened (record { root = c.tree.inside.unit; below = forest_of c.tree.inside.children }) c.args.tree.now c.tree.view_is
     ∙ one_goes noted c.tree.inside.unit (forest_of c.tree.inside.children) (forest_of c.condense_children.new.children) c.condense_children.ensures s
@@ -66,7 +66,7 @@ condense_one-returns-in-Some t c =
 
 pub condense_one-returns-in-None : goal.condense_one-returns-in-None
 condense_one-returns-in-None t c =
-    let s = sym c.stands-stays.ensures ∙ c.if-stays.false in
+    let s = sym c.node_stands-stays.ensures ∙ c.if-stays.false in
     opened (record { root = c.tree.inside.unit; below = forest_of c.tree.inside.children }) c.args.tree.now c.tree.view_is
     ∙ one_goes noted c.tree.inside.unit (forest_of c.tree.inside.children) (forest_of c.condense_children.new.children) c.condense_children.ensures s
     ∙ ap forest_of c.in-None.ensures

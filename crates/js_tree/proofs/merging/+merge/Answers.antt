@@ -49,7 +49,7 @@ merge_all-loop-i-preserved t c =
 
 pub merge_one-returns-in-Some : goal.merge_one-returns-in-Some
 merge_one-returns-in-Some t c =
-    let s = sym c.stands-stays.ensures ∙ c.if-stays.false in
+    let s = sym c.node_stands-stays.ensures ∙ c.if-stays.false in
     let few = few_children noted c.tree.inside.unit c.merge_children.new.children s in
     ap (λ v. given_trees noted same_but_keyword (node v.root v.below empty)) (sym c.tree.view_is)
     ∙ one_passed noted same_but_keyword c.tree.inside.unit (forest_of c.tree.inside.children) (forest_of c.merge_children.new.children) c.merge_children.ensures s

@@ -7,6 +7,6 @@ use Rattle.js_tree.proofs.node_text.put_head.Goals as goal
 pub returns : goal.returns
 returns g c =
     let o = g.O.Out.progress in
-    subst (λ l. Puts (o c.args.out.now) (o c.put_beginning.new.out) l c.put_beginning.result)
+    subst (λ l. Puts (o c.args.out.now) (o c.put_opening_members.new.out) l c.put_opening_members.result)
     (ap (λ t. beginning_text t (note_of c.unit.inside.note)) c.as_str.ensures ∙ ap (λ u. beginning_text u.absolute u.note) c.unit.view_is)
-    c.put_beginning.ensures
+    c.put_opening_members.ensures

@@ -29,13 +29,13 @@ put_node-returns-in_err-put_beginning-clause-text g t c =
     let x = c.index-rows-0.result in
     let w = (relative_row x).0 in
     let old = c.args.locations.now in
-    let new = c.go_down.new.self in
+    let new = c.go_to_node.new.self in
     let k1 = k ++ u.keyword in
     let i1 = i ++ u.instance in
     let some = (first_mark marks).below in
     let root = root_row relative_row rows (escaped_tree (record { root = u; below = below })) x (flat_rows rows marks v u below h) c.index-rows-0.is in
     let some_is = some_below v u (left_trees v below) (first_mark marks) (root_mark rows marks v u below h) has in
-    let down = at_below old new x u k i at c.go_down.ensures root in
+    let down = at_below old new x u k i at c.go_to_node.ensures root in
     let abs = is_absolute x u root in
     let under = marked_below rows marks v u below h in
     let p1 = comma_if c.args.later ++ beginning_text u.absolute w.note in
@@ -57,13 +57,13 @@ put_node-returns-in_err-put_children-clause-text g t c =
     let x = c.index-rows-0.result in
     let w = (relative_row x).0 in
     let old = c.args.locations.now in
-    let new = c.go_down.new.self in
+    let new = c.go_to_node.new.self in
     let k1 = k ++ u.keyword in
     let i1 = i ++ u.instance in
     let some = (first_mark marks).below in
     let root = root_row relative_row rows (escaped_tree (record { root = u; below = below })) x (flat_rows rows marks v u below h) c.index-rows-0.is in
     let some_is = some_below v u (left_trees v below) (first_mark marks) (root_mark rows marks v u below h) has in
-    let down = at_below old new x u k i at c.go_down.ensures root in
+    let down = at_below old new x u k i at c.go_to_node.ensures root in
     let abs = is_absolute x u root in
     let under = marked_below rows marks v u below h in
     let p1 = comma_if c.args.later ++ beginning_text u.absolute w.note in
@@ -86,13 +86,13 @@ put_node-returns-in_err-put_error-clause-text g t c =
     let x = c.index-rows-0.result in
     let w = (relative_row x).0 in
     let old = c.args.locations.now in
-    let new = c.go_down.new.self in
+    let new = c.go_to_node.new.self in
     let k1 = k ++ u.keyword in
     let i1 = i ++ u.instance in
     let some = (first_mark marks).below in
     let root = root_row relative_row rows (escaped_tree (record { root = u; below = below })) x (flat_rows rows marks v u below h) c.index-rows-0.is in
     let some_is = some_below v u (left_trees v below) (first_mark marks) (root_mark rows marks v u below h) has in
-    let down = at_below old new x u k i at c.go_down.ensures root in
+    let down = at_below old new x u k i at c.go_to_node.ensures root in
     let abs = is_absolute x u root in
     let under = marked_below rows marks v u below h in
     let p1 = comma_if c.args.later ++ beginning_text u.absolute w.note in
@@ -116,13 +116,13 @@ put_node-returns-in_err-put_children-2-clause-text g t c =
     let x = c.index-rows-0.result in
     let w = (relative_row x).0 in
     let old = c.args.locations.now in
-    let new = c.go_down.new.self in
+    let new = c.go_to_node.new.self in
     let k1 = k ++ u.keyword in
     let i1 = i ++ u.instance in
     let some = (first_mark marks).below in
     let root = root_row relative_row rows (escaped_tree (record { root = u; below = below })) x (flat_rows rows marks v u below h) c.index-rows-0.is in
     let some_is = some_below v u (left_trees v below) (first_mark marks) (root_mark rows marks v u below h) has in
-    let down = at_below old new x u k i at c.go_down.ensures root in
+    let down = at_below old new x u k i at c.go_to_node.ensures root in
     let abs = is_absolute x u root in
     let under = marked_below rows marks v u below h in
     let p1 = comma_if c.args.later ++ beginning_text u.absolute w.note in
@@ -147,13 +147,13 @@ put_node-returns-in_err-put_end-clause-text g t c =
     let x = c.index-rows-0.result in
     let w = (relative_row x).0 in
     let old = c.args.locations.now in
-    let new = c.go_down.new.self in
+    let new = c.go_to_node.new.self in
     let k1 = k ++ u.keyword in
     let i1 = i ++ u.instance in
     let some = (first_mark marks).below in
     let root = root_row relative_row rows (escaped_tree (record { root = u; below = below })) x (flat_rows rows marks v u below h) c.index-rows-0.is in
     let some_is = some_below v u (left_trees v below) (first_mark marks) (root_mark rows marks v u below h) has in
-    let down = at_below old new x u k i at c.go_down.ensures root in
+    let down = at_below old new x u k i at c.go_to_node.ensures root in
     let abs = is_absolute x u root in
     let under = marked_below rows marks v u below h in
     let p1 = comma_if c.args.later ++ beginning_text u.absolute w.note in
@@ -179,13 +179,13 @@ put_node-returns-clause-text g t c =
     let x = c.index-rows-0.result in
     let w = (relative_row x).0 in
     let old = c.args.locations.now in
-    let new = c.go_down.new.self in
+    let new = c.go_to_node.new.self in
     let k1 = k ++ u.keyword in
     let i1 = i ++ u.instance in
     let some = (first_mark marks).below in
     let root = root_row relative_row rows (escaped_tree (record { root = u; below = below })) x (flat_rows rows marks v u below h) c.index-rows-0.is in
     let some_is = some_below v u (left_trees v below) (first_mark marks) (root_mark rows marks v u below h) has in
-    let down = at_below old new x u k i at c.go_down.ensures root in
+    let down = at_below old new x u k i at c.go_to_node.ensures root in
     let abs = is_absolute x u root in
     let under = marked_below rows marks v u below h in
     let p1 = comma_if c.args.later ++ beginning_text u.absolute w.note in
@@ -210,9 +210,9 @@ put_node-put_children-requires g t c κs within =
     let below = c.requires.2 in
     let h = c.requires.3 in
     let some = some_row rows (escaped_tree (record { root = u; below = below })) (flat_rows rows marks v u below h) in
-    let room = room_below c.args.locations.now c.go_down.new.self rows c.index-rows-0.result c.requires.4 some c.index-rows-0.is c.go_down.ensures in (
+    let room = room_below c.args.locations.now c.go_to_node.new.self rows c.index-rows-0.result c.requires.4 some c.index-rows-0.is c.go_to_node.ensures in (
       omega (arith, fewer_below rows some, c.decreases),
-      (within, (v, below, marked_below rows marks v u below h, subst (HasRoom c.go_down.new.self) (sym (rest_of rows)) room)),
+      (within, (v, below, marked_below rows marks v u below h, subst (HasRoom c.go_to_node.new.self) (sym (rest_of rows)) room)),
     )
 
 pub put_node-put_children-requires-2 : goal.put_node-put_children-requires-2
@@ -224,9 +224,9 @@ put_node-put_children-requires-2 g t c κs within =
     let below = c.requires.2 in
     let h = c.requires.3 in
     let some = some_row rows (escaped_tree (record { root = u; below = below })) (flat_rows rows marks v u below h) in
-    let room = room_below c.args.locations.now c.go_down.new.self rows c.index-rows-0.result c.requires.4 some c.index-rows-0.is c.go_down.ensures in (
+    let room = room_below c.args.locations.now c.go_to_node.new.self rows c.index-rows-0.result c.requires.4 some c.index-rows-0.is c.go_to_node.ensures in (
       omega (arith, fewer_below rows some, c.decreases),
-      (within, (v, below, marked_below rows marks v u below h, room_for_part c.go_down.new.self c.put_children.new.locations (drop 1 rows) 0 (length rows - 1) room c.in_ok-put_children.ensures.back)),
+      (within, (v, below, marked_below rows marks v u below h, room_for_part c.go_to_node.new.self c.put_children.new.locations (drop 1 rows) 0 (length rows - 1) room c.in_ok-put_children.ensures.back)),
     )
 
 pub put_below-put_trees-requires : goal.put_below-put_trees-requires
@@ -238,9 +238,9 @@ put_below-put_trees-requires g t c κs within =
     let below = c.requires.2 in
     let h = c.requires.3 in
     let some = some_row rows (escaped_tree (record { root = u; below = below })) (flat_rows rows marks v u below h) in
-    let room = room_below c.args.locations.now c.go_down.new.self rows c.index-rows-0.result c.requires.4 some c.index-rows-0.is c.go_down.ensures in (
+    let room = room_below c.args.locations.now c.go_to_node.new.self rows c.index-rows-0.result c.requires.4 some c.index-rows-0.is c.go_to_node.ensures in (
       omega (arith, fewer_below rows some, c.decreases),
-      (within, (v, below, marked_below rows marks v u below h, subst (HasRoom c.go_down.new.self) (sym (rest_of rows)) room)),
+      (within, (v, below, marked_below rows marks v u below h, subst (HasRoom c.go_to_node.new.self) (sym (rest_of rows)) room)),
     )
 
 pub put_children-returns-in_err-put-clause-text : goal.put_children-returns-in_err-put-clause-text
@@ -398,7 +398,7 @@ put_below-returns-in_err-later-clause-listed g t c =
     let marks = c.args.marks.now in
     let x = c.index-rows-0.result in
     let root = root_row relative_row rows (escaped_tree (record { root = u; below = below })) x (flat_rows rows marks v u below h) c.index-rows-0.is in
-    let down = at_below c.args.locations.now c.go_down.new.self x u k i at c.go_down.ensures root in
+    let down = at_below c.args.locations.now c.go_to_node.new.self x u k i at c.go_to_node.ensures root in
     let res = c.from_residual.result in
     (listed_err (o c.args.out.now) (o c.put_trees.new.out) c.args.later (detailed v (k ++ u.keyword) (i ++ u.instance) below) res c.from_residual.ensures.0 (c.in_err-later.ensures.listed v below (k ++ u.keyword) (i ++ u.instance) down (marked_below rows marks v u below h)))
 
@@ -410,7 +410,7 @@ put_below-returns-clause-listed g t c =
     let marks = c.args.marks.now in
     let x = c.index-rows-0.result in
     let root = root_row relative_row rows (escaped_tree (record { root = u; below = below })) x (flat_rows rows marks v u below h) c.index-rows-0.is in
-    let down = at_below c.args.locations.now c.go_down.new.self x u k i at c.go_down.ensures root in
+    let down = at_below c.args.locations.now c.go_to_node.new.self x u k i at c.go_to_node.ensures root in
     (c.in_ok-later.ensures.listed v below (k ++ u.keyword) (i ++ u.instance) down (marked_below rows marks v u below h))
 
 pub put_tree-put_node-requires : goal.put_tree-put_node-requires

@@ -23,9 +23,9 @@ keep_node-keep_trees-requires t c =
     let below = c.requires.2 in
     let h = c.requires.3 in
     let some = some_row rows (escaped_tree (record { root = u; below = below })) (flat_rows rows marks v u below h) in
-    let room = room_below c.args.locations.now c.go_down.new.self rows c.index-rows-0.result c.requires.4 some c.index-rows-0.is c.go_down.ensures in (
+    let room = room_below c.args.locations.now c.go_to_node.new.self rows c.index-rows-0.result c.requires.4 some c.index-rows-0.is c.go_to_node.ensures in (
       omega (arith, fewer_below rows some, c.decreases),
-      (v, below, marked_below rows marks v u below h, subst (HasRoom c.go_down.new.self) (sym (rest_of rows)) room),
+      (v, below, marked_below rows marks v u below h, subst (HasRoom c.go_to_node.new.self) (sym (rest_of rows)) room),
     )
 
 pub keep_node-returns-clause-tree : goal.keep_node-returns-clause-tree
@@ -37,8 +37,8 @@ keep_node-returns-clause-tree t c =
     let k1 = k ++ u.keyword in
     let i1 = i ++ u.instance in
     let root = root_row relative_row rows (escaped_tree (record { root = u; below = below })) x (flat_rows rows marks v u below h) c.index-rows-0.is in
-    let down = at_below c.args.locations.now c.go_down.new.self x u k i at c.go_down.ensures root in
-    let still = still_at c.go_down.new.self c.keep_trees.new.locations k1 i1 down c.in_ok-keep_trees.ensures.back in
+    let down = at_below c.args.locations.now c.go_to_node.new.self x u k i at c.go_to_node.ensures root in
+    let still = still_at c.go_to_node.new.self c.keep_trees.new.locations k1 i1 down c.in_ok-keep_trees.ensures.back in
     let unit_is = unit_is_there k i x u root in
     let below_is =
     c.in_ok-keep_trees.ensures.trees v below k1 i1 down (marked_below rows marks v u below h)

@@ -5,7 +5,7 @@ use Rattle.js_tree.specs.Result.{ResultTree}
 use Rattle.js_tree.proofs.ChildTexts.{rest_of}
 use Rattle.js_tree.proofs.FlatRows.{first_tree, root_row, rows_below, shorter}
 use Rattle.js_tree.proofs.MarkedRows.{mark_ends, mark_fits, mark_goes_on, mark_set, mark_starts, one_tree}
-use Rattle.js_tree.proofs.Marks.{flat-flat_of}
+use Rattle.js_tree.proofs.Marks.{flat_form-flat_of}
 use Rattle.js_tree.proofs.relative_marks.+mark_trees.Goals as goal
 
 pub mark_trees-loop-next-init : goal.mark_trees-loop-next-init
@@ -32,7 +32,7 @@ mark_trees-loop-next-preserved t' c =
           let t = first_tree relative_row rows l.next w.left x w.left_is c.loop-next-test.true c.index-rows-first.is in
           let one : ResultTree = record { root = t.unit; below = t.below } in
           let size : l.next + x.size - l.next ≡ x.size = omega arith in
-          let all_is = ap (λ n. map relative_row (take n (drop l.next rows))) size ∙ (t.all ∙ sym (flat-flat_of one)) in
+          let all_is = ap (λ n. map relative_row (take n (drop l.next rows))) size ∙ (t.all ∙ sym (flat_form-flat_of one)) in
           let told = c.in_ok-trees.ensures one all_is in
           mark_goes_on c.args.verdict rows l.next c.args.marks.now.items l.marks.items c.mark_tree.new.marks.items l.trees c.in_ok-trees.field-0 f x w t told.0 told.1,
     )
@@ -60,7 +60,7 @@ mark_trees-mark_tree-requires t' c =
     let t = first_tree relative_row rows l.next w.left x w.left_is c.loop-next-test.true c.index-rows-first.is in
     let one : ResultTree = record { root = t.unit; below = t.below } in
     let size : l.next + x.size - l.next ≡ x.size = omega arith in
-    let all_is = ap (λ n. map relative_row (take n (drop l.next rows))) size ∙ (t.all ∙ sym (flat-flat_of one)) in
+    let all_is = ap (λ n. map relative_row (take n (drop l.next rows))) size ∙ (t.all ∙ sym (flat_form-flat_of one)) in
     (omega (arith, shorter (l.next + x.size - l.next) l.next rows, c.decreases), (one, all_is))
 
 pub mark_trees-overflow_add-trees : goal.mark_trees-overflow_add-trees
@@ -72,7 +72,7 @@ mark_trees-overflow_add-trees t' c =
     let t = first_tree relative_row rows l.next w.left x w.left_is c.loop-next-test.true c.index-rows-first.is in
     let one : ResultTree = record { root = t.unit; below = t.below } in
     let size : l.next + x.size - l.next ≡ x.size = omega arith in
-    let all_is = ap (λ n. map relative_row (take n (drop l.next rows))) size ∙ (t.all ∙ sym (flat-flat_of one)) in
+    let all_is = ap (λ n. map relative_row (take n (drop l.next rows))) size ∙ (t.all ∙ sym (flat_form-flat_of one)) in
     let told = c.in_ok-trees.ensures one all_is in
     omega (arith, mark_fits c.args.verdict rows l.next c.args.marks.now.items l.marks.items l.trees c.in_ok-trees.field-0 c.requires.0 x w t c.requires.1 told.1)
 

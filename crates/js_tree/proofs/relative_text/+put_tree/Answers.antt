@@ -26,7 +26,7 @@ put_tree-returns-in_err-put_node-clause-text g t c =
     let x = c.index-rows-0.result in
     let below = ap (map relative_row) (rest_of rows) ∙ rows_below relative_row rows (escaped_tree t') e in
     let root = root_row relative_row rows (escaped_tree t') x e c.index-rows-0.is in
-    let down = at_below c.args.locations.now c.go_down.new.self x t'.root k i at c.go_down.ensures root in
+    let down = at_below c.args.locations.now c.go_to_node.new.self x t'.root k i at c.go_to_node.ensures root in
     let is = root_there c.args.later k i x t' root in
     let r = c.from_residual.result in
     subst (λ l. Puts (o c.args.out.now) (o c.put_node.new.out) l r) is
@@ -40,7 +40,7 @@ put_tree-returns-clause-text g t c =
     let x = c.index-rows-0.result in
     let below = ap (map relative_row) (rest_of rows) ∙ rows_below relative_row rows (escaped_tree t') e in
     let root = root_row relative_row rows (escaped_tree t') x e c.index-rows-0.is in
-    let down = at_below c.args.locations.now c.go_down.new.self x t'.root k i at c.go_down.ensures root in
+    let down = at_below c.args.locations.now c.go_to_node.new.self x t'.root k i at c.go_to_node.ensures root in
     let is = root_there c.args.later k i x t' root in
     subst (Goes (o c.args.out.now) (o c.put_node.new.out)) is (c.in_ok-put_node.ensures.text t'.below (k ++ t'.root.keyword) t'.root.absolute (i ++ t'.root.instance) down (is_absolute x t'.root root) below)
 

@@ -20,9 +20,9 @@ put_tree-returns-in_err-later-clause-listed g t c =
     let v = c.args.verdict in
     let x = c.index-rows-0.result in
     let old = c.args.locations.now in
-    let new = c.go_down.new.self in
+    let new = c.go_to_node.new.self in
     let root = root_row relative_row c.args.rows.now (escaped_tree r) x e c.index-rows-0.is in
-    let down = at_below old new x r.root k i at c.go_down.ensures root in
+    let down = at_below old new x r.root k i at c.go_to_node.ensures root in
     let abs = is_absolute x r.root root in
     let these = if_noted (unit_there x (k ++ r.root.keyword) r.root.absolute (i ++ r.root.instance)) in
     let below = listed v (k ++ r.root.keyword) (i ++ r.root.instance) r.below in
@@ -38,9 +38,9 @@ put_tree-put_trees-requires g t c κs within =
     let e = c.requires.1 in
     let some = some_row rows (escaped_tree r) e in
     let is = ap (map relative_row) (rest_of rows) ∙ rows_below relative_row rows (escaped_tree r) e in
-    let room = room_below c.args.locations.now c.go_down.new.self rows c.index-rows-0.result c.requires.2 some c.index-rows-0.is c.go_down.ensures in (
+    let room = room_below c.args.locations.now c.go_to_node.new.self rows c.index-rows-0.result c.requires.2 some c.index-rows-0.is c.go_to_node.ensures in (
       omega (arith, fewer_below rows some, c.decreases),
-      (within, (r.below, is, subst (HasRoom c.go_down.new.self) (sym (rest_of rows)) room)),
+      (within, (r.below, is, subst (HasRoom c.go_to_node.new.self) (sym (rest_of rows)) room)),
     )
 
 pub put_tree-returns-in_err-later-2-clause-listed : goal.put_tree-returns-in_err-later-2-clause-listed
@@ -51,9 +51,9 @@ put_tree-returns-in_err-later-2-clause-listed g t c =
     let x = c.index-rows-0.result in
     let rows = c.args.rows.now in
     let old = c.args.locations.now in
-    let new = c.go_down.new.self in
+    let new = c.go_to_node.new.self in
     let root = root_row relative_row c.args.rows.now (escaped_tree r) x e c.index-rows-0.is in
-    let down = at_below old new x r.root k i at c.go_down.ensures root in
+    let down = at_below old new x r.root k i at c.go_to_node.ensures root in
     let abs = is_absolute x r.root root in
     let is = ap (map relative_row) (rest_of rows) ∙ rows_below relative_row rows (escaped_tree r) e in
     let these = if_noted (unit_there x (k ++ r.root.keyword) r.root.absolute (i ++ r.root.instance)) in
@@ -71,9 +71,9 @@ put_tree-returns-clause-listed g t c =
     let x = c.index-rows-0.result in
     let rows = c.args.rows.now in
     let old = c.args.locations.now in
-    let new = c.go_down.new.self in
+    let new = c.go_to_node.new.self in
     let root = root_row relative_row c.args.rows.now (escaped_tree r) x e c.index-rows-0.is in
-    let down = at_below old new x r.root k i at c.go_down.ensures root in
+    let down = at_below old new x r.root k i at c.go_to_node.ensures root in
     let abs = is_absolute x r.root root in
     let is = ap (map relative_row) (rest_of rows) ∙ rows_below relative_row rows (escaped_tree r) e in
     let these = if_noted (unit_there x (k ++ r.root.keyword) r.root.absolute (i ++ r.root.instance)) in

@@ -7,7 +7,7 @@ use Rattle.js_tree.specs.Form.{node_value, node_values}
 use Rattle.js_tree.specs.Result.{ResultTree}
 use Rattle.js_tree.proofs.ChildTexts.{rest_of}
 use Rattle.js_tree.proofs.FlatRows.{first_tree, root_row, rows_below, all_gone, shorter}
-use Rattle.js_tree.proofs.Marks.{flat-flat_of}
+use Rattle.js_tree.proofs.Marks.{flat_form-flat_of}
 use Rattle.js_tree.proofs.row_docs.+root_doc.Goals as goal
 
 pub root_doc-returns : goal.root_doc-returns
@@ -47,7 +47,7 @@ root_docs-root_doc-requires t' c =
     let t = first_tree row_of rows l.next w.0 x w.1 c.loop-next-test.true c.index-rows-next.is in
     let one : ResultTree = record { root = t.unit; below = t.below } in
     let size : l.next + x.size - l.next ≡ x.size = omega arith in
-    let all_is = ap (λ n. map row_of (take n (drop l.next rows))) size ∙ (t.all ∙ sym (flat-flat_of one)) in
+    let all_is = ap (λ n. map row_of (take n (drop l.next rows))) size ∙ (t.all ∙ sym (flat_form-flat_of one)) in
     let few : length (take (l.next + x.size - l.next) (drop l.next rows)) ≤ length rows = shorter (l.next + x.size - l.next) l.next rows in
     (omega (arith, few, c.decreases), (one, all_is))
 
@@ -73,7 +73,7 @@ root_docs-loop-next-preserved t' c =
           let t = first_tree row_of rows l.next w.0 x w.1 c.loop-next-test.true c.index-rows-next.is in
           let one : ResultTree = record { root = t.unit; below = t.below } in
           let size : l.next + x.size - l.next ≡ x.size = omega arith in
-          let all_is = ap (λ n. map row_of (take n (drop l.next rows))) size ∙ (t.all ∙ sym (flat-flat_of one)) in
+          let all_is = ap (λ n. map row_of (take n (drop l.next rows))) size ∙ (t.all ∙ sym (flat_form-flat_of one)) in
           let doc = c.in_ok-root_doc.field-0 in (
             t.after,
             t.more,

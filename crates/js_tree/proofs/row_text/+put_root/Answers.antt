@@ -8,7 +8,7 @@ use Rattle.js_tree.proofs.Pieces.{nothing_goes, then_puts, stops_in, stops_at_co
 use Rattle.js_tree.proofs.NodeTexts.{stops_in_head, stops_in_annotations, stops_in_error, stops_in_errors, puts_node}
 use Rattle.js_doc.specs.BytesOut.{Goes}
 use Rattle.js_tree.proofs.FlatRows.{sized_tree, root_row, rows_below, all_gone, some_tree, shorter}
-use Rattle.js_tree.proofs.Marks.{flat-flat_of}
+use Rattle.js_tree.proofs.Marks.{flat_form-flat_of}
 use Rattle.js_tree.proofs.Nested.{not_none, is_none}
 use Rattle.js_tree.proofs.ChildTexts.{row_children_text, no_children_text, rest_of}
 use Rattle.js_tree.proofs.row_text.+put_root.Goals as goal
@@ -141,7 +141,7 @@ put_roots-put_root-requires g t c κs within =
     let t = sized_tree g.L.Line.flat_row rows l.next w.0 x c.size.result w.1 c.loop-next-test.true c.index-rows-next.is c.size.ensures in
     let one : ResultTree = record { root = t.unit; below = t.below } in
     let size : l.next + c.size.result - l.next ≡ c.size.result = omega arith in
-    let all_is = ap (λ n. map g.L.Line.flat_row (take n (drop l.next rows))) size ∙ (t.all ∙ sym (flat-flat_of one)) in
+    let all_is = ap (λ n. map g.L.Line.flat_row (take n (drop l.next rows))) size ∙ (t.all ∙ sym (flat_form-flat_of one)) in
     let few : length (take (l.next + c.size.result - l.next) (drop l.next rows)) ≤ length rows = shorter (l.next + c.size.result - l.next) l.next rows in
     (omega (arith, few, c.decreases), (within.0, (within.1, (one, all_is))))
 
@@ -157,7 +157,7 @@ put_roots-returns-in_err-put_root g t c =
     let t = sized_tree g.L.Line.flat_row rows l.next w.0 x c.size.result w.1 c.loop-next-test.true c.index-rows-next.is c.size.ensures in
     let one : ResultTree = record { root = t.unit; below = t.below } in
     let size : l.next + c.size.result - l.next ≡ c.size.result = omega arith in
-    let all_is = ap (λ n. map g.L.Line.flat_row (take n (drop l.next rows))) size ∙ (t.all ∙ sym (flat-flat_of one)) in
+    let all_is = ap (λ n. map g.L.Line.flat_row (take n (drop l.next rows))) size ∙ (t.all ∙ sym (flat_form-flat_of one)) in
     stops_at_item (o c.args.out.now) (o l.out) (o c.put_comma.new.out) (o c.put_root.new.out) l.later (node_values w.0) (node_values t.after) (verbose one) all c.from_residual-in_err-put_root.result w.2 (ap node_values t.is) c.in_ok-put_comma.ensures c.from_residual-in_err-put_root.ensures.0 (c.in_err-put_root.ensures one all_is)
 
 pub put_roots-loop-next-smaller : goal.put_roots-loop-next-smaller
@@ -187,7 +187,7 @@ put_roots-loop-next-preserved g t c =
           let t = sized_tree g.L.Line.flat_row rows l.next w.0 x c.size.result w.1 c.loop-next-test.true c.index-rows-next.is c.size.ensures in
           let one : ResultTree = record { root = t.unit; below = t.below } in
           let size : l.next + c.size.result - l.next ≡ c.size.result = omega arith in
-          let all_is = ap (λ n. map g.L.Line.flat_row (take n (drop l.next rows))) size ∙ (t.all ∙ sym (flat-flat_of one)) in
+          let all_is = ap (λ n. map g.L.Line.flat_row (take n (drop l.next rows))) size ∙ (t.all ∙ sym (flat_form-flat_of one)) in
           (t.after, t.more, item_goes (o c.args.out.now) (o l.out) (o c.put_comma.new.out) (o c.put_root.new.out) l.later (node_values w.0) (node_values t.after) (verbose one) all w.2 (ap node_values t.is) c.in_ok-put_comma.ensures (c.in_ok-put_root.ensures one all_is)),
     )
 

@@ -9,7 +9,7 @@ use Rattle.js_tree.specs.Result.{units}
 use Rattle.js_tree.proofs.Pieces.{then_puts, stops_in}
 use Rattle.js_tree.proofs.NodeTexts.{units_value, list_text_is}
 use Rattle.js_tree.proofs.FlatRows.{root_row}
-use Rattle.js_tree.proofs.NotedRows.{noted_of-flat}
+use Rattle.js_tree.proofs.NotedRows.{noted_of-flat_form}
 use Rattle.js_tree.proofs.row_text.put_units.Goals as goal
 
 pub returns-in_err-put_list_name : goal.returns-in_err-put_list_name
@@ -22,7 +22,7 @@ returns-in_err-put_list_name g c =
     let us = list (items (map (λ u. node_value u []) (noted_of (map g.L.Line.flat_row rows)))) in
     let r = c.from_residual.result in
     subst (λ b. Puts (o c.args.out.now) (o c.put_list_name.new.out) (compact (units_value b (units t))) r) valid_is
-    (subst (λ xs. Puts (o c.args.out.now) (o c.put_list_name.new.out) (compact (units_value v xs)) r) (ap noted_of e ∙ noted_of-flat t)
+    (subst (λ xs. Puts (o c.args.out.now) (o c.put_list_name.new.out) (compact (units_value v xs)) r) (ap noted_of e ∙ noted_of-flat_form t)
     (subst (λ l. Puts (o c.args.out.now) (o c.put_list_name.new.out) l r) (list_text_is v us)
     (stops_in (o c.args.out.now) (o c.put_list_name.new.out) (list_start v) (compact us ++ valid_text v) r c.from_residual.ensures.0 c.in_err-put_list_name.ensures)))
 
@@ -36,7 +36,7 @@ returns-in_err-put_noted g c =
     let us = list (items (map (λ u. node_value u []) (noted_of (map g.L.Line.flat_row rows)))) in
     let r = c.from_residual-in_err-put_noted.result in
     subst (λ b. Puts (o c.args.out.now) (o c.put_noted.new.out) (compact (units_value b (units t))) r) valid_is
-    (subst (λ xs. Puts (o c.args.out.now) (o c.put_noted.new.out) (compact (units_value v xs)) r) (ap noted_of e ∙ noted_of-flat t)
+    (subst (λ xs. Puts (o c.args.out.now) (o c.put_noted.new.out) (compact (units_value v xs)) r) (ap noted_of e ∙ noted_of-flat_form t)
     (subst (λ l. Puts (o c.args.out.now) (o c.put_noted.new.out) l r) (list_text_is v us)
     (then_puts (o c.args.out.now) (o c.put_list_name.new.out) (o c.put_noted.new.out) (list_start v) (compact us ++ valid_text v) r c.in_ok-put_list_name.ensures (stops_in (o c.put_list_name.new.out) (o c.put_noted.new.out) (compact us) (valid_text v) r c.from_residual-in_err-put_noted.ensures.0 c.in_err-put_noted.ensures))))
 
@@ -50,6 +50,6 @@ returns g c =
     let us = list (items (map (λ u. node_value u []) (noted_of (map g.L.Line.flat_row rows)))) in
     let r = c.put_valid.result in
     subst (λ b. Puts (o c.args.out.now) (o c.put_valid.new.out) (compact (units_value b (units t))) r) valid_is
-    (subst (λ xs. Puts (o c.args.out.now) (o c.put_valid.new.out) (compact (units_value v xs)) r) (ap noted_of e ∙ noted_of-flat t)
+    (subst (λ xs. Puts (o c.args.out.now) (o c.put_valid.new.out) (compact (units_value v xs)) r) (ap noted_of e ∙ noted_of-flat_form t)
     (subst (λ l. Puts (o c.args.out.now) (o c.put_valid.new.out) l r) (list_text_is v us)
     (then_puts (o c.args.out.now) (o c.put_list_name.new.out) (o c.put_valid.new.out) (list_start v) (compact us ++ valid_text v) r c.in_ok-put_list_name.ensures (then_puts (o c.put_list_name.new.out) (o c.put_noted.new.out) (o c.put_valid.new.out) (compact us) (valid_text v) r c.in_ok-put_noted.ensures c.put_valid.ensures))))

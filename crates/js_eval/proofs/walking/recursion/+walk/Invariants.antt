@@ -1,6 +1,6 @@
 use Rattle.std.proofs.Common.{◌≡◌, ◌++◌, ◌∷◌, [], ◌+◌, ◌*◌, ◌-◌, ◌<◌, ◌≤◌, length, map}
 use Rattle.js_eval.specs.Walk.Scope.{HasGrown}
-use Rattle.js_eval.specs.Walk.Told.{IsBack}
+use Rattle.js_eval.specs.Walk.Told.{IsWayRestored}
 use Rattle.js_eval.proofs.Recursion.Each.{EachSoFar}
 use Rattle.js_eval.proofs.Recursion.NodeTelling.{KeywordsLoop}
 use Rattle.js_eval.proofs.walking.recursion.+walk.Given as goal
@@ -19,7 +19,7 @@ invariant-applications-each g l =
     record {
       so : EachSoFar (g.W.World.schemas l.world) l.depth (map (g.W.World.site l.world) l.fn.way.path) l.kind g.R.Reporter.takes (g.W.World.asked l.world l.fn.asking) (g.W.World.asked l.world l.asking) l.tally.asked l.tally.held
           (map g.W.World.text_of l.fn.way.names.items) (map g.W.World.text_of l.way.names.items) l.fn.way.indexes.items l.way.indexes.items l.fn.way.left l.way.left l.fn.way.keyword l.fn.way.instance l.fn.into l.into;
-      back : IsBack l.fn.way l.way;
+      back : IsWayRestored l.fn.way l.way;
       asking : g.W.World.is_asking l.world l.asking;
       few : l.tally.asked + l.way.left ≤ l.fn.way.left;
       held : l.tally.held ≤ l.tally.asked;

@@ -3,7 +3,7 @@ use Rattle.js_doc.specs.Compact.{quoted}
 use Rattle.js_tree.specs.code.NodeText.{annotation_part}
 use Rattle.js_tree.specs.Seen.{note_of}
 use Rattle.js_tree.proofs.Pieces.{then_puts, stops_in}
-use Rattle.js_tree.proofs.node_text.put_beginning.Goals as goal
+use Rattle.js_tree.proofs.node_text.put_opening_members.Goals as goal
 
 pub returns-in_err-put_member : goal.returns-in_err-put_member
 returns-in_err-put_member g c =

@@ -4,7 +4,7 @@ use Rattle.js_eval.specs.Bundle.{schemas_of}
 use Rattle.js_eval.specs.SchemaSet as spec
 use Rattle.js_eval.specs.Sited.{numbered_site}
 use Rattle.js_eval.proofs.ItemsLeft.{first_left}
-use Rattle.js_eval.proofs.item_cursor.each_in_step.Goals as goal
+use Rattle.js_eval.proofs.item_cursor.each_at_index.Goals as goal
 
 pub returns-clause-asked : goal.returns-clause-asked
 returns-clause-asked c = λ documents.

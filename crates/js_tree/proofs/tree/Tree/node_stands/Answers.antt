@@ -3,7 +3,7 @@ use Rattle.js_tree.specs.OutputUnit.{noted}
 use Rattle.js_tree.specs.Forest.{tree_count}
 use Rattle.js_tree.proofs.Forests.{tree_count-forest_of}
 use Rattle.js_tree.proofs.Steps.{leb-at_least_two}
-use Rattle.js_tree.proofs.tree.Tree.stands.Goals as goal
+use Rattle.js_tree.proofs.tree.Tree.node_stands.Goals as goal
 
 pub returns-else-is_noted : goal.returns-else-is_noted
 returns-else-is_noted c =

@@ -4,7 +4,7 @@ use Rattle.js_eval.specs.Bundle.{schemas_of}
 use Rattle.js_eval.specs.SchemaSet as spec
 use Rattle.js_eval.specs.Seen.{instance_of}
 use Rattle.js_eval.specs.Sited.{numbered_site}
-use Rattle.js_eval.proofs.start_items.listed.Goals as goal
+use Rattle.js_eval.proofs.start_items.each_in_list.Goals as goal
 
 pub returns-clause-asked : goal.returns-clause-asked
 returns-clause-asked c = λ documents.

@@ -2,7 +2,7 @@ use Rattle.std.proofs.Common.{◌++◌, codes}
 use Rattle.js_doc.specs.Compact.{quoted}
 use Rattle.js_tree.specs.code.NodeText.{valid_text}
 use Rattle.js_tree.proofs.Pieces.{then_puts, stops_in}
-use Rattle.js_tree.proofs.node_text.put_end.Goals as goal
+use Rattle.js_tree.proofs.node_text.put_closing_members.Goals as goal
 
 pub returns-in_err-put_member : goal.returns-in_err-put_member
 returns-in_err-put_member g c =
