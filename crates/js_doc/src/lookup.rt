@@ -16,15 +16,15 @@ impl Doc {
         at_tokens(self, pointer.tokens())
     }
 
-    /// What `at` answers. If the last token is the name that stands at `rank` among the names of its object, counted
-    /// from 0 in their order, it is found there without a search. The rank is a guess: it changes how long this takes,
+    /// What `at` answers. If the last token is the name that stands at the rank `hint` in its object, counted from 0 in
+    /// the order of the names, it is found there without a search. The rank is a guess: it changes how long this takes,
     /// and never the answer.
-    pub fn at_with_hint(&self, pointer: &Pointer, rank: usize) -> Option<&Doc>
+    pub fn at_with_hint(&self, pointer: &Pointer, hint: usize) -> Option<&Doc>
         ensures { option_map (λ d. value_of d.now) result ≡ at pointer.now (value_of self.now) }
     {
         match pointer.tokens().split_last() {
             Some((last, above)) => match at_tokens(self, above) {
-                Some(doc) => below_with_hint(doc, last.as_str(), rank),
+                Some(doc) => below_with_hint(doc, last.as_str(), hint),
                 None => None,
             },
             None => Some(self),
@@ -45,11 +45,11 @@ fn at_tokens<'a>(root: &'a Doc, tokens: &[Token]) -> Option<&'a Doc>
     Some(here)
 }
 
-fn below_with_hint<'a>(doc: &'a Doc, token: &str, rank: usize) -> Option<&'a Doc>
+fn below_with_hint<'a>(doc: &'a Doc, token: &str, hint: usize) -> Option<&'a Doc>
     ensures { option_map (λ d. value_of d.now) result ≡ below token.now (value_of doc.now) }
 {
     match doc {
-        Doc::Members(members) => members.get_with_hint(token, rank),
+        Doc::Members(members) => members.get_with_hint(token, hint),
         _ => below(doc, token),
     }
 }

@@ -80,12 +80,12 @@ impl Members {
         }
     }
 
-    /// What `get` answers, without a search if the name stands at `rank`, counted from 0 in the order of the names. The
-    /// rank is a guess: it changes how long this takes, and never the answer.
-    pub fn get_with_hint(&self, name: &str, rank: usize) -> Option<&Doc>
+    /// What `get` answers, without a search if the name stands at the rank `hint`, counted from 0 in the order of the
+    /// names. The rank is a guess: it changes how long this takes, and never the answer.
+    pub fn get_with_hint(&self, name: &str, hint: usize) -> Option<&Doc>
         ensures { option_map (λ d. value_of d.now) result ≡ get name.now self.now }
     {
-        match self.entries.get(rank) {
+        match self.entries.get(hint) {
             Some((found, doc)) if name == found.as_str() => Some(doc),
             _ => self.get(name),
         }

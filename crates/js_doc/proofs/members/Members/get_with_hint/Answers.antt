@@ -9,12 +9,12 @@ returns-in-Some c =
     let es = c.self.inside.entries.items in
     let seen = c.deref.result.now in
     let name = c.args.name.now in
-    let rank = c.args.rank in
+    let hint = c.args.hint in
     let entry = c.in-Some.field-0.now in
     let same = c.deref.ensures.value in
     let ascends = members_ascend-list (map pair_of es) c.self.invariant.0 in
     let at = c.in-Some.ensures.lookup.1 in
-    let stands = named_stands name seen rank entry c.as_str.result.now c.in-Some.ensures.lookup.3.0 at
+    let stands = named_stands name seen hint entry c.as_str.result.now c.in-Some.ensures.lookup.3.0 at
     c.as_str.ensures.value (sym c.eq.ensures ∙ c.if-eq.true) in
     rw (← c.self.view_is)
-    (get_found name seen es rank entry same ascends stands (at ∙ ap (λ ys. get_or ys rank entry) same))
+    (get_found name seen es hint entry same ascends stands (at ∙ ap (λ ys. get_or ys hint entry) same))
