@@ -1,25 +1,21 @@
--- The keywords that a quiet walk visits are those among a schema's members that apply schemas, found by their names.
-use Rattle.std.specs.Prelude.{◌≡◌, ℕ, Bool, true, false, ◌||◌, cond, List, [], ◌∷◌, ◌++◌, Option, None, Some, MatchOption, filter, is_some, option_map, refl}
-use Rattle.std.specs.List.{AllByRecursion, cons_option}
-use Rattle.std.specs.Str.{bytes_eq}
+-- The keywords that a quiet walk visits are those among a schema's members that apply schemas, rank by rank.
+use Rattle.std.specs.Prelude.{◌≡◌, ℕ, ◌+◌, ◌<◌, Bool, true, false, ◌||◌, cond, List, [], ◌∷◌, ◌++◌, Option, None, Some, drop, filter, length, option_map, slice_get, refl}
 use Rattle.std.specs.declared.cmp.Ordering.TheVariants.{Less}
-use Rattle.std.proofs.Common.{sym, ◌∙◌, ap, ap₂, subst}
+use Rattle.std.proofs.Common.{get_or, sym, ◌∙◌, ap, ap₂}
+use Rattle.std.proofs.lemmas.List.{drop_more}
 use Rattle.std.proofs.lemmas.List.Elements.{filter-append}
-use Rattle.std.proofs.lemmas.Slice.Eq.{bytes_eq-Decides}
-use Rattle.js_assert.specs.Keyword.{keyword_named}
-use Rattle.js_bundle.specs.KeywordName.{TableOfNames, applying, identifying, name_in, stands_behind_if, by_side, not_applying, keyword_name}
+use Rattle.std.proofs.lemmas.Option.{get_or_from_slice_get, slice_get-map, slice_get_read, slice_get_within}
+use Rattle.js_bundle.specs.KeywordName.{keyword_name}
 use Rattle.js_bundle.specs.declared.keyword_name.KeywordName.{KeywordName}
-use Rattle.js_bundle.specs.declared.keyword_name.KeywordName.TheVariants.{Ref, AssertionUpToIf, AssertionBehindIf, OtherUpToIf, OtherBehindIf}
 use Rattle.js_doc.specs.Value.{Named}
-use Rattle.js_doc.specs.Members.{get, name_cmp, IsBelowHead, IsAscending}
+use Rattle.js_doc.specs.Members.{name_cmp, IsBelowHead, IsAscending}
 use Rattle.js_eval.specs.Keywords.{Keyword, comes_before_else, is_else, comes_after_else}
-use Rattle.js_eval.specs.Kind.{kind}
 use Rattle.js_eval.specs.Walk.Visited.{may_apply, is_visited}
-use Rattle.js_eval.specs.code.Applicator.{applicator_text, has_applicator, member_named, applicators_in}
-use Rattle.js_eval.specs.code.Standard.{kind_by, keyword_names_of}
+use Rattle.js_eval.specs.code.Applicator.{applicators_from, applies, has_applicator}
+use Rattle.js_eval.specs.code.Standard.{keyword_names_of}
 use Rattle.js_eval.specs.code.Turns.{in_order}
-use Rattle.js_eval.proofs.FoundByName.{AreAmong, Below, all_of_filter, below_all, each_among}
-use Rattle.js_eval.proofs.Standard.{side_has, each_has, kind_is}
+use Rattle.js_eval.proofs.FoundByName.{Below, all_of_filter, below_all}
+use Rattle.js_eval.proofs.Standard.{kind_is}
 
 -- ---- a walk that isn't quiet visits all
 
@@ -28,74 +24,66 @@ unfolding is_visited
 all_visited [] = refl
 all_visited (m ∷ ms) = ap (λ xs. m ∷ xs) (all_visited ms)
 
--- ---- the text of a name that applies schemas is the name
+-- ---- a member that applies schemas is visited
 
-applies_by : (which : KeywordName) → is_some (applicator_text which) ≡ may_apply (kind_by which)
-unfolding applicator_text
-applies_by Ref = refl
-applies_by _ = refl
-
-applies : (name : List ℕ) → is_some (applicator_text (keyword_name name)) ≡ may_apply (kind name)
-applies name = applies_by (keyword_name name) ∙ ap may_apply (kind_is name)
-
-IsItsText : List ℕ → KeywordName → Type 0
-IsItsText name which = MatchOption (applicator_text which) (Unit {0}) (λ t. t ≡ name)
-
-is_text_in : (rows : TableOfNames) (otherwise : KeywordName) (name : List ℕ) → AllByRecursion (λ row. applicator_text row.1 ≡ Some row.0) rows → IsItsText name otherwise
-    → IsItsText name (name_in rows otherwise name)
-unfolding IsItsText
-is_text_in [] otherwise name h e = e
-is_text_in (row ∷ rows) otherwise name h e = at (bytes_eq name row.0) refl (is_text_in rows otherwise name h.1 e)
-  where
-    at : (b : Bool) → bytes_eq name row.0 ≡ b → IsItsText name (name_in rows otherwise name) → IsItsText name (cond b row.1 (name_in rows otherwise name))
-    at true q r = subst (λ o. MatchOption o (Unit {0}) (λ t. t ≡ name)) (sym h.0) (sym ((bytes_eq-Decides name row.0).0 q))
-    at false q r = r
-
-has_no_text : (name : List ℕ) → applicator_text (not_applying name) ≡ None
-unfolding applicator_text
-has_no_text name =
-    let behind = stands_behind_if name in
-    side_has applicator_text None (is_some (keyword_named name)) (name_in identifying (by_side OtherUpToIf OtherBehindIf name) name) (by_side AssertionUpToIf AssertionBehindIf name)
-    (each_has applicator_text None identifying (by_side OtherUpToIf OtherBehindIf name) name (refl, (refl, (refl, (refl, (refl, (refl, (refl, (refl, tt))))))))
-    (side_has applicator_text None behind OtherUpToIf OtherBehindIf refl refl))
-    (side_has applicator_text None behind AssertionUpToIf AssertionBehindIf refl refl)
-
-its_text : (name : List ℕ) → IsItsText name (keyword_name name)
-unfolding IsItsText keyword_name applicator_text
-its_text name =
-    is_text_in applying (not_applying name) name
-    (refl, (refl, (refl, (refl, (refl, (refl, (refl, (refl, (refl, (refl, (refl, (refl, (refl, (refl, (refl, (refl, (refl, (refl, (refl, tt)))))))))))))))))))
-    (subst (λ o. MatchOption o (Unit {0}) (λ t. t ≡ name)) (sym (has_no_text name)) tt)
-
--- ---- each is found among the members
-
-with_member : (ms : Named) (x : Keyword) (xs ys : Named) (o : Option (List ℕ)) → MatchOption o (Unit {0}) (λ t. t ≡ x.0) → get x.0 ms ≡ Some x.1 → xs ≡ ys
-    → cons_option (member_named ms o) xs ≡ cond (is_some o) (x ∷ ys) ys
-with_member ms x xs ys None fits among e = e
-with_member ms x xs ys (Some t) fits among e =
-    let it : member_named ms (Some t) ≡ Some x = ap (λ n. option_map (λ a. (n, a)) (get n ms)) fits ∙ ap (option_map (λ a. (x.0, a))) among in
-    ap₂ cons_option it e
-
-found_among : (ms xs : Named) → AreAmong ms xs → applicators_in ms (keyword_names_of xs) ≡ filter (is_visited true) xs
-unfolding is_visited IsItsText
-found_among ms [] h = refl
-found_among ms (x ∷ xs) h =
-    with_member ms x (applicators_in ms (keyword_names_of xs)) (filter (is_visited true) xs) (applicator_text (keyword_name x.0)) (its_text x.0) h.0 (found_among ms xs h.1)
-    ∙ ap (λ b. cond b (x ∷ filter (is_visited true) xs) (filter (is_visited true) xs)) (applies x.0)
-
-pub applicators_are : (names : List KeywordName) (ms : Named) → names ≡ keyword_names_of ms → IsAscending ms → applicators_in ms names ≡ filter (is_visited true) ms
-applicators_are names ms e a = ap (applicators_in ms) e ∙ found_among ms ms (each_among ms a)
+applies_visited : (m : Keyword) → applies (keyword_name m.0) ≡ is_visited true m
+unfolding is_visited
+applies_visited m = ap may_apply (kind_is m.0)
 
 none_at : (b c : Bool) (m : Keyword) (xs : Named) → (b || c) ≡ false → (c ≡ false → xs ≡ []) → cond b (m ∷ xs) xs ≡ []
 none_at true c m xs h r = cc
 none_at false c m xs h r = r h
 
 pub none_visited : (ms : Named) → has_applicator (keyword_names_of ms) ≡ false → filter (is_visited true) ms ≡ []
-unfolding is_visited
 none_visited [] h = refl
 none_visited (m ∷ ms) h =
-    ap (λ b. cond b (m ∷ filter (is_visited true) ms) (filter (is_visited true) ms)) (sym (applies m.0))
-    ∙ none_at (is_some (applicator_text (keyword_name m.0))) (has_applicator (keyword_names_of ms)) m (filter (is_visited true) ms) h (none_visited ms)
+    ap (λ b. cond b (m ∷ filter (is_visited true) ms) (filter (is_visited true) ms)) (sym (applies_visited m))
+    ∙ none_at (applies (keyword_name m.0)) (has_applicator (keyword_names_of ms)) m (filter (is_visited true) ms) h (none_visited ms)
+
+-- ---- one rank after another
+
+pub named_at : (ms : Named) (rank : ℕ) (which : KeywordName) (m : Keyword) → slice_get (keyword_names_of ms) rank ≡ Some which → slice_get ms rank ≡ Some m
+    → which ≡ keyword_name m.0
+named_at ms rank which m h e =
+    let name = λ (k : Keyword). keyword_name k.0 in
+    let same : Some which ≡ Some (keyword_name m.0) = sym h ∙ (slice_get-map name ms rank ∙ ap (option_map name) e) in
+    cc
+
+abbrev if_visited : Bool → Named → ℕ → Keyword → Named
+if_visited b ms rank m = cond b (m ∷ applicators_from ms (rank + 1)) (applicators_from ms (rank + 1))
+
+one_on : (ms : Named) (rank : ℕ) (which : KeywordName) (m : Keyword) → slice_get (keyword_names_of ms) rank ≡ Some which → slice_get ms rank ≡ Some m
+    → applicators_from ms rank ≡ if_visited (applies which) ms rank m
+one_on ms rank which m h e =
+    ap (filter (is_visited true)) (drop_more ms rank m (slice_get_within ms rank m e) ∙ ap (λ x. x ∷ drop (rank + 1) ms) (get_or_from_slice_get ms rank m m e))
+    ∙ ap (λ b. if_visited b ms rank m) (sym (ap applies (named_at ms rank which m h e) ∙ applies_visited m))
+
+-- each name is that of a member
+never_none : (ms : Named) (rank : ℕ) (which : KeywordName) → slice_get (keyword_names_of ms) rank ≡ Some which → slice_get ms rank ≡ None → ⊥
+never_none ms rank which h e =
+    let name = λ (k : Keyword). keyword_name k.0 in
+    let same : Some which ≡ None = sym h ∙ (slice_get-map name ms rank ∙ ap (option_map name) e) in
+    cc
+
+-- which keyword of the standard the member at the rank is
+name_at : (ms : Named) (names : List KeywordName) (rank : ℕ) (which : KeywordName) → names ≡ keyword_names_of ms → rank < length names → which ≡ get_or names rank which
+    → slice_get (keyword_names_of ms) rank ≡ Some which
+name_at ms names rank which same h e = ap (λ ns. slice_get ns rank) (sym same) ∙ slice_get_read names (length names) rank which refl h e
+
+-- the member at the rank applies schemas
+pub taken : (ms : Named) (names : List KeywordName) (rank : ℕ) (which : KeywordName) (m : Keyword) → applies which ≡ true → slice_get ms rank ≡ Some m → names ≡ keyword_names_of ms
+    → rank < length names → which ≡ get_or names rank which → applicators_from ms rank ≡ m ∷ applicators_from ms (rank + 1)
+taken ms names rank which m t there same h e =
+    one_on ms rank which m (name_at ms names rank which same h e) there ∙ ap (λ b. if_visited b ms rank m) t
+
+-- it doesn't
+pub passed_over : (ms : Named) (names : List KeywordName) (rank : ℕ) (which : KeywordName) → applies which ≡ false → names ≡ keyword_names_of ms
+    → rank < length names → which ≡ get_or names rank which → applicators_from ms (rank + 1) ≡ applicators_from ms rank
+passed_over ms names rank which f same h e = at (slice_get ms rank) refl
+  where
+    at : (o : Option Keyword) → slice_get ms rank ≡ o → applicators_from ms (rank + 1) ≡ applicators_from ms rank
+    at None there = absurd (never_none ms rank which (name_at ms names rank which same h e) there)
+    at (Some m) there = sym (one_on ms rank which m (name_at ms names rank which same h e) there ∙ ap (λ b. if_visited b ms rank m) f)
 
 -- ---- some of ascending members
 

@@ -1,9 +1,10 @@
 //! The members of a schema that apply schemas, one after another, each as a keyword with its turn (see `turn`).
-ghost use Rattle.std.specs.Prelude.{◌≡◌, ◌∷◌, [], MatchOption, is_some, option_map};
-ghost use Rattle.js_bundle.specs.KeywordName.{keyword_name};
-ghost use Rattle.js_eval.specs.code.Applicator.{applicator_in, applicator_text, applicators_in, has_applicator};
+ghost use Rattle.std.specs.Prelude.{◌≡◌, ◌∷◌, [], MatchOption, Some, filter, option_map, slice_get, true};
+ghost use Rattle.js_eval.specs.code.Applicator.{applicators_from, applies, has_applicator};
+ghost use Rattle.js_eval.specs.code.Standard.{keyword_names_of};
 ghost use Rattle.js_eval.specs.code.Turns.{turn_of};
 ghost use Rattle.js_eval.specs.Seen.{keyword_of};
+ghost use Rattle.js_eval.specs.Walk.Visited.{is_visited};
 
 use crate::by_name::kind_of_named;
 use crate::keyword::Keyword;
@@ -11,32 +12,65 @@ use crate::turn::{Turn, turn_of};
 use js_bundle::KeywordName;
 use js_doc::Members;
 
-/// All members, and which keyword of the standard each of those is that are left. A member that applies schemas is got
-/// by its name, so the others cost no more than a look at what they are.
+/// All members, which keyword of the standard each of them is, and how many are behind. A member that applies schemas
+/// is got by its rank, without comparing names, and the others cost no more than a look at what they are.
 #[derive(Drop)]
 pub(crate) struct Applying<'a> {
-    pub names: &'a [KeywordName],
+    names: &'a [KeywordName],
     pub members: &'a Members,
+    /// The rank of the next member.
+    pub rank: usize,
+    ghost in_step: { names.now ≡ keyword_names_of members.now },
 }
 
 impl<'a> Applying<'a> {
+    /// Starts with all members.
+    pub fn new(names: &'a [KeywordName], members: &'a Members) -> Applying<'a>
+        requires { names.now ≡ keyword_names_of members.now }
+        ensures { applicators_from result.members.now result.rank ≡ filter (is_visited true) members.now }
+    {
+        Applying {
+            names,
+            members,
+            rank: 0,
+        }
+    }
+
     /// The next member that applies schemas, as a keyword, and its turn.
     pub fn next(&mut self) -> Option<(Turn, Keyword<'a>)>
         ensures { MatchOption result
-            ((applicators_in self.old.members.now self.old.names.now ≡ [])
-            × (applicators_in self.new.members.now self.new.names.now ≡ []))
-            (λ m. (applicators_in self.old.members.now self.old.names.now
-            ≡ keyword_of m.1 ∷ applicators_in self.new.members.now self.new.names.now)
+            ((applicators_from self.old.members.now self.old.rank ≡ [])
+            × (applicators_from self.new.members.now self.new.rank ≡ []))
+            (λ m. (applicators_from self.old.members.now self.old.rank
+            ≡ keyword_of m.1 ∷ applicators_from self.new.members.now self.new.rank)
             × (m.0 ≡ turn_of m.1.name.now)) }
     {
-        while let Some((which, others)) = self.names.split_first() {
-            self.names = others;
-            if let Some(keyword) = applicator_in(self.members, *which) {
+        while self.rank < self.names.len() {
+            let rank = self.rank;
+            let which = self.names[rank];
+            self.rank = rank + 1;
+            if applies(which) {
+                let keyword = keyword_at(self.members, rank, which)?;
                 return Some((turn_of(keyword.which, keyword.name), keyword));
             }
         }
         None
     }
+}
+
+// The member at the rank, as a keyword.
+#[tactic(auto, using(crate::proofs::Applicators::named_at))]
+fn keyword_at<'a>(members: &'a Members, rank: usize, which: KeywordName) -> Option<Keyword<'a>>
+    requires { slice_get (keyword_names_of members.now) rank ≡ Some which }
+    ensures { option_map keyword_of result ≡ slice_get members.now rank }
+{
+    let (name, argument) = members.nth(rank)?;
+    Some(Keyword {
+        name,
+        which,
+        kind: kind_of_named(which, name),
+        argument,
+    })
 }
 
 /// Whether one of them applies schemas.
@@ -47,51 +81,28 @@ pub(crate) fn has_applicator(names: &[KeywordName]) -> bool
 }
 
 fn applies(which: KeywordName) -> bool
-    ensures { result ≡ is_some (applicator_text which) }
+    ensures { result ≡ applies which }
 {
-    applicator_text(which).is_some()
-}
-
-// The keyword, if it applies schemas and is one of these members.
-fn applicator_in<'a>(members: &'a Members, which: KeywordName) -> Option<Keyword<'a>>
-    ensures { option_map keyword_of result ≡ applicator_in members.now which }
-{
-    let name = applicator_text(which)?;
-    let argument = members.get(name)?;
-    Some(Keyword {
-        name,
+    matches!(
         which,
-        kind: kind_of_named(which, name),
-        argument,
-    })
-}
-
-// The name of the keyword, if it applies schemas.
-#[tactic(auto, unfolding(crate::specs::code::Applicator::applicator_text, js_bundle::specs::KeywordName::keyword_name))]
-fn applicator_text(which: KeywordName) -> Option<&'static str>
-    ensures text { option_map (λ name. name.now) result ≡ applicator_text which }
-    ensures named { MatchOption result (Unit {0}) (λ name. which ≡ keyword_name name.now) }
-{
-    match which {
-        KeywordName::Ref => Some("$ref"),
-        KeywordName::DynamicRef => Some("$dynamicRef"),
-        KeywordName::AllOf => Some("allOf"),
-        KeywordName::AnyOf => Some("anyOf"),
-        KeywordName::OneOf => Some("oneOf"),
-        KeywordName::Not => Some("not"),
-        KeywordName::If => Some("if"),
-        KeywordName::Then => Some("then"),
-        KeywordName::Else => Some("else"),
-        KeywordName::DependentSchemas => Some("dependentSchemas"),
-        KeywordName::PrefixItems => Some("prefixItems"),
-        KeywordName::Items => Some("items"),
-        KeywordName::Contains => Some("contains"),
-        KeywordName::Properties => Some("properties"),
-        KeywordName::PatternProperties => Some("patternProperties"),
-        KeywordName::AdditionalProperties => Some("additionalProperties"),
-        KeywordName::PropertyNames => Some("propertyNames"),
-        KeywordName::UnevaluatedItems => Some("unevaluatedItems"),
-        KeywordName::UnevaluatedProperties => Some("unevaluatedProperties"),
-        _ => None,
-    }
+        KeywordName::Ref
+            | KeywordName::DynamicRef
+            | KeywordName::AllOf
+            | KeywordName::AnyOf
+            | KeywordName::OneOf
+            | KeywordName::Not
+            | KeywordName::If
+            | KeywordName::Then
+            | KeywordName::Else
+            | KeywordName::DependentSchemas
+            | KeywordName::PrefixItems
+            | KeywordName::Items
+            | KeywordName::Contains
+            | KeywordName::Properties
+            | KeywordName::PatternProperties
+            | KeywordName::AdditionalProperties
+            | KeywordName::PropertyNames
+            | KeywordName::UnevaluatedItems
+            | KeywordName::UnevaluatedProperties
+    )
 }

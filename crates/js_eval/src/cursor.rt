@@ -27,9 +27,9 @@ pub(crate) enum Asking<'a> {
     One(Option<Applied<'a>>),
     List(ListCursor<'a>),
     Items(ItemCursor<'a>),
-    // These are boxed: with an iterator over members, they are much larger than the others. Each level of the recursion
-    // holds an `Asking`, and one is cleared and copied several times for each keyword.
-    Names(Box<NameCursor<'a>>),
+    Names(NameCursor<'a>),
+    // These are boxed: they are much larger than the others. Each level of the recursion holds an `Asking`, and one is
+    // cleared and copied several times for each keyword.
     Members(Box<MemberCursor<'a>>),
     Patterns(Box<PatternCursor<'a>>),
 }

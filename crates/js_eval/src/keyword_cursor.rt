@@ -70,7 +70,7 @@ impl<'a> Keywords<'a> {
     {
         names_ascend(members);
         if has_applicator(names) {
-            Keywords::Of(KeywordCursor::new(InTurn::Applying(Applying { names, members })))
+            Keywords::Of(KeywordCursor::new(InTurn::Applying(Applying::new(names, members))))
         } else {
             Keywords::Nothing
         }

@@ -1,7 +1,7 @@
 //! The applications of `properties`, name by name (Core, section 10.3.2.1): the schema of each name that a member has,
 //! on the member. The members are looked up name by name; or, since names and members both ascend, the two are gone
 //! through side by side.
-ghost use Rattle.std.specs.Prelude.{◌≡◌, ◌∷◌, ◌+◌, ◌<◌, ◌^◌, [], IfOk, MatchOption, Some, filter, length, map, slice_get};
+ghost use Rattle.std.specs.Prelude.{◌≡◌, ◌∷◌, ◌+◌, ◌<◌, ◌^◌, [], MatchOption, Some, filter, length, map, slice_get};
 ghost use Rattle.js_assert.specs.Argument.{entries, has};
 ghost use Rattle.js_bundle.specs.Document.{Documents};
 ghost use Rattle.js_doc.specs.Members.{IsAscending};
@@ -23,8 +23,7 @@ use crate::bundled::below_at_rank;
 use crate::instance::{Applied, Instance};
 use crate::keyword::Keyword;
 use js_bundle::{Place, Schemas, Step};
-use js_doc::{Doc, Members, Memory, Pairs};
-use std::alloc::Global;
+use js_doc::{Doc, Members, Pairs};
 use std::cmp::Ordering;
 
 /// The names in `properties` that are still to come, and the members to find them among.
@@ -44,8 +43,8 @@ pub(crate) struct NameCursor<'a> {
 pub(crate) enum Among<'a> {
     /// All: each name is looked up.
     All(&'a Members),
-    /// Those behind the last that had a name. Boxed, because each level of the recursion holds a cursor.
-    Left(Box<Pairs<'a>>),
+    /// Those behind the last that had a name.
+    Left(Pairs<'a>),
 }
 
 /// The schema of each name that a member has, applied to the member. It looks each name up.
@@ -84,36 +83,30 @@ pub(crate) fn names_ascend(members: &Members)
 }
 
 /// The same. It goes through names and members side by side.
-///
-/// # Errors
-/// `Memory` if an allocation fails.
 pub(crate) fn each_in_step<'a>(
-    alloc: Global,
     place: Place,
     schema: &'a Doc,
     keyword: Keyword<'a>,
     named: &'a Members,
     members: &'a Members,
-) -> Result<NameCursor<'a>, Memory>
+) -> NameCursor<'a>
     requires kind { held_at keyword.kind ≡ is_name }
     requires keyword { IsIn (value_of schema.now) (keyword_of keyword) }
     requires named { named.now ≡ entries (value_of keyword.argument.now) }
-    ensures asked { IfOk result (λ c. (documents : Documents) → names_asked documents c
+    ensures asked { (documents : Documents) → names_asked documents result
         ≡ map (λ m. application (schemas_of documents) (numbered_site documents place) keyword.entry.name.now
         (spec.Name m.0) (spec.Name m.0) m.1)
-        (filter (λ m. has m.0 named.now) members.now)) }
-    ensures is { IfOk result (λ c. (documents : Documents) → IsSchemaAt documents place (value_of schema.now)
-        → IsNames documents c) }
+        (filter (λ m. has m.0 named.now) members.now) }
+    ensures is { (documents : Documents) → IsSchemaAt documents place (value_of schema.now) → IsNames documents result }
 {
-    let left = Box::new(alloc, members.pairs())?;
-    Ok(NameCursor {
+    NameCursor {
         place,
         schema,
         keyword,
         names: named.pairs(),
         rank: 0,
-        among: Among::Left(left),
-    })
+        among: Among::Left(members.pairs()),
+    }
 }
 
 /// The next application, or None after the last.
@@ -220,7 +213,7 @@ fn next_in_step<'a>(
     *rank = at + 1;
     let (mut key, mut member) = members.next()?;
     loop {
-        match name.cmp(key) {
+        match name_order(name.as_str(), key.as_str()) {
             Ordering::Less => {
                 (name, schema) = names.next()?;
                 at += 1;

@@ -124,10 +124,10 @@ fn named_members<'a>(
         Ok(Asking::Members(Box::new(alloc, cursor)?))
     } else if named.len() < FEW || members.len() / PER_NAME > named.len() {
         let cursor = each_of_names(place, schema, keyword, named, members);
-        Ok(Asking::Names(Box::new(alloc, cursor)?))
+        Ok(Asking::Names(cursor))
     } else {
-        let cursor = each_in_step(alloc, place, schema, keyword, named, members)?;
-        Ok(Asking::Names(Box::new(alloc, cursor)?))
+        let cursor = each_in_step(place, schema, keyword, named, members);
+        Ok(Asking::Names(cursor))
     }
 }
 

@@ -22,7 +22,7 @@ one_asked documents (Some a) = applied_of documents a ∷ []
 abbrev pub asked : Documents → Asking → prelude.List (Application Site)
 asked documents (One one) = one_asked documents one
 asked documents (List c) = list_asked documents c
-asked documents (Names c) = names_asked documents c.value
+asked documents (Names c) = names_asked documents c
 asked documents (Items c) = items_asked documents c
 asked documents (Members c) = members_asked documents c.value
 asked documents (Patterns c) = patterns_asked documents c.value
@@ -43,7 +43,7 @@ ArePatterns documents c = IsSchemaAt documents c.place (value_of c.schema.now) �
 abbrev pub IsAsking : Documents → Asking → Type 0
 IsAsking documents (One one) = IsOne documents one
 IsAsking documents (List c) = IsList documents c
-IsAsking documents (Names c) = IsNames documents c.value
+IsAsking documents (Names c) = IsNames documents c
 IsAsking documents (Items c) = IsHeld documents c.held
 IsAsking documents (Members c) = IsHeld documents c.value.held
 IsAsking documents (Patterns c) = ArePatterns documents c.value

@@ -4,7 +4,7 @@ use Rattle.js_doc.specs.Seen.{pair_of}
 use Rattle.js_doc.specs.Value.{Named}
 use Rattle.js_eval.specs.Keywords as table
 use Rattle.js_eval.specs.Seen.{keyword_of}
-use Rattle.js_eval.specs.code.Applicator.{applicators_in}
+use Rattle.js_eval.specs.code.Applicator.{applicators_from}
 use Rattle.js_eval.specs.code.Turns.{ever, first_turn, second_turn, last_turn}
 use Rattle.js_eval.specs.declared.in_turn.InTurn.{InTurn}
 use Rattle.js_eval.specs.declared.in_turn.InTurn.TheVariants.{Every, Applying}
@@ -16,7 +16,7 @@ use Rattle.js_eval.specs.declared.keyword_cursor.Keywords.TheVariants.{Nothing, 
 -- the members that are still to come, of all or of those alone that apply schemas
 abbrev pub members_left : InTurn → Named
 members_left (Every c) = map pair_of c.left
-members_left (Applying c) = applicators_in c.members.now c.names.now
+members_left (Applying c) = applicators_from c.members.now c.rank
 
 -- the keyword that is kept, or else these
 abbrev pub kept_or : Option Keyword → List table.Keyword → List table.Keyword

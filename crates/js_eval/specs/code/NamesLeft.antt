@@ -27,7 +27,7 @@ on_member documents place keyword m = application (schemas_of documents) (number
 -- the members that may have a name that is left
 abbrev pub members_among : Among → doc.Named
 members_among (All members) = members.now
-members_among (Left members) = map pair_of members.value
+members_among (Left members) = map pair_of members
 
 -- those that have a name that is left
 abbrev pub names_left : doc.Named → List (String Global × Doc) → doc.Named

@@ -138,8 +138,9 @@ pub(crate) fn asked<W: World, H: PointerText + Drop>(
     )
 }
 
-/// Closes the node of a keyword, and returns whether it passes. If it fails, drops what it has evaluated.
-#[inline(always)]
+/// Closes the node of a keyword, and returns whether it passes. If it fails, drops what it has evaluated. It isn't
+/// inlined, to keep its locals out of the recursive function's stack frame.
+#[inline(never)]
 pub(crate) fn close_keyword<W: World, H: PointerText + Drop, R: Reporter<W, H>>(
     alloc: Global,
     world: &W,

@@ -1,9 +1,9 @@
-use Rattle.std.proofs.Common.{◌≡◌, length}
-use Rattle.js_eval.specs.code.Applicator.{applicators_in}
+use Rattle.std.proofs.Common.{◌≡◌, ◌-◌, length}
+use Rattle.js_eval.specs.code.Applicator.{applicators_from}
 use Rattle.js_eval.proofs.applying.Applying.next.Given as goal
 
-abbrev pub invariant-loop-which : goal.invariant-loop-which
-invariant-loop-which l = applicators_in l.self.members.now l.self.names.now ≡ applicators_in l.fn.self.members.now l.fn.self.names.now
+abbrev pub invariant-loop-self : goal.invariant-loop-self
+invariant-loop-self l = applicators_from l.self.members.now l.self.rank ≡ applicators_from l.fn.self.members.now l.fn.self.rank
 
-abbrev pub decreases-loop-which : goal.decreases-loop-which
-decreases-loop-which l = length l.self.names.now
+abbrev pub decreases-loop-self : goal.decreases-loop-self
+decreases-loop-self l = length l.self.names.now - l.self.rank
