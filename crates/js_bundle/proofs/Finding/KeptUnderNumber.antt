@@ -11,7 +11,6 @@ use Rattle.js_bundle.specs.code.SparseList.{IsSparseList}
 use Rattle.js_bundle.specs.Document.{Documents}
 use Rattle.js_bundle.specs.Finding.{number_named, number_of_target}
 use Rattle.js_bundle.specs.Keyword.{Text, argument, as_text, has}
-use Rattle.js_bundle.specs.Names.{named}
 use Rattle.js_bundle.specs.Refusals.{candidates}
 use Rattle.js_bundle.specs.Resource.{Site, joined, sites}
 use Rattle.js_bundle.specs.Schemas.{place_at, has_keyword, assertion, pattern, StandsFor}
@@ -106,25 +105,3 @@ target_missing docs documents kept n place same number clear e there h =
     let some : is_some (kept n) ≡ true = has_ref_kept docs documents kept n place same number clear e ∙ there in
     let none : is_some (kept n) ≡ false = ap is_some (sym h) in
     absurd (cc)
-
--- ---- no target
-
-no_target : (all : List Site) (s : Site) → has (codes "$ref") s.schema ≡ false → target all s ≡ None
-no_target all s e = by_argument (argument (codes "$ref") s.schema) refl e
-  where
-    by_argument : (o : Option Value) → argument (codes "$ref") s.schema ≡ o → is_some o ≡ false → target all s ≡ None
-    by_argument None is e =
-        ap (λ o. option_and_then (named all) (option_and_then (joined s.own.base) (option_and_then as_text o))) is
-    by_argument (Some v) is e = absurd (cc)
-
-pub target_none : (docs documents : Documents) (kept : ℕ → Option ℕ) (n place : ℕ) → docs ≡ documents → n ≡ place
-    → IsClear (candidates docs) → IsSparseList kept (plain_at docs) (sites docs) → None ≡ kept n
-    → option_and_then (target (sites documents)) (place_at documents place) ≡ None
-target_none docs documents kept n place same number clear e h =
-    let none : is_some (kept n) ≡ false = ap is_some (sym h) in
-    by_place (place_at documents place) (sym (has_ref_kept docs documents kept n place same number clear e) ∙ none)
-  where
-    by_place : (o : Option Site) → option_map_or (λ s. has (codes "$ref") s.schema) o false ≡ false
-        → option_and_then (target (sites documents)) o ≡ None
-    by_place None e = refl
-    by_place (Some s) e = no_target (sites documents) s e

@@ -1,8 +1,8 @@
 //! What references lead to (JSON Schema Core, section 8.2.3).
-ghost use Rattle.std.specs.Prelude.{◌≡◌, true, codes, is_some, option_and_then};
+ghost use Rattle.std.specs.Prelude.{◌≡◌, true, codes, option_and_then};
 ghost use Rattle.js_bundle.specs.Finding.{under_number};
 ghost use Rattle.js_bundle.specs.Resource.{sites};
-ghost use Rattle.js_bundle.specs.Schemas.{is_place, has_keyword, place_at, Finds, StandsFor};
+ghost use Rattle.js_bundle.specs.Schemas.{has_keyword, place_at, StandsFor};
 ghost use Rattle.js_bundle.specs.Target.{target};
 
 use crate::place::Place;
@@ -19,20 +19,6 @@ impl Schemas {
         match target_under(self.kept.references.plain.as_slice(), place.number) {
             Some(number) => Place { number },
             None => place, // never: each reference of finished schemas has its target
-        }
-    }
-
-    /// The place that the `$ref` of the place names, or None where the place has none: what `has_ref` and `target` tell,
-    /// in one look-up. It takes no memory.
-    pub fn ref_target(&self, place: Place) -> Option<Place>
-        requires { is_place self.now place ≡ true }
-        ensures has { is_some result ≡ has_keyword (codes "$ref") self.now place }
-        ensures target { Finds self.now result
-            (option_and_then (target (sites self.now)) (place_at self.now place)) }
-    {
-        match target_under(self.kept.references.plain.as_slice(), place.number) {
-            Some(number) => Some(Place { number }),
-            None => None,
         }
     }
 }
