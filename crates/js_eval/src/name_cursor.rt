@@ -23,7 +23,7 @@ use crate::bundled::below_at_rank;
 use crate::instance::{Applied, Instance};
 use crate::keyword::Keyword;
 use js_bundle::{Place, Schemas, Step};
-use js_doc::{Doc, Members, Pairs};
+use js_doc::{Doc, Members, Pairs, name_order};
 use std::cmp::Ordering;
 
 /// The names in `properties` that are still to come, and the members to find them among.
