@@ -12,7 +12,7 @@ use Rattle.std.proofs.lemmas.Str.Parse.{digit_from_value}
 use Rattle.js_doc.specs.Escapes.{stands}
 use Rattle.js_doc.specs.Pointer.{escape}
 use Rattle.js_doc.specs.code.Plain.{is_kept, is_plain}
-use Rattle.js_doc.proofs.PlainTokens.{all_kept, all_plain, kept_too}
+use Rattle.js_doc.proofs.PlainTokens.{all_kept, all_plain, all_stand, kept_too}
 use Rattle.js_assert.specs.Keyword.{NamedKeyword, keyword_named, keywords, row_named}
 use Rattle.js_eval.specs.Kind.{Applicator, applicators, kind, kind_in}
 use Rattle.js_eval.specs.code.Standard.{IsWrittenAsItIs}
@@ -72,5 +72,5 @@ digits_kept (c ∷ cs) d =
 pub decimal_kept : (n : ℕ) → n < 2 ^ 64 → escape (decimal n) ≡ decimal n
 decimal_kept n h = all_kept (decimal n) (digits_kept (decimal n) (decimal_is_IsNumeral n h).0.1)
 
-pub not_matched : (matches : Bool) → matches ≡ true → not matches ≡ true → ⊥
-not_matched matches e t = absurd cc
+pub not_matched : (matches : Bool) → matches ≡ true → matches ≡ false → ⊥
+not_matched matches e f = absurd cc

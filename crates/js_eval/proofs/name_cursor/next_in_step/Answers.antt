@@ -23,7 +23,7 @@ returns-in_err-name-in-Less-clause-next c =
     let l = c.loop-names in
     let n : String Global × Doc = (l.name.now, l.schema.now) in
     let m : String Global × Doc = (l.key.now, l.member.now) in
-    let less : name_cmp (pair_of n).0 (pair_of m).0 ≡ Less = sym (c.name_order.ensures ∙ ap₂ name_cmp c.as_str.ensures.value c.as_str-2.ensures.value) ∙ c.in-Less.is in
+    let less : name_cmp (pair_of n).0 (pair_of m).0 ≡ Less = sym (c.name_order.ensures ∙ ap₂ name_cmp c.as_str.ensures.value c.as_str-in-loop-names.ensures.value) ∙ c.in-Less.is in
     rw c.from_residual-in_err-name-in-Less.ensures
     (sym l.invariant.same ∙ pass_name (pair_of n) (pair_of m) (map pair_of l.names) (map pair_of l.members) less l.invariant.members
     ∙ ap (names_left (map pair_of (m ∷ l.members))) c.in_err-name-in-Less.ensures.steps.0 ∙ none_named (map pair_of (m ∷ l.members)))
@@ -40,7 +40,7 @@ loop-names-preserved-in-Less c =
     let l = c.loop-names in
     let n : String Global × Doc = (l.name.now, l.schema.now) in
     let m : String Global × Doc = (l.key.now, l.member.now) in
-    let less : name_cmp (pair_of n).0 (pair_of m).0 ≡ Less = sym (c.name_order.ensures ∙ ap₂ name_cmp c.as_str.ensures.value c.as_str-2.ensures.value) ∙ c.in-Less.is in
+    let less : name_cmp (pair_of n).0 (pair_of m).0 ≡ Less = sym (c.name_order.ensures ∙ ap₂ name_cmp c.as_str.ensures.value c.as_str-in-loop-names.ensures.value) ∙ c.in-Less.is in
     let steps = c.in_ok-name-in-Less.ensures.steps in
     let many : length l.names ≡ suc (length c.next-in-Less.new.self) = ap length steps in
     record {
@@ -59,23 +59,23 @@ returns-in-Equal-clause-next c =
     let l = c.loop-names in
     let n : String Global × Doc = (l.name.now, l.schema.now) in
     let m : String Global × Doc = (l.key.now, l.member.now) in
-    let equal : name_cmp (pair_of n).0 (pair_of m).0 ≡ Equal = sym (c.name_order.ensures ∙ ap₂ name_cmp c.as_str.ensures.value c.as_str-2.ensures.value) ∙ c.in-Equal.is in
+    let equal : name_cmp (pair_of n).0 (pair_of m).0 ≡ Equal = sym (c.name_order.ensures ∙ ap₂ name_cmp c.as_str.ensures.value c.as_str-in-loop-names.ensures.value) ∙ c.in-Equal.is in
     sym l.invariant.same ∙ take_both (pair_of n) (pair_of m) (map pair_of l.names) (map pair_of l.members) equal l.invariant.members
-    ∙ ap (λ k. (k, value_of l.member.now) ∷ names_left (map pair_of l.members) l.names) (sym c.as_str.ensures.value)
+    ∙ ap (λ k. (k, value_of l.member.now) ∷ names_left (map pair_of l.members) l.names) (sym c.as_str-in-Equal.ensures.value)
 
 pub returns-in-Equal-clause-left : goal.returns-in-Equal-clause-left
 returns-in-Equal-clause-left c = λ all h.
     let l = c.loop-names in
     let n : String Global × Doc = (l.name.now, l.schema.now) in
     let more = next_left all l.at (pair_of n) (map pair_of l.names) (l.invariant.left all h) in
-    (more.0 ∙ ap (λ r. drop r all) (sym l.invariant.rank), more.1 ∙ ap (λ k. Some (k, value_of l.schema.now)) (sym c.as_str.ensures.value))
+    (more.0 ∙ ap (λ r. drop r all) (sym l.invariant.rank), more.1 ∙ ap (λ k. Some (k, value_of l.schema.now)) (sym c.as_str-in-Equal.ensures.value))
 
 pub returns-in_err-key-in-Greater-clause-next : goal.returns-in_err-key-in-Greater-clause-next
 returns-in_err-key-in-Greater-clause-next c =
     let l = c.loop-names in
     let n : String Global × Doc = (l.name.now, l.schema.now) in
     let m : String Global × Doc = (l.key.now, l.member.now) in
-    let greater : name_cmp (pair_of n).0 (pair_of m).0 ≡ Greater = sym (c.name_order.ensures ∙ ap₂ name_cmp c.as_str.ensures.value c.as_str-2.ensures.value) ∙ c.in-Greater.is in
+    let greater : name_cmp (pair_of n).0 (pair_of m).0 ≡ Greater = sym (c.name_order.ensures ∙ ap₂ name_cmp c.as_str.ensures.value c.as_str-in-loop-names.ensures.value) ∙ c.in-Greater.is in
     rw c.from_residual-in_err-key-in-Greater.ensures
     (sym l.invariant.same ∙ pass_member (pair_of n) (pair_of m) (map pair_of l.names) (map pair_of l.members) greater l.invariant.names
     ∙ ap (λ ms. names_left (map pair_of ms) (n ∷ l.names)) c.in_err-key-in-Greater.ensures.steps.0)
@@ -92,7 +92,7 @@ loop-names-preserved c =
     let l = c.loop-names in
     let n : String Global × Doc = (l.name.now, l.schema.now) in
     let m : String Global × Doc = (l.key.now, l.member.now) in
-    let greater : name_cmp (pair_of n).0 (pair_of m).0 ≡ Greater = sym (c.name_order.ensures ∙ ap₂ name_cmp c.as_str.ensures.value c.as_str-2.ensures.value) ∙ c.in-Greater.is in
+    let greater : name_cmp (pair_of n).0 (pair_of m).0 ≡ Greater = sym (c.name_order.ensures ∙ ap₂ name_cmp c.as_str.ensures.value c.as_str-in-loop-names.ensures.value) ∙ c.in-Greater.is in
     let steps = c.in_ok-key-in-Greater.ensures.steps in
     record {
       same = ap (λ ms. names_left (map pair_of ms) (n ∷ l.names)) (sym steps)
