@@ -1,7 +1,7 @@
 -- The bytes of a vector that have to be escaped, as a mask.
-use Rattle.std.proofs.Common.{◌≡◌, ℕ, ◌+◌, ◌*◌, ◌%◌, ◌^◌, ◌<◌, ◌≤◌, Bool, true, false, not, ◌||◌, ◌==◌, cond, ltb, List, [], ◌∷◌, map, length, drop, replicate, refl, sym, ap, ap₂, ◌∙◌, arith}
+use Rattle.std.proofs.Common.{◌≡◌, ℕ, zero, suc, ◌+◌, ◌-◌, ◌*◌, ◌%◌, ◌^◌, ◌<◌, ◌≤◌, Bool, true, false, not, ◌||◌, ◌==◌, cond, ltb, List, [], ◌∷◌, map, length, drop, replicate, refl, sym, ap, ap₂, ◌∙◌, arith}
 use Rattle.std.proofs.lemmas.Simd.{zip2_splat, zip2_of_maps, mask_l-mod, chunk-drop, length-chunk, leading_from_mask_l, trailing_mask_l}
-use Rattle.std.proofs.lemmas.List.{length-map, length-drop}
+use Rattle.std.proofs.lemmas.List.{drop-drop, length-map, length-drop}
 use Rattle.std.proofs.lemmas.List.Folds.{prefix_len-append}
 use Rattle.std.proofs.lemmas.List.Sums.{prefix_len-le-length}
 use Rattle.std.proofs.lemmas.Bool.{eq-eqb, ne_eqb}
@@ -79,3 +79,24 @@ run_stops bs i n room short some =
     let c = chunk i n bs in
     split bs i n ∙ ap (λ b. cond b (length c + prefix_len stands (drop (i + n) bs)) (prefix_len stands c)) (ne_eqb _ _ (λ (e : prefix_len stands c ≡ length c). omega (arith, some, empty_mask c e)))
     ∙ sym (trailing_mask_l needs_escape 64 c (omega (arith, short, length-chunk i n bs room)) some)
+
+-- the rest of a run, from a byte within it on
+past_next : (b : Bool) (all n rest : ℕ) → suc n ≤ cond b (1 + all) 0 → (n ≤ all → all ≡ n + rest) → cond b (1 + all) 0 ≡ suc n + rest
+past_next true all n rest h more = let e = more (omega (arith, h)) in omega (arith, e)
+past_next false all n rest h more = absurd (omega (arith, h))
+
+past : (xs : List ℕ) (n : ℕ) → n ≤ prefix_len stands xs → prefix_len stands xs ≡ n + prefix_len stands (drop n xs)
+past xs zero h = omega arith
+past [] (suc n) h = absurd (omega (arith, h))
+past (x ∷ xs) (suc n) h = past_next (stands x) (prefix_len stands xs) n (prefix_len stands (drop n xs)) h (past xs n)
+
+pub run_from : (bs : List ℕ) (start within end : ℕ) → start ≤ within → within ≤ end → start + prefix_len stands (drop start bs) ≡ end + prefix_len stands (drop end bs)
+    → within + prefix_len stands (drop within bs) ≡ start + prefix_len stands (drop start bs)
+run_from bs start within end from to same =
+    let n = within - start in
+    let rest = past (drop start bs) n (omega (arith, same, from, to)) in
+    let there : drop n (drop start bs) ≡ drop within bs = drop-drop n start bs ∙ ap (λ k. drop k bs) (omega (arith, from)) in
+    omega (arith, from, rest, ap (prefix_len stands) there)
+
+pub none_behind : (bs : List ℕ) (i : ℕ) → length bs ≤ i → prefix_len stands (drop i bs) ≡ 0
+none_behind bs i h = omega (arith, prefix_len-le-length stands (drop i bs), length-drop i bs)

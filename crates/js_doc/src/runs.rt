@@ -1,5 +1,5 @@
 //! Runs of bytes that stand in a JSON string as they are (RFC 8259, section 7).
-ghost use Rattle.std.specs.Prelude.{◌≡◌, ◌+◌, ◌≤◌, drop, length, map};
+ghost use Rattle.std.specs.Prelude.{◌≡◌, ◌+◌, ◌-◌, ◌<◌, ◌≤◌, drop, length, map};
 ghost use Rattle.std.specs.List.{list_all, prefix_len};
 ghost use Rattle.std.specs.Simd.Lanes.{mask_l};
 ghost use Rattle.js_doc.specs.Escapes.{needs_escape, stands};
@@ -19,6 +19,9 @@ pub(crate) fn run_end(bytes: &[u8], start: usize) -> usize
     ensures value { result ≡ start + prefix_len stands (drop start bytes.now) }
     ensures bound { result ≤ length bytes.now }
 {
+    if bytes.len() - start < 16 {
+        return run_end_among_few(bytes, start);
+    }
     let mut end = start;
     while bytes.len() - end >= 16 {
         let escapes = escapes_of_16(u8x16::from_slice(&bytes[end..]));
@@ -27,12 +30,26 @@ pub(crate) fn run_end(bytes: &[u8], start: usize) -> usize
         }
         end += 16;
     }
-    run_end_among_few(bytes, end)
+    run_end_in_last_16(bytes)
+}
+
+// The same from the last 16 bytes on. Those before them are known to stand as they are, and some of these too: looking
+// at them again costs less than looking at the others one by one.
+fn run_end_in_last_16(bytes: &[u8]) -> usize
+    requires { 16 ≤ length bytes.now }
+    ensures { result ≡ (length bytes.now - 16) + prefix_len stands (drop (length bytes.now - 16) bytes.now) }
+{
+    let last = bytes.len() - 16;
+    let escapes = escapes_of_16(u8x16::from_slice(&bytes[last..]));
+    if escapes != 0 {
+        return last + escapes.trailing_zeros() as usize;
+    }
+    bytes.len()
 }
 
 // The same where fewer than 16 bytes are left.
 fn run_end_among_few(bytes: &[u8], start: usize) -> usize
-    requires { start ≤ length bytes.now }
+    requires { (start ≤ length bytes.now) × (length bytes.now - start < 16) }
     ensures { result ≡ start + prefix_len stands (drop start bytes.now) }
 {
     if bytes.len() - start < 8 {
@@ -42,7 +59,20 @@ fn run_end_among_few(bytes: &[u8], start: usize) -> usize
     if escapes != 0 {
         return start + escapes.trailing_zeros() as usize;
     }
-    run_end_by_bytes(bytes, start + 8)
+    run_end_in_last_8(bytes)
+}
+
+// The same from the last 8 bytes on.
+fn run_end_in_last_8(bytes: &[u8]) -> usize
+    requires { 8 ≤ length bytes.now }
+    ensures { result ≡ (length bytes.now - 8) + prefix_len stands (drop (length bytes.now - 8) bytes.now) }
+{
+    let last = bytes.len() - 8;
+    let escapes = escapes_of_8(u8x8::from_slice(&bytes[last..]));
+    if escapes != 0 {
+        return last + escapes.trailing_zeros() as usize;
+    }
+    bytes.len()
 }
 
 fn run_end_by_bytes(bytes: &[u8], start: usize) -> usize

@@ -1,6 +1,6 @@
-use Rattle.std.proofs.Common.{sym, ap, ◌∙◌, arith}
+use Rattle.std.proofs.Common.{◌+◌, ◌-◌, length, sym, ap, ◌∙◌, arith}
 use lib.Count.{count_trailing_zeros}
-use Rattle.js_doc.proofs.EscapeMasks.{run_through, run_stops}
+use Rattle.js_doc.proofs.EscapeMasks.{run_from, run_through, run_stops}
 use Rattle.js_doc.proofs.runs.run_end_among_few.Goals as goal
 
 pub returns-then-escapes-ne0 : goal.returns-then-escapes-ne0
@@ -11,5 +11,7 @@ returns-then-escapes-ne0 c =
 
 pub returns : goal.returns
 returns c =
-    let run = run_through c.args.bytes.now c.args.start 8 (omega arith) (omega (arith, c.escapes_of_8-escapes.ensures)) in
-    omega (arith, run)
+    let bytes = c.args.bytes.now in
+    let start = c.args.start in
+    let run = run_through bytes start 8 (omega arith) (omega (arith, c.escapes_of_8-escapes.ensures)) in
+    c.run_end_in_last_8.ensures ∙ run_from bytes start (length bytes - 8) (start + 8) (omega arith) (omega arith) (omega (arith, run))
