@@ -1,11 +1,11 @@
 -- Rows whose locations have JSON escapes, and the trees without them.
-use Rattle.std.proofs.Common.{◌≡◌, ℕ, suc, ◌+◌, ◌≤◌, ◌<◌, Bool, true, false, List, [], ◌∷◌, ◌++◌, length, take, drop, get_or, refl, ap, ap₂, sym, ◌∙◌}
+use Rattle.std.proofs.Common.{◌≡◌, ℕ, suc, ◌+◌, ◌≤◌, ◌<◌, Bool, true, false, List, [], ◌∷◌, ◌++◌, length, take, drop, get_or, refl, ap, ap₂, sym, ◌∙◌, append_assoc, append-nil}
 use Rattle.std.proofs.lemmas.Grind.{flat_map-append}
 use Rattle.json.specs.Print.{escape, escape_byte}
 use Rattle.js_tree.specs.Flat.{flat_of}
 use Rattle.js_tree.specs.Forest.{Forest, empty, tree, node_count}
 use Rattle.js_tree.specs.Marks.{left_trees, mark_of, marked}
-use Rattle.js_tree.specs.Locations.{AreAt, HasRoomFor, IsBack, IsDown}
+use Rattle.js_tree.specs.Locations.{AreAt, HasRoomFor, IsBack, IsDown, keyword_start}
 use Rattle.js_tree.specs.OutputUnit.{OutputUnit}
 use Rattle.js_tree.specs.Relative.{escaped, escaped_tree, escaped_unit}
 use Rattle.js_tree.specs.RelativeState.{keyword_part, relative_row}
@@ -108,10 +108,14 @@ further : (found above added text more : List ℕ) → found ≡ above ++ added 
 further found above added text more e a m =
     e ∙ (ap (λ l. l ++ added) a ∙ (ap (λ l. escape text ++ l) m ∙ sym (flat_map-append escape_byte text more)))
 
+further_behind : (start found above added text more : List ℕ) → found ≡ above ++ added → above ≡ start ++ escape text → added ≡ escape more → found ≡ start ++ escape (text ++ more)
+further_behind start found above added text more e a m =
+    e ∙ (ap (λ l. l ++ added) a ∙ (append_assoc start (escape text) added ∙ ap (λ l. start ++ l) (ap (λ l. escape text ++ l) m ∙ sym (flat_map-append escape_byte text more))))
+
 pub at_below : (old new : Locations) (x : RelativeRow) (u : OutputUnit) (keyword instance : List ℕ) → AreAt old keyword instance → IsDown old x new → (relative_row x).0 ≡ escaped_unit u
     → AreAt new (keyword ++ u.keyword) (instance ++ u.instance)
 at_below old new x u keyword instance at d e = record {
-  keyword_is = further new.keyword.items old.keyword.items (keyword_part x) keyword u.keyword d.longer_keyword at.keyword_is (ap (λ y. y.keyword) e);
+  keyword_is = further_behind keyword_start new.keyword.items old.keyword.items (keyword_part x) keyword u.keyword d.longer_keyword at.keyword_is (ap (λ y. y.keyword) e);
   instance_is = further new.instance.items old.instance.items x.instance.now instance u.instance d.longer_instance at.instance_is (ap (λ y. y.instance) e);
 }
 
@@ -119,4 +123,4 @@ pub still_at : (old new : Locations) (keyword instance : List ℕ) → AreAt old
 still_at old new keyword instance at b = record { keyword_is = b.same_keyword ∙ at.keyword_is; instance_is = b.same_instance ∙ at.instance_is }
 
 pub at_root : (at : Locations) (rows : RelativeRows) → HasRoomFor at rows → AreAt at [] []
-at_root at rows room = record { keyword_is = room.above_root.0; instance_is = room.above_root.1 }
+at_root at rows room = record { keyword_is = room.above_root.0 ∙ sym (append-nil keyword_start); instance_is = room.above_root.1 }

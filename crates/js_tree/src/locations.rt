@@ -1,12 +1,13 @@
 //! The locations of a node, put together from the parts that it and the nodes above it add.
 ghost use Rattle.std.specs.Prelude.{◌≡◌, ◌+◌, ◌≤◌, ◌∷◌, [], ◌++◌, List, ℕ, IfOk, length, vec_capacity};
+ghost use Rattle.json.specs.Print.{escape};
 ghost use Rattle.js_doc.specs.BytesOut.{Puts};
 ghost use Rattle.js_tree.specs.Locations.{AreAt, HasRoom, HasRoomFor, IsDown, IsUp, instances_added, keywords_added};
 ghost use Rattle.js_tree.specs.RelativeState.{part};
 ghost use Rattle.js_tree.specs.code.NodeText.{end_text, valid_text};
 ghost use Rattle.js_tree.specs.code.RelativeText.{closing_text};
 
-use crate::relative::{RelativeRow, RelativeRows};
+use crate::relative::{RelativeRow, RelativeRows, behind};
 use js_doc::{Memory, Out, Stopped};
 use std::alloc::Global;
 
@@ -14,9 +15,13 @@ use std::alloc::Global;
 /// sections 12.3.1 and 12.3.3).
 #[derive(Drop)]
 pub struct Locations {
-    pub(crate) keyword: Vec<u8>,
-    pub(crate) instance: Vec<u8>,
+    // With what stands before it, so that one call of `put` writes both.
+    keyword: Vec<u8>,
+    instance: Vec<u8>,
 }
+
+// What stands before the keyword location.
+const KEYWORD_START: &[u8] = b"\",\"keywordLocation\":\"";
 
 impl Locations {
     /// Empty locations, with memory reserved for those of each node of the rows, so that writing allocates nothing. The
@@ -28,10 +33,27 @@ impl Locations {
         ensures { IfOk result (λ at. HasRoomFor at rows.now) }
     {
         let (keyword, instance) = added(rows.rows.as_slice())?;
+        let room = keyword.checked_add(KEYWORD_START.len()).ok_or(Memory)?;
+        let mut keyword = Vec::with_capacity(alloc, room)?;
+        keyword.extend_from_slice(KEYWORD_START)?;
         Ok(Locations {
-            keyword: Vec::with_capacity(alloc, keyword)?,
+            keyword,
             instance: Vec::with_capacity(alloc, instance)?,
         })
+    }
+
+    /// The keyword location, with JSON escapes.
+    pub(crate) fn keyword(&self) -> &[u8]
+        ensures { (keyword instance : List ℕ) → AreAt self.now keyword instance → result.now ≡ escape keyword }
+    {
+        behind(self.keyword.as_slice(), KEYWORD_START.len())
+    }
+
+    /// The instance location, with JSON escapes.
+    pub(crate) fn instance(&self) -> &[u8]
+        ensures { (keyword instance : List ℕ) → AreAt self.now keyword instance → result.now ≡ escape instance }
+    {
+        self.instance.as_slice()
     }
 
     /// Goes from the node above to the node of the row. It allocates nothing.
@@ -67,7 +89,6 @@ impl Locations {
             → Puts (O.progress out.old) (O.progress out.new) (closing_text instance keyword valid) result }
     {
         out.put(self.instance.as_slice())?;
-        out.put(b"\",\"keywordLocation\":\"")?;
         out.put(self.keyword.as_slice())?;
         put_last(valid, out)
     }

@@ -289,7 +289,7 @@ fn innermost(nodes: &[OpenNode]) -> OpenNode
 }
 
 // The text without its first `length` bytes.
-fn behind(text: &[u8], length: usize) -> &[u8]
+pub(crate) fn behind(text: &[u8], length: usize) -> &[u8]
     ensures { result.now ≡ drop length text.now }
 {
     if length < text.len() {

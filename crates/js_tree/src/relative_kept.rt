@@ -205,9 +205,9 @@ fn unit_at<'a>(
 {
     Ok(Unit {
         valid: row.valid,
-        keyword: text_of(alloc, "", false, locations.keyword.as_slice())?,
+        keyword: text_of(alloc, "", false, locations.keyword())?,
         absolute: text_of(alloc, row.schema, row.absolute_slash, row.absolute)?,
-        instance: text_of(alloc, "", false, locations.instance.as_slice())?,
+        instance: text_of(alloc, "", false, locations.instance())?,
         note: row.note.copy(alloc)?,
     })
 }
