@@ -1,6 +1,5 @@
 //! The locations of a node, put together from the parts that it and the nodes above it add.
 ghost use Rattle.std.specs.Prelude.{◌≡◌, ◌+◌, ◌≤◌, ◌∷◌, [], ◌++◌, List, ℕ, IfOk, length, vec_capacity};
-ghost use Rattle.json.specs.Print.{escape};
 ghost use Rattle.js_doc.specs.BytesOut.{Puts};
 ghost use Rattle.js_tree.specs.Locations.{AreAt, HasRoom, HasRoomFor, IsDown, IsUp, instances_added, keywords_added};
 ghost use Rattle.js_tree.specs.RelativeState.{part};
@@ -8,7 +7,8 @@ ghost use Rattle.js_tree.specs.code.NodeText.{end_text, valid_text};
 ghost use Rattle.js_tree.specs.code.RelativeText.{closing_text};
 
 use crate::relative::{RelativeRow, RelativeRows, behind};
-use js_doc::{Memory, Out, Stopped};
+use crate::unescaping::text_of;
+use js_doc::{Memory, Out, Stopped, Text};
 use std::alloc::Global;
 
 /// The keyword location and the instance location of one node, while relative rows are written (JSON Schema Core,
@@ -42,18 +42,25 @@ impl Locations {
         })
     }
 
-    /// The keyword location, with JSON escapes.
-    pub(crate) fn keyword(&self) -> &[u8]
-        ensures { (keyword instance : List ℕ) → AreAt self.now keyword instance → result.now ≡ escape keyword }
+    /// The keyword location, as a text of its own.
+    ///
+    /// # Errors
+    /// `Memory` if an allocation fails.
+    pub(crate) fn keyword_text(&self, alloc: Global) -> Result<Text, Memory>
+        ensures { (keyword instance : List ℕ) → AreAt self.now keyword instance → IfOk result (λ t. t ≡ keyword) }
     {
-        behind(self.keyword.as_slice(), KEYWORD_START.len())
+        let escaped = behind(self.keyword.as_slice(), KEYWORD_START.len());
+        text_of(alloc, "", false, escaped)
     }
 
-    /// The instance location, with JSON escapes.
-    pub(crate) fn instance(&self) -> &[u8]
-        ensures { (keyword instance : List ℕ) → AreAt self.now keyword instance → result.now ≡ escape instance }
+    /// The instance location, as a text of its own.
+    ///
+    /// # Errors
+    /// `Memory` if an allocation fails.
+    pub(crate) fn instance_text(&self, alloc: Global) -> Result<Text, Memory>
+        ensures { (keyword instance : List ℕ) → AreAt self.now keyword instance → IfOk result (λ t. t ≡ instance) }
     {
-        self.instance.as_slice()
+        text_of(alloc, "", false, self.instance.as_slice())
     }
 
     /// Goes from the node above to the node of the row. It allocates nothing.

@@ -205,9 +205,9 @@ fn unit_at<'a>(
 {
     Ok(Unit {
         valid: row.valid,
-        keyword: text_of(alloc, "", false, locations.keyword())?,
+        keyword: locations.keyword_text(alloc)?,
         absolute: text_of(alloc, row.schema, row.absolute_slash, row.absolute)?,
-        instance: text_of(alloc, "", false, locations.instance())?,
+        instance: locations.instance_text(alloc)?,
         note: row.note.copy(alloc)?,
     })
 }
