@@ -39,11 +39,11 @@ kind_by_rows (row ∷ rows) otherwise name e = row_by (bytes_eq name row.0) row.
 
 -- where all that a name may be have the same, so does what it is
 module _ {X : Type 0} (f : KeywordName → X) (x : X) where
-  pub side_has : (b : Bool) (up_to behind : KeywordName) → f up_to ≡ x → f behind ≡ x → f (cond b behind up_to) ≡ x
+  side_has : (b : Bool) (up_to behind : KeywordName) → f up_to ≡ x → f behind ≡ x → f (cond b behind up_to) ≡ x
   side_has true up_to behind u v = v
   side_has false up_to behind u v = u
 
-  pub each_has : (rows : TableOfNames) (otherwise : KeywordName) (name : List ℕ) → AllByRecursion (λ row. f row.1 ≡ x) rows → f otherwise ≡ x → f (name_in rows otherwise name) ≡ x
+  each_has : (rows : TableOfNames) (otherwise : KeywordName) (name : List ℕ) → AllByRecursion (λ row. f row.1 ≡ x) rows → f otherwise ≡ x → f (name_in rows otherwise name) ≡ x
   each_has [] otherwise name h e = e
   each_has (row ∷ rows) otherwise name h e = side_has (bytes_eq name row.0) (name_in rows otherwise name) row.1 (each_has rows otherwise name h.1 e) h.0
 

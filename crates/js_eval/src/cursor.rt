@@ -28,8 +28,8 @@ pub(crate) enum Asking<'a> {
     List(ListCursor<'a>),
     Items(ItemCursor<'a>),
     Names(NameCursor<'a>),
-    // These are boxed: they are much larger than the others. Each level of the recursion holds an `Asking`, and one is
-    // cleared and copied several times for each keyword.
+    // These are boxed, because they are the largest: each level of the recursion holds an `Asking`, and one is cleared
+    // and copied several times for each keyword.
     Members(Box<MemberCursor<'a>>),
     Patterns(Box<PatternCursor<'a>>),
 }
