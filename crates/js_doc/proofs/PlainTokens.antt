@@ -6,7 +6,7 @@ use Rattle.std.proofs.lemmas.Bool.Decides.{nat_tests}
 use Rattle.js_doc.specs.Escapes.{stands}
 use Rattle.js_doc.specs.Pointer.{escape}
 use Rattle.js_doc.specs.Fragment.{is_fragment_char, fragment_byte}
-use Rattle.js_doc.specs.code.Plain.{is_kept, is_plain}
+use Rattle.js_doc.specs.Plain.{is_kept, is_plain}
 use Rattle.js_doc.proofs.Escapes.{escape_kept}
 use Rattle.js_doc.proofs.FragmentBytes.{alphanumeric_high}
 

@@ -10,6 +10,7 @@ pub mod Seen
 pub mod Falls
 pub mod Equality
 pub mod Order
+pub mod Plain
 pub mod Pointer
 pub mod PointerReading
 pub mod Fragment

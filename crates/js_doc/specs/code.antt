@@ -2,4 +2,3 @@
 pub mod Extends
 pub mod Kinds
 pub mod Places
-pub mod Plain

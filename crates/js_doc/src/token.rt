@@ -5,7 +5,7 @@ ghost use Rattle.js_doc.specs.Escapes.{stands};
 ghost use Rattle.js_doc.specs.Pointer.{escape, token_text};
 ghost use Rattle.js_doc.specs.Fragment.{fragment_byte, fragment_token};
 ghost use Rattle.js_doc.specs.code.Extends.{Extends};
-ghost use Rattle.js_doc.specs.code.Plain.{is_kept, is_plain};
+ghost use Rattle.js_doc.specs.Plain.{is_kept, is_plain};
 
 use crate::fragment::ESCAPED;
 use crate::memory::Memory;
@@ -151,6 +151,7 @@ fn push_encoded(out: &mut String, token: &str) -> Result<(), Memory>
 /// (section 6) and in a JSON string (RFC 8259, section 7). That is true of ASCII letters, digits, `$`, `-`, `.` and `_`,
 /// of which most names consist. It allocates nothing.
 pub fn is_plain_token(token: &str) -> bool
+    ensures exact { result ≡ list_all is_plain token.now }
     ensures pointer { IsTrue result → escape token.now ≡ token.now }
     ensures fragment { IsTrue result → fragment_token token.now ≡ 47 ∷ token.now }
     ensures string { IsTrue result → list_all stands token.now ≡ true }

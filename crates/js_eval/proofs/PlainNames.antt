@@ -11,7 +11,7 @@ use Rattle.std.proofs.lemmas.Slice.Eq.{bytes_eq-Decides}
 use Rattle.std.proofs.lemmas.Str.Parse.{digit_from_value}
 use Rattle.js_doc.specs.Escapes.{stands}
 use Rattle.js_doc.specs.Pointer.{escape}
-use Rattle.js_doc.specs.code.Plain.{is_kept, is_plain}
+use Rattle.js_doc.specs.Plain.{is_kept, is_plain}
 use Rattle.js_doc.proofs.PlainTokens.{all_kept, all_plain, all_stand, kept_too}
 use Rattle.js_assert.specs.Keyword.{NamedKeyword, keyword_named, keywords, row_named}
 use Rattle.js_eval.specs.Kind.{Applicator, applicators, kind, kind_in}

@@ -1,6 +1,6 @@
 use Rattle.std.proofs.Common.{◌∷◌, ◌∙◌, ap, sym}
 use Rattle.std.specs.List.{list_all}
-use Rattle.js_doc.specs.code.Plain.{is_plain}
+use Rattle.js_doc.specs.Plain.{is_plain}
 use Rattle.js_doc.proofs.PlainTokens.{all_kept, all_plain, all_stand, kept_too}
 use Rattle.js_doc.proofs.token.is_plain_token.Goals as goal
 

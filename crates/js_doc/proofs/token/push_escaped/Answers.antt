@@ -1,6 +1,6 @@
 use Rattle.std.proofs.Common.{◌≡◌, true, ◌++◌, string_bytes, sym, ap, ◌∙◌}
 use Rattle.std.specs.List.{list_all}
-use Rattle.js_doc.specs.code.Plain.{is_kept}
+use Rattle.js_doc.specs.Plain.{is_kept}
 use Rattle.js_doc.proofs.PlainTokens.{all_kept}
 use Rattle.js_doc.proofs.token.push_escaped.Goals as goal
 
