@@ -1,4 +1,4 @@
-use Rattle.std.proofs.Common.{◌∷◌, ◌++◌, ◌∙◌, append_assoc, ap, codes, subst}
+use Rattle.std.proofs.Common.{◌∷◌, ◌++◌, ◌∙◌, append_assoc, subst}
 use Rattle.json.specs.Print.{escape}
 use Rattle.js_doc.specs.BytesOut.{Goes, Puts, Stops}
 use Rattle.js_tree.specs.Locations.{keyword_start}
