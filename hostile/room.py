@@ -14,7 +14,7 @@ HERE = os.path.dirname(os.path.abspath(__file__))
 MOST_CALLS = 100_000
 MEGABYTE = 1024 * 1024
 # Enough for 512 nested schema applications in every format.
-STACK = 5 * MEGABYTE // 4
+STACK = MEGABYTE
 MEMORY_BOUND = 1_500_000_000
 
 # A small process of its own starts the program: else the peak would be that of this one.
