@@ -17,15 +17,17 @@ MEGABYTE = 1024 * 1024
 STACK = MEGABYTE
 MEMORY_BOUND = 1_500_000_000
 
-# A small process of its own starts the program: else the peak would be that of this one.
+# A small process of its own starts the program: else the peak would be that of this one, and the time would have what
+# it takes to empty the file of the last output.
 MEASURED = """
-import os, sys
+import os, sys, time
+begin = time.monotonic()
 child = os.fork()
 if not child:
     os.execv(sys.argv[1], sys.argv[1:])
 _, status, usage = os.wait4(child, 0)
-with open("peak", "w") as file:
-    file.write(str(usage.ru_maxrss // 1024))
+with open("measured", "w") as file:
+    file.write(f"{time.monotonic() - begin:.3f} {usage.ru_maxrss // 1024}")
 os._exit(os.waitstatus_to_exitcode(status))
 """
 
@@ -79,7 +81,8 @@ class Room:
             _, errors, status = answer_of(words, self.seconds, None, stdin=given, stdout=out)
         took = time.monotonic() - begin
         if self.times:
-            print(f"{took:8.2f} s {read('peak').decode():>6} MB {os.path.getsize('out'):12,} bytes"
+            alone, peak = read("measured").decode().split()
+            print(f"{float(alone):8.2f} s {peak:>6} MB {os.path.getsize('out'):12,} bytes"
                   f"  {case.name}", flush=True)
         if case.most_seconds and took > case.most_seconds:
             self.tell(case.name, f"took {took:.1f} s; at most {case.most_seconds} s")
