@@ -10,8 +10,8 @@ use Rattle.js_tree.specs.Result.{ResultTree, has_verdict, kept, pruned}
 use Rattle.js_tree.specs.Step.{at_least_one, at_least_two}
 use Rattle.js_tree.specs.code.Listing.{AreMarkedRows, condensed, kept_node}
 use Rattle.js_tree.specs.code.RelativeText.{AreRowsOfTrees}
-use Rattle.js_tree.specs.declared.relative.RelativeRow.{RelativeRow}
-use Rattle.js_tree.specs.declared.relative_marks.Mark.{Mark}
+use Rattle.js_tree.specs.declared.relative.rows.RelativeRow.{RelativeRow}
+use Rattle.js_tree.specs.declared.relative.marks.Mark.{Mark}
 use Rattle.js_tree.proofs.DetailedTrees.{count_left, left_trees-placed}
 use Rattle.js_tree.proofs.EscapedRows.{NextTree, no_trees}
 use Rattle.js_tree.proofs.Forests.{append-append, append-empty}

@@ -4,7 +4,7 @@ use Rattle.js_tree.proofs.Telling.{passes-inside}
 use Rattle.js_tree.proofs.TrimmedTold.{trimmed_held}
 use Rattle.js_tree.specs.Events.{events}
 use Rattle.js_tree.specs.RelativeState.{AreTrimmedOf, relative_after, relative_state}
-use Rattle.js_tree.specs.declared.relative.RelativeRows.{RelativeRows}
+use Rattle.js_tree.specs.declared.relative.rows.RelativeRows.{RelativeRows}
 use Rattle.js_eval.specs.Bundle.{schemas_of}
 use Rattle.js_eval.specs.Location.{at_root}
 use Rattle.js_eval.specs.Sited.{numbered_site}
