@@ -12,6 +12,7 @@ pub mod Giving
 pub mod MarkedRows
 pub mod Marks
 pub mod Forests
+pub mod KeptBetween
 pub mod KeptRows
 pub mod KeptTree
 pub mod ListedRows
