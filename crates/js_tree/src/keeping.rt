@@ -1,5 +1,5 @@
 //! The rows of the tree that pruning and condensing leave, from those of the whole tree.
-ghost use Rattle.std.specs.Prelude.{◌≡◌, ◌≤◌, ◌++◌, Bool, IfOk, List, OnOk, ℕ, drop, length};
+ghost use Rattle.std.specs.Prelude.{◌≡◌, ◌≤◌, ◌++◌, [], Bool, IfOk, List, OnOk, ℕ, drop, false, length};
 ghost use Rattle.js_tree.specs.Forest.{Forest, empty, tree};
 ghost use Rattle.js_tree.specs.Marks.{AreMarksOf};
 ghost use Rattle.js_tree.specs.OutputUnit.{OutputUnit};
@@ -262,6 +262,7 @@ fn joined<'a>(
 ) -> Result<(bool, &'a [u8]), Memory>
     ensures joined { start ≤ length location.old.items
         → IfOk result (λ p. part p.0 p.1.now ≡ drop start location.old.items ++ part slash text.now) }
+    ensures plain { IfOk result (λ p. slash ≡ false → p.0 ≡ false) }
     ensures same { OnOk result (location.new.items ≡ location.old.items) }
 {
     let end = location.len();
