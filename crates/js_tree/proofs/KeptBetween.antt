@@ -9,6 +9,7 @@ use Rattle.js_tree.specs.Result.{ResultTree, kept, pruned}
 use Rattle.js_tree.specs.code.KeptBetween.{by_mark, kept_between, kept_relative}
 use Rattle.js_tree.specs.code.Listing.{condensed, kept_node}
 use Rattle.js_tree.specs.declared.relative_marks.Mark.{Mark}
+use Rattle.js_tree.proofs.Forests.{append-empty}
 use Rattle.js_tree.proofs.KeptRows.{kept_alone, kept_first, whole_kept}
 
 -- ---- placing twice
@@ -93,3 +94,39 @@ relative_kept t h =
 
 pub kept_located : (t : ResultTree) → IsLocated t → IsLocated (kept (pruned t))
 kept_located t h = subst IsLocated (sym (kept_is_placed t h)) (located_placed t.root.keyword t.root.instance (kept_relative t).below)
+
+-- ---- tree by tree
+
+first_by_mark : (s b : Bool) (m : Mark) (u : OutputUnit) (inside handed after : Forest OutputUnit) → m.stays ≡ s → m.below ≡ b
+    → by_mark m (tree u inside) handed after ≡ (by_mark m (tree u inside) handed empty ⊹ after)
+first_by_mark true b m u inside handed after s e = rw s refl
+first_by_mark false true m u inside handed after s e = rw (s, e) (ap (λ f. f ⊹ after) (sym (append-empty handed)))
+first_by_mark false false m u inside handed after s e = rw (s, e) refl
+
+pub next_between : (v : Bool) (k i : List ℕ) (f : Forest OutputUnit) (u : OutputUnit) (below after : Forest OutputUnit)
+    → f ≡ tree u below after → kept_between v k i f ≡ (kept_between v k i (tree u below empty) ⊹ kept_between v k i after)
+next_between v k i f u below after e =
+    let m = mark_of v u (left_trees v below) in
+    ap (kept_between v k i) e
+    ∙ first_by_mark m.stays m.below m (placed_unit k i u) (kept_between v [] [] below) (kept_between v (k ++ u.keyword) (i ++ u.instance) below) (kept_between v k i after) refl refl
+
+by_its_mark : (v : Bool) (k i : List ℕ) (u : OutputUnit) (below : Forest OutputUnit) (m : Mark) → m ≡ mark_of v u (left_trees v below)
+    → kept_between v k i (tree u below empty)
+    ≡ by_mark m (tree (placed_unit k i u) (kept_between v [] [] below)) (kept_between v (k ++ u.keyword) (i ++ u.instance) below) empty
+by_its_mark v k i u below m e =
+    ap (λ n. by_mark n (tree (placed_unit k i u) (kept_between v [] [] below)) (kept_between v (k ++ u.keyword) (i ++ u.instance) below) empty) (sym e)
+
+pub node_stays : (v : Bool) (k i : List ℕ) (u : OutputUnit) (below : Forest OutputUnit) (m : Mark)
+    → m ≡ mark_of v u (left_trees v below) → m.stays ≡ true
+    → kept_between v k i (tree u below empty) ≡ tree (placed_unit k i u) (kept_between v [] [] below) empty
+node_stays v k i u below m e s = by_its_mark v k i u below m e ∙ rw s refl
+
+pub node_goes : (v : Bool) (k i : List ℕ) (u : OutputUnit) (below : Forest OutputUnit) (m : Mark)
+    → m ≡ mark_of v u (left_trees v below) → m.stays ≡ false → m.below ≡ true
+    → kept_between v k i (tree u below empty) ≡ kept_between v (k ++ u.keyword) (i ++ u.instance) below
+node_goes v k i u below m e s b = by_its_mark v k i u below m e ∙ rw (s, b) (append-empty (kept_between v (k ++ u.keyword) (i ++ u.instance) below))
+
+pub tree_goes : (v : Bool) (k i : List ℕ) (u : OutputUnit) (below : Forest OutputUnit) (m : Mark)
+    → m ≡ mark_of v u (left_trees v below) → m.stays ≡ false → m.below ≡ false
+    → kept_between v k i (tree u below empty) ≡ empty
+tree_goes v k i u below m e s b = by_its_mark v k i u below m e ∙ rw (s, b) refl

@@ -1,3 +1,4 @@
+pub mod AddedRows
 pub mod AlikeTrees
 pub mod AlikeUnits
 pub mod BoxedTold

@@ -1,79 +1,100 @@
-use Rattle.std.proofs.Common.{rules, ◌≡◌, ◌≤◌, ◌++◌, [], Bool, IfOk, List, OnOk, ℕ, drop, false, length, ◌+◌, ◌-◌, ◌*◌, ◌<◌, ◌/◌, ◌%◌, true, nat_eq, nat_lt, ◌∷◌, slice_index_or, slice_set, bit_and, bit_or, Fits, w8, w32, w64, Bor, MutBor}
-use Rattle.js_tree.specs.Forest.{Forest, empty, tree}
-use Rattle.js_tree.specs.Marks.{AreMarksOf}
-use Rattle.js_tree.specs.OutputUnit.{OutputUnit}
-use Rattle.js_tree.specs.Relative.{escaped_unit, placed_unit}
-use Rattle.js_tree.specs.RelativeState.{AreRowsOf, AreWhole, part, relative_row}
-use Rattle.js_tree.specs.Result.{ResultTree, kept, pruned}
-use Rattle.js_tree.specs.code.KeptBetween.{AreAdded, AreLonger, AreSame, IsEnd, IsPending, kept_between}
-use Rattle.js_tree.specs.code.Listing.{AreMarkedRows}
+use Rattle.std.proofs.Common.{◌≡◌, ◌+◌, ◌-◌, ◌++◌, [], ◌∷◌, OnOk, length, slice_index_or, refl, ap, sym, subst, ◌∙◌, arith}
+use Rattle.std.proofs.lemmas.Slice.{drop-put_mid}
+use Rattle.js_tree.specs.Forest.{tree, empty}
+use Rattle.js_tree.specs.Relative.{escaped_tree, placed_unit}
+use Rattle.js_tree.specs.RelativeState.{relative_row}
+use Rattle.js_tree.specs.code.KeptBetween.{AreAdded, kept_between}
+use Rattle.js_tree.proofs.AddedRows.{add_ends, add_goes_on, add_starts, below_set, fewer_set, longer_same, node_added, none_pending, pending_below, same_parts, so_many, still_pending}
+use Rattle.js_tree.proofs.EscapedRows.{next_tree}
+use Rattle.js_tree.proofs.FlatRows.{root_row, shorter}
+use Rattle.js_tree.proofs.KeptBetween.{node_goes, node_stays, tree_goes}
+use Rattle.js_tree.proofs.MarkedRows.{as_many, first_mark, flat_rows, marked_below, marked_next, next_marks, root_mark}
+use Rattle.js_tree.proofs.RoomLeft.{fewer_below, some_row}
 use Rattle.js_tree.proofs.keeping.+keep_trees.Goals as goal
 
--- src/keeping.rt:238:5
 pub keep_below-keep_trees-requires : goal.keep_below-keep_trees-requires
-keep_below-keep_trees-requires t c = ?
+keep_below-keep_trees-requires t c =
+    let rows = c.args.rows.now in
+    let marks = c.args.marks.now in
+    let v = c.requires.0 in
+    let u = c.requires.1 in
+    let below = c.requires.2 in
+    let h = c.requires.3 in
+    let some = some_row rows (escaped_tree (record { root = u; below = below })) (flat_rows rows marks v u below h) in
+    (omega (arith, fewer_below rows some, c.decreases), (v, below, marked_below rows marks v u below h))
 
--- src/keeping.rt:211:5
 pub keep_node-keep_trees-requires : goal.keep_node-keep_trees-requires
-keep_node-keep_trees-requires t c = ?
+keep_node-keep_trees-requires t c =
+    let rows = c.args.rows.now in
+    let marks = c.args.marks.now in
+    let v = c.requires.0 in
+    let u = c.requires.1 in
+    let below = c.requires.2 in
+    let h = c.requires.3 in
+    let some = some_row rows (escaped_tree (record { root = u; below = below })) (flat_rows rows marks v u below h) in
+    let x = c.kept_row.new.row in
+    (omega (arith, fewer_set rows x some, c.decreases), (v, below, below_set rows x marks v u below h))
 
--- src/keeping.rt:212:16
 pub keep_node-overflow_sub-size : goal.keep_node-overflow_sub-size
 keep_node-overflow_sub-size t c = ?
 
--- src/keeping.rt:213:20
 pub keep_node-index_mut-row-requires : goal.keep_node-index_mut-row-requires
 keep_node-index_mut-row-requires t c = ?
 
--- src/keeping.rt:190:1
 pub keep_node-returns-clause-rows : goal.keep_node-returns-clause-rows
 keep_node-returns-clause-rows t c = ?
 
--- src/keeping.rt:181:9
 pub keep_tree-keep_node-requires : goal.keep_tree-keep_node-requires
-keep_tree-keep_node-requires t c = ?
+keep_tree-keep_node-requires t c = (omega (arith, c.decreases), c.requires)
 
--- src/keeping.rt:184:9
 pub keep_tree-keep_below-requires : goal.keep_tree-keep_below-requires
-keep_tree-keep_below-requires t c = ?
+keep_tree-keep_below-requires t c = (omega (arith, c.decreases), c.requires)
 
--- src/keeping.rt:184:9
 pub keep_tree-returns-then-some-clause-rows : goal.keep_tree-returns-then-some-clause-rows
-keep_tree-returns-then-some-clause-rows t c = ?
+keep_tree-returns-then-some-clause-rows t c =
+    λ v u below k i p h.
+    let rows = c.args.rows.now in
+    let marks = c.args.marks.now in
+    subst (λ f. OnOk c.keep_below.result (AreAdded c.args.kept.now.items c.keep_below.new.kept.items f))
+    (sym (node_goes v k i u below (first_mark marks) (root_mark rows marks v u below h) c.if-stays.false c.if-some.true))
+    (c.keep_below.ensures.rows v u below k i p h)
 
--- src/keeping.rt:144:5
 pub keep_trees-loop-next-init : goal.keep_trees-loop-next-init
-keep_trees-loop-next-init t c = ?
+keep_trees-loop-next-init t c = (
+  omega arith,
+  record { keyword = refl; instance = refl },
+  λ v f h. (f, h.rows_are, h.marks_are),
+  λ v f k i p h. add_starts v k i c.args.kept.now.items c.args.rows.now c.args.marks.now f h,
+)
 
--- src/keeping.rt:147:16
 pub keep_trees-overflow_add-next : goal.keep_trees-overflow_add-next
-keep_trees-overflow_add-next t c = ?
+keep_trees-overflow_add-next t' c =
+    let l = c.loop-next in
+    let x = slice_index_or l.rows l.next c.index-rows-first.result in
+    let w = l.invariant.2 c.requires.0 c.requires.1 c.requires.2 in
+    let t = next_tree l.rows l.next w.0 x w.1 c.loop-next-test.true ? in
+    omega (arith, t.fits)
 
--- src/keeping.rt:150:13
 pub keep_trees-slice_bounds-keep_tree-end : goal.keep_trees-slice_bounds-keep_tree-end
-keep_trees-slice_bounds-keep_tree-end t c = ?
+keep_trees-slice_bounds-keep_tree-end t' c = ?
 
--- src/keeping.rt:151:13
-pub keep_trees-slice_bounds-keep_tree-end-in-loop-next :
-    goal.keep_trees-slice_bounds-keep_tree-end-in-loop-next
-keep_trees-slice_bounds-keep_tree-end-in-loop-next t c = ?
+pub keep_trees-slice_bounds-keep_tree-end-in-loop-next : goal.keep_trees-slice_bounds-keep_tree-end-in-loop-next
+keep_trees-slice_bounds-keep_tree-end-in-loop-next t' c = ?
 
--- src/keeping.rt:148:9
 pub keep_trees-keep_tree-requires : goal.keep_trees-keep_tree-requires
-keep_trees-keep_tree-requires t c = ?
+keep_trees-keep_tree-requires t' c = ?
 
--- src/keeping.rt:144:5
 pub keep_trees-loop-next-smaller : goal.keep_trees-loop-next-smaller
-keep_trees-loop-next-smaller t c = ?
+keep_trees-loop-next-smaller t' c = ?
 
--- src/keeping.rt:144:5
 pub keep_trees-loop-next-preserved : goal.keep_trees-loop-next-preserved
-keep_trees-loop-next-preserved t c = ?
+keep_trees-loop-next-preserved t' c = ?
 
--- src/keeping.rt:128:1
 pub keep_trees-returns-clause-rows : goal.keep_trees-returns-clause-rows
-keep_trees-returns-clause-rows t c = ?
+keep_trees-returns-clause-rows t c =
+    λ v f k i p h.
+    let l = c.loop-next in
+    add_ends v k i c.args.kept.now.items l.kept.items l.rows c.args.marks.now l.next f (l.invariant.3 v f k i p h) (omega (arith, c.loop-next-test.false))
 
--- src/keeping.rt:128:1
 pub keep_trees-returns-clause-same : goal.keep_trees-returns-clause-same
-keep_trees-returns-clause-same t c = ?
+keep_trees-returns-clause-same t c = c.loop-next.invariant.1
