@@ -1,16 +1,20 @@
 -- The rows of what is left, which come to the others tree by tree.
 use Rattle.std.proofs.Common.{◌≡◌, ℕ, suc, ◌+◌, ◌-◌, ◌≤◌, ◌<◌, Bool, List, [], ◌∷◌, ◌++◌, length, take, drop, map, get_or, slice_set, refl, ap, ap₂, sym, subst, ◌∙◌, append_assoc, append-nil, arith}
-use Rattle.std.proofs.lemmas.List.{drop-append-le, drop_all, length-append, length-drop, length-map, length-take, map-append}
+use Rattle.std.proofs.lemmas.List.{drop-append-le, drop_all, length-append, take-append-drop, length-drop, length-map, length-take, map-append}
+use Rattle.std.proofs.lemmas.Slice.{drop-put_mid, take-put_mid}
+use borrow.Rule.Slice.PartMut.{put_mid}
 use Rattle.json.specs.Print.{escape}
-use Rattle.js_tree.specs.Flat.{flat_of}
+use Rattle.js_tree.specs.Flat.{flat_form, flat_of}
 use Rattle.js_tree.specs.FlatState.{FlatRow}
 use Rattle.js_tree.specs.Forest.{Forest, empty, tree, ◌⊹◌, node_count}
 use Rattle.js_tree.specs.Marks.{marked}
+use Rattle.js_tree.specs.Note.{Note}
 use Rattle.js_tree.specs.OutputUnit.{OutputUnit}
-use Rattle.js_tree.specs.Relative.{escaped, escaped_unit, placed_unit}
-use Rattle.js_tree.specs.RelativeState.{absolute_part, keyword_part, relative_row}
+use Rattle.js_tree.specs.Relative.{IsLocated, escaped, escaped_tree, escaped_unit, placed_unit, relative_tree}
+use Rattle.js_tree.specs.RelativeState.{absolute_part, keyword_part, relative_row, rows_of_tree}
+use Rattle.js_tree.specs.Result.{ResultTree, kept, pruned}
 use Rattle.js_tree.specs.Seen.{note_of}
-use Rattle.js_tree.specs.code.KeptBetween.{AreAdded, AreLonger, AreSame, IsEnd, IsPending, kept_between}
+use Rattle.js_tree.specs.code.KeptBetween.{AreAdded, AreLonger, AreSame, IsEnd, IsPending, kept_between, kept_relative}
 use Rattle.js_tree.specs.code.Listing.{AreMarkedRows}
 use Rattle.js_tree.specs.code.RelativeText.{AreRowsOfTrees}
 use Rattle.js_tree.specs.declared.keeping.Between.{Between}
@@ -20,8 +24,9 @@ use Rattle.js_tree.specs.declared.relative_marks.Mark.{Mark}
 use Rattle.js_tree.proofs.EscapedRows.{NextTree, further, no_trees}
 use Rattle.js_tree.proofs.FlatRows.{flat_of-append}
 use Rattle.js_tree.proofs.FlatTold.{length-flat_of}
-use Rattle.js_tree.proofs.KeptBetween.{next_between}
+use Rattle.js_tree.proofs.KeptBetween.{next_between, relative_kept}
 use Rattle.js_tree.proofs.MarkedRows.{marked_below, next_marks}
+use Rattle.js_tree.proofs.Marks.{flat_form-flat_of}
 use Rattle.js_tree.proofs.RoomLeft.{fewer_below}
 
 -- ---- what is pending
@@ -64,12 +69,13 @@ none_pending a s e = record {
 }
 
 -- the unit of a node that stays
-pub joined_unit : (a : Between) (s : Start) (x : RelativeRow) (u : OutputUnit) (k i keyword instance : List ℕ) → IsPending a s k i → (relative_row x).0 ≡ escaped_unit u
-    → keyword ≡ drop s.keyword a.keyword.items ++ keyword_part x → instance ≡ drop s.instance a.instance.items ++ x.instance.now
-    → ◌≡◌ {A = OutputUnit} (record { valid = x.valid; keyword = keyword; absolute = escape x.schema.now ++ absolute_part x; instance = instance; note = note_of x.note })
+pub joined_unit : (a : Between) (s : Start) (x : RelativeRow) (u : OutputUnit) (k i keyword instance : List ℕ) (note : Note) → IsPending a s k i → (relative_row x).0 ≡ escaped_unit u
+    → keyword ≡ drop s.keyword a.keyword.items ++ keyword_part x → instance ≡ drop s.instance a.instance.items ++ x.instance.now → note ≡ note_of x.note
+    → ◌≡◌ {A = OutputUnit} (record { valid = x.valid; keyword = keyword; absolute = escape x.schema.now ++ absolute_part x; instance = instance; note = note })
     (escaped_unit (placed_unit k i u))
-joined_unit a s x u k i keyword instance p e kw ins =
-    ap₂ (λ y z. record { valid = x.valid; keyword = y; absolute = escape x.schema.now ++ absolute_part x; instance = z; note = note_of x.note })
+joined_unit a s x u k i keyword instance note p e kw ins n =
+    ap (λ m. record { valid = x.valid; keyword = keyword; absolute = escape x.schema.now ++ absolute_part x; instance = instance; note = m }) n
+    ∙ ap₂ (λ y z. record { valid = x.valid; keyword = y; absolute = escape x.schema.now ++ absolute_part x; instance = z; note = note_of x.note })
     (further keyword (drop s.keyword a.keyword.items) (keyword_part x) k u.keyword kw p.keyword_is (ap (λ y. y.keyword) e))
     (further instance (drop s.instance a.instance.items) x.instance.now i u.instance ins p.instance_is (ap (λ y. y.instance) e))
     ∙ ap (λ y. record { valid = y.valid; keyword = escape (k ++ u.keyword); absolute = y.absolute; instance = escape (i ++ u.instance); note = y.note }) e
@@ -136,7 +142,49 @@ node_added old mid new row y d n w g m u h n_is y_is size_is =
     ∙ (ap₂ (λ a b. front ++ (a, b) ∷ more) u size
     ∙ ap (λ rs. front ++ (escaped_unit w, suc (node_count (escaped g))) ∷ rs) (sym (append-nil more))))
 
+-- ---- of a whole tree
+
+pub whole_rows_kept : (t : ResultTree) (old new : List RelativeRow) → IsLocated t → old ≡ []
+    → AreAdded old new (tree (placed_unit [] [] (relative_tree t).root) (kept_between t.root.valid [] [] (relative_tree t).below) empty)
+    → map relative_row new ≡ rows_of_tree (kept (pruned t))
+whole_rows_kept t old new l e h =
+    h
+    ∙ (ap (λ os. map relative_row os ++ flat_of (escaped (tree (kept_relative t).root (kept_relative t).below empty))) e
+    ∙ (sym (flat_form-flat_of (escaped_tree (kept_relative t)))
+    ∙ ap (λ r. flat_form (escaped_tree r)) (sym (relative_kept t l))))
+
 -- ---- tree by tree
+
+-- the rows after the next tree are still there when those of the tree have changed
+pub record StillThere (rows : List RelativeRow) (next : ℕ) (x : RelativeRow) (these : List RelativeRow) : Type 0 where
+  pub after : drop (next + x.size) (put_mid next (next + x.size - next) rows these) ≡ drop (next + x.size) rows
+  pub count : length (put_mid next (next + x.size - next) rows these) ≡ length rows
+
+so_long : (rows : List RelativeRow) (next size : ℕ) → next + size ≤ length rows → length (take size (drop next rows)) ≡ size
+so_long rows next size h = omega (arith, h, length-take size (drop next rows), length-drop next rows)
+
+all_as_many : (rows these all : List RelativeRow) (next size : ℕ) → next + size ≤ length rows → length these ≡ size → take (next + size) all ≡ take next rows ++ these → drop (next + size) all ≡ drop (next + size) rows
+    → length all ≡ length rows
+all_as_many rows these all next size fits long front after =
+    omega (arith, fits, long, ap length (take-append-drop (next + size) all), length-append (take (next + size) all) (drop (next + size) all), ap length front, ap length after, length-append (take next rows) these, length-take next rows, length-drop (next + size) rows)
+
+pub still_there : (rows : List RelativeRow) (next : ℕ) (f : Forest OutputUnit) (x : RelativeRow) (these : List RelativeRow) (t : NextTree rows next f x)
+    → length these ≡ length (take (next + x.size - next) (drop next rows)) → StillThere rows next x these
+still_there rows next f x these t e =
+    let size : next + x.size - next ≡ x.size = omega arith in
+    let most : next ≤ length rows = omega (arith, t.fits) in
+    let long : length these ≡ x.size = e ∙ (ap (λ n. length (take n (drop next rows))) size ∙ so_long rows next x.size t.fits) in
+    let all = put_mid next (next + x.size - next) rows these in
+    let end : next + x.size ≡ next + length these = omega (arith, long) in
+    let within : next + (next + x.size - next) ≤ next + x.size = omega arith in
+    let after = drop-put_mid next (next + x.size - next) rows these (next + x.size) within most (long ∙ sym size) in
+    let front = take-put_mid next (next + x.size - next) rows these (next + x.size) end most in
+    record {
+      after = after;
+      count = all_as_many rows these all next x.size t.fits long front after;
+    }
+
+-- ---- what is left, tree by tree
 
 -- with the rows of what is left of the trees from the next row on, they are all
 pub record LeftToAdd (v : Bool) (k : List ℕ) (i : List ℕ) (old : List RelativeRow) (new : List RelativeRow) (rows : List RelativeRow) (marks : List Mark) (next : ℕ) (f : Forest OutputUnit) : Type 0 where

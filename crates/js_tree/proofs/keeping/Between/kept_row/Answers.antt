@@ -1,9 +1,11 @@
-use Rattle.std.proofs.Common.{◌≡◌, false, refl, ap, ◌∙◌}
-use Rattle.js_tree.proofs.AddedRows.{joined_unit}
+use Rattle.std.proofs.Common.{refl, ap, sym, ◌∙◌}
 use Rattle.js_tree.specs.RelativeState.{part}
+use Rattle.js_tree.specs.Seen.{note_of}
+use Rattle.js_tree.proofs.AddedRows.{joined_unit}
 use Rattle.js_tree.proofs.keeping.Between.kept_row.Goals as goal
 
 pub returns-clause-unit : goal.returns-clause-unit
 returns-clause-unit c =
     λ u k i p e.
-    joined_unit c.args.self.now c.args.start c.args.row.now u k i _ _ p e (c.in_ok-slash.ensures.joined p.keyword_fits) ?
+    let whole = sym (ap (λ b. part b c.in_ok-instance.instance.now) (c.in_ok-instance.ensures.plain refl)) ∙ c.in_ok-instance.ensures.joined p.instance_fits in
+    joined_unit c.args.self.now c.args.start c.args.row.now u k i _ _ _ p e (c.in_ok-slash.ensures.joined p.keyword_fits) whole (ap note_of c.replace.ensures.value)
