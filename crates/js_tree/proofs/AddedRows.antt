@@ -80,6 +80,14 @@ joined_unit a s x u k i keyword instance note p e kw ins n =
     (further instance (drop s.instance a.instance.items) x.instance.now i u.instance ins p.instance_is (ap (λ y. y.instance) e))
     ∙ ap (λ y. record { valid = y.valid; keyword = escape (k ++ u.keyword); absolute = y.absolute; instance = escape (i ++ u.instance); note = y.note }) e
 
+-- and its row, after the others
+pub row_added : (old new : List RelativeRow) (x : RelativeRow) (w : OutputUnit) → new ≡ old ++ x ∷ [] → (relative_row x).0 ≡ escaped_unit w → x.size ≡ 0
+    → map relative_row new ≡ map relative_row old ++ (escaped_unit w, 0) ∷ []
+row_added old new x w e u z =
+    ap (map relative_row) e
+    ∙ (map-append relative_row old (x ∷ [])
+    ∙ ap₂ (λ a b. map relative_row old ++ (a, b) ∷ []) u z)
+
 -- ---- the rows below the first
 
 pub below_set : (rows : List RelativeRow) (x : RelativeRow) (marks : List Mark) (v : Bool) (u : OutputUnit) (below : Forest OutputUnit) → AreMarkedRows rows marks v (tree u below empty)
@@ -118,28 +126,25 @@ sized_at (a ∷ front) (x ∷ rows) r more y d e s =
     (sized_at front rows r more y d (cons_tail (relative_row x) a (map relative_row rows) (front ++ r ∷ more) e) s)
 
 -- the rows so far, the node's own, and those below it
-with_below : (old mid new : List RelativeRow) (row : RelativeRow) (g : Forest OutputUnit) → mid ≡ old ++ row ∷ [] → AreAdded mid new g
-    → map relative_row new ≡ map relative_row old ++ relative_row row ∷ flat_of (escaped g)
-with_below old mid new row g m h =
-    h
-    ∙ (ap (λ rs. map relative_row rs ++ flat_of (escaped g)) m
-    ∙ (ap (λ rs. rs ++ flat_of (escaped g)) (map-append relative_row old (row ∷ []))
-    ∙ append_assoc (map relative_row old) (relative_row row ∷ []) (flat_of (escaped g))))
+with_below : (old mid new : List RelativeRow) (row : FlatRow) (g : Forest OutputUnit) → map relative_row mid ≡ map relative_row old ++ row ∷ [] → AreAdded mid new g
+    → map relative_row new ≡ map relative_row old ++ row ∷ flat_of (escaped g)
+with_below old mid new row g m h = h ∙ (ap (λ rs. rs ++ flat_of (escaped g)) m ∙ append_assoc (map relative_row old) (row ∷ []) (flat_of (escaped g)))
 
-pub so_many : (old mid new : List RelativeRow) (row : RelativeRow) (g : Forest OutputUnit) → mid ≡ old ++ row ∷ [] → AreAdded mid new g → length new ≡ length old + suc (node_count (escaped g))
-so_many old mid new row g m h =
-    omega (arith, ap length (with_below old mid new row g m h), length-map new relative_row, length-map old relative_row, length-append (map relative_row old) (relative_row row ∷ flat_of (escaped g)), length-flat_of (escaped g))
+pub so_many : (old new : List RelativeRow) (g : Forest OutputUnit) → AreAdded old new g → length new ≡ length old + node_count (escaped g)
+so_many old new g h =
+    omega (arith, ap length h, length-map new relative_row, length-map old relative_row, length-append (map relative_row old) (flat_of (escaped g)), length-flat_of (escaped g))
 
-pub node_added : (old mid new : List RelativeRow) (row y d : RelativeRow) (n : ℕ) (w : OutputUnit) (g : Forest OutputUnit) → mid ≡ old ++ row ∷ [] → (relative_row row).0 ≡ escaped_unit w → AreAdded mid new g
+pub node_added : (old mid new : List RelativeRow) (y d : RelativeRow) (n : ℕ) (w : OutputUnit) (g : Forest OutputUnit)
+    → map relative_row mid ≡ map relative_row old ++ (escaped_unit w, 0) ∷ [] → length mid ≡ length old + 1 → AreAdded mid new g
     → n ≡ length old → (relative_row y).0 ≡ (relative_row (get_or new n d)).0 → y.size ≡ length new - n → AreAdded old (slice_set new n y) (tree w g empty)
-node_added old mid new row y d n w g m u h n_is y_is size_is =
+node_added old mid new y d n w g m count h n_is y_is size_is =
     let front = map relative_row old in
     let more = flat_of (escaped g) in
     let at : n ≡ length front = n_is ∙ sym (length-map old relative_row) in
-    let size : y.size ≡ suc (node_count (escaped g)) = omega (arith, size_is, n_is, so_many old mid new row g m h) in
+    let size : y.size ≡ suc (node_count (escaped g)) = omega (arith, size_is, n_is, count, so_many mid new g h) in
     ap (λ j. map relative_row (slice_set new j y)) at
-    ∙ (sized_at front new (relative_row row) more y d (with_below old mid new row g m h) (y_is ∙ ap (λ j. (relative_row (get_or new j d)).0) at)
-    ∙ (ap₂ (λ a b. front ++ (a, b) ∷ more) u size
+    ∙ (sized_at front new (escaped_unit w, 0) more y d (with_below old mid new (escaped_unit w, 0) g m h) (y_is ∙ ap (λ j. (relative_row (get_or new j d)).0) at)
+    ∙ (ap (λ b. front ++ (escaped_unit w, b) ∷ more) size
     ∙ ap (λ rs. front ++ (escaped_unit w, suc (node_count (escaped g))) ∷ rs) (sym (append-nil more))))
 
 -- ---- of a whole tree

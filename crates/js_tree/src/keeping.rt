@@ -1,5 +1,5 @@
 //! The rows of the tree that pruning and condensing leave, from those of the whole tree.
-ghost use Rattle.std.specs.Prelude.{◌≡◌, ◌≤◌, ◌++◌, [], Bool, IfOk, List, OnOk, ℕ, drop, false, length};
+ghost use Rattle.std.specs.Prelude.{◌≡◌, ◌+◌, ◌≤◌, ◌++◌, ◌∷◌, [], Bool, IfOk, List, OnOk, ℕ, drop, false, length, map};
 ghost use Rattle.js_tree.specs.Forest.{Forest, empty, tree};
 ghost use Rattle.js_tree.specs.Marks.{AreMarksOf};
 ghost use Rattle.js_tree.specs.OutputUnit.{OutputUnit};
@@ -89,28 +89,27 @@ impl Between {
         self.instance.truncate(end.instance);
     }
 
-    // The row of a node that stays, with what is behind the start before what it adds. The note is moved.
-    fn kept_row<'a>(
+    // Adds the row of a node that stays: what is behind the start stands before what the old row adds. The note is moved.
+    // It isn't inlined, so that the stack holds no row at each level.
+    #[inline(never)]
+    fn add_row<'a>(
         &mut self,
         arena: &'a Bump,
         row: &mut RelativeRow<'a>,
         start: Start,
-    ) -> Result<RelativeRow<'a>, Memory>
-        ensures unit { (u : OutputUnit) (keyword instance : List ℕ) → IsPending self.old start keyword instance
-            → (relative_row row.old).0 ≡ escaped_unit u
-            → IfOk result (λ r. (relative_row r).0 ≡ escaped_unit (placed_unit keyword instance u)) }
+        kept: &mut Vec<RelativeRow<'a>>,
+    ) -> Result<(), Memory>
+        ensures row { (u : OutputUnit) (keyword instance : List ℕ) → IsPending self.old start keyword instance
+            → (relative_row row.old).0 ≡ escaped_unit u → OnOk result (map relative_row kept.new.items
+            ≡ map relative_row kept.old.items ++ (escaped_unit (placed_unit keyword instance u), 0) ∷ []) }
+        ensures count { OnOk result (length kept.new.items ≡ length kept.old.items + 1) }
         ensures same { OnOk result (AreSame self.old self.new) }
     {
         let slash = row.keyword_slash;
         let (slash, keyword) = joined(arena, &mut self.keyword, start.keyword, slash, row.keyword)?;
-        let (_, instance) = joined(
-            arena,
-            &mut self.instance,
-            start.instance,
-            false,
-            row.instance,
-        )?;
-        Ok(RelativeRow {
+        let from = start.instance;
+        let (_, instance) = joined(arena, &mut self.instance, from, false, row.instance)?;
+        let row = RelativeRow {
             valid: row.valid,
             keyword_slash: slash,
             absolute_slash: row.absolute_slash,
@@ -120,7 +119,9 @@ impl Between {
             absolute: row.absolute,
             note: replace(&mut row.note, Note::Silent),
             size: 0,
-        })
+        };
+        kept.push(row)?;
+        Ok(())
     }
 }
 
@@ -205,8 +206,7 @@ fn keep_node<'a>(
     ensures same { OnOk result (AreSame between.old between.new) }
 {
     let number = kept.len();
-    let row = between.kept_row(arena, &mut rows[0], start)?;
-    kept.push(row)?;
+    between.add_row(arena, &mut rows[0], start, kept)?;
     let end = between.end();
     keep_trees(arena, &mut rows[1..], &marks[1..], end, between, kept)?;
     let size = kept.len() - number;

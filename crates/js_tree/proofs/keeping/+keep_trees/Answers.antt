@@ -31,7 +31,7 @@ keep_node-keep_trees-requires t c =
     let below = c.requires.2 in
     let h = c.requires.3 in
     let some = some_row rows (escaped_tree (record { root = u; below = below })) (flat_rows rows marks v u below h) in
-    let x = c.kept_row.new.row in
+    let x = c.add_row.new.row in
     (omega (arith, fewer_set rows x some, c.decreases), (v, below, below_set rows x marks v u below h))
 
 pub keep_node-overflow_sub-size : goal.keep_node-overflow_sub-size
@@ -39,20 +39,20 @@ keep_node-overflow_sub-size t c =
     let v = c.requires.0 in
     let u = c.requires.1 in
     let below = c.requires.2 in
-    let marked = below_set c.args.rows.now c.kept_row.new.row c.args.marks.now v u below c.requires.3 in
-    let told = c.in_ok-keep_trees.ensures.rows v below [] [] (none_pending c.kept_row.new.self c.end-end.result c.end-end.ensures) marked in
-    let count = so_many c.args.kept.now.items c.push.new.self.items c.keep_trees.new.kept.items c.in_ok-row.row (kept_between v [] [] below) c.in_ok-push.ensures.items told in
-    omega (arith, count, c.len-number.ensures, c.len.ensures, c.args.kept.now.ok.0, c.keep_trees.new.kept.ok.0)
+    let marked = below_set c.args.rows.now c.add_row.new.row c.args.marks.now v u below c.requires.3 in
+    let told = c.in_ok-keep_trees.ensures.rows v below [] [] (none_pending c.add_row.new.self c.end-end.result c.end-end.ensures) marked in
+    let count = so_many c.add_row.new.kept.items c.keep_trees.new.kept.items (kept_between v [] [] below) told in
+    omega (arith, count, c.in_ok-add_row.ensures.count, c.len-number.ensures, c.len.ensures, c.args.kept.now.ok.0, c.keep_trees.new.kept.ok.0)
 
 pub keep_node-index_mut-row-requires : goal.keep_node-index_mut-row-requires
 keep_node-index_mut-row-requires t c =
     let v = c.requires.0 in
     let u = c.requires.1 in
     let below = c.requires.2 in
-    let marked = below_set c.args.rows.now c.kept_row.new.row c.args.marks.now v u below c.requires.3 in
-    let told = c.in_ok-keep_trees.ensures.rows v below [] [] (none_pending c.kept_row.new.self c.end-end.result c.end-end.ensures) marked in
-    let count = so_many c.args.kept.now.items c.push.new.self.items c.keep_trees.new.kept.items c.in_ok-row.row (kept_between v [] [] below) c.in_ok-push.ensures.items told in
-    omega (arith, count, c.len-number.ensures, c.args.kept.now.ok.0, c.keep_trees.new.kept.ok.0)
+    let marked = below_set c.args.rows.now c.add_row.new.row c.args.marks.now v u below c.requires.3 in
+    let told = c.in_ok-keep_trees.ensures.rows v below [] [] (none_pending c.add_row.new.self c.end-end.result c.end-end.ensures) marked in
+    let count = so_many c.add_row.new.kept.items c.keep_trees.new.kept.items (kept_between v [] [] below) told in
+    omega (arith, count, c.in_ok-add_row.ensures.count, c.len-number.ensures, c.args.kept.now.ok.0, c.keep_trees.new.kept.ok.0)
 
 pub keep_node-returns-clause-rows : goal.keep_node-returns-clause-rows
 keep_node-returns-clause-rows t c =
@@ -60,16 +60,16 @@ keep_node-returns-clause-rows t c =
     let rows = c.args.rows.now in
     let marks = c.args.marks.now in
     let old = c.args.kept.now.items in
+    let mid = c.add_row.new.kept.items in
     let new = c.keep_trees.new.kept.items in
-    let x = c.index-rows-0.result in
-    let y = c.index_mut-row.result.now in
-    let first = slice_index_or rows 0 x in
+    let first = slice_index_or rows 0 c.index-rows-0.result in
     let root = root_row relative_row rows (escaped_tree (record { root = u; below = below })) first (flat_rows rows marks v u below h) (ap (slice_index_or rows 0) c.index-rows-0.is) in
-    let unit = c.in_ok-row.ensures.unit u k i p root in
-    let told = c.in_ok-keep_trees.ensures.rows v below [] [] (none_pending c.kept_row.new.self c.end-end.result c.end-end.ensures) (below_set rows c.kept_row.new.row marks v u below h) in
+    let row = c.in_ok-add_row.ensures.row u k i p root in
+    let told = c.in_ok-keep_trees.ensures.rows v below [] [] (none_pending c.add_row.new.self c.end-end.result c.end-end.ensures) (below_set rows c.add_row.new.row marks v u below h) in
     let number : c.len-number.result ≡ length old = c.len-number.ensures ∙ c.args.kept.now.ok.0 in
     let size : c.len.result - c.len-number.result ≡ length new - c.len-number.result = ap (λ n. n - c.len-number.result) (c.len.ensures ∙ c.keep_trees.new.kept.ok.0) in
-    node_added old c.push.new.self.items new c.in_ok-row.row _ y c.len-number.result (placed_unit k i u) (kept_between v [] [] below) c.in_ok-push.ensures.items unit told number ? size
+    let same = ap (λ r. (relative_row r).0) c.index_mut-row.ensures.value in
+    node_added old mid new _ _ c.len-number.result (placed_unit k i u) (kept_between v [] [] below) row c.in_ok-add_row.ensures.count told number same size
 
 pub keep_tree-keep_node-requires : goal.keep_tree-keep_node-requires
 keep_tree-keep_node-requires t c = (omega (arith, c.decreases), c.requires)
