@@ -1,13 +1,13 @@
 -- What is left of trees that have only what their locations add, placed again.
-use Rattle.std.proofs.Common.{◌≡◌, ℕ, suc, ◌+◌, ◌≤◌, Bool, true, false, List, [], ◌∷◌, ◌++◌, length, drop, refl, ap, ap₂, sym, ◌∙◌, append_assoc, append-nil, subst}
+use Rattle.std.proofs.Common.{◌≡◌, ℕ, Bool, true, false, List, [], ◌++◌, length, refl, ap, ap₂, sym, ◌∙◌, append_assoc, append-nil, subst}
 use Rattle.std.proofs.Math.Seq.{drop-append_seam}
 use Rattle.js_tree.specs.Forest.{Forest, empty, tree, ◌⊹◌}
 use Rattle.js_tree.specs.Marks.{left_trees, mark_of}
 use Rattle.js_tree.specs.OutputUnit.{OutputUnit}
-use Rattle.js_tree.specs.Relative.{AreLocated, IsLocated, placed, placed_unit, relative, relative_tree, relative_unit}
+use Rattle.js_tree.specs.Relative.{AreLocated, IsLocated, placed, placed_unit, relative, relative_tree}
 use Rattle.js_tree.specs.Result.{ResultTree, kept, pruned}
 use Rattle.js_tree.specs.code.KeptBetween.{by_mark, kept_between, kept_relative}
-use Rattle.js_tree.specs.code.Listing.{condensed, kept_node}
+use Rattle.js_tree.specs.code.Listing.{condensed}
 use Rattle.js_tree.specs.declared.relative_marks.Mark.{Mark}
 use Rattle.js_tree.proofs.Forests.{append-empty}
 use Rattle.js_tree.proofs.KeptRows.{kept_alone, kept_first, whole_kept}

@@ -1,12 +1,11 @@
-use Rattle.std.proofs.Common.{◌≡◌, ◌+◌, ◌-◌, ◌++◌, [], ◌∷◌, OnOk, length, map, slice_index_or, refl, ap, sym, subst, ◌∙◌, arith}
-use Rattle.js_tree.specs.Forest.{tree, empty}
+use Rattle.std.proofs.Common.{◌≡◌, ◌+◌, ◌-◌, [], OnOk, length, map, slice_index_or, refl, ap, sym, subst, ◌∙◌, arith}
 use Rattle.js_tree.specs.Relative.{escaped_tree, placed_unit}
 use Rattle.js_tree.specs.RelativeState.{relative_row}
 use Rattle.js_tree.specs.code.KeptBetween.{AreAdded, kept_between}
-use Rattle.js_tree.proofs.AddedRows.{add_ends, add_goes_on, add_starts, below_set, fewer_set, longer_same, node_added, none_pending, pending_below, same_parts, so_many, still_pending, still_there}
+use Rattle.js_tree.proofs.AddedRows.{add_ends, add_goes_on, add_starts, below_set, fewer_set, node_added, none_pending, same_parts, so_many, still_pending, still_there}
 use Rattle.js_tree.proofs.EscapedRows.{next_tree}
 use Rattle.js_tree.proofs.FlatRows.{root_row, shorter}
-use Rattle.js_tree.proofs.KeptBetween.{node_goes, node_stays, tree_goes}
+use Rattle.js_tree.proofs.KeptBetween.{node_goes}
 use Rattle.js_tree.proofs.MarkedRows.{as_many, first_mark, flat_rows, marked_below, marked_next, next_marks, root_mark}
 use Rattle.js_tree.proofs.RoomLeft.{fewer_below, some_row}
 use Rattle.js_tree.proofs.keeping.+keep_trees.Goals as goal

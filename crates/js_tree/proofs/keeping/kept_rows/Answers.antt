@@ -1,7 +1,6 @@
-use Rattle.std.proofs.Common.{◌≡◌, [], refl, ap, ap₂, ◌∙◌}
+use Rattle.std.proofs.Common.{[], ap, ap₂, ◌∙◌}
 use Rattle.js_tree.specs.Marks.{whole_of}
 use Rattle.js_tree.specs.Relative.{relative_tree}
-use Rattle.js_tree.specs.RelativeState.{RelativeState}
 use Rattle.js_tree.specs.code.Listing.{AreMarkedRows}
 use Rattle.js_tree.proofs.AddedRows.{none_pending, whole_rows_kept}
 use Rattle.js_tree.proofs.KeptBetween.{kept_located}
