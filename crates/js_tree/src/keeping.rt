@@ -32,8 +32,8 @@ struct Start {
 }
 
 /// The rows of the tree that the marks say is left: that of the detailed format (JSON Schema Core, section 12.4.3). The
-/// notes are moved. A row borrows what the old one does, unless a node between it and the one above is gone: then what
-/// they add together is in the rows' arena.
+/// notes are moved. A row borrows what it borrowed, unless nodes between it and the one above are gone: then what they
+/// and it add to a location is put together in the arena. Takes linear time.
 ///
 /// # Errors
 /// `Memory` if an allocation fails.
@@ -89,8 +89,8 @@ impl Between {
         self.instance.truncate(end.instance);
     }
 
-    // Adds the row of a node that stays: what is behind the start stands before what the old row adds. The note is moved.
-    // It isn't inlined, so that the stack holds no row at each level.
+    // Adds the row of a node that stays, with what is behind the start before what its old row adds. The note is moved.
+    // It isn't inlined, so that the stack holds no row on each level.
     #[inline(never)]
     fn add_row<'a>(
         &mut self,
@@ -251,8 +251,8 @@ fn add_part(location: &mut Vec<u8>, slash: bool, text: &[u8]) -> Result<(), Memo
     Ok(())
 }
 
-// What is behind the start, and then this part. If nothing is behind it, that is the part, and otherwise it goes into the
-// arena.
+// What is behind the start, and then this part. If nothing is behind it, that is the part itself; otherwise both go into
+// the arena, with the slash.
 fn joined<'a>(
     arena: &'a Bump,
     location: &mut Vec<u8>,
