@@ -1,6 +1,6 @@
 -- The rows of what is left, which come to the others tree by tree.
 use Rattle.std.proofs.Common.{◌≡◌, ℕ, suc, ◌+◌, ◌-◌, ◌≤◌, ◌<◌, Bool, List, [], ◌∷◌, ◌++◌, length, take, drop, map, get_or, slice_set, refl, ap, ap₂, sym, subst, ◌∙◌, append_assoc, append-nil, arith}
-use Rattle.std.proofs.lemmas.List.{drop-append-le, drop_all, length-append, take-append-drop, length-drop, length-map, length-take, map-append}
+use Rattle.std.proofs.lemmas.List.{drop_all, length-append, take-append-drop, length-drop, length-map, length-take, map-append}
 use Rattle.std.proofs.lemmas.Slice.{drop-put_mid, take-put_mid}
 use borrow.Rule.Slice.PartMut.{put_mid}
 use Rattle.json.specs.Print.{escape}
@@ -14,7 +14,7 @@ use Rattle.js_tree.specs.Relative.{IsLocated, escaped, escaped_tree, escaped_uni
 use Rattle.js_tree.specs.RelativeState.{absolute_part, keyword_part, relative_row, rows_of_tree}
 use Rattle.js_tree.specs.Result.{ResultTree, kept, pruned}
 use Rattle.js_tree.specs.Seen.{note_of}
-use Rattle.js_tree.specs.code.KeptBetween.{AreAdded, AreLonger, AreSame, IsEnd, IsPending, kept_between, kept_relative}
+use Rattle.js_tree.specs.code.KeptBetween.{AreAdded, AreSame, IsEnd, IsPending, kept_between, kept_relative}
 use Rattle.js_tree.specs.code.Listing.{AreMarkedRows}
 use Rattle.js_tree.specs.code.RelativeText.{AreRowsOfTrees}
 use Rattle.js_tree.specs.declared.keeping.Between.{Between}
@@ -34,30 +34,12 @@ use Rattle.js_tree.proofs.RoomLeft.{fewer_below}
 pub same_parts : (a b c : Between) → AreSame a b → AreSame b c → AreSame a c
 same_parts a b c d e = record { keyword = e.keyword ∙ d.keyword; instance = e.instance ∙ d.instance }
 
-pub longer_same : (a b c : Between) (x : RelativeRow) → AreLonger a x b → AreSame b c → AreLonger a x c
-longer_same a b c x d e = record { keyword = e.keyword ∙ d.keyword; instance = e.instance ∙ d.instance }
-
 pub still_pending : (a b : Between) (s : Start) (k i : List ℕ) → IsPending a s k i → AreSame a b → IsPending b s k i
 still_pending a b s k i p e = record {
   keyword_fits = subst (λ xs. s.keyword ≤ length xs) (sym e.keyword) p.keyword_fits;
   instance_fits = subst (λ xs. s.instance ≤ length xs) (sym e.instance) p.instance_fits;
   keyword_is = ap (drop s.keyword) e.keyword ∙ p.keyword_is;
   instance_is = ap (drop s.instance) e.instance ∙ p.instance_is;
-}
-
-longer_behind : (n : ℕ) (new old added text more : List ℕ) → new ≡ old ++ added → n ≤ length old → drop n old ≡ escape text → added ≡ escape more → drop n new ≡ escape (text ++ more)
-longer_behind n new old added text more e h a m = further (drop n new) (drop n old) added text more (ap (drop n) e ∙ drop-append-le n old added h) a m
-
-longer_fits : (n : ℕ) (new old added : List ℕ) → new ≡ old ++ added → n ≤ length old → n ≤ length new
-longer_fits n new old added e h = omega (arith, h, ap length e, length-append old added)
-
-pub pending_below : (a b : Between) (s : Start) (x : RelativeRow) (u : OutputUnit) (k i : List ℕ) → IsPending a s k i → AreLonger a x b → (relative_row x).0 ≡ escaped_unit u
-    → IsPending b s (k ++ u.keyword) (i ++ u.instance)
-pending_below a b s x u k i p l e = record {
-  keyword_fits = longer_fits s.keyword b.keyword.items a.keyword.items (keyword_part x) l.keyword p.keyword_fits;
-  instance_fits = longer_fits s.instance b.instance.items a.instance.items x.instance.now l.instance p.instance_fits;
-  keyword_is = longer_behind s.keyword b.keyword.items a.keyword.items (keyword_part x) k u.keyword l.keyword p.keyword_fits p.keyword_is (ap (λ y. y.keyword) e);
-  instance_is = longer_behind s.instance b.instance.items a.instance.items x.instance.now i u.instance l.instance p.instance_fits p.instance_is (ap (λ y. y.instance) e);
 }
 
 pub none_pending : (a : Between) (s : Start) → IsEnd a s → IsPending a s [] []

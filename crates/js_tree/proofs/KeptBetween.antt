@@ -116,17 +116,7 @@ by_its_mark : (v : Bool) (k i : List ℕ) (u : OutputUnit) (below : Forest Outpu
 by_its_mark v k i u below m e =
     ap (λ n. by_mark n (tree (placed_unit k i u) (kept_between v [] [] below)) (kept_between v (k ++ u.keyword) (i ++ u.instance) below) empty) (sym e)
 
-pub node_stays : (v : Bool) (k i : List ℕ) (u : OutputUnit) (below : Forest OutputUnit) (m : Mark)
-    → m ≡ mark_of v u (left_trees v below) → m.stays ≡ true
-    → kept_between v k i (tree u below empty) ≡ tree (placed_unit k i u) (kept_between v [] [] below) empty
-node_stays v k i u below m e s = by_its_mark v k i u below m e ∙ rw s refl
-
 pub node_goes : (v : Bool) (k i : List ℕ) (u : OutputUnit) (below : Forest OutputUnit) (m : Mark)
     → m ≡ mark_of v u (left_trees v below) → m.stays ≡ false → m.below ≡ true
     → kept_between v k i (tree u below empty) ≡ kept_between v (k ++ u.keyword) (i ++ u.instance) below
 node_goes v k i u below m e s b = by_its_mark v k i u below m e ∙ rw (s, b) (append-empty (kept_between v (k ++ u.keyword) (i ++ u.instance) below))
-
-pub tree_goes : (v : Bool) (k i : List ℕ) (u : OutputUnit) (below : Forest OutputUnit) (m : Mark)
-    → m ≡ mark_of v u (left_trees v below) → m.stays ≡ false → m.below ≡ false
-    → kept_between v k i (tree u below empty) ≡ empty
-tree_goes v k i u below m e s b = by_its_mark v k i u below m e ∙ rw (s, b) refl
