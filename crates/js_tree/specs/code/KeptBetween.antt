@@ -14,8 +14,8 @@ use Rattle.js_tree.specs.declared.keeping.Start.{Start}
 use Rattle.js_tree.specs.declared.relative.RelativeRow.{RelativeRow}
 use Rattle.js_tree.specs.declared.relative_marks.Mark.{Mark}
 
--- of a tree with this mark, where these are what is left of it if its root stays, and if only something below it does,
--- and what is left of the trees after it
+-- What is left of a tree with this mark and of the trees after it: `stays` puts its root before these, and `below` is left
+-- of the trees below a root that goes.
 abbrev pub by_mark : Mark → (Forest OutputUnit → Forest OutputUnit) → Forest OutputUnit → Forest OutputUnit → Forest OutputUnit
 by_mark m stays below after = if m.stays then stays after else (if m.below then (below ⊹ after) else after)
 
@@ -32,7 +32,7 @@ kept_relative t = let r = relative_tree t in record { root = r.root; below = kep
 
 -- ---- of the code
 
--- the removed nodes since the last kept one, where the parts were so long, add this
+-- what is behind the start is what the removed nodes since the last kept one add, with escapes
 pub record IsPending (between : Between) (start : Start) (keyword : List ℕ) (instance : List ℕ) : Type 0 where
   pub keyword_fits : start.keyword ≤ length between.keyword.items
   pub instance_fits : start.instance ≤ length between.instance.items
@@ -49,10 +49,10 @@ pub record AreLonger (old : Between) (row : RelativeRow) (new : Between) : Type 
   pub keyword : new.keyword.items ≡ old.keyword.items ++ keyword_part row
   pub instance : new.instance.items ≡ old.instance.items ++ row.instance.now
 
--- so long are the parts
+-- how long the parts are
 abbrev pub IsEnd : Between → Start → Type 0
 IsEnd between start = (start.keyword ≡ length between.keyword.items) × (start.instance ≡ length between.instance.items)
 
--- the rows of the trees have come to the others
+-- the rows of the trees were added
 abbrev pub AreAdded : List RelativeRow → List RelativeRow → Forest OutputUnit → Type 0
 AreAdded old new f = map relative_row new ≡ map relative_row old ++ flat_of (escaped f)
