@@ -104,7 +104,7 @@ marked-escaped v (tree u below after) =
 pub is_absolute : (x : RelativeRow) (u : OutputUnit) → (relative_row x).0 ≡ escaped_unit u → IsAbsolute x u.absolute
 is_absolute x u e = ap (λ y. y.absolute) e
 
-further : (found above added text more : List ℕ) → found ≡ above ++ added → above ≡ escape text → added ≡ escape more → found ≡ escape (text ++ more)
+pub further : (found above added text more : List ℕ) → found ≡ above ++ added → above ≡ escape text → added ≡ escape more → found ≡ escape (text ++ more)
 further found above added text more e a m =
     e ∙ (ap (λ l. l ++ added) a ∙ (ap (λ l. escape text ++ l) m ∙ sym (flat_map-append escape_byte text more)))
 

@@ -49,7 +49,7 @@ struct OpenNode {
 /// and at most a few bytes of the arena, however deep it is.
 #[derive(Drop)]
 pub struct RelativeRows<'a> {
-    arena: &'a Bump,
+    pub(crate) arena: &'a Bump,
     pub(crate) rows: Vec<RelativeRow<'a>>,
     // The open nodes, the innermost last.
     nodes: Vec<OpenNode>,
