@@ -148,8 +148,8 @@ fn push_encoded(out: &mut String, token: &str) -> Result<(), Memory>
 }
 
 /// Whether the token is known to be written as it is: in a pointer's text (RFC 6901, section 3), in a fragment of a URI
-/// (section 6) and in a JSON string (RFC 8259, section 7). That is true of ASCII letters, digits, `$`, `-`, `.` and `_`,
-/// of which most names consist. It allocates nothing.
+/// (section 6) and in a JSON string (RFC 8259, section 7). That is true of ASCII letters, digits, `$`, `-`, `.` and
+/// `_`, of which most names consist. It allocates nothing.
 pub fn is_plain_token(token: &str) -> bool
     ensures exact { result ≡ list_all is_plain token.now }
     ensures pointer { IsTrue result → escape token.now ≡ token.now }

@@ -14,8 +14,8 @@ use Rattle.js_eval.specs.Kind.{kind, is_unevaluated}
 use Rattle.js_eval.specs.SchemaSet.{Text, SchemaSet, Alone}
 use Rattle.js_eval.specs.Verdict as verdict
 use Rattle.js_eval.specs.Verdict.{Known, next, nothing, within}
-use Rattle.js_eval.specs.declared.kind.Kind.{Kind}
-use Rattle.js_eval.specs.declared.kind.Kind.TheVariants.{UnevaluatedItems, UnevaluatedProperties, Contains}
+use Rattle.js_eval.specs.declared.keywords.kind.Kind.{Kind}
+use Rattle.js_eval.specs.declared.keywords.kind.Kind.TheVariants.{UnevaluatedItems, UnevaluatedProperties, Contains}
 use Rattle.js_eval.proofs.Lists.{and_same, all_more, all_same, map_same, filter_same, flat_map_same, all_filtered, found}
 
 -- what the first has settled, the second knows alike

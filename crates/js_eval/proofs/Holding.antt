@@ -17,7 +17,7 @@ use Rattle.js_eval.specs.Keywords.{Keyword}
 use Rattle.js_eval.specs.Kind.{kind}
 use Rattle.js_eval.specs.code.Holding.{IsIn, held_at}
 use Rattle.js_eval.specs.code.Standard.{kind_by}
-use Rattle.js_eval.specs.declared.kind.Kind.{Kind}
+use Rattle.js_eval.specs.declared.keywords.kind.Kind.{Kind}
 use Rattle.js_eval.proofs.AssertionThere.{same_members}
 use Rattle.js_eval.proofs.Standard.{kind_is}
 

@@ -28,8 +28,8 @@ use Rattle.js_eval.specs.Walk.Visited.{AreJudged, is_visited, may_apply}
 use Rattle.js_eval.specs.code.Leaves.{has_leaf}
 use Rattle.js_eval.specs.code.Standard.{kind_by, turn_by_name, keyword_names_of}
 use Rattle.js_eval.specs.code.Turns.{turn_by, turn_of, is_ever, in_order}
-use Rattle.js_eval.specs.declared.kind.Kind.{Kind}
-use Rattle.js_eval.specs.declared.kind.Kind.TheVariants.{Assertion, Annotation}
+use Rattle.js_eval.specs.declared.keywords.kind.Kind.{Kind}
+use Rattle.js_eval.specs.declared.keywords.kind.Kind.TheVariants.{Assertion, Annotation}
 use Rattle.js_eval.proofs.AssertionThere.{place_is, same_members}
 use Rattle.js_eval.proofs.Standard.{kind_is, turn_is}
 use Rattle.js_eval.proofs.Turns.{else_has_node, else_before}

@@ -10,8 +10,8 @@ use Rattle.js_eval.specs.Kind.{kind, is_unevaluated, is_unevaluated_items, is_un
 use Rattle.js_eval.specs.SchemaSet.{Text, SchemaSet}
 use Rattle.js_eval.specs.Verdict as verdict
 use Rattle.js_eval.specs.Verdict.{Known}
-use Rattle.js_eval.specs.declared.kind.Kind.{Kind}
-use Rattle.js_eval.specs.declared.kind.Kind.TheVariants.{UnevaluatedItems, UnevaluatedProperties}
+use Rattle.js_eval.specs.declared.keywords.kind.Kind.{Kind}
+use Rattle.js_eval.specs.declared.keywords.kind.Kind.TheVariants.{UnevaluatedItems, UnevaluatedProperties}
 use Rattle.js_eval.proofs.Agree.{plain}
 
 no_names : {Place : Type 0} (apps holding : List (Application Place)) (names : List Text) (κ : Kind) → is_unevaluated_items κ ≡ true → names_of apps holding names κ ≡ []

@@ -36,8 +36,8 @@ use Rattle.js_eval.specs.Kind.{Applicator, applicators, kind, kind_in}
 use Rattle.js_eval.specs.Laws.{looked_for, IsFound, IsOfFound, NothingStandsIn}
 use Rattle.js_eval.specs.SchemaSet.{SchemaSet}
 use Rattle.js_eval.specs.code.Holding.{IsIn, held_at}
-use Rattle.js_eval.specs.declared.kind.Kind.{Kind}
-use Rattle.js_eval.specs.declared.kind.Kind.TheVariants.{Reference, DynamicReference, AllOf, AnyOf, OneOf, Not, If, Then, Else, DependentSchemas, PrefixItems, Items, Contains, Properties, PatternProperties, AdditionalProperties, PropertyNames, UnevaluatedItems, UnevaluatedProperties, Assertion, Annotation}
+use Rattle.js_eval.specs.declared.keywords.kind.Kind.{Kind}
+use Rattle.js_eval.specs.declared.keywords.kind.Kind.TheVariants.{Reference, DynamicReference, AllOf, AnyOf, OneOf, Not, If, Then, Else, DependentSchemas, PrefixItems, Items, Contains, Properties, PatternProperties, AdditionalProperties, PropertyNames, UnevaluatedItems, UnevaluatedProperties, Assertion, Annotation}
 use Rattle.js_eval.proofs.AssertionThere.{same_members}
 use Rattle.js_eval.proofs.FoundByName.{all_of_filter, keywords_among}
 use Rattle.js_eval.proofs.Holding.{argument_is, items_are}

@@ -8,8 +8,8 @@ use Rattle.js_doc.specs.declared.doc.Doc.{Doc}
 use Rattle.js_eval.specs.code.Cursors.{IsBegun, coming_asked, matching_asked, on_matched_member, patterns_asked, present_asked}
 use Rattle.js_eval.specs.SchemaSet.{Text}
 use Rattle.js_eval.specs.Sited.{numbered_site}
-use Rattle.js_eval.specs.declared.pattern_cursor.PatternCursor.{PatternCursor}
-use Rattle.js_eval.specs.declared.searchers.NamedPattern.{NamedPattern}
+use Rattle.js_eval.specs.declared.cursors.pattern_cursor.PatternCursor.{PatternCursor}
+use Rattle.js_eval.specs.declared.searching.searchers.NamedPattern.{NamedPattern}
 
 module _ (documents : Documents) where
   -- the present pattern's schema is applied to one member more

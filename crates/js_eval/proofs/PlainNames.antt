@@ -16,7 +16,7 @@ use Rattle.js_doc.proofs.PlainTokens.{all_kept, all_plain, all_stand, kept_too}
 use Rattle.js_assert.specs.Keyword.{NamedKeyword, keyword_named, keywords, row_named}
 use Rattle.js_eval.specs.Kind.{Applicator, applicators, kind, kind_in}
 use Rattle.js_eval.specs.code.Standard.{IsWrittenAsItIs}
-use Rattle.js_eval.specs.declared.kind.Kind.TheVariants.{Annotation, Assertion}
+use Rattle.js_eval.specs.declared.keywords.kind.Kind.TheVariants.{Annotation, Assertion}
 
 -- ---- names of keywords
 

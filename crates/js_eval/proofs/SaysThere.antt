@@ -9,8 +9,8 @@ use Rattle.js_eval.specs.Kind.{kind}
 use Rattle.js_eval.specs.SchemaSet.{Text, SchemaSet}
 use Rattle.js_eval.specs.Walk.Said.{keyword_says}
 use Rattle.js_eval.specs.Walk.Told.{kind_at, says_at}
-use Rattle.js_eval.specs.declared.kind.Kind.{Kind}
-use Rattle.js_eval.specs.declared.kind.Kind.TheVariants.{Assertion}
+use Rattle.js_eval.specs.declared.keywords.kind.Kind.{Kind}
+use Rattle.js_eval.specs.declared.keywords.kind.Kind.TheVariants.{Assertion}
 
 pub says_there : {P : Type 0} (S : SchemaSet P) (place : P) (v : Value) (matching : ℕ) (k : Keyword) (held : ℕ) (given : List Text) (at : List ℕ) (b passes : Bool) (κ : Kind) (n : Note)
     → κ ≡ kind k.0 → passes ≡ b → n ≡ keyword_says (entries (S.schema place)) v matching k held given at b κ → n ≡ says_at S place v matching k held given at passes

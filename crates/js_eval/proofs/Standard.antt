@@ -17,10 +17,10 @@ use Rattle.js_eval.specs.Keywords.{has_node, is_else, is_after_if, without_node}
 use Rattle.js_eval.specs.Kind.{Applicator, kind, kind_in}
 use Rattle.js_eval.specs.code.Standard.{kind_by, turn_by_name, keyword_names_of}
 use Rattle.js_eval.specs.code.Turns.{turn_by, turn_of}
-use Rattle.js_eval.specs.declared.kind.Kind.{Kind}
-use Rattle.js_eval.specs.declared.kind.Kind.TheVariants.{Assertion, Annotation}
-use Rattle.js_eval.specs.declared.turn.Turn.{Turn}
-use Rattle.js_eval.specs.declared.turn.Turn.TheVariants.{Never}
+use Rattle.js_eval.specs.declared.keywords.kind.Kind.{Kind}
+use Rattle.js_eval.specs.declared.keywords.kind.Kind.TheVariants.{Assertion, Annotation}
+use Rattle.js_eval.specs.declared.keywords.turn.Turn.{Turn}
+use Rattle.js_eval.specs.declared.keywords.turn.Turn.TheVariants.{Never}
 
 -- ---- what it does
 

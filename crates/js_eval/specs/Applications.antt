@@ -11,8 +11,8 @@ use Rattle.js_assert.specs.Argument.{values, entries, has}
 use Rattle.js_assert.specs.Pattern.{matches}
 use Rattle.js_eval.specs.Keywords.{Keyword}
 use Rattle.js_eval.specs.SchemaSet.{Text, SchemaSet, Step, Alone, Index, Name}
-use Rattle.js_eval.specs.declared.kind.Kind.{Kind}
-use Rattle.js_eval.specs.declared.kind.Kind.TheVariants.{Reference, DynamicReference, AllOf, AnyOf, OneOf, Not, If, Then, Else, DependentSchemas, PrefixItems, Items, Contains, Properties, PatternProperties, AdditionalProperties, PropertyNames, UnevaluatedItems, UnevaluatedProperties, Assertion, Annotation}
+use Rattle.js_eval.specs.declared.keywords.kind.Kind.{Kind}
+use Rattle.js_eval.specs.declared.keywords.kind.Kind.TheVariants.{Reference, DynamicReference, AllOf, AnyOf, OneOf, Not, If, Then, Else, DependentSchemas, PrefixItems, Items, Contains, Properties, PatternProperties, AdditionalProperties, PropertyNames, UnevaluatedItems, UnevaluatedProperties, Assertion, Annotation}
 
 -- a schema applied to a value
 pub record Application (Place : Type 0) : Type 0 where

@@ -5,9 +5,9 @@ use Rattle.js_doc.specs.Value.{Value}
 use Rattle.js_tree.specs.BoxedState.{boxed_after, boxed_start, boxed_state}
 use Rattle.js_tree.specs.FlatState.{flat_after, flat_start, flat_state, whole_tree}
 use Rattle.js_tree.specs.VerdictState.{verdict_after, verdict_start, verdict_state}
-use Rattle.js_tree.specs.declared.boxed.Boxed.{Boxed}
-use Rattle.js_tree.specs.declared.flat.Flat.{Flat}
-use Rattle.js_tree.specs.declared.verdict.Verdict.{Verdict}
+use Rattle.js_tree.specs.declared.collecting.boxed.Boxed.{Boxed}
+use Rattle.js_tree.specs.declared.collecting.flat.Flat.{Flat}
+use Rattle.js_tree.specs.declared.collecting.verdict.Verdict.{Verdict}
 use Rattle.js_eval.specs.Result.{ResultTree}
 use Rattle.js_eval.specs.Walked.{IsResultWithin, IsVerdict, LeadsTo}
 

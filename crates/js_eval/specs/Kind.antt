@@ -2,8 +2,8 @@
 use Rattle.std.specs.Prelude.{ℕ, List, [], ◌∷◌, Bool, true, false, ◌||◌, is_some, codes, if◌then◌else◌}
 use Rattle.std.specs.Str.{bytes_eq}
 use Rattle.js_assert.specs.Keyword.{keyword_named}
-use Rattle.js_eval.specs.declared.kind.Kind.{Kind}
-use Rattle.js_eval.specs.declared.kind.Kind.TheVariants.{Reference, DynamicReference, AllOf, AnyOf, OneOf, Not, If, Then, Else, DependentSchemas, PrefixItems, Items, Contains, Properties, PatternProperties, AdditionalProperties, PropertyNames, UnevaluatedItems, UnevaluatedProperties, Assertion, Annotation}
+use Rattle.js_eval.specs.declared.keywords.kind.Kind.{Kind}
+use Rattle.js_eval.specs.declared.keywords.kind.Kind.TheVariants.{Reference, DynamicReference, AllOf, AnyOf, OneOf, Not, If, Then, Else, DependentSchemas, PrefixItems, Items, Contains, Properties, PatternProperties, AdditionalProperties, PropertyNames, UnevaluatedItems, UnevaluatedProperties, Assertion, Annotation}
 
 abbrev pub Applicator : Type 0
 Applicator = List ℕ × Kind

@@ -22,8 +22,8 @@ use Rattle.js_eval.specs.Result.{ResultTree, IsResult, StandsWithin, depth, size
 use Rattle.js_eval.specs.SchemaSet.{Text, SchemaSet, Step}
 use Rattle.js_eval.specs.Size.{node_total}
 use Rattle.js_eval.specs.Verdict.{Known, within, Settled, gives_names, gives_indexes, evaluated_names, evaluated_indexes}
-use Rattle.js_eval.specs.declared.kind.Kind.{Kind}
-use Rattle.js_eval.specs.declared.kind.Kind.TheVariants.{Reference, DynamicReference, PrefixItems, Contains}
+use Rattle.js_eval.specs.declared.keywords.kind.Kind.{Kind}
+use Rattle.js_eval.specs.declared.keywords.kind.Kind.TheVariants.{Reference, DynamicReference, PrefixItems, Contains}
 
 -- v is judged at a place, to which these places led
 

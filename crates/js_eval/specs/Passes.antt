@@ -10,8 +10,8 @@ use Rattle.js_assert.specs.Argument.{entries, on_array}
 use Rattle.js_assert.specs.Assertion.{Asserted, asserted, says}
 use Rattle.js_eval.specs.Keywords.{Keyword}
 use Rattle.js_eval.specs.SchemaSet.{Text}
-use Rattle.js_eval.specs.declared.kind.Kind.{Kind}
-use Rattle.js_eval.specs.declared.kind.Kind.TheVariants.{AnyOf, OneOf, Not, If, Contains, Assertion, Annotation}
+use Rattle.js_eval.specs.declared.keywords.kind.Kind.{Kind}
+use Rattle.js_eval.specs.declared.keywords.kind.Kind.TheVariants.{AnyOf, OneOf, Not, If, Contains, Assertion, Annotation}
 
 abbrev pub all : List Bool → Bool
 all verdicts = list_all (λ holds. holds) verdicts

@@ -14,7 +14,7 @@ use Rattle.js_eval.specs.Keywords.{Keyword, keywords}
 use Rattle.js_eval.specs.Kind.{kind, is_unevaluated}
 use Rattle.js_eval.specs.Passes.{passes_of}
 use Rattle.js_eval.specs.SchemaSet.{Text, SchemaSet, Alone}
-use Rattle.js_eval.specs.declared.kind.Kind.TheVariants.{Contains}
+use Rattle.js_eval.specs.declared.keywords.kind.Kind.TheVariants.{Contains}
 
 -- What is known of applications. An application is given by the places applied before it, from the entry on, by its own
 -- place, and by the value.

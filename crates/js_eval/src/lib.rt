@@ -7,40 +7,20 @@
 //! when it closes. These reports are the *events*.
 #![tactic(auto)]
 
-mod answers;
-mod applied;
-mod applying;
-mod bundled;
-mod by_name;
-mod collecting;
-mod counted;
-mod cursor;
-mod here;
-mod in_turn;
+mod cursors;
+mod finished_world;
 mod instance;
-mod into;
-mod item_cursor;
-mod keyword;
-mod keyword_cursor;
-mod kind;
+mod judging;
+mod keywords;
 pub mod laws;
-mod list_cursor;
-mod member_cursor;
-mod name_cursor;
-mod name_set;
-mod others;
-mod pattern_cursor;
-mod recording;
+mod public_walks;
+mod reporters;
 mod schema;
-mod searchers;
-mod start;
-mod start_items;
-mod start_members;
-mod telling;
-mod turn;
+mod schema_lookup;
+mod searching;
 mod walking;
 
-pub use by_name::kind_of;
-pub use into::{verdict, walk, walk_into, walk_noted_rows, walk_rows};
-pub use kind::Kind;
+pub use keywords::kind::Kind;
+pub use keywords::kind_by_name::kind_of;
+pub use public_walks::{verdict, walk, walk_into, walk_noted_rows, walk_rows};
 pub use walking::WalkFault;

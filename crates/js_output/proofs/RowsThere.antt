@@ -7,7 +7,7 @@ use Rattle.js_tree.specs.Result.{ResultTree}
 use Rattle.js_tree.specs.Trimmed.{trimmed_tree}
 use Rattle.js_tree.specs.declared.forms.Format.{Format}
 use Rattle.js_tree.specs.declared.forms.Format.TheVariants.{Flag, Basic, Detailed, Merged, Verbose}
-use Rattle.js_tree.specs.declared.relative.RelativeRows.{RelativeRows}
+use Rattle.js_tree.specs.declared.relative.rows.RelativeRows.{RelativeRows}
 use Rattle.js_bundle.specs.Document.{Documents}
 use Rattle.js_bundle.specs.Schemas.{is_place, place_at}
 use Rattle.js_eval.specs.Walked as walked

@@ -11,7 +11,7 @@ use Rattle.js_tree.specs.Result.{pruned}
 use Rattle.js_tree.specs.Trimmed.{trimmed_tree}
 use Rattle.js_tree.specs.declared.forms.Format.{Format}
 use Rattle.js_tree.specs.declared.forms.Format.TheVariants.{Flag, Basic, Verbose}
-use Rattle.js_tree.specs.declared.relative.RelativeRows.{RelativeRows}
+use Rattle.js_tree.specs.declared.relative.rows.RelativeRows.{RelativeRows}
 use Rattle.js_bundle.specs.Document as bundle
 use Rattle.js_bundle.specs.Resource.{Site}
 use Rattle.js_eval.specs.Bundle.{schemas_of}

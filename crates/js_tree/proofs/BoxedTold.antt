@@ -7,8 +7,8 @@ use Rattle.js_tree.specs.Forest.{Forest, empty, tree, forest_of, ◌⊹◌}
 use Rattle.js_tree.specs.Note.{Note}
 use Rattle.js_tree.specs.OutputUnit.{OutputUnit}
 use Rattle.js_tree.specs.Result.{ResultTree}
-use Rattle.js_tree.specs.declared.boxed.OpenTree.{OpenTree}
-use Rattle.js_tree.specs.declared.boxed.Boxed.{Boxed}
+use Rattle.js_tree.specs.declared.collecting.boxed.OpenTree.{OpenTree}
+use Rattle.js_tree.specs.declared.collecting.boxed.Boxed.{Boxed}
 use Rattle.js_tree.proofs.Forests.{append-empty, append-append, forest_of-append}
 use Rattle.js_tree.proofs.Telling.{passes-after_all, after_all-append}
 

@@ -14,8 +14,8 @@ use Rattle.js_tree.specs.Result.{ResultTree, has_verdict, kept, pruned}
 use Rattle.js_tree.specs.Step.{at_least_one, at_least_two}
 use Rattle.js_tree.specs.code.Listing.{children_text, condensed, detailed, detailed_node, detailed_tree, values_text}
 use Rattle.js_tree.specs.code.NodeText.{beginning_text, end_text, error_part, given_text}
-use Rattle.js_tree.specs.declared.relative.RelativeRow.{RelativeRow}
-use Rattle.js_tree.specs.declared.relative_marks.Mark.{Mark}
+use Rattle.js_tree.specs.declared.relative.rows.RelativeRow.{RelativeRow}
+use Rattle.js_tree.specs.declared.relative.marks.Mark.{Mark}
 use Rattle.js_tree.proofs.KeptTree.{tree_count-kept_below}
 use Rattle.js_tree.proofs.ListedUnits.{agrees_placed, array_text}
 use Rattle.js_tree.proofs.NodeTexts.{annotations, errors, pieces_are}

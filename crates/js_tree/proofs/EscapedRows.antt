@@ -11,9 +11,9 @@ use Rattle.js_tree.specs.Relative.{escaped, escaped_tree, escaped_unit}
 use Rattle.js_tree.specs.RelativeState.{keyword_part, relative_row}
 use Rattle.js_tree.specs.Result.{ResultTree, has_verdict}
 use Rattle.js_tree.specs.code.RelativeText.{AreRowsOfTree, AreRowsOfTrees, IsAbsolute}
-use Rattle.js_tree.specs.declared.locations.Locations.{Locations}
-use Rattle.js_tree.specs.declared.relative.RelativeRow.{RelativeRow}
-use Rattle.js_tree.specs.declared.relative.RelativeRows.{RelativeRows}
+use Rattle.js_tree.specs.declared.relative.locations.Locations.{Locations}
+use Rattle.js_tree.specs.declared.relative.rows.RelativeRow.{RelativeRow}
+use Rattle.js_tree.specs.declared.relative.rows.RelativeRows.{RelativeRows}
 use Rattle.js_tree.proofs.FlatRows.{SomeTree, all_gone, first_tree, some_tree}
 use Rattle.js_tree.proofs.Marks.{flat_form-flat_of}
 
@@ -104,7 +104,7 @@ marked-escaped v (tree u below after) =
 pub is_absolute : (x : RelativeRow) (u : OutputUnit) → (relative_row x).0 ≡ escaped_unit u → IsAbsolute x u.absolute
 is_absolute x u e = ap (λ y. y.absolute) e
 
-further : (found above added text more : List ℕ) → found ≡ above ++ added → above ≡ escape text → added ≡ escape more → found ≡ escape (text ++ more)
+pub further : (found above added text more : List ℕ) → found ≡ above ++ added → above ≡ escape text → added ≡ escape more → found ≡ escape (text ++ more)
 further found above added text more e a m =
     e ∙ (ap (λ l. l ++ added) a ∙ (ap (λ l. escape text ++ l) m ∙ sym (flat_map-append escape_byte text more)))
 

@@ -9,7 +9,7 @@ use Rattle.js_tree.specs.Forest.{Forest, empty, tree, node_count}
 use Rattle.js_tree.specs.Note.{Note}
 use Rattle.js_tree.specs.OutputUnit.{OutputUnit}
 use Rattle.js_tree.specs.Result.{ResultTree}
-use Rattle.js_tree.specs.declared.flat.Flat.{Flat}
+use Rattle.js_tree.specs.declared.collecting.flat.Flat.{Flat}
 use Rattle.js_tree.proofs.Telling.{passes-after_all, after_all-append}
 
 -- ---- the events of a tree

@@ -10,8 +10,8 @@ use Rattle.js_tree.specs.Result.{ResultTree, has_verdict, kept, pruned}
 use Rattle.js_tree.specs.Step.{at_least_one, at_least_two}
 use Rattle.js_tree.specs.code.Listing.{AreMarkedRows, condensed, kept_node}
 use Rattle.js_tree.specs.code.RelativeText.{AreRowsOfTrees}
-use Rattle.js_tree.specs.declared.relative.RelativeRow.{RelativeRow}
-use Rattle.js_tree.specs.declared.relative_marks.Mark.{Mark}
+use Rattle.js_tree.specs.declared.relative.rows.RelativeRow.{RelativeRow}
+use Rattle.js_tree.specs.declared.relative.marks.Mark.{Mark}
 use Rattle.js_tree.proofs.DetailedTrees.{count_left, left_trees-placed}
 use Rattle.js_tree.proofs.EscapedRows.{NextTree, no_trees}
 use Rattle.js_tree.proofs.Forests.{append-append, append-empty}
@@ -30,7 +30,7 @@ abbrev below_of : Bool → List ℕ → List ℕ → OutputUnit → Forest Outpu
 below_of v k i u below = condensed v (k ++ u.keyword) (i ++ u.instance) below
 
 -- what is kept of a tree, of whose root's mark this is
-abbrev kept_alone : Bool → List ℕ → List ℕ → OutputUnit → Forest OutputUnit → Mark → Forest OutputUnit
+abbrev pub kept_alone : Bool → List ℕ → List ℕ → OutputUnit → Forest OutputUnit → Mark → Forest OutputUnit
 kept_alone v k i u below m =
     if m.stays then tree (placed_unit k i u) (below_of v k i u below) empty else (if m.below then below_of v k i u below else empty)
 
@@ -62,7 +62,7 @@ first_at true v k i u below after e =
     ∙ ap (λ b. kept_alone v k i u below (if b then record { stays = noted u || at_least_two (left_trees v below); below = at_least_one (left_trees v below) } else record { stays = false; below = false }) ⊹ condensed v k i after) (sym e)
 first_at false v k i u below after e = let a = agrees_placed v k i u ∙ e in rw (a, e) refl
 
-kept_first : (v : Bool) (k i : List ℕ) (u : OutputUnit) (below after : Forest OutputUnit)
+pub kept_first : (v : Bool) (k i : List ℕ) (u : OutputUnit) (below after : Forest OutputUnit)
     → condensed v k i (tree u below after) ≡ (kept_alone v k i u below (mark_of v u (left_trees v below)) ⊹ condensed v k i after)
 kept_first v k i u below after = first_at (has_verdict v u) v k i u below after refl
 

@@ -1,3 +1,4 @@
+pub mod AddedRows
 pub mod AlikeTrees
 pub mod AlikeUnits
 pub mod BoxedTold
@@ -12,6 +13,7 @@ pub mod Giving
 pub mod MarkedRows
 pub mod Marks
 pub mod Forests
+pub mod KeptBetween
 pub mod KeptRows
 pub mod KeptTree
 pub mod ListedRows

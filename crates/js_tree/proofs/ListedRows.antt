@@ -17,8 +17,8 @@ use Rattle.js_tree.specs.Result.{ResultTree, has_verdict, pruned, units}
 use Rattle.js_tree.specs.code.NodeText.{error_part, head_text, list_start, tail_text, valid_text}
 use Rattle.js_tree.specs.code.Listing.{AllListed, AreListed, if_noted, later_after, leaves, listed, listed_tree, may_list, values_text}
 use Rattle.js_tree.specs.code.RelativeText.{AreRowsOfTree, AreRowsOfTrees, unit_there}
-use Rattle.js_tree.specs.declared.relative.RelativeRow.{RelativeRow}
-use Rattle.js_tree.specs.declared.relative.RelativeRows.{RelativeRows}
+use Rattle.js_tree.specs.declared.relative.rows.RelativeRow.{RelativeRow}
+use Rattle.js_tree.specs.declared.relative.rows.RelativeRows.{RelativeRows}
 use Rattle.js_tree.proofs.EscapedRows.{NextTree, no_trees}
 use Rattle.js_tree.proofs.ListedUnits.{array_text, gone_through, later_after-append, listed_all, passed_over, values_text-append}
 use Rattle.js_tree.proofs.Marks.{flat_form-flat_of}

@@ -9,8 +9,8 @@ use Rattle.js_tree.specs.RelativeState.{relative_row}
 use Rattle.js_tree.specs.Relative.{escaped, escaped_tree}
 use Rattle.js_tree.specs.code.Listing.{AreMarkedRows}
 use Rattle.js_tree.specs.code.RelativeText.{AreRowsOfTree}
-use Rattle.js_tree.specs.declared.relative.RelativeRow.{RelativeRow}
-use Rattle.js_tree.specs.declared.relative_marks.Mark.{Mark}
+use Rattle.js_tree.specs.declared.relative.rows.RelativeRow.{RelativeRow}
+use Rattle.js_tree.specs.declared.relative.marks.Mark.{Mark}
 use Rattle.js_tree.proofs.DetailedTrees.{first_left}
 use Rattle.js_tree.proofs.ChildTexts.{rest_of}
 use Rattle.js_tree.proofs.EscapedRows.{NextTree, count-escaped}

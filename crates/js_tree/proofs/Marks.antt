@@ -12,9 +12,9 @@ use Rattle.js_tree.specs.OutputUnit.{OutputUnit, noted}
 use Rattle.js_tree.specs.Pruned.{pruned_below}
 use Rattle.js_tree.specs.Result.{ResultTree, has_verdict}
 use Rattle.js_tree.specs.Step.{at_least_one, at_least_two}
-use Rattle.js_tree.specs.declared.compacting.Keep.{Keep}
-use Rattle.js_tree.specs.declared.compacting.Keep.TheVariants.{Verdict, Noted}
-use Rattle.js_tree.specs.declared.flat.Row.{Row}
+use Rattle.js_tree.specs.declared.reducing.compacting.Keep.{Keep}
+use Rattle.js_tree.specs.declared.reducing.compacting.Keep.TheVariants.{Verdict, Noted}
+use Rattle.js_tree.specs.declared.collecting.flat.Row.{Row}
 use Rattle.js_tree.proofs.Compaction.{pruned_below-append, kept_below-append, take-swap, drop-swap}
 use Rattle.js_tree.proofs.FlatTold.{length-flat_of}
 use Rattle.js_tree.proofs.FlatRows.{flat_of-append, map-drop, drop-append, drop-drop}

@@ -7,9 +7,9 @@ use Rattle.js_tree.specs.Step.{ForestStep, dropped, lifted, inside, beside, done
 use Rattle.js_tree.specs.Kept.{kept_by}
 use Rattle.js_tree.specs.Merged.{has_alike, MergeStep, condensed, doubled, deeper, further, MergeRun, ended, then_on}
 use Rattle.js_tree.specs.Moves.{mapped, chained, without_leaf, with_only_child, moved_at, moved_below_root, moved_by, replayed_by, without_alike, of_two, all_of_two}
-use Rattle.js_tree.specs.declared.moves.Rule.{Rule}
-use Rattle.js_tree.specs.declared.moves.Rule.TheVariants.{Drop, Lift, Merge}
-use Rattle.js_tree.specs.declared.moves.Move.{Move}
+use Rattle.js_tree.specs.declared.reducing.moves.Rule.{Rule}
+use Rattle.js_tree.specs.declared.reducing.moves.Rule.TheVariants.{Drop, Lift, Merge}
+use Rattle.js_tree.specs.declared.reducing.moves.Move.{Move}
 use Rattle.js_tree.proofs.Forests.{same_tree}
 use Rattle.js_tree.proofs.Steps.{step_takes_one, and_left, and_right}
 use Rattle.js_tree.proofs.KeptTree.{run-normal}

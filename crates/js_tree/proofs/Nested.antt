@@ -9,7 +9,7 @@ use Rattle.js_tree.specs.Forest.{Forest, empty, tree, ◌⊹◌, node_count}
 use Rattle.js_tree.specs.code.Nesting.{ends_after}
 use Rattle.js_tree.specs.OutputUnit.{OutputUnit}
 use Rattle.js_tree.specs.Result.{ResultTree}
-use Rattle.js_tree.specs.declared.flat.Row.{Row}
+use Rattle.js_tree.specs.declared.collecting.flat.Row.{Row}
 use Rattle.js_tree.proofs.FlatRows.{flat_of-append, map-drop, first_tree, all_gone}
 use Rattle.js_tree.proofs.Marks.{from, flat_of-from, flat_form-flat_of, rows_of}
 

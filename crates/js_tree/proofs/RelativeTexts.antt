@@ -18,8 +18,8 @@ use Rattle.js_tree.specs.Result.{ResultTree}
 use Rattle.js_tree.specs.Seen.{note_of}
 use Rattle.js_tree.specs.code.NodeText.{beginning_text, end_text, error_part, given_text}
 use Rattle.js_tree.specs.code.RelativeText.{AreRowsOfTrees, children_start, closing_text, inside_text, opening_text, unit_there}
-use Rattle.js_tree.specs.declared.locations.Locations.{Locations}
-use Rattle.js_tree.specs.declared.relative.RelativeRow.{RelativeRow}
+use Rattle.js_tree.specs.declared.relative.locations.Locations.{Locations}
+use Rattle.js_tree.specs.declared.relative.rows.RelativeRow.{RelativeRow}
 use Rattle.js_tree.proofs.EscapedRows.{no_trees}
 use Rattle.js_tree.proofs.FlatRows.{SomeTree}
 use Rattle.js_tree.proofs.NodeTexts.{annotations, errors, no_children, pieces_are}

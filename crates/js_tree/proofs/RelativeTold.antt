@@ -18,9 +18,9 @@ use Rattle.js_tree.specs.OutputUnit.{OutputUnit}
 use Rattle.js_tree.specs.Relative.{escaped, escaped_unit, relative, relative_unit}
 use Rattle.js_tree.specs.RelativeState.{OpenNode, RelativeState, escaped_row, relative_start, whole_relative, open_at, node_above, relative_opened, relative_closed, relative_after, rows_closed, row_goes, relative_row, open_node, open_nodes, relative_state}
 use Rattle.js_tree.specs.Result.{ResultTree}
-use Rattle.js_tree.specs.declared.relative.OpenNode.{OpenNode as DeclaredOpen}
-use Rattle.js_tree.specs.declared.relative.RelativeRow.{RelativeRow}
-use Rattle.js_tree.specs.declared.relative.RelativeRows.{RelativeRows}
+use Rattle.js_tree.specs.declared.relative.rows.OpenNode.{OpenNode as DeclaredOpen}
+use Rattle.js_tree.specs.declared.relative.rows.RelativeRow.{RelativeRow}
+use Rattle.js_tree.specs.declared.relative.rows.RelativeRows.{RelativeRows}
 use Rattle.js_tree.proofs.ChildTexts.{rest_of}
 use Rattle.js_tree.proofs.FlatTold.{closed_at, row_closed, with_closed-beyond}
 use Rattle.js_tree.proofs.Telling.{passes-after_all, after_all-append}

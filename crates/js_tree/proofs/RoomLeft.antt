@@ -7,8 +7,8 @@ use Rattle.js_tree.specs.Flat.{flat_form}
 use Rattle.js_tree.specs.Locations.{HasRoom, IsDown}
 use Rattle.js_tree.specs.RelativeState.{keyword_part, relative_row}
 use Rattle.js_tree.specs.Result.{ResultTree}
-use Rattle.js_tree.specs.declared.locations.Locations.{Locations}
-use Rattle.js_tree.specs.declared.relative.RelativeRow.{RelativeRow}
+use Rattle.js_tree.specs.declared.relative.locations.Locations.{Locations}
+use Rattle.js_tree.specs.declared.relative.rows.RelativeRow.{RelativeRow}
 
 first_and_rest : {R : Type 0} (f : R → ℕ) (rows : List R) (x : R) → 0 < length rows → x ≡ get_or rows 0 x → sum_by f rows ≡ f x + sum_by f (drop 1 rows)
 first_and_rest f [] x h is = absurd (omega (arith, h))

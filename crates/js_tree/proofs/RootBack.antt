@@ -10,8 +10,8 @@ use Rattle.js_tree.specs.OutputUnit.{OutputUnit}
 use Rattle.js_tree.specs.RelativeState.{AreRowsOf, AreTrimmedOf, IsRootAt, relative_after, relative_row, relative_state, rows_of_tree, whole_relative}
 use Rattle.js_tree.specs.Result.{ResultTree}
 use Rattle.js_tree.specs.Trimmed.{is_silent_leaf, trimmed, trimmed_tree}
-use Rattle.js_tree.specs.declared.relative.RelativeRow.{RelativeRow}
-use Rattle.js_tree.specs.declared.relative.RelativeRows.{RelativeRows}
+use Rattle.js_tree.specs.declared.relative.rows.RelativeRow.{RelativeRow}
+use Rattle.js_tree.specs.declared.relative.rows.RelativeRows.{RelativeRows}
 use Rattle.js_tree.proofs.RelativeTold.{at}
 use Rattle.js_tree.proofs.TrimmedTold.{tree_located}
 use Rattle.js_tree.proofs.Trimming.{silent_leaf}

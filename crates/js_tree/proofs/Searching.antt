@@ -6,10 +6,10 @@ use Rattle.js_tree.specs.Moves.{moved_at, moved_below_root}
 use Rattle.js_tree.specs.OutputUnit.{noted}
 use Rattle.js_tree.specs.Result.{ResultTree, moved}
 use Rattle.js_tree.specs.code.Search.{Searched}
-use Rattle.js_tree.specs.declared.moves.Move.{Move}
-use Rattle.js_tree.specs.declared.moves.Rule.{Rule}
-use Rattle.js_tree.specs.declared.moves.Search.{Search}
-use Rattle.js_tree.specs.declared.moves.Search.TheVariants.{Made, NotPossible, Further}
+use Rattle.js_tree.specs.declared.reducing.moves.Move.{Move}
+use Rattle.js_tree.specs.declared.reducing.moves.Rule.{Rule}
+use Rattle.js_tree.specs.declared.reducing.moves.Search.{Search}
+use Rattle.js_tree.specs.declared.reducing.moves.Search.TheVariants.{Made, NotPossible, Further}
 use Rattle.js_tree.proofs.Forests.{same_tree, replaced_by_same, nodes_through_le}
 use Rattle.js_tree.proofs.Siblings.{moved_inside, not_moved_inside, moved_at_none}
 

@@ -4,8 +4,8 @@ use Rattle.std.proofs.lemmas.Bool.{lt-ltb, le-ltb}
 use Rattle.js_tree.specs.Forest.{Forest, empty, tree, Rose, forest_of, ◌⊹◌, node_count}
 use Rattle.js_tree.specs.Merged.{has_alike}
 use Rattle.js_tree.specs.Moves.{mapped, without_leaf, with_only_child, moved_first, moved_at}
-use Rattle.js_tree.specs.declared.moves.Rule.{Rule}
-use Rattle.js_tree.specs.declared.moves.Rule.TheVariants.{Drop, Lift, Merge}
+use Rattle.js_tree.specs.declared.reducing.moves.Rule.{Rule}
+use Rattle.js_tree.specs.declared.reducing.moves.Rule.TheVariants.{Drop, Lift, Merge}
 use Rattle.js_tree.proofs.Forests.{append-empty, append-append, around, replaced, forest_of-append}
 use Rattle.js_tree.proofs.MovesAreSteps.{moved_at_lt}
 

@@ -10,9 +10,9 @@ use Rattle.js_tree.specs.FlatState.{FlatRow, opening_row}
 use Rattle.js_tree.specs.Note.{silent}
 use Rattle.js_tree.specs.RelativeState.{DropsSilentLeaf, OpenNode, RelativeState, escaped_row, node_above, open_at, open_nodes, relative_after, relative_closed, relative_opened, relative_row, relative_state, rows_closed, row_goes}
 use Rattle.js_tree.specs.declared.note.Note.TheVariants as note
-use Rattle.js_tree.specs.declared.relative.OpenNode.{OpenNode as DeclaredOpen}
-use Rattle.js_tree.specs.declared.relative.RelativeRow.{RelativeRow}
-use Rattle.js_tree.specs.declared.relative.RelativeRows.{RelativeRows}
+use Rattle.js_tree.specs.declared.relative.rows.OpenNode.{OpenNode as DeclaredOpen}
+use Rattle.js_tree.specs.declared.relative.rows.RelativeRow.{RelativeRow}
+use Rattle.js_tree.specs.declared.relative.rows.RelativeRows.{RelativeRows}
 use Rattle.js_tree.proofs.RelativeTold.{at, open_nodes-append, opened_below, opens}
 
 -- ---- states

@@ -14,7 +14,7 @@ use Rattle.js_tree.specs.Relative.{AreLocated, IsLocated, escaped, escaped_unit,
 use Rattle.js_tree.specs.RelativeState.{OpenNode, open_at, relative_after, relative_closed, relative_state, rows_closed, row_goes, trimmed_relative, trimming_start}
 use Rattle.js_tree.specs.Result.{ResultTree}
 use Rattle.js_tree.specs.Trimmed.{is_silent_leaf, trimmed, trimmed_tree}
-use Rattle.js_tree.specs.declared.relative.RelativeRows.{RelativeRows}
+use Rattle.js_tree.specs.declared.relative.rows.RelativeRows.{RelativeRows}
 use Rattle.js_tree.proofs.FlatTold.{closed_at, length-flat_of}
 use Rattle.js_tree.proofs.RelativeTold.{at, opened_below, unknown}
 use Rattle.js_tree.proofs.Telling.{passes-after_all, after_all-append}

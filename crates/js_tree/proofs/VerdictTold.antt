@@ -7,7 +7,7 @@ use Rattle.js_tree.specs.Forest.{Forest, empty, tree, height}
 use Rattle.js_tree.specs.OutputUnit.{OutputUnit}
 use Rattle.js_tree.specs.Result.{ResultTree}
 use Rattle.js_tree.specs.VerdictState.{VerdictState, verdict_start, verdict_opened, verdict_closed, verdict_after, verdict_state}
-use Rattle.js_tree.specs.declared.verdict.Verdict.{Verdict}
+use Rattle.js_tree.specs.declared.collecting.verdict.Verdict.{Verdict}
 use Rattle.js_tree.proofs.Telling.{passes-after_all, after_all-append}
 
 abbrev at : ℕ → VerdictState

@@ -5,8 +5,8 @@ use Rattle.js_tree.specs.Forest.{Forest, empty, tree, forest_of, ◌⊹◌}
 use Rattle.js_tree.specs.Note.{Note}
 use Rattle.js_tree.specs.OutputUnit.{OutputUnit}
 use Rattle.js_tree.specs.Result.{ResultTree}
-use Rattle.js_tree.specs.declared.boxed.OpenTree.{OpenTree}
-use Rattle.js_tree.specs.declared.boxed.Boxed.{Boxed}
+use Rattle.js_tree.specs.declared.collecting.boxed.OpenTree.{OpenTree}
+use Rattle.js_tree.specs.declared.collecting.boxed.Boxed.{Boxed}
 
 -- an open node: its locations, and the closed trees below it
 pub record Frame : Type 0 where

@@ -5,8 +5,8 @@ use Rattle.js_tree.specs.Flat.{flat_form}
 use Rattle.js_tree.specs.Note.{Note, silent}
 use Rattle.js_tree.specs.OutputUnit.{OutputUnit, noted}
 use Rattle.js_tree.specs.Result.{ResultTree}
-use Rattle.js_tree.specs.declared.flat.Row.{Row}
-use Rattle.js_tree.specs.declared.flat.Flat.{Flat}
+use Rattle.js_tree.specs.declared.collecting.flat.Row.{Row}
+use Rattle.js_tree.specs.declared.collecting.flat.Flat.{Flat}
 
 abbrev pub FlatRow : Type 0
 FlatRow = OutputUnit × ℕ

@@ -8,10 +8,10 @@ use Rattle.js_tree.specs.Relative.{IsLocated}
 use Rattle.js_tree.specs.RelativeState.{AreRowsOf, AreTrimmedOf, relative_after, relative_start, relative_state, trimming_start}
 use Rattle.js_tree.specs.Result.{ResultTree}
 use Rattle.js_tree.specs.VerdictState.{verdict_after, verdict_start, verdict_state}
-use Rattle.js_tree.specs.declared.boxed.Boxed.{Boxed}
-use Rattle.js_tree.specs.declared.flat.Flat.{Flat}
-use Rattle.js_tree.specs.declared.relative.RelativeRows.{RelativeRows}
-use Rattle.js_tree.specs.declared.verdict.Verdict.{Verdict}
+use Rattle.js_tree.specs.declared.collecting.boxed.Boxed.{Boxed}
+use Rattle.js_tree.specs.declared.collecting.flat.Flat.{Flat}
+use Rattle.js_tree.specs.declared.relative.rows.RelativeRows.{RelativeRows}
+use Rattle.js_tree.specs.declared.collecting.verdict.Verdict.{Verdict}
 
 abbrev pub VerdictHolds : Type 0
 VerdictHolds =

@@ -4,9 +4,9 @@ use Rattle.std.specs.Prelude.{◌≡◌, ℕ, ◌+◌, ◌≤◌, List, [], ◌+
 use Rattle.std.specs.List.{sum_by}
 use Rattle.json.specs.Print.{escape}
 use Rattle.js_tree.specs.RelativeState.{keyword_part}
-use Rattle.js_tree.specs.declared.locations.Locations.{Locations}
-use Rattle.js_tree.specs.declared.relative.RelativeRow.{RelativeRow}
-use Rattle.js_tree.specs.declared.relative.RelativeRows.{RelativeRows}
+use Rattle.js_tree.specs.declared.relative.locations.Locations.{Locations}
+use Rattle.js_tree.specs.declared.relative.rows.RelativeRow.{RelativeRow}
+use Rattle.js_tree.specs.declared.relative.rows.RelativeRows.{RelativeRows}
 
 -- how much the rows add to the keyword locations, all together, and to the instance locations
 abbrev pub keywords_added : List RelativeRow → ℕ

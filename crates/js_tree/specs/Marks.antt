@@ -8,9 +8,9 @@ use Rattle.js_tree.specs.Relative.{relative_tree}
 use Rattle.js_tree.specs.RelativeState.{AreRowsOf}
 use Rattle.js_tree.specs.Result.{ResultTree, has_verdict}
 use Rattle.js_tree.specs.Step.{at_least_one, at_least_two}
-use Rattle.js_tree.specs.declared.relative.RelativeRows.{RelativeRows}
-use Rattle.js_tree.specs.declared.relative_marks.Mark.{Mark}
-use Rattle.js_tree.specs.declared.relative_marks.RelativeMarks.{RelativeMarks}
+use Rattle.js_tree.specs.declared.relative.rows.RelativeRows.{RelativeRows}
+use Rattle.js_tree.specs.declared.relative.marks.Mark.{Mark}
+use Rattle.js_tree.specs.declared.relative.marks.RelativeMarks.{RelativeMarks}
 
 -- of how many of the trees something is left
 abbrev pub left_trees : Bool → Forest OutputUnit → ℕ

@@ -3,9 +3,9 @@ use Rattle.std.specs.Prelude.{ℕ, zero, suc, ◌-◌, Bool, true, false, ltb, i
 use Rattle.std.specs.List.{list_all}
 use Rattle.js_tree.specs.Forest.{Forest, empty, tree, Rose, ◌⊹◌, node_count}
 use Rattle.js_tree.specs.Merged.{has_alike}
-use Rattle.js_tree.specs.declared.moves.Rule.{Rule}
-use Rattle.js_tree.specs.declared.moves.Rule.TheVariants.{Drop, Lift, Merge}
-use Rattle.js_tree.specs.declared.moves.Move.{Move}
+use Rattle.js_tree.specs.declared.reducing.moves.Rule.{Rule}
+use Rattle.js_tree.specs.declared.reducing.moves.Rule.TheVariants.{Drop, Lift, Merge}
+use Rattle.js_tree.specs.declared.reducing.moves.Move.{Move}
 
 module _ {A B : Type 0} where
   abbrev pub mapped : (A → B) → Option A → Option B

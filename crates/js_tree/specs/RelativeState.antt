@@ -10,9 +10,9 @@ use Rattle.js_tree.specs.Relative.{IsLocated, escaped_tree, relative_tree}
 use Rattle.js_tree.specs.Result.{ResultTree}
 use Rattle.js_tree.specs.Seen.{note_of}
 use Rattle.js_tree.specs.Trimmed.{is_silent_leaf, trimmed, trimmed_tree}
-use Rattle.js_tree.specs.declared.relative.OpenNode.{OpenNode as DeclaredOpen}
-use Rattle.js_tree.specs.declared.relative.RelativeRow.{RelativeRow}
-use Rattle.js_tree.specs.declared.relative.RelativeRows.{RelativeRows}
+use Rattle.js_tree.specs.declared.relative.rows.OpenNode.{OpenNode as DeclaredOpen}
+use Rattle.js_tree.specs.declared.relative.rows.RelativeRow.{RelativeRow}
+use Rattle.js_tree.specs.declared.relative.rows.RelativeRows.{RelativeRows}
 
 -- an open node: the number of its row, and how long its locations are
 pub record OpenNode : Type 0 where

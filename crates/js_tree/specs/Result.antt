@@ -8,7 +8,7 @@ use Rattle.js_tree.specs.Kept.{kept_by}
 use Rattle.js_tree.specs.Units.{units_by}
 use Rattle.js_tree.specs.Pruned.{pruned_below}
 use Rattle.js_tree.specs.Moves.{moved_by, replayed_by}
-use Rattle.js_tree.specs.declared.moves.Move.{Move}
+use Rattle.js_tree.specs.declared.reducing.moves.Move.{Move}
 use Rattle.js_tree.specs.OutputUnit.{OutputUnit, noted}
 
 abbrev pub ResultTree : Type 0

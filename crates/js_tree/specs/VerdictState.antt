@@ -1,7 +1,7 @@
 -- The state of a collector of the root's verdict.
 use Rattle.std.specs.Prelude.{ℕ, ◌+◌, ◌-◌, ◌^◌, Bool, eqb, if◌then◌else◌, Option, Some, None}
 use Rattle.js_tree.specs.Events.{Event, opening, closing}
-use Rattle.js_tree.specs.declared.verdict.Verdict.{Verdict}
+use Rattle.js_tree.specs.declared.collecting.verdict.Verdict.{Verdict}
 
 -- the number of open nodes, and the root's verdict once it has closed
 pub record VerdictState : Type 0 where

@@ -12,10 +12,10 @@ ghost use Rattle.js_tree.specs.Seen.{note_of};
 ghost use Rattle.js_tree.specs.Units.{units_below};
 ghost use Rattle.js_tree.specs.declared.forms.Format.TheVariants.{Detailed};
 
-use crate::condensing::condense;
-use crate::merging::merge_condense;
 use crate::note::Note;
-use crate::pruning::prune;
+use crate::reducing::condensing::condense;
+use crate::reducing::merging::merge_condense;
+use crate::reducing::pruning::prune;
 use crate::tree::Tree;
 use crate::unit::Unit;
 use js_doc::{Doc, Items, Members, Memory, Text, Whole};

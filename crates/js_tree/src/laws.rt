@@ -12,7 +12,7 @@ ghost use Rattle.js_tree.specs.Note.{silent};
 ghost use Rattle.js_tree.specs.Relative.{IsLocated, placed_tree, relative_tree};
 ghost use Rattle.js_tree.specs.RelativeState.{RelativeState, relative_after};
 ghost use Rattle.js_tree.specs.Result.{ResultTree, Normal, Run, ResultStep, kept, moved, pruned, units};
-ghost use Rattle.js_tree.specs.declared.moves.Move.{Move};
+ghost use Rattle.js_tree.specs.declared.reducing.moves.Move.{Move};
 ghost use Rattle.js_tree.specs.Merged.{alike, firsts, has_alike};
 ghost use Rattle.js_tree.specs.MergedResult.{merged, without_keywords, NormalOfThree, RunOfThree, StepOfThree};
 ghost use Rattle.js_tree.specs.Moves.{of_two};

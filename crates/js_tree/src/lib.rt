@@ -4,67 +4,45 @@
 //! A node of a result tree stands for one application of a schema, or for one of its keywords. It holds an output unit:
 //! a verdict, three locations, and a *note*, which is an error, an annotation or nothing. A unit is *noted* if it has
 //! an error or an annotation.
+//!
+//! `collecting` receives a result's nodes, `reducing` prunes, condenses and merges trees and flat forms, `writing` makes
+//! their text, and `relative` does all of this with rows that keep only what their locations add to those above.
 #![tactic(auto)]
 
-mod boxed;
-mod collector;
-mod compacting;
-mod condensing;
-mod flat;
+mod collecting;
 mod forms;
 pub mod laws;
-mod likeness;
-mod line;
-mod locations;
-mod merging;
-mod moves;
-mod nesting;
-mod node_text;
 mod note;
-mod noted;
-mod noted_rows;
-mod order;
-mod pruning;
-mod putting;
+mod reducing;
 mod relative;
-mod relative_detailed;
-mod relative_kept;
-mod relative_marks;
-mod relative_merged;
-mod relative_text;
-mod relative_units;
-mod row_docs;
-mod row_text;
-mod sorting;
 mod tree;
-mod tree_text;
-mod unescaping;
 mod unit;
-mod verdict;
+mod writing;
 
-pub use boxed::Boxed;
-pub use collector::{Collector, Head};
-pub use compacting::{flat_condense, flat_prune};
-pub use condensing::{condense, is_normal};
-pub use flat::{Flat, Row};
+pub use collecting::boxed::Boxed;
+pub use collecting::collector::{Collector, Head};
+pub use collecting::flat::{Flat, Row};
+pub use collecting::verdict::Verdict;
 pub use forms::{Format, form, tree_doc};
-pub use locations::Locations;
-pub use merging::{is_merged, merge_condense};
-pub use moves::{Move, NoMove, Rule, apply, replay};
 pub use note::{Indexes, Names, Note};
-pub use noted::units;
-pub use noted_rows::flat_units;
-pub use pruning::prune;
-pub use putting::{put_flag, put_flat};
-pub use relative::{RelativeRow, RelativeRows};
-pub use relative_detailed::put_detailed;
-pub use relative_kept::kept_tree;
-pub use relative_marks::RelativeMarks;
-pub use relative_merged::merged_tree;
-pub use relative_text::put_verbose;
-pub use relative_units::put_basic;
-pub use row_docs::flat_doc;
+pub use reducing::compacting::{flat_condense, flat_prune};
+pub use reducing::condensing::{condense, is_normal};
+pub use reducing::merging::{is_merged, merge_condense};
+pub use reducing::moves::{Move, NoMove, Rule, apply, replay};
+pub use reducing::noted_rows::flat_units;
+pub use reducing::noted_units::units;
+pub use reducing::pruning::prune;
+pub use relative::basic_text::put_basic;
+pub use relative::detailed_text::put_detailed;
+pub use relative::keeping::kept_rows;
+pub use relative::kept_tree::kept_tree;
+pub use relative::locations::Locations;
+pub use relative::marks::RelativeMarks;
+pub use relative::merged_tree::merged_tree;
+pub use relative::rows::{RelativeRow, RelativeRows};
+pub use relative::verbose_text::put_verbose;
 pub use tree::{Tree, Trees};
-pub use tree_text::put_tree;
 pub use unit::Unit;
-pub use verdict::Verdict;
+pub use writing::format_text::{put_flag, put_flat};
+pub use writing::row_docs::flat_doc;
+pub use writing::tree_text::put_tree;

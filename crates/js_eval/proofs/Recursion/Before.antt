@@ -30,8 +30,8 @@ use Rattle.js_eval.specs.Passes.{passes_of}
 use Rattle.js_eval.specs.SchemaSet.{Text, SchemaSet, Alone}
 use Rattle.js_eval.specs.Verdict as verdict
 use Rattle.js_eval.specs.Verdict.{Known, within, asks, passes}
-use Rattle.js_eval.specs.declared.kind.Kind.{Kind}
-use Rattle.js_eval.specs.declared.kind.Kind.TheVariants.{Then, Else, Assertion, Annotation, UnevaluatedItems, UnevaluatedProperties}
+use Rattle.js_eval.specs.declared.keywords.kind.Kind.{Kind}
+use Rattle.js_eval.specs.declared.keywords.kind.Kind.TheVariants.{Then, Else, Assertion, Annotation, UnevaluatedItems, UnevaluatedProperties}
 use Rattle.js_eval.proofs.FoundByName.{IsAmong, AreAmong, all_of_filter, keywords_among}
 use Rattle.js_eval.proofs.NoCircle.{names_in_no_circle, indexes_in_no_circle}
 use Rattle.js_eval.specs.Walk.Keeping.{names_origin, indexes_origin}

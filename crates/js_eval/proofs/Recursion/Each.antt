@@ -14,7 +14,7 @@ use Rattle.js_eval.specs.Evaluated.{name_in_step, index_in_step}
 use Rattle.js_eval.specs.Location.{Location, at_application, step_tokens}
 use Rattle.js_eval.specs.SchemaSet.{Text, SchemaSet}
 use Rattle.js_eval.specs.Verdict.{within}
-use Rattle.js_eval.specs.declared.kind.Kind.{Kind}
+use Rattle.js_eval.specs.declared.keywords.kind.Kind.{Kind}
 use Rattle.js_eval.proofs.Lists.{and_true}
 use Rattle.js_tree.specs.Events.{Event, Passes, events, events_of}
 use Rattle.js_eval.specs.Walk.Keeping.{names_origin, indexes_origin, keeps}

@@ -14,8 +14,8 @@ use Rattle.js_eval.specs.Location.{Location, at_keyword_named}
 use Rattle.js_eval.specs.Note.{Note, keyword_note}
 use Rattle.js_eval.specs.Passes.{how_many}
 use Rattle.js_eval.specs.SchemaSet.{Text, SchemaSet}
-use Rattle.js_eval.specs.declared.kind.Kind.{Kind}
-use Rattle.js_eval.specs.declared.kind.Kind.TheVariants.{AnyOf, Properties}
+use Rattle.js_eval.specs.declared.keywords.kind.Kind.{Kind}
+use Rattle.js_eval.specs.declared.keywords.kind.Kind.TheVariants.{AnyOf, Properties}
 use Rattle.js_eval.proofs.HowMany.{count_of}
 use Rattle.js_tree.specs.Events.{Event, opening, closing, opening_of, closing_of, events_of}
 use Rattle.js_eval.specs.Walk.Said.{keyword_says}

@@ -20,8 +20,8 @@ use Rattle.js_eval.specs.Kind.{Applicator, kind, kind_in, applicators}
 use Rattle.js_eval.specs.SchemaSet.{Text, SchemaSet, Alone}
 use Rattle.js_eval.specs.Verdict as verdict
 use Rattle.js_eval.specs.Verdict.{Known}
-use Rattle.js_eval.specs.declared.kind.Kind.{Kind}
-use Rattle.js_eval.specs.declared.kind.Kind.TheVariants.{If, Then, Else, Contains, Assertion, Annotation}
+use Rattle.js_eval.specs.declared.keywords.kind.Kind.{Kind}
+use Rattle.js_eval.specs.declared.keywords.kind.Kind.TheVariants.{If, Then, Else, Contains, Assertion, Annotation}
 use Rattle.js_eval.proofs.FoundByName.{IsAmong, AreAmong, keywords_among}
 use Rattle.js_eval.specs.Walk.Keeping.{condition_step, matching_step}
 

@@ -9,8 +9,8 @@ use Rattle.js_eval.specs.Applications.{Application}
 use Rattle.js_eval.specs.Evaluated.{names_of, indexes_of, names_applied, indexes_applied, name_in_step, index_in_step}
 use Rattle.js_eval.specs.SchemaSet.{Text, SchemaSet}
 use Rattle.js_eval.specs.Verdict.{within, schema_settled, schema_passes}
-use Rattle.js_eval.specs.declared.kind.Kind.{Kind}
-use Rattle.js_eval.specs.declared.kind.Kind.TheVariants.{PrefixItems, Properties}
+use Rattle.js_eval.specs.declared.keywords.kind.Kind.{Kind}
+use Rattle.js_eval.specs.declared.keywords.kind.Kind.TheVariants.{PrefixItems, Properties}
 use Rattle.js_eval.specs.Walk.Keeping.{names_origin, indexes_origin, keeps}
 use Rattle.js_eval.specs.declared.walking.keeping.Origin.{Origin}
 use Rattle.js_eval.specs.declared.walking.keeping.Origin.TheVariants.{Applied, Holding, Below, Nowhere}

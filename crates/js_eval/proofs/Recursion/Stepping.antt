@@ -13,7 +13,7 @@ use Rattle.js_eval.specs.Keywords.{Keyword, keywords}
 use Rattle.js_eval.specs.Kind.{kind}
 use Rattle.js_eval.specs.Location.{step_tokens}
 use Rattle.js_eval.specs.SchemaSet.{Text, SchemaSet, Step}
-use Rattle.js_eval.specs.declared.kind.Kind.{Kind}
+use Rattle.js_eval.specs.declared.keywords.kind.Kind.{Kind}
 use Rattle.js_tree.specs.Events.{Event, opening, closing}
 use Rattle.js_tree.specs.Note.{silent}
 use Rattle.js_eval.specs.Walk.Keeping.{condition_step, matching_step}

@@ -16,8 +16,8 @@ use Rattle.js_eval.specs.Kind.{kind}
 use Rattle.js_eval.specs.SchemaSet.{Text, SchemaSet}
 use Rattle.js_eval.specs.Size.{nodes_of_keyword}
 use Rattle.js_eval.specs.Verdict.{Known, asks, passes, gives_names, gives_indexes, names_by, passes_by}
-use Rattle.js_eval.specs.declared.kind.Kind.{Kind}
-use Rattle.js_eval.specs.declared.kind.Kind.TheVariants.{Assertion, Annotation}
+use Rattle.js_eval.specs.declared.keywords.kind.Kind.{Kind}
+use Rattle.js_eval.specs.declared.keywords.kind.Kind.TheVariants.{Assertion, Annotation}
 use Rattle.js_eval.specs.Walk.Keeping.{condition_step, matching_step, names_origin, indexes_origin}
 use Rattle.js_eval.specs.declared.walking.keeping.Origin.{Origin}
 use Rattle.js_eval.specs.declared.walking.keeping.Origin.TheVariants.{Nowhere}

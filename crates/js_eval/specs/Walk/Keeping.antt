@@ -1,7 +1,7 @@
 -- What a keyword has evaluated of an instance, application by application.
 use Rattle.std.specs.Prelude.{ℕ, ◌==◌, List, [], Bool, cond, Option, Some}
-use Rattle.js_eval.specs.declared.kind.Kind.{Kind}
-use Rattle.js_eval.specs.declared.kind.Kind.TheVariants.{Reference, DynamicReference, AllOf, AnyOf, OneOf, If, Then, Else, DependentSchemas, PrefixItems, Items, Contains, Properties, PatternProperties, AdditionalProperties, UnevaluatedItems, UnevaluatedProperties}
+use Rattle.js_eval.specs.declared.keywords.kind.Kind.{Kind}
+use Rattle.js_eval.specs.declared.keywords.kind.Kind.TheVariants.{Reference, DynamicReference, AllOf, AnyOf, OneOf, If, Then, Else, DependentSchemas, PrefixItems, Items, Contains, Properties, PatternProperties, AdditionalProperties, UnevaluatedItems, UnevaluatedProperties}
 use Rattle.js_eval.specs.declared.walking.keeping.Origin.{Origin}
 use Rattle.js_eval.specs.declared.walking.keeping.Origin.TheVariants.{Applied, Holding, Below, Nowhere}
 

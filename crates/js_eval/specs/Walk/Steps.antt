@@ -7,7 +7,7 @@ use Rattle.js_eval.specs.Keywords.{Keyword}
 use Rattle.js_eval.specs.Location.{Location}
 use Rattle.js_eval.specs.Passes.{how_many}
 use Rattle.js_eval.specs.SchemaSet.{Text, SchemaSet}
-use Rattle.js_eval.specs.declared.kind.Kind.{Kind}
+use Rattle.js_eval.specs.declared.keywords.kind.Kind.{Kind}
 use Rattle.js_tree.specs.Events.{Event, opening, closing}
 use Rattle.js_eval.specs.Walk.Keeping.{keeps, names_origin, indexes_origin}
 use Rattle.js_eval.specs.Walk.Told.{IsAt, IsWayRestored, NodeWalked, NodeTold, KeywordWalked, KeywordTold, EachWalked, EachTold, passes_at, says_at, schema_says, at_name, at_step}

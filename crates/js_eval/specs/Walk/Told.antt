@@ -17,7 +17,7 @@ use Rattle.js_eval.specs.Result.{OutputUnit, ResultTree, IsNode, AreSchemaNodes}
 use Rattle.js_eval.specs.SchemaSet.{Text, SchemaSet, Step}
 use Rattle.js_eval.specs.Size.{node_total}
 use Rattle.js_eval.specs.Verdict.{within, accepts}
-use Rattle.js_eval.specs.declared.kind.Kind.{Kind}
+use Rattle.js_eval.specs.declared.keywords.kind.Kind.{Kind}
 use Rattle.js_eval.specs.Walk.Said.{keyword_says}
 use Rattle.js_tree.specs.Events.{Event, Passes, events, events_of}
 use Rattle.js_eval.specs.declared.walking.way.Way.{Way}

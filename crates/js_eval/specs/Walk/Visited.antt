@@ -6,8 +6,8 @@ use Rattle.js_doc.specs.Value.{Value}
 use Rattle.js_eval.specs.Keywords.{Keyword}
 use Rattle.js_eval.specs.Kind.{kind}
 use Rattle.js_eval.specs.SchemaSet.{SchemaSet}
-use Rattle.js_eval.specs.declared.kind.Kind.{Kind}
-use Rattle.js_eval.specs.declared.kind.Kind.TheVariants.{Assertion, Annotation}
+use Rattle.js_eval.specs.declared.keywords.kind.Kind.{Kind}
+use Rattle.js_eval.specs.declared.keywords.kind.Kind.TheVariants.{Assertion, Annotation}
 use Rattle.js_eval.specs.declared.walking.tally.Others.{Others}
 use Rattle.js_eval.specs.Walk.Told.{keywords_at, passes_at}
 

@@ -12,10 +12,10 @@ use Rattle.js_eval.specs.SchemaSet.{Step, Alone, Index, Name}
 use Rattle.js_eval.specs.Seen.{step_of, instance_of}
 use Rattle.js_eval.specs.Sited.{numbered_site}
 use Rattle.js_eval.specs.declared.instance.Applied.{Applied}
-use Rattle.js_eval.specs.declared.applied.Held.{Held}
-use Rattle.js_eval.specs.declared.applied.Held.TheVariants.{One, Each}
-use Rattle.js_eval.specs.declared.applied.To.{To}
-use Rattle.js_eval.specs.declared.applied.To.TheVariants as to
+use Rattle.js_eval.specs.declared.cursors.application.Held.{Held}
+use Rattle.js_eval.specs.declared.cursors.application.Held.TheVariants.{One, Each}
+use Rattle.js_eval.specs.declared.cursors.application.To.{To}
+use Rattle.js_eval.specs.declared.cursors.application.To.TheVariants as to
 
 abbrev pub applied_of : Documents → Applied → Application Site
 applied_of documents a = record { place = numbered_site documents a.place; step = step_of a.step; at = step_of a.at; value = instance_of a.value }

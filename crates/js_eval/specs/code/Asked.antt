@@ -11,9 +11,9 @@ use Rattle.js_eval.specs.code.ListLeft.{IsList, list_asked}
 use Rattle.js_eval.specs.code.NamesLeft.{IsNames, names_asked}
 use Rattle.js_eval.specs.code.Standing.{IsSchemaAt}
 use Rattle.js_eval.specs.declared.instance.Applied.{Applied}
-use Rattle.js_eval.specs.declared.cursor.Asking.{Asking}
-use Rattle.js_eval.specs.declared.cursor.Asking.TheVariants.{One, List, Names, Items, Members, Patterns}
-use Rattle.js_eval.specs.declared.pattern_cursor.PatternCursor.{PatternCursor}
+use Rattle.js_eval.specs.declared.cursors.asking.Asking.{Asking}
+use Rattle.js_eval.specs.declared.cursors.asking.Asking.TheVariants.{One, List, Names, Items, Members, Patterns}
+use Rattle.js_eval.specs.declared.cursors.pattern_cursor.PatternCursor.{PatternCursor}
 
 abbrev pub one_asked : Documents → Option Applied → prelude.List (Application Site)
 one_asked documents None = []

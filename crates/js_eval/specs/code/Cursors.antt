@@ -18,12 +18,12 @@ use Rattle.js_eval.specs.code.Standing.{IsSchemaAt}
 use Rattle.js_eval.specs.Bundle.{schemas_of}
 use Rattle.js_eval.specs.SchemaSet.{Text, Index, Name}
 use Rattle.js_eval.specs.Sited.{numbered_site}
-use Rattle.js_eval.specs.declared.item_cursor.ItemCursor.{ItemCursor}
-use Rattle.js_eval.specs.declared.member_cursor.Choice.{Choice}
-use Rattle.js_eval.specs.declared.member_cursor.Choice.TheVariants as choice
-use Rattle.js_eval.specs.declared.member_cursor.MemberCursor.{MemberCursor}
-use Rattle.js_eval.specs.declared.pattern_cursor.PatternCursor.{PatternCursor}
-use Rattle.js_eval.specs.declared.searchers.NamedPattern.{NamedPattern}
+use Rattle.js_eval.specs.declared.cursors.item_cursor.ItemCursor.{ItemCursor}
+use Rattle.js_eval.specs.declared.cursors.member_cursor.Choice.{Choice}
+use Rattle.js_eval.specs.declared.cursors.member_cursor.Choice.TheVariants as choice
+use Rattle.js_eval.specs.declared.cursors.member_cursor.MemberCursor.{MemberCursor}
+use Rattle.js_eval.specs.declared.cursors.pattern_cursor.PatternCursor.{PatternCursor}
+use Rattle.js_eval.specs.declared.searching.searchers.NamedPattern.{NamedPattern}
 
 -- ---- items
 

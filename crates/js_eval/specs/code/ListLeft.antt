@@ -12,7 +12,7 @@ use Rattle.js_eval.specs.Seen.{instance_of, keyword_of}
 use Rattle.js_eval.specs.Sited.{numbered_site}
 use Rattle.js_eval.specs.code.Holding.{IsIn, held_at}
 use Rattle.js_eval.specs.code.Standing.{IsSchemaAt}
-use Rattle.js_eval.specs.declared.list_cursor.ListCursor.{ListCursor}
+use Rattle.js_eval.specs.declared.cursors.list_cursor.ListCursor.{ListCursor}
 
 abbrev pub list_asked : Documents → ListCursor → List (Application Site)
 list_asked documents c =

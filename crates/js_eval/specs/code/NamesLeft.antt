@@ -16,9 +16,9 @@ use Rattle.js_eval.specs.Seen.{keyword_of}
 use Rattle.js_eval.specs.Sited.{numbered_site}
 use Rattle.js_eval.specs.code.Holding.{IsIn, held_at}
 use Rattle.js_eval.specs.code.Standing.{IsSchemaAt}
-use Rattle.js_eval.specs.declared.name_cursor.Among.{Among}
-use Rattle.js_eval.specs.declared.name_cursor.Among.TheVariants.{All, Left}
-use Rattle.js_eval.specs.declared.name_cursor.NameCursor.{NameCursor}
+use Rattle.js_eval.specs.declared.cursors.name_cursor.Among.{Among}
+use Rattle.js_eval.specs.declared.cursors.name_cursor.Among.TheVariants.{All, Left}
+use Rattle.js_eval.specs.declared.cursors.name_cursor.NameCursor.{NameCursor}
 
 -- the schema of a name, applied to the member of that name
 abbrev pub on_member : Documents → ℕ → Text → Text × doc.Value → Application Site

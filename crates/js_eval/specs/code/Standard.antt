@@ -9,10 +9,10 @@ use Rattle.js_doc.specs.Value.{Named}
 use Rattle.js_bundle.specs.KeywordName.{keyword_name}
 use Rattle.js_bundle.specs.declared.keyword_name.KeywordName.{KeywordName}
 use Rattle.js_bundle.specs.declared.keyword_name.KeywordName.TheVariants as name
-use Rattle.js_eval.specs.declared.kind.Kind.{Kind}
-use Rattle.js_eval.specs.declared.kind.Kind.TheVariants as kind
-use Rattle.js_eval.specs.declared.turn.Turn.{Turn}
-use Rattle.js_eval.specs.declared.turn.Turn.TheVariants as turn
+use Rattle.js_eval.specs.declared.keywords.kind.Kind.{Kind}
+use Rattle.js_eval.specs.declared.keywords.kind.Kind.TheVariants as kind
+use Rattle.js_eval.specs.declared.keywords.turn.Turn.{Turn}
+use Rattle.js_eval.specs.declared.keywords.turn.Turn.TheVariants as turn
 
 abbrev pub kind_by : KeywordName → Kind
 kind_by name.Ref = kind.Reference

@@ -2,7 +2,7 @@
 ghost use Rattle.std.specs.Prelude.{◌≡◌, ◌++◌, OnOk, take, drop, cond, option_to_list};
 ghost use Rattle.js_eval.specs.Walk.Keeping.{keeps, names_origin, indexes_origin};
 
-use crate::kind::Kind;
+use crate::keywords::kind::Kind;
 use js_doc::Memory;
 
 /// Which members or items a keyword has evaluated.

@@ -7,7 +7,7 @@ ghost use Rattle.js_eval.specs.Walk.Steps.{NodeDone, KeywordDone, EachDone};
 ghost use Rattle.js_eval.specs.Walk.Told.{IsKeywordAt, HasNone, KeywordHasNone, SomeHasNone, asked_by};
 ghost use Rattle.js_eval.specs.Walked.{OnTooLarge};
 
-use crate::kind::Kind;
+use crate::keywords::kind::Kind;
 use crate::walking::fault::WalkFault;
 use crate::walking::pointer_text::PointerText;
 use crate::walking::reporter::Reporter;

@@ -11,7 +11,7 @@ ghost use Rattle.js_eval.specs.Walk.Told.{IsKeywordAt, asked_by, says_at};
 ghost use Rattle.js_tree.specs.Note.{silent};
 ghost use Rattle.js_eval.specs.Walk.Visited.{AreJudgedIf};
 
-use crate::kind::Kind;
+use crate::keywords::kind::Kind;
 use crate::walking::keeping::{cut_unless, indexes_origin, keep, names_origin};
 use crate::walking::pointer_text::PointerText;
 use crate::walking::reporter::Reporter;

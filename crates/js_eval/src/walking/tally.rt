@@ -2,7 +2,7 @@
 ghost use Rattle.std.specs.Prelude.{◌≡◌, ◌&&◌, ◌≤◌, ◌<◌, ◌+◌, cond};
 ghost use Rattle.js_eval.specs.Walk.Keeping.{condition_step, matching_step};
 
-use crate::kind::Kind;
+use crate::keywords::kind::Kind;
 use js_bundle::Place;
 
 /// What is evaluated: a keyword of the schema at a place, on a value.

@@ -13,7 +13,7 @@ ghost use Rattle.js_eval.specs.SchemaSet.{Text as Bytes, SchemaSet};
 ghost use Rattle.js_eval.specs.Walk.Visited.{AreJudged, is_visited};
 ghost use Rattle.js_eval.specs.Walk.Told.{IsKeywordAt, asked_by, accepts_at, keywords_at, kind_at, passes_at, at_name, at_step};
 
-use crate::kind::Kind;
+use crate::keywords::kind::Kind;
 use crate::walking::path::Path;
 use crate::walking::pointer_text::PointerText;
 use crate::walking::tally::{Others, Tally};

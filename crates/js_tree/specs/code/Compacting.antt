@@ -7,9 +7,9 @@ use Rattle.js_tree.specs.Kept.{kept_below}
 use Rattle.js_tree.specs.Pruned.{pruned_below}
 use Rattle.js_tree.specs.Result.{ResultTree, has_verdict}
 use Rattle.js_tree.specs.Step.{at_least_one, at_least_two}
-use Rattle.js_tree.specs.declared.compacting.Keep.{Keep}
-use Rattle.js_tree.specs.declared.compacting.Keep.TheVariants.{Verdict, Noted}
-use Rattle.js_tree.specs.declared.flat.Row.{Row}
+use Rattle.js_tree.specs.declared.reducing.compacting.Keep.{Keep}
+use Rattle.js_tree.specs.declared.reducing.compacting.Keep.TheVariants.{Verdict, Noted}
+use Rattle.js_tree.specs.declared.collecting.flat.Row.{Row}
 
 -- what is left of the trees
 abbrev pub left : Keep → Forest OutputUnit → Forest OutputUnit

@@ -15,8 +15,8 @@ use Rattle.js_tree.specs.Relative.{placed, placed_unit}
 use Rattle.js_tree.specs.Result.{ResultTree, has_verdict}
 use Rattle.js_tree.specs.Units.{units_below}
 use Rattle.js_tree.specs.code.RelativeText.{AreRowsOfTrees}
-use Rattle.js_tree.specs.declared.relative.RelativeRow.{RelativeRow}
-use Rattle.js_tree.specs.declared.relative_marks.Mark.{Mark}
+use Rattle.js_tree.specs.declared.relative.rows.RelativeRow.{RelativeRow}
+use Rattle.js_tree.specs.declared.relative.marks.Mark.{Mark}
 
 -- the values from somewhere in the array on, with commas between
 abbrev pub values_text : Bool → List Value → List ℕ

@@ -12,7 +12,7 @@ use Rattle.js_tree.specs.RelativeState.{absolute_part, relative_row}
 use Rattle.js_tree.specs.Result.{ResultTree}
 use Rattle.js_tree.specs.Seen.{note_of}
 use Rattle.js_tree.specs.code.NodeText.{given_text, valid_text}
-use Rattle.js_tree.specs.declared.relative.RelativeRow.{RelativeRow}
+use Rattle.js_tree.specs.declared.relative.rows.RelativeRow.{RelativeRow}
 
 -- the rows are those of the trees, whose locations have no escapes
 abbrev pub AreRowsOfTrees : List RelativeRow → Forest OutputUnit → Type 0

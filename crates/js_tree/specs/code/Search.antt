@@ -4,9 +4,9 @@ use Rattle.js_tree.specs.Alike.{same_but_keyword}
 use Rattle.js_tree.specs.Forest.{Forest, empty, node_count}
 use Rattle.js_tree.specs.Moves.{moved_at}
 use Rattle.js_tree.specs.OutputUnit.{OutputUnit, noted}
-use Rattle.js_tree.specs.declared.moves.Rule.{Rule}
-use Rattle.js_tree.specs.declared.moves.Search.{Search}
-use Rattle.js_tree.specs.declared.moves.Search.TheVariants.{Made, NotPossible, Further}
+use Rattle.js_tree.specs.declared.reducing.moves.Rule.{Rule}
+use Rattle.js_tree.specs.declared.reducing.moves.Search.{Search}
+use Rattle.js_tree.specs.declared.reducing.moves.Search.TheVariants.{Made, NotPossible, Further}
 
 -- the move leads from f to g; or it isn't possible in f; or its node comes `rest` nodes after those of f
 abbrev pub Searched : Search → Rule → ℕ → Forest OutputUnit → Forest OutputUnit → Type 0

@@ -1,0 +1,5 @@
+use Rattle.js_eval.proofs.AskedNothing.{none_of_each}
+use Rattle.js_eval.proofs.cursors.start_members.patterns.Goals as goal
+
+pub returns-in-None-clause-asked : goal.returns-in-None-clause-asked
+returns-in-None-clause-asked c = rw (c.in-None.ensures, none_of_each)

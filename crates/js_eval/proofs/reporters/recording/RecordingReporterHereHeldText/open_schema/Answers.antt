@@ -1,0 +1,11 @@
+use Rattle.std.proofs.Common.{◌∙◌, append-nil}
+use Rattle.js_tree.specs.RelativeState.{relative_state}
+use Rattle.js_eval.proofs.OpeningsAlike.{opening_alike}
+use Rattle.js_eval.proofs.Paths.{location_is}
+use Rattle.js_eval.proofs.reporters.recording.RecordingReporterHereHeldText.open_schema.Goals as goal
+
+pub returns : goal.returns
+returns c =
+    let schema = c.absolute_of-absolute.result.now in
+    let e = append-nil schema ∙ location_is c.args.world.now.schemas.now c.args.place schema c.absolute_of-absolute.ensures in
+    opening_alike c.enter.result (relative_state c.enter.new.self) (relative_state c.args.self.now.rows) c.as_str.ensures e c.as_str-2.ensures c.enter.ensures

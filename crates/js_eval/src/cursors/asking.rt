@@ -1,0 +1,93 @@
+//! The applications that a keyword asks for, one after another (Core, sections 8.2.3, 10 and 11).
+ghost use Rattle.std.specs.Prelude.{◌≡◌, ◌∷◌, [], IfOk, MatchOption};
+ghost use Rattle.js_bundle.specs.Document.{Documents};
+ghost use Rattle.js_doc.specs.Seen.{value_of};
+ghost use Rattle.js_eval.specs.code.Applied.{applied_of};
+ghost use Rattle.js_eval.specs.code.Asked.{IsApplied, IsAsking, IsOne, asked, one_asked};
+ghost use Rattle.js_eval.specs.code.Standing.{IsSchemaAt};
+ghost use Rattle.js_eval.specs.SchemaSet as spec;
+ghost use Rattle.js_eval.specs.Seen.{instance_of};
+ghost use Rattle.js_eval.specs.Sited.{numbered_site};
+
+use crate::cursors::item_cursor::{ItemCursor, next_on_item};
+use crate::cursors::list_cursor::{ListCursor, next_in_list};
+use crate::cursors::member_cursor::{MemberCursor, next_on_member};
+use crate::cursors::name_cursor::{NameCursor, next_of_names};
+use crate::cursors::pattern_cursor::{PatternCursor, next_matching};
+use crate::instance::{Applied, Instance};
+use crate::searching::searchers::Searchers;
+use js_bundle::{Place, Schemas, Step};
+use js_doc::{Doc, Memory};
+use std::alloc::Global;
+
+/// The applications that a keyword still has to ask for.
+#[derive(Drop)]
+pub(crate) enum Asking<'a> {
+    /// At most one application.
+    One(Option<Applied<'a>>),
+    List(ListCursor<'a>),
+    Items(ItemCursor<'a>),
+    Names(NameCursor<'a>),
+    // These are boxed, because they are the largest: each level of the recursion holds an `Asking`, and one is cleared
+    // and copied several times for each keyword.
+    Members(Box<MemberCursor<'a>>),
+    Patterns(Box<PatternCursor<'a>>),
+}
+
+/// The schema at a place, applied to the value itself.
+pub(crate) fn alone<'a>(place: Place, schema: &'a Doc, value: Instance<'a>) -> Asking<'a>
+    ensures asked { (documents : Documents) → asked documents result
+        ≡ record {
+          place = numbered_site documents place;
+          step = spec.Alone;
+          at = spec.Alone;
+          value = instance_of value.entry;
+        } ∷ [] }
+    ensures is { (documents : Documents) → IsSchemaAt documents place (value_of schema.now)
+        → IsAsking documents result }
+{
+    Asking::One(Some(Applied {
+        place,
+        schema,
+        step: Step::Alone,
+        at: Step::Alone,
+        value,
+    }))
+}
+
+/// The next application, or None after the last.
+///
+/// # Errors
+/// `Memory` if an allocation fails; a search with a pattern may need one.
+pub(crate) fn next_asked<'a>(
+    alloc: Global,
+    schemas: &'a Schemas,
+    searchers: &Searchers<'a>,
+    asking: &mut Asking<'a>,
+) -> Result<Option<Applied<'a>>, Memory>
+    requires { IsAsking schemas.now asking.old }
+    ensures next { IfOk result (λ o. MatchOption o (asked schemas.now asking.old ≡ [])
+        (λ a. asked schemas.now asking.old ≡ applied_of schemas.now a ∷ asked schemas.now asking.new)) }
+    ensures applied { IfOk result (λ o. MatchOption o (Unit {0}) (λ a. IsApplied schemas.now a)) }
+    ensures is { IfOk result (λ _. IsAsking schemas.now asking.new) }
+{
+    match asking {
+        Asking::One(one) => Ok(next_alone(schemas, one)),
+        Asking::List(list) => Ok(next_in_list(schemas, list)),
+        Asking::Names(names) => Ok(next_of_names(schemas, names)),
+        Asking::Items(items) => Ok(next_on_item(schemas, items)),
+        Asking::Members(members) => next_on_member(alloc, schemas, searchers, members),
+        Asking::Patterns(patterns) => next_matching(alloc, schemas, searchers, patterns),
+    }
+}
+
+#[tactic(auto, using(crate::proofs::AskedNothing::taken, crate::proofs::AskedNothing::taken_applied))]
+fn next_alone<'a>(_schemas: &Schemas, one: &mut Option<Applied<'a>>) -> Option<Applied<'a>>
+    requires { IsOne _schemas.now one.old }
+    ensures next { MatchOption result (one_asked _schemas.now one.old ≡ [])
+        (λ a. one_asked _schemas.now one.old ≡ applied_of _schemas.now a ∷ one_asked _schemas.now one.new) }
+    ensures applied { MatchOption result (Unit {0}) (λ a. IsApplied _schemas.now a) }
+    ensures is { IsOne _schemas.now one.new }
+{
+    one.take()
+}

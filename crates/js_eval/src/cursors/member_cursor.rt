@@ -1,0 +1,348 @@
+//! Applications member by member (Core, sections 10.2.2.4, 10.3.2 and 11.3): a schema on each member that the keyword
+//! chooses by name, or on the value itself for each of the keyword's names that a member has.
+ghost use Rattle.std.specs.Prelude.{◌≡◌, ◌||◌, ◌∷◌, [], IfOk, MatchOption, filter, map, not};
+ghost use Rattle.std.specs.List.{list_any};
+ghost use Rattle.std.specs.Option.{option_map_or};
+ghost use Rattle.js_assert.specs.Argument.{entries, has};
+ghost use Rattle.js_assert.specs.Pattern.{matches};
+ghost use Rattle.js_bundle.specs.Document.{Documents};
+ghost use Rattle.js_doc.specs.Members.{get};
+ghost use Rattle.js_doc.specs.Seen.{value_of};
+ghost use Rattle.js_doc.specs.Value.{text};
+ghost use Rattle.js_eval.specs.Applications.{among_names, application};
+ghost use Rattle.js_eval.specs.code.Applied.{IsHeld, applied_of};
+ghost use Rattle.js_eval.specs.code.Asked.{IsApplied};
+ghost use Rattle.js_eval.specs.Bundle.{schemas_of};
+ghost use Rattle.js_eval.specs.code.Cursors.{is_chosen, is_matched, is_named, members_asked, chosen_members, named_in};
+ghost use Rattle.js_eval.specs.code.Standing.{IsSchemaAt};
+ghost use Rattle.js_eval.specs.SchemaSet as spec;
+ghost use Rattle.js_eval.specs.Seen.{instance_of, texts_of};
+ghost use Rattle.js_eval.specs.Sited.{numbered_site};
+
+use crate::cursors::application::{Held, To, apply_to_part};
+use crate::instance::{Applied, Instance, object_in};
+use crate::schema::argument_in;
+use crate::searching::name_set::{is_in, set_of};
+use crate::searching::searchers::{NamedPattern, Searchers};
+use js_bundle::{Place, Schemas, Step};
+use js_doc::{Doc, Members, Memory, Pairs};
+use std::alloc::Global;
+use std::collections::BTreeSet;
+
+/// Which members a keyword chooses, by their names.
+#[derive(Drop)]
+pub(crate) enum Choice<'a> {
+    All,
+    /// Those whose name is also a name of these.
+    Named(&'a Members),
+    /// Those that the adjacent `properties` and `patternProperties` don't cover.
+    Additional(Adjacent<'a>),
+    /// Those whose name isn't in this set.
+    Except(BTreeSet<&'a str>),
+}
+
+/// The arguments of the adjacent `properties` and `patternProperties`, if they are objects, and the schema's place.
+#[derive(Clone, Copy)]
+pub(crate) struct Adjacent<'a> {
+    pub place: Place,
+    pub properties: Option<&'a Members>,
+    pub patterns: Option<&'a Members>,
+}
+
+/// The applications that a keyword still has to ask for, one for each chosen member.
+#[derive(Drop)]
+pub(crate) struct MemberCursor<'a> {
+    pub held: Held<'a>,
+    pub to: To<'a>,
+    pub members: Pairs<'a>,
+    pub choice: Choice<'a>,
+}
+
+/// The schema of each name that a member has, applied to the member. It goes through the members.
+pub(crate) fn each_named<'a>(
+    place: Place,
+    schema: &'a Doc,
+    keyword: &'a str,
+    named: &'a Members,
+    members: &'a Members,
+) -> MemberCursor<'a>
+    ensures asked { (documents : Documents) → members_asked documents result
+        ≡ map (λ m. application (schemas_of documents) (numbered_site documents place) keyword.now (spec.Name m.0)
+        (spec.Name m.0) m.1)
+        (filter (λ m. has m.0 named.now) members.now) }
+    ensures held { (documents : Documents) → IsSchemaAt documents place (value_of schema.now)
+        → IsHeld documents result.held }
+{
+    MemberCursor {
+        held: Held::Each(place, schema, keyword),
+        to: To::Part,
+        members: members.pairs(),
+        choice: Choice::Named(named),
+    }
+}
+
+/// The schema of each name that a member has, applied to the value itself.
+pub(crate) fn each_in_place<'a>(
+    place: Place,
+    schema: &'a Doc,
+    keyword: &'a str,
+    named: &'a Members,
+    members: &'a Members,
+    value: Instance<'a>,
+) -> MemberCursor<'a>
+    ensures asked { (documents : Documents) → members_asked documents result
+        ≡ map (λ m. application (schemas_of documents) (numbered_site documents place) keyword.now
+        (spec.Name m.0) spec.Alone (instance_of value.entry))
+        (filter (λ m. has m.0 members.now) named.now) }
+    ensures held { (documents : Documents) → IsSchemaAt documents place (value_of schema.now)
+        → IsHeld documents result.held }
+{
+    MemberCursor {
+        held: Held::Each(place, schema, keyword),
+        to: To::Whole(value),
+        members: named.pairs(),
+        choice: Choice::Named(members),
+    }
+}
+
+/// The schema at a place, applied to each member's name, as a string.
+#[tactic(auto, using(crate::proofs::MembersLeft::all_chosen))]
+pub(crate) fn each_name<'a>(below: Place, schema: &'a Doc, members: &'a Members) -> MemberCursor<'a>
+    ensures asked { (documents : Documents) → members_asked documents result
+        ≡ map (λ m.
+        record { place = numbered_site documents below; step = spec.Alone; at = spec.Name m.0; value = text m.0 })
+        members.now }
+    ensures held { (documents : Documents) → IsSchemaAt documents below (value_of schema.now)
+        → IsHeld documents result.held }
+{
+    MemberCursor {
+        held: Held::One(below, schema),
+        to: To::Name,
+        members: members.pairs(),
+        choice: Choice::All,
+    }
+}
+
+/// The schema at a place, applied to each member that the adjacent keywords don't cover.
+pub(crate) fn each_additional<'a>(
+    below: Place,
+    schema: &'a Doc,
+    place: Place,
+    properties: Option<&'a Members>,
+    patterns: Option<&'a Members>,
+    members: &'a Members,
+) -> MemberCursor<'a>
+    ensures asked { (documents : Documents) → members_asked documents result
+        ≡ map (λ m.
+        record { place = numbered_site documents below; step = spec.Alone; at = spec.Name m.0; value = m.1 })
+        (filter (λ m. not (is_named properties.entry m.0 || is_matched patterns.entry m.0)) members.now) }
+    ensures held { (documents : Documents) → IsSchemaAt documents below (value_of schema.now)
+        → IsHeld documents result.held }
+{
+    MemberCursor {
+        held: Held::One(below, schema),
+        to: To::Part,
+        members: members.pairs(),
+        choice: Choice::Additional(Adjacent {
+            place,
+            properties,
+            patterns,
+        }),
+    }
+}
+
+/// The schema at a place, applied to each member whose name isn't one of these.
+///
+/// # Errors
+/// `Memory` if an allocation fails.
+pub(crate) fn each_other<'a>(
+    alloc: Global,
+    below: Place,
+    schema: &'a Doc,
+    names: &[&'a str],
+    members: &'a Members,
+) -> Result<MemberCursor<'a>, Memory>
+    ensures asked { IfOk result (λ c. (documents : Documents) → members_asked documents c
+        ≡ map (λ m.
+        record { place = numbered_site documents below; step = spec.Alone; at = spec.Name m.0; value = m.1 })
+        (filter (λ m. not (among_names m.0 (texts_of names.now))) members.now)) }
+    ensures held { IfOk result (λ c. (documents : Documents) → IsSchemaAt documents below (value_of schema.now)
+        → IsHeld documents c.held) }
+{
+    let set = set_of(alloc, names)?;
+    Ok(MemberCursor {
+        held: Held::One(below, schema),
+        to: To::Part,
+        members: members.pairs(),
+        choice: Choice::Except(set),
+    })
+}
+
+/// The argument of the keyword with this name, if it is an object.
+pub(crate) fn object_at<'a>(schema: &'a Doc, keyword: &str) -> Option<&'a Members>
+    ensures { named_in result ≡ option_map_or entries (get keyword.now (entries (value_of schema.now))) [] }
+{
+    match argument_in(schema, keyword) {
+        Some(argument) => object_in(argument),
+        None => None,
+    }
+}
+
+/// The next application, or None after the last.
+///
+/// # Errors
+/// `Memory` if an allocation fails; a search with a pattern may need one.
+pub(crate) fn next_on_member<'a>(
+    alloc: Global,
+    schemas: &'a Schemas,
+    searchers: &Searchers<'a>,
+    cursor: &mut MemberCursor<'a>,
+) -> Result<Option<Applied<'a>>, Memory>
+    requires { IsHeld schemas.now cursor.old.held }
+    ensures next { IfOk result (λ o. MatchOption o (members_asked schemas.now cursor.old ≡ [])
+        (λ a. members_asked schemas.now cursor.old ≡ applied_of schemas.now a ∷ members_asked schemas.now cursor.new)) }
+    ensures is { IfOk result (λ o. MatchOption o (Unit {0}) (λ a. IsApplied schemas.now a)) }
+    ensures held { cursor.new.held ≡ cursor.old.held }
+{
+    match next_member(
+        alloc,
+        schemas,
+        searchers,
+        &cursor.choice,
+        &mut cursor.members,
+    )? {
+        Some((name, member)) => Ok(Some(apply_to_part(
+            schemas,
+            &cursor.held,
+            &cursor.to,
+            Step::Name(name),
+            member,
+        ))),
+        None => Ok(None),
+    }
+}
+
+// The next chosen member.
+fn next_member<'a>(
+    alloc: Global,
+    schemas: &'a Schemas,
+    searchers: &Searchers<'a>,
+    choice: &Choice<'a>,
+    members: &mut Pairs<'a>,
+) -> Result<Option<(&'a str, &'a Doc)>, Memory>
+    ensures { IfOk result (λ o. MatchOption o (chosen_members choice.now members.old ≡ [])
+        (λ m. chosen_members choice.now members.old
+        ≡ (m.0.now, value_of m.1.now) ∷ chosen_members choice.now members.new)) }
+{
+    while let Some((name, member)) = members.next() {
+        let name = name.as_str();
+        if is_chosen(alloc, schemas, searchers, choice, name)? {
+            return Ok(Some((name, member)));
+        }
+    }
+    Ok(None)
+}
+
+fn is_chosen<'a>(
+    alloc: Global,
+    schemas: &'a Schemas,
+    searchers: &Searchers<'a>,
+    choice: &Choice<'a>,
+    name: &str,
+) -> Result<bool, Memory>
+    ensures { IfOk result (λ b. b ≡ is_chosen choice.now name.now) }
+{
+    match choice {
+        Choice::All => Ok(true),
+        Choice::Named(named) => Ok(named.get(name).is_some()),
+        Choice::Additional(adjacent) => Ok(!is_spoken_of(
+            alloc, schemas, searchers, adjacent, name,
+        )?),
+        Choice::Except(names) => Ok(!is_in(names, name)),
+    }
+}
+
+// Whether one of the adjacent keywords covers the name.
+fn is_spoken_of<'a>(
+    alloc: Global,
+    schemas: &'a Schemas,
+    searchers: &Searchers<'a>,
+    adjacent: &Adjacent<'a>,
+    name: &str,
+) -> Result<bool, Memory>
+    ensures { IfOk result (λ b. b ≡ (is_named adjacent.now.properties name.now
+        || is_matched adjacent.now.patterns name.now)) }
+{
+    if is_named(adjacent.properties, name) {
+        return Ok(true);
+    }
+    let place = adjacent.place;
+    match adjacent.patterns {
+        Some(patterns) => match searchers.any_kept(patterns, name) {
+            Some(answer) => Ok(answer),
+            None => matches_any(alloc, schemas, searchers, place, patterns, name),
+        },
+        None => Ok(false),
+    }
+}
+
+fn is_named(properties: Option<&Members>, name: &str) -> bool
+    ensures { result ≡ is_named properties.entry name.now }
+{
+    match properties {
+        Some(named) => named.get(name).is_some(),
+        None => false,
+    }
+}
+
+fn matches_any<'a>(
+    alloc: Global,
+    schemas: &'a Schemas,
+    searchers: &Searchers<'a>,
+    place: Place,
+    patterns: &'a Members,
+    name: &str,
+) -> Result<bool, Memory>
+    ensures { IfOk result (λ b. b ≡ list_any (λ p. matches p.0 name.now) patterns.now) }
+{
+    for (pattern, _) in patterns.pairs() {
+        if matches(alloc, schemas, searchers, place, pattern.as_str(), name)? {
+            return Ok(true);
+        }
+    }
+    Ok(false)
+}
+
+// Whether a pattern of the place's `patternProperties` matches somewhere in the name.
+fn matches<'a>(
+    alloc: Global,
+    schemas: &'a Schemas,
+    searchers: &Searchers<'a>,
+    place: Place,
+    pattern: &'a str,
+    name: &str,
+) -> Result<bool, Memory>
+    ensures { IfOk result (λ b. b ≡ matches pattern.now name.now) }
+{
+    match pattern_of(schemas, place, pattern) {
+        Some(built) => searchers.matches_name(alloc, built, name),
+        None => Err(Memory), // never: finished schemas have all their patterns
+    }
+}
+
+/// The pattern with this text in the `patternProperties` of the place.
+pub(crate) fn pattern_of<'a>(
+    schemas: &'a Schemas,
+    place: Place,
+    text: &'a str,
+) -> Option<NamedPattern<'a>>
+    ensures { MatchOption result (Unit {0}) (λ p. p.text.now ≡ text.now) }
+{
+    if !schemas.has(place) {
+        return None;
+    }
+    match schemas.pattern(place, text) {
+        Some(pattern) => Some(NamedPattern::new(pattern, text)),
+        None => None,
+    }
+}

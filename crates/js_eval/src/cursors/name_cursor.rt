@@ -1,0 +1,226 @@
+//! The applications of `properties`, name by name (Core, section 10.3.2.1): the schema of each name that a member has,
+//! on the member. The members are looked up name by name; or, since names and members both ascend, the two are gone
+//! through side by side.
+ghost use Rattle.std.specs.Prelude.{◌≡◌, ◌∷◌, ◌+◌, ◌<◌, ◌^◌, [], MatchOption, Some, filter, length, map, slice_get};
+ghost use Rattle.js_assert.specs.Argument.{entries, has};
+ghost use Rattle.js_bundle.specs.Document.{Documents};
+ghost use Rattle.js_doc.specs.Members.{IsAscending};
+ghost use Rattle.js_doc.specs.Seen.{pair_of, value_of};
+ghost use Rattle.js_doc.specs.Value as doc;
+ghost use Rattle.js_bundle.specs.Ranked.{is_name};
+ghost use Rattle.js_eval.specs.Applications.{application};
+ghost use Rattle.js_eval.specs.Bundle.{schemas_of};
+ghost use Rattle.js_eval.specs.code.Applied.{applied_of};
+ghost use Rattle.js_eval.specs.code.Asked.{IsApplied};
+ghost use Rattle.js_eval.specs.code.Holding.{IsIn, held_at};
+ghost use Rattle.js_eval.specs.code.NamesLeft.{AreLeft, IsNames, members_among, names_asked, names_left};
+ghost use Rattle.js_eval.specs.code.Standing.{IsSchemaAt};
+ghost use Rattle.js_eval.specs.SchemaSet as spec;
+ghost use Rattle.js_eval.specs.Seen.{keyword_of};
+ghost use Rattle.js_eval.specs.Sited.{numbered_site};
+
+use crate::instance::{Applied, Instance};
+use crate::keywords::keyword::Keyword;
+use crate::schema_lookup::below_at_rank;
+use js_bundle::{Place, Schemas, Step};
+use js_doc::{Doc, Members, Pairs, name_order};
+use std::cmp::Ordering;
+
+/// The names in `properties` that are still to come, and the members to find them among.
+#[derive(Drop)]
+pub(crate) struct NameCursor<'a> {
+    pub place: Place,
+    pub schema: &'a Doc,
+    pub keyword: Keyword<'a>,
+    pub names: Pairs<'a>,
+    /// The number of names before the next one.
+    pub rank: usize,
+    pub among: Among<'a>,
+}
+
+/// The members that may have the next name.
+#[derive(Drop)]
+pub(crate) enum Among<'a> {
+    /// All: each name is looked up.
+    All(&'a Members),
+    /// Those behind the last that had a name.
+    Left(Pairs<'a>),
+}
+
+/// The schema of each name that a member has, applied to the member. It looks each name up.
+pub(crate) fn each_of_names<'a>(
+    place: Place,
+    schema: &'a Doc,
+    keyword: Keyword<'a>,
+    named: &'a Members,
+    members: &'a Members,
+) -> NameCursor<'a>
+    requires kind { held_at keyword.kind ≡ is_name }
+    requires keyword { IsIn (value_of schema.now) (keyword_of keyword) }
+    requires named { named.now ≡ entries (value_of keyword.argument.now) }
+    ensures asked { (documents : Documents) → names_asked documents result
+        ≡ map (λ m. application (schemas_of documents) (numbered_site documents place) keyword.entry.name.now
+        (spec.Name m.0) (spec.Name m.0) m.1)
+        (filter (λ m. has m.0 named.now) members.now) }
+    ensures is { (documents : Documents) → IsSchemaAt documents place (value_of schema.now) → IsNames documents result }
+{
+    names_ascend(members);
+    NameCursor {
+        place,
+        schema,
+        keyword,
+        names: named.pairs(),
+        rank: 0,
+        among: Among::All(members),
+    }
+}
+
+/// The names of members ascend.
+pub(crate) fn names_ascend(members: &Members)
+    ensures { IsAscending members.now }
+{
+    let _ = members.pairs();
+}
+
+/// The same. It goes through names and members side by side.
+pub(crate) fn each_in_step<'a>(
+    place: Place,
+    schema: &'a Doc,
+    keyword: Keyword<'a>,
+    named: &'a Members,
+    members: &'a Members,
+) -> NameCursor<'a>
+    requires kind { held_at keyword.kind ≡ is_name }
+    requires keyword { IsIn (value_of schema.now) (keyword_of keyword) }
+    requires named { named.now ≡ entries (value_of keyword.argument.now) }
+    ensures asked { (documents : Documents) → names_asked documents result
+        ≡ map (λ m. application (schemas_of documents) (numbered_site documents place) keyword.entry.name.now
+        (spec.Name m.0) (spec.Name m.0) m.1)
+        (filter (λ m. has m.0 named.now) members.now) }
+    ensures is { (documents : Documents) → IsSchemaAt documents place (value_of schema.now) → IsNames documents result }
+{
+    NameCursor {
+        place,
+        schema,
+        keyword,
+        names: named.pairs(),
+        rank: 0,
+        among: Among::Left(members.pairs()),
+    }
+}
+
+/// The next application, or None after the last.
+pub(crate) fn next_of_names<'a>(
+    schemas: &Schemas,
+    cursor: &mut NameCursor<'a>,
+) -> Option<Applied<'a>>
+    requires { IsNames schemas.now cursor.old }
+    ensures next { MatchOption result (names_asked schemas.now cursor.old ≡ [])
+        (λ a. names_asked schemas.now cursor.old ≡ applied_of schemas.now a ∷ names_asked schemas.now cursor.new) }
+    ensures applied { MatchOption result (Unit {0}) (λ a. IsApplied schemas.now a) }
+    ensures is { IsNames schemas.now cursor.new }
+{
+    let (rank, name, held, member) = next_name(
+        &mut cursor.names,
+        &mut cursor.rank,
+        &mut cursor.among,
+    )?;
+    let step = Step::Name(name);
+    let (place, schema) = below_at_rank(
+        schemas,
+        cursor.place,
+        cursor.schema,
+        cursor.keyword,
+        step,
+        rank,
+        held,
+    );
+    Some(Applied {
+        place,
+        schema,
+        step: Step::Name(name),
+        at: Step::Name(name),
+        value: Instance::Doc(member),
+    })
+}
+
+// The next name that a member has: its rank among all names, the name, its schema and the member.
+fn next_name<'a>(
+    names: &mut Pairs<'a>,
+    rank: &mut usize,
+    among: &mut Among<'a>,
+) -> Option<(usize, &'a str, &'a Doc, &'a Doc)>
+    requires few { rank.old + length names.old < 2 ^ 64 }
+    requires ascend { IsAscending (map pair_of names.old) × IsAscending (members_among among.old) }
+    ensures next { MatchOption result (names_left (members_among among.old) names.old ≡ [])
+        (λ f. names_left (members_among among.old) names.old
+        ≡ (f.1.now, value_of f.3.now) ∷ names_left (members_among among.new) names.new) }
+    ensures left { (all : doc.Named) → AreLeft all rank.old names.old → AreLeft all rank.new names.new
+        × MatchOption result (Unit {0}) (λ f. slice_get all f.0 ≡ Some (f.1.now, value_of f.2.now)) }
+    ensures few { rank.new + length names.new < 2 ^ 64 }
+    ensures ascend { IsAscending (map pair_of names.new) × IsAscending (members_among among.new) }
+{
+    match among {
+        Among::All(members) => next_looked_up(names, rank, members),
+        Among::Left(members) => next_in_step(names, rank, members),
+    }
+}
+
+fn next_looked_up<'a>(
+    names: &mut Pairs<'a>,
+    rank: &mut usize,
+    members: &'a Members,
+) -> Option<(usize, &'a str, &'a Doc, &'a Doc)>
+    requires few { rank.old + length names.old < 2 ^ 64 }
+    requires ascend { IsAscending (map pair_of names.old) × IsAscending members.now }
+    ensures next { MatchOption result (names_left members.now names.old ≡ [])
+        (λ f. names_left members.now names.old
+        ≡ (f.1.now, value_of f.3.now) ∷ names_left members.now names.new) }
+    ensures left { (all : doc.Named) → AreLeft all rank.old names.old → AreLeft all rank.new names.new
+        × MatchOption result (Unit {0}) (λ f. slice_get all f.0 ≡ Some (f.1.now, value_of f.2.now)) }
+    ensures few { rank.new + length names.new < 2 ^ 64 }
+    ensures ascend { IsAscending (map pair_of names.new) }
+{
+    while let Some((name, schema)) = names.next() {
+        let at = *rank;
+        *rank = at + 1;
+        let name = name.as_str();
+        if let Some(member) = members.get(name) {
+            return Some((at, name, schema, member));
+        }
+    }
+    None
+}
+
+// It compares the first names of both sides, and passes over the lesser one until they are equal.
+fn next_in_step<'a>(
+    names: &mut Pairs<'a>,
+    rank: &mut usize,
+    members: &mut Pairs<'a>,
+) -> Option<(usize, &'a str, &'a Doc, &'a Doc)>
+    requires few { rank.old + length names.old < 2 ^ 64 }
+    requires ascend { IsAscending (map pair_of names.old) × IsAscending (map pair_of members.old) }
+    ensures next { MatchOption result (names_left (map pair_of members.old) names.old ≡ [])
+        (λ f. names_left (map pair_of members.old) names.old
+        ≡ (f.1.now, value_of f.3.now) ∷ names_left (map pair_of members.new) names.new) }
+    ensures left { (all : doc.Named) → AreLeft all rank.old names.old → AreLeft all rank.new names.new
+        × MatchOption result (Unit {0}) (λ f. slice_get all f.0 ≡ Some (f.1.now, value_of f.2.now)) }
+    ensures few { rank.new + length names.new < 2 ^ 64 }
+    ensures ascend { IsAscending (map pair_of names.new) × IsAscending (map pair_of members.new) }
+{
+    let (mut name, mut schema) = names.next()?;
+    let mut at = *rank;
+    *rank = at + 1;
+    let (mut key, mut member) = members.next()?;
+    loop {
+        match name_order(name.as_str(), key.as_str()) {
+            Ordering::Less => {
+                (name, schema) = names.next()?;
+                at += 1;
+                *rank = at + 1;
+            }
+            Ordering::Equal => return Some((at, name.as_str(), schema, member)),
+            Ordering::Greater => (key, member) = members.next()?,
+        }
+    }
+}

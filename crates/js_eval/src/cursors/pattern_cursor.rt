@@ -1,0 +1,200 @@
+//! The applications of `patternProperties` (Core, section 10.3.2.2): for each pattern, its schema on each member whose
+//! name it matches.
+ghost use Rattle.std.specs.Prelude.{◌≡◌, ◌∷◌, [], IfOk, MatchOption, filter, map};
+ghost use Rattle.std.specs.List.{flat_map};
+ghost use Rattle.js_assert.specs.Pattern.{matches};
+ghost use Rattle.js_bundle.specs.Document.{Documents};
+ghost use Rattle.js_doc.specs.Seen.{pair_of, value_of};
+ghost use Rattle.js_eval.specs.code.Applied.{applied_of};
+ghost use Rattle.js_eval.specs.code.Asked.{ArePatterns, IsApplied};
+ghost use Rattle.js_eval.specs.code.Cursors.{IsBegun, matching_asked, on_matched_member, patterns_asked};
+ghost use Rattle.js_eval.specs.code.Standing.{IsSchemaAt};
+ghost use Rattle.js_eval.specs.Sited.{numbered_site};
+
+use crate::cursors::member_cursor::pattern_of;
+use crate::instance::{Applied, Instance};
+use crate::schema_lookup::below;
+use crate::searching::searchers::{NamedPattern, Searchers};
+use js_bundle::{Place, Schemas, Step};
+use js_doc::{Doc, Members, Memory, Pairs};
+use std::alloc::Global;
+
+/// The patterns that are still to come, and the members that are left for the present one.
+#[derive(Drop)]
+pub(crate) struct PatternCursor<'a> {
+    pub place: Place,
+    pub schema: &'a Doc,
+    pub keyword: &'a str,
+    pub patterns: Pairs<'a>,
+    pub members: &'a Members,
+    /// The present pattern, or None at the start. Then come its text, the place of its schema, and that schema.
+    pub present: Option<NamedPattern<'a>>,
+    pub name: &'a str,
+    pub below: Place,
+    pub schema_below: &'a Doc,
+    pub left: Pairs<'a>,
+    /// Whether the matches of the patterns are stored, because `additionalProperties` of the same schema has needed
+    /// them.
+    pub is_kept: bool,
+}
+
+/// The applications of `patternProperties` to these members. `is_kept`: see the field.
+pub(crate) fn each_matching<'a>(
+    place: Place,
+    schema: &'a Doc,
+    keyword: &'a str,
+    patterns: &'a Members,
+    members: &'a Members,
+    is_kept: bool,
+) -> PatternCursor<'a>
+    ensures asked { (documents : Documents) → patterns_asked documents result
+        ≡ flat_map (λ p. matching_asked documents
+        (numbered_site documents place) keyword.now p.0 members.now) patterns.now }
+    ensures are { (documents : Documents) → IsSchemaAt documents place (value_of schema.now)
+        → ArePatterns documents result }
+{
+    PatternCursor {
+        place,
+        schema,
+        keyword,
+        patterns: patterns.pairs(),
+        members,
+        present: None,
+        name: keyword,
+        below: place,
+        schema_below: schema,
+        left: members.pairs(),
+        is_kept,
+    }
+}
+
+/// The next application, or None after the last.
+///
+/// # Errors
+/// `Memory` if an allocation fails; a search with a pattern may need one.
+pub(crate) fn next_matching<'a>(
+    alloc: Global,
+    schemas: &'a Schemas,
+    searchers: &Searchers<'a>,
+    cursor: &mut PatternCursor<'a>,
+) -> Result<Option<Applied<'a>>, Memory>
+    requires { ArePatterns schemas.now cursor.old }
+    ensures next { IfOk result (λ o. MatchOption o (patterns_asked schemas.now cursor.old ≡ [])
+        (λ a. patterns_asked schemas.now cursor.old
+        ≡ applied_of schemas.now a ∷ patterns_asked schemas.now cursor.new)) }
+    ensures is { IfOk result (λ o. MatchOption o (Unit {0}) (λ a. IsApplied schemas.now a)) }
+    ensures are { IfOk result (λ _. ArePatterns schemas.now cursor.new) }
+{
+    match next_match(alloc, schemas, searchers, cursor)? {
+        Some((name, member)) => Ok(Some(Applied {
+            place: cursor.below,
+            schema: cursor.schema_below,
+            step: Step::Name(cursor.name),
+            at: Step::Name(name),
+            value: Instance::Doc(member),
+        })),
+        None => {
+            if cursor.is_kept {
+                searchers.drop_answers();
+            }
+            Ok(None)
+        }
+    }
+}
+
+// The next member that a pattern matches. That pattern is then the present one.
+fn next_match<'a>(
+    alloc: Global,
+    schemas: &'a Schemas,
+    searchers: &Searchers<'a>,
+    cursor: &mut PatternCursor<'a>,
+) -> Result<Option<(&'a str, &'a Doc)>, Memory>
+    requires { ArePatterns schemas.now cursor.old }
+    ensures next { IfOk result (λ o. MatchOption o (patterns_asked schemas.now cursor.old ≡ [])
+        (λ m. patterns_asked schemas.now cursor.old
+        ≡ on_matched_member schemas.now cursor.new.below cursor.new.name.now
+        (m.0.now, value_of m.1.now) ∷ patterns_asked schemas.now cursor.new)) }
+    ensures are { IfOk result (λ _. ArePatterns schemas.now cursor.new) }
+{
+    if let Some(pattern) = cursor.present {
+        let is_kept = cursor.is_kept;
+        if let Some(found) = next_member(alloc, searchers, pattern, is_kept, &mut cursor.left)? {
+            return Ok(Some(found));
+        }
+    }
+    while let Some((name, _)) = cursor.patterns.next() {
+        let pattern = begin(schemas, searchers, cursor, name.as_str())?;
+        let is_kept = cursor.is_kept;
+        if let Some(found) = next_member(alloc, searchers, pattern, is_kept, &mut cursor.left)? {
+            return Ok(Some(found));
+        }
+    }
+    Ok(None)
+}
+
+// Makes a pattern the present one.
+fn begin<'a>(
+    schemas: &'a Schemas,
+    searchers: &Searchers<'a>,
+    cursor: &mut PatternCursor<'a>,
+    name: &'a str,
+) -> Result<NamedPattern<'a>, Memory>
+    requires { IsSchemaAt schemas.now cursor.old.place (value_of cursor.old.schema.now) }
+    ensures { IfOk result (λ p. IsBegun schemas.now name.now p cursor.old cursor.new) }
+{
+    match pattern_of(schemas, cursor.place, name) {
+        Some(pattern) => {
+            cursor.present = Some(pattern);
+            cursor.name = name;
+            let step = Step::Name(name);
+            let (place, schema) = below(schemas, cursor.place, cursor.schema, cursor.keyword, step);
+            cursor.below = place;
+            cursor.schema_below = schema;
+            cursor.left = cursor.members.pairs();
+            if cursor.is_kept {
+                searchers.begin_kept(name);
+            }
+            Ok(pattern)
+        }
+        None => Err(Memory), // never: finished schemas have all their patterns
+    }
+}
+
+// The next member whose name the pattern matches.
+fn next_member<'a>(
+    alloc: Global,
+    searchers: &Searchers<'a>,
+    pattern: NamedPattern<'a>,
+    is_kept: bool,
+    members: &mut Pairs<'a>,
+) -> Result<Option<(&'a str, &'a Doc)>, Memory>
+    ensures { IfOk result (λ o. MatchOption o
+        (filter (λ m. matches pattern.entry.text.now m.0) (map pair_of members.old) ≡ [])
+        (λ m. filter (λ m. matches pattern.entry.text.now m.0) (map pair_of members.old)
+        ≡ (m.0.now, value_of m.1.now) ∷ filter (λ m. matches pattern.entry.text.now m.0)
+        (map pair_of members.new))) }
+{
+    while let Some((name, member)) = members.next() {
+        let name = name.as_str();
+        if is_match(alloc, searchers, pattern, is_kept, name)? {
+            return Ok(Some((name, member)));
+        }
+    }
+    Ok(None)
+}
+
+fn is_match<'a>(
+    alloc: Global,
+    searchers: &Searchers<'a>,
+    pattern: NamedPattern<'a>,
+    is_kept: bool,
+    name: &str,
+) -> Result<bool, Memory>
+    ensures { IfOk result (λ b. b ≡ matches pattern.entry.text.now name.now) }
+{
+    if is_kept {
+        searchers.matches_as_kept(alloc, pattern, name)
+    } else {
+        searchers.matches_name(alloc, pattern, name)
+    }
+}

@@ -1,0 +1,266 @@
+//! The applications of keywords for objects (Core, sections 10.2.2.4, 10.3.2 and 11.3). There are none if the value, or
+//! an argument that should be an object, isn't one.
+ghost use Rattle.std.specs.Prelude.{◌≡◌, ◌||◌, IfOk, filter, map, not};
+ghost use Rattle.std.specs.List.{flat_map};
+ghost use Rattle.js_assert.specs.Argument.{entries, has};
+ghost use Rattle.js_assert.specs.Pattern.{matches};
+ghost use Rattle.js_bundle.specs.Document.{Documents};
+ghost use Rattle.js_doc.specs.Seen.{value_of};
+ghost use Rattle.js_doc.specs.Value.{text};
+ghost use Rattle.js_bundle.specs.Ranked.{is_alone, is_name};
+ghost use Rattle.js_eval.specs.Applications.{among_names, application, is_property, matches_pattern};
+ghost use Rattle.js_eval.specs.code.Asked.{IsAsking, asked};
+ghost use Rattle.js_eval.specs.code.Holding.{IsIn, held_at};
+ghost use Rattle.js_eval.specs.code.Standing.{IsSchemaAt};
+ghost use Rattle.js_eval.specs.Bundle.{schemas_of};
+ghost use Rattle.js_eval.specs.SchemaSet as spec;
+ghost use Rattle.js_eval.specs.Seen.{instance_of, keyword_of, texts_of};
+ghost use Rattle.js_eval.specs.Sited.{numbered_site};
+
+use crate::cursors::asking::Asking;
+use crate::cursors::member_cursor::{
+    each_additional, each_in_place, each_name, each_named, each_other, object_at,
+};
+use crate::cursors::name_cursor::{each_in_step, each_of_names};
+use crate::cursors::pattern_cursor::each_matching;
+use crate::instance::{Instance, object_in};
+use crate::keywords::keyword::Keyword;
+use crate::schema::argument_in;
+use crate::schema_lookup::held_below;
+use js_bundle::{Place, Schemas};
+use js_doc::{Doc, Members, Memory};
+use std::alloc::Global;
+
+/// `properties` goes through the members and looks each up among its names, if it has more names than this number times
+/// the members.
+const MANY_MORE: usize = 32;
+
+/// It goes through its names and looks each up among the members, if it has fewer names than this, or fewer than one
+/// for `PER_NAME` members. Otherwise it goes through both side by side.
+const FEW: usize = 6;
+
+const PER_NAME: usize = 2;
+
+/// The applications of `dependentSchemas`.
+///
+/// # Errors
+/// `Memory` if an allocation fails.
+pub(crate) fn dependent<'a>(
+    alloc: Global,
+    schemas: &'a Schemas,
+    place: Place,
+    schema: &'a Doc,
+    keyword: Keyword<'a>,
+    value: Instance<'a>,
+) -> Result<Asking<'a>, Memory>
+    requires { IsSchemaAt schemas.now place (value_of schema.now) }
+    ensures asked { IfOk result (λ a. asked schemas.now a
+        ≡ map (λ m. application (schemas_of schemas.now) (numbered_site schemas.now place) keyword.entry.name.now
+        (spec.Name m.0) spec.Alone (instance_of value.entry))
+        (filter (λ m. has m.0 (entries (instance_of value.entry))) (entries (value_of keyword.entry.argument.now)))) }
+    ensures is { IfOk result (λ a. IsAsking schemas.now a) }
+{
+    let Some(named) = object_in(keyword.argument) else {
+        return Ok(Asking::One(None));
+    };
+    match value.object() {
+        Some(members) => {
+            let cursor = each_in_place(place, schema, keyword.name, named, members, value);
+            Ok(Asking::Members(Box::new(alloc, cursor)?))
+        }
+        None => Ok(Asking::One(None)),
+    }
+}
+
+/// The applications of `properties`.
+///
+/// # Errors
+/// `Memory` if an allocation fails.
+pub(crate) fn properties<'a>(
+    alloc: Global,
+    place: Place,
+    schema: &'a Doc,
+    keyword: Keyword<'a>,
+    value: Instance<'a>,
+) -> Result<Asking<'a>, Memory>
+    requires kind { held_at keyword.kind ≡ is_name }
+    requires keyword { IsIn (value_of schema.now) (keyword_of keyword) }
+    ensures asked { IfOk result (λ a. (documents : Documents) → asked documents a
+        ≡ map (λ m. application (schemas_of documents) (numbered_site documents place) keyword.entry.name.now
+        (spec.Name m.0) (spec.Name m.0) m.1)
+        (filter (λ m. has m.0 (entries (value_of keyword.entry.argument.now))) (entries (instance_of value.entry)))) }
+    ensures is { IfOk result (λ a. (documents : Documents) → IsSchemaAt documents place (value_of schema.now)
+        → IsAsking documents a) }
+{
+    let Some(named) = object_in(keyword.argument) else {
+        return Ok(Asking::One(None));
+    };
+    match value.object() {
+        Some(members) => named_members(alloc, place, schema, keyword, named, members),
+        None => Ok(Asking::One(None)),
+    }
+}
+
+fn named_members<'a>(
+    alloc: Global,
+    place: Place,
+    schema: &'a Doc,
+    keyword: Keyword<'a>,
+    named: &'a Members,
+    members: &'a Members,
+) -> Result<Asking<'a>, Memory>
+    requires kind { held_at keyword.kind ≡ is_name }
+    requires keyword { IsIn (value_of schema.now) (keyword_of keyword) }
+    requires named { named.now ≡ entries (value_of keyword.argument.now) }
+    ensures asked { IfOk result (λ a. (documents : Documents) → asked documents a
+        ≡ map (λ m. application (schemas_of documents) (numbered_site documents place) keyword.entry.name.now
+        (spec.Name m.0) (spec.Name m.0) m.1)
+        (filter (λ m. has m.0 named.now) members.now)) }
+    ensures is { IfOk result (λ a. (documents : Documents) → IsSchemaAt documents place (value_of schema.now)
+        → IsAsking documents a) }
+{
+    if named.len() / MANY_MORE > members.len() {
+        let cursor = each_named(place, schema, keyword.name, named, members);
+        Ok(Asking::Members(Box::new(alloc, cursor)?))
+    } else if named.len() < FEW || members.len() / PER_NAME > named.len() {
+        let cursor = each_of_names(place, schema, keyword, named, members);
+        Ok(Asking::Names(cursor))
+    } else {
+        let cursor = each_in_step(place, schema, keyword, named, members);
+        Ok(Asking::Names(cursor))
+    }
+}
+
+/// The applications of `patternProperties`.
+///
+/// # Errors
+/// `Memory` if an allocation fails.
+pub(crate) fn patterns<'a>(
+    alloc: Global,
+    schemas: &'a Schemas,
+    place: Place,
+    schema: &'a Doc,
+    keyword: Keyword<'a>,
+    value: Instance<'a>,
+) -> Result<Asking<'a>, Memory>
+    requires { IsSchemaAt schemas.now place (value_of schema.now) }
+    ensures asked { IfOk result (λ a. asked schemas.now a
+        ≡ flat_map (λ p. map (λ m. application (schemas_of schemas.now)
+        (numbered_site schemas.now place) keyword.entry.name.now (spec.Name p.0) (spec.Name m.0) m.1)
+        (filter (λ m. matches p.0 m.0) (entries (instance_of value.entry))))
+        (entries (value_of keyword.entry.argument.now))) }
+    ensures is { IfOk result (λ a. IsAsking schemas.now a) }
+{
+    let Some(patterns) = object_in(keyword.argument) else {
+        return Ok(Asking::One(None));
+    };
+    match value.object() {
+        Some(members) => {
+            let cursor = each_matching(
+                place,
+                schema,
+                keyword.name,
+                patterns,
+                members,
+                argument_in(schema, "additionalProperties").is_some(),
+            );
+            Ok(Asking::Patterns(Box::new(alloc, cursor)?))
+        }
+        None => Ok(Asking::One(None)),
+    }
+}
+
+/// The applications of `additionalProperties`.
+///
+/// # Errors
+/// `Memory` if an allocation fails.
+pub(crate) fn additional<'a>(
+    alloc: Global,
+    schemas: &'a Schemas,
+    place: Place,
+    schema: &'a Doc,
+    keyword: Keyword<'a>,
+    value: Instance<'a>,
+) -> Result<Asking<'a>, Memory>
+    requires place { IsSchemaAt schemas.now place (value_of schema.now) }
+    requires kind { held_at keyword.kind ≡ is_alone }
+    requires keyword { IsIn (value_of schema.now) (keyword_of keyword) }
+    ensures asked { IfOk result (λ a. asked schemas.now a
+        ≡ map (λ m. application (schemas_of schemas.now)
+        (numbered_site schemas.now place) keyword.entry.name.now spec.Alone (spec.Name m.0) m.1)
+        (filter (λ m. not (is_property (entries (value_of schema.now)) m.0
+        || matches_pattern (entries (value_of schema.now)) m.0)) (entries (instance_of value.entry)))) }
+    ensures is { IfOk result (λ a. IsAsking schemas.now a) }
+{
+    let (below, held) = held_below(schemas, place, schema, keyword);
+    let properties = object_at(schema, "properties");
+    let patterns = object_at(schema, "patternProperties");
+    match value.object() {
+        Some(members) => {
+            let cursor = each_additional(below, held, place, properties, patterns, members);
+            Ok(Asking::Members(Box::new(alloc, cursor)?))
+        }
+        None => Ok(Asking::One(None)),
+    }
+}
+
+/// The applications of `propertyNames`.
+///
+/// # Errors
+/// `Memory` if an allocation fails.
+pub(crate) fn property_names<'a>(
+    alloc: Global,
+    schemas: &'a Schemas,
+    place: Place,
+    schema: &'a Doc,
+    keyword: Keyword<'a>,
+    value: Instance<'a>,
+) -> Result<Asking<'a>, Memory>
+    requires place { IsSchemaAt schemas.now place (value_of schema.now) }
+    requires kind { held_at keyword.kind ≡ is_alone }
+    requires keyword { IsIn (value_of schema.now) (keyword_of keyword) }
+    ensures asked { IfOk result (λ a. asked schemas.now a
+        ≡ map (λ m. application (schemas_of schemas.now)
+        (numbered_site schemas.now place) keyword.entry.name.now spec.Alone (spec.Name m.0) (text m.0))
+        (entries (instance_of value.entry))) }
+    ensures is { IfOk result (λ a. IsAsking schemas.now a) }
+{
+    let (below, held) = held_below(schemas, place, schema, keyword);
+    match value.object() {
+        Some(members) => {
+            let cursor = each_name(below, held, members);
+            Ok(Asking::Members(Box::new(alloc, cursor)?))
+        }
+        None => Ok(Asking::One(None)),
+    }
+}
+
+/// The applications of `unevaluatedProperties`, if members with these names are evaluated.
+///
+/// # Errors
+/// `Memory` if an allocation fails.
+pub(crate) fn unevaluated_properties<'a>(
+    alloc: Global,
+    schemas: &'a Schemas,
+    place: Place,
+    schema: &'a Doc,
+    keyword: Keyword<'a>,
+    evaluated: &[&'a str],
+    value: Instance<'a>,
+) -> Result<Asking<'a>, Memory>
+    requires place { IsSchemaAt schemas.now place (value_of schema.now) }
+    requires kind { held_at keyword.kind ≡ is_alone }
+    requires keyword { IsIn (value_of schema.now) (keyword_of keyword) }
+    ensures asked { IfOk result (λ a. asked schemas.now a
+        ≡ map (λ m. application (schemas_of schemas.now)
+        (numbered_site schemas.now place) keyword.entry.name.now spec.Alone (spec.Name m.0) m.1)
+        (filter (λ m. not (among_names m.0 (texts_of evaluated.now))) (entries (instance_of value.entry)))) }
+    ensures is { IfOk result (λ a. IsAsking schemas.now a) }
+{
+    let Some(members) = value.object() else {
+        return Ok(Asking::One(None));
+    };
+    let (below, held) = held_below(schemas, place, schema, keyword);
+    let cursor = each_other(alloc, below, held, evaluated, members)?;
+    Ok(Asking::Members(Box::new(alloc, cursor)?))
+}

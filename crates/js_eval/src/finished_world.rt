@@ -1,0 +1,358 @@
+//! Finished schemas and their patterns, as a walk uses them.
+ghost use Rattle.std.specs.Prelude.{◌≡◌, ◌++◌, IfOk, None, OnOk, Some, map, option_to_list, string_bytes, true};
+ghost use Rattle.js_bundle.specs.Schemas.{is_place};
+ghost use Rattle.js_doc.specs.Fragment.{fragment_token};
+ghost use Rattle.js_eval.specs.Bundle.{schemas_of};
+ghost use Rattle.js_eval.specs.code.Standing.{IsSchemaAt};
+ghost use Rattle.js_doc.specs.Seen.{value_of as schema_value};
+ghost use Rattle.js_eval.specs.Evaluated.{index_in_step, name_in_step};
+ghost use Rattle.js_eval.specs.Seen.{instance_of, step_of};
+ghost use Rattle.js_eval.specs.Sited.{numbered_site};
+ghost use Rattle.js_eval.specs.Walk.Told.{at_step, schema_says};
+ghost use Rattle.js_tree.specs.Seen.{note_of};
+
+use crate::cursors::asking::{Asking, next_asked};
+use crate::cursors::start_by_kind::{Facts, Scene, asking_of_keyword};
+use crate::instance::{Applied, Instance};
+use crate::judging::notes::schema_note;
+use crate::judging::others::others_at;
+use crate::judging::passing;
+use crate::keywords::keyword::{Keyword, is_written_as_it_is};
+use crate::keywords::keyword_cursor::Keywords;
+use crate::keywords::kind::Kind;
+use crate::schema::is_accepting;
+use crate::schema_lookup::names_at;
+use crate::searching::pattern_answers::keep_all;
+use crate::searching::searchers::Searchers;
+use crate::walking::{Others, Path, PointerText, Tally, Trail, World};
+use js_bundle::{Place, Schemas, Step};
+use js_doc::{Doc, Memory, Text, push_fragment_token};
+use js_tree::Note;
+use std::alloc::Global;
+
+/// Finished schemas, and the searchers for their patterns. `'a` is the lifetime of the schemas and of the instance.
+#[derive(Drop)]
+pub(crate) struct Here<'a> {
+    pub schemas: &'a Schemas,
+    pub searchers: Searchers<'a>,
+}
+
+impl<'a> World for Here<'a> {
+    ghost use Rattle.js_bundle.specs.Schemas.{is_place};
+    ghost use Rattle.js_doc.specs.Seen as seen;
+    ghost use Rattle.js_eval.specs.code.Applied.{applied_of};
+    ghost use Rattle.js_eval.specs.code.Asked as here;
+    ghost use Rattle.js_eval.specs.Bundle.{schemas_of};
+    ghost use Rattle.js_eval.specs.code.KeywordsLeft as left;
+    ghost use Rattle.js_eval.specs.Seen.{instance_of, keyword_of};
+    ghost use Rattle.js_eval.specs.Sited.{numbered_site, resource_of};
+
+    type Value = Instance<'a>;
+
+    type Name = &'a str;
+
+    type Schema = &'a Doc;
+
+    type Keyword = Keyword<'a>;
+
+    type Keywords = Keywords<'a>;
+
+    type Application = Applied<'a>;
+
+    type Asking = Asking<'a>;
+
+    ghost schemas = { λ h. schemas_of h.schemas.now };
+
+    ghost is_place = { λ h n. is_place h.schemas.now n };
+
+    ghost site = { λ h n. numbered_site h.schemas.now n };
+
+    ghost stands_at = { λ h n schema. seen.value_of schema.now ≡ (numbered_site h.schemas.now n).schema };
+
+    ghost resource = { λ h n. resource_of h.schemas.now n };
+
+    ghost value_of = { instance_of };
+
+    ghost text_of = { λ name. name.now };
+
+    ghost keyword_of = { keyword_of };
+
+    ghost listed = { left.keywords_in };
+
+    ghost application_of = { λ h a. applied_of h.schemas.now a };
+
+    ghost place_of = { λ a. a.place };
+
+    ghost schema_of = { λ a. a.schema };
+
+    ghost asked = { λ h a. here.asked h.schemas.now a };
+
+    ghost is_asking = { λ h a. here.IsAsking h.schemas.now a };
+
+    #[tactic(auto, unfolding(crate::specs::Walk::Told::accepts_at))]
+    fn accepts(&self, _place: Place, schema: &'a Doc) -> bool {
+        is_accepting(schema)
+    }
+
+    fn resource(&self, place: Place) -> usize {
+        self.schemas.resource_number(place)
+    }
+
+    fn others(
+        &self,
+        alloc: Global,
+        place: Place,
+        value: Instance<'a>,
+        matching: u64,
+    ) -> Result<Others, Memory> {
+        others_at(alloc, self.schemas, &self.searchers, place, value, matching)
+    }
+
+    #[tactic(auto, unfolding(crate::specs::Walk::Told::keywords_at))]
+    fn keywords(&self, place: Place, schema: &'a Doc, quiet: bool) -> Keywords<'a> {
+        Keywords::new(names_at(self.schemas, place), schema, quiet)
+    }
+
+    fn next_keyword(&self, keywords: &mut Keywords<'a>) -> Option<Keyword<'a>> {
+        keywords.next()
+    }
+
+    #[tactic(auto, unfolding(crate::specs::Walk::Told::kind_at))]
+    fn kind(&self, keyword: Keyword<'a>) -> Kind {
+        keyword.kind
+    }
+
+    #[tactic(auto, unfolding(crate::specs::Walk::Told::asked_by))]
+    fn asks(&self, keyword: Keyword<'a>) -> bool {
+        keyword.kind.is_applicator()
+    }
+
+    #[tactic(auto, unfolding(crate::specs::Walk::Told::asked_by, crate::specs::Walk::Told::IsKeywordAt))]
+    fn asking(
+        &self,
+        alloc: Global,
+        path: &Path,
+        resources: &[usize],
+        place: Place,
+        schema: &'a Doc,
+        value: Instance<'a>,
+        keyword: Keyword<'a>,
+        condition: Option<bool>,
+        names: &[&'a str],
+        indexes: &[usize],
+    ) -> Result<Asking<'a>, Memory> {
+        if matches!(keyword.kind, Kind::AdditionalProperties) {
+            keep_all(alloc, self.schemas, &self.searchers, place, schema, value)?;
+        }
+        let scene = Scene {
+            path,
+            scope: resources,
+            place,
+            schema,
+            value,
+        };
+        let facts = Facts {
+            condition,
+            names,
+            indexes,
+        };
+        asking_of_keyword(alloc, self.schemas, scene, facts, keyword)
+    }
+
+    fn next(&self, alloc: Global, asking: &mut Asking<'a>) -> Result<Option<Applied<'a>>, Memory> {
+        next_asked(alloc, self.schemas, &self.searchers, asking)
+    }
+
+    fn place(&self, application: Applied<'a>) -> Place {
+        place_of(application.place, application.step, application.value.doc())
+    }
+
+    fn schema(&self, application: Applied<'a>) -> &'a Doc {
+        schema_of(
+            application.schema,
+            application.step,
+            application.value.doc(),
+        )
+    }
+
+    fn value(&self, application: Applied<'a>) -> Instance<'a> {
+        value_of(application.step, application.value, application.value.doc())
+    }
+
+    fn member(&self, application: Applied<'a>) -> Option<&'a str> {
+        member_at(application.at, application.value.doc())
+    }
+
+    fn item(&self, application: Applied<'a>) -> Option<usize> {
+        item_at(application.at, application.value.doc())
+    }
+
+    fn passes(
+        &self,
+        alloc: Global,
+        place: Place,
+        schema: &'a Doc,
+        value: Instance<'a>,
+        keyword: Keyword<'a>,
+        tally: Tally,
+        matching: u64,
+    ) -> Result<bool, Memory> {
+        passing::passes(
+            alloc,
+            self.schemas,
+            &self.searchers,
+            place,
+            schema,
+            value,
+            keyword,
+            tally,
+            matching,
+        )
+    }
+
+    #[tactic(auto, unfolding(crate::specs::Walk::Told::at_name))]
+    fn go_to_keyword<H: PointerText + Drop>(
+        &self,
+        keyword: Keyword<'a>,
+        trail: &mut Trail<H>,
+    ) -> Result<(), Memory> {
+        if is_written_as_it_is(keyword.kind, keyword.name) {
+            trail.push_kept(keyword.name)
+        } else {
+            trail.push_name(keyword.name)
+        }
+    }
+
+    fn go_to_schema<H: PointerText + Drop>(
+        &self,
+        application: Applied<'a>,
+        trail: &mut Trail<H>,
+    ) -> Result<(), Memory> {
+        go(application.step, application.value.doc(), trail)
+    }
+
+    fn go_to_value<H: PointerText + Drop>(
+        &self,
+        application: Applied<'a>,
+        trail: &mut Trail<H>,
+    ) -> Result<(), Memory> {
+        go(application.at, application.value.doc(), trail)
+    }
+}
+
+// The parts of an application. Each of these functions takes a step and a document too, even to ignore them: a function
+// that takes apart a struct has to mention each type in it.
+
+fn place_of<'a>(place: Place, _step: Step<'a>, _doc: Option<&'a Doc>) -> Place
+    ensures { result ≡ place }
+{
+    place
+}
+
+fn schema_of<'a>(schema: &'a Doc, _step: Step<'a>, _doc: Option<&'a Doc>) -> &'a Doc
+    ensures { result ≡ schema.entry }
+{
+    schema
+}
+
+fn value_of<'a>(_step: Step<'a>, value: Instance<'a>, _doc: Option<&'a Doc>) -> Instance<'a>
+    ensures { instance_of result ≡ instance_of value.entry }
+{
+    value
+}
+
+fn member_at<'a>(at: Step<'a>, _doc: Option<&'a Doc>) -> Option<&'a str>
+    ensures { map (λ name. name.now) (option_to_list result) ≡ name_in_step (step_of at.entry) }
+{
+    match at {
+        Step::Name(name) => Some(name),
+        Step::Alone => None,
+        Step::Index(_) => None,
+    }
+}
+
+fn item_at<'a>(at: Step<'a>, _doc: Option<&'a Doc>) -> Option<usize>
+    ensures { option_to_list result ≡ index_in_step (step_of at.entry) }
+{
+    match at {
+        Step::Index(index) => Some(index),
+        Step::Alone => None,
+        Step::Name(_) => None,
+    }
+}
+
+// Appends the step to the trail.
+#[tactic(auto, unfolding(crate::specs::Walk::Told::at_step))]
+fn go<'a, H: PointerText + Drop>(
+    step: Step<'a>,
+    _doc: Option<&'a Doc>,
+    trail: &mut Trail<H>,
+) -> Result<(), Memory>
+    ensures { OnOk result (trail.new ≡ at_step trail.old (step_of step.entry)) }
+{
+    match step {
+        Step::Alone => Ok(()),
+        Step::Index(index) => trail.push_index(index),
+        Step::Name(name) => trail.push_name(name),
+    }
+}
+
+impl Here<'_> {
+    /// The absolute keyword location of the schema at a place (Core, section 12.3.2).
+    ///
+    /// # Errors
+    /// `Memory` if an allocation fails.
+    #[tactic(auto, using(crate::proofs::Paths::location_is))]
+    pub fn absolute_schema(&self, alloc: Global, place: Place) -> Result<Text, Memory>
+        requires { is_place self.now.schemas.now place ≡ true }
+        ensures { IfOk result (λ t. t ≡ (schemas_of self.now.schemas.now).absolute
+            (numbered_site self.now.schemas.now place) None) }
+    {
+        Ok(Text::new(String::from_str(alloc, self.schemas.absolute_of(place))?))
+    }
+
+    /// The absolute keyword location of the keyword with this name at a place (Core, section 12.3.2).
+    ///
+    /// # Errors
+    /// `Memory` if an allocation fails.
+    pub fn absolute_keyword(
+        &self,
+        alloc: Global,
+        place: Place,
+        keyword: &str,
+    ) -> Result<Text, Memory>
+        requires { is_place self.now.schemas.now place ≡ true }
+        ensures { IfOk result (λ t. t ≡ (schemas_of self.now.schemas.now).absolute
+            (numbered_site self.now.schemas.now place) (Some keyword.now)) }
+    {
+        let location = one_further(alloc, self.schemas.absolute_of(place), keyword)?;
+        Ok(Text::new(location))
+    }
+
+    /// The note of a schema's node.
+    ///
+    /// # Errors
+    /// `Memory` if an allocation fails.
+    #[tactic(auto, unfolding(crate::specs::Walk::Told::schema_says))]
+    pub fn schema_says<'n>(
+        &self,
+        alloc: Global,
+        _place: Place,
+        schema: &Doc,
+    ) -> Result<Note<'n>, Memory>
+        requires { IsSchemaAt self.now.schemas.now _place (schema_value schema.now) }
+        ensures { IfOk result (λ n. note_of n
+            ≡ schema_says (schemas_of self.now.schemas.now) (numbered_site self.now.schemas.now _place)) }
+    {
+        schema_note(alloc, schema)
+    }
+}
+
+// The location with one more token at its end.
+fn one_further(alloc: Global, location: &str, token: &str) -> Result<String, Memory>
+    ensures { IfOk result (λ t. string_bytes t ≡ location.now ++ fragment_token token.now) }
+{
+    let mut text = String::from_str(alloc, location)?;
+    push_fragment_token(&mut text, token)?;
+    Ok(text)
+}

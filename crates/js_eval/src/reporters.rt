@@ -1,0 +1,5 @@
+//! The reporters of the public walks: one passes the result to a collector, one keeps it as rows, one ignores it.
+
+pub(crate) mod collecting;
+pub(crate) mod recording;
+pub(crate) mod silent;

@@ -1,0 +1,110 @@
+//! The reporter that passes the result of a walk to a collector.
+ghost use Rattle.std.specs.Prelude.{◌≡◌, IfOk};
+
+use crate::finished_world::Here;
+use crate::instance::Instance;
+use crate::judging::notes::keyword_note;
+use crate::keywords::keyword::Keyword;
+use crate::walking::{HeldText, Judged, Reporter, Trail};
+use js_bundle::Place;
+use js_doc::{Doc, Memory, Text};
+use js_tree::{Collector, Head};
+use std::alloc::Global;
+use std::marker::PhantomData;
+
+/// Passes each node to a collector, with its three locations and its note. Its methods aren't inlined: that keeps
+/// what they allocate out of the recursive function's stack frame.
+pub(crate) struct Collecting<'a, C> {
+    pub collector: C,
+    pub notes: PhantomData<&'a Doc>,
+}
+
+impl<'a, C: Collector<'a>> Reporter<Here<'a>, HeldText> for Collecting<'a, C> {
+    ghost takes = { λ c e d. C.takes c.collector e d.collector };
+
+    #[inline(always)]
+    fn is_quiet(&self) -> bool {
+        false
+    }
+
+    #[inline(always)]
+    fn drops_silent(&self) -> bool {
+        false
+    }
+
+    #[inline(never)]
+    fn open_schema(
+        &mut self,
+        alloc: Global,
+        world: &Here<'a>,
+        place: Place,
+        keyword_location: &Trail<HeldText>,
+        instance_location: &Trail<HeldText>,
+    ) -> Result<(), Memory> {
+        let absolute = world.absolute_schema(alloc, place)?;
+        self.collector
+            .enter(head(keyword_location, absolute, instance_location)?)
+    }
+
+    #[inline(never)]
+    fn open_keyword(
+        &mut self,
+        alloc: Global,
+        world: &Here<'a>,
+        place: Place,
+        keyword: Keyword<'a>,
+        keyword_location: &Trail<HeldText>,
+        instance_location: &Trail<HeldText>,
+    ) -> Result<(), Memory> {
+        let absolute = world.absolute_keyword(alloc, place, keyword.name)?;
+        self.collector
+            .enter(head(keyword_location, absolute, instance_location)?)
+    }
+
+    #[inline(never)]
+    fn close_keyword(
+        &mut self,
+        alloc: Global,
+        world: &Here<'a>,
+        place: Place,
+        value: Instance<'a>,
+        keyword: Keyword<'a>,
+        judged: Judged,
+        matching: u64,
+        names: &[&'a str],
+        indexes: &[usize],
+    ) -> Result<(), Memory> {
+        let note = keyword_note(
+            alloc, world, place, value, keyword, judged, matching, names, indexes,
+        )?;
+        self.collector.leave(judged.passes, note)
+    }
+
+    #[inline(never)]
+    fn close_schema(
+        &mut self,
+        alloc: Global,
+        world: &Here<'a>,
+        place: Place,
+        schema: &'a Doc,
+        valid: bool,
+    ) -> Result<(), Memory> {
+        let note = world.schema_says(alloc, place, schema)?;
+        self.collector.leave(valid, note)
+    }
+}
+
+// The three locations of a node (JSON Schema Core, sections 12.3.1 to 12.3.3).
+fn head(
+    keyword: &Trail<HeldText>,
+    absolute: Text,
+    instance: &Trail<HeldText>,
+) -> Result<Head, Memory>
+    ensures { IfOk result (λ h. h ≡ record { keyword = keyword.now; absolute = absolute; instance = instance.now }) }
+{
+    Ok(Head {
+        keyword: keyword.copy()?,
+        absolute,
+        instance: instance.copy()?,
+    })
+}

@@ -1,0 +1,126 @@
+//! The reporter that keeps the result of a walk as rows.
+ghost use Rattle.std.specs.Prelude.{◌≡◌, OnOk, string_bytes};
+ghost use Rattle.js_doc.specs.Fragment.{fragment_token};
+ghost use Rattle.js_tree.specs.RelativeState.{relative_after, relative_state};
+
+use crate::finished_world::Here;
+use crate::instance::Instance;
+use crate::judging::notes::keyword_note;
+use crate::keywords::keyword::{Keyword, is_written_as_it_is};
+use crate::walking::{HeldText, Judged, Reporter, Trail};
+use js_bundle::Place;
+use js_doc::{Doc, Memory, push_fragment_token};
+use js_tree::RelativeRows;
+use std::alloc::Global;
+
+/// Adds a row for each node of the result. Its methods aren't inlined: that keeps the notes that they make out of the
+/// recursive function's stack frame.
+#[derive(Drop)]
+pub(crate) struct Recording<'a> {
+    pub rows: RelativeRows<'a>,
+    // What the absolute location of a keyword adds to that of its place, where its name may need escapes. One string
+    // serves all keywords.
+    pub token: String,
+}
+
+impl<'a> Reporter<Here<'a>, HeldText> for Recording<'a> {
+    ghost takes = { λ c e d. relative_state d.rows ≡ relative_after (relative_state c.rows) e };
+
+    #[inline(always)]
+    fn is_quiet(&self) -> bool {
+        false
+    }
+
+    #[inline(always)]
+    fn drops_silent(&self) -> bool {
+        self.rows.drops_silent()
+    }
+
+    #[inline(never)]
+    fn open_schema(
+        &mut self,
+        _alloc: Global,
+        world: &Here<'a>,
+        place: Place,
+        keyword_location: &Trail<HeldText>,
+        instance_location: &Trail<HeldText>,
+    ) -> Result<(), Memory> {
+        let absolute = world.schemas.absolute_of(place);
+        self.rows.enter(
+            keyword_location.as_str(),
+            absolute,
+            "",
+            instance_location.as_str(),
+        )
+    }
+
+    #[inline(never)]
+    fn open_keyword(
+        &mut self,
+        _alloc: Global,
+        world: &Here<'a>,
+        place: Place,
+        keyword: Keyword<'a>,
+        keyword_location: &Trail<HeldText>,
+        instance_location: &Trail<HeldText>,
+    ) -> Result<(), Memory> {
+        let schema = world.schemas.absolute_of(place);
+        if is_written_as_it_is(keyword.kind, keyword.name) {
+            return self.rows.enter_keyword(
+                keyword_location.as_str(),
+                schema,
+                keyword.name,
+                instance_location.as_str(),
+            );
+        }
+        set_token(&mut self.token, keyword.name)?;
+        self.rows.enter(
+            keyword_location.as_str(),
+            schema,
+            self.token.as_str(),
+            instance_location.as_str(),
+        )
+    }
+
+    #[inline(never)]
+    fn close_keyword(
+        &mut self,
+        alloc: Global,
+        world: &Here<'a>,
+        place: Place,
+        value: Instance<'a>,
+        keyword: Keyword<'a>,
+        judged: Judged,
+        matching: u64,
+        names: &[&'a str],
+        indexes: &[usize],
+    ) -> Result<(), Memory> {
+        let note = keyword_note(
+            alloc, world, place, value, keyword, judged, matching, names, indexes,
+        )?;
+        self.rows.leave(judged.passes, note);
+        Ok(())
+    }
+
+    #[inline(never)]
+    fn close_schema(
+        &mut self,
+        alloc: Global,
+        world: &Here<'a>,
+        place: Place,
+        schema: &'a Doc,
+        valid: bool,
+    ) -> Result<(), Memory> {
+        let note = world.schema_says(alloc, place, schema)?;
+        self.rows.leave(valid, note);
+        Ok(())
+    }
+}
+
+// Sets the token to what the absolute location of a keyword adds to that of its place.
+fn set_token(token: &mut String, name: &str) -> Result<(), Memory>
+    ensures { OnOk result (string_bytes token.new ≡ fragment_token name.now) }
+{
+    token.clear();
+    push_fragment_token(token, name)
+}

@@ -1,0 +1,192 @@
+//! Which names of an object the patterns of `patternProperties` match. `additionalProperties` needs this first, and
+//! `patternProperties` of the same schema reuses it.
+ghost use Rattle.std.specs.Prelude.{◌≡◌, IfOk, MatchOption, drop, get_or, map, false};
+ghost use Rattle.std.specs.List.{list_any};
+ghost use Rattle.js_assert.specs.Pattern.{matches};
+ghost use Rattle.js_doc.specs.Seen.{pair_of};
+
+use crate::cursors::member_cursor::{object_at, pattern_of};
+use crate::instance::Instance;
+use crate::searching::searchers::{NamedPattern, Searchers};
+use js_bundle::{Place, Schemas};
+use js_doc::{Doc, Members, Memory, Pairs};
+use std::alloc::Global;
+
+/// For one pattern: whether it matches each name of an object. Names are asked for in ascending order, and some may be
+/// skipped.
+#[derive(Drop)]
+pub(crate) struct PatternAnswers<'p> {
+    pub pattern: &'p str,
+    members: &'p Members,
+    /// Whether the pattern matches, for each member.
+    all: Vec<bool>,
+    /// The members that haven't been asked for.
+    left: Pairs<'p>,
+    /// The index of the first of them.
+    next: usize,
+    ghost right: { all.items ≡ map (λ m. matches pattern.now m.0) members.now },
+    ghost in_step: { drop next all.items ≡ map (λ m. matches pattern.now m.0) (map pair_of left) },
+}
+
+impl<'p> PatternAnswers<'p> {
+    /// Tries the pattern on each name.
+    ///
+    /// # Errors
+    /// `Memory` if an allocation fails.
+    pub fn new(
+        alloc: Global,
+        searchers: &Searchers<'p>,
+        pattern: NamedPattern<'p>,
+        members: &'p Members,
+    ) -> Result<PatternAnswers<'p>, Memory>
+        ensures { IfOk result (λ a. a.pattern.now ≡ pattern.entry.text.now) }
+    {
+        Ok(PatternAnswers {
+            pattern: pattern.text,
+            members,
+            all: asked_of_each(alloc, searchers, pattern, members)?,
+            left: members.pairs(),
+            next: 0,
+        })
+    }
+
+    /// Goes back to the first name.
+    pub fn rewind(&mut self)
+        ensures { self.new.pattern ≡ self.old.pattern }
+    {
+        self.left = self.members.pairs();
+        self.next = 0;
+    }
+
+    /// Whether the pattern matches the name, or None if the name isn't among those left. Skips the names before it.
+    pub fn find_name(&mut self, name: &str) -> Option<bool>
+        ensures answer { MatchOption result (Unit {0}) (λ b. b ≡ matches self.old.pattern.now name.now) }
+        ensures same { self.new.pattern ≡ self.old.pattern }
+    {
+        while let Some((own, _)) = self.left.next() {
+            let is_match = answer_at(self.all.as_slice(), self.next);
+            self.next += 1;
+            if own.as_str() == name {
+                return Some(is_match);
+            }
+        }
+        None
+    }
+
+    /// The same if `pattern` is the text of this pattern, else None.
+    pub fn find_of(&mut self, pattern: &str, name: &str) -> Option<bool>
+        ensures { MatchOption result (Unit {0}) (λ b. b ≡ matches pattern.now name.now) }
+    {
+        if self.pattern == pattern {
+            self.find_name(name)
+        } else {
+            None
+        }
+    }
+}
+
+/// For each pattern of a schema: which names of one object it matches.
+#[derive(Drop)]
+pub(crate) struct AllAnswers<'p> {
+    each: Vec<PatternAnswers<'p>>,
+    /// The index of the pattern that `find` asks.
+    present: usize,
+}
+
+impl<'p> AllAnswers<'p> {
+    /// Whether one of the patterns matches the name, or None if that isn't known. `patterns`: all patterns of the
+    /// schema.
+    pub fn any(&mut self, patterns: &Members, name: &str) -> Option<bool>
+        ensures { MatchOption result (Unit {0}) (λ b. b ≡ list_any (λ p. matches p.0 name.now) patterns.now) }
+    {
+        for (index, (pattern, _)) in patterns.pairs().enumerate() {
+            if self.find_at(index, pattern.as_str(), name)? {
+                return Some(true);
+            }
+        }
+        Some(false)
+    }
+
+    /// Selects the pattern that `find` asks, and goes back to the first name.
+    pub fn begin(&mut self, pattern: &str) {
+        self.present = place_of(self.each.as_slice(), pattern);
+        if let Some(answers) = self.each.get_mut(self.present) {
+            answers.rewind();
+        }
+    }
+
+    /// Whether the pattern matches the name, or None if it isn't the selected one.
+    pub fn find(&mut self, pattern: &str, name: &str) -> Option<bool>
+        ensures { MatchOption result (Unit {0}) (λ b. b ≡ matches pattern.now name.now) }
+    {
+        self.find_at(self.present, pattern, name)
+    }
+
+    fn find_at(&mut self, index: usize, pattern: &str, name: &str) -> Option<bool>
+        ensures { MatchOption result (Unit {0}) (λ b. b ≡ matches pattern.now name.now) }
+    {
+        match self.each.get_mut(index) {
+            Some(answers) => answers.find_of(pattern, name),
+            None => None,
+        }
+    }
+}
+
+// The index of the pattern's answers, if there are any. They are sorted by pattern.
+fn place_of(each: &[PatternAnswers<'_>], pattern: &str) -> usize {
+    each.partition_point(|answers| answers.pattern < pattern)
+}
+
+/// Tries each pattern of a schema's `patternProperties` on each name of the value, if it is an object, and stores the
+/// answers in `searchers`.
+///
+/// # Errors
+/// `Memory` if an allocation fails.
+#[inline(never)]
+pub(crate) fn keep_all<'p>(
+    alloc: Global,
+    schemas: &'p Schemas,
+    searchers: &Searchers<'p>,
+    place: Place,
+    schema: &'p Doc,
+    value: Instance<'p>,
+) -> Result<(), Memory> {
+    let Some(patterns) = object_at(schema, "patternProperties") else {
+        return Ok(());
+    };
+    let Some(members) = value.object() else {
+        return Ok(());
+    };
+    let mut each = Vec::with_capacity(alloc, patterns.len())?;
+    for (text, _) in patterns.pairs() {
+        if let Some(pattern) = pattern_of(schemas, place, text.as_str()) {
+            each.push(PatternAnswers::new(alloc, searchers, pattern, members)?)?;
+        }
+    }
+    searchers.keep_answers(AllAnswers { each, present: 0 })
+}
+
+// Whether the pattern matches each of the names.
+fn asked_of_each<'p>(
+    alloc: Global,
+    searchers: &Searchers<'p>,
+    pattern: NamedPattern<'p>,
+    members: &'p Members,
+) -> Result<Vec<bool>, Memory>
+    ensures { IfOk result (λ v. v.items ≡ map (λ m. matches pattern.entry.text.now m.0) members.now) }
+{
+    let mut all = Vec::with_capacity(alloc, members.len())?;
+    for (name, _) in members.pairs() {
+        all.push(searchers.matches_name(alloc, pattern, name.as_str())?)?;
+    }
+    Ok(all)
+}
+
+fn answer_at(all: &[bool], next: usize) -> bool
+    ensures { result ≡ get_or all.now next false }
+{
+    match all.get(next) {
+        Some(answer) => *answer,
+        None => false,
+    }
+}

@@ -1,0 +1,70 @@
+use Rattle.std.proofs.Common.{◌≡◌, ◌<◌, ◌+◌, ◌-◌, length, drop, get_or, refl, ap, ◌∙◌, arith, suc}
+use Rattle.js_tree.specs.code.Compacting.{left, left_tree_count, marked_rows, stays, room}
+use Rattle.js_tree.specs.FlatState.{row_of}
+use Rattle.js_tree.specs.Forest.{node_count}
+use Rattle.js_tree.specs.declared.collecting.flat.Row.{Row}
+use Rattle.js_tree.proofs.Marks.{from, node_at, row_at, rows_of, marked_after, marks_one, tells_same, mark_start, tree_fits, fewer_left}
+use Rattle.js_tree.proofs.reducing.compacting.mark.Goals as goal
+
+pub loop-i-init : goal.loop-i-init
+loop-i-init c = record { same = refl; marked = λ f e. mark_start c.args.keep c.args.rows.now f e }
+
+pub overflow_add-i-in-loop-i : goal.overflow_add-i-in-loop-i
+overflow_add-i-in-loop-i c =
+    let l = c.loop-i in
+    let w = tree_fits l.rows c.requires.0 (l.i - 1) c.index-rows-i.result (l.invariant.same ∙ c.requires.1) (omega arith) in
+    omega (arith, w)
+
+pub children-remaining-requires : goal.children-remaining-requires
+children-remaining-requires c =
+    let l = c.loop-i in
+    let n = l.i - 1 in
+    let f = c.requires.0 in
+    let e = l.invariant.same ∙ c.requires.1 in
+    let h : n < length l.rows = omega arith in
+    let next : suc n ≡ l.i = omega arith in
+    let later : n + 1 ≡ suc n = omega arith in
+    let a = node_at n f (let m = rows_of l.rows f e in omega (arith, m, h)) in
+    let s : (get_or l.rows n c.index-rows-i.result).size ≡ suc (node_count a.below) = ap (λ y. y.1) (row_at l.rows f n c.index-rows-i.result e h a) in
+    record {
+      within = tree_fits l.rows f n c.index-rows-i.result e h;
+      marked = (c.args.keep, a.below, marked_rows c.args.keep a.after, ap (λ m. drop m l.rows) later ∙ marked_after c.args.keep l.rows f n a (rw (← next) at (l.invariant.marked f c.requires.1)), omega (arith, s));
+    }
+
+pub room-room-requires : goal.room-room-requires
+room-room-requires c =
+    let l = c.loop-i in
+    let n = l.i - 1 in
+    let f = c.requires.0 in
+    let e = l.invariant.same ∙ c.requires.1 in
+    let h : n < length l.rows = omega arith in
+    let next : suc n ≡ l.i = omega arith in
+    let later : n + 1 ≡ suc n = omega arith in
+    let a = node_at n f (let m = rows_of l.rows f e in omega (arith, m, h)) in
+    let s : (get_or l.rows n c.index-rows-i.result).size ≡ suc (node_count a.below) = ap (λ y. y.1) (row_at l.rows f n c.index-rows-i.result e h a) in
+    let t = c.children-remaining.ensures c.args.keep a.below (marked_rows c.args.keep a.after) (ap (λ m. drop m l.rows) later ∙ marked_after c.args.keep l.rows f n a (rw (← next) at (l.invariant.marked f c.requires.1))) (omega (arith, s)) in
+    omega (arith, t.1, fewer_left c.args.keep a.below, s, c.index-rows-i.element_fits)
+
+pub loop-i-preserved : goal.loop-i-preserved
+loop-i-preserved c =
+    let l = c.loop-i in
+    let n = l.i - 1 in
+    let h : n < length l.rows = omega arith in
+    let next : suc n ≡ l.i = omega arith in
+    let later : n + 1 ≡ suc n = omega arith in
+    let d = c.index-rows-i-in-loop-i-2.result in
+    record {
+      same = tells_same l.rows n d _ refl ∙ l.invariant.same;
+      marked = λ f g.
+          let e = l.invariant.same ∙ g in
+          let a = node_at n f (let m = rows_of l.rows f e in omega (arith, m, h)) in
+          let m : drop (suc n) l.rows ≡ marked_rows c.args.keep (from (suc n) f) = rw (← next) at (l.invariant.marked f g) in
+          let at : (x : Row) → row_of (get_or l.rows n x) ≡ (a.unit, suc (node_count a.below)) = λ x. row_at l.rows f n x e h a in
+          let s : (get_or l.rows n c.index-rows-i.result).size ≡ suc (node_count a.below) = ap (λ y. y.1) (at c.index-rows-i.result) in
+          let t = c.children-remaining.ensures c.args.keep a.below (marked_rows c.args.keep a.after) (ap (λ m. drop m l.rows) later ∙ marked_after c.args.keep l.rows f n a m) (omega (arith, s)) in
+          let b : c.stays-stays.result ≡ stays c.args.keep a.unit (left_tree_count c.args.keep a.below) =
+          c.stays-stays.ensures ∙ (ap (λ y. stays c.args.keep y.0 c.children-remaining.result.trees) (at c.index-rows-i-in-loop-i.result) ∙ ap (stays c.args.keep a.unit) t.0) in
+          let r : c.room-room.result ≡ room c.args.keep (stays c.args.keep a.unit (left_tree_count c.args.keep a.below)) (node_count (left c.args.keep a.below)) =
+          c.room-room.ensures ∙ (ap (λ y. room c.args.keep y c.children-remaining.result.nodes) b ∙ ap (room c.args.keep (stays c.args.keep a.unit (left_tree_count c.args.keep a.below))) t.1) in
+          marks_one c.args.keep l.rows f n _ h a m (ap (λ y. y.0) (at d)) (ap (λ y. y.1) (at d)) r b;
+    }

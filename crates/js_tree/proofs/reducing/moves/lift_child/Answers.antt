@@ -1,0 +1,13 @@
+use Rattle.std.proofs.Common.{◌∙◌, ◌≢◌, sym, inl, inr, length, arith}
+use Rattle.js_tree.specs.OutputUnit.{noted}
+use Rattle.js_tree.proofs.Siblings.{no_only_child}
+use Rattle.js_tree.proofs.reducing.moves.lift_child.Goals as goal
+use Rattle.js_tree.proofs.reducing.moves.lift_child.Goals.{then-is_noted-via-then-is_noted, then-is_noted-via-else-is_noted+then-len-ne1}
+
+pub returns-then-is_noted-clause-lifted : goal.returns-then-is_noted-clause-lifted
+returns-then-is_noted-clause-lifted c = elim c.then-is_noted.branch [
+  | then-is_noted-via-then-is_noted w ↦ no_only_child noted c.args.tree.now c.tree.inside.unit c.tree.inside.children c.tree.view_is (inl (sym c.is_noted.ensures ∙ w.if-is_noted.true))
+  | then-is_noted-via-else-is_noted+then-len-ne1 w ↦
+      let n : length c.tree.inside.children ≢ 1 = omega (arith, w.len.ensures, w.if-len-ne1.true) in
+      no_only_child noted c.args.tree.now c.tree.inside.unit c.tree.inside.children c.tree.view_is (inr n)
+]

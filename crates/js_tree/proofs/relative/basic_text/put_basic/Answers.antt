@@ -1,0 +1,70 @@
+use Rattle.std.proofs.Common.{◌++◌, [], codes, false, ap, sym, subst}
+use Rattle.js_doc.specs.BytesOut.{Puts}
+use Rattle.js_tree.specs.Locations.{HasRoom}
+use Rattle.js_tree.specs.Marks.{whole_of}
+use Rattle.js_tree.specs.Relative.{escaped_tree, relative_tree}
+use Rattle.js_tree.specs.code.NodeText.{list_start, valid_text}
+use Rattle.js_tree.specs.code.Listing.{listed, values_text}
+use Rattle.js_tree.proofs.EscapedRows.{at_root}
+use Rattle.js_tree.proofs.FlatRows.{root_row}
+use Rattle.js_tree.proofs.ListedRows.{basic_in_parts, whole_rows, whole_rows_of}
+use Rattle.js_tree.proofs.Pieces.{then_puts, stops_in}
+use Rattle.js_tree.specs.RelativeState.{relative_row}
+use Rattle.js_tree.proofs.relative.basic_text.put_basic.Goals as goal
+
+pub returns-in_err-put_list_start : goal.returns-in_err-put_list_start
+returns-in_err-put_list_start g c =
+    λ t h.
+    let o = g.O.Out.progress in
+    let root = at_root c.args.locations c.args.rows.now c.requires.room in
+    let v = c.index-rows-0.result.valid in
+    let is = c.as_slice-rows.ensures.value in
+    let v_is = ap (λ u. u.valid) (root_row relative_row c.as_slice-rows.result.now (escaped_tree (relative_tree t)) c.index-rows-0.result (whole_rows c.args.rows.now t c.as_slice-rows.result.now is h) c.index-rows-0.is) in
+    let p1 = list_start v ++ codes "[" in
+    let p2 = values_text false (listed v [] [] (whole_of t)) in
+    let p3 = codes "]" ++ valid_text v in
+    let r = c.from_residual.result in
+    subst (λ l. Puts (o c.args.out.now) (o c.put_list_start.new.out) l r) (basic_in_parts c.args.rows.now t v h v_is)
+    (stops_in (o c.args.out.now) (o c.put_list_start.new.out) p1 (p2 ++ p3) r c.from_residual.ensures.0 c.in_err-put_list_start.ensures)
+
+pub put_trees-requires : goal.put_trees-requires
+put_trees-requires g c =
+    let t = c.requires.whole.0 in
+    let is = c.as_slice-rows.ensures.value in
+    let room = subst (HasRoom c.args.locations) (sym is) c.requires.room.room in
+    (whole_of t, whole_rows_of c.args.rows.now t c.as_slice-rows.result.now is c.requires.whole.1, room)
+
+pub returns-in_err-put_trees : goal.returns-in_err-put_trees
+returns-in_err-put_trees g c =
+    λ t h.
+    let o = g.O.Out.progress in
+    let root = at_root c.args.locations c.args.rows.now c.requires.room in
+    let v = c.index-rows-0.result.valid in
+    let is = c.as_slice-rows.ensures.value in
+    let v_is = ap (λ u. u.valid) (root_row relative_row c.as_slice-rows.result.now (escaped_tree (relative_tree t)) c.index-rows-0.result (whole_rows c.args.rows.now t c.as_slice-rows.result.now is h) c.index-rows-0.is) in
+    let p1 = list_start v ++ codes "[" in
+    let p2 = values_text false (listed v [] [] (whole_of t)) in
+    let p3 = codes "]" ++ valid_text v in
+    let r = c.from_residual-in_err-put_trees.result in
+    let rows_are = whole_rows_of c.args.rows.now t c.as_slice-rows.result.now is h in
+    subst (λ l. Puts (o c.args.out.now) (o c.put_trees.new.out) l r) (basic_in_parts c.args.rows.now t v h v_is)
+    (then_puts (o c.args.out.now) (o c.put_list_start.new.out) (o c.put_trees.new.out) p1 (p2 ++ p3) r c.in_ok-put_list_start.ensures
+    (stops_in (o c.put_list_start.new.out) (o c.put_trees.new.out) p2 p3 r c.from_residual-in_err-put_trees.ensures.0 (c.in_err-put_trees.ensures.listed (whole_of t) [] [] root rows_are)))
+
+pub returns : goal.returns
+returns g c =
+    λ t h.
+    let o = g.O.Out.progress in
+    let root = at_root c.args.locations c.args.rows.now c.requires.room in
+    let v = c.index-rows-0.result.valid in
+    let is = c.as_slice-rows.ensures.value in
+    let v_is = ap (λ u. u.valid) (root_row relative_row c.as_slice-rows.result.now (escaped_tree (relative_tree t)) c.index-rows-0.result (whole_rows c.args.rows.now t c.as_slice-rows.result.now is h) c.index-rows-0.is) in
+    let p1 = list_start v ++ codes "[" in
+    let p2 = values_text false (listed v [] [] (whole_of t)) in
+    let p3 = codes "]" ++ valid_text v in
+    let r = c.put_list_end.result in
+    let rows_are = whole_rows_of c.args.rows.now t c.as_slice-rows.result.now is h in
+    let all = c.in_ok-put_trees.ensures.listed (whole_of t) [] [] root rows_are in
+    subst (λ l. Puts (o c.args.out.now) (o c.put_list_end.new.out) l r) (basic_in_parts c.args.rows.now t v h v_is)
+    (then_puts (o c.args.out.now) (o c.put_list_start.new.out) (o c.put_list_end.new.out) p1 (p2 ++ p3) r c.in_ok-put_list_start.ensures
+    (then_puts (o c.put_list_start.new.out) (o c.put_trees.new.out) (o c.put_list_end.new.out) p2 p3 r all.goes c.put_list_end.ensures))

@@ -1,0 +1,104 @@
+use Rattle.std.proofs.Common.{◌≡◌, ◌+◌, ◌-◌, ◌++◌, ◌∷◌, append-nil, drop, take, map, sym, ap, ◌∙◌, arith}
+use Rattle.js_tree.specs.Marks.{left_trees, mark_of, marked}
+use Rattle.js_tree.specs.RelativeState.{relative_row}
+use Rattle.js_tree.specs.Result.{ResultTree}
+use Rattle.js_tree.proofs.ChildTexts.{rest_of}
+use Rattle.js_tree.proofs.FlatRows.{first_tree, root_row, rows_below, shorter}
+use Rattle.js_tree.proofs.MarkedRows.{mark_ends, mark_fits, mark_goes_on, mark_set, mark_starts, one_tree}
+use Rattle.js_tree.proofs.Marks.{flat_form-flat_of}
+use Rattle.js_tree.proofs.relative.marks.+mark_trees.Goals as goal
+
+pub mark_trees-loop-next-init : goal.mark_trees-loop-next-init
+mark_trees-loop-next-init t c = (omega arith, λ f e. mark_starts c.args.verdict c.args.rows.now c.args.marks.now.items f e)
+
+pub mark_trees-overflow_add-next : goal.mark_trees-overflow_add-next
+mark_trees-overflow_add-next t c =
+    let l = c.loop-next in
+    let rows = c.args.rows.now in
+    let w = l.invariant.1 c.requires.0 c.requires.1 in
+    let t = first_tree relative_row rows l.next w.left c.index-rows-first.result w.left_is c.loop-next-test.true c.index-rows-first.is in
+    omega (arith, t.fits)
+
+pub mark_trees-loop-next-preserved : goal.mark_trees-loop-next-preserved
+mark_trees-loop-next-preserved t' c =
+    let l = c.loop-next in
+    let rows = c.args.rows.now in
+    let x = c.index-rows-first.result in
+    let w0 = l.invariant.1 c.requires.0 c.requires.1 in
+    let t0 = first_tree relative_row rows l.next w0.left x w0.left_is c.loop-next-test.true c.index-rows-first.is in (
+      t0.fits,
+      λ f e.
+          let w = l.invariant.1 f e in
+          let t = first_tree relative_row rows l.next w.left x w.left_is c.loop-next-test.true c.index-rows-first.is in
+          let one : ResultTree = record { root = t.unit; below = t.below } in
+          let size : l.next + x.size - l.next ≡ x.size = omega arith in
+          let all_is = ap (λ n. map relative_row (take n (drop l.next rows))) size ∙ (t.all ∙ sym (flat_form-flat_of one)) in
+          let told = c.in_ok-trees.ensures one all_is in
+          mark_goes_on c.args.verdict rows l.next c.args.marks.now.items l.marks.items c.mark_tree.new.marks.items l.trees c.in_ok-trees.field-0 f x w t told.0 told.1,
+    )
+
+pub mark_trees-returns : goal.mark_trees-returns
+mark_trees-returns t c =
+    let l = c.loop-next in
+    λ f e. mark_ends c.args.verdict c.args.rows.now l.next c.args.marks.now.items l.marks.items l.trees f (l.invariant.1 f e) (omega (arith, c.loop-next-test.false))
+
+pub mark_trees-slice_bounds-mark_tree-end : goal.mark_trees-slice_bounds-mark_tree-end
+mark_trees-slice_bounds-mark_tree-end t' c =
+    let l = c.loop-next in
+    let rows = c.args.rows.now in
+    let x = c.index-rows-first.result in
+    let w = l.invariant.1 c.requires.0 c.requires.1 in
+    let t = first_tree relative_row rows l.next w.left x w.left_is c.loop-next-test.true c.index-rows-first.is in
+    t.fits
+
+pub mark_trees-mark_tree-requires : goal.mark_trees-mark_tree-requires
+mark_trees-mark_tree-requires t' c =
+    let l = c.loop-next in
+    let rows = c.args.rows.now in
+    let x = c.index-rows-first.result in
+    let w = l.invariant.1 c.requires.0 c.requires.1 in
+    let t = first_tree relative_row rows l.next w.left x w.left_is c.loop-next-test.true c.index-rows-first.is in
+    let one : ResultTree = record { root = t.unit; below = t.below } in
+    let size : l.next + x.size - l.next ≡ x.size = omega arith in
+    let all_is = ap (λ n. map relative_row (take n (drop l.next rows))) size ∙ (t.all ∙ sym (flat_form-flat_of one)) in
+    (omega (arith, shorter (l.next + x.size - l.next) l.next rows, c.decreases), (one, all_is))
+
+pub mark_trees-overflow_add-trees : goal.mark_trees-overflow_add-trees
+mark_trees-overflow_add-trees t' c =
+    let l = c.loop-next in
+    let rows = c.args.rows.now in
+    let x = c.index-rows-first.result in
+    let w = l.invariant.1 c.requires.0 c.requires.1 in
+    let t = first_tree relative_row rows l.next w.left x w.left_is c.loop-next-test.true c.index-rows-first.is in
+    let one : ResultTree = record { root = t.unit; below = t.below } in
+    let size : l.next + x.size - l.next ≡ x.size = omega arith in
+    let all_is = ap (λ n. map relative_row (take n (drop l.next rows))) size ∙ (t.all ∙ sym (flat_form-flat_of one)) in
+    let told = c.in_ok-trees.ensures one all_is in
+    omega (arith, mark_fits c.args.verdict rows l.next c.args.marks.now.items l.marks.items l.trees c.in_ok-trees.field-0 c.requires.0 x w t c.requires.1 told.1)
+
+pub mark_trees-loop-next-smaller : goal.mark_trees-loop-next-smaller
+mark_trees-loop-next-smaller t' c =
+    let l = c.loop-next in
+    let rows = c.args.rows.now in
+    let x = c.index-rows-first.result in
+    let w = l.invariant.1 c.requires.0 c.requires.1 in
+    let t = first_tree relative_row rows l.next w.left x w.left_is c.loop-next-test.true c.index-rows-first.is in
+    omega (arith, t.size, t.fits)
+
+pub mark_tree-returns : goal.mark_tree-returns
+mark_tree-returns t' c =
+    λ r e.
+    let v = c.args.verdict in
+    let rows = c.args.rows.now in
+    let x = c.index-rows-0.result in
+    let root = root_row relative_row rows r x e c.index-rows-0.is in
+    let is = ap (map relative_row) (rest_of rows) ∙ rows_below relative_row rows r e in
+    let told = c.in_ok-trees.ensures r.below is in
+    let old = c.args.marks.now.items in
+    let more = marked v r.below in
+    let mark_is = c.mark_of-mark.ensures ∙ (ap (λ u. mark_of v u c.in_ok-trees.trees) root ∙ ap (mark_of v r.root) told.1) in
+    let new_is = told.0 ∙ ap (λ ms. ms ++ more) c.in_ok-push.ensures.items in (
+      mark_set old _ c.mark_of-mark.result more c.mark_trees.new.marks.items c.len-number.result (c.len-number.ensures ∙ c.args.marks.now.ok.0) new_is
+          ∙ ap (λ m. old ++ m ∷ more) mark_is ∙ ap (λ ms. old ++ mark_of v r.root (left_trees v r.below) ∷ ms) (sym (append-nil more)),
+      one_tree v r.root r.below c.mark_of-mark.result c.trees_of.result mark_is c.trees_of.ensures,
+    )

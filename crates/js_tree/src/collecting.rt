@@ -1,0 +1,7 @@
+//! Collectors: what receives a result node by node, and what each then holds of it.
+
+pub(crate) mod boxed;
+pub(crate) mod collector;
+pub(crate) mod flat;
+pub(crate) mod nesting;
+pub(crate) mod verdict;

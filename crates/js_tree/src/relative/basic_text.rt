@@ -1,0 +1,164 @@
+//! The text of the basic format, from relative rows.
+ghost use Rattle.std.specs.Prelude.{◌≡◌, ◌++◌, OnOk, [], List, ℕ, codes};
+ghost use Rattle.js_doc.specs.BytesOut.{Puts};
+ghost use Rattle.js_doc.specs.Compact.{comma_if, compact};
+ghost use Rattle.js_tree.specs.Forest.{Forest};
+ghost use Rattle.js_tree.specs.Form.{node_value, unit_list};
+ghost use Rattle.js_tree.specs.Locations.{AreAt, HasRoom, HasRoomFor, IsBack};
+ghost use Rattle.js_tree.specs.OutputUnit.{OutputUnit};
+ghost use Rattle.js_tree.specs.RelativeState.{AreRowsOf, AreWhole, relative_row};
+ghost use Rattle.js_tree.specs.Result.{ResultTree, pruned};
+ghost use Rattle.js_tree.specs.code.NodeText.{list_start, valid_text};
+ghost use Rattle.js_tree.specs.code.Listing.{AreListed, if_noted, listed, listed_tree, may_list};
+ghost use Rattle.js_tree.specs.code.RelativeText.{AreRowsOfTree, AreRowsOfTrees, IsAbsolute, unit_there};
+
+use crate::relative::locations::Locations;
+use crate::relative::rows::{RelativeRow, RelativeRows};
+use crate::relative::verbose_text::put_beginning;
+use crate::writing::node_text::put_error;
+use js_doc::{Out, Stopped};
+
+/// Writes the rows' tree as compact text in the basic format (JSON Schema Core, section 12.4.2). It prunes while it
+/// writes: a subtree is passed over if the verdict of its root differs from that of the whole tree. It allocates
+/// nothing.
+///
+/// # Errors
+/// `Stopped` if the output stops; then a beginning of the text was written.
+pub fn put_basic<O: Out>(
+    rows: &RelativeRows,
+    locations: Locations,
+    out: &mut O,
+) -> Result<(), Stopped>
+    requires whole { AreWhole rows.now }
+    requires room { HasRoomFor locations rows.now }
+    ensures { (t : ResultTree) → AreRowsOf rows.now t
+        → Puts (O.progress out.old) (O.progress out.new) (compact (unit_list (pruned t))) result }
+{
+    let mut locations = locations;
+    let rows = rows.rows.as_slice();
+    let root = &rows[0];
+    let verdict = root.valid;
+    put_list_start(verdict, out)?;
+    put_trees(verdict, false, rows, &mut locations, out)?;
+    put_list_end(verdict, out)
+}
+
+/// Writes the units of the trees of the rows, below a node with these locations. `later` says whether a unit was
+/// written before, which needs a comma; the same is returned for what comes next.
+#[cycle(put_trees)]
+fn put_trees<O: Out>(
+    verdict: bool,
+    later: bool,
+    rows: &[RelativeRow],
+    locations: &mut Locations,
+    out: &mut O,
+) -> Result<bool, Stopped>
+    requires { (f : Forest OutputUnit) × AreRowsOfTrees rows.now f × HasRoom locations.old rows.now }
+    ensures listed { (f : Forest OutputUnit) (keyword instance : List ℕ) → AreAt locations.old keyword instance
+        → AreRowsOfTrees rows.now f
+        → AreListed (O.progress out.old) (O.progress out.new) later (listed verdict keyword instance f) result }
+    ensures back { OnOk result (IsBack locations.old locations.new) }
+{
+    let mut later = later;
+    let mut next = 0;
+    while next < rows.len() {
+        let first = next;
+        let row = &rows[first];
+        next = first + row.size;
+        if !may_list(verdict, row) {
+            continue;
+        }
+        later = put_tree(verdict, later, &rows[first..next], locations, out)?;
+    }
+    Ok(later)
+}
+
+/// Writes the units of the tree of the rows. Its root has the verdict.
+#[cycle(put_trees)]
+fn put_tree<O: Out>(
+    verdict: bool,
+    later: bool,
+    rows: &[RelativeRow],
+    locations: &mut Locations,
+    out: &mut O,
+) -> Result<bool, Stopped>
+    requires { (r : ResultTree) × AreRowsOfTree rows.now r × HasRoom locations.old rows.now }
+    ensures listed { (r : ResultTree) (keyword instance : List ℕ) → AreAt locations.old keyword instance
+        → AreRowsOfTree rows.now r
+        → AreListed (O.progress out.old) (O.progress out.new) later
+        (listed_tree verdict keyword instance r.root r.below) result }
+    ensures back { OnOk result (IsBack locations.old locations.new) }
+{
+    let row = &rows[0];
+    locations.go_to_node(row);
+    let later = put_noted(later, row, locations, out)?;
+    let later = put_trees(verdict, later, &rows[1..], locations, out)?;
+    locations.go_back(row);
+    Ok(later)
+}
+
+// Whether the tree of this row can have units: its root has the verdict, and it is more than a node without a note.
+fn may_list(verdict: bool, row: &RelativeRow) -> bool
+    ensures { result ≡ may_list verdict (relative_row row.now) }
+{
+    if row.valid != verdict {
+        return false;
+    }
+    row.size > 1 || row.note.is_some()
+}
+
+/// Writes the unit, if it has a note.
+fn put_noted<O: Out>(
+    later: bool,
+    row: &RelativeRow,
+    locations: &Locations,
+    out: &mut O,
+) -> Result<bool, Stopped>
+    ensures { (keyword absolute instance : List ℕ) → AreAt locations.now keyword instance → IsAbsolute row.now absolute
+        → AreListed (O.progress out.old) (O.progress out.new) later
+        (if_noted (unit_there row.now keyword absolute instance)) result }
+{
+    if !row.note.is_some() {
+        return Ok(later);
+    }
+    put_unit(later, row, locations, out)?;
+    Ok(true)
+}
+
+/// Writes the unit as a node without children; after a comma, if a unit was written before.
+fn put_unit<O: Out>(
+    later: bool,
+    row: &RelativeRow,
+    locations: &Locations,
+    out: &mut O,
+) -> Result<(), Stopped>
+    ensures { (keyword absolute instance : List ℕ) → AreAt locations.now keyword instance → IsAbsolute row.now absolute
+        → Puts (O.progress out.old) (O.progress out.new)
+        (comma_if later ++ compact (node_value (unit_there row.now keyword absolute instance) [])) result }
+{
+    put_beginning(later, row, out)?;
+    put_error(&row.note, out)?;
+    locations.put_end(row.valid, out)
+}
+
+/// Writes what is before the first unit.
+fn put_list_start<O: Out>(valid: bool, out: &mut O) -> Result<(), Stopped>
+    ensures { Puts (O.progress out.old) (O.progress out.new) (list_start valid ++ codes "[") result }
+{
+    if valid {
+        out.put(b"{\"annotations\":[")
+    } else {
+        out.put(b"{\"errors\":[")
+    }
+}
+
+/// Writes what is after the last unit.
+fn put_list_end<O: Out>(valid: bool, out: &mut O) -> Result<(), Stopped>
+    ensures { Puts (O.progress out.old) (O.progress out.new) (codes "]" ++ valid_text valid) result }
+{
+    if valid {
+        out.put(b"],\"valid\":true}")
+    } else {
+        out.put(b"],\"valid\":false}")
+    }
+}

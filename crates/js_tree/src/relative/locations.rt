@@ -1,0 +1,162 @@
+//! The locations of a node, put together from the parts that it and the nodes above it add.
+ghost use Rattle.std.specs.Prelude.{◌≡◌, ◌+◌, ◌≤◌, ◌∷◌, [], ◌++◌, List, ℕ, IfOk, length, vec_capacity};
+ghost use Rattle.js_doc.specs.BytesOut.{Puts};
+ghost use Rattle.js_tree.specs.Locations.{AreAt, HasRoom, HasRoomFor, IsDown, IsUp, instances_added, keywords_added};
+ghost use Rattle.js_tree.specs.RelativeState.{part};
+ghost use Rattle.js_tree.specs.code.NodeText.{end_text, valid_text};
+ghost use Rattle.js_tree.specs.code.RelativeText.{closing_text};
+
+use crate::relative::rows::{RelativeRow, RelativeRows, behind};
+use crate::relative::unescaping::text_of;
+use js_doc::{Memory, Out, Stopped, Text};
+use std::alloc::Global;
+
+/// The keyword location and the instance location of one node, while relative rows are written (JSON Schema Core,
+/// sections 12.3.1 and 12.3.3).
+#[derive(Drop)]
+pub struct Locations {
+    // With what stands before it, so that one call of `put` writes both.
+    keyword: Vec<u8>,
+    instance: Vec<u8>,
+}
+
+// What stands before the keyword location.
+const KEYWORD_START: &[u8] = b"\",\"keywordLocation\":\"";
+
+impl Locations {
+    /// Empty locations, with memory reserved for those of each node of the rows, so that writing allocates nothing. The
+    /// parts of all rows together are an upper limit of their length. Reserved memory that is never used costs nothing.
+    ///
+    /// # Errors
+    /// `Memory` if an allocation fails.
+    pub fn new(alloc: Global, rows: &RelativeRows) -> Result<Locations, Memory>
+        ensures { IfOk result (λ at. HasRoomFor at rows.now) }
+    {
+        let (keyword, instance) = added(rows.rows.as_slice())?;
+        let room = keyword.checked_add(KEYWORD_START.len()).ok_or(Memory)?;
+        let mut keyword = Vec::with_capacity(alloc, room)?;
+        keyword.extend_from_slice(KEYWORD_START)?;
+        Ok(Locations {
+            keyword,
+            instance: Vec::with_capacity(alloc, instance)?,
+        })
+    }
+
+    /// The keyword location, as a text of its own.
+    ///
+    /// # Errors
+    /// `Memory` if an allocation fails.
+    pub(crate) fn keyword_text(&self, alloc: Global) -> Result<Text, Memory>
+        ensures { (keyword instance : List ℕ) → AreAt self.now keyword instance → IfOk result (λ t. t ≡ keyword) }
+    {
+        let escaped = behind(self.keyword.as_slice(), KEYWORD_START.len());
+        text_of(alloc, "", false, escaped)
+    }
+
+    /// The instance location, as a text of its own.
+    ///
+    /// # Errors
+    /// `Memory` if an allocation fails.
+    pub(crate) fn instance_text(&self, alloc: Global) -> Result<Text, Memory>
+        ensures { (keyword instance : List ℕ) → AreAt self.now keyword instance → IfOk result (λ t. t ≡ instance) }
+    {
+        text_of(alloc, "", false, self.instance.as_slice())
+    }
+
+    /// Goes from the node above to the node of the row. It allocates nothing.
+    pub(crate) fn go_to_node(&mut self, row: &RelativeRow)
+        requires { HasRoom self.old (row.now ∷ []) }
+        ensures { IsDown self.old row.now self.new }
+    {
+        add_part(&mut self.keyword, row.keyword_slash, row.keyword);
+        let _ = self.instance.extend_from_slice(row.instance);
+    }
+
+    /// Goes back from the node of the row to the node above.
+    pub(crate) fn go_back(&mut self, row: &RelativeRow)
+        ensures { IsUp self.old row.now self.new }
+    {
+        take_part(&mut self.keyword, row.keyword_slash, row.keyword);
+        let instance = self.instance.len().saturating_sub(row.instance.len());
+        self.instance.truncate(instance);
+    }
+
+    /// Writes the last members of the node: its instance location, its keyword location and its verdict.
+    pub(crate) fn put_end<O: Out>(&self, valid: bool, out: &mut O) -> Result<(), Stopped>
+        ensures { (keyword instance : List ℕ) → AreAt self.now keyword instance
+            → Puts (O.progress out.old) (O.progress out.new) (end_text instance keyword valid) result }
+    {
+        out.put(b",\"instanceLocation\":\"")?;
+        self.put_closing(valid, out)
+    }
+
+    /// Writes the same, from behind the opening quotation mark of the instance location.
+    pub(crate) fn put_closing<O: Out>(&self, valid: bool, out: &mut O) -> Result<(), Stopped>
+        ensures { (keyword instance : List ℕ) → AreAt self.now keyword instance
+            → Puts (O.progress out.old) (O.progress out.new) (closing_text instance keyword valid) result }
+    {
+        out.put(self.instance.as_slice())?;
+        out.put(self.keyword.as_slice())?;
+        put_last(valid, out)
+    }
+}
+
+// The number of bytes in all parts that the rows add, to keyword locations and to instance locations.
+fn added(rows: &[RelativeRow]) -> Result<(usize, usize), Memory>
+    ensures { IfOk result (λ sums. (sums.0 ≡ keywords_added rows.now) × (sums.1 ≡ instances_added rows.now)) }
+{
+    let mut keyword: usize = 0;
+    let mut instance: usize = 0;
+    for row in rows {
+        keyword = with_part(keyword, row.keyword_slash, row.keyword)?;
+        instance = instance.checked_add(row.instance.len()).ok_or(Memory)?;
+    }
+    Ok((keyword, instance))
+}
+
+// How many bytes there are with this part too.
+fn with_part(count: usize, slash: bool, text: &[u8]) -> Result<usize, Memory>
+    ensures { IfOk result (λ n. n ≡ count + length (part slash text.now)) }
+{
+    let more = count.checked_add(text.len()).ok_or(Memory)?;
+    if slash {
+        return more.checked_add(1).ok_or(Memory);
+    }
+    Ok(more)
+}
+
+// Adds a part to a location, which has the memory for it.
+fn add_part(location: &mut Vec<u8>, slash: bool, text: &[u8])
+    requires { length location.old.items + length (part slash text.now) ≤ vec_capacity location.old }
+    ensures items { location.new.items ≡ location.old.items ++ part slash text.now }
+    ensures capacity { vec_capacity location.old ≤ vec_capacity location.new }
+{
+    if slash {
+        let _ = location.push(b'/');
+    }
+    let _ = location.extend_from_slice(text);
+}
+
+// Takes the part that was added last away again.
+fn take_part(location: &mut Vec<u8>, slash: bool, text: &[u8])
+    ensures items { (above : List ℕ) → location.old.items ≡ above ++ part slash text.now → location.new.items ≡ above }
+    ensures capacity { vec_capacity location.old ≤ vec_capacity location.new }
+{
+    let end = location.len().saturating_sub(text.len());
+    if slash {
+        location.truncate(end.saturating_sub(1));
+    } else {
+        location.truncate(end);
+    }
+}
+
+// Writes the closing quotation mark of the keyword location, and the last member.
+fn put_last<O: Out>(valid: bool, out: &mut O) -> Result<(), Stopped>
+    ensures { Puts (O.progress out.old) (O.progress out.new) (34 ∷ valid_text valid) result }
+{
+    if valid {
+        out.put(b"\",\"valid\":true}")
+    } else {
+        out.put(b"\",\"valid\":false}")
+    }
+}

@@ -1,0 +1,270 @@
+//! The text of the verbose format, from relative rows.
+ghost use Rattle.std.specs.Prelude.{◌≡◌, ◌++◌, ◌∷◌, [], List, ℕ, codes, false, OnOk};
+ghost use Rattle.js_doc.specs.BytesOut.{Puts};
+ghost use Rattle.js_doc.specs.Compact.{comma_if, compact, compact_items};
+ghost use Rattle.js_doc.specs.Value.{items};
+ghost use Rattle.js_tree.specs.Forest.{Forest};
+ghost use Rattle.js_tree.specs.Form.{array_of_some, node_value, node_values, value_if, verbose};
+ghost use Rattle.js_tree.specs.Locations.{AreAt, HasRoom, HasRoomFor, IsBack};
+ghost use Rattle.js_tree.specs.Note.{silent};
+ghost use Rattle.js_tree.specs.OutputUnit.{OutputUnit};
+ghost use Rattle.js_tree.specs.Relative.{placed, placed_tree};
+ghost use Rattle.js_tree.specs.RelativeState.{AreRowsOf, AreWhole, part};
+ghost use Rattle.js_tree.specs.Result.{ResultTree};
+ghost use Rattle.js_tree.specs.Seen.{note_of};
+ghost use Rattle.js_tree.specs.code.NodeText.{beginning_text, given_text};
+ghost use Rattle.js_tree.specs.code.RelativeText.{AreRowsOfTree, AreRowsOfTrees, IsAbsolute, children_start, inside_text, opening_text, unit_there};
+
+use crate::relative::locations::Locations;
+use crate::relative::rows::{RelativeRow, RelativeRows};
+use crate::writing::node_text::{put_annotation, put_error};
+use js_doc::{Out, Stopped, put_escaped};
+
+/// Writes the rows' tree as compact text in the verbose format (JSON Schema Core, section 12.4.4), with whole
+/// locations. It allocates nothing.
+///
+/// # Errors
+/// `Stopped` if the output stops; then a beginning of the text was written.
+pub fn put_verbose<O: Out>(
+    rows: &RelativeRows,
+    locations: Locations,
+    out: &mut O,
+) -> Result<(), Stopped>
+    requires whole { AreWhole rows.now }
+    requires room { HasRoomFor locations rows.now }
+    ensures { (t : ResultTree) → AreRowsOf rows.now t
+        → Puts (O.progress out.old) (O.progress out.new) (compact (verbose t)) result }
+{
+    let mut locations = locations;
+    put_tree(false, rows.rows.as_slice(), &mut locations, out)
+}
+
+/// Writes the tree of the rows, below a node with these locations; after a comma, if it isn't the first in its list.
+#[cycle(put_tree)]
+fn put_tree<O: Out>(
+    later: bool,
+    rows: &[RelativeRow],
+    locations: &mut Locations,
+    out: &mut O,
+) -> Result<(), Stopped>
+    requires { (r : ResultTree) × AreRowsOfTree rows.now r × HasRoom locations.old rows.now }
+    ensures text { (r : ResultTree) (keyword instance : List ℕ) → AreAt locations.old keyword instance
+        → AreRowsOfTree rows.now r
+        → Puts (O.progress out.old) (O.progress out.new)
+        (comma_if later ++ compact (verbose (placed_tree keyword instance r))) result }
+    ensures back { OnOk result (IsBack locations.old locations.new) }
+{
+    let row = &rows[0];
+    locations.go_to_node(row);
+    put_node(later, row, &rows[1..], locations, out)?;
+    locations.go_back(row);
+    Ok(())
+}
+
+/// Writes a node with these locations, and the trees below it.
+#[cycle(put_tree)]
+fn put_node<O: Out>(
+    later: bool,
+    row: &RelativeRow,
+    below: &[RelativeRow],
+    locations: &mut Locations,
+    out: &mut O,
+) -> Result<(), Stopped>
+    requires { (f : Forest OutputUnit) × AreRowsOfTrees below.now f × HasRoom locations.old below.now }
+    ensures text { (f : Forest OutputUnit) (keyword absolute instance : List ℕ) → AreAt locations.old keyword instance
+        → IsAbsolute row.now absolute → AreRowsOfTrees below.now f
+        → Puts (O.progress out.old) (O.progress out.new)
+        (comma_if later ++ compact (node_value (unit_there row.now keyword absolute instance)
+        (node_values (placed keyword instance f)))) result }
+    ensures back { OnOk result (IsBack locations.old locations.new) }
+{
+    let note = &row.note;
+    if note.is_some() {
+        return put_noted(later, row, below, locations, out);
+    }
+    put_silent(later, row, below, locations, out)
+}
+
+/// Writes a node with a note.
+#[cycle(put_tree)]
+fn put_noted<O: Out>(
+    later: bool,
+    row: &RelativeRow,
+    below: &[RelativeRow],
+    locations: &mut Locations,
+    out: &mut O,
+) -> Result<(), Stopped>
+    requires { (f : Forest OutputUnit) × AreRowsOfTrees below.now f × HasRoom locations.old below.now }
+    ensures text { (f : Forest OutputUnit) (keyword absolute instance : List ℕ) → AreAt locations.old keyword instance
+        → IsAbsolute row.now absolute → AreRowsOfTrees below.now f
+        → Puts (O.progress out.old) (O.progress out.new)
+        (comma_if later ++ compact (node_value (unit_there row.now keyword absolute instance)
+        (node_values (placed keyword instance f)))) result }
+    ensures back { OnOk result (IsBack locations.old locations.new) }
+{
+    let valid = row.valid;
+    put_beginning(later, row, out)?;
+    put_children(valid, b",\"annotations\":[", below, locations, out)?;
+    put_error(&row.note, out)?;
+    put_children(!valid, b",\"errors\":[", below, locations, out)?;
+    locations.put_end(valid, out)
+}
+
+/// Writes `start` and the trees of the rows, if there are any and `here` says that they belong here.
+#[cycle(put_tree)]
+fn put_children<O: Out>(
+    here: bool,
+    start: &[u8],
+    rows: &[RelativeRow],
+    locations: &mut Locations,
+    out: &mut O,
+) -> Result<(), Stopped>
+    requires { (f : Forest OutputUnit) × AreRowsOfTrees rows.now f × HasRoom locations.old rows.now }
+    ensures text { (f : Forest OutputUnit) (name keyword instance : List ℕ) → AreAt locations.old keyword instance
+        → AreRowsOfTrees rows.now f → start.now ≡ name ++ 91 ∷ []
+        → Puts (O.progress out.old) (O.progress out.new)
+        (given_text name (value_if here (array_of_some (node_values (placed keyword instance f))))) result }
+    ensures back { OnOk result (IsBack locations.old locations.new) }
+{
+    if !here {
+        return Ok(());
+    }
+    if rows.is_empty() {
+        return Ok(());
+    }
+    out.put(start)?;
+    put_trees(rows, b"]", locations, out)
+}
+
+/// Writes a node without a note. Most nodes have none, and each call of `put` costs time, so quotation marks and
+/// brackets are written together with the text beside them.
+#[cycle(put_tree)]
+fn put_silent<O: Out>(
+    later: bool,
+    row: &RelativeRow,
+    below: &[RelativeRow],
+    locations: &mut Locations,
+    out: &mut O,
+) -> Result<(), Stopped>
+    requires silent { note_of row.now.note ≡ silent }
+    requires trees { (f : Forest OutputUnit) × AreRowsOfTrees below.now f × HasRoom locations.old below.now }
+    ensures text { (f : Forest OutputUnit) (keyword absolute instance : List ℕ) → AreAt locations.old keyword instance
+        → IsAbsolute row.now absolute → AreRowsOfTrees below.now f
+        → Puts (O.progress out.old) (O.progress out.new)
+        (comma_if later ++ compact (node_value (unit_there row.now keyword absolute instance)
+        (node_values (placed keyword instance f)))) result }
+    ensures back { OnOk result (IsBack locations.old locations.new) }
+{
+    let valid = row.valid;
+    put_opening(later, row, out)?;
+    put_inside(valid, below, locations, out)?;
+    locations.put_closing(valid, out)
+}
+
+/// Writes what is between the absolute location and the instance location: the trees of the rows, if there are any.
+#[cycle(put_tree)]
+fn put_inside<O: Out>(
+    valid: bool,
+    rows: &[RelativeRow],
+    locations: &mut Locations,
+    out: &mut O,
+) -> Result<(), Stopped>
+    requires { (f : Forest OutputUnit) × AreRowsOfTrees rows.now f × HasRoom locations.old rows.now }
+    ensures text { (f : Forest OutputUnit) (keyword instance : List ℕ) → AreAt locations.old keyword instance
+        → AreRowsOfTrees rows.now f
+        → Puts (O.progress out.old) (O.progress out.new)
+        (inside_text valid (node_values (placed keyword instance f))) result }
+    ensures back { OnOk result (IsBack locations.old locations.new) }
+{
+    if rows.is_empty() {
+        return out.put(b"\",\"instanceLocation\":\"");
+    }
+    put_children_start(valid, out)?;
+    put_trees(rows, b"],\"instanceLocation\":\"", locations, out)
+}
+
+/// Writes the trees of the rows, with commas between them, and then `end`, which begins with the closing bracket.
+#[cycle(put_tree)]
+fn put_trees<O: Out>(
+    rows: &[RelativeRow],
+    end: &[u8],
+    locations: &mut Locations,
+    out: &mut O,
+) -> Result<(), Stopped>
+    requires { (f : Forest OutputUnit) × AreRowsOfTrees rows.now f × HasRoom locations.old rows.now }
+    ensures text { (f : Forest OutputUnit) (rest keyword instance : List ℕ) → AreAt locations.old keyword instance
+        → AreRowsOfTrees rows.now f → end.now ≡ 93 ∷ rest
+        → Puts (O.progress out.old) (O.progress out.new)
+        (compact_items false (items (node_values (placed keyword instance f))) ++ rest) result }
+    ensures back { OnOk result (IsBack locations.old locations.new) }
+{
+    let mut later = false;
+    let mut next = 0;
+    while next < rows.len() {
+        let first = next;
+        let row = &rows[first];
+        next = first + row.size;
+        put_tree(later, &rows[first..next], locations, out)?;
+        later = true;
+    }
+    out.put(end)
+}
+
+/// Writes the members before `annotations`; after a comma, if the node isn't the first in its list.
+pub(crate) fn put_beginning<O: Out>(
+    later: bool,
+    row: &RelativeRow,
+    out: &mut O,
+) -> Result<(), Stopped>
+    ensures { (absolute : List ℕ) → IsAbsolute row.now absolute
+        → Puts (O.progress out.old) (O.progress out.new)
+        (comma_if later ++ beginning_text absolute (note_of row.now.note)) result }
+{
+    put_opening(later, row, out)?;
+    out.put(b"\"")?;
+    put_annotation(&row.note, out)
+}
+
+/// Writes the beginning of a node, up to the end of its absolute location, without the closing quotation mark.
+fn put_opening<O: Out>(later: bool, row: &RelativeRow, out: &mut O) -> Result<(), Stopped>
+    ensures { (absolute : List ℕ) → IsAbsolute row.now absolute
+        → Puts (O.progress out.old) (O.progress out.new) (opening_text later absolute) result }
+{
+    put_start(later, out)?;
+    put_escaped(row.schema.as_bytes(), out)?;
+    put_part(row.absolute_slash, row.absolute, out)
+}
+
+/// Writes a part of a location.
+pub(crate) fn put_part<O: Out>(slash: bool, text: &[u8], out: &mut O) -> Result<(), Stopped>
+    ensures { Puts (O.progress out.old) (O.progress out.new) (part slash text.now) result }
+{
+    if !slash {
+        return out.put(text);
+    }
+    out.put(b"/")?;
+    out.put(text)
+}
+
+/// Writes what is before the absolute location; after a comma, if the node isn't the first in its list.
+fn put_start<O: Out>(later: bool, out: &mut O) -> Result<(), Stopped>
+    ensures { Puts (O.progress out.old) (O.progress out.new)
+        (comma_if later ++ codes "{\"absoluteKeywordLocation\":\"") result }
+{
+    if later {
+        out.put(b",{\"absoluteKeywordLocation\":\"")
+    } else {
+        out.put(b"{\"absoluteKeywordLocation\":\"")
+    }
+}
+
+/// Writes the closing quotation mark of the absolute location, and the beginning of the list of children.
+fn put_children_start<O: Out>(valid: bool, out: &mut O) -> Result<(), Stopped>
+    ensures { Puts (O.progress out.old) (O.progress out.new) (children_start valid) result }
+{
+    if valid {
+        out.put(b"\",\"annotations\":[")
+    } else {
+        out.put(b"\",\"errors\":[")
+    }
+}
