@@ -3,16 +3,17 @@ use Rattle.std.proofs.Common.{◌≡◌, ℕ, true, ◌⊎◌, inl, inr, Result,
 use Rattle.std.specs.Prelude.{IfOk}
 use Rattle.js_doc.specs.Value.{Value}
 use Rattle.js_tree.specs.RelativeState.{AreRowsOf}
-use Rattle.js_tree.specs.Result.{ResultTree}
+use Rattle.js_tree.specs.Result.{ResultTree, kept, pruned}
 use Rattle.js_tree.specs.Trimmed.{trimmed_tree}
 use Rattle.js_tree.specs.declared.forms.Format.{Format}
 use Rattle.js_tree.specs.declared.forms.Format.TheVariants.{Flag, Basic, Detailed, Merged, Verbose}
 use Rattle.js_tree.specs.declared.relative.rows.RelativeRows.{RelativeRows}
+use Rattle.js_tree.proofs.Trimming.{same_kept}
 use Rattle.js_bundle.specs.Document.{Documents}
 use Rattle.js_bundle.specs.Schemas.{is_place, place_at}
 use Rattle.js_eval.specs.Walked as walked
 use Rattle.js_eval.specs.declared.walking.fault.WalkFault.{WalkFault}
-use Rattle.js_output.specs.Outcome.{AreRowsInFormat, recorded}
+use Rattle.js_output.specs.code.Shown.{AreRowsBy, recorded, reduced}
 use Rattle.js_output.proofs.Sites.{result-there}
 
 -- one of these formats
@@ -26,14 +27,23 @@ noted_recorded format t (inr (inr (inl e))) = ap (λ f. recorded f t) e
 noted_recorded format t (inr (inr (inr e))) = ap (λ f. recorded f t) e
 
 module _ (docs : Documents) (n : ℕ) (v : Value) (there : is_place docs n ≡ true) where
-  pub all_there : (format : Format) (r : Result RelativeRows WalkFault) → format ≡ Verbose → IfOk r (walked.AreResultRows docs n v) → IfOk r (AreRowsInFormat format docs (place_at docs n) v)
+  pub all_there : (format : Format) (r : Result RelativeRows WalkFault) → format ≡ Verbose → IfOk r (walked.AreResultRows docs n v) → IfOk r (AreRowsBy (recorded format) docs (place_at docs n) v)
   all_there format (Ok rows) e h =
       let (t, within, are) = h in
       (t, result-there docs n v there t within.is, within.stands, subst (λ f. AreRowsOf rows (recorded f t)) (sym e) are)
   all_there format (Err f) e h = tt
 
-  pub noted_there : (format : Format) (r : Result RelativeRows WalkFault) → IsOther format → IfOk r (walked.AreNotedRows docs n v) → IfOk r (AreRowsInFormat format docs (place_at docs n) v)
+  pub noted_there : (format : Format) (r : Result RelativeRows WalkFault) → IsOther format → IfOk r (walked.AreNotedRows docs n v) → IfOk r (AreRowsBy (recorded format) docs (place_at docs n) v)
   noted_there format (Ok rows) e h =
       let (t, within, are) = h in
       (t, result-there docs n v there t within.is, within.stands, subst (AreRowsOf rows) (sym (noted_recorded format t e)) are)
   noted_there format (Err f) e h = tt
+
+-- ---- the tree that a format is written from, by that whose rows were kept
+
+-- one of these formats
+pub abbrev IsCondensed : Format → Type 0
+IsCondensed format = (format ≡ Detailed) ⊎ (format ≡ Merged)
+
+pub abbrev IsAsRecorded : Format → Type 0
+IsAsRecorded format = (format ≡ Flag) ⊎ ((format ≡ Basic) ⊎ (format ≡ Verbose))

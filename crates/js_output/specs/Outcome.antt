@@ -5,13 +5,8 @@ use Rattle.js_doc.specs.Compact.{compact}
 use Rattle.js_doc.specs.Value.{Value}
 use Rattle.js_doc.specs.declared.reading.ReadFault.{ReadFault}
 use Rattle.js_tree.specs.Form.{form}
-use Rattle.js_tree.specs.MergedResult.{merged}
-use Rattle.js_tree.specs.RelativeState.{AreRowsOf}
-use Rattle.js_tree.specs.Result.{pruned}
-use Rattle.js_tree.specs.Trimmed.{trimmed_tree}
 use Rattle.js_tree.specs.declared.forms.Format.{Format}
-use Rattle.js_tree.specs.declared.forms.Format.TheVariants.{Flag, Basic, Verbose}
-use Rattle.js_tree.specs.declared.relative.rows.RelativeRows.{RelativeRows}
+use Rattle.js_tree.specs.declared.forms.Format.TheVariants.{Flag}
 use Rattle.js_bundle.specs.Document as bundle
 use Rattle.js_bundle.specs.Resource.{Site}
 use Rattle.js_eval.specs.Bundle.{schemas_of}
@@ -152,27 +147,6 @@ IsInstanceFault f = IsLateOrMemory f
 -- this is the verdict of the result within the limits
 abbrev pub IsVerdictOf : bundle.Documents → Option Site → Value → Bool → Type 0
 IsVerdictOf documents entry v valid = (t : ResultTree) × IsResultOf documents entry v t × IsWithinLimits t × (valid ≡ t.root.valid)
-
--- the tree whose rows are kept for a format: no format but verbose shows anything of silent leaves
-abbrev pub recorded : Format → ResultTree → ResultTree
-recorded Verbose t = t
-recorded _ t = trimmed_tree t
-
--- the rows are those that the format needs of the result within the limits
-abbrev pub AreRowsInFormat : Format → bundle.Documents → Option Site → Value → RelativeRows → Type 0
-AreRowsInFormat format documents entry v rows =
-    (t : ResultTree) × IsResultOf documents entry v t × IsWithinLimits t × AreRowsOf rows (recorded format t)
-
--- the tree is what merged shows of it
-abbrev pub IsMerged : bundle.Documents → Option Site → Value → ResultTree → Type 0
-IsMerged documents entry v tree =
-    (t : ResultTree) × IsResultOf documents entry v t × IsWithinLimits t × (tree ≡ merged (pruned t))
-
--- a format that is written from the rows alone
-abbrev pub IsOfRows : Format → Type 0
-IsOfRows Basic = ⊤
-IsOfRows Verbose = ⊤
-IsOfRows _ = ⊥
 
 -- why there is none: none is within them, or lack of memory
 abbrev pub IsWalkFault : bundle.Documents → Option Site → Value → Fault → Type 0

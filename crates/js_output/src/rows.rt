@@ -3,18 +3,20 @@ ghost use Rattle.std.specs.Prelude.{◌≡◌, true, IfErr, IfOk};
 ghost use Rattle.js_doc.specs.Seen.{value_of};
 ghost use Rattle.js_bundle.specs.Schemas.{is_place, place_at};
 ghost use Rattle.js_eval.specs.Walked.{NoneStands, OnTooLarge};
-ghost use Rattle.js_output.specs.Outcome.{AreRowsInFormat, IsWalkFault};
+ghost use Rattle.js_output.specs.Outcome.{IsWalkFault};
+ghost use Rattle.js_output.specs.code.Shown.{AreRowsBy, recorded, reduced};
 
 use crate::fault::Fault;
 use bumpalo::Bump;
 use js_bundle::{Place, Schemas};
 use js_doc::Doc;
 use js_eval::{WalkFault, walk_noted_rows, walk_rows};
-use js_tree::{Format, RelativeRows};
+use js_tree::{Format, RelativeRows, kept_rows};
 use std::alloc::Global;
 
-/// Judges the instance at the place, and keeps the rows that the format needs: for verbose all, otherwise none of nodes
-/// of which it shows nothing. What the rows keep of their locations stands in the arena.
+/// Judges the instance at the place, and keeps the rows that the format is written from: for verbose all, for basic none
+/// of nodes of which it shows nothing, for detailed and merged those of the nodes that condensing keeps. What the rows
+/// keep of their locations stands in the arena.
 pub(crate) fn rows_of<'a>(
     alloc: Global,
     arena: &'a Bump,
@@ -24,14 +26,15 @@ pub(crate) fn rows_of<'a>(
     instance: &'a Doc,
 ) -> Result<RelativeRows<'a>, Fault>
     requires { is_place schemas.now place ≡ true }
-    ensures rows { IfOk result (AreRowsInFormat format schemas.now
+    ensures rows { IfOk result (AreRowsBy (reduced format) schemas.now
         (place_at schemas.now place) (value_of instance.now)) }
     ensures fault { IfErr result (IsWalkFault schemas.now
         (place_at schemas.now place) (value_of instance.now)) }
 {
-    match walked(alloc, arena, schemas, place, format, instance) {
-        Ok(rows) => Ok(rows),
-        Err(fault) => Err(Fault::from(fault)),
+    let rows = walked(alloc, arena, schemas, place, format, instance)?;
+    match format {
+        Format::Detailed | Format::Merged => Ok(kept_rows(alloc, rows)?),
+        Format::Flag | Format::Basic | Format::Verbose => Ok(rows),
     }
 }
 
@@ -45,7 +48,7 @@ fn walked<'a>(
     instance: &'a Doc,
 ) -> Result<RelativeRows<'a>, WalkFault>
     requires { is_place schemas.now place ≡ true }
-    ensures rows { IfOk result (AreRowsInFormat format schemas.now
+    ensures rows { IfOk result (AreRowsBy (recorded format) schemas.now
         (place_at schemas.now place) (value_of instance.now)) }
     ensures fault { IfErr result (λ e. OnTooLarge e
         (NoneStands schemas.now place (value_of instance.now))) }

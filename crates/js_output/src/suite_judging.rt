@@ -15,7 +15,7 @@ use crate::entry::{Entry, entry_place};
 use crate::fault::Fault;
 use crate::suite_lines::{TestLine, TestStatus};
 use crate::suite_text::{SuiteGroup, SuiteTest};
-use crate::telling::verdict_of;
+use crate::shown::verdict_of;
 use js_bundle::Bundle;
 use js_doc::{Doc, Memory};
 use std::alloc::{AllocError, Global};

@@ -2,21 +2,18 @@
 ghost use Rattle.std.specs.Prelude.{◌≡◌, ◌∷◌, ◌++◌, [], true};
 ghost use Rattle.js_doc.specs.BytesOut.{Puts};
 ghost use Rattle.js_doc.specs.Compact.{compact};
-ghost use Rattle.js_tree.specs.declared.forms.Format.TheVariants.{Detailed};
-ghost use Rattle.js_tree.specs.Form.{flag, form, verbose};
+ghost use Rattle.js_tree.specs.Form.{flag, verbose};
 ghost use Rattle.js_tree.specs.RelativeState.{AreRowsOf, AreWhole};
 ghost use Rattle.js_tree.specs.Result.{ResultTree};
 ghost use Rattle.js_tree.specs.Locations.{HasRoomFor};
-ghost use Rattle.js_tree.specs.Marks.{AreMarksOf};
 ghost use Rattle.js_output.specs.Device.{SendsOrFails, Unflushed};
-ghost use Rattle.js_output.specs.Outcome.{IsOfRows};
+ghost use Rattle.js_output.specs.code.Shown.{rows_form};
 
 use crate::fault::Fault;
 use crate::sink::Sink;
 use js_doc::{Out, Stopped};
 use js_tree::{
-    Format, Locations, RelativeMarks, RelativeRows, Tree, put_basic, put_detailed, put_flag,
-    put_tree, put_verbose,
+    Format, Locations, RelativeRows, Tree, put_basic, put_flag, put_tree, put_verbose,
 };
 use std::io::Write;
 
@@ -35,8 +32,8 @@ pub(crate) fn write_flag<W: Write>(valid: bool, out: &mut Sink<W>) -> Result<(),
     Ok(())
 }
 
-/// Writes the compact text of the format, and a line feed: for basic the units with a note, for
-/// verbose the root node. It allocates nothing.
+/// Writes the compact text of the rows, and a line feed: for basic the units with a note, for other formats the root
+/// node. It allocates nothing.
 pub(crate) fn write_rows<W: Write>(
     rows: &RelativeRows,
     locations: Locations,
@@ -45,9 +42,8 @@ pub(crate) fn write_rows<W: Write>(
 ) -> Result<(), Fault>
     requires whole { AreWhole rows.now }
     requires room { HasRoomFor locations rows.now }
-    requires format { IsOfRows format }
     ensures sent { (t : ResultTree) → AreRowsOf rows.now t
-        → SendsOrFails W.contents out.old out.new (compact (form format t) ++ 10 ∷ []) result }
+        → SendsOrFails W.contents out.old out.new (compact (rows_form format t) ++ 10 ∷ []) result }
     ensures unflushed { Unflushed out.old out.new }
     ensures stays { out.old.failed ≡ true → out.new ≡ out.old }
 {
@@ -55,28 +51,6 @@ pub(crate) fn write_rows<W: Write>(
         return Err(Fault::Write);
     }
     put_rows_line(rows, locations, format, &mut out.writing)?;
-    Ok(())
-}
-
-/// Writes the compact text of the detailed format, and a line feed. It allocates nothing.
-pub(crate) fn write_detailed<W: Write>(
-    rows: &RelativeRows,
-    marks: &RelativeMarks,
-    locations: Locations,
-    out: &mut Sink<W>,
-) -> Result<(), Fault>
-    requires whole { AreWhole rows.now }
-    requires room { HasRoomFor locations rows.now }
-    requires marks { AreMarksOf marks.now rows.now }
-    ensures sent { (t : ResultTree) → AreRowsOf rows.now t
-        → SendsOrFails W.contents out.old out.new (compact (form Detailed t) ++ 10 ∷ []) result }
-    ensures unflushed { Unflushed out.old out.new }
-    ensures stays { out.old.failed ≡ true → out.new ≡ out.old }
-{
-    if out.failed() {
-        return Err(Fault::Write);
-    }
-    put_detailed_line(rows, marks, locations, &mut out.writing)?;
     Ok(())
 }
 
@@ -110,9 +84,8 @@ fn put_rows_line<O: Out>(
 ) -> Result<(), Stopped>
     requires whole { AreWhole rows.now }
     requires room { HasRoomFor locations rows.now }
-    requires format { IsOfRows format }
     ensures { (t : ResultTree) → AreRowsOf rows.now t
-        → Puts (O.progress out.old) (O.progress out.new) (compact (form format t) ++ 10 ∷ [])
+        → Puts (O.progress out.old) (O.progress out.new) (compact (rows_form format t) ++ 10 ∷ [])
         result }
 {
     put_rows(rows, locations, format, out)?;
@@ -127,32 +100,15 @@ fn put_rows<O: Out>(
 ) -> Result<(), Stopped>
     requires whole { AreWhole rows.now }
     requires room { HasRoomFor locations rows.now }
-    requires format { IsOfRows format }
     ensures { (t : ResultTree) → AreRowsOf rows.now t
-        → Puts (O.progress out.old) (O.progress out.new) (compact (form format t)) result }
+        → Puts (O.progress out.old) (O.progress out.new) (compact (rows_form format t)) result }
 {
     match format {
         Format::Basic => put_basic(rows, locations, out),
-        Format::Verbose => put_verbose(rows, locations, out),
-        Format::Flag | Format::Detailed | Format::Merged => Ok(()),
+        Format::Flag | Format::Detailed | Format::Merged | Format::Verbose => {
+            put_verbose(rows, locations, out)
+        }
     }
-}
-
-fn put_detailed_line<O: Out>(
-    rows: &RelativeRows,
-    marks: &RelativeMarks,
-    locations: Locations,
-    out: &mut O,
-) -> Result<(), Stopped>
-    requires whole { AreWhole rows.now }
-    requires room { HasRoomFor locations rows.now }
-    requires marks { AreMarksOf marks.now rows.now }
-    ensures { (t : ResultTree) → AreRowsOf rows.now t
-        → Puts (O.progress out.old) (O.progress out.new) (compact (form Detailed t) ++ 10 ∷ [])
-        result }
-{
-    put_detailed(rows, marks, locations, out)?;
-    put_line_feed(out)
 }
 
 fn put_tree_line<O: Out>(tree: &Tree, out: &mut O) -> Result<(), Stopped>

@@ -12,7 +12,7 @@ use Rattle.js_tree.specs.code.Listing.{AreMarkedRows, condensed, kept_node}
 use Rattle.js_tree.specs.code.RelativeText.{AreRowsOfTrees}
 use Rattle.js_tree.specs.declared.relative.rows.RelativeRow.{RelativeRow}
 use Rattle.js_tree.specs.declared.relative.marks.Mark.{Mark}
-use Rattle.js_tree.proofs.DetailedTrees.{count_left, left_trees-placed}
+use Rattle.js_tree.proofs.LeftTrees.{count_left, left_trees-placed}
 use Rattle.js_tree.proofs.EscapedRows.{NextTree, no_trees}
 use Rattle.js_tree.proofs.Forests.{append-append, append-empty}
 use Rattle.js_tree.proofs.ListedUnits.{agrees_placed}

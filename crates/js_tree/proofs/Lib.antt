@@ -42,7 +42,7 @@ pub mod TrimmedTold
 pub mod Trimming
 pub mod UndoneEscapes
 pub mod VerdictTold
-pub mod DetailedTrees
+pub mod LeftTrees
 pub mod Differing
 pub mod Ordered
 pub mod Places

@@ -11,7 +11,7 @@ use Rattle.js_tree.specs.code.Listing.{AreMarkedRows}
 use Rattle.js_tree.specs.code.RelativeText.{AreRowsOfTree}
 use Rattle.js_tree.specs.declared.relative.rows.RelativeRow.{RelativeRow}
 use Rattle.js_tree.specs.declared.relative.marks.Mark.{Mark}
-use Rattle.js_tree.proofs.DetailedTrees.{first_left}
+use Rattle.js_tree.proofs.LeftTrees.{first_left}
 use Rattle.js_tree.proofs.ChildTexts.{rest_of}
 use Rattle.js_tree.proofs.EscapedRows.{NextTree, count-escaped}
 use Rattle.js_tree.proofs.FlatRows.{FirstTree, all_gone, drop-append, drop-drop, rows_below}

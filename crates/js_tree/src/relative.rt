@@ -2,9 +2,7 @@
 //! text in each format.
 
 pub(crate) mod basic_text;
-pub(crate) mod detailed_text;
 pub(crate) mod keeping;
-pub(crate) mod kept_tree;
 pub(crate) mod locations;
 pub(crate) mod marks;
 pub(crate) mod merged_tree;

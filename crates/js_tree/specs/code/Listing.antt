@@ -1,11 +1,11 @@
--- Values that go out in an array, as basic and detailed show them of trees that have only what their locations add, below a
--- node with given locations (of private functions).
-use Rattle.std.specs.Prelude.{◌≡◌, ℕ, Bool, true, false, List, [], ◌∷◌, ◌++◌, ◌&&◌, ◌||◌, nat_lt, if◌then◌else◌, map, Result, MatchResult, codes}
+-- What basic lists and what condensing keeps of trees that have only what their locations add, below a node with given
+-- locations.
+use Rattle.std.specs.Prelude.{◌≡◌, ℕ, Bool, true, false, List, [], ◌∷◌, ◌++◌, ◌&&◌, ◌||◌, nat_lt, if◌then◌else◌, map, Result, MatchResult}
 use Rattle.js_doc.specs.BytesOut.{Goes, Progress, Stops}
 use Rattle.js_doc.specs.Compact.{comma_if, compact}
 use Rattle.js_doc.specs.Value.{Value}
 use Rattle.js_tree.specs.FlatState.{FlatRow}
-use Rattle.js_tree.specs.Form.{node_value, node_values}
+use Rattle.js_tree.specs.Form.{node_value}
 use Rattle.js_tree.specs.Forest.{Forest}
 use Rattle.js_tree.specs.Kept.{kept_below}
 use Rattle.js_tree.specs.Marks.{marked}
@@ -60,7 +60,7 @@ listed_tree verdict keyword instance u below =
 abbrev pub may_list : Bool → FlatRow → Bool
 may_list verdict row = has_verdict verdict row.0 && (nat_lt 1 row.1 || noted row.0)
 
--- ---- detailed
+-- ---- condensing
 
 -- what is left of the trees
 abbrev pub condensed : Bool → List ℕ → List ℕ → Forest OutputUnit → Forest OutputUnit
@@ -70,23 +70,6 @@ condensed verdict keyword instance f = kept_below noted (pruned_below (has_verdi
 abbrev pub kept_node : Bool → List ℕ → List ℕ → OutputUnit → Forest OutputUnit → ResultTree
 kept_node verdict keyword instance u below =
     record { root = placed_unit keyword instance u; below = condensed verdict (keyword ++ u.keyword) (instance ++ u.instance) below }
-
-abbrev pub detailed : Bool → List ℕ → List ℕ → Forest OutputUnit → List Value
-detailed verdict keyword instance f = node_values (condensed verdict keyword instance f)
-
--- such a node's value
-abbrev pub detailed_node : Bool → List ℕ → List ℕ → OutputUnit → Forest OutputUnit → Value
-detailed_node verdict keyword instance u below = node_value (placed_unit keyword instance u) (detailed verdict (keyword ++ u.keyword) (instance ++ u.instance) below)
-
--- of a tree, of whose root's mark this is
-abbrev pub detailed_tree : Bool → List ℕ → List ℕ → OutputUnit → Forest OutputUnit → Mark → List Value
-detailed_tree verdict keyword instance u below m =
-    if m.stays then detailed_node verdict keyword instance u below ∷ []
-    else (if m.below then detailed verdict (keyword ++ u.keyword) (instance ++ u.instance) below else [])
-
--- the array after what stands before its values, if it belongs here and there are any
-abbrev pub children_text : List ℕ → Bool → Bool → List Value → List ℕ
-children_text start here some vs = if here then (if some then start ++ (values_text false vs ++ codes "]") else []) else []
 
 -- the rows and the marks are those of the trees
 pub record AreMarkedRows (rows : List RelativeRow) (marks : List Mark) (verdict : Bool) (f : Forest OutputUnit) : Type 0 where

@@ -10,8 +10,8 @@ ghost use Rattle.js_tree.specs.code.KeptBetween.{AreAdded, AreLonger, AreSame, I
 ghost use Rattle.js_tree.specs.code.Listing.{AreMarkedRows};
 
 use crate::note::Note;
-use crate::relative::rows::{RelativeRow, RelativeRows, behind};
 use crate::relative::marks::{Mark, RelativeMarks};
+use crate::relative::rows::{RelativeRow, RelativeRows, behind};
 use bumpalo::Bump;
 use js_doc::Memory;
 use std::alloc::Global;
@@ -31,13 +31,22 @@ struct Start {
     instance: usize,
 }
 
-/// The rows of the tree that the marks say is left: that of the detailed format (JSON Schema Core, section 12.4.3). The
-/// notes are moved. A row borrows what it borrowed, unless nodes between it and the one above are gone: then what they
-/// and it add to a location is put together in the arena. Takes linear time.
+/// The rows of what pruning and condensing leave of the rows' tree: the tree of the detailed format (JSON Schema Core,
+/// section 12.4.3). The notes are moved. A row borrows what it borrowed, unless nodes between it and the one above are
+/// gone: then what they and it add to a location is put together in the arena. Takes linear time.
 ///
 /// # Errors
 /// `Memory` if an allocation fails.
-pub fn kept_rows<'a>(
+pub fn kept_rows<'a>(alloc: Global, rows: RelativeRows<'a>) -> Result<RelativeRows<'a>, Memory>
+    requires { AreWhole rows }
+    ensures { (t : ResultTree) → AreRowsOf rows.entry t → IfOk result (λ k. AreRowsOf k (kept (pruned t))) }
+{
+    let marks = RelativeMarks::new(alloc, &rows)?;
+    keep_marked(alloc, rows, &marks)
+}
+
+// The rows of what the marks say is left.
+fn keep_marked<'a>(
     alloc: Global,
     rows: RelativeRows<'a>,
     marks: &RelativeMarks,

@@ -22,7 +22,7 @@ pub(crate) struct Mark {
 
 /// What pruning and condensing leave of each node's tree, row by row (JSON Schema Core, section 12.4.3).
 #[derive(Drop)]
-pub struct RelativeMarks {
+pub(crate) struct RelativeMarks {
     pub(crate) marks: Vec<Mark>,
 }
 
@@ -31,7 +31,7 @@ impl RelativeMarks {
     ///
     /// # Errors
     /// `Memory` if an allocation fails.
-    pub fn new(alloc: Global, rows: &RelativeRows) -> Result<RelativeMarks, Memory>
+    pub(crate) fn new(alloc: Global, rows: &RelativeRows) -> Result<RelativeMarks, Memory>
         requires { AreWhole rows.now }
         ensures { IfOk result (λ marks. AreMarksOf marks rows.now) }
     {

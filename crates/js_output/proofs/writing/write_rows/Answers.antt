@@ -2,7 +2,7 @@ use Rattle.std.proofs.Common.{◌≤◌, ◌+◌, ◌++◌, ◌∷◌, [], lengt
 use Rattle.std.proofs.lemmas.Result.{err_from_is_err_and}
 use Rattle.std.specs.Io.KnownBytes.{Appends}
 use Rattle.js_doc.specs.Compact.{compact}
-use Rattle.js_tree.specs.Form.{form}
+use Rattle.js_output.specs.code.Shown.{rows_form}
 use Rattle.js_output.proofs.writing.write_rows.Goals as goal
 
 pub returns-in_err-put_rows_line-clause-sent : goal.returns-in_err-put_rows_line-clause-sent
@@ -11,7 +11,7 @@ returns-in_err-put_rows_line-clause-sent g c = λ t e.
     let stops = c.in_err-put_rows_line.ensures t e in
     let p = err_from_is_err_and c.from_residual.result c.from_residual.ensures.1 in
     let new = c.put_rows_line.new.out in
-    let text = compact (form c.args.format t) ++ 10 ∷ [] in
+    let text = compact (rows_form c.args.format t) ++ 10 ∷ [] in
     let sent = subst (λ d. Appends d (taken new.device) stops.0) (ap (λ s. taken s.device) c.out.view_is) stops.3 in
     let calls = subst (λ n. new.calls ≤ n + length text) (ap (λ s. s.calls) c.out.view_is) stops.4.1 in
     rw (p.1, p.2) (refl, ((stops.0, stops.1, sym stops.2, sent), stops.5, calls))

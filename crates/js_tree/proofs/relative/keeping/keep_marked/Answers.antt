@@ -5,7 +5,7 @@ use Rattle.js_tree.specs.code.Listing.{AreMarkedRows}
 use Rattle.js_tree.proofs.AddedRows.{none_pending, whole_rows_kept}
 use Rattle.js_tree.proofs.KeptBetween.{kept_located}
 use Rattle.js_tree.proofs.ListedRows.{whole_rows_of}
-use Rattle.js_tree.proofs.relative.keeping.kept_rows.Goals as goal
+use Rattle.js_tree.proofs.relative.keeping.keep_marked.Goals as goal
 
 pub returns : goal.returns
 returns c =

@@ -1,0 +1,66 @@
+-- What is ready to be written of a result, for each format.
+use Rattle.std.specs.Prelude.{◌≡◌, Bool, Option, ⊤}
+use Rattle.js_doc.specs.Value.{Value}
+use Rattle.js_tree.specs.Form.{flag, form, verbose}
+use Rattle.js_tree.specs.Locations.{HasRoomFor}
+use Rattle.js_tree.specs.RelativeState.{AreRowsOf}
+use Rattle.js_tree.specs.Result.{kept, pruned}
+use Rattle.js_tree.specs.Trimmed.{trimmed_tree}
+use Rattle.js_tree.specs.declared.forms.Format.{Format}
+use Rattle.js_tree.specs.declared.forms.Format.TheVariants.{Flag, Basic, Detailed, Merged, Verbose}
+use Rattle.js_tree.specs.declared.relative.rows.RelativeRows.{RelativeRows}
+use Rattle.js_bundle.specs.Document as bundle
+use Rattle.js_bundle.specs.Resource.{Site}
+use Rattle.js_eval.specs.Result.{ResultTree, IsWithinLimits}
+use Rattle.js_output.specs.Outcome.{IsResultOf}
+use Rattle.js_output.specs.declared.shown.Shown.{Shown}
+use Rattle.js_output.specs.declared.shown.Shown.TheVariants as shown
+
+-- the tree whose rows a walk keeps for a format: no format but verbose shows anything of silent leaves
+abbrev pub recorded : Format → ResultTree → ResultTree
+recorded Verbose t = t
+recorded _ t = trimmed_tree t
+
+-- the tree whose rows a format is written from: detailed and merged show nothing of what condensing leaves out
+abbrev pub reduced : Format → ResultTree → ResultTree
+reduced Flag t = trimmed_tree t
+reduced Basic t = trimmed_tree t
+reduced Detailed t = kept (pruned t)
+reduced Merged t = kept (pruned t)
+reduced Verbose t = t
+
+-- the rows are those of this tree of the result within the limits
+abbrev pub AreRowsBy : (ResultTree → ResultTree) → bundle.Documents → Option Site → Value → RelativeRows → Type 0
+AreRowsBy tree documents entry v rows =
+    (t : ResultTree) × IsResultOf documents entry v t × IsWithinLimits t × AreRowsOf rows (tree t)
+
+-- a format that is written from rows
+abbrev pub IsOfRows : Format → Type 0
+IsOfRows Flag = ⊥
+IsOfRows _ = ⊤
+
+-- one of which the rows show each node, or each unit with a note
+abbrev pub IsOfAllRows : Format → Type 0
+IsOfAllRows Flag = ⊥
+IsOfAllRows Merged = ⊥
+IsOfAllRows _ = ⊤
+
+-- what is written of a tree's rows: basic lists the noted units, the others show all nodes
+abbrev pub rows_form : Format → ResultTree → Value
+rows_form Basic t = form Basic t
+rows_form _ t = verbose t
+
+-- it has this verdict, and what is written is this form
+abbrev pub IsMade : Shown → Bool → Value → Type 0
+IsMade (shown.Verdict v) valid value = (v ≡ valid) × (flag v ≡ value)
+IsMade (shown.Rows format rows locations) valid value =
+    (t : ResultTree) × AreRowsOf rows t × HasRoomFor locations rows × (t.root.valid ≡ valid) × (rows_form format t ≡ value)
+IsMade (shown.Tree t) valid value = (t.root.valid ≡ valid) × (verbose t ≡ value)
+
+abbrev pub AreMade : Shown → Type 0
+AreMade s = (valid : Bool) × (value : Value) × IsMade s valid value
+
+-- it is what the format shows of the result within the limits
+abbrev pub Shows : bundle.Documents → Option Site → Value → Format → Shown → Type 0
+Shows documents entry v format s =
+    (t : ResultTree) × IsResultOf documents entry v t × IsWithinLimits t × IsMade s t.root.valid (form format t)

@@ -1,0 +1,165 @@
+//! What a format shows of the result for an instance, ready to be written.
+ghost use Rattle.std.specs.Prelude.{◌≡◌, ◌∷◌, ◌++◌, ◌×◌, [], Bool, IfErr, IfOk, true};
+ghost use Rattle.js_doc.specs.Compact.{compact};
+ghost use Rattle.js_doc.specs.Seen.{value_of};
+ghost use Rattle.js_doc.specs.Value.{Value};
+ghost use Rattle.js_bundle.specs.Schemas.{is_place, place_at};
+ghost use Rattle.js_tree.specs.Form.{form};
+ghost use Rattle.js_tree.specs.RelativeState.{AreRowsOf};
+ghost use Rattle.js_tree.specs.Result.{ResultTree};
+ghost use Rattle.js_tree.specs.declared.forms.Format.TheVariants.{Merged};
+ghost use Rattle.js_output.specs.Device.{SendsOrFails, Unflushed};
+ghost use Rattle.js_output.specs.Outcome.{IsVerdictOf, IsWalkFault};
+ghost use Rattle.js_output.specs.code.Shown.{AreMade, IsMade, IsOfAllRows, IsOfRows, Shows, reduced};
+
+use crate::fault::Fault;
+use crate::rows::rows_of;
+use crate::sink::Sink;
+use crate::writing::{write_flag, write_rows, write_tree};
+use bumpalo::Bump;
+use js_bundle::{Place, Schemas};
+use js_doc::{Doc, Memory};
+use js_eval::verdict;
+use js_tree::{Format, Locations, RelativeRows, Tree, is_merged_as_it_is, merged_tree};
+use std::alloc::Global;
+use std::io::Write;
+
+/// What a format shows of a result. To write it allocates nothing.
+#[derive(Drop)]
+pub(crate) enum Shown<'a> {
+    /// The verdict alone.
+    Verdict(bool),
+    /// Rows, with room for their locations: for basic the units with a note are shown, for other formats all nodes.
+    Rows(Format, RelativeRows<'a>, Locations),
+    /// A tree, of which all nodes are shown.
+    Tree(Tree<'a>),
+}
+
+impl<'a> Shown<'a> {
+    /// Judges the instance at the place. What is shown may borrow from the arena.
+    pub(crate) fn new(
+        alloc: Global,
+        arena: &'a Bump,
+        schemas: &'a Schemas,
+        place: Place,
+        format: Format,
+        instance: &'a Doc,
+    ) -> Result<Shown<'a>, Fault>
+        requires { is_place schemas.now place ≡ true }
+        ensures shown { IfOk result (Shows schemas.now
+            (place_at schemas.now place) (value_of instance.now) format) }
+        ensures fault { IfErr result (IsWalkFault schemas.now
+            (place_at schemas.now place) (value_of instance.now)) }
+    {
+        match format {
+            Format::Flag => {
+                let valid = verdict_of(alloc, schemas, place, instance)?;
+                Ok(Shown::Verdict(valid))
+            }
+            Format::Basic | Format::Detailed | Format::Merged | Format::Verbose => {
+                let rows = rows_of(alloc, arena, schemas, place, format, instance)?;
+                let shown = shown_rows(alloc, format, rows)?;
+                Ok(shown)
+            }
+        }
+    }
+
+    /// The verdict.
+    pub(crate) fn is_valid(&self) -> bool
+        requires { AreMade self.now }
+        ensures { (valid : Bool) (value : Value) → IsMade self.now valid value → result ≡ valid }
+    {
+        match self {
+            Shown::Verdict(valid) => *valid,
+            Shown::Rows(_, rows, _) => rows.is_valid(),
+            Shown::Tree(tree) => root_is_valid(tree),
+        }
+    }
+
+    /// Writes the compact text, and a line feed.
+    pub(crate) fn write<W: Write>(self, out: &mut Sink<W>) -> Result<(), Fault>
+        requires { AreMade self.entry }
+        ensures sent { (valid : Bool) (value : Value) → IsMade self.entry valid value
+            → SendsOrFails W.contents out.old out.new (compact value ++ 10 ∷ []) result }
+        ensures unflushed { Unflushed out.old out.new }
+        ensures stays { out.old.failed ≡ true → out.new ≡ out.old }
+    {
+        match self {
+            Shown::Verdict(valid) => write_flag(valid, out),
+            Shown::Rows(format, rows, locations) => write_rows(&rows, locations, format, out),
+            Shown::Tree(tree) => write_tree(&tree, out),
+        }
+    }
+}
+
+// What is shown of the rows that the format is written from.
+fn shown_rows<'a>(
+    alloc: Global,
+    format: Format,
+    rows: RelativeRows<'a>,
+) -> Result<Shown<'a>, Memory>
+    requires format { IsOfRows format }
+    requires rows { (t : ResultTree) × AreRowsOf rows (reduced format t) }
+    ensures { (t : ResultTree) → AreRowsOf rows.entry (reduced format t)
+        → IfOk result (λ s. IsMade s t.root.valid (form format t)) }
+{
+    match format {
+        Format::Merged => shown_merged(alloc, rows),
+        Format::Flag | Format::Basic | Format::Detailed | Format::Verbose => {
+            with_room(alloc, format, rows)
+        }
+    }
+}
+
+// The rows, with room for their locations.
+fn with_room<'a>(
+    alloc: Global,
+    format: Format,
+    rows: RelativeRows<'a>,
+) -> Result<Shown<'a>, Memory>
+    requires format { IsOfAllRows format }
+    requires rows { (t : ResultTree) × AreRowsOf rows (reduced format t) }
+    ensures { (t : ResultTree) → AreRowsOf rows.entry (reduced format t)
+        → IfOk result (λ s. IsMade s t.root.valid (form format t)) }
+{
+    let locations = Locations::new(alloc, &rows)?;
+    Ok(Shown::Rows(format, rows, locations))
+}
+
+// The rows of the kept tree if merging leaves it as it is, which is the usual case; otherwise the merged tree.
+fn shown_merged<'a>(alloc: Global, rows: RelativeRows<'a>) -> Result<Shown<'a>, Memory>
+    requires { (t : ResultTree) × AreRowsOf rows (reduced Merged t) }
+    ensures { (t : ResultTree) → AreRowsOf rows.entry (reduced Merged t)
+        → IfOk result (λ s. IsMade s t.root.valid (form Merged t)) }
+{
+    if is_merged_as_it_is(&rows) {
+        let locations = Locations::new(alloc, &rows)?;
+        return Ok(Shown::Rows(Format::Merged, rows, locations));
+    }
+    let tree = merged_tree(alloc, rows)?;
+    Ok(Shown::Tree(tree))
+}
+
+/// The verdict alone.
+pub(crate) fn verdict_of(
+    alloc: Global,
+    schemas: &Schemas,
+    place: Place,
+    instance: &Doc,
+) -> Result<bool, Fault>
+    requires { is_place schemas.now place ≡ true }
+    ensures judged { IfOk result (IsVerdictOf schemas.now
+        (place_at schemas.now place) (value_of instance.now)) }
+    ensures fault { IfErr result (IsWalkFault schemas.now
+        (place_at schemas.now place) (value_of instance.now)) }
+{
+    Ok(verdict(alloc, schemas, place, instance)?)
+}
+
+// The verdict of the tree's root.
+fn root_is_valid(tree: &Tree) -> bool
+    ensures { result ≡ tree.now.root.valid }
+{
+    let root = &tree.unit;
+    root.valid
+}
