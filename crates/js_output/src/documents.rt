@@ -2,7 +2,8 @@
 ghost use Rattle.std.specs.Prelude.{◌≡◌, length, OnOk, IfOk, IfErr};
 ghost use Rattle.js_bundle.specs.Adding.{IsAdded};
 ghost use Rattle.js_output.specs.Cause.{MayGoOn, FailsBy};
-ghost use Rattle.js_output.specs.Documents.{documents_of, bundle_of, document_causes, adding_causes, bundle_causes, documents_causes};
+ghost use Rattle.js_output.specs.Documents.{documents_of, bundle_of, document_causes, adding_causes, bundle_causes};
+ghost use Rattle.js_output.specs.Documents.{documents_causes};
 ghost use Rattle.js_output.specs.Outcome.{IsEarlyOrMemory};
 
 use crate::fault::Fault;

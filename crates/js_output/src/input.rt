@@ -1,5 +1,6 @@
 // A whole input.
-ghost use Rattle.std.specs.Prelude.{◌≡◌, ◌≤◌, ◌<◌, ◌+◌, ◌-◌, ◌^◌, min, false, ◌↔◌, ℕ, List, true, length, IfOk, IfErr, OnOk, IsErrOf};
+ghost use Rattle.std.specs.Prelude.{◌≡◌, ◌≤◌, ◌<◌, ◌+◌, ◌-◌, ◌^◌, min, false, ◌↔◌, ℕ, List, true, length, IfOk, IfErr};
+ghost use Rattle.std.specs.Prelude.{OnOk, IsErrOf};
 ghost use Rattle.std.specs.Io.KnownBytes.{Consumes, IsAtEnd};
 ghost use Rattle.js_output.specs.Device.{input_limit};
 ghost use Rattle.js_output.specs.Input.{IsInputFault};

@@ -1,6 +1,7 @@
 //! The line that reports a fault.
 ghost use Rattle.std.specs.Prelude.{◌≡◌, IfOk, string_bytes};
-ghost use Rattle.js_output.specs.Line.{fault_line, kind_name, refused_line, refused_at_line, instance_line, entry_line, suite_line, place_text};
+ghost use Rattle.js_output.specs.Line.{fault_line, kind_name, refused_line, refused_at_line, instance_line, entry_line};
+ghost use Rattle.js_output.specs.Line.{suite_line, place_text};
 
 use crate::fault::{Fault, SuiteFault};
 use js_bundle::{EntryFault, Refusal, RefusalKind};

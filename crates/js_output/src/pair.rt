@@ -1,7 +1,8 @@
 //! A document and an instance in one input.
 ghost use Rattle.std.specs.Prelude.{◌≡◌, ◌≢◌, ◌≤◌, ◌+◌, ◌↔◌, [], true, Err, length, ◌<◌, IfSome, IfErr, IsErrOf};
 ghost use Rattle.js_output.specs.Device.{input_limit, Unflushed};
-ghost use Rattle.js_output.specs.Outcome.{OutcomeOfTexts, PairOutcome, first_line_feed, text_before, text_after, telling_output};
+ghost use Rattle.js_output.specs.Outcome.{OutcomeOfTexts, PairOutcome, first_line_feed, text_before, text_after};
+ghost use Rattle.js_output.specs.Outcome.{telling_output};
 ghost use Rattle.js_output.specs.Telling.{Answers, Tells};
 
 use crate::documents::finished;

@@ -4,7 +4,8 @@ ghost use Rattle.js_bundle.specs.Schemas.{is_place, place_at};
 ghost use Rattle.js_output.specs.Device.{input_limit, Unflushed};
 ghost use Rattle.js_output.specs.Documents.{documents_of};
 ghost use Rattle.js_output.specs.Entry.{entry_causes};
-ghost use Rattle.js_output.specs.Outcome.{beginning_causes, Outcome, FinishedOutcome, InstanceOutcome, telling_output, IsEarly, IsReadOrEarly};
+ghost use Rattle.js_output.specs.Outcome.{beginning_causes, Outcome, FinishedOutcome, InstanceOutcome, telling_output};
+ghost use Rattle.js_output.specs.Outcome.{IsEarly, IsReadOrEarly};
 ghost use Rattle.js_output.specs.Telling.{Answers};
 
 use crate::documents::finished;

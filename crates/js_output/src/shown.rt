@@ -112,11 +112,7 @@ fn shown_rows<'a>(
 }
 
 // The rows, with room for their locations.
-fn with_room<'a>(
-    alloc: Global,
-    format: Format,
-    rows: RelativeRows<'a>,
-) -> Result<Shown<'a>, Memory>
+fn with_room<'a>(alloc: Global, format: Format, rows: RelativeRows<'a>) -> Result<Shown<'a>, Memory>
     requires format { IsOfAllRows format }
     requires rows { (t : ResultTree) × AreRowsOf rows (reduced format t) }
     ensures { (t : ResultTree) → AreRowsOf rows.entry (reduced format t)

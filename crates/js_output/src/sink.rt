@@ -1,5 +1,6 @@
 // Writers that aren't called again once they have failed.
-ghost use Rattle.std.specs.Prelude.{◌≡◌, ◌≤◌, ◌<◌, ◌+◌, true, false, min, ◌^◌, ◌-◌, take, length, is_err, OnOk, OnErr, IfOk, IfErr};
+ghost use Rattle.std.specs.Prelude.{◌≡◌, ◌≤◌, ◌<◌, ◌+◌, true, false, min, ◌^◌, ◌-◌, take, length, is_err, OnOk, OnErr};
+ghost use Rattle.std.specs.Prelude.{IfOk, IfErr};
 ghost use Rattle.std.specs.Io.KnownBytes.{Appends, Keeps};
 ghost use Rattle.js_output.specs.Device.{AppendsBeginning, Unflushed};
 

@@ -3,7 +3,9 @@ ghost use Rattle.std.specs.Prelude.{◌≡◌, ◌∷◌, Ok, Err, Some, None, I
 ghost use Rattle.serde_json.specs.Find.{get, as_bool, as_str, as_array};
 ghost use Rattle.serde_json.specs.View.{view, items_view};
 ghost use Rattle.js_doc.specs.Seen.{value_of};
-ghost use Rattle.js_output.specs.SuiteText.{member_in, each_in, whole_in, test_in, tests_from, group_in, groups_in, suite_reading, test_seen, tests_seen, group_seen, groups_seen, IsMisfit, IsMissing, Keeps, LiftsMisfit, IsSuiteFault};
+ghost use Rattle.js_output.specs.SuiteText.{member_in, each_in, whole_in, test_in, tests_from, group_in, groups_in};
+ghost use Rattle.js_output.specs.SuiteText.{suite_reading, test_seen, tests_seen, group_seen, groups_seen, IsMisfit};
+ghost use Rattle.js_output.specs.SuiteText.{IsMissing, Keeps, LiftsMisfit, IsSuiteFault};
 
 use crate::fault::{Fault, SuiteFault};
 use js_doc::{Doc, Memory, Pointer, ReadFault, Text, from_value};

@@ -12,9 +12,7 @@ ghost use Rattle.js_output.specs.code.Shown.{rows_form};
 use crate::fault::Fault;
 use crate::sink::Sink;
 use js_doc::{Out, Stopped};
-use js_tree::{
-    Format, Locations, RelativeRows, Tree, put_basic, put_flag, put_tree, put_verbose,
-};
+use js_tree::{Format, Locations, RelativeRows, Tree, put_basic, put_flag, put_tree, put_verbose};
 use std::io::Write;
 
 /// Writes a verdict in the flag format (JSON Schema Core, section 12.4.1), and a line feed. It
