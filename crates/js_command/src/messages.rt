@@ -13,7 +13,7 @@ use std::alloc::Global;
 use std::io::Write;
 
 /// Writes the line of a fault and a line feed, or nothing if there is no memory for them.
-pub(crate) fn tell<V: Write>(alloc: Global, fault: &Fault, faults: &mut Sink<V>)
+pub(crate) fn report<V: Write>(alloc: Global, fault: &Fault, faults: &mut Sink<V>)
     ensures { AppendsBeginning (V.contents faults.old.device) (V.contents faults.new.device)
         (fault_line fault.now ++ 10 ∷ []) }
 {
@@ -31,7 +31,7 @@ fn told(alloc: Global, fault: &Fault) -> Option<String>
 }
 
 /// Writes the usage text, or that memory ran out. Returns the status.
-pub(crate) fn tell_misuse<V: Write>(alloc: Global, misuse: Misuse, faults: &mut Sink<V>) -> u8
+pub(crate) fn report_misuse<V: Write>(alloc: Global, misuse: Misuse, faults: &mut Sink<V>) -> u8
     ensures status { result ≡ misuse_status misuse }
     ensures usage { result ≡ 2 → AppendsBeginning (V.contents faults.old.device)
         (V.contents faults.new.device) (usage_line misuse) }
@@ -40,7 +40,7 @@ pub(crate) fn tell_misuse<V: Write>(alloc: Global, misuse: Misuse, faults: &mut 
 {
     match misuse {
         Misuse::Memory => {
-            tell(alloc, &Fault::Memory, faults);
+            report(alloc, &Fault::Memory, faults);
             FAILED
         }
         Misuse::OtherForm => {

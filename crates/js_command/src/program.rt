@@ -11,7 +11,7 @@ ghost use Rattle.js_command.specs.Status.{fault_status};
 ghost use Rattle.js_command.specs.code.Tasks.{ReadsInput, first_fault, request_seen};
 
 use crate::files::Files;
-use crate::messages::{tell, tell_misuse};
+use crate::messages::{report, report_misuse};
 use crate::status::{INVALID, VALID, status_of};
 use crate::tasks::perform;
 use crate::words::{Task, task_of};
@@ -93,7 +93,7 @@ pub fn command<'a, F: Files, R: Read, W: Write, V: Write>(
     let task = match task_of(alloc, words) {
         Ok(task) => task,
         Err(misuse) => {
-            let status = tell_misuse(alloc, misuse, faults);
+            let status = report_misuse(alloc, misuse, faults);
             let _ = out.flush();
             return status;
         }
@@ -102,7 +102,7 @@ pub fn command<'a, F: Files, R: Read, W: Write, V: Write>(
         Ok(true) => VALID,
         Ok(false) => INVALID,
         Err(fault) => {
-            tell(alloc, &fault, faults);
+            report(alloc, &fault, faults);
             status_of(&fault)
         }
     }

@@ -8,8 +8,8 @@ ghost use Rattle.js_output.specs.Telling.{Tells};
 use crate::entry::entry_place;
 use crate::fault::Fault;
 use crate::input::LIMIT;
+use crate::judging::judge_text;
 use crate::sink::Sink;
-use crate::telling::tell_text;
 use js_bundle::{Place, Schemas};
 use js_tree::Format;
 use std::alloc::Global;
@@ -80,5 +80,5 @@ pub fn judge<W: Write>(
     if LIMIT < instance.len() {
         return Err(Fault::InputTooLarge);
     }
-    tell_text(alloc, schemas, place, format, instance, out)
+    judge_text(alloc, schemas, place, format, instance, out)
 }

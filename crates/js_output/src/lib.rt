@@ -6,6 +6,7 @@ mod entry;
 mod fault;
 mod finished;
 mod input;
+mod judging;
 pub mod laws;
 mod line;
 mod pair;
@@ -19,7 +20,6 @@ mod suite;
 mod suite_judging;
 mod suite_lines;
 mod suite_text;
-mod telling;
 mod text;
 mod writing;
 

@@ -44,7 +44,7 @@ pub fn run_pair<R: Read, W: Write>(
 {
     let bytes = read_all(alloc, input)?;
     let (document, instance) = texts_of(bytes.as_slice());
-    tell_texts(alloc, document, instance, out)
+    run_texts(alloc, document, instance, out)
 }
 
 // The bytes before the first line feed, and those after it.
@@ -65,7 +65,7 @@ fn first_line_feed(bytes: &[u8]) -> Option<usize>
     bytes.iter().position(|byte| *byte == b'\n')
 }
 
-fn tell_texts<W: Write>(
+fn run_texts<W: Write>(
     alloc: Global,
     document: &[u8],
     instance: &[u8],

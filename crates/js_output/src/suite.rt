@@ -61,11 +61,11 @@ pub fn run_suite<R: Read, W: Write>(
 {
     finished(alloc, docs)?;
     let bytes = read_all(alloc, suite)?;
-    tell_suite(alloc, docs, bytes.as_slice(), out)
+    write_suite(alloc, docs, bytes.as_slice(), out)
 }
 
 // Runs the suite with this text.
-fn tell_suite<W: Write>(
+fn write_suite<W: Write>(
     alloc: Global,
     docs: &[(&str, &[u8])],
     bytes: &[u8],
@@ -81,11 +81,11 @@ fn tell_suite<W: Write>(
 {
     let groups = suite_from(alloc, bytes)?;
     let lines = judged_lines(alloc, docs, groups.as_slice())?;
-    tell_lines(alloc, lines.as_slice(), out)
+    write_lines(alloc, lines.as_slice(), out)
 }
 
 // All allocations come before the first byte is written.
-fn tell_lines<W: Write>(
+fn write_lines<W: Write>(
     alloc: Global,
     lines: &[TestLine],
     out: &mut Sink<W>,

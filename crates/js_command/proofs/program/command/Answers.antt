@@ -9,12 +9,12 @@ use Rattle.js_command.proofs.program.command.Goals as goal
 
 pub returns-in-Err-clause-misused : goal.returns-in-Err-clause-misused
 returns-in-Err-clause-misused g c =
-    misuse_ends (request_of (words_of c.args.words.now)) c.in-Err.misuse c.tell_misuse-status.result _ c.tell_misuse-status.ensures.status c.tell_misuse-status.ensures.told
+    misuse_ends (request_of (words_of c.args.words.now)) c.in-Err.misuse c.report_misuse-status.result _ c.report_misuse-status.ensures.status c.report_misuse-status.ensures.told
 
 pub returns-in-Err-clause-told : goal.returns-in-Err-clause-told
 returns-in-Err-clause-told g c above =
-    let failed = misuse_told c.in-Err.misuse c.tell_misuse-status.result c.tell_misuse-status.ensures.status above in
-    (fault.Memory, sym failed, tt, λ other. search rules, c.tell_misuse-status.ensures.told failed)
+    let failed = misuse_told c.in-Err.misuse c.report_misuse-status.result c.report_misuse-status.ensures.status above in
+    (fault.Memory, sym failed, tt, λ other. search rules, c.report_misuse-status.ensures.told failed)
 
 -- nothing was written before the flush
 pub returns-in-Err-clause-flushed : goal.returns-in-Err-clause-flushed
@@ -33,13 +33,13 @@ returns-in-Err-perform_whole-clause-told g c above =
     let reason = words_reason (words_of c.args.words.now) (g.F.Files.held c.args.files.now) (g.R.Read.remaining c.args.input.now.device) c.perform_whole.new.input.failed
     (request_seen c.in-Ok.task) (g.W.Write.contents c.args.out.now.device) (g.W.Write.contents c.perform_whole.new.out.device) c.perform_whole.new.out.failed
     fault c.in-Ok.ensures.ok c.in-Err-perform_whole.ensures.reason in
-    (fault, sym c.status_of.ensures, reason, c.in-Err-perform_whole.ensures.nothing, c.tell.ensures)
+    (fault, sym c.status_of.ensures, reason, c.in-Err-perform_whole.ensures.nothing, c.report.ensures)
 
 -- ---- what the input is used for
 
 pub returns-in-Err-clause-input : goal.returns-in-Err-clause-input
 returns-in-Err-clause-input g c =
-    uses_none (request_of (words_of c.args.words.now)) c.in-Err.misuse c.args.input.now c.tell_misuse-status.result c.in-Err.ensures.err c.tell_misuse-status.ensures.status
+    uses_none (request_of (words_of c.args.words.now)) c.in-Err.misuse c.args.input.now c.report_misuse-status.result c.in-Err.ensures.err c.report_misuse-status.ensures.status
 
 pub returns-in-Err-perform_whole-clause-input : goal.returns-in-Err-perform_whole-clause-input
 returns-in-Err-perform_whole-clause-input g c =

@@ -7,5 +7,5 @@ pub returns-clause-answer : goal.returns-clause-answer
 returns-clause-answer g c =
     let docs = c.args.schemas.now in
     let of = TextOutcome docs (place_at docs c.args.place) c.args.format c.args.instance.now in
-    tells-map telling_output g.W.Write.contents c.args.out.now c.tell_text.new.out of (InstanceOutcome docs (place_at docs c.args.place) c.args.format c.args.instance.now) c.tell_text.result
-    (input-within c.args.instance.now of c.if-instance-gt-LIMIT.false) c.tell_text.ensures.answer
+    tells-map telling_output g.W.Write.contents c.args.out.now c.judge_text.new.out of (InstanceOutcome docs (place_at docs c.args.place) c.args.format c.args.instance.now) c.judge_text.result
+    (input-within c.args.instance.now of c.if-instance-gt-LIMIT.false) c.judge_text.ensures.answer

@@ -19,6 +19,6 @@ returns-clause-answer g c =
     let of = OutcomeOfTexts (text_before (first_line_feed bytes) bytes) (text_after (first_line_feed bytes) bytes) in
     let is = left_all left _ bytes c.in_ok-bytes.ensures.ok c.in_ok-bytes.ensures.end in
     let taken = g.W.Write.contents in
-    let told = rw (c.texts_of.ensures.before, c.texts_of.ensures.after, c.as_slice.ensures.value) at c.tell_texts.ensures.answer in
-    answers-told telling_output PairOutcome taken c.args.out.now c.tell_texts.new.out left bytes c.tell_texts.result is
-    (tells-map telling_output taken c.args.out.now c.tell_texts.new.out of (PairOutcome bytes) c.tell_texts.result (input-within bytes of c.in_ok-bytes.ensures.fits) told)
+    let told = rw (c.texts_of.ensures.before, c.texts_of.ensures.after, c.as_slice.ensures.value) at c.run_texts.ensures.answer in
+    answers-told telling_output PairOutcome taken c.args.out.now c.run_texts.new.out left bytes c.run_texts.result is
+    (tells-map telling_output taken c.args.out.now c.run_texts.new.out of (PairOutcome bytes) c.run_texts.result (input-within bytes of c.in_ok-bytes.ensures.fits) told)

@@ -32,8 +32,8 @@ returns-clause-answer g c =
     let bytes = c.in_ok-bytes.bytes.items in
     let read = ReadLines docs (suite_reading bytes) in
     let taken = g.W.Write.contents in
-    let told = rw c.as_slice.ensures.value at c.tell_suite.ensures.answer in
-    answers-after telling_lines (λ bytes. OfInput bytes (ReadLines docs (suite_reading bytes))) taken c.args.out.now c.tell_suite.new.out (documents_causes docs) left c.in_ok-finished.ensures.clear c.tell_suite.result
-    (answers-told telling_lines (λ bytes. OfInput bytes (ReadLines docs (suite_reading bytes))) taken c.args.out.now c.tell_suite.new.out left bytes c.tell_suite.result
+    let told = rw c.as_slice.ensures.value at c.write_suite.ensures.answer in
+    answers-after telling_lines (λ bytes. OfInput bytes (ReadLines docs (suite_reading bytes))) taken c.args.out.now c.write_suite.new.out (documents_causes docs) left c.in_ok-finished.ensures.clear c.write_suite.result
+    (answers-told telling_lines (λ bytes. OfInput bytes (ReadLines docs (suite_reading bytes))) taken c.args.out.now c.write_suite.new.out left bytes c.write_suite.result
     (left_all left _ bytes c.in_ok-bytes.ensures.ok c.in_ok-bytes.ensures.end)
-    (tells-map telling_lines taken c.args.out.now c.tell_suite.new.out read (OfInput bytes read) c.tell_suite.result (input-within bytes read c.in_ok-bytes.ensures.fits) told))
+    (tells-map telling_lines taken c.args.out.now c.write_suite.new.out read (OfInput bytes read) c.write_suite.result (input-within bytes read c.in_ok-bytes.ensures.fits) told))

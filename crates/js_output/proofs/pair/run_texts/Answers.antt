@@ -7,7 +7,7 @@ use Rattle.js_tree.specs.declared.forms.Format.TheVariants.{Flag}
 use Rattle.js_output.proofs.Answering.{tells-early, tells-map}
 use Rattle.js_output.proofs.CauseLists.{fails-append}
 use Rattle.js_output.proofs.FinishedSchemas.{outcome_over}
-use Rattle.js_output.proofs.pair.tell_texts.Goals as goal
+use Rattle.js_output.proofs.pair.run_texts.Goals as goal
 
 pub returns-in_err-schemas-clause-answer : goal.returns-in_err-schemas-clause-answer
 returns-in_err-schemas-clause-answer g c =

@@ -19,7 +19,7 @@ use std::io::Write;
 
 /// Judges the instance with this text by the schema at the place, and writes the output in the
 /// format.
-pub(crate) fn tell_text<W: Write>(
+pub(crate) fn judge_text<W: Write>(
     alloc: Global,
     schemas: &Schemas,
     place: Place,
@@ -37,14 +37,14 @@ pub(crate) fn tell_text<W: Write>(
     ensures sink_stays { out.old.failed ≡ true → out.new ≡ out.old }
 {
     match value_from(alloc, bytes) {
-        Ok(instance) => tell_value(alloc, schemas, place, format, &instance, out),
+        Ok(instance) => judge_value(alloc, schemas, place, format, &instance, out),
         Err(ReadFault::Memory) => Err(Fault::Memory),
         Err(fault) => Err(Fault::Instance(fault)),
     }
 }
 
 // All allocations come before the first byte is written.
-fn tell_value<W: Write>(
+fn judge_value<W: Write>(
     alloc: Global,
     schemas: &Schemas,
     place: Place,
