@@ -12,7 +12,7 @@ pub(crate) const LONGEST: usize = 65_536;
 
 /// The URL's text.
 #[tactic(auto, unfolding(crate::specs::Url::printed))]
-pub(crate) fn text_of(url: &Url) -> &str
+pub(crate) fn printed(url: &Url) -> &str
     ensures { result.now ≡ printed url.now }
 {
     url.as_str()

@@ -50,7 +50,7 @@ impl Schemas {
     {
         let fragment = uri::fragment(alloc, &url)?;
         let bare = uri::without_fragment(url)?;
-        let root = self.kept_root_named(uri::text_of(&bare));
+        let root = self.kept_root_named(uri::printed(&bare));
         match number_by_fragment(alloc, &self.kept.index, root, fragment.as_slice()) {
             Ok(Some(number)) => Ok(Place { number }),
             Ok(None) => Err(EntryFault::Unresolved),

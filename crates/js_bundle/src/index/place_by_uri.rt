@@ -206,6 +206,6 @@ pub(crate) fn number_named(
 {
     let fragment = uri::fragment(alloc, &uri)?;
     let bare = uri::without_fragment(uri)?;
-    let root = root_named(index, sites, uri::text_of(&bare));
+    let root = root_named(index, sites, uri::printed(&bare));
     number_by_fragment(alloc, index, root, fragment.as_slice())
 }
