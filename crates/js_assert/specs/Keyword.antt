@@ -29,16 +29,16 @@ name_of DependentRequired = codes "dependentRequired"
 abbrev pub NamedKeyword : Type 0
 NamedKeyword = List ℕ × Keyword
 
-abbrev pub named : Keyword → NamedKeyword
-named keyword = (name_of keyword, keyword)
+abbrev pub row_of : Keyword → NamedKeyword
+row_of keyword = (name_of keyword, keyword)
 
 -- in the order of the standard
 abbrev pub keywords : List NamedKeyword
 keywords =
-    named «Type» ∷ named Enum ∷ named Const ∷ named MultipleOf ∷ named Maximum ∷ named ExclusiveMaximum
-    ∷ named Minimum ∷ named ExclusiveMinimum ∷ named MaxLength ∷ named MinLength ∷ named Pattern ∷ named MaxItems
-    ∷ named MinItems ∷ named UniqueItems ∷ named MaxContains ∷ named MinContains ∷ named MaxProperties
-    ∷ named MinProperties ∷ named Required ∷ named DependentRequired ∷ []
+    row_of «Type» ∷ row_of Enum ∷ row_of Const ∷ row_of MultipleOf ∷ row_of Maximum ∷ row_of ExclusiveMaximum
+    ∷ row_of Minimum ∷ row_of ExclusiveMinimum ∷ row_of MaxLength ∷ row_of MinLength ∷ row_of Pattern ∷ row_of MaxItems
+    ∷ row_of MinItems ∷ row_of UniqueItems ∷ row_of MaxContains ∷ row_of MinContains ∷ row_of MaxProperties
+    ∷ row_of MinProperties ∷ row_of Required ∷ row_of DependentRequired ∷ []
 
 abbrev pub row_named : List NamedKeyword → List ℕ → Option Keyword
 row_named [] name = None
