@@ -18,8 +18,8 @@ keywords _ = []
 abbrev pub argument : Text → Value → Option Value
 argument keyword schema = get keyword (keywords schema)
 
-abbrev pub has : Text → Value → Bool
-has keyword schema = is_some (argument keyword schema)
+abbrev pub has_argument : Text → Value → Bool
+has_argument keyword schema = is_some (argument keyword schema)
 
 abbrev pub as_text : Value → Option Text
 as_text (text t) = Some t

@@ -15,7 +15,7 @@ use Rattle.js_bundle.specs.declared.place.Step.TheVariants as rust_step
 use Rattle.js_bundle.specs.declared.refusal.EntryFault.{EntryFault}
 use Rattle.js_bundle.specs.declared.refusal.EntryFault.TheVariants as fault
 use Rattle.js_bundle.specs.Document.{Documents}
-use Rattle.js_bundle.specs.Keyword.{Text, keywords, argument, has}
+use Rattle.js_bundle.specs.Keyword.{Text, keywords, argument, has_argument}
 use Rattle.js_bundle.specs.Names.{stands_at, known_as, named, is_read}
 use Rattle.js_bundle.specs.Place.{holding, items_in}
 use Rattle.js_bundle.specs.Resource.{Site, sites}
@@ -32,7 +32,8 @@ is_place documents n = nat_lt n (length (sites documents))
 
 -- the place of this number has the keyword
 abbrev pub has_keyword : Text → Documents → ℕ → Bool
-has_keyword keyword documents n = option_map_or (λ place. has keyword place.schema) (place_at documents n) false
+has_keyword keyword documents n =
+    option_map_or (λ place. has_argument keyword place.schema) (place_at documents n) false
 
 -- the places of a path
 abbrev pub path_at : Documents → List ℕ → List Site

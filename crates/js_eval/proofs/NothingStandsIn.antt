@@ -20,7 +20,7 @@ use Rattle.js_assert.specs.Keyword.{keyword_named}
 use Rattle.js_assert.specs.Pattern.{matches}
 use Rattle.js_bundle.specs.Document.{Documents}
 use Rattle.js_bundle.specs.FindingLaws.{EachIsFound, FindsAll}
-use Rattle.js_bundle.specs.Keyword.{Text, argument, has as has_keyword}
+use Rattle.js_bundle.specs.Keyword.{Text, argument, has_argument}
 use Rattle.js_bundle.specs.Names.{named, names as are_named, stands_at}
 use Rattle.js_bundle.specs.Place.{holding}
 use Rattle.js_bundle.specs.Resource.{Site, sites}
@@ -239,8 +239,8 @@ module _ (documents : Documents) (place : Site) (finds : FindsAll documents plac
   argument_there : argument k.0 place.schema ≡ Some k.1
   argument_there = argument_is place.schema k there
 
-  has_named : (name : Text) → k.0 ≡ name → has_keyword name place.schema ≡ true
-  has_named name e = ap (λ n. has_keyword n place.schema) (sym e) ∙ ap is_some argument_there
+  has_named : (name : Text) → k.0 ≡ name → has_argument name place.schema ≡ true
+  has_named name e = ap (λ n. has_argument n place.schema) (sym e) ∙ ap is_some argument_there
 
   module _ (κ : Kind) (does : kind k.0 ≡ κ) where
     one_found : held_at κ Alone ≡ true → IsFound documents (below documents place k.0 Alone) (S.below place k.0 Alone)

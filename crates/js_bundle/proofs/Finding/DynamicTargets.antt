@@ -12,7 +12,7 @@ use Rattle.js_bundle.specs.Candidate.{IsClear}
 use Rattle.js_bundle.specs.code.SparseList.{IsSparseList}
 use Rattle.js_bundle.specs.Document.{Documents}
 use Rattle.js_bundle.specs.Finding.{number_of_target, goes_by_name, dynamic_as, dynamic_at, by_scope}
-use Rattle.js_bundle.specs.Keyword.{Text, has, text_argument}
+use Rattle.js_bundle.specs.Keyword.{Text, has_argument, text_argument}
 use Rattle.js_bundle.specs.Names.{belongs_to, makes}
 use Rattle.js_bundle.specs.Refusals.{candidates}
 use Rattle.js_bundle.specs.Resource.{Site, sites}
@@ -157,7 +157,7 @@ pub has_dynamic_ref_kept : (docs documents : Documents) (kept : ℕ → Option D
 has_dynamic_ref_kept docs documents kept n place same number clear e =
     has_kept dynamic_in (codes "$dynamicRef") docs documents kept n place same number e
     (λ s is. some_of_map (dynamic_as (goes_by_name (sites documents) s)) (number_of_target (sites documents) (codes "$dynamicRef") s)
-    ∙ has_target (sites documents) (codes "$dynamicRef") s (has (codes "$dynamicRef") s.schema) refl
+    ∙ has_target (sites documents) (codes "$dynamicRef") s (has_argument (codes "$dynamicRef") s.schema) refl
     (first_target_there documents (subst (λ ds. IsClear (candidates ds)) same clear) place s is))
 
 pub reference_missing : (docs documents : Documents) (kept : ℕ → Option DynamicReference) (n place : ℕ) → docs ≡ documents → n ≡ place → IsClear (candidates docs)
