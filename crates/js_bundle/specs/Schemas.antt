@@ -19,7 +19,7 @@ use Rattle.js_bundle.specs.Keyword.{Text, keywords, argument, has_argument}
 use Rattle.js_bundle.specs.Names.{stands_at, known_as, named, is_read}
 use Rattle.js_bundle.specs.Place.{holding, items_in}
 use Rattle.js_bundle.specs.Resource.{Site, sites}
-use Rattle.js_bundle.specs.Url.{longest_uri, fragment}
+use Rattle.js_bundle.specs.Url.{longest_uri, decoded_fragment}
 
 -- ---- numbers
 
@@ -108,18 +108,19 @@ entry documents (Err e) = None
 
 -- no URI, or one whose fragment isn't read
 abbrev pub IsBadEntry : Parsed Parts → Type 0
-IsBadEntry (Ok uri) = is_read (fragment uri) ≡ false
+IsBadEntry (Ok uri) = is_read (decoded_fragment uri) ≡ false
 IsBadEntry (Err e) = Unit {0}
 
 abbrev pub IsReadEntry : Parsed Parts → Type 0
-IsReadEntry (Ok uri) = is_read (fragment uri) ≡ true
+IsReadEntry (Ok uri) = is_read (decoded_fragment uri) ≡ true
 IsReadEntry (Err e) = ⊥
 
 -- when a URI that is one is refused so
 abbrev pub IsNameFault : Documents → Parts → EntryFault → Type 0
 IsNameFault documents uri fault.Memory = Unit {0}
-IsNameFault documents uri fault.BadUri = is_read (fragment uri) ≡ false
-IsNameFault documents uri fault.Unresolved = (is_read (fragment uri) ≡ true) × (named (sites documents) uri ≡ None)
+IsNameFault documents uri fault.BadUri = is_read (decoded_fragment uri) ≡ false
+IsNameFault documents uri fault.Unresolved =
+    (is_read (decoded_fragment uri) ≡ true) × (named (sites documents) uri ≡ None)
 IsNameFault documents uri fault.UriTooLong = ⊥
 
 -- when an entry is refused so, each fault after those above it; want of memory may come at any time

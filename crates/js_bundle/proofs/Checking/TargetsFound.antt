@@ -17,7 +17,7 @@ use Rattle.js_bundle.specs.Names.{names, named, is_read}
 use Rattle.js_bundle.specs.Refusals.{when, decided, assertion_rules, on_text, text_rules, name_rules, at_place, at_member, at_site, first_pass, at_joined_reference, at_reference_text, at_reference, at_references, second_pass, candidates}
 use Rattle.js_bundle.specs.Resource.{Site, sites, joined}
 use Rattle.js_bundle.specs.Target.{reference, first_target}
-use Rattle.js_bundle.specs.Url.{longest_uri, parsed, fragment}
+use Rattle.js_bundle.specs.Url.{longest_uri, parsed, decoded_fragment}
 use Rattle.js_bundle.proofs.Finding.HeldIsFound.{get_among}
 use Rattle.js_bundle.proofs.Listing.LeastSetListed.{Among}
 use Rattle.js_bundle.proofs.Finding.FoundByText.{none_alike}
@@ -96,7 +96,7 @@ some_of None e = absurd (cc)
 some_of (Some x) e = refl
 
 joined_found : (all : List Site) (place : Site) (further : Tokens) (p : Parsed Parts) → IsClear (at_joined_reference all place further p) → is_some (option_and_then (number_named all) (parsed p)) ≡ true
-joined_found all place further (Ok uri) h = some_of (number_named all uri) (none_alike (names all uri) 0 all ∙ found_by all uri place further (is_read (fragment uri)) h)
+joined_found all place further (Ok uri) h = some_of (number_named all uri) (none_alike (names all uri) 0 all ∙ found_by all uri place further (is_read (decoded_fragment uri)) h)
 joined_found all place further (Err e) h = absurd (never place further BadReference h)
 
 short_found : (all : List Site) (place : Site) (further : Tokens) (p : Parsed Parts) (b : Bool) → IsClear (if b then decided place further UriTooLong else at_joined_reference all place further p)

@@ -19,7 +19,7 @@ use Rattle.js_bundle.specs.Resource.{Site, sites}
 use Rattle.js_bundle.specs.Schemas.{is_place, has_keyword, place_at, StandsFor, Finds}
 use Rattle.js_bundle.specs.code.KeptSite.{KeptSite, kept_site}
 use Rattle.js_bundle.specs.Target as spec
-use Rattle.js_bundle.specs.Url.{fragment}
+use Rattle.js_bundle.specs.Url.{decoded_fragment}
 use Rattle.js_bundle.proofs.Finding.NumbersStandForPlaces.{finds_place}
 use Rattle.js_bundle.proofs.Finding.KeptUnderNumber.{has_kept, has_target, kept_under}
 use Rattle.js_bundle.proofs.Checking.TargetsFound.{first_target_there, number_is_target}
@@ -90,7 +90,7 @@ same_name all path f (Some t) first true e = ap (λ name. unwrap_or (spec.outerm
 scope_is : (all path : List Site) (u : Option Parts) (first : Site) → by_scope all path (spec.is_dynamic u first) first ≡ spec.dynamic_of all path u first
 scope_is all path None first = refl
 scope_is all path (Some u) first =
-    same_name all path (fragment u) (text_argument (codes "$dynamicAnchor") first.schema) first (makes (codes "$dynamicAnchor") (fragment u) first) refl
+    same_name all path (decoded_fragment u) (text_argument (codes "$dynamicAnchor") first.schema) first (makes (codes "$dynamicAnchor") (decoded_fragment u) first) refl
 
 -- ---- the reference that is kept of a place
 
