@@ -29,16 +29,17 @@ name_of DependentRequired = codes "dependentRequired"
 abbrev pub NamedKeyword : Type 0
 NamedKeyword = List ℕ × Keyword
 
-abbrev pub row_of : Keyword → NamedKeyword
-row_of keyword = (name_of keyword, keyword)
+abbrev pub row_for : Keyword → NamedKeyword
+row_for keyword = (name_of keyword, keyword)
 
 -- in the order of the standard
 abbrev pub keywords : List NamedKeyword
 keywords =
-    row_of «Type» ∷ row_of Enum ∷ row_of Const ∷ row_of MultipleOf ∷ row_of Maximum ∷ row_of ExclusiveMaximum
-    ∷ row_of Minimum ∷ row_of ExclusiveMinimum ∷ row_of MaxLength ∷ row_of MinLength ∷ row_of Pattern ∷ row_of MaxItems
-    ∷ row_of MinItems ∷ row_of UniqueItems ∷ row_of MaxContains ∷ row_of MinContains ∷ row_of MaxProperties
-    ∷ row_of MinProperties ∷ row_of Required ∷ row_of DependentRequired ∷ []
+    row_for «Type» ∷ row_for Enum ∷ row_for Const ∷ row_for MultipleOf ∷ row_for Maximum
+    ∷ row_for ExclusiveMaximum ∷ row_for Minimum ∷ row_for ExclusiveMinimum ∷ row_for MaxLength ∷ row_for MinLength
+    ∷ row_for Pattern ∷ row_for MaxItems ∷ row_for MinItems ∷ row_for UniqueItems ∷ row_for MaxContains
+    ∷ row_for MinContains ∷ row_for MaxProperties ∷ row_for MinProperties ∷ row_for Required
+    ∷ row_for DependentRequired ∷ []
 
 abbrev pub row_named : List NamedKeyword → List ℕ → Option Keyword
 row_named [] name = None
