@@ -10,7 +10,7 @@ use Rattle.js_doc.specs.Value.{Value, Named}
 use Rattle.js_doc.specs.Members.{has_name}
 use Rattle.js_assert.specs.Assertion.{Asserted, asserted, implies, says, says_by}
 use Rattle.js_assert.specs.ErrorText.{error}
-use Rattle.js_assert.specs.Keyword.{NamedKeyword, keywords, row_named, keyword_named}
+use Rattle.js_assert.specs.Keyword.{NamedKeyword, assertion_keywords, row_named, keyword_named}
 use Rattle.js_assert.specs.Laws.{is_counting, IsAlikeWhateverMatches}
 use Rattle.js_assert.specs.declared.keyword.Keyword.{Keyword}
 use Rattle.js_assert.specs.declared.keyword.Keyword.TheVariants.{MaxContains, MinContains}
@@ -37,7 +37,7 @@ fits_rows (row ∷ rows) all name k e = let parts = and_parts _ _ all in fits_at
 
 fits_name : (name : List ℕ) (k : Keyword) → keyword_named name ≡ Some k → fits name k ≡ true
 unfolding keyword_named
-fits_name name k e = fits_rows keywords refl name k e
+fits_name name k e = fits_rows assertion_keywords refl name k e
 
 apart : (c d : Bool) → implies c d ≡ true → d ≡ false → c ≡ false
 apart true d h e = cc

@@ -4,7 +4,7 @@ use Rattle.std.specs.List.{AllByRecursion}
 use Rattle.std.specs.Str.{bytes_eq}
 use Rattle.std.proofs.lemmas.Slice.Eq.{bytes_eq-Decides}
 use Rattle.js_doc.specs.Value.{Value}
-use Rattle.js_assert.specs.Keyword.{NamedKeyword, name_of, keywords, row_named, keyword_named}
+use Rattle.js_assert.specs.Keyword.{NamedKeyword, name_of, assertion_keywords, row_named, keyword_named}
 use Rattle.js_assert.specs.Form.{IsFaultOf, IsKeywordFault}
 use Rattle.js_assert.specs.declared.fault.KeywordFault.{KeywordFault}
 use Rattle.js_assert.specs.declared.fault.KeywordFault.TheVariants.{Memory, BadKeyword, NotAPattern, PatternTooLarge}
@@ -21,9 +21,10 @@ none_named (row ∷ rows) name h =
     let apart : bytes_eq name row.0 ≡ false = not_true (bytes_eq name row.0) (λ e. h.0 ((bytes_eq-Decides name row.0).0 e)) in
     none_named rows name h.1 ∙ sym (ap (λ b. cond b (Some row.1) (row_named rows name)) apart)
 
-pub other_name : (name : List ℕ) → AllByRecursion (λ row. name ≡ row.0 → ⊥) keywords → None ≡ keyword_named name
+pub other_name : (name : List ℕ) → AllByRecursion (λ row. name ≡ row.0 → ⊥) assertion_keywords
+    → None ≡ keyword_named name
 unfolding keyword_named
-other_name name h = none_named keywords name h
+other_name name h = none_named assertion_keywords name h
 
 -- ---- the name of a keyword is the one that it was named by
 
@@ -36,7 +37,7 @@ named_in (row ∷ rows) name k h e = at _ refl (named_in rows name k h.1) where
 
 pub named-name_of : (name : List ℕ) (k : Keyword) → keyword_named name ≡ Some k → name ≡ name_of k
 unfolding keyword_named
-named-name_of name k e = named_in keywords name k
+named-name_of name k e = named_in assertion_keywords name k
     (refl, (refl, (refl, (refl, (refl, (refl, (refl, (refl, (refl, (refl, (refl, (refl, (refl, (refl, (refl, (refl, (refl, (refl, (refl, (refl, tt))))))))))))))))))))
     e
 
@@ -51,7 +52,7 @@ pattern_in (row ∷ rows) name h e = at _ refl (pattern_in rows name h.1) where
 
 pub pattern-named : (name : List ℕ) → keyword_named name ≡ Some Pattern → name ≡ codes "pattern"
 unfolding keyword_named
-pattern-named name e = pattern_in keywords name
+pattern-named name e = pattern_in assertion_keywords name
     (λ e. absurd (cc), (λ e. absurd (cc), (λ e. absurd (cc), (λ e. absurd (cc), (λ e. absurd (cc), (λ e. absurd (cc), (λ e. absurd (cc), (λ e. absurd (cc), (λ e. absurd (cc), (λ e. absurd (cc), (λ e. refl, (λ e. absurd (cc), (λ e. absurd (cc), (λ e. absurd (cc), (λ e. absurd (cc), (λ e. absurd (cc), (λ e. absurd (cc), (λ e. absurd (cc), (λ e. absurd (cc), (λ e. absurd (cc), tt))))))))))))))))))))
     e
 

@@ -29,16 +29,17 @@ name_of DependentRequired = codes "dependentRequired"
 abbrev pub NamedKeyword : Type 0
 NamedKeyword = List ℕ × Keyword
 
-abbrev pub named : Keyword → NamedKeyword
-named keyword = (name_of keyword, keyword)
+abbrev pub row_for : Keyword → NamedKeyword
+row_for keyword = (name_of keyword, keyword)
 
 -- in the order of the standard
-abbrev pub keywords : List NamedKeyword
-keywords =
-    named «Type» ∷ named Enum ∷ named Const ∷ named MultipleOf ∷ named Maximum ∷ named ExclusiveMaximum
-    ∷ named Minimum ∷ named ExclusiveMinimum ∷ named MaxLength ∷ named MinLength ∷ named Pattern ∷ named MaxItems
-    ∷ named MinItems ∷ named UniqueItems ∷ named MaxContains ∷ named MinContains ∷ named MaxProperties
-    ∷ named MinProperties ∷ named Required ∷ named DependentRequired ∷ []
+abbrev pub assertion_keywords : List NamedKeyword
+assertion_keywords =
+    row_for «Type» ∷ row_for Enum ∷ row_for Const ∷ row_for MultipleOf ∷ row_for Maximum
+    ∷ row_for ExclusiveMaximum ∷ row_for Minimum ∷ row_for ExclusiveMinimum ∷ row_for MaxLength ∷ row_for MinLength
+    ∷ row_for Pattern ∷ row_for MaxItems ∷ row_for MinItems ∷ row_for UniqueItems ∷ row_for MaxContains
+    ∷ row_for MinContains ∷ row_for MaxProperties ∷ row_for MinProperties ∷ row_for Required
+    ∷ row_for DependentRequired ∷ []
 
 abbrev pub row_named : List NamedKeyword → List ℕ → Option Keyword
 row_named [] name = None
@@ -46,4 +47,4 @@ row_named (row ∷ rows) name = if bytes_eq name row.0 then Some row.1 else row_
 
 -- the keyword of this name, if it is one of the twenty
 unfoldable pub keyword_named : List ℕ → Option Keyword
-keyword_named name = row_named keywords name
+keyword_named name = row_named assertion_keywords name

@@ -136,7 +136,7 @@ impl Assertion {
 
     /// The pattern that a string has to match (JSON Schema Validation, section 6.3.3), where the keyword is `pattern`.
     /// A caller that judges many values can keep a searcher for it.
-    pub fn pattern(&self) -> Option<&Pattern>
+    pub fn pattern_asked(&self) -> Option<&Pattern>
         ensures asked { option_map (λ p. p.now) result ≡ pattern_asked self.now }
         ensures says { MatchOption result (Unit {0}) (λ p. (v : Value) (matching : ℕ)
             → says self.now v matching ≡ on_string v (λ s. matches p.now s)) }

@@ -3,7 +3,7 @@ use Rattle.std.proofs.Common.{◌≡◌, ℕ, zero, suc, ◌+◌, ◌<◌, ◌�
 use Rattle.std.specs.List.{AllByRecursion}
 use Rattle.std.proofs.lemmas.Fmt.{decimal_injective}
 use Rattle.url.specs.Parts.{Parts}
-use Rattle.js_doc.specs.Lookup.{is_text, item_named, member_named, below, at}
+use Rattle.js_doc.specs.Lookup.{is_text, item_named, member_named, part_named, at}
 use Rattle.js_doc.specs.Members.{NamesAscend, NamesAscendInItems, NamesAscendInMembers}
 use Rattle.js_doc.specs.Pointer.{Tokens}
 use Rattle.js_doc.specs.Short.{item_count, IsShort, AreShortItems, AreShortMembers}
@@ -57,7 +57,7 @@ item_found (item v vs) n (suc i) u s e =
 
 -- a value that a token leads to, as good as the one that it stands in
 pub record Below (k : Text) (v u : Value) : Type 0 where
-  pub found : below k v ≡ Some u
+  pub found : part_named k v ≡ Some u
   pub ascends : NamesAscend u
   pub short : IsShort u
 
@@ -111,13 +111,13 @@ below_item i (list vs) u a s e =
 
 -- ---- a pointer further
 
-step : (p q : Tokens) (k : Text) (v u : Value) (o : Option Value) → below k v ≡ o → at (k ∷ p) v ≡ Some u → ((w : Value) → at p w ≡ Some u → at (p ++ q) w ≡ at q u) → at (k ∷ p ++ q) v ≡ at q u
+step : (p q : Tokens) (k : Text) (v u : Value) (o : Option Value) → part_named k v ≡ o → at (k ∷ p) v ≡ Some u → ((w : Value) → at p w ≡ Some u → at (p ++ q) w ≡ at q u) → at (k ∷ p ++ q) v ≡ at q u
 step p q k v u None is e more = let none : at (k ∷ p) v ≡ None = ap (option_and_then (at p)) is in absurd (cc)
 step p q k v u (Some w) is e more = ap (option_and_then (at (p ++ q))) is ∙ more w (sym (ap (option_and_then (at p)) is) ∙ e)
 
 pub at_append : (p q : Tokens) (v u : Value) → at p v ≡ Some u → at (p ++ q) v ≡ at q u
 at_append [] q v u e = let same : v ≡ u = cc in ap (at q) same
-at_append (k ∷ p) q v u e = step p q k v u (below k v) refl e (λ w there. at_append p q w u there)
+at_append (k ∷ p) q v u e = step p q k v u (part_named k v) refl e (λ w there. at_append p q w u there)
 
 -- what stands at the pointer in a document with this root
 pub record StandsIn (root : Value) (p : Tokens) (v : Value) : Type 0 where

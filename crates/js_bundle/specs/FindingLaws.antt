@@ -4,7 +4,7 @@ use Rattle.std.specs.Prelude.{◌≡◌, ℕ, List, true, Some, codes}
 use Rattle.js_doc.specs.Value.{Value}
 use Rattle.js_bundle.specs.Candidate.{IsClear}
 use Rattle.js_bundle.specs.Document.{Documents}
-use Rattle.js_bundle.specs.Keyword.{Text, has}
+use Rattle.js_bundle.specs.Keyword.{Text, has_argument}
 use Rattle.js_bundle.specs.Refusals.{candidates}
 use Rattle.js_bundle.specs.Resource.{Site, sites}
 use Rattle.js_bundle.specs.Schemas.{place_at, below, Holds, Step}
@@ -14,8 +14,8 @@ use Rattle.js_bundle.specs.Target.{target, dynamic_target}
 pub record FindsAll (documents : Documents) (place : Site) : Type 0 where
   -- the place below it has the schema that is held
   pub below : (k : Text) (step : Step) (u : Value) → Holds place.schema k step u → (t : Site) × (below documents place k step ≡ Some t) × (t.schema ≡ u)
-  pub target : has (codes "$ref") place.schema ≡ true → (t : Site) × (target (sites documents) place ≡ Some t)
-  pub dynamic_target : (path : List Site) → has (codes "$dynamicRef") place.schema ≡ true → (t : Site) × (dynamic_target (sites documents) path place ≡ Some t)
+  pub target : has_argument (codes "$ref") place.schema ≡ true → (t : Site) × (target (sites documents) place ≡ Some t)
+  pub dynamic_target : (path : List Site) → has_argument (codes "$dynamicRef") place.schema ≡ true → (t : Site) × (dynamic_target (sites documents) path place ≡ Some t)
 
 abbrev pub EachIsFound : Type 0
 EachIsFound = (documents : Documents) → AreRead documents → IsClear (candidates documents) → (n : ℕ) (place : Site) → place_at documents n ≡ Some place → FindsAll documents place

@@ -1,10 +1,8 @@
 -- A schema's keywords and their arguments (JSON Schema Core, section 4.3.1).
-use Rattle.std.specs.Prelude.{ℕ, List, [], ◌∷◌, Bool, Option, Some, None, is_some, option_and_then}
+use Rattle.std.specs.Prelude.{[], ◌∷◌, Bool, Option, Some, None, is_some, option_and_then}
 use Rattle.js_doc.specs.Value.{Value, text, object, Members, no_members, member, Named}
 use Rattle.js_doc.specs.Members.{get}
-
-abbrev pub Text : Type 0
-Text = List ℕ
+pub use Rattle.js_doc.specs.Value.{Text}
 
 abbrev pub member_pairs : Members → Named
 member_pairs no_members = []
@@ -18,8 +16,8 @@ keywords _ = []
 abbrev pub argument : Text → Value → Option Value
 argument keyword schema = get keyword (keywords schema)
 
-abbrev pub has : Text → Value → Bool
-has keyword schema = is_some (argument keyword schema)
+abbrev pub has_argument : Text → Value → Bool
+has_argument keyword schema = is_some (argument keyword schema)
 
 abbrev pub as_text : Value → Option Text
 as_text (text t) = Some t

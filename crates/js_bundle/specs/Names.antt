@@ -9,7 +9,7 @@ use Rattle.url.specs.Parts.{Parts}
 use Rattle.js_doc.specs.Pointer.{Tokens}
 use Rattle.js_doc.specs.PointerReading.{pointer_of}
 use Rattle.js_bundle.specs.Keyword.{Text, text_argument}
-use Rattle.js_bundle.specs.Url.{without_fragment, printed, fragment}
+use Rattle.js_bundle.specs.Url.{without_fragment, printed, decoded_fragment}
 use Rattle.js_bundle.specs.Resource.{Site}
 
 abbrev pub same_tokens : Tokens → Tokens → Bool
@@ -74,7 +74,7 @@ is_named_by root f = if is_pointer f then by_pointer root f else (λ place. by_a
 
 -- the URI names the place
 abbrev pub names : List Site → Parts → Site → Bool
-names all uri = option_map_or (λ root. is_named_by root (fragment uri)) (root_named all uri) (λ _. false)
+names all uri = option_map_or (λ root. is_named_by root (decoded_fragment uri)) (root_named all uri) (λ _. false)
 
 -- the place that the URI names
 abbrev pub named : List Site → Parts → Option Site

@@ -25,25 +25,25 @@ abbrev pub is_none : Step → Bool
 is_none step = false
 
 -- the steps to the schemas that a keyword holds and applies
-abbrev pub takes : KeywordName → Step → Bool
-takes name.Not = is_alone
-takes name.If = is_alone
-takes name.Then = is_alone
-takes name.Else = is_alone
-takes name.Items = is_alone
-takes name.Contains = is_alone
-takes name.AdditionalProperties = is_alone
-takes name.PropertyNames = is_alone
-takes name.UnevaluatedItems = is_alone
-takes name.UnevaluatedProperties = is_alone
-takes name.AllOf = is_index
-takes name.AnyOf = is_index
-takes name.OneOf = is_index
-takes name.PrefixItems = is_index
-takes name.DependentSchemas = is_name
-takes name.Properties = is_name
-takes name.PatternProperties = is_name
-takes _ = is_none
+abbrev pub applies_at : KeywordName → Step → Bool
+applies_at name.Not = is_alone
+applies_at name.If = is_alone
+applies_at name.Then = is_alone
+applies_at name.Else = is_alone
+applies_at name.Items = is_alone
+applies_at name.Contains = is_alone
+applies_at name.AdditionalProperties = is_alone
+applies_at name.PropertyNames = is_alone
+applies_at name.UnevaluatedItems = is_alone
+applies_at name.UnevaluatedProperties = is_alone
+applies_at name.AllOf = is_index
+applies_at name.AnyOf = is_index
+applies_at name.OneOf = is_index
+applies_at name.PrefixItems = is_index
+applies_at name.DependentSchemas = is_name
+applies_at name.Properties = is_name
+applies_at name.PatternProperties = is_name
+applies_at _ = is_none
 
 -- this is the argument's schema at the step: the only one, the item of a list with the index, or the member of an object
 -- with the name and this rank among all
@@ -54,4 +54,4 @@ IsAtRank (Name n) r l u = slice_get (keywords l) r ≡ Some (n, u)
 
 -- the keyword of this schema holds a schema at the step
 abbrev pub HoldsAtRank : Value → Text → Step → ℕ → Value → Type 0
-HoldsAtRank schema k step r u = (takes (keyword_name k) step ≡ true) × ((l : Value) × (argument k schema ≡ Some l) × IsAtRank step r l u)
+HoldsAtRank schema k step r u = (applies_at (keyword_name k) step ≡ true) × ((l : Value) × (argument k schema ≡ Some l) × IsAtRank step r l u)

@@ -16,7 +16,7 @@ use Rattle.js_bundle.specs.declared.check.fault.CheckFault.TheVariants as fault
 use Rattle.js_bundle.specs.Candidate.{Candidate, IsFirst, decided_in}
 use Rattle.js_bundle.specs.Document.{Documents}
 use Rattle.js_bundle.specs.Keyword.{Text, keywords, text_argument}
-use Rattle.js_bundle.specs.Url.{longest_uri, without_fragment, printed, raw_fragment, fragment}
+use Rattle.js_bundle.specs.Url.{longest_uri, without_fragment, printed, raw_fragment, decoded_fragment}
 use Rattle.js_bundle.specs.Resource.{Site, sites}
 use Rattle.js_bundle.specs.Names.{is_root, is_known_as, belongs_to, makes, is_read, named, is_anchor_name}
 use Rattle.js_bundle.specs.Form.{is_schema, is_formed}
@@ -136,7 +136,7 @@ first_pass before (place ∷ rest) = at_site before place ++ first_pass (before 
 abbrev pub at_joined_reference : List Site → Site → Tokens → Parsed Parts → List Candidate
 at_joined_reference all place further (Err fault) = decided place further BadReference
 at_joined_reference all place further (Ok uri) =
-    if is_read (fragment uri) then when (is_none (named all uri)) (decided place further Unresolved) else decided place further BadReference
+    if is_read (decoded_fragment uri) then when (is_none (named all uri)) (decided place further Unresolved) else decided place further BadReference
 
 abbrev pub at_reference_text : List Site → Site → Tokens → Option Text → List Candidate
 at_reference_text all place further None = []

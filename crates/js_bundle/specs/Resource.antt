@@ -8,7 +8,7 @@ use Rattle.url.specs.Parser.{parse_url}
 use Rattle.js_doc.specs.Pointer.{Tokens}
 use Rattle.js_doc.specs.Value.{Value}
 use Rattle.js_bundle.specs.declared.scan.scope.Scope.{Scope}
-use Rattle.js_bundle.specs.Keyword.{Text, argument, as_text, has}
+use Rattle.js_bundle.specs.Keyword.{Text, argument, as_text, has_argument}
 use Rattle.js_bundle.specs.Document.{Documents}
 use Rattle.js_bundle.specs.Place.{Place, Located, places}
 use Rattle.js_bundle.specs.Url.{longest_uri, without_fragment, parsed}
@@ -50,7 +50,8 @@ base place = (scope_below (scope_above place) place.spot).base
 -- The root of a place's resource, by its pointer: the nearest place upward, itself included, that has an `$id` or is a
 -- root. An `$id` that can't be joined makes no resource for what stands below it, but one for its own place.
 abbrev pub resource : Place → Tokens
-resource place = if has (codes "$id") place.spot.schema then place.spot.pointer else (scope_above place).resource
+resource place =
+    if has_argument (codes "$id") place.spot.schema then place.spot.pointer else (scope_above place).resource
 
 -- ---- what the rules look at of a place
 

@@ -15,11 +15,11 @@ use Rattle.js_bundle.specs.declared.place.Step.TheVariants as rust_step
 use Rattle.js_bundle.specs.declared.refusal.EntryFault.{EntryFault}
 use Rattle.js_bundle.specs.declared.refusal.EntryFault.TheVariants as fault
 use Rattle.js_bundle.specs.Document.{Documents}
-use Rattle.js_bundle.specs.Keyword.{Text, keywords, argument, has}
+use Rattle.js_bundle.specs.Keyword.{Text, keywords, argument, has_argument}
 use Rattle.js_bundle.specs.Names.{stands_at, known_as, named, is_read}
 use Rattle.js_bundle.specs.Place.{holding, items_in}
 use Rattle.js_bundle.specs.Resource.{Site, sites}
-use Rattle.js_bundle.specs.Url.{longest_uri, fragment}
+use Rattle.js_bundle.specs.Url.{longest_uri, decoded_fragment}
 
 -- ---- numbers
 
@@ -32,7 +32,8 @@ is_place documents n = nat_lt n (length (sites documents))
 
 -- the place of this number has the keyword
 abbrev pub has_keyword : Text → Documents → ℕ → Bool
-has_keyword keyword documents n = option_map_or (λ place. has keyword place.schema) (place_at documents n) false
+has_keyword keyword documents n =
+    option_map_or (λ place. has_argument keyword place.schema) (place_at documents n) false
 
 -- the places of a path
 abbrev pub path_at : Documents → List ℕ → List Site
@@ -107,18 +108,19 @@ entry documents (Err e) = None
 
 -- no URI, or one whose fragment isn't read
 abbrev pub IsBadEntry : Parsed Parts → Type 0
-IsBadEntry (Ok uri) = is_read (fragment uri) ≡ false
+IsBadEntry (Ok uri) = is_read (decoded_fragment uri) ≡ false
 IsBadEntry (Err e) = Unit {0}
 
 abbrev pub IsReadEntry : Parsed Parts → Type 0
-IsReadEntry (Ok uri) = is_read (fragment uri) ≡ true
+IsReadEntry (Ok uri) = is_read (decoded_fragment uri) ≡ true
 IsReadEntry (Err e) = ⊥
 
 -- when a URI that is one is refused so
 abbrev pub IsNameFault : Documents → Parts → EntryFault → Type 0
 IsNameFault documents uri fault.Memory = Unit {0}
-IsNameFault documents uri fault.BadUri = is_read (fragment uri) ≡ false
-IsNameFault documents uri fault.Unresolved = (is_read (fragment uri) ≡ true) × (named (sites documents) uri ≡ None)
+IsNameFault documents uri fault.BadUri = is_read (decoded_fragment uri) ≡ false
+IsNameFault documents uri fault.Unresolved =
+    (is_read (decoded_fragment uri) ≡ true) × (named (sites documents) uri ≡ None)
 IsNameFault documents uri fault.UriTooLong = ⊥
 
 -- when an entry is refused so, each fault after those above it; want of memory may come at any time

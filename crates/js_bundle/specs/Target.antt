@@ -3,7 +3,7 @@ use Rattle.std.specs.Prelude.{List, [], ◌∷◌, Bool, false, ◌&&◌, Option
 use Rattle.std.specs.Option.{option_or, option_map_or}
 use Rattle.url.specs.Parts.{Parts}
 use Rattle.js_bundle.specs.Keyword.{Text, text_argument}
-use Rattle.js_bundle.specs.Url.{fragment}
+use Rattle.js_bundle.specs.Url.{decoded_fragment}
 use Rattle.js_bundle.specs.Resource.{Site, joined}
 use Rattle.js_bundle.specs.Names.{belongs_to, makes, named}
 
@@ -34,13 +34,14 @@ outermost all name (place ∷ path) = option_or (dynamic_anchor all name place) 
 
 -- `$dynamicAnchor` makes the reference's fragment a name of its first target
 abbrev pub is_dynamic : Option Parts → Site → Bool
-is_dynamic uri first = option_map_or (λ u. makes (codes "$dynamicAnchor") (fragment u) first) uri false
+is_dynamic uri first = option_map_or (λ u. makes (codes "$dynamicAnchor") (decoded_fragment u) first) uri false
 
 -- Where the first target has the name by `$dynamicAnchor`, the outermost resource of the path that has it so gives the
 -- target; else, or if no resource of the path has it, the first target stands.
 abbrev pub dynamic_of : List Site → List Site → Option Parts → Site → Site
 dynamic_of all path uri first =
-    if is_dynamic uri first then unwrap_or (option_and_then (λ u. outermost all (fragment u) path) uri) first else first
+    if is_dynamic uri first then unwrap_or (option_and_then (λ u. outermost all (decoded_fragment u) path) uri) first
+    else first
 
 abbrev pub dynamic_target : List Site → List Site → Site → Option Site
 dynamic_target all path place =

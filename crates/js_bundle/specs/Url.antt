@@ -23,8 +23,8 @@ abbrev pub raw_fragment : Parts → Text
 raw_fragment uri = unwrap_or uri.fragment []
 
 -- its fragment, percent-decoded (RFC 3986, section 2.1)
-abbrev pub fragment : Parts → Text
-fragment uri = percent_decode (raw_fragment uri)
+abbrev pub decoded_fragment : Parts → Text
+decoded_fragment uri = percent_decode (raw_fragment uri)
 
 -- the URI, where the text was one
 abbrev pub parsed : Parsed Parts → Option Parts

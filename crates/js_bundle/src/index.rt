@@ -72,7 +72,7 @@ fn root_uri<'s>(site: &'s Site<'_>) -> Option<&'s str>
     ensures { option_to_list (option_copied result) ≡ root_uris (site_of site.now) }
 {
     if is_root(site) {
-        Some(uri::text_of(&site.above.base))
+        Some(uri::printed(&site.above.base))
     } else {
         None
     }
@@ -83,7 +83,7 @@ fn made_uri<'s>(site: &'s Site<'_>) -> Option<&'s str>
     ensures { option_to_list (option_copied result) ≡ made_uris (site_of site.now) }
 {
     if site.identifies {
-        Some(uri::text_of(&site.own.base))
+        Some(uri::printed(&site.own.base))
     } else {
         None
     }

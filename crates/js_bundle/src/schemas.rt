@@ -90,7 +90,7 @@ impl Schemas {
         requires { is_place self.now place ≡ true }
         ensures { option_map canonical (place_at self.now place) ≡ Some result.now }
     {
-        uri::text_of(&self.kept_site(place).own.base)
+        uri::printed(&self.kept_site(place).own.base)
     }
 
     /// The absolute location of the place, or of a keyword of it (JSON Schema Core, section 12.3.2): the canonical URI

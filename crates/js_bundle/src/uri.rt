@@ -1,6 +1,6 @@
 //! URIs, as `url` reads, joins and prints them.
 ghost use Rattle.std.specs.Prelude.{◌≡◌, ◌↔◌, [], IfOk, IsTrue};
-ghost use Rattle.js_bundle.specs.Url.{fragment, printed, raw_fragment, without_fragment};
+ghost use Rattle.js_bundle.specs.Url.{decoded_fragment, printed, raw_fragment, without_fragment};
 
 use js_doc::Memory;
 use percent_encoding::percent_decode;
@@ -12,7 +12,7 @@ pub(crate) const LONGEST: usize = 65_536;
 
 /// The URL's text.
 #[tactic(auto, unfolding(crate::specs::Url::printed))]
-pub(crate) fn text_of(url: &Url) -> &str
+pub(crate) fn printed(url: &Url) -> &str
     ensures { result.now ≡ printed url.now }
 {
     url.as_str()
@@ -37,8 +37,8 @@ pub(crate) fn has_no_fragment(url: &Url) -> bool
 }
 
 /// The URL's fragment, decoded. It is empty where there is none.
-pub(crate) fn fragment(alloc: Global, url: &Url) -> Result<Vec<u8>, Memory>
-    ensures { IfOk result (λ v. v.items ≡ fragment url.now) }
+pub(crate) fn decoded_fragment(alloc: Global, url: &Url) -> Result<Vec<u8>, Memory>
+    ensures { IfOk result (λ v. v.items ≡ decoded_fragment url.now) }
 {
     let mut bytes = Vec::new(alloc);
     let coded = url.fragment().unwrap_or("");

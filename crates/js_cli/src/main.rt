@@ -20,7 +20,7 @@ fn status(rt: &HostRuntime) -> u8 {
         Ok(words) => words,
         Err(NoWords::Memory) => return FAILED,
         Err(NoWords::NotUtf8) => {
-            let _ = faults.put(USAGE);
+            let _ = faults.write_all(USAGE);
             return MISUSED;
         }
     };

@@ -18,7 +18,7 @@ pub(crate) fn report<V: Write>(alloc: Global, fault: &Fault, faults: &mut Sink<V
         (fault_line fault.now ++ 10 ∷ []) }
 {
     if let Some(line) = told(alloc, fault) {
-        let _ = faults.put(line.as_bytes());
+        let _ = faults.write_all(line.as_bytes());
     }
 }
 
@@ -44,11 +44,11 @@ pub(crate) fn report_misuse<V: Write>(alloc: Global, misuse: Misuse, faults: &mu
             FAILED
         }
         Misuse::OtherForm => {
-            let _ = faults.put(USAGE);
+            let _ = faults.write_all(USAGE);
             MISUSED
         }
         Misuse::OddPairs => {
-            let _ = faults.put(PAIRS_USAGE);
+            let _ = faults.write_all(PAIRS_USAGE);
             MISUSED
         }
     }

@@ -17,15 +17,15 @@ abbrev pub member_named : List ℕ → Members → Option Value
 member_named token no_members = None
 member_named token (member k v ms) = if is_text token k then Some v else member_named token ms
 
--- one token further
-abbrev pub below : List ℕ → Value → Option Value
-below token null = None
-below token (truth b) = None
-below token (whole z) = None
-below token (text s) = None
-below token (list vs) = item_named token 0 vs
-below token (object ms) = member_named token ms
+-- the item or member that the token names
+abbrev pub part_named : List ℕ → Value → Option Value
+part_named token null = None
+part_named token (truth b) = None
+part_named token (whole z) = None
+part_named token (text s) = None
+part_named token (list vs) = item_named token 0 vs
+part_named token (object ms) = member_named token ms
 
 abbrev pub at : Tokens → Value → Option Value
 at [] v = Some v
-at (token ∷ tokens) v = option_and_then (at tokens) (below token v)
+at (token ∷ tokens) v = option_and_then (at tokens) (part_named token v)

@@ -22,6 +22,10 @@ mutual
     no_members : Members
     member : List ℕ → Value → Members → Members
 
+-- a text, as the bytes of its UTF-8
+abbrev pub Text : Type 0
+Text = List ℕ
+
 -- ---- items and members as lists
 
 abbrev pub Values : Type 0

@@ -26,8 +26,8 @@ impl Doc {
         ensures { IsLawful (value_of self.now) }
     {
         match self {
-            Doc::List(items) => items.lawful(),
-            Doc::Members(members) => members.lawful(),
+            Doc::List(items) => items.lawful_items(),
+            Doc::Members(members) => members.lawful_members(),
             _ => {}
         }
     }

@@ -52,7 +52,7 @@ impl Items {
         Items { items }
     }
 
-    pub(crate) fn lawful(&self)
+    pub(crate) fn lawful_items(&self)
         ensures { IsLawful (list (items self.now)) }
     {
         let _ = &self.items;

@@ -1,7 +1,7 @@
 //! What stands at a pointer in a value (RFC 6901, section 4).
 ghost use Rattle.std.specs.Prelude.{◌≡◌, ℕ, ◌<◌, ◌^◌, None, IfSome, option_map, decimal};
 ghost use Rattle.js_doc.specs.Seen.{value_of, items_seen};
-ghost use Rattle.js_doc.specs.Lookup.{at, below, item_named};
+ghost use Rattle.js_doc.specs.Lookup.{at, item_named, part_named};
 
 use crate::doc::Doc;
 use crate::pointer::Pointer;
@@ -24,7 +24,7 @@ impl Doc {
     {
         match pointer.tokens().split_last() {
             Some((last, above)) => match at_tokens(self, above) {
-                Some(doc) => below_with_hint(doc, last.as_str(), hint),
+                Some(doc) => part_named_with_hint(doc, last.as_str(), hint),
                 None => None,
             },
             None => Some(self),
@@ -37,7 +37,7 @@ fn at_tokens<'a>(root: &'a Doc, tokens: &[Token]) -> Option<&'a Doc>
 {
     let mut here = root;
     for token in tokens {
-        match below(here, token.as_str()) {
+        match part_named(here, token.as_str()) {
             Some(doc) => here = doc,
             None => return None,
         }
@@ -45,18 +45,18 @@ fn at_tokens<'a>(root: &'a Doc, tokens: &[Token]) -> Option<&'a Doc>
     Some(here)
 }
 
-fn below_with_hint<'a>(doc: &'a Doc, token: &str, hint: usize) -> Option<&'a Doc>
-    ensures { option_map (λ d. value_of d.now) result ≡ below token.now (value_of doc.now) }
+fn part_named_with_hint<'a>(doc: &'a Doc, token: &str, hint: usize) -> Option<&'a Doc>
+    ensures { option_map (λ d. value_of d.now) result ≡ part_named token.now (value_of doc.now) }
 {
     match doc {
         Doc::Members(members) => members.get_with_hint(token, hint),
-        _ => below(doc, token),
+        _ => part_named(doc, token),
     }
 }
 
-// What stands one token below.
-fn below<'a>(doc: &'a Doc, token: &str) -> Option<&'a Doc>
-    ensures { option_map (λ d. value_of d.now) result ≡ below token.now (value_of doc.now) }
+// The item or member that the token names.
+fn part_named<'a>(doc: &'a Doc, token: &str) -> Option<&'a Doc>
+    ensures { option_map (λ d. value_of d.now) result ≡ part_named token.now (value_of doc.now) }
 {
     match doc {
         Doc::List(items) => item(items.items.as_slice(), token),

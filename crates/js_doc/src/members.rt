@@ -155,7 +155,7 @@ impl Members {
         Ok(())
     }
 
-    pub(crate) fn lawful(&self)
+    pub(crate) fn lawful_members(&self)
         ensures { IsLawful (object (members self.now)) }
     {
         let _ = &self.entries;

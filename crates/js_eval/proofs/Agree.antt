@@ -13,7 +13,7 @@ use Rattle.js_eval.specs.Keywords.{Keyword, keywords, keywords_that, comes_befor
 use Rattle.js_eval.specs.Kind.{kind, is_unevaluated}
 use Rattle.js_eval.specs.SchemaSet.{Text, SchemaSet, Alone}
 use Rattle.js_eval.specs.Verdict as verdict
-use Rattle.js_eval.specs.Verdict.{Known, next, nothing, within}
+use Rattle.js_eval.specs.Verdict.{Known, with_one_more, nothing, within}
 use Rattle.js_eval.specs.declared.keywords.kind.Kind.{Kind}
 use Rattle.js_eval.specs.declared.keywords.kind.Kind.TheVariants.{UnevaluatedItems, UnevaluatedProperties, Contains}
 use Rattle.js_eval.proofs.Lists.{and_same, all_more, all_same, map_same, filter_same, flat_map_same, all_filtered, found}
@@ -202,16 +202,18 @@ module _ {Place : Type 0} (S : SchemaSet Place) (w x : Known Place) (agree : Agr
   all_indexes_same : KeywordsSettled → flat_map (verdict.gives_indexes S w above place v) (keywords (S.schema place)) ≡ flat_map (verdict.gives_indexes S x above place v) (keywords (S.schema place))
   all_indexes_same h = flat_map_same (verdict.keyword_settled S w above place v) (verdict.gives_indexes S w above place v) (verdict.gives_indexes S x above place v) (gives_indexes_same h) (keywords (S.schema place)) h
 
-  pub holds_next : KeywordsSettled → (next S w).holds above place v ≡ (next S x).holds above place v
+  pub holds_next : KeywordsSettled → (with_one_more S w).holds above place v ≡ (with_one_more S x).holds above place v
   holds_next h = and_same (h ∙ sym (schema_settled_same h)) (schema_passes_same h)
 
-  pub names_next : KeywordsSettled → (next S w).names above place v ≡ (next S x).names above place v
+  pub names_next : KeywordsSettled → (with_one_more S w).names above place v ≡ (with_one_more S x).names above place v
   names_next h = let e = schema_passes_same h in let f = all_names_same h in cc
 
-  pub indexes_next : KeywordsSettled → (next S w).indexes above place v ≡ (next S x).indexes above place v
+  pub indexes_next : KeywordsSettled
+      → (with_one_more S w).indexes above place v ≡ (with_one_more S x).indexes above place v
   indexes_next h = let e = schema_passes_same h in let f = all_indexes_same h in cc
 
-next_agrees : {Place : Type 0} (S : SchemaSet Place) (w x : Known Place) → Agrees w x → Agrees (next S w) (next S x)
+next_agrees : {Place : Type 0} (S : SchemaSet Place) (w x : Known Place) → Agrees w x
+    → Agrees (with_one_more S w) (with_one_more S x)
 next_agrees S w x agree = record {
   settled = λ above place v h. schema_settled_same S w x agree above place v h;
   holds = λ above place v h. holds_next S w x agree above place v h;

@@ -20,13 +20,13 @@ use Rattle.js_assert.specs.Keyword.{keyword_named}
 use Rattle.js_assert.specs.Pattern.{matches}
 use Rattle.js_bundle.specs.Document.{Documents}
 use Rattle.js_bundle.specs.FindingLaws.{EachIsFound, FindsAll}
-use Rattle.js_bundle.specs.Keyword.{Text, argument, has as has_keyword}
+use Rattle.js_bundle.specs.Keyword.{Text, argument, has_argument}
 use Rattle.js_bundle.specs.Names.{named, names as are_named, stands_at}
 use Rattle.js_bundle.specs.Place.{holding}
 use Rattle.js_bundle.specs.Resource.{Site, sites}
 use Rattle.js_bundle.specs.Schemas.{below, fits, step_tokens, Holds, Step, Alone, Index, Name}
 use Rattle.js_bundle.specs.Target.{reference, first_target, target, dynamic_anchor, outermost, is_dynamic, dynamic_of, dynamic_target}
-use Rattle.js_bundle.specs.Url.{fragment}
+use Rattle.js_bundle.specs.Url.{decoded_fragment}
 use Rattle.js_bundle.proofs.SchemaBelow.{is_one, is_listed, is_named}
 use Rattle.js_bundle.proofs.Standing.{standing}
 use Rattle.js_eval.specs.Applications.{Application, asks_of, indexed, indexed_from}
@@ -75,9 +75,9 @@ unwrapped_among : (all : List Site) (o : Option Site) (d : Site) → ((u : Site)
 unwrapped_among all None d f a = a
 unwrapped_among all (Some x) d f a = f x refl
 
-scope_among : (all path : List Site) (o : Option Parts) (t : Site) → option_and_then (λ u. outermost all (fragment u) path) o ≡ Some t → Among all t
+scope_among : (all path : List Site) (o : Option Parts) (t : Site) → option_and_then (λ u. outermost all (decoded_fragment u) path) o ≡ Some t → Among all t
 scope_among all path None t e = absurd (cc)
-scope_among all path (Some uri) t e = outermost_among all (fragment uri) path t e
+scope_among all path (Some uri) t e = outermost_among all (decoded_fragment uri) path t e
 
 chosen_among : (all : List Site) (b : Bool) (s t : Site) → Among all s → Among all t → Among all (cond b s t)
 chosen_among all true s t a c = a
@@ -91,7 +91,7 @@ dynamic_among : (all path : List Site) (uri : Option Parts) (o : Option Site) (t
 dynamic_among all path uri None t f e = absurd (cc)
 dynamic_among all path uri (Some first) t f e =
     let a = f first refl in
-    let there = chosen_among all (is_dynamic uri first) _ first (unwrapped_among all (option_and_then (λ u. outermost all (fragment u) path) uri) first (scope_among all path uri) a) a in
+    let there = chosen_among all (is_dynamic uri first) _ first (unwrapped_among all (option_and_then (λ u. outermost all (decoded_fragment u) path) uri) first (scope_among all path uri) a) a in
     subst (λ o. HoldsAmong all o) e there
 
 below_at : (b : Bool) (all : List Site) (test : Site → Bool) (t : Site) → cond b (find test all) None ≡ Some t → Among all t
@@ -239,8 +239,8 @@ module _ (documents : Documents) (place : Site) (finds : FindsAll documents plac
   argument_there : argument k.0 place.schema ≡ Some k.1
   argument_there = argument_is place.schema k there
 
-  has_named : (name : Text) → k.0 ≡ name → has_keyword name place.schema ≡ true
-  has_named name e = ap (λ n. has_keyword n place.schema) (sym e) ∙ ap is_some argument_there
+  has_named : (name : Text) → k.0 ≡ name → has_argument name place.schema ≡ true
+  has_named name e = ap (λ n. has_argument n place.schema) (sym e) ∙ ap is_some argument_there
 
   module _ (κ : Kind) (does : kind k.0 ≡ κ) where
     one_found : held_at κ Alone ≡ true → IsFound documents (below documents place k.0 Alone) (S.below place k.0 Alone)

@@ -13,7 +13,7 @@ use Rattle.js_doc.specs.Escapes.{stands}
 use Rattle.js_doc.specs.Pointer.{escape}
 use Rattle.js_doc.specs.Plain.{is_kept, is_plain}
 use Rattle.js_doc.proofs.PlainTokens.{all_kept, all_plain, all_stand, kept_too}
-use Rattle.js_assert.specs.Keyword.{NamedKeyword, keyword_named, keywords, row_named}
+use Rattle.js_assert.specs.Keyword.{NamedKeyword, keyword_named, assertion_keywords, row_named}
 use Rattle.js_eval.specs.Kind.{Applicator, applicators, kind, kind_in}
 use Rattle.js_eval.specs.code.Standard.{IsWrittenAsItIs}
 use Rattle.js_eval.specs.declared.keywords.kind.Kind.TheVariants.{Annotation, Assertion}
@@ -34,12 +34,12 @@ assertion_plain (row ∷ rows) name h e = at (bytes_eq name row.0) refl e (asser
     at true e f more = same_name name row.0 e h.0
     at false e f more = more f
 
-all_assertions : AllByRecursion (λ row. IsPlain row.0) keywords
+all_assertions : AllByRecursion (λ row. IsPlain row.0) assertion_keywords
 all_assertions = (refl, (refl, (refl, (refl, (refl, (refl, (refl, (refl, (refl, (refl, (refl, (refl, (refl, (refl, (refl, (refl, (refl, (refl, (refl, (refl, tt))))))))))))))))))))
 
 named_plain : (name : List ℕ) (b : Bool) → is_some (keyword_named name) ≡ b → (cond b Assertion Annotation ≡ Annotation → ⊥) → IsPlain name
 unfolding keyword_named
-named_plain name true e h = assertion_plain keywords name all_assertions e
+named_plain name true e h = assertion_plain assertion_keywords name all_assertions e
 named_plain name false e h = absurd (h refl)
 
 applicator_plain : (rows : List Applicator) (name : List ℕ) → AllByRecursion (λ row. IsPlain row.0) rows → (kind_in rows name ≡ Annotation → ⊥) → IsPlain name

@@ -1,7 +1,7 @@
 -- What an evaluation needs to know of a set of schemas. Their places are values of any one type.
 use Rattle.std.specs.Prelude.{List, Option}
 use Rattle.js_doc.specs.Value.{Value}
-pub use Rattle.js_bundle.specs.Keyword.{Text}
+pub use Rattle.js_doc.specs.Value.{Text}
 -- one step down: to the value itself, to an item, to a member
 pub use Rattle.js_bundle.specs.Schemas.{Step, Alone, Index, Name}
 

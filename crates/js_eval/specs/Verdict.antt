@@ -120,8 +120,8 @@ module _ {Place : Type 0} (S : SchemaSet Place) (known : Known Place) (above : L
   schema_passes = accepts (S.schema place) && list_all passes (keywords (S.schema place))
 
 -- what is known with one more nested application; a schema that fails has evaluated nothing (7.7.1.2)
-abbrev pub next : {Place : Type 0} → SchemaSet Place → Known Place → Known Place
-next S known = record {
+abbrev pub with_one_more : {Place : Type 0} → SchemaSet Place → Known Place → Known Place
+with_one_more S known = record {
   settled = λ above place v. schema_settled S known above place v;
   holds = λ above place v. schema_settled S known above place v && schema_passes S known above place v;
   names = λ above place v. if schema_passes S known above place v then flat_map (gives_names S known above place v) (keywords (S.schema place)) else [];
@@ -134,7 +134,7 @@ nothing = record { settled = λ _ _ _. false; holds = λ _ _ _. false; names = �
 -- what is known within n nested schema applications
 unfoldable pub within : {Place : Type 0} → SchemaSet Place → ℕ → Known Place
 within S zero = nothing
-within S (suc n) = next S (within S n)
+within S (suc n) = with_one_more S (within S n)
 
 -- ---- verdicts: v is evaluated at a place, at the end of these places
 

@@ -6,7 +6,7 @@ use Rattle.js_tree.specs.declared.forms.Format.{Format}
 use Rattle.js_output.specs.Cause.{MayGoOn}
 use Rattle.js_output.specs.Documents.{DocumentTexts, bundle_of, adding_causes, bundle_causes, documents_causes}
 use Rattle.js_output.specs.Entry.{entry_causes, entry_place}
-use Rattle.js_output.specs.Finished.{AreAdded, AreFinished}
+use Rattle.js_output.specs.Finished.{AreAddedInTurn, AreFinished}
 use Rattle.js_output.specs.Outcome.{Output, InstanceOutcome, FinishedOutcome, Outcome}
 use Rattle.js_output.specs.Telling.{After}
 use Rattle.js_output.specs.declared.fault.Fault.{Fault}
@@ -31,7 +31,7 @@ module _ (documents : DocumentTexts) (entry : List ℕ) (format : Format) (insta
 
 -- ---- documents that were added and finished
 
-are_added : (held : bundle.Documents) (n : ℕ) (documents : DocumentTexts) (all : bundle.Documents) → length held ≡ n → AreAdded held documents all
+are_added : (held : bundle.Documents) (n : ℕ) (documents : DocumentTexts) (all : bundle.Documents) → length held ≡ n → AreAddedInTurn held documents all
     → (all ≡ held ++ bundle_of documents) × MayGoOn (adding_causes n documents)
 are_added held n [] all many is = (is ∙ sym (append-nil held), tt)
 are_added held n (d ∷ ds) all many (more, added, later) =

@@ -8,7 +8,7 @@ use Rattle.js_bundle.specs.Document.{Documents}
 use Rattle.js_bundle.specs.Names.{is_read}
 use Rattle.js_bundle.specs.Resource.{Site}
 use Rattle.js_bundle.specs.Schemas.{entry, is_place, place_at}
-use Rattle.js_bundle.specs.Url.{longest_uri, fragment}
+use Rattle.js_bundle.specs.Url.{longest_uri, decoded_fragment}
 use Rattle.js_output.specs.Cause.{Causes, cause}
 use Rattle.js_output.specs.declared.entry.Entry as rust
 use Rattle.js_output.specs.declared.fault.Fault.{Fault}
@@ -20,7 +20,7 @@ entry_place documents uri = entry documents (parse_url None uri)
 
 -- it is an absolute URL, and its fragment is read
 abbrev pub is_uri_read : Parsed Parts → Bool
-is_uri_read (Ok uri) = is_read (fragment uri)
+is_uri_read (Ok uri) = is_read (decoded_fragment uri)
 is_uri_read (Err e) = false
 
 abbrev pub entry_causes : Documents → List ℕ → Causes

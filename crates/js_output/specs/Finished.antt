@@ -8,11 +8,11 @@ use Rattle.js_bundle.specs.Refusals.{candidates}
 use Rattle.js_output.specs.Documents.{DocumentTexts}
 
 -- all are held after these were added, one after another, to what was held
-abbrev pub AreAdded : bundle.Documents → DocumentTexts → bundle.Documents → Type 0
-AreAdded held [] all = all ≡ held
-AreAdded held (d ∷ ds) all = (more : bundle.Documents) × IsAdded held d.0 d.1 more × AreAdded more ds all
+abbrev pub AreAddedInTurn : bundle.Documents → DocumentTexts → bundle.Documents → Type 0
+AreAddedInTurn held [] all = all ≡ held
+AreAddedInTurn held (d ∷ ds) all = (more : bundle.Documents) × IsAdded held d.0 d.1 more × AreAddedInTurn more ds all
 
 -- they were added to nothing, and finished
 pub record AreFinished (documents : DocumentTexts) (schemas : bundle.Documents) : Type 0 where
-  pub added : AreAdded [] documents schemas
+  pub added : AreAddedInTurn [] documents schemas
   pub clear : IsClear (candidates schemas)

@@ -47,7 +47,7 @@ pub fn run_places<W: Write>(
     ensures sink_stays { out.old.failed ≡ true → out.new ≡ out.old }
 {
     let told = told_places(alloc, docs)?;
-    out.put(told.text.as_bytes())?;
+    out.write_all(told.text.as_bytes())?;
     Ok(told.count)
 }
 

@@ -94,7 +94,7 @@ impl<W: Write> Sink<W> {
 
     /// Writes all of the bytes, one write after another, and stops at the first that fails. After
     /// `Fault::Write` a beginning of them has been written. A sink that has failed returns it at once.
-    pub fn put(&mut self, bytes: &[u8]) -> Result<(), Fault>
+    pub fn write_all(&mut self, bytes: &[u8]) -> Result<(), Fault>
         ensures ok { OnOk result
             (Appends (W.contents self.old.device) (W.contents self.new.device) bytes.now) }
         ensures begins { AppendsBeginning (W.contents self.old.device)

@@ -97,6 +97,6 @@ fn write_lines<W: Write>(
 {
     let counts = counts_of(lines);
     let text = lines_text(alloc, lines, counts)?;
-    out.put(text.as_bytes())?;
+    out.write_all(text.as_bytes())?;
     Ok(counts)
 }

@@ -21,7 +21,7 @@ use Rattle.js_bundle.specs.Place.{Place, places_from}
 use Rattle.js_bundle.specs.Refusals.{when, decided, is_empty, is_taken, is_made, text_rules, name_rules, assertion_rules, at_joined_id, at_id, at_place, at_member, at_site, first_pass, second_pass, candidates, most_places}
 use Rattle.js_bundle.specs.Resource.{Site, site, sites, joined, identified_by, identified, scope_or}
 use Rattle.js_bundle.specs.Seen.{AreRead}
-use Rattle.js_bundle.specs.Url.{longest_uri, without_fragment, printed, raw_fragment, fragment, parsed}
+use Rattle.js_bundle.specs.Url.{longest_uri, without_fragment, printed, raw_fragment, decoded_fragment, parsed}
 use Rattle.js_bundle.proofs.Listing.EachListedOnce.{at_place as standing_at, number_of, tokens-sound}
 use Rattle.js_bundle.proofs.Finding.HeldIsFound.{get_among}
 use Rattle.js_bundle.proofs.Listing.LeastSetListed.{Among}
@@ -302,4 +302,4 @@ one_named documents read h name None n m s t e f i j = absurd (cc)
 one_named documents read h name (Some root) n m s t e f i j = one_named_by documents read h root name (is_pointer name) n m s t e f i j
 
 pub one_place : (documents : Documents) → AreRead documents → IsClear (candidates documents) → (uri : Parts) → AreOne documents (λ place. names (sites documents) uri place ≡ true)
-one_place documents read h uri = one_named documents read h (fragment uri) (root_named (sites documents) uri)
+one_place documents read h uri = one_named documents read h (decoded_fragment uri) (root_named (sites documents) uri)

@@ -12,7 +12,7 @@ use Rattle.js_bundle.specs.Finding.{number_named, IsRefusalOrMemory}
 use Rattle.js_bundle.specs.code.Leads.{Leads}
 use Rattle.js_bundle.specs.Names.{names, named, is_read}
 use Rattle.js_bundle.specs.Refusals.{at_joined_reference, refusal_at, at_site, first_pass}
-use Rattle.js_bundle.specs.Url.{fragment}
+use Rattle.js_bundle.specs.Url.{decoded_fragment}
 use Rattle.js_bundle.proofs.Finding.FoundByText.{none_alike}
 use Rattle.js_doc.specs.Pointer.{Tokens}
 use Rattle.url.specs.Parts.{Parts}
@@ -66,7 +66,7 @@ not_none all uri n e = sym (none_alike (names all uri) 0 all) ∙ ap is_none e
 is_lost : (all : List Site) (uri : Parts) → number_named all uri ≡ None → is_none (named all uri) ≡ true
 is_lost all uri e = sym (none_alike (names all uri) 0 all) ∙ ap is_none e
 
-pub found_clear : (all : List Site) (place : Site) (further : Tokens) (uri : Parts) (n : ℕ) → number_named all uri ≡ Some n → is_read (fragment uri) ≡ true
+pub found_clear : (all : List Site) (place : Site) (further : Tokens) (uri : Parts) (n : ℕ) → number_named all uri ≡ Some n → is_read (decoded_fragment uri) ≡ true
     → IsClear (at_joined_reference all place further (Ok uri))
 found_clear all place further uri n e r = let some : is_none (named all uri) ≡ false = not_none all uri n e in rw (r, some) tt
 
@@ -74,6 +74,6 @@ pub refused_one : (r : Refusal) (e : CheckFault) → IsRefusalOrMemory r e → I
 refused_one r Memory h = tt
 refused_one r (Refused s) h = inl h
 
-pub lost_stopped : (all : List Site) (place : Site) (further : Tokens) (uri : Parts) (e : CheckFault) → number_named all uri ≡ None → is_read (fragment uri) ≡ true
+pub lost_stopped : (all : List Site) (place : Site) (further : Tokens) (uri : Parts) (e : CheckFault) → number_named all uri ≡ None → is_read (decoded_fragment uri) ≡ true
     → IsRefusalOrMemory (refusal_at place further Unresolved) e → IsStopped (at_joined_reference all place further (Ok uri)) e
 lost_stopped all place further uri e n r h = let lost : is_none (named all uri) ≡ true = is_lost all uri n in rw (r, lost) (refused_one (refusal_at place further Unresolved) e h)

@@ -8,7 +8,7 @@ use Rattle.js_bundle.specs.Keyword.{Text, text_argument}
 use Rattle.js_bundle.specs.Names.{makes, names, named}
 use Rattle.js_bundle.specs.Resource.{Site, joined}
 use Rattle.js_bundle.specs.Target.{reference}
-use Rattle.js_bundle.specs.Url.{longest_uri, fragment, parsed}
+use Rattle.js_bundle.specs.Url.{longest_uri, decoded_fragment, parsed}
 use Rattle.js_bundle.proofs.Finding.FoundByText.{found_at}
 
 -- a text that is joined to a URL
@@ -22,7 +22,7 @@ reference_is keyword place t u is short read = ap (option_and_then (joined place
 -- ---- a `$dynamicRef`
 
 pub dynamic_found : (all : List Site) (uri : Parts) (n : ℕ) → number_named all uri ≡ Some n
-    → Some (dynamic_as (option_map_or (makes (codes "$dynamicAnchor") (fragment uri)) (slice_get all n) false) n) ≡ dynamic_by all (Some uri)
+    → Some (dynamic_as (option_map_or (makes (codes "$dynamicAnchor") (decoded_fragment uri)) (slice_get all n) false) n) ≡ dynamic_by all (Some uri)
 dynamic_found all uri n e =
     let first : slice_get all n ≡ named all uri = ap (option_and_then (slice_get all)) (sym e) ∙ found_at (names all uri) all in
-    ap₂ (λ o t. option_map (dynamic_as (option_map_or (makes (codes "$dynamicAnchor") (fragment uri)) o false)) t) first (sym e)
+    ap₂ (λ o t. option_map (dynamic_as (option_map_or (makes (codes "$dynamicAnchor") (decoded_fragment uri)) o false)) t) first (sym e)

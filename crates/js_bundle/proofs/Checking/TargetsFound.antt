@@ -12,12 +12,12 @@ use Rattle.js_bundle.specs.Candidate.{Candidate, IsClear}
 use Rattle.js_bundle.specs.Document.{Documents}
 use Rattle.js_bundle.specs.Finding.{number_named, number_of_target}
 use Rattle.js_bundle.specs.Form.{is_text_value, text_keywords, is_formed}
-use Rattle.js_bundle.specs.Keyword.{Text, keywords, argument, has, as_text, text_argument}
+use Rattle.js_bundle.specs.Keyword.{Text, keywords, argument, has_argument, as_text, text_argument}
 use Rattle.js_bundle.specs.Names.{names, named, is_read}
 use Rattle.js_bundle.specs.Refusals.{when, decided, assertion_rules, on_text, text_rules, name_rules, at_place, at_member, at_site, first_pass, at_joined_reference, at_reference_text, at_reference, at_references, second_pass, candidates}
 use Rattle.js_bundle.specs.Resource.{Site, sites, joined}
 use Rattle.js_bundle.specs.Target.{reference, first_target}
-use Rattle.js_bundle.specs.Url.{longest_uri, parsed, fragment}
+use Rattle.js_bundle.specs.Url.{longest_uri, parsed, decoded_fragment}
 use Rattle.js_bundle.proofs.Finding.HeldIsFound.{get_among}
 use Rattle.js_bundle.proofs.Listing.LeastSetListed.{Among}
 use Rattle.js_bundle.proofs.Finding.FoundByText.{none_alike}
@@ -96,7 +96,7 @@ some_of None e = absurd (cc)
 some_of (Some x) e = refl
 
 joined_found : (all : List Site) (place : Site) (further : Tokens) (p : Parsed Parts) → IsClear (at_joined_reference all place further p) → is_some (option_and_then (number_named all) (parsed p)) ≡ true
-joined_found all place further (Ok uri) h = some_of (number_named all uri) (none_alike (names all uri) 0 all ∙ found_by all uri place further (is_read (fragment uri)) h)
+joined_found all place further (Ok uri) h = some_of (number_named all uri) (none_alike (names all uri) 0 all ∙ found_by all uri place further (is_read (decoded_fragment uri)) h)
 joined_found all place further (Err e) h = absurd (never place further BadReference h)
 
 short_found : (all : List Site) (place : Site) (further : Tokens) (p : Parsed Parts) (b : Bool) → IsClear (if b then decided place further UriTooLong else at_joined_reference all place further p)
@@ -109,7 +109,7 @@ text_found : (all : List Site) (place : Site) (further : Tokens) (o : Option Tex
 text_found all place further None e h = absurd (cc)
 text_found all place further (Some t) e h = short_found all place further (parse_url (Some place.own.base) t) (nat_lt longest_uri (length t)) h
 
-resolved : (all : List Site) (n : ℕ) (s : Site) (k : Text) → list_any (bytes_eq k) text_keywords ≡ true → IsClear (first_pass [] all) → IsClear (at_reference all k s) → slice_get all n ≡ Some s → has k s.schema ≡ true
+resolved : (all : List Site) (n : ℕ) (s : Site) (k : Text) → list_any (bytes_eq k) text_keywords ≡ true → IsClear (first_pass [] all) → IsClear (at_reference all k s) → slice_get all n ≡ Some s → has_argument k s.schema ≡ true
     → is_some (number_of_target all k s) ≡ true
 resolved all n s k is h g e there =
     text_found all s (k ∷ []) (text_argument k s.schema) (some_text (argument k s.schema) there (λ v a. text_form k v is (form_clear [] all n s h e k v a))) g
@@ -120,7 +120,7 @@ references_clear documents n s h e =
     clear_at (at_references all) all n s (clear_there (first_pass [] all) (second_pass all) h) e
 
 -- each `$ref` of a place has a target
-pub target_there : (documents : Documents) → IsClear (candidates documents) → (n : ℕ) (s : Site) → slice_get (sites documents) n ≡ Some s → has (codes "$ref") s.schema ≡ true
+pub target_there : (documents : Documents) → IsClear (candidates documents) → (n : ℕ) (s : Site) → slice_get (sites documents) n ≡ Some s → has_argument (codes "$ref") s.schema ≡ true
     → is_some (number_of_target (sites documents) (codes "$ref") s) ≡ true
 target_there documents h n s e there =
     let all = sites documents in
@@ -128,7 +128,7 @@ target_there documents h n s e there =
     (clear_there (at_reference all (codes "$dynamicRef") s) (at_reference all (codes "$ref") s) (references_clear documents n s h e)) e there
 
 -- each `$dynamicRef` of a place has a first target
-pub first_target_there : (documents : Documents) → IsClear (candidates documents) → (n : ℕ) (s : Site) → slice_get (sites documents) n ≡ Some s → has (codes "$dynamicRef") s.schema ≡ true
+pub first_target_there : (documents : Documents) → IsClear (candidates documents) → (n : ℕ) (s : Site) → slice_get (sites documents) n ≡ Some s → has_argument (codes "$dynamicRef") s.schema ≡ true
     → is_some (number_of_target (sites documents) (codes "$dynamicRef") s) ≡ true
 first_target_there documents h n s e there =
     let all = sites documents in

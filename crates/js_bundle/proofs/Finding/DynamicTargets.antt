@@ -12,14 +12,14 @@ use Rattle.js_bundle.specs.Candidate.{IsClear}
 use Rattle.js_bundle.specs.code.SparseList.{IsSparseList}
 use Rattle.js_bundle.specs.Document.{Documents}
 use Rattle.js_bundle.specs.Finding.{number_of_target, goes_by_name, dynamic_as, dynamic_at, by_scope}
-use Rattle.js_bundle.specs.Keyword.{Text, has, text_argument}
+use Rattle.js_bundle.specs.Keyword.{Text, has_argument, text_argument}
 use Rattle.js_bundle.specs.Names.{belongs_to, makes}
 use Rattle.js_bundle.specs.Refusals.{candidates}
 use Rattle.js_bundle.specs.Resource.{Site, sites}
 use Rattle.js_bundle.specs.Schemas.{is_place, has_keyword, place_at, StandsFor, Finds}
 use Rattle.js_bundle.specs.code.KeptSite.{KeptSite, kept_site}
 use Rattle.js_bundle.specs.Target as spec
-use Rattle.js_bundle.specs.Url.{fragment}
+use Rattle.js_bundle.specs.Url.{decoded_fragment}
 use Rattle.js_bundle.proofs.Finding.NumbersStandForPlaces.{finds_place}
 use Rattle.js_bundle.proofs.Finding.KeptUnderNumber.{has_kept, has_target, kept_under}
 use Rattle.js_bundle.proofs.Checking.TargetsFound.{first_target_there, number_is_target}
@@ -90,7 +90,7 @@ same_name all path f (Some t) first true e = ap (λ name. unwrap_or (spec.outerm
 scope_is : (all path : List Site) (u : Option Parts) (first : Site) → by_scope all path (spec.is_dynamic u first) first ≡ spec.dynamic_of all path u first
 scope_is all path None first = refl
 scope_is all path (Some u) first =
-    same_name all path (fragment u) (text_argument (codes "$dynamicAnchor") first.schema) first (makes (codes "$dynamicAnchor") (fragment u) first) refl
+    same_name all path (decoded_fragment u) (text_argument (codes "$dynamicAnchor") first.schema) first (makes (codes "$dynamicAnchor") (decoded_fragment u) first) refl
 
 -- ---- the reference that is kept of a place
 
@@ -157,7 +157,7 @@ pub has_dynamic_ref_kept : (docs documents : Documents) (kept : ℕ → Option D
 has_dynamic_ref_kept docs documents kept n place same number clear e =
     has_kept dynamic_in (codes "$dynamicRef") docs documents kept n place same number e
     (λ s is. some_of_map (dynamic_as (goes_by_name (sites documents) s)) (number_of_target (sites documents) (codes "$dynamicRef") s)
-    ∙ has_target (sites documents) (codes "$dynamicRef") s (has (codes "$dynamicRef") s.schema) refl
+    ∙ has_target (sites documents) (codes "$dynamicRef") s (has_argument (codes "$dynamicRef") s.schema) refl
     (first_target_there documents (subst (λ ds. IsClear (candidates ds)) same clear) place s is))
 
 pub reference_missing : (docs documents : Documents) (kept : ℕ → Option DynamicReference) (n place : ℕ) → docs ≡ documents → n ≡ place → IsClear (candidates docs)

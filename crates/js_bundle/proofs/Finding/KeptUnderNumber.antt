@@ -10,7 +10,7 @@ use Rattle.js_bundle.specs.Candidate.{IsClear}
 use Rattle.js_bundle.specs.code.SparseList.{IsSparseList}
 use Rattle.js_bundle.specs.Document.{Documents}
 use Rattle.js_bundle.specs.Finding.{number_named, number_of_target}
-use Rattle.js_bundle.specs.Keyword.{Text, argument, as_text, has}
+use Rattle.js_bundle.specs.Keyword.{Text, argument, as_text, has_argument}
 use Rattle.js_bundle.specs.Refusals.{candidates}
 use Rattle.js_bundle.specs.Resource.{Site, joined, sites}
 use Rattle.js_bundle.specs.Schemas.{place_at, has_keyword, assertion, pattern, StandsFor}
@@ -70,7 +70,7 @@ target_is docs documents kept n place t same number e h =
 
 -- ---- whether there is one
 
-no_reference : (all : List Site) (k : Text) (s : Site) → has k s.schema ≡ false → is_some (number_of_target all k s) ≡ false
+no_reference : (all : List Site) (k : Text) (s : Site) → has_argument k s.schema ≡ false → is_some (number_of_target all k s) ≡ false
 no_reference all k s e = by_argument (argument k s.schema) refl e
   where
     by_argument : (o : Option Value) → argument k s.schema ≡ o → is_some o ≡ false → is_some (number_of_target all k s) ≡ false
@@ -78,18 +78,18 @@ no_reference all k s e = by_argument (argument k s.schema) refl e
     by_argument (Some v) is e = absurd (cc)
 
 -- a place has a target exactly where it has the keyword
-pub has_target : (all : List Site) (k : Text) (s : Site) (b : Bool) → has k s.schema ≡ b → (has k s.schema ≡ true → is_some (number_of_target all k s) ≡ true)
-    → is_some (number_of_target all k s) ≡ has k s.schema
+pub has_target : (all : List Site) (k : Text) (s : Site) (b : Bool) → has_argument k s.schema ≡ b → (has_argument k s.schema ≡ true → is_some (number_of_target all k s) ≡ true)
+    → is_some (number_of_target all k s) ≡ has_argument k s.schema
 has_target all k s true e there = there e ∙ sym e
 has_target all k s false e there = no_reference all k s e ∙ sym e
 
 pub has_kept : {A : Type 0} (f : Documents → Site → Option A) (k : Text) (docs documents : Documents) (kept : ℕ → Option A) (n place : ℕ) → docs ≡ documents → n ≡ place
-    → IsSparseList kept (f docs) (sites docs) → ((s : Site) → place_at documents place ≡ Some s → is_some (f documents s) ≡ has k s.schema)
+    → IsSparseList kept (f docs) (sites docs) → ((s : Site) → place_at documents place ≡ Some s → is_some (f documents s) ≡ has_argument k s.schema)
     → is_some (kept n) ≡ has_keyword k documents place
 has_kept f k docs documents kept n place same number e h =
     ap is_some (kept_under f docs documents kept n place (kept n) same number e refl) ∙ by_place (place_at documents place) refl
   where
-    by_place : (o : Option Site) → place_at documents place ≡ o → is_some (option_and_then (f documents) o) ≡ option_map_or (λ s. has k s.schema) o false
+    by_place : (o : Option Site) → place_at documents place ≡ o → is_some (option_and_then (f documents) o) ≡ option_map_or (λ s. has_argument k s.schema) o false
     by_place None is = refl
     by_place (Some s) is = h s is
 
@@ -97,7 +97,7 @@ pub has_ref_kept : (docs documents : Documents) (kept : ℕ → Option ℕ) (n p
     → IsSparseList kept (plain_at docs) (sites docs) → is_some (kept n) ≡ has_keyword (codes "$ref") documents place
 has_ref_kept docs documents kept n place same number clear e =
     has_kept plain_at (codes "$ref") docs documents kept n place same number e
-    (λ s is. has_target (sites documents) (codes "$ref") s (has (codes "$ref") s.schema) refl (target_there documents (subst (λ ds. IsClear (candidates ds)) same clear) place s is))
+    (λ s is. has_target (sites documents) (codes "$ref") s (has_argument (codes "$ref") s.schema) refl (target_there documents (subst (λ ds. IsClear (candidates ds)) same clear) place s is))
 
 pub target_missing : (docs documents : Documents) (kept : ℕ → Option ℕ) (n place : ℕ) → docs ≡ documents → n ≡ place → IsClear (candidates docs)
     → IsSparseList kept (plain_at docs) (sites docs) → has_keyword (codes "$ref") documents place ≡ true → ¬ (None ≡ kept n)

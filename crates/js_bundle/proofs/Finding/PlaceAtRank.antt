@@ -28,7 +28,7 @@ use Rattle.js_bundle.proofs.Listing.LeastSetListed.{Among}
 use Rattle.js_bundle.proofs.Listing.PlacesApart.{below_all, less_apart}
 use Rattle.js_bundle.proofs.Finding.RankOfName.{some_is}
 use Rattle.js_bundle.proofs.SchemaBelow.{is_one, is_listed, is_named}
-use Rattle.js_bundle.proofs.Finding.StepsFit.{takes_fits}
+use Rattle.js_bundle.proofs.Finding.StepsFit.{applies_fits}
 use Rattle.js_bundle.proofs.Standing.{standing, made_at}
 
 -- ---- a member with a rank is the one of its name
@@ -54,9 +54,9 @@ argument_at (list vs) r n u a e = absurd (cc)
 argument_at (object ms) r n u a e = get_at ms r n u a e
 
 holds_ranked : (v : Value) (k : Text) (step : Step) (r : ℕ) (u : Value) → NamesAscend v → HoldsAtRank v k step r u → Holds v k step u
-holds_ranked v k Alone r u a h = (is_one (holding k) (takes_fits k Alone h.0), h.1.1 ∙ ap Some h.1.2.0)
-holds_ranked v k (Index i) r u a h = (is_listed (holding k) i (takes_fits k (Index i) h.0), (h.1.0, h.1.1, h.1.2.0))
-holds_ranked v k (Name n) r u a h = (is_named (holding k) n (takes_fits k (Name n) h.0), (h.1.0, h.1.1, argument_at h.1.0 r n u (argument_ascends v k h.1.0 a h.1.1) h.1.2))
+holds_ranked v k Alone r u a h = (is_one (holding k) (applies_fits k Alone h.0), h.1.1 ∙ ap Some h.1.2.0)
+holds_ranked v k (Index i) r u a h = (is_listed (holding k) i (applies_fits k (Index i) h.0), (h.1.0, h.1.1, h.1.2.0))
+holds_ranked v k (Name n) r u a h = (is_named (holding k) n (applies_fits k (Name n) h.0), (h.1.0, h.1.1, argument_at h.1.0 r n u (argument_ascends v k h.1.0 a h.1.1) h.1.2))
 
 -- ---- the number with that rank
 
@@ -108,7 +108,7 @@ ranked_by documents read n s e k (Name name) r u h =
     let root = root_of documents n t made.found in
     let ascends = (standing documents read.ordered read.short n s e).ascends in
     let at : HoldsAtRank t.spot.schema k (Name name) r u = subst (λ x. HoldsAtRank x.schema k (Name name) r u) made.is h in
-    let m = ranked_at all (map kept_site (sites documents)) t.document t.uri (kept_sites_are documents) n root.above t.spot.pointer t.spot.schema k name at.1.0 u r root.places (is_named (holding k) name (takes_fits k (Name name) at.0)) at.1.1 at.1.2 in
+    let m = ranked_at all (map kept_site (sites documents)) t.document t.uri (kept_sites_are documents) n root.above t.spot.pointer t.spot.schema k name at.1.0 u r root.places (is_named (holding k) name (applies_fits k (Name name) at.0)) at.1.1 at.1.2 in
     record {
       number = m.0;
       is = subst (λ o. slice_get (option_map_or (numbers_of_keyword (keyword_name k)) o []) r ≡ Some m.0) (sym root.held) m.1;

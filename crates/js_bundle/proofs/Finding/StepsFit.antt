@@ -1,4 +1,4 @@
--- A keyword that takes a step is one that holds schemas so.
+-- A keyword that applies a schema at a step is one that holds schemas so.
 use Rattle.std.specs.Prelude.{◌≡◌, Bool, true, false, cond, [], ◌∷◌, is_some, refl}
 use Rattle.std.specs.List.{AllByRecursion}
 use Rattle.std.specs.Str.{bytes_eq}
@@ -10,7 +10,7 @@ use Rattle.js_bundle.specs.declared.keyword_name.KeywordName.TheVariants.{Assert
 use Rattle.js_bundle.specs.Keyword.{Text}
 use Rattle.js_bundle.specs.KeywordName.{TableOfNames, applying, identifying, name_in, by_side, not_applying, stands_behind_if, keyword_name}
 use Rattle.js_bundle.specs.Place.{holding}
-use Rattle.js_bundle.specs.Ranked.{takes}
+use Rattle.js_bundle.specs.Ranked.{applies_at}
 use Rattle.js_bundle.specs.Schemas.{Step, Alone, Index, Name, fits}
 
 side_of : (g : KeywordName → Bool) (b : Bool) (m n : KeywordName) → g m ≡ false → g n ≡ false → g (cond b n m) ≡ false
@@ -43,17 +43,18 @@ by_name f g name none a b c d all e =
     (side_of g behind AssertionUpToIf AssertionBehindIf a b))
     all e
 
-pub takes_fits : (name : Text) (step : Step) → takes (keyword_name name) step ≡ true → fits (holding name) step ≡ true
+pub applies_fits : (name : Text) (step : Step)
+    → applies_at (keyword_name name) step ≡ true → fits (holding name) step ≡ true
 unfolding holding
-takes_fits name Alone e =
-    by_name (λ k. fits (holding k) Alone) (λ w. takes w Alone) name (refl, (refl, (refl, (refl, (refl, (refl, (refl, (refl, tt)))))))) refl refl refl refl
+applies_fits name Alone e =
+    by_name (λ k. fits (holding k) Alone) (λ w. applies_at w Alone) name (refl, (refl, (refl, (refl, (refl, (refl, (refl, (refl, tt)))))))) refl refl refl refl
     (refl, (refl, (refl, (refl, (refl, (refl, (refl, (refl, (refl, (refl, (refl, (refl, (refl, (refl, (refl, (refl, (refl, (refl, (refl, tt)))))))))))))))))))
     e
-takes_fits name (Index i) e =
-    by_name (λ k. fits (holding k) (Index i)) (λ w. takes w (Index i)) name (refl, (refl, (refl, (refl, (refl, (refl, (refl, (refl, tt)))))))) refl refl refl refl
+applies_fits name (Index i) e =
+    by_name (λ k. fits (holding k) (Index i)) (λ w. applies_at w (Index i)) name (refl, (refl, (refl, (refl, (refl, (refl, (refl, (refl, tt)))))))) refl refl refl refl
     (refl, (refl, (refl, (refl, (refl, (refl, (refl, (refl, (refl, (refl, (refl, (refl, (refl, (refl, (refl, (refl, (refl, (refl, (refl, tt)))))))))))))))))))
     e
-takes_fits name (Name n) e =
-    by_name (λ k. fits (holding k) (Name n)) (λ w. takes w (Name n)) name (refl, (refl, (refl, (refl, (refl, (refl, (refl, (refl, tt)))))))) refl refl refl refl
+applies_fits name (Name n) e =
+    by_name (λ k. fits (holding k) (Name n)) (λ w. applies_at w (Name n)) name (refl, (refl, (refl, (refl, (refl, (refl, (refl, (refl, tt)))))))) refl refl refl refl
     (refl, (refl, (refl, (refl, (refl, (refl, (refl, (refl, (refl, (refl, (refl, (refl, (refl, (refl, (refl, (refl, (refl, (refl, (refl, tt)))))))))))))))))))
     e

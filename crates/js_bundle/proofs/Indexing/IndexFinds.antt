@@ -23,7 +23,7 @@ use Rattle.js_bundle.specs.code.Scan.{site_of}
 use Rattle.js_bundle.specs.Names.{known_as, is_known_as, root_named, same_tokens, stands_at, belongs_to, makes, by_pointer, by_anchor, by_dynamic_anchor, is_named_by, is_pointer}
 use Rattle.js_bundle.specs.Refusals.{is_made}
 use Rattle.js_bundle.specs.Resource.{Site}
-use Rattle.js_bundle.specs.Url.{fragment, printed, without_fragment}
+use Rattle.js_bundle.specs.Url.{decoded_fragment, printed, without_fragment}
 use Rattle.js_bundle.proofs.Listing.EachListedOnce.{at_place, stands_itself, tokens-refl, tokens-sound}
 use Rattle.js_bundle.proofs.Listing.LeastSetListed.{all_append}
 use Rattle.js_bundle.proofs.Finding.FoundByText.{found_at, none_found}
@@ -257,8 +257,8 @@ under_root index all f (Some r) (Some s) h low e =
 
 -- the place that a URI names, by the root of its resource
 pub named_found : (index : Index) (all : List Site) (uri : Parts) (root : Option Root) → IsIndexOf index all → option_map standing_of root ≡ option_map standing (root_named all uri)
-    → number_under index root (fragment uri) ≡ number_named all uri
-named_found index all uri root h e = under_root index all (fragment uri) root (root_named all uri) h (λ s f. found_counted (is_known_as (printed (without_fragment uri))) all s h.counted f) e
+    → number_under index root (decoded_fragment uri) ≡ number_named all uri
+named_found index all uri root h e = under_root index all (decoded_fragment uri) root (root_named all uri) h (λ s f. found_counted (is_known_as (printed (without_fragment uri))) all s h.counted f) e
 
 -- what stands at the number of a resource's URI
 pub known_at : {A : Type 0} (f : Site → A) (index : Index) (all : List Site) (uri : Text) (n : Option ℕ) → IsIndexOf index all → n ≡ number_of_key index.known uri

@@ -11,7 +11,7 @@ use Rattle.js_bundle.specs.Resource.{Site, sites}
 use Rattle.js_bundle.specs.ResourceNumber.{begins_resource, roots, resource_number, roots_at, dynamic_target_in, numbers_on, IsNumbering}
 use Rattle.js_bundle.specs.Schemas.{place_at, path_at}
 use Rattle.js_bundle.specs.Target.{reference, first_target, dynamic_anchor, outermost, is_dynamic, dynamic_of, dynamic_target}
-use Rattle.js_bundle.specs.Url.{fragment}
+use Rattle.js_bundle.specs.Url.{decoded_fragment}
 use Rattle.js_bundle.proofs.Listing.EachListedOnce.{tokens-sound, at_place}
 use Rattle.js_bundle.proofs.Indexing.IndexFinds.{any_first}
 use Rattle.js_bundle.proofs.Finding.FoundByTest.{number_finds, number_passes}
@@ -167,7 +167,8 @@ outermost_by_numbers documents path name =
 module _ (all one other : List Site) (same : (name : Text) → outermost all name one ≡ outermost all name other) where
   same_led : (uri : Option Parts) (first : Site) → dynamic_of all one uri first ≡ dynamic_of all other uri first
   same_led None first = refl
-  same_led (Some u) first = ap (λ o. if is_dynamic (Some u) first then unwrap_or o first else first) (same (fragment u))
+  same_led (Some u) first =
+      ap (λ o. if is_dynamic (Some u) first then unwrap_or o first else first) (same (decoded_fragment u))
 
   same_targets : (uri : Option Parts) (o : Option Site) → option_map (dynamic_of all one uri) o ≡ option_map (dynamic_of all other uri) o
   same_targets uri None = refl

@@ -9,7 +9,7 @@ use Rattle.js_bundle.specs.declared.scan.holding.Holding.{Holding}
 use Rattle.js_bundle.specs.declared.scan.holding.Holding.TheVariants.{One, Listed, Named, Nothing}
 use Rattle.js_bundle.specs.declared.scan.scope.Scope.{Scope}
 use Rattle.js_bundle.specs.Document.{Documents}
-use Rattle.js_bundle.specs.Keyword.{has, argument}
+use Rattle.js_bundle.specs.Keyword.{has_argument, argument}
 use Rattle.js_bundle.specs.Names.{same_tokens, stands_at}
 use Rattle.js_bundle.specs.Place.{Place, holding, places_from}
 use Rattle.js_bundle.specs.PlaceLaws.{AreDistinct, Differ}
@@ -75,11 +75,11 @@ held d r Named a b c f g k = k
 held d r Nothing a b c f g k = tt
 
 -- a place with an `$id` is a root
-identified_root : (d : ℕ) (above : Scope) (p : Tokens) (v : Value) (xs : List Site) → has (codes "$id") v ≡ true → HasRoot d p (site_scanned d above p v ∷ xs)
+identified_root : (d : ℕ) (above : Scope) (p : Tokens) (v : Value) (xs : List Site) → has_argument (codes "$id") v ≡ true → HasRoot d p (site_scanned d above p v ∷ xs)
 identified_root d above p v xs e =
     has_first d p (site_scanned d above p v) xs (rw e (tokens-refl p)) (rw (nat_eq-refl d, tokens-refl p) refl)
 
-itself : (d : ℕ) (above : Scope) (p : Tokens) (v : Value) (xs : List Site) (b : Bool) → has (codes "$id") v ≡ b → IsRooted d above.resource (site_scanned d above p v ∷ xs) (site_scanned d above p v)
+itself : (d : ℕ) (above : Scope) (p : Tokens) (v : Value) (xs : List Site) (b : Bool) → has_argument (codes "$id") v ≡ b → IsRooted d above.resource (site_scanned d above p v ∷ xs) (site_scanned d above p v)
 itself d above p v xs false e = (refl, inl (rw e refl))
 itself d above p v xs true e =
     let own : (own_scope above p v).resource ≡ p = rw e refl in
@@ -89,7 +89,7 @@ itself d above p v xs true e =
 below_it : (d : ℕ) (above : Scope) (p : Tokens) (v : Value) (xs : List Site) → ((handed_down above p v).resource ≡ above.resource) ⊎ HasRoot d (handed_down above p v).resource (site_scanned d above p v ∷ xs)
 below_it d above p v xs = by_id (argument (codes "$id") v) refl
   where
-    by_base : (o : Option Parts) → has (codes "$id") v ≡ true → ((scope_or o p above).resource ≡ above.resource) ⊎ HasRoot d (scope_or o p above).resource (site_scanned d above p v ∷ xs)
+    by_base : (o : Option Parts) → has_argument (codes "$id") v ≡ true → ((scope_or o p above).resource ≡ above.resource) ⊎ HasRoot d (scope_or o p above).resource (site_scanned d above p v ∷ xs)
     by_base None e = inl refl
     by_base (Some base) e = inr (identified_root d above p v xs e)
 
@@ -100,7 +100,7 @@ below_it d above p v xs = by_id (argument (codes "$id") v) refl
 -- those below, under the place
 under : (d : ℕ) (above : Scope) (p : Tokens) (v : Value) (xs : List Site) → AreAll d (handed_down above p v).resource xs → AreAll d above.resource (site_scanned d above p v ∷ xs)
 under d above p v xs h =
-    (itself d above p v xs (has (codes "$id") v) refl, all_as (IsRooted d (handed_down above p v).resource xs) (IsRooted d above.resource (site_scanned d above p v ∷ xs)) (λ x k. (k.0, by_scope x (below_it d above p v xs) k.1)) xs h)
+    (itself d above p v xs (has_argument (codes "$id") v) refl, all_as (IsRooted d (handed_down above p v).resource xs) (IsRooted d above.resource (site_scanned d above p v ∷ xs)) (λ x k. (k.0, by_scope x (below_it d above p v xs) k.1)) xs h)
   where
     by_scope : (x : Site) → ((handed_down above p v).resource ≡ above.resource) ⊎ HasRoot d (handed_down above p v).resource (site_scanned d above p v ∷ xs)
         → (x.own.resource ≡ (handed_down above p v).resource) ⊎ HasRoot d x.own.resource xs → (x.own.resource ≡ above.resource) ⊎ HasRoot d x.own.resource (site_scanned d above p v ∷ xs)
@@ -151,7 +151,7 @@ same_root true = refl
 same_root false = refl
 
 document_root : (d : ℕ) (uri : Parts) (v : Value) (xs : List Site) → HasRoot d [] (site_scanned d (root_scope uri) [] v ∷ xs)
-document_root d uri v xs = has_first d [] (site_scanned d (root_scope uri) [] v) xs (same_root (has (codes "$id") v)) (rw (nat_eq-refl d) refl)
+document_root d uri v xs = has_first d [] (site_scanned d (root_scope uri) [] v) xs (same_root (has_argument (codes "$id") v)) (rw (nat_eq-refl d) refl)
 
 has_root : (d : ℕ) (uri : Parts) (v : Value) → HasRoot d [] (sites_at d (root_scope uri) [] v)
 has_root d uri null = document_root d uri null []

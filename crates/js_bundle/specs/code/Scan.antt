@@ -9,7 +9,7 @@ use Rattle.js_bundle.specs.declared.scan.holding.Holding.TheVariants.{One, Liste
 use Rattle.js_bundle.specs.declared.scan.scope.Scope.{Scope}
 use Rattle.js_bundle.specs.declared.scan.site.Site as rust
 use Rattle.js_bundle.specs.Document.{Documents}
-use Rattle.js_bundle.specs.Keyword.{Text, has}
+use Rattle.js_bundle.specs.Keyword.{Text, has_argument}
 use Rattle.js_bundle.specs.Place.{holding}
 use Rattle.js_bundle.specs.Resource.{Site, sites, identified, scope_below, root_scope}
 
@@ -22,7 +22,7 @@ abbrev pub handed_down : Scope → Tokens → Value → Scope
 handed_down above p v = scope_below above (record { pointer = p; schema = v })
 
 abbrev pub own_scope : Scope → Tokens → Value → Scope
-own_scope above p v = record { resource = if has (codes "$id") v then p else above.resource; base = (handed_down above p v).base }
+own_scope above p v = record { resource = if has_argument (codes "$id") v then p else above.resource; base = (handed_down above p v).base }
 
 abbrev pub site_scanned : ℕ → Scope → Tokens → Value → Site
 site_scanned d above p v = record { document = d; pointer = p; above = above; own = own_scope above p v; identifies = is_some (identified above.base v); schema = v }

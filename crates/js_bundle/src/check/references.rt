@@ -137,7 +137,7 @@ fn resolve_dynamic_url(
     ensures err { IfErr result (IsStopped
         (at_joined_reference (map site_of sites.now) (site_of site.now) (codes "$dynamicRef" ∷ []) (Ok url))) }
 {
-    let name = uri::fragment(alloc, &url)?;
+    let name = uri::decoded_fragment(alloc, &url)?;
     match resolve_url(alloc, index, sites, site, "$dynamicRef", url)? {
         Some(target) => Ok(Some(reference_to(sites, target, name.as_slice()))),
         None => Ok(None),

@@ -34,7 +34,7 @@ fn is_taken(index: &Index, before: &[Site<'_>], uri: &Url) -> bool
     requires { IsIndexOf index.now (map site_of before.now) }
     ensures { result ≡ is_taken (map site_of before.now) uri.now }
 {
-    index.known.number_of(uri::text_of(uri)).is_some()
+    index.known.number_of(uri::printed(uri)).is_some()
 }
 
 // Whether a place before makes the name in the same resource.

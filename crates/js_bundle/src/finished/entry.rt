@@ -6,7 +6,7 @@ ghost use Rattle.js_bundle.specs.code.KeptSite.{kept_site_of};
 ghost use Rattle.js_bundle.specs.Names.{is_known_as, is_read, named};
 ghost use Rattle.js_bundle.specs.Resource.{sites};
 ghost use Rattle.js_bundle.specs.Schemas.{entry, is_place, StandsFor, IsEntryFault, IsNameFault, IsReadEntry};
-ghost use Rattle.js_bundle.specs.Url.{fragment, longest_uri};
+ghost use Rattle.js_bundle.specs.Url.{decoded_fragment, longest_uri};
 
 use crate::check::kept_site::KeptSite;
 use crate::index::place_by_uri::{NameFault, Root, number_by_fragment};
@@ -45,12 +45,12 @@ impl Schemas {
     fn place_by_url(&self, alloc: Global, url: Url) -> Result<Place, EntryFault>
         ensures ok { IfOk result (λ p. StandsFor self.now p (named (sites self.now) url)) }
         ensures place { IfOk result (λ p. is_place self.now p ≡ true) }
-        ensures read { OnOk result (is_read (fragment url) ≡ true) }
+        ensures read { OnOk result (is_read (decoded_fragment url) ≡ true) }
         ensures err { IfErr result (IsNameFault self.now url) }
     {
-        let fragment = uri::fragment(alloc, &url)?;
+        let fragment = uri::decoded_fragment(alloc, &url)?;
         let bare = uri::without_fragment(url)?;
-        let root = self.kept_root_named(uri::text_of(&bare));
+        let root = self.kept_root_named(uri::printed(&bare));
         match number_by_fragment(alloc, &self.kept.index, root, fragment.as_slice()) {
             Ok(Some(number)) => Ok(Place { number }),
             Ok(None) => Err(EntryFault::Unresolved),

@@ -77,7 +77,7 @@ fn document_uri(site: &KeptSite) -> Option<&str>
     ensures { option_copied result ≡ document_uri (kept_site_of site.now) }
 {
     if is_document_root(site) {
-        Some(uri::text_of(&site.above.base))
+        Some(uri::printed(&site.above.base))
     } else {
         None
     }
@@ -89,7 +89,7 @@ fn base_made(site: &KeptSite) -> Option<&str>
 {
     let told = is_document_root(site) && keeps_base(site);
     if site.identifies && !told {
-        Some(uri::text_of(&site.own.base))
+        Some(uri::printed(&site.own.base))
     } else {
         None
     }
@@ -105,5 +105,5 @@ fn is_document_root(site: &KeptSite) -> bool
 fn keeps_base(site: &KeptSite) -> bool
     ensures { result ≡ bytes_eq (spec.printed site.now.above.value.base) (spec.printed site.now.own.value.base) }
 {
-    uri::text_of(&site.above.base) == uri::text_of(&site.own.base)
+    uri::printed(&site.above.base) == uri::printed(&site.own.base)
 }

@@ -35,7 +35,7 @@ pub(crate) fn absolute_location(
 fn push_resource_uri(text: &mut String, scope: &Scope) -> Result<(), Memory>
     ensures { OnOk result (string_bytes text.new ≡ string_bytes text.old ++ (printed scope.now.base ++ codes "#")) }
 {
-    text.push_str(uri::text_of(&scope.base))?;
+    text.push_str(uri::printed(&scope.base))?;
     text.push('#')?;
     Ok(())
 }
@@ -117,7 +117,7 @@ fn has_base_and_depth_of(before: &Site<'_>, site: &Site<'_>) -> bool
     ensures { result ≡ (bytes_eq (printed before.now.own.value.base) (printed site.now.own.value.base)
         && length before.now.own.value.resource == length site.now.own.value.resource) }
 {
-    uri::text_of(&before.own.base) == uri::text_of(&site.own.base)
+    uri::printed(&before.own.base) == uri::printed(&site.own.base)
         && before.own.resource.tokens().len() == site.own.resource.tokens().len()
 }
 

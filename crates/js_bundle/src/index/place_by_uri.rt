@@ -201,11 +201,11 @@ pub(crate) fn number_named(
 ) -> Result<Option<usize>, NameFault>
     requires { IsIndexOf index.now (map site_of sites.now) }
     ensures ok { IfOk result (λ n. n ≡ number_named (map site_of sites.now) uri) }
-    ensures read { OnOk result (is_read (spec.fragment uri) ≡ true) }
-    ensures err { IfErr result (λ e. IfNotRead e (is_read (spec.fragment uri) ≡ false)) }
+    ensures read { OnOk result (is_read (spec.decoded_fragment uri) ≡ true) }
+    ensures err { IfErr result (λ e. IfNotRead e (is_read (spec.decoded_fragment uri) ≡ false)) }
 {
-    let fragment = uri::fragment(alloc, &uri)?;
+    let fragment = uri::decoded_fragment(alloc, &uri)?;
     let bare = uri::without_fragment(uri)?;
-    let root = root_named(index, sites, uri::text_of(&bare));
+    let root = root_named(index, sites, uri::printed(&bare));
     number_by_fragment(alloc, index, root, fragment.as_slice())
 }

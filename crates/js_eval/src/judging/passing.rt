@@ -175,7 +175,7 @@ pub(crate) fn holds<'a>(
 ) -> Result<bool, Memory>
     ensures { IfOk result (λ b. b ≡ spec.says assertion.now (instance_of value.entry) matching) }
 {
-    match assertion.pattern() {
+    match assertion.pattern_asked() {
         Some(pattern) => has_match(alloc, searchers, pattern, value),
         None => holds_alone(alloc, assertion, value, matching),
     }
