@@ -1,6 +1,7 @@
 //! What finds places without a search: by the URI of a resource, by where they stand, by the names that they make.
 ghost use Rattle.std.specs.Prelude.{◌≡◌, [], OnOk, string_bytes, option_copied, option_to_list};
-ghost use Rattle.js_bundle.specs.code.Index.{AreInserted, HasPlaceAdded, IsIndexOf, place_key, name_keys_by, name_keys, root_uris, made_uris};
+ghost use Rattle.js_bundle.specs.code.Index.{AreInserted, HasPlaceAdded, IsIndexOf, place_key, name_keys_by, name_keys};
+ghost use Rattle.js_bundle.specs.code.Index.{root_uris, made_uris};
 ghost use Rattle.js_bundle.specs.Names.{known_as};
 ghost use Rattle.js_bundle.specs.code.Scan.{site_of};
 

@@ -2,7 +2,7 @@
 ghost use Rattle.std.specs.Prelude.{◌≡◌, option_map, option_copied};
 ghost use Rattle.js_doc.specs.Members.{get};
 ghost use Rattle.js_doc.specs.Seen.{value_of};
-ghost use Rattle.js_bundle.specs.Keyword.{argument, as_text, has_argument, text_argument};
+ghost use Rattle.js_bundle.specs.Keyword.{argument, as_text, text_argument};
 
 use js_doc::{Doc, Members};
 
@@ -14,13 +14,6 @@ pub(crate) fn argument<'a>(schema: &'a Doc, keyword: &str) -> Option<&'a Doc>
         Doc::Members(members) => member_value(members, keyword),
         _ => None,
     }
-}
-
-/// Whether the schema has the keyword.
-pub(crate) fn has_argument(schema: &Doc, keyword: &str) -> bool
-    ensures { result ≡ has_argument keyword.now (value_of schema.now) }
-{
-    argument(schema, keyword).is_some()
 }
 
 fn member_value<'a>(members: &'a Members, name: &str) -> Option<&'a Doc>

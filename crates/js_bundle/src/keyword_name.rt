@@ -1,6 +1,7 @@
 //! Which keyword of the standard a name is.
 ghost use Rattle.std.specs.Prelude.{◌≡◌};
-ghost use Rattle.js_bundle.specs.KeywordName.{applying, by_side, found_in, identifying, keyword_name, name_in, not_applying};
+ghost use Rattle.js_bundle.specs.KeywordName.{applying, by_side, found_in, identifying, keyword_name, name_in};
+ghost use Rattle.js_bundle.specs.KeywordName.{not_applying};
 ghost use Rattle.js_bundle.specs.declared.keyword_name.KeywordName.TheVariants.{OtherBehindIf, OtherUpToIf};
 
 use js_assert::is_assertion;

@@ -2,7 +2,9 @@
 ghost use Rattle.std.specs.Prelude.{◌≡◌, [], ◌∷◌, ◌++◌, OnOk, IfOk, map};
 ghost use Rattle.js_doc.specs.Seen.{value_of};
 ghost use Rattle.js_doc.specs.Value as spec;
-ghost use Rattle.js_bundle.specs.code.Scan.{SameFront, site_of, site_scanned, handed_down, sites_held, sites_at, sites_of_keyword, sites_of_keywords, sites_in_list, sites_of_items, sites_in_object, sites_of_members, scanned};
+ghost use Rattle.js_bundle.specs.code.Scan.{SameFront, site_of, site_scanned, handed_down, sites_held, sites_at};
+ghost use Rattle.js_bundle.specs.code.Scan.{sites_of_keyword, sites_of_keywords, sites_in_list, sites_of_items};
+ghost use Rattle.js_bundle.specs.code.Scan.{sites_in_object, sites_of_members, scanned};
 ghost use Rattle.js_bundle.specs.Resource.{root_scope};
 ghost use Rattle.js_bundle.specs.Seen.{document_of};
 

@@ -2,7 +2,8 @@
 ghost use Rattle.std.specs.Prelude.{◌≡◌, false, IfOk};
 ghost use Rattle.clap.specs.Words.{app_of, rule_of};
 ghost use Rattle.clap.specs.declared.builder.command.Command.TheViews.{out-Command as fields_of};
-ghost use Rattle.js_command.specs.Grammar.{word_argument, pairs_argument, check_command, suite_command, places_command, grammar};
+ghost use Rattle.js_command.specs.Grammar.{word_argument, pairs_argument, check_command, suite_command, places_command};
+ghost use Rattle.js_command.specs.Grammar.{grammar};
 
 use clap::{Arg, ArgAction, Command};
 use std::alloc::{AllocError, Global};

@@ -3,7 +3,8 @@
 #![tactic(auto)]
 
 ghost use Rattle.std.specs.Prelude.{◌≡◌, ◌≢◌, None, IfSome, length};
-ghost use Rattle.jschema_c.specs.Exports.{IsNew, OnHandle, SessionAdds, SessionFinishes, SessionLists, SessionEnters, SessionChecks, copied};
+ghost use Rattle.jschema_c.specs.Exports.{IsNew, OnHandle, SessionAdds, SessionFinishes, SessionLists, SessionEnters};
+ghost use Rattle.jschema_c.specs.Exports.{SessionChecks, copied};
 ghost use Rattle.jschema_c.specs.Status.{code};
 ghost use Rattle.jschema_c.specs.declared.status.Status.TheVariants as Status;
 

@@ -1,15 +1,18 @@
 //! The second pass: what references lead to.
-ghost use Rattle.std.specs.Prelude.{◌≡◌, List, [], ◌∷◌, None, Some, Ok, false, nat_eq, nat_lt, length, OnOk, IfOk, IfErr, codes, map, slice_get};
+ghost use Rattle.std.specs.Prelude.{◌≡◌, List, [], ◌∷◌, None, Some, Ok, false, nat_eq, nat_lt, length, OnOk, IfOk};
+ghost use Rattle.std.specs.Prelude.{IfErr, codes, map, slice_get};
 ghost use Rattle.indexmap.specs.IndexMap.{get};
 ghost use Rattle.js_bundle.specs.Candidate.{IsClear, IsStopped};
 ghost use Rattle.std.specs.Option.{option_map_or};
-ghost use Rattle.js_bundle.specs.Finding.{number_named, number_of_target, dynamic_as, dynamic_by, dynamic_at, under_number};
+ghost use Rattle.js_bundle.specs.Finding.{number_named, number_of_target, dynamic_as, dynamic_by, dynamic_at};
+ghost use Rattle.js_bundle.specs.Finding.{under_number};
 ghost use Rattle.js_bundle.specs.code.SparseList.{IsSparseList, HasEntryAdded};
 ghost use Rattle.js_bundle.specs.code.PartsByPlace.{ArePartsByPlace};
 ghost use Rattle.js_bundle.specs.code.Index.{IsIndexOf};
 ghost use Rattle.js_bundle.specs.KeywordName.{keyword_names};
 ghost use Rattle.js_bundle.specs.Names.{makes};
-ghost use Rattle.js_bundle.specs.Refusals.{at_joined_reference, at_reference_text, at_reference, at_references, second_pass};
+ghost use Rattle.js_bundle.specs.Refusals.{at_joined_reference, at_reference_text, at_reference, at_references};
+ghost use Rattle.js_bundle.specs.Refusals.{second_pass};
 ghost use Rattle.js_bundle.specs.Resource as spec;
 ghost use Rattle.js_bundle.specs.code.Scan.{site_of};
 ghost use Rattle.js_bundle.specs.Url.{longest_uri};

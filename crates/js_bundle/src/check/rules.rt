@@ -1,5 +1,6 @@
 //! The rules of the first pass, each by itself.
-ghost use Rattle.std.specs.Prelude.{◌≡◌, ◌&&◌, ◌||◌, [], ◌∷◌, Some, true, false, not, nat_le, codes, length, map, OnOk, IfOk, IfErr};
+ghost use Rattle.std.specs.Prelude.{◌≡◌, ◌&&◌, ◌||◌, [], ◌∷◌, Some, true, false, not, nat_le, codes, length, map, OnOk};
+ghost use Rattle.std.specs.Prelude.{IfOk, IfErr};
 ghost use Rattle.std.specs.List.{list_all};
 ghost use Rattle.js_doc.specs.Seen.{value_of};
 ghost use Rattle.js_doc.specs.Value as spec;
@@ -9,7 +10,8 @@ ghost use Rattle.js_bundle.specs.Form.{is_formed, is_filled_list, is_schema};
 ghost use Rattle.js_bundle.specs.code.Index.{IsIndexOf};
 ghost use Rattle.js_bundle.specs.Keyword.{argument};
 ghost use Rattle.js_bundle.specs.Names.{is_root, is_anchor_name, begins_name, continues_name};
-ghost use Rattle.js_bundle.specs.Refusals.{when, decided, is_taken, is_made, is_dialect, at_dialect, at_id, at_anchor, at_place, assertion_rules};
+ghost use Rattle.js_bundle.specs.Refusals.{when, decided, is_taken, is_made, is_dialect, at_dialect, at_id, at_anchor};
+ghost use Rattle.js_bundle.specs.Refusals.{at_place, assertion_rules};
 ghost use Rattle.js_assert.specs.Assertion.{asserted};
 ghost use Rattle.js_bundle.specs.code.Scan.{site_of};
 

@@ -1,9 +1,11 @@
 //! What the keywords of a place hold.
-ghost use Rattle.std.specs.Prelude.{◌≡◌, [], true, false, ℕ, map, slice_get, option_map, option_and_then, MatchOption, Some};
+ghost use Rattle.std.specs.Prelude.{◌≡◌, [], true, false, ℕ, map, slice_get, option_map, option_and_then, MatchOption};
+ghost use Rattle.std.specs.Prelude.{Some};
 ghost use Rattle.std.specs.Option.{option_map_or};
 ghost use Rattle.js_doc.specs.Seen.{value_of};
 ghost use Rattle.js_bundle.specs.code.Edges.{edges_of, held_of};
-ghost use Rattle.js_bundle.specs.code.PlaceBelow.{ends_before, held_in, holds_at_step, value_at_step, numbers_of_keyword, stands_before, IsNumberAt, IsRankOf, IsSmall};
+ghost use Rattle.js_bundle.specs.code.PlaceBelow.{ends_before, held_in, holds_at_step, value_at_step};
+ghost use Rattle.js_bundle.specs.code.PlaceBelow.{numbers_of_keyword, stands_before, IsNumberAt, IsRankOf, IsSmall};
 ghost use Rattle.js_bundle.specs.KeywordName.{keyword_name};
 ghost use Rattle.js_bundle.specs.Place.{holding, items_in};
 ghost use Rattle.js_bundle.specs.Schemas.{is_place, place_at, below, fits, step_of, Finds, FindsSchema, Holds};

@@ -1,5 +1,6 @@
 //! The resources of finished schemas (JSON Schema Core, sections 4.3.5 and 8.2.1).
-ghost use Rattle.std.specs.Prelude.{◌≡◌, ◌++◌, ◌&&◌, [], ◌∷◌, Some, true, map, bytes_eq, option_copied, option_and_then, IfOk, OnOk};
+ghost use Rattle.std.specs.Prelude.{◌≡◌, ◌++◌, ◌&&◌, [], ◌∷◌, Some, true, map, bytes_eq, option_copied};
+ghost use Rattle.std.specs.Prelude.{option_and_then, IfOk, OnOk};
 ghost use Rattle.js_bundle.specs.Names.{same_tokens};
 ghost use Rattle.js_bundle.specs.Resource.{sites};
 ghost use Rattle.js_bundle.specs.ResourceNumber.{resource_count, resource_number};

@@ -5,7 +5,10 @@ ghost use Rattle.js_doc.specs.Value as spec;
 ghost use Rattle.js_bundle.specs.KeywordName.{keyword_name};
 ghost use Rattle.js_bundle.specs.Place.{holding};
 ghost use Rattle.js_bundle.specs.Seen.{document_of};
-ghost use Rattle.js_bundle.specs.code.Edges.{edges_at, edges_from, edges_held, edges_in_list, edges_in_object, edges_of, edges_of_items, edges_of_keywords, edges_of_members, held_by_keywords, held_of, numbers_held, numbers_in_list, numbers_in_object, numbers_of_items, numbers_of_members, one_entry};
+ghost use Rattle.js_bundle.specs.code.Edges.{edges_at, edges_from, edges_held, edges_in_list, edges_in_object};
+ghost use Rattle.js_bundle.specs.code.Edges.{edges_of, edges_of_items, edges_of_keywords, edges_of_members};
+ghost use Rattle.js_bundle.specs.code.Edges.{held_by_keywords, held_of, numbers_held, numbers_in_list};
+ghost use Rattle.js_bundle.specs.code.Edges.{numbers_in_object, numbers_of_items, numbers_of_members, one_entry};
 
 use crate::document::Document;
 use crate::keyword_name::KeywordName;

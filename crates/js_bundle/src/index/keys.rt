@@ -1,5 +1,6 @@
 //! The keys under which places and names stand in the index: texts of pointers, which determine their tokens.
-ghost use Rattle.std.specs.Prelude.{◌≡◌, ◌≤◌, ◌++◌, [], decimal, drop, take, length, OnOk, IfOk, MatchOption, option_map, string_bytes};
+ghost use Rattle.std.specs.Prelude.{◌≡◌, ◌≤◌, ◌++◌, [], decimal, drop, take, length, OnOk, IfOk, MatchOption};
+ghost use Rattle.std.specs.Prelude.{option_map, string_bytes};
 ghost use Rattle.js_doc.specs.Pointer.{pointer_text, token_text};
 ghost use Rattle.js_bundle.specs.code.TextPrefix.{BeginsKey, shared_with};
 ghost use Rattle.js_bundle.specs.code.Index.{place_key, name_key};

@@ -1,5 +1,6 @@
 //! Absolute locations (JSON Schema Core, section 12.3.2).
-ghost use Rattle.std.specs.Prelude.{◌≡◌, ◌≤◌, ◌-◌, ◌++◌, ◌&&◌, ◌==◌, bytes_eq, codes, drop, take, length, option_map, string_bytes, IfOk, OnOk, MatchOption};
+ghost use Rattle.std.specs.Prelude.{◌≡◌, ◌≤◌, ◌-◌, ◌++◌, ◌&&◌, ◌==◌, bytes_eq, codes, drop, take, length, option_map};
+ghost use Rattle.std.specs.Prelude.{string_bytes, IfOk, OnOk, MatchOption};
 ghost use Rattle.js_doc.specs.Fragment.{fragment_text};
 ghost use Rattle.js_bundle.specs.Finding.{tokens_of};
 ghost use Rattle.js_bundle.specs.code.TextPrefix.{BeginsLocation, shared_with};

@@ -1,9 +1,11 @@
 //! Which place a URI names.
-ghost use Rattle.std.specs.Prelude.{◌≡◌, ◌++◌, true, false, map, find, slice_get, option_map, IfOk, IfErr, OnOk, MatchOption};
+ghost use Rattle.std.specs.Prelude.{◌≡◌, ◌++◌, true, false, map, find, slice_get, option_map, IfOk, IfErr, OnOk};
+ghost use Rattle.std.specs.Prelude.{MatchOption};
 ghost use Rattle.std.specs.Str.{is_utf8};
 ghost use Rattle.js_doc.specs.PointerReading.{pointer_of};
 ghost use Rattle.js_bundle.specs.Finding.{number_named, is_pointer_read, IfNotRead};
-ghost use Rattle.js_bundle.specs.code.Index.{IsIndexOf, number_standing, number_making, number_under, standing, standing_of};
+ghost use Rattle.js_bundle.specs.code.Index.{IsIndexOf, number_standing, number_making, number_under, standing};
+ghost use Rattle.js_bundle.specs.code.Index.{standing_of};
 ghost use Rattle.js_bundle.specs.code.Scan.{site_of};
 ghost use Rattle.js_bundle.specs.Names.{is_root, is_known_as, is_pointer, is_read};
 ghost use Rattle.js_bundle.specs.Url as spec;

@@ -1,5 +1,6 @@
 //! What is kept of resources, by their numbers (JSON Schema Core, sections 4.3.5 and 8.2.1).
-ghost use Rattle.std.specs.Prelude.{◌≡◌, ◌<◌, Some, map, length, codes, slice_get, unwrap_or, option_and_then, option_copied, option_to_list, OnOk, IfOk, MatchOption};
+ghost use Rattle.std.specs.Prelude.{◌≡◌, ◌<◌, Some, map, length, codes, slice_get, unwrap_or, option_and_then};
+ghost use Rattle.std.specs.Prelude.{option_copied, option_to_list, OnOk, IfOk, MatchOption};
 ghost use Rattle.std.specs.List.{position_from};
 ghost use Rattle.js_bundle.specs.code.PartsByPlace.{ArePartsByPlace};
 ghost use Rattle.js_bundle.specs.code.Index.{IsIndexOf};
@@ -8,7 +9,8 @@ ghost use Rattle.js_bundle.specs.Keyword.{text_argument};
 ghost use Rattle.js_bundle.specs.KeywordName.{keyword_names};
 ghost use Rattle.js_bundle.specs.Names.{belongs_to, same_tokens, stands_at};
 ghost use Rattle.js_bundle.specs.ResourceNumber.{begins_resource, roots, resource_number};
-ghost use Rattle.js_bundle.specs.ResourceTable.{AreAnchors, AreEmpty, AreNamed, AreRooted, IsOpened, IsResourceTable, StandApart, count_begun, rank_of_root, ranks_by, ranks_from};
+ghost use Rattle.js_bundle.specs.ResourceTable.{AreAnchors, AreEmpty, AreNamed, AreRooted, IsOpened, IsResourceTable};
+ghost use Rattle.js_bundle.specs.ResourceTable.{StandApart, count_begun, rank_of_root, ranks_by, ranks_from};
 ghost use Rattle.js_bundle.specs.code.Scan.{site_of};
 
 use crate::index::Index;
