@@ -21,9 +21,6 @@ abbrev pub members_of : Value → Named
 members_of (object ms) = member_list ms
 members_of _ = []
 
--- the value under the name, in an object that has such a member
-abbrev pub member_of : List ℕ → Value → Option Value
-member_of name v = get name (members_of v)
-
+-- whether the value is an object that has such a member
 abbrev pub has_member : List ℕ → Value → Bool
 has_member name v = has_name name (members_of v)

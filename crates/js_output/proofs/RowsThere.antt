@@ -38,12 +38,3 @@ module _ (docs : Documents) (n : ℕ) (v : Value) (there : is_place docs n ≡ t
       let (t, within, are) = h in
       (t, result-there docs n v there t within.is, within.stands, subst (AreRowsOf rows) (sym (noted_recorded format t e)) are)
   noted_there format (Err f) e h = tt
-
--- ---- the tree that a format is written from, by that whose rows were kept
-
--- one of these formats
-pub abbrev IsCondensed : Format → Type 0
-IsCondensed format = (format ≡ Detailed) ⊎ (format ≡ Merged)
-
-pub abbrev IsAsRecorded : Format → Type 0
-IsAsRecorded format = (format ≡ Flag) ⊎ ((format ≡ Basic) ⊎ (format ≡ Verbose))
