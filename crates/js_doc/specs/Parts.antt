@@ -1,7 +1,6 @@
 -- The parts of a value: an array's items and an object's members (RFC 8259, sections 4 and 5).
-use Rattle.std.specs.Prelude.{ℕ, List, [], ◌∷◌, Bool, Option}
+use Rattle.std.specs.Prelude.{[], ◌∷◌}
 use Rattle.js_doc.specs.Value.{Value, list, object, Items, no_items, item, Members, no_members, member, Values, Named}
-use Rattle.js_doc.specs.Members.{get, has_name}
 
 abbrev pub item_list : Items → Values
 item_list no_items = []
@@ -20,7 +19,3 @@ items_of _ = []
 abbrev pub members_of : Value → Named
 members_of (object ms) = member_list ms
 members_of _ = []
-
--- whether the value is an object that has such a member
-abbrev pub has_member : List ℕ → Value → Bool
-has_member name v = has_name name (members_of v)
