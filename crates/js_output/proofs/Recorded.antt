@@ -10,7 +10,7 @@ use Rattle.js_tree.specs.declared.forms.Format.{Format}
 use Rattle.js_tree.specs.declared.forms.Format.TheVariants.{Flag, Basic, Detailed, Merged, Verbose}
 use Rattle.js_tree.proofs.KeptTree.{kept_is_normal}
 use Rattle.js_tree.proofs.Trimming.{same_kept, same_units}
-use Rattle.js_output.specs.code.Shown.{IsOfAllRows, recorded, reduced, rows_form}
+use Rattle.js_output.specs.code.Prepared.{IsOfAllRows, recorded, reduced, rows_form}
 
 pub reduced_root : (format : Format) (t : ResultTree) → (reduced format t).root ≡ t.root
 reduced_root Flag t = refl

@@ -13,7 +13,7 @@ use Rattle.js_bundle.specs.Document.{Documents}
 use Rattle.js_bundle.specs.Schemas.{is_place, place_at}
 use Rattle.js_eval.specs.Walked as walked
 use Rattle.js_eval.specs.declared.walking.fault.WalkFault.{WalkFault}
-use Rattle.js_output.specs.code.Shown.{AreRowsBy, recorded, reduced}
+use Rattle.js_output.specs.code.Prepared.{AreRowsBy, recorded, reduced}
 use Rattle.js_output.proofs.Sites.{result-there}
 
 -- one of these formats

@@ -1,3 +1,3 @@
 -- What only private functions speak of: no public clause cites it.
-pub mod Shown
+pub mod Prepared
 pub mod SuiteJudging

@@ -7,7 +7,7 @@ ghost use Rattle.js_output.specs.Outcome.{ValueOutcome, TextOutcome, telling_out
 ghost use Rattle.js_output.specs.Telling.{Tells};
 
 use crate::fault::Fault;
-use crate::shown::Shown;
+use crate::prepared::Prepared;
 use crate::sink::Sink;
 use crate::text::value_from;
 use bumpalo::Bump;
@@ -62,8 +62,8 @@ fn judge_value<W: Write>(
     ensures sink_stays { out.old.failed ≡ true → out.new ≡ out.old }
 {
     let arena = Bump::new(alloc);
-    let shown = Shown::new(alloc, &arena, schemas, place, format, instance)?;
-    let valid = shown.is_valid();
-    shown.write(out)?;
+    let prepared = Prepared::new(alloc, &arena, schemas, place, format, instance)?;
+    let valid = prepared.verdict();
+    prepared.write(out)?;
     Ok(valid)
 }

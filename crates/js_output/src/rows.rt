@@ -4,7 +4,7 @@ ghost use Rattle.js_doc.specs.Seen.{value_of};
 ghost use Rattle.js_bundle.specs.Schemas.{is_place, place_at};
 ghost use Rattle.js_eval.specs.Walked.{NoneStands, OnTooLarge};
 ghost use Rattle.js_output.specs.Outcome.{IsWalkFault};
-ghost use Rattle.js_output.specs.code.Shown.{AreRowsBy, recorded, reduced};
+ghost use Rattle.js_output.specs.code.Prepared.{AreRowsBy, recorded, reduced};
 
 use crate::fault::Fault;
 use bumpalo::Bump;

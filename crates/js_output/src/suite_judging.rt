@@ -15,7 +15,7 @@ ghost use Rattle.js_output.specs.declared.suite_lines.TestLine.{TestLine};
 use crate::documents::{bundled, finish_bundle};
 use crate::entry::{Entry, entry_place};
 use crate::fault::Fault;
-use crate::shown::verdict_of;
+use crate::prepared::verdict_of;
 use crate::suite_lines::{TestLine, TestStatus};
 use crate::suite_text::{SuiteGroup, SuiteTest};
 use js_bundle::Bundle;

@@ -7,7 +7,7 @@ ghost use Rattle.js_tree.specs.RelativeState.{AreRowsOf, AreWhole};
 ghost use Rattle.js_tree.specs.Result.{ResultTree};
 ghost use Rattle.js_tree.specs.Locations.{HasRoomFor};
 ghost use Rattle.js_output.specs.Device.{SendsOrFails, Unflushed};
-ghost use Rattle.js_output.specs.code.Shown.{rows_form};
+ghost use Rattle.js_output.specs.code.Prepared.{rows_form};
 
 use crate::fault::Fault;
 use crate::sink::Sink;

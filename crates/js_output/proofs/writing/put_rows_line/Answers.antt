@@ -1,6 +1,6 @@
 use Rattle.std.proofs.Common.{[], ◌∷◌, ◌++◌}
 use Rattle.js_doc.specs.Compact.{compact}
-use Rattle.js_output.specs.code.Shown.{rows_form}
+use Rattle.js_output.specs.code.Prepared.{rows_form}
 use Rattle.js_doc.proofs.BytesGone.{starts, goes_on, puts_err, puts_last}
 use Rattle.js_output.proofs.writing.put_rows_line.Goals as goal
 

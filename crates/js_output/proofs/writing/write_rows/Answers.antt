@@ -2,7 +2,7 @@ use Rattle.std.proofs.Common.{◌≤◌, ◌+◌, ◌++◌, ◌∷◌, [], lengt
 use Rattle.std.proofs.lemmas.Result.{err_from_is_err_and}
 use Rattle.std.specs.Io.KnownBytes.{Appends}
 use Rattle.js_doc.specs.Compact.{compact}
-use Rattle.js_output.specs.code.Shown.{rows_form}
+use Rattle.js_output.specs.code.Prepared.{rows_form}
 use Rattle.js_output.proofs.writing.write_rows.Goals as goal
 
 pub returns-in_err-put_rows_line-clause-sent : goal.returns-in_err-put_rows_line-clause-sent

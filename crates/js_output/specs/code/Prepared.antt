@@ -13,8 +13,8 @@ use Rattle.js_bundle.specs.Document as bundle
 use Rattle.js_bundle.specs.Resource.{Site}
 use Rattle.js_eval.specs.Result.{ResultTree, IsWithinLimits}
 use Rattle.js_output.specs.Outcome.{IsResultOf}
-use Rattle.js_output.specs.declared.shown.Shown.{Shown}
-use Rattle.js_output.specs.declared.shown.Shown.TheVariants as shown
+use Rattle.js_output.specs.declared.prepared.Prepared.{Prepared}
+use Rattle.js_output.specs.declared.prepared.Prepared.TheVariants as prepared
 
 -- the tree whose rows a walk keeps for a format: no format but verbose shows anything of silent leaves
 abbrev pub recorded : Format → ResultTree → ResultTree
@@ -51,16 +51,16 @@ rows_form Basic t = form Basic t
 rows_form _ t = verbose t
 
 -- it has this verdict, and what is written is this form
-abbrev pub IsMade : Shown → Bool → Value → Type 0
-IsMade (shown.Verdict v) valid value = (v ≡ valid) × (flag v ≡ value)
-IsMade (shown.Rows format rows locations) valid value =
+abbrev pub IsPrepared : Prepared → Bool → Value → Type 0
+IsPrepared (prepared.Verdict v) valid value = (v ≡ valid) × (flag v ≡ value)
+IsPrepared (prepared.Rows format rows locations) valid value =
     (t : ResultTree) × AreRowsOf rows t × HasRoomFor locations rows × (t.root.valid ≡ valid) × (rows_form format t ≡ value)
-IsMade (shown.Tree t) valid value = (t.root.valid ≡ valid) × (verbose t ≡ value)
+IsPrepared (prepared.Tree t) valid value = (t.root.valid ≡ valid) × (verbose t ≡ value)
 
-abbrev pub AreMade : Shown → Type 0
-AreMade s = (valid : Bool) × (value : Value) × IsMade s valid value
+abbrev pub ArePrepared : Prepared → Type 0
+ArePrepared s = (valid : Bool) × (value : Value) × IsPrepared s valid value
 
 -- it is what the format shows of the result within the limits
-abbrev pub Shows : bundle.Documents → Option Site → Value → Format → Shown → Type 0
-Shows documents entry v format s =
-    (t : ResultTree) × IsResultOf documents entry v t × IsWithinLimits t × IsMade s t.root.valid (form format t)
+abbrev pub IsPreparedFor : bundle.Documents → Option Site → Value → Format → Prepared → Type 0
+IsPreparedFor documents entry v format s =
+    (t : ResultTree) × IsResultOf documents entry v t × IsWithinLimits t × IsPrepared s t.root.valid (form format t)

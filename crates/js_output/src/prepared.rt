@@ -10,7 +10,7 @@ ghost use Rattle.js_tree.specs.Result.{ResultTree};
 ghost use Rattle.js_tree.specs.declared.forms.Format.TheVariants.{Merged};
 ghost use Rattle.js_output.specs.Device.{SendsOrFails, Unflushed};
 ghost use Rattle.js_output.specs.Outcome.{IsVerdictOf, IsWalkFault};
-ghost use Rattle.js_output.specs.code.Shown.{AreMade, IsMade, IsOfAllRows, IsOfRows, Shows, reduced};
+ghost use Rattle.js_output.specs.code.Prepared.{ArePrepared, IsPrepared, IsOfAllRows, IsOfRows, IsPreparedFor, reduced};
 
 use crate::fault::Fault;
 use crate::rows::rows_of;
@@ -26,7 +26,7 @@ use std::io::Write;
 
 /// What a format shows of a result. To write it allocates nothing.
 #[derive(Drop)]
-pub(crate) enum Shown<'a> {
+pub(crate) enum Prepared<'a> {
     /// The verdict alone.
     Verdict(bool),
     /// Rows, with room for their locations: for basic the units with a note are shown, for other formats all nodes.
@@ -35,7 +35,7 @@ pub(crate) enum Shown<'a> {
     Tree(Tree<'a>),
 }
 
-impl<'a> Shown<'a> {
+impl<'a> Prepared<'a> {
     /// Judges the instance at the place. What is shown may borrow from the arena.
     pub(crate) fn new(
         alloc: Global,
@@ -44,9 +44,9 @@ impl<'a> Shown<'a> {
         place: Place,
         format: Format,
         instance: &'a Doc,
-    ) -> Result<Shown<'a>, Fault>
+    ) -> Result<Prepared<'a>, Fault>
         requires { is_place schemas.now place ≡ true }
-        ensures shown { IfOk result (Shows schemas.now
+        ensures prepared { IfOk result (IsPreparedFor schemas.now
             (place_at schemas.now place) (value_of instance.now) format) }
         ensures fault { IfErr result (IsWalkFault schemas.now
             (place_at schemas.now place) (value_of instance.now)) }
@@ -54,57 +54,57 @@ impl<'a> Shown<'a> {
         match format {
             Format::Flag => {
                 let valid = verdict_of(alloc, schemas, place, instance)?;
-                Ok(Shown::Verdict(valid))
+                Ok(Prepared::Verdict(valid))
             }
             Format::Basic | Format::Detailed | Format::Merged | Format::Verbose => {
                 let rows = rows_of(alloc, arena, schemas, place, format, instance)?;
-                let shown = shown_rows(alloc, format, rows)?;
-                Ok(shown)
+                let prepared = prepared_rows(alloc, format, rows)?;
+                Ok(prepared)
             }
         }
     }
 
     /// The verdict.
-    pub(crate) fn is_valid(&self) -> bool
-        requires { AreMade self.now }
-        ensures { (valid : Bool) (value : Value) → IsMade self.now valid value → result ≡ valid }
+    pub(crate) fn verdict(&self) -> bool
+        requires { ArePrepared self.now }
+        ensures { (valid : Bool) (value : Value) → IsPrepared self.now valid value → result ≡ valid }
     {
         match self {
-            Shown::Verdict(valid) => *valid,
-            Shown::Rows(_, rows, _) => rows.is_valid(),
-            Shown::Tree(tree) => root_is_valid(tree),
+            Prepared::Verdict(valid) => *valid,
+            Prepared::Rows(_, rows, _) => rows.is_valid(),
+            Prepared::Tree(tree) => root_is_valid(tree),
         }
     }
 
     /// Writes the compact text, and a line feed.
     pub(crate) fn write<W: Write>(self, out: &mut Sink<W>) -> Result<(), Fault>
-        requires { AreMade self.entry }
-        ensures sent { (valid : Bool) (value : Value) → IsMade self.entry valid value
+        requires { ArePrepared self.entry }
+        ensures sent { (valid : Bool) (value : Value) → IsPrepared self.entry valid value
             → SendsOrFails W.contents out.old out.new (compact value ++ 10 ∷ []) result }
         ensures unflushed { Unflushed out.old out.new }
         ensures stays { out.old.failed ≡ true → out.new ≡ out.old }
     {
         match self {
-            Shown::Verdict(valid) => write_flag(valid, out),
-            Shown::Rows(format, rows, locations) => write_rows(&rows, locations, format, out),
-            Shown::Tree(tree) => write_tree(&tree, out),
+            Prepared::Verdict(valid) => write_flag(valid, out),
+            Prepared::Rows(format, rows, locations) => write_rows(&rows, locations, format, out),
+            Prepared::Tree(tree) => write_tree(&tree, out),
         }
     }
 }
 
 // What is shown of the rows that the format is written from.
-fn shown_rows<'a>(
+fn prepared_rows<'a>(
     alloc: Global,
     format: Format,
     rows: RelativeRows<'a>,
-) -> Result<Shown<'a>, Memory>
+) -> Result<Prepared<'a>, Memory>
     requires format { IsOfRows format }
     requires rows { (t : ResultTree) × AreRowsOf rows (reduced format t) }
     ensures { (t : ResultTree) → AreRowsOf rows.entry (reduced format t)
-        → IfOk result (λ s. IsMade s t.root.valid (form format t)) }
+        → IfOk result (λ s. IsPrepared s t.root.valid (form format t)) }
 {
     match format {
-        Format::Merged => shown_merged(alloc, rows),
+        Format::Merged => prepared_merged(alloc, rows),
         Format::Flag | Format::Basic | Format::Detailed | Format::Verbose => {
             with_room(alloc, format, rows)
         }
@@ -112,28 +112,32 @@ fn shown_rows<'a>(
 }
 
 // The rows, with room for their locations.
-fn with_room<'a>(alloc: Global, format: Format, rows: RelativeRows<'a>) -> Result<Shown<'a>, Memory>
+fn with_room<'a>(
+    alloc: Global,
+    format: Format,
+    rows: RelativeRows<'a>,
+) -> Result<Prepared<'a>, Memory>
     requires format { IsOfAllRows format }
     requires rows { (t : ResultTree) × AreRowsOf rows (reduced format t) }
     ensures { (t : ResultTree) → AreRowsOf rows.entry (reduced format t)
-        → IfOk result (λ s. IsMade s t.root.valid (form format t)) }
+        → IfOk result (λ s. IsPrepared s t.root.valid (form format t)) }
 {
     let locations = Locations::new(alloc, &rows)?;
-    Ok(Shown::Rows(format, rows, locations))
+    Ok(Prepared::Rows(format, rows, locations))
 }
 
 // The rows of the kept tree if merging leaves it as it is, which is the usual case; otherwise the merged tree.
-fn shown_merged<'a>(alloc: Global, rows: RelativeRows<'a>) -> Result<Shown<'a>, Memory>
+fn prepared_merged<'a>(alloc: Global, rows: RelativeRows<'a>) -> Result<Prepared<'a>, Memory>
     requires { (t : ResultTree) × AreRowsOf rows (reduced Merged t) }
     ensures { (t : ResultTree) → AreRowsOf rows.entry (reduced Merged t)
-        → IfOk result (λ s. IsMade s t.root.valid (form Merged t)) }
+        → IfOk result (λ s. IsPrepared s t.root.valid (form Merged t)) }
 {
     if is_merged_as_it_is(&rows) {
         let locations = Locations::new(alloc, &rows)?;
-        return Ok(Shown::Rows(Format::Merged, rows, locations));
+        return Ok(Prepared::Rows(Format::Merged, rows, locations));
     }
     let tree = merged_tree(alloc, rows)?;
-    Ok(Shown::Tree(tree))
+    Ok(Prepared::Tree(tree))
 }
 
 /// The verdict alone.

@@ -5,7 +5,7 @@ use Rattle.js_tree.specs.MergedResult.{merged}
 use Rattle.js_tree.specs.Result.{ResultTree, kept, pruned}
 use Rattle.js_tree.specs.declared.forms.Format.TheVariants.{Merged}
 use Rattle.js_tree.proofs.MergedLaws.{merged-kept}
-use Rattle.js_output.specs.code.Shown.{reduced}
+use Rattle.js_output.specs.code.Prepared.{reduced}
 
 -- merging makes the same of what condensing leaves
 pub merged_form : (t : ResultTree) → verbose (merged (reduced Merged t)) ≡ form Merged t
