@@ -1,5 +1,6 @@
 -- Definitions for private functions only: no public clause cites them.
 pub mod Compacting
+pub mod Differing
 pub mod KeptBetween
 pub mod Listing
 pub mod Nesting
