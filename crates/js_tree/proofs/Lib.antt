@@ -43,6 +43,7 @@ pub mod Trimming
 pub mod UndoneEscapes
 pub mod VerdictTold
 pub mod DetailedTrees
+pub mod DifferingTrees
 pub mod Differing
 pub mod Ordered
 pub mod Places

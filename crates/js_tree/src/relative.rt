@@ -1,8 +1,10 @@
 //! A result as relative rows: how they are collected, what pruning, condensing and merging leave of them, and their
 //! text in each format.
 
+pub(crate) mod apart;
 pub(crate) mod basic_text;
 pub(crate) mod detailed_text;
+pub(crate) mod differing_rows;
 pub(crate) mod keeping;
 pub(crate) mod kept_tree;
 pub(crate) mod locations;
