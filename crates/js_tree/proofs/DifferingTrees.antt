@@ -1,11 +1,11 @@
 -- Trees of which no two siblings stand at the same places: then none are alike, and merging leaves a normal tree as it
 -- is.
-use Rattle.std.proofs.Common.{◌≡◌, ℕ, Bool, true, false, ◌||◌, ◌&&◌, not, nat_eq, List, drop, length, refl, ap}
+use Rattle.std.proofs.Common.{◌≡◌, ℕ, Bool, true, false, not, nat_eq, List, drop, length, refl, ap}
 use Rattle.std.specs.Cmp.Lexicographic.{pointwise, bytes_decides}
 use Rattle.json.specs.Print.{escape}
 use Rattle.js_tree.specs.Alike.{same_but_keyword}
 use Rattle.js_tree.specs.Forest.{Forest, empty, tree, ◌⊹◌}
-use Rattle.js_tree.specs.Merged.{alike, all_merged, has_alike, none_alike}
+use Rattle.js_tree.specs.Merged.{all_merged, has_alike, none_alike}
 use Rattle.js_tree.specs.MergedResult.{merged}
 use Rattle.js_tree.specs.OutputUnit.{OutputUnit, noted}
 use Rattle.js_tree.specs.Relative.{escaped, escaped_tree, escaped_unit, relative, relative_tree, relative_unit}

@@ -1,5 +1,6 @@
 pub mod AddedRows
 pub mod AlikeTrees
+pub mod ApartRows
 pub mod AlikeUnits
 pub mod BoxedTold
 pub mod ChildTexts

@@ -4,7 +4,7 @@
 pub(crate) mod apart;
 pub(crate) mod basic_text;
 pub(crate) mod detailed_text;
-pub(crate) mod differing_rows;
+pub(crate) mod differing;
 pub(crate) mod keeping;
 pub(crate) mod kept_tree;
 pub(crate) mod locations;

@@ -5,7 +5,7 @@ ghost use Rattle.js_tree.specs.RelativeState.{AreRowsOf, AreWhole};
 ghost use Rattle.js_tree.specs.Result.{Normal, ResultTree, pruned};
 
 use crate::reducing::merging::merge_condense;
-use crate::relative::differing_rows::siblings_differ;
+use crate::relative::differing::siblings_differ;
 use crate::relative::kept_tree::kept_tree;
 use crate::relative::locations::Locations;
 use crate::relative::marks::RelativeMarks;
@@ -29,9 +29,9 @@ pub fn merged_tree<'a>(alloc: Global, rows: &RelativeRows<'a>) -> Result<Tree<'a
     Ok(merge_condense(kept))
 }
 
-/// Whether merging surely leaves the rows' tree as it is, which has to be normal: no two siblings have the same instance
-/// location and the same absolute keyword location, so none are alike. True only then; false says nothing. Makes no
-/// tree and, unless nodes have very many children, takes linear time.
+/// Whether it is seen at once that merging leaves the rows' tree, if it is normal, as it is: no two siblings have the
+/// same instance location and the same absolute keyword location, so none are alike. True only then; false says
+/// nothing. Takes linear time, makes no tree and allocates nothing.
 pub fn is_surely_merged(rows: &RelativeRows) -> bool
     requires { AreWhole rows.now }
     ensures { (t : ResultTree) → AreRowsOf rows.now t → Normal t → IsTrue result → merged t ≡ t }

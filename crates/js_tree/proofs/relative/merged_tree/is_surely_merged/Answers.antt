@@ -1,4 +1,4 @@
-use Rattle.std.proofs.Common.{drop, map, ap, ◌∙◌}
+use Rattle.std.proofs.Common.{map, ap, ◌∙◌}
 use Rattle.js_tree.specs.Relative.{escaped_tree, relative_tree}
 use Rattle.js_tree.specs.RelativeState.{relative_row}
 use Rattle.js_tree.proofs.ChildTexts.{rest_of}
