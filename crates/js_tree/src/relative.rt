@@ -3,6 +3,7 @@
 
 pub(crate) mod basic_text;
 pub(crate) mod detailed_text;
+pub(crate) mod differing;
 pub(crate) mod keeping;
 pub(crate) mod kept_tree;
 pub(crate) mod locations;
