@@ -1,6 +1,7 @@
 //! A quick test which shows that no two siblings of a tree are alike, so that merging drops nothing. It reads the
 //! locations of relative rows only.
-ghost use Rattle.std.specs.Prelude.{◌≡◌, ◌==◌, IsTrue, false, true, map};
+ghost use Rattle.std.specs.Prelude.{◌≡◌, IsTrue, drop, false, true, map};
+ghost use Rattle.std.specs.List.{prefix_len};
 ghost use Rattle.std.specs.Ordering.{is_lt};
 ghost use Rattle.js_tree.specs.Flat.{flat_of};
 ghost use Rattle.js_tree.specs.Forest.{Forest};
@@ -71,15 +72,22 @@ fn roots_ascend(rows: &[RelativeRow]) -> bool
     true
 }
 
-// How many digits stand behind the slash.
+// How many digits stand behind the slash; none are taken for many, so that names come last.
 fn part_rank(part: &[u8]) -> usize
     ensures { result ≡ part_rank part.now }
+{
+    let digits = digit_count(part);
+    if digits == 0 { NO_INDEX } else { digits }
+}
+
+fn digit_count(part: &[u8]) -> usize
+    ensures { result ≡ prefix_len is_digit (drop 1 part.now) }
 {
     let mut end = 1;
     while end < part.len() && is_digit(part[end]) {
         end += 1;
     }
-    if end == 1 { NO_INDEX } else { end - 1 }
+    end - 1
 }
 
 fn is_digit(byte: u8) -> bool
@@ -108,24 +116,24 @@ fn pairs_differ(rows: &[RelativeRow]) -> bool
         let first = next;
         let row = &rows[first];
         next = first + row.size;
-        if !stands_alone(row, &rows[next..]) {
+        if !stands_alone(row, rows, next) {
             return false;
         }
     }
     true
 }
 
-// Whether the row stands apart from each of the other trees' roots. Not if there are too many.
-fn stands_alone(row: &RelativeRow, others: &[RelativeRow]) -> bool
-    requires { (f : Forest OutputUnit) × (map relative_row others.now ≡ flat_of f) }
-    ensures { (f : Forest OutputUnit) → map relative_row others.now ≡ flat_of f → IsTrue result
+// Whether the row stands apart from each of the trees' roots from there on. Not if there are too many.
+fn stands_alone(row: &RelativeRow, rows: &[RelativeRow], start: usize) -> bool
+    requires { (f : Forest OutputUnit) × (map relative_row (drop start rows.now) ≡ flat_of f) }
+    ensures { (f : Forest OutputUnit) → map relative_row (drop start rows.now) ≡ flat_of f → IsTrue result
         → none_there (relative_row row.now).0 f ≡ true }
 {
     let mut left = MOST_OTHERS;
-    let mut next = 0;
-    while next < others.len() {
+    let mut next = start;
+    while next < rows.len() {
         let first = next;
-        let other = &others[first];
+        let other = &rows[first];
         next = first + other.size;
         if left == 0 || !stand_apart(row, other) {
             return false;
