@@ -1,5 +1,5 @@
--- An order of what rows add to instance locations. In it the items of an array ascend by index, and members by the bytes
--- of their names (of private functions).
+-- An order of what rows add to instance locations: in it the items of an array ascend by index, and members by the
+-- bytes of their names (of private functions).
 use Rattle.std.specs.Prelude.{ℕ, zero, suc, Bool, true, ◌&&◌, List, drop, nat_lt}
 use Rattle.std.specs.Cmp.Lexicographic.{slice_cmp}
 use Rattle.std.specs.List.{prefix_len}

@@ -33,7 +33,8 @@ pub(crate) fn siblings_differ(rows: &[RelativeRow]) -> bool
         let first = next;
         let row = &rows[first];
         next = first + row.size;
-        if row.size > 1 && !siblings_differ(&rows[first + 1..next]) {
+        // One node below has no siblings.
+        if row.size > 2 && !siblings_differ(&rows[first + 1..next]) {
             return false;
         }
     }

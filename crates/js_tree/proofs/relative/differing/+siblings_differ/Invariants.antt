@@ -12,7 +12,8 @@ decreases-siblings_differ l = length l.rows.now
 
 abbrev pub invariant-loop-next : goal.invariant-loop-next
 invariant-loop-next l =
-    (f : Forest OutputUnit) → map relative_row l.rows ≡ flat_of f → LeftToSee l.rows l.next differ_below (differ_below f)
+    (f : Forest OutputUnit) → map relative_row l.rows ≡ flat_of f
+    → LeftToSee l.rows l.next differ_below (differ_below f)
 
 abbrev pub decreases-loop-next : goal.decreases-loop-next
 decreases-loop-next l = length l.rows - l.next

@@ -9,7 +9,8 @@ use Rattle.js_tree.proofs.relative.differing.roots_ascend.Given as goal
 
 abbrev pub invariant-loop-next : goal.invariant-loop-next
 invariant-loop-next l =
-    (f : Forest OutputUnit) → map relative_row l.rows ≡ flat_of f → LeftToSee l.rows l.next (ascend_behind (l.rank, l.last)) (roots_differ f)
+    (f : Forest OutputUnit) → map relative_row l.rows ≡ flat_of f
+    → LeftToSee l.rows l.next (ascend_behind (l.rank, l.last)) (roots_differ f)
 
 abbrev pub decreases-loop-next : goal.decreases-loop-next
 decreases-loop-next l = length l.rows - l.next
