@@ -1,5 +1,6 @@
 pub mod AddedRows
 pub mod AlikeTrees
+pub mod ApartRows
 pub mod AlikeUnits
 pub mod BoxedTold
 pub mod ChildTexts
@@ -44,6 +45,7 @@ pub mod Trimming
 pub mod UndoneEscapes
 pub mod VerdictTold
 pub mod DetailedTrees
+pub mod DifferingTrees
 pub mod Differing
 pub mod Ordered
 pub mod Places

@@ -91,7 +91,8 @@ roots-siblings (tree u below after) r b =
 -- ---- from tree to tree
 
 -- what holds of the trees that are left decides
-pub record LeftToSee (rows : List RelativeRow) (next : ℕ) (rest : Forest OutputUnit → Bool) (whole : Bool) : Type 0 where
+pub record LeftToSee (rows : List RelativeRow) (next : ℕ) (rest : Forest OutputUnit → Bool) (whole : Bool)
+    : Type 0 where
   pub left : Forest OutputUnit
   pub left_is : map relative_row (drop next rows) ≡ flat_of left
   pub decides : rest left ≡ true → whole ≡ true

@@ -38,7 +38,7 @@ pub use relative::keeping::kept_rows;
 pub use relative::kept_tree::kept_tree;
 pub use relative::locations::Locations;
 pub use relative::marks::RelativeMarks;
-pub use relative::merged_tree::merged_tree;
+pub use relative::merged_tree::{is_surely_merged, merged_tree};
 pub use relative::rows::{RelativeRow, RelativeRows};
 pub use relative::verbose_text::put_verbose;
 pub use tree::{Tree, Trees};

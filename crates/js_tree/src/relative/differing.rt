@@ -1,15 +1,16 @@
 //! A quick test which shows that no two siblings of a tree are alike, so that merging drops nothing. It reads the
 //! locations of relative rows only.
-ghost use Rattle.std.specs.Prelude.{◌≡◌, IsTrue, drop, false, true, map};
+ghost use Rattle.std.specs.Prelude.{◌≡◌, IsTrue, drop, true, map};
 ghost use Rattle.std.specs.List.{prefix_len};
 ghost use Rattle.std.specs.Ordering.{is_lt};
 ghost use Rattle.js_tree.specs.Flat.{flat_of};
 ghost use Rattle.js_tree.specs.Forest.{Forest};
 ghost use Rattle.js_tree.specs.OutputUnit.{OutputUnit};
 ghost use Rattle.js_tree.specs.RelativeState.{relative_row};
-ghost use Rattle.js_tree.specs.code.Differing.{none_there, same_places, siblings_differ};
+ghost use Rattle.js_tree.specs.code.Differing.{none_there, siblings_differ};
 ghost use Rattle.js_tree.specs.code.PartOrder.{is_digit, part_order, part_rank, roots_differ};
 
+use crate::relative::apart::stand_apart;
 use crate::relative::rows::RelativeRow;
 
 // More siblings that don't ascend aren't compared, since each is compared with each.
@@ -142,10 +143,4 @@ fn stands_alone(row: &RelativeRow, rows: &[RelativeRow], start: usize) -> bool
         left -= 1;
     }
     true
-}
-
-fn stand_apart(a: &RelativeRow, b: &RelativeRow) -> bool
-    ensures { result ≡ true → same_places (relative_row a.now).0 (relative_row b.now).0 ≡ false }
-{
-    a.instance != b.instance
 }
