@@ -36,6 +36,7 @@ pub mod RoomLeft
 pub mod RootBack
 pub mod Searching
 pub mod Siblings
+pub mod SiblingsDiffer
 pub mod SilentLeaves
 pub mod Steps
 pub mod Telling

@@ -6,6 +6,7 @@ pub mod Listing
 pub mod Nesting
 pub mod NodeText
 pub mod Order
+pub mod PartOrder
 pub mod Put
 pub mod RelativeText
 pub mod Search
