@@ -1,5 +1,6 @@
 pub mod AddedRows
 pub mod AlikeTrees
+pub mod ApartRows
 pub mod AlikeUnits
 pub mod BoxedTold
 pub mod ChildTexts
@@ -35,6 +36,7 @@ pub mod RoomLeft
 pub mod RootBack
 pub mod Searching
 pub mod Siblings
+pub mod SiblingsDiffer
 pub mod SilentLeaves
 pub mod Steps
 pub mod Telling
@@ -43,6 +45,7 @@ pub mod Trimming
 pub mod UndoneEscapes
 pub mod VerdictTold
 pub mod LeftTrees
+pub mod DifferingTrees
 pub mod Differing
 pub mod Ordered
 pub mod Places

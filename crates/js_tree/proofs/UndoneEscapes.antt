@@ -15,7 +15,7 @@ use Rattle.js_tree.specs.RelativeState.{part}
 same_text : (s t : List ℕ) → Some s ≡ Some t → s ≡ t
 same_text s t e = cc
 
-from_escaped : (s t : List ℕ) → escape s ≡ escape t → s ≡ t
+pub from_escaped : (s t : List ℕ) → escape s ≡ escape t → s ≡ t
 from_escaped s t e =
     same_text s t (sym (content-escape s []) ∙ (ap (λ l. content plain (l ++ 34 ∷ [])) e ∙ content-escape t []))
 

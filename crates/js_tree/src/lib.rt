@@ -35,7 +35,7 @@ pub use reducing::pruning::prune;
 pub use relative::basic_text::put_basic;
 pub use relative::keeping::kept_rows;
 pub use relative::locations::Locations;
-pub use relative::merged_tree::{is_merged_as_it_is, merged_tree};
+pub use relative::merged_tree::{is_surely_merged, merged_tree};
 pub use relative::rows::{RelativeRow, RelativeRows};
 pub use relative::verbose_text::put_verbose;
 pub use tree::{Tree, Trees};

@@ -1,7 +1,9 @@
 //! A result as relative rows: how they are collected, what pruning, condensing and merging leave of them, and their
 //! text in each format.
 
+pub(crate) mod apart;
 pub(crate) mod basic_text;
+pub(crate) mod differing;
 pub(crate) mod keeping;
 pub(crate) mod locations;
 pub(crate) mod marks;

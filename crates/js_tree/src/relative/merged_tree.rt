@@ -1,26 +1,36 @@
-//! The merged tree, from relative rows.
+//! The merged tree, from relative rows, and a quick test of whether merging changes nothing.
 ghost use Rattle.std.specs.Prelude.{◌≡◌, IfOk, IsTrue};
 ghost use Rattle.js_tree.specs.MergedResult.{merged};
 ghost use Rattle.js_tree.specs.RelativeState.{AreRowsOf, AreWhole};
-ghost use Rattle.js_tree.specs.Result.{Normal, ResultTree, pruned};
+ghost use Rattle.js_tree.specs.Result.{Normal, ResultTree};
 
+use crate::reducing::merging::merge_condense;
+use crate::relative::differing::siblings_differ;
 use crate::relative::rows::RelativeRows;
+use crate::relative::rows_tree::tree_of;
 use crate::tree::Tree;
 use js_doc::Memory;
 use std::alloc::Global;
 
-/// stand-in
+/// The merged tree of the rows' tree, with whole locations. It doesn't prune. The notes are moved.
+///
+/// # Errors
+/// `Memory` if an allocation fails.
 pub fn merged_tree<'a>(alloc: Global, rows: RelativeRows<'a>) -> Result<Tree<'a>, Memory>
     requires { AreWhole rows }
     ensures { (t : ResultTree) → AreRowsOf rows.entry t → IfOk result (λ m. m ≡ merged t) }
 {
-    Err(Memory)
+    let tree = tree_of(alloc, rows)?;
+    Ok(merge_condense(tree))
 }
 
-/// stand-in
-pub fn is_merged_as_it_is(rows: &RelativeRows) -> bool
+/// Whether it is seen at once that merging leaves the rows' tree as it is, if that is normal: no two siblings have the
+/// same instance location and the same absolute keyword location, so none are alike. False says nothing. Takes linear
+/// time, makes no tree and allocates nothing.
+pub fn is_surely_merged(rows: &RelativeRows) -> bool
     requires { AreWhole rows.now }
     ensures { (t : ResultTree) → AreRowsOf rows.now t → Normal t → IsTrue result → merged t ≡ t }
 {
-    false
+    let rows = rows.rows.as_slice();
+    siblings_differ(&rows[1..])
 }
