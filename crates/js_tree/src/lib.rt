@@ -35,7 +35,6 @@ pub use reducing::pruning::prune;
 pub use relative::basic_text::put_basic;
 pub use relative::detailed_text::put_detailed;
 pub use relative::keeping::kept_rows;
-pub use relative::kept_tree::kept_tree;
 pub use relative::locations::Locations;
 pub use relative::marks::RelativeMarks;
 pub use relative::merged_tree::merged_tree;

@@ -4,10 +4,10 @@
 pub(crate) mod basic_text;
 pub(crate) mod detailed_text;
 pub(crate) mod keeping;
-pub(crate) mod kept_tree;
 pub(crate) mod locations;
 pub(crate) mod marks;
 pub(crate) mod merged_tree;
 pub(crate) mod rows;
+pub(crate) mod rows_tree;
 pub(crate) mod unescaping;
 pub(crate) mod verbose_text;

@@ -1,5 +1,5 @@
 use Rattle.std.proofs.Common.{refl}
-use Rattle.js_tree.proofs.relative.kept_tree.node_at.Goals as goal
+use Rattle.js_tree.proofs.relative.rows_tree.node_at.Goals as goal
 
 pub returns : goal.returns
 returns c =
