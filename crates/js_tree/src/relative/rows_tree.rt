@@ -1,7 +1,7 @@
 //! The tree of relative rows.
-ghost use Rattle.std.specs.Prelude.{◌≡◌, ◌∷◌, [], IfOk, List, OnOk, ℕ};
+ghost use Rattle.std.specs.Prelude.{◌≡◌, IfOk, List, OnOk, ℕ};
 ghost use Rattle.js_tree.specs.Forest.{Forest, empty, forest_of, tree, ◌⊹◌};
-ghost use Rattle.js_tree.specs.Locations.{AreAt, HasRoom, HasRoomFor, IsBack, IsUp};
+ghost use Rattle.js_tree.specs.Locations.{AreAt, HasRoom, IsBack, IsUp};
 ghost use Rattle.js_tree.specs.OutputUnit.{OutputUnit};
 ghost use Rattle.js_tree.specs.Relative.{placed, placed_tree};
 ghost use Rattle.js_tree.specs.RelativeState.{AreRowsOf, AreWhole};
@@ -45,9 +45,9 @@ fn take_root<'a>(
     let mut below = Vec::new(alloc);
     locations.go_to_node(&rows[0]);
     take_trees(alloc, &mut rows[1..], locations, &mut below)?;
-    let row = &mut rows[0];
-    let note = replace(&mut row.note, Note::Silent);
-    node_at(alloc, row, note, locations, below)
+    let root = &mut rows[0];
+    let note = replace(&mut root.note, Note::Silent);
+    node_at(alloc, root, note, locations, below)
 }
 
 // Adds the trees of the rows.
