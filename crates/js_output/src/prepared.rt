@@ -20,7 +20,7 @@ use bumpalo::Bump;
 use js_bundle::{Place, Schemas};
 use js_doc::{Doc, Memory};
 use js_eval::verdict;
-use js_tree::{Format, Locations, RelativeRows, Tree, is_merged_as_it_is, merged_tree};
+use js_tree::{Format, Locations, RelativeRows, Tree, is_surely_merged, merged_tree};
 use std::alloc::Global;
 use std::io::Write;
 
@@ -132,7 +132,7 @@ fn prepared_merged<'a>(alloc: Global, rows: RelativeRows<'a>) -> Result<Prepared
     ensures { (t : ResultTree) → AreRowsOf rows.entry (reduced Merged t)
         → IfOk result (λ s. IsPrepared s t.root.valid (form Merged t)) }
 {
-    if is_merged_as_it_is(&rows) {
+    if is_surely_merged(&rows) {
         let locations = Locations::new(alloc, &rows)?;
         return Ok(Prepared::Rows(Format::Merged, rows, locations));
     }

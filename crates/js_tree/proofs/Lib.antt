@@ -28,6 +28,7 @@ pub mod Nested
 pub mod NodeTexts
 pub mod NotedRows
 pub mod Pieces
+pub mod PlacedRows
 pub mod Placing
 pub mod RelativeTold
 pub mod QuotedParts

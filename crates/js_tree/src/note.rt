@@ -1,10 +1,9 @@
 //! Notes: the error or the annotation of a node.
-ghost use Rattle.std.specs.Prelude.{◌≡◌, IfOk, List, ℕ, map};
+ghost use Rattle.std.specs.Prelude.{◌≡◌, List, ℕ, map};
 ghost use Rattle.js_tree.specs.Note.{speaks};
 ghost use Rattle.js_tree.specs.Seen.{note_of};
 
-use js_doc::{Doc, Memory, Text};
-use std::alloc::Global;
+use js_doc::{Doc, Text};
 use std::marker::Model;
 
 /// The error or the annotation of a node, or neither (Core, section 12.3.4).
@@ -76,15 +75,6 @@ impl<'a> Names<'a> {
     {
         self.names
     }
-
-    fn copy(&self, alloc: Global) -> Result<Names<'a>, Memory>
-        ensures { IfOk result (λ names. names ≡ self.now) }
-    {
-        let names = self.as_slice();
-        let mut copies = Vec::with_capacity(alloc, names.len())?;
-        copies.extend_from_slice(names)?;
-        Ok(Names { names: copies })
-    }
 }
 
 impl Indexes {
@@ -108,15 +98,6 @@ impl Indexes {
     {
         self.indexes
     }
-
-    fn copy(&self, alloc: Global) -> Result<Indexes, Memory>
-        ensures { IfOk result (λ indexes. indexes ≡ self.now) }
-    {
-        let indexes = self.as_slice();
-        let mut copies = Vec::with_capacity(alloc, indexes.len())?;
-        copies.extend_from_slice(indexes)?;
-        Ok(Indexes { indexes: copies })
-    }
 }
 
 impl<'a> Note<'a> {
@@ -125,20 +106,5 @@ impl<'a> Note<'a> {
         ensures { result ≡ speaks (note_of self.now) }
     {
         !matches!(self, Note::Silent)
-    }
-
-    /// A copy, which borrows what the note borrows.
-    pub(crate) fn copy(&self, alloc: Global) -> Result<Note<'a>, Memory>
-        ensures { IfOk result (λ note. note_of note ≡ note_of self.now) }
-    {
-        match self {
-            Note::Silent => Ok(Note::Silent),
-            Note::Error(reason) => Ok(Note::Error(reason.copy()?)),
-            Note::Value(value) => Ok(Note::Value(*value)),
-            Note::Names(names) => Ok(Note::Names(names.copy(alloc)?)),
-            Note::Index(index) => Ok(Note::Index(*index)),
-            Note::Indexes(indexes) => Ok(Note::Indexes(indexes.copy(alloc)?)),
-            Note::Truth => Ok(Note::Truth),
-        }
     }
 }

@@ -9,5 +9,6 @@ pub(crate) mod locations;
 pub(crate) mod marks;
 pub(crate) mod merged_tree;
 pub(crate) mod rows;
+pub(crate) mod rows_tree;
 pub(crate) mod unescaping;
 pub(crate) mod verbose_text;

@@ -12,7 +12,7 @@ use Rattle.js_tree.specs.Marks.{marked}
 use Rattle.js_tree.specs.OutputUnit.{OutputUnit, noted}
 use Rattle.js_tree.specs.Pruned.{pruned_below}
 use Rattle.js_tree.specs.Relative.{placed, placed_unit}
-use Rattle.js_tree.specs.Result.{ResultTree, has_verdict}
+use Rattle.js_tree.specs.Result.{has_verdict}
 use Rattle.js_tree.specs.Units.{units_below}
 use Rattle.js_tree.specs.code.RelativeText.{AreRowsOfTrees}
 use Rattle.js_tree.specs.declared.relative.rows.RelativeRow.{RelativeRow}
@@ -66,10 +66,6 @@ may_list verdict row = has_verdict verdict row.0 && (nat_lt 1 row.1 || noted row
 abbrev pub condensed : Bool → List ℕ → List ℕ → Forest OutputUnit → Forest OutputUnit
 condensed verdict keyword instance f = kept_below noted (pruned_below (has_verdict verdict) (placed keyword instance f))
 
--- a node that is left, over what is left below it
-abbrev pub kept_node : Bool → List ℕ → List ℕ → OutputUnit → Forest OutputUnit → ResultTree
-kept_node verdict keyword instance u below =
-    record { root = placed_unit keyword instance u; below = condensed verdict (keyword ++ u.keyword) (instance ++ u.instance) below }
 
 -- the rows and the marks are those of the trees
 pub record AreMarkedRows (rows : List RelativeRow) (marks : List Mark) (verdict : Bool) (f : Forest OutputUnit) : Type 0 where

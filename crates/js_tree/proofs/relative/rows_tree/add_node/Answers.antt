@@ -1,0 +1,23 @@
+use Rattle.std.proofs.Common.{[], ◌∷◌, ap, ◌∙◌}
+use Rattle.js_tree.specs.Forest.{forest_of, ◌⊹◌}
+use Rattle.js_tree.specs.Seen.{note_of}
+use Rattle.js_tree.proofs.Forests.{forest_of-append}
+use Rattle.js_tree.proofs.PlacedRows.{with_note}
+use Rattle.js_tree.proofs.relative.rows_tree.add_node.Goals as goal
+
+pub returns-clause-trees : goal.returns-clause-trees
+returns-clause-trees c =
+    λ k a i at is.
+    let old = c.args.trees.now.items in
+    let moved = with_note c.args.row.now k a i (forest_of c.args.below.items) _ (ap note_of c.replace-note.ensures.value) in
+    ap forest_of c.in_ok-push.ensures.items
+    ∙ (forest_of-append old (c.in_ok-node.node ∷ [])
+    ∙ ap (λ s. forest_of old ⊹ forest_of (s ∷ [])) (c.in_ok-node.ensures k a i at is ∙ moved))
+
+pub returns-clause-up : goal.returns-clause-up
+returns-clause-up c = record {
+  shorter_keyword = c.go_back.ensures.shorter_keyword;
+  shorter_instance = c.go_back.ensures.shorter_instance;
+  keyword_room = c.go_back.ensures.keyword_room;
+  instance_room = c.go_back.ensures.instance_room;
+}
