@@ -87,10 +87,11 @@ differing-all_merged k i (tree v under after) d s =
     let here = and_left (node_stands noted v under) _ s in
     let stand = and_right (node_stands noted v under) _ s in
     let inside = and_left down _ both in
+    let stand_below = and_left (all_stand noted under) _ stand in
     rw (
       here,
       differing-none_alike (length v.keyword) (length v.instance) empty under tt inside,
-      differing-all_merged (length v.keyword) (length v.instance) under inside (and_left (all_stand noted under) _ stand),
+      differing-all_merged (length v.keyword) (length v.instance) under inside stand_below,
       differing-all_merged k i after (and_right down _ both) (and_right (all_stand noted under) _ stand),
     ) refl
 

@@ -21,5 +21,5 @@ returns c =
     let found = c.as_slice-rows.result.now in
     let shown = escaped_tree (relative_tree t) in
     let is = whole_rows c.args.rows.now t found c.as_slice-rows.ensures.value h in
-    merged_as_it_is t n
-    (c.siblings_differ.ensures shown.below (ap (map relative_row) (rest_of found) ∙ rows_below relative_row found shown is) y)
+    let under = ap (map relative_row) (rest_of found) ∙ rows_below relative_row found shown is in
+    merged_as_it_is t n (c.siblings_differ.ensures shown.below under y)
