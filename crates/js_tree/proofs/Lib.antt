@@ -2,6 +2,7 @@ pub mod AddedRows
 pub mod AlikeTrees
 pub mod ApartRows
 pub mod AlikeUnits
+pub mod AscendingParts
 pub mod BoxedTold
 pub mod ChildTexts
 pub mod Compaction
