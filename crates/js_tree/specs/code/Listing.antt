@@ -66,7 +66,6 @@ may_list verdict row = has_verdict verdict row.0 && (nat_lt 1 row.1 || noted row
 abbrev pub condensed : Bool → List ℕ → List ℕ → Forest OutputUnit → Forest OutputUnit
 condensed verdict keyword instance f = kept_below noted (pruned_below (has_verdict verdict) (placed keyword instance f))
 
-
 -- the rows and the marks are those of the trees
 pub record AreMarkedRows (rows : List RelativeRow) (marks : List Mark) (verdict : Bool) (f : Forest OutputUnit) : Type 0 where
   pub rows_are : AreRowsOfTrees rows f
