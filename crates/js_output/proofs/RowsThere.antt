@@ -1,5 +1,5 @@
 -- The rows that a walk returns are those that a format needs.
-use Rattle.std.proofs.Common.{◌≡◌, ℕ, true, ◌⊎◌, inl, inr, Result, Ok, Err, ap, sym, subst}
+use Rattle.std.proofs.Common.{◌≡◌, ℕ, true, ◌⊎◌, inl, inr, Result, Ok, Err, ap, sym, subst, ◌∙◌}
 use Rattle.std.specs.Prelude.{IfOk}
 use Rattle.js_doc.specs.Value.{Value}
 use Rattle.js_tree.specs.RelativeState.{AreRowsOf}
@@ -38,3 +38,17 @@ module _ (docs : Documents) (n : ℕ) (v : Value) (there : is_place docs n ≡ t
       let (t, within, are) = h in
       (t, result-there docs n v there t within.is, within.stands, subst (AreRowsOf rows) (sym (noted_recorded format t e)) are)
   noted_there format (Err f) e h = tt
+
+-- ---- what condensing leaves of them
+
+-- one of these formats
+abbrev IsCondensed : Format → Type 0
+IsCondensed format = (format ≡ Detailed) ⊎ (format ≡ Merged)
+
+condensed_reduced : (format : Format) (t : ResultTree) → IsCondensed format → kept (pruned (recorded format t)) ≡ reduced format t
+condensed_reduced format t (inl e) = ap (λ f. kept (pruned (recorded f t))) e ∙ (same_kept t ∙ ap (λ f. reduced f t) (sym e))
+condensed_reduced format t (inr e) = ap (λ f. kept (pruned (recorded f t))) e ∙ (same_kept t ∙ ap (λ f. reduced f t) (sym e))
+
+pub condensed_there : (format : Format) (t : ResultTree) (rows : RelativeRows) → IsCondensed format
+    → AreRowsOf rows (kept (pruned (recorded format t))) → AreRowsOf rows (reduced format t)
+condensed_there format t rows e are = subst (AreRowsOf rows) (condensed_reduced format t e) are

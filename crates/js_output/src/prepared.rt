@@ -78,7 +78,7 @@ impl<'a> Prepared<'a> {
 
     /// Writes the compact text, and a line feed.
     pub(crate) fn write<W: Write>(self, out: &mut Sink<W>) -> Result<(), Fault>
-        requires { ArePrepared self.entry }
+        requires { ArePrepared self }
         ensures sent { (valid : Bool) (value : Value) → IsPrepared self.entry valid value
             → SendsOrFails W.contents out.old out.new (compact value ++ 10 ∷ []) result }
         ensures unflushed { Unflushed out.old out.new }
