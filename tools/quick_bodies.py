@@ -1,8 +1,8 @@
 """Wrong bodies many at a time, for `tools/wrong-bodies --quick`.
 
-A check costs more than what it has to prove anew: reading the crate, and loading what is kept. So as many edits as don't
-touch each other's functions are made in one copy, and one `rt check` goes over the modules that they are in. A contract
-binds one function, so the prover tells of each function by itself whether its body meets it.
+A check costs more than what it has to prove anew: reading the crate, and loading what is kept. So as many edits as
+don't touch each other's functions are made in one copy, and one `rt check` goes over the modules that they are in. A
+contract binds one function, so the prover tells of each function by itself whether its body meets it.
 """
 import re
 import shutil
@@ -152,7 +152,7 @@ class Quick:
         return found
 
     def together(self, edits, proved):
-        """The same of edits that don't touch each other. Where they don't compile together, the fault is found by halves."""
+        """The same of edits that don't touch each other. If they don't compile together, halves of them are tried."""
         told = self.check(edits, {place.module for it in edits for place in it.places})
         if told is None:
             half = len(edits) // 2
