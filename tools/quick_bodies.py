@@ -8,8 +8,9 @@ import re
 import shutil
 import subprocess
 from dataclasses import dataclass
+from itertools import takewhile
 
-FUNCTION = re.compile(r"\s*(?:pub(?:\(\w+\))? )?fn (\w+)")
+FUNCTION = re.compile(r'\s*(?:pub(?:\([^)]*\))? )?(?:const |unsafe |extern "C" )*fn (\w+)')
 CYCLE = re.compile(r"\s*#\[cycle\((\w+)\)\]")
 VERDICT = re.compile(r"^fn (\S+): (.*)$", re.M)
 ENDED = re.compile(r"^only=(\d+) proved=(\d+)$", re.M)
@@ -58,8 +59,8 @@ def place_of(path, text, at):
         found = FUNCTION.match(lines[number])
         if found:
             module = path.removeprefix("src/").removesuffix(".rt").replace("/", "::")
-            above = next((it for it in reversed(lines[:number]) if not it.lstrip().startswith("///")), "")
-            cycle = CYCLE.match(above)
+            above = takewhile(lambda it: it.lstrip().startswith(("#[", "//")), reversed(lines[:number]))
+            cycle = next(filter(None, map(CYCLE.match, above)), None)
             return Place(module, found[1], cycle[1] if cycle else f"{module}::{found[1]}")
         if number < len(lines) - 1 and lines[number].startswith("}"):
             return None
