@@ -14,8 +14,10 @@ FUNCTION = re.compile(r'\s*(?:pub(?:\([^)]*\))? )?(?:const |unsafe |extern "C" )
 CYCLE = re.compile(r"\s*#\[cycle\((\w+)\)\]")
 VERDICT = re.compile(r"^fn (\S+): (.*)$", re.M)
 ENDED = re.compile(r"^only=(\d+) proved=(\d+)$", re.M)
+UNPROVED_GOAL = re.compile(r"no proof: expected answers in \S+; `search` did not prove (`[^`]+`)")
+ERROR = re.compile(r"(?:\./)?proofs/(\S+)/\w+\.antt:\d+:\d+: error: ")
 # A proof file that names what the edit took away says nothing of the contract. (rt's own words for it.)
-OF_NAMES = re.compile(r"(note: )?(\./)?proofs/.*(has no field|is not in scope|has no `|was not admitted)")
+OF_NAMES = re.compile(r"has no field|is not in scope|has no `|was not admitted")
 OF_CALLEES = "no proof: it calls `"
 # Their functions are in no module.
 ROOTS = ("src/lib.rt", "src/main.rt")
@@ -30,8 +32,14 @@ class Place:
     cycle: str
 
     def is_named(self, path, crate):
-        """Whether the prover's name of a function is that of this one."""
-        return path.startswith(f"{crate}::{self.module}::") and path.rpartition("::")[2] == self.name
+        """Whether the prover's name of a function is that of this one, or of a closure in it."""
+        return path.startswith(f"{crate}::{self.module}::") and (
+            path.rpartition("::")[2] == self.name or f"::fn::{self.name}::" in path)
+
+    def has_proof(self, folder):
+        """Whether a folder of `proofs/` is that of this function, or of its cycle."""
+        module = self.module.replace("::", "/")
+        return folder.startswith(f"{module}/") and folder.rpartition("/")[2] in (self.name, f"+{self.cycle}")
 
 
 @dataclass
@@ -136,7 +144,7 @@ class Quick:
     def base(self, edits):
         """The functions that are proved without edits, or None where one isn't."""
         told = self.check([], {place.module for it in edits for place in it.places})
-        if told is None or any(answer != "proved" for answer, _ in told.values()):
+        if told is None or any(answer != "proved" for answer in told.values()):
             return None
         return set(told)
 
@@ -160,28 +168,28 @@ class Quick:
             return self.together(edits[:half], proved) | self.together(edits[half:], proved) if half else {}
         found = {}
         for edit in edits:
-            answers = [told[it] for it in proved & set(told)
-                       if any(place.is_named(it, self.crate) for place in edit.places)]
-            why = next((why for answer, why in answers if is_for_a_contract(answer, why)), None)
+            answers = [(place, told[it]) for place in edit.places for it in sorted(told)
+                       if it in proved and place.is_named(it, self.crate)]
+            why = next(filter(None, (reason(*it, self.printed) for it in answers)), None)
             if why:
-                found[edit.name] = why[0]
-            elif any(answer.startswith(OF_CALLEES) for answer, _ in answers):
+                found[edit.name] = why
+            elif any(answer.startswith(OF_CALLEES) for _, answer in answers):
                 self.blocked.add(edit.name)
         return found
 
 
 def told_in(printed):
-    """What the prover says of each function, and the lines before it that say why."""
-    told, before = {}, 0
-    for it in VERDICT.finditer(printed):
-        lines = printed[before:it.start()].split("\n")
-        told[it[1]] = it[2], [line for line in lines if re.match(r"(note: )?\S+:\d+:\d+: ", line)]
-        before = it.end()
-    return told
+    """What the prover says of each function."""
+    return {it[1]: it[2] for it in VERDICT.finditer(printed)}
 
 
-def is_for_a_contract(answer, why):
-    """Whether a function isn't proved for what it answers: not for a callee, a limit, or a name in a proof file."""
-    return (answer.startswith(("not proved", "no proof")) and not answer.startswith(OF_CALLEES)
-            and any(": error" in it or "it is not proved" in it for it in why)
-            and not all(OF_NAMES.match(it) for it in why if ": error" in it or it.startswith("note: ")))
+def reason(place, answer, printed):
+    """Why a function isn't proved for what it answers; None for a callee, a limit, or a name in a proof file."""
+    goal = UNPROVED_GOAL.match(answer)
+    lines = printed.split("\n")
+    if goal:
+        return next((it for it in lines if it.startswith("note: ") and goal[1] in it), answer)
+    if answer != "not proved":
+        return None
+    errors = [it for it in lines if (at := ERROR.match(it)) and place.has_proof(at[1])]
+    return next((it for it in errors if not OF_NAMES.search(it)), None)
