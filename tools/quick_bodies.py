@@ -188,7 +188,8 @@ def reason(place, answer, printed):
     goal = UNPROVED_GOAL.match(answer)
     lines = printed.split("\n")
     if goal:
-        return next((it for it in lines if it.startswith("note: ") and goal[1] in it), answer)
+        source = f"note: src/{place.module.replace('::', '/')}.rt:"
+        return next((it for it in lines if it.startswith(source) and goal[1] in it), answer)
     if answer != "not proved":
         return None
     errors = [it for it in lines if (at := ERROR.match(it)) and place.has_proof(at[1])]
