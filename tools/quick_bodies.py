@@ -7,7 +7,7 @@ contract binds one function, so the prover tells of each function by itself whet
 import re
 import shutil
 import subprocess
-from dataclasses import dataclass
+from dataclasses import dataclass, field
 from itertools import takewhile
 
 FUNCTION = re.compile(r'\s*(?:pub(?:\([^)]*\))? )?(?:const |unsafe |extern "C" )*fn (\w+)')
@@ -16,30 +16,38 @@ VERDICT = re.compile(r"^fn (\S+): (.*)$", re.M)
 ENDED = re.compile(r"^only=(\d+) proved=(\d+)$", re.M)
 UNPROVED_GOAL = re.compile(r"no proof: expected answers in \S+; `search` did not prove (`[^`]+`)")
 ERROR = re.compile(r"(?:\./)?proofs/(\S+)/\w+\.antt:\d+:\d+: error: ")
+NOTE = re.compile(r"note: src/(\S+)\.rt:(\d+):\d+: it is not proved ")
 # A proof file that names what the edit took away says nothing of the contract. (rt's own words for it.)
 OF_NAMES = re.compile(r"has no field|is not in scope|has no `|was not admitted")
-OF_CALLEES = "no proof: it calls `"
+OF_CALLEES = "it calls `"
 # Their functions are in no module.
 ROOTS = ("src/lib.rt", "src/main.rt")
 
 
 @dataclass(frozen=True)
 class Place:
-    """A function that an edit changes: its module, its name, and the cycle of calls that it is in, or itself."""
+    """A function that an edit changes: its module, its name, its cycle of calls, or itself, and its lines."""
 
     module: str
     name: str
     cycle: str
+    lines: range = field(compare=False)
 
     def is_named(self, path, crate):
         """Whether the prover's name of a function is that of this one, or of a closure in it."""
         return path.startswith(f"{crate}::{self.module}::") and (
             path.rpartition("::")[2] == self.name or f"::fn::{self.name}::" in path)
 
-    def has_proof(self, folder):
-        """Whether a folder of `proofs/` is that of this function, or of its cycle."""
-        module = self.module.replace("::", "/")
-        return folder.startswith(f"{module}/") and folder.rpartition("/")[2] in (self.name, f"+{self.cycle}")
+    def has_error(self, line):
+        """Whether a line is an error in a proof of this function, or of its cycle, but not one about a name."""
+        found, module = ERROR.match(line), self.module.replace("::", "/")
+        return bool(found and found[1].startswith(f"{module}/") and not OF_NAMES.search(line)
+                    and found[1].rpartition("/")[2] in (self.name, f"+{self.cycle}"))
+
+    def has_goal(self, line):
+        """Whether a line tells of a goal of this function that isn't proved."""
+        found = NOTE.match(line)
+        return bool(found and found[1] == self.module.replace("::", "/") and int(found[2]) in self.lines)
 
 
 @dataclass
@@ -60,17 +68,24 @@ class Edit:
         return texts
 
 
+def above(lines, number):
+    """The attributes and comments right above a line."""
+    return list(takewhile(lambda it: it.lstrip().startswith(("#[", "//")), reversed(lines[:number])))
+
+
 def place_of(path, text, at):
     """The function around a place of a file, or None if it is in no function."""
-    lines = text[:text.index("\n", at)].split("\n")
-    for number in range(len(lines) - 1, -1, -1):
+    lines = text.split("\n")
+    here = text.count("\n", 0, at)
+    for number in range(here, -1, -1):
         found = FUNCTION.match(lines[number])
         if found:
             module = path.removeprefix("src/").removesuffix(".rt").replace("/", "::")
-            above = takewhile(lambda it: it.lstrip().startswith(("#[", "//")), reversed(lines[:number]))
-            cycle = next(filter(None, map(CYCLE.match, above)), None)
-            return Place(module, found[1], cycle[1] if cycle else f"{module}::{found[1]}")
-        if number < len(lines) - 1 and lines[number].startswith("}"):
+            cycle = next(filter(None, map(CYCLE.match, above(lines, number))), None)
+            end = next((it for it in range(here + 1, len(lines)) if FUNCTION.match(lines[it])), len(lines))
+            own = range(number + 1 - len(above(lines, number)), end + 1 - len(above(lines, end)))
+            return Place(module, found[1], cycle[1] if cycle else f"{module}::{found[1]}", own)
+        if number < here and lines[number].startswith("}"):
             return None
     return None
 
@@ -173,7 +188,7 @@ class Quick:
             why = next(filter(None, (reason(*it, self.printed) for it in answers)), None)
             if why:
                 found[edit.name] = why
-            elif any(answer.startswith(OF_CALLEES) for _, answer in answers):
+            elif any(OF_CALLEES in answer for _, answer in answers):
                 self.blocked.add(edit.name)
         return found
 
@@ -186,11 +201,7 @@ def told_in(printed):
 def reason(place, answer, printed):
     """Why a function isn't proved for what it answers; None for a callee, a limit, or a name in a proof file."""
     goal = UNPROVED_GOAL.match(answer)
-    lines = printed.split("\n")
-    if goal:
-        source = f"note: src/{place.module.replace('::', '/')}.rt:"
-        return next((it for it in lines if it.startswith(source) and goal[1] in it), answer)
-    if answer != "not proved":
+    if not goal and answer != "not proved":
         return None
-    errors = [it for it in lines if (at := ERROR.match(it)) and place.has_proof(at[1])]
-    return next((it for it in errors if not OF_NAMES.search(it)), None)
+    lines = printed.split("\n")
+    return next((it for it in lines if place.has_error(it) or place.has_goal(it)), answer if goal else None)
