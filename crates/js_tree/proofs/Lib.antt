@@ -26,6 +26,7 @@ pub mod MovesAreSteps
 pub mod Nested
 pub mod NodeTexts
 pub mod NotedRows
+pub mod OpeningKept
 pub mod Pieces
 pub mod Placing
 pub mod RelativeTold

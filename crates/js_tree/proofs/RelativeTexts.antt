@@ -16,14 +16,14 @@ use Rattle.js_tree.specs.Relative.{escaped_unit, placed, placed_tree, placed_uni
 use Rattle.js_tree.specs.RelativeState.{keyword_part, relative_row}
 use Rattle.js_tree.specs.Result.{ResultTree}
 use Rattle.js_tree.specs.Seen.{note_of}
-use Rattle.js_tree.specs.code.NodeText.{beginning_text, end_text, error_part, given_text}
+use Rattle.js_tree.specs.code.NodeText.{annotation_part, beginning_text, end_text, error_part, given_text}
 use Rattle.js_tree.specs.code.RelativeText.{AreRowsOfTrees, children_start, closing_text, inside_text, opening_text, unit_there}
 use Rattle.js_tree.specs.declared.relative.locations.Locations.{Locations}
 use Rattle.js_tree.specs.declared.relative.rows.RelativeRow.{RelativeRow}
 use Rattle.js_tree.proofs.EscapedRows.{no_trees}
 use Rattle.js_tree.proofs.FlatRows.{SomeTree}
 use Rattle.js_tree.proofs.NodeTexts.{annotations, errors, no_children, pieces_are}
-use Rattle.js_tree.proofs.QuotedParts.{none_inside, silent_in_parts, some_inside}
+use Rattle.js_tree.proofs.QuotedParts.{beginning_in_parts, none_inside, silent_in_parts, some_inside}
 
 -- ---- room for some of the rows
 
@@ -40,16 +40,29 @@ room_for_part l m rows n k h b = record {
       omega (arith, e, h.for_instance, b.instance_room, part_le (λ r. length r.instance.now) rows n k);
 }
 
+pub room_still : (l m : Locations) (rows : List RelativeRow) → HasRoom l rows → IsBack l m → HasRoom m rows
+room_still l m rows h b = record {
+  for_keyword =
+      let e = ap length b.same_keyword in
+      omega (arith, e, h.for_keyword, b.keyword_room);
+  for_instance =
+      let e = ap length b.same_instance in
+      omega (arith, e, h.for_instance, b.instance_room);
+}
+
 -- ---- the pieces of a node
 
 pub noted_pieces : (later : Bool) (x : RelativeRow) (keyword absolute instance : List ℕ) (f : Forest OutputUnit) → let u = unit_there x keyword absolute instance in let children = node_values (placed keyword instance f) in
-    (comma_if later ++ beginning_text absolute u.note) ++ (annotations u.valid children ++ (error_part u.note ++ (errors u.valid children ++ end_text instance keyword u.valid)))
+    opening_text later absolute ++ ((34 ∷ annotation_part u.note) ++ (annotations u.valid children ++ (error_part u.note ++ (errors u.valid children ++ end_text instance keyword u.valid))))
     ≡ comma_if later ++ compact (node_value u children)
 noted_pieces later x keyword absolute instance f =
     let u = unit_there x keyword absolute instance in
     let children = node_values (placed keyword instance f) in
-    append_assoc (comma_if later) (beginning_text absolute u.note) (annotations u.valid children ++ (error_part u.note ++ (errors u.valid children ++ end_text instance keyword u.valid)))
-    ∙ ap (λ l. comma_if later ++ l) (pieces_are u children u.valid u.note refl refl)
+    let rest = annotations u.valid children ++ (error_part u.note ++ (errors u.valid children ++ end_text instance keyword u.valid)) in
+    sym (append_assoc (opening_text later absolute) (34 ∷ annotation_part u.note) rest)
+    ∙ (ap (λ l. l ++ rest) (beginning_in_parts later absolute u.note)
+    ∙ (append_assoc (comma_if later) (beginning_text absolute u.note) rest
+    ∙ ap (λ l. comma_if later ++ l) (pieces_are u children u.valid u.note refl refl)))
 
 pub silent_pieces : (later : Bool) (x : RelativeRow) (keyword absolute instance : List ℕ) (f : Forest OutputUnit) → note_of x.note ≡ silent → let u = unit_there x keyword absolute instance in let children = node_values (placed keyword instance f) in
     opening_text later absolute ++ (inside_text u.valid children ++ closing_text instance keyword u.valid) ≡ comma_if later ++ compact (node_value u children)

@@ -4,6 +4,7 @@ pub mod KeptBetween
 pub mod Listing
 pub mod Nesting
 pub mod NodeText
+pub mod Opening
 pub mod Order
 pub mod Put
 pub mod RelativeText

@@ -14,8 +14,8 @@ ghost use Rattle.js_tree.specs.code.RelativeText.{AreRowsOfTree, AreRowsOfTrees,
 
 use crate::relative::locations::Locations;
 use crate::relative::rows::{RelativeRow, RelativeRows};
-use crate::relative::verbose_text::put_beginning;
-use crate::writing::node_text::put_error;
+use crate::relative::verbose_text::put_opening;
+use crate::writing::node_text::{put_closed_annotation, put_error};
 use js_doc::{Out, Stopped};
 
 /// Writes the rows' tree as compact text in the basic format (JSON Schema Core, section 12.4.2). It prunes while it
@@ -111,12 +111,13 @@ fn may_list(verdict: bool, row: &RelativeRow) -> bool
 fn put_noted<O: Out>(
     later: bool,
     row: &RelativeRow,
-    locations: &Locations,
+    locations: &mut Locations,
     out: &mut O,
 ) -> Result<bool, Stopped>
-    ensures { (keyword absolute instance : List ℕ) → AreAt locations.now keyword instance → IsAbsolute row.now absolute
+    ensures listed { (keyword absolute instance : List ℕ) → AreAt locations.old keyword instance → IsAbsolute row.now absolute
         → AreListed (O.progress out.old) (O.progress out.new) later
         (if_noted (unit_there row.now keyword absolute instance)) result }
+    ensures back { IsBack locations.old locations.new }
 {
     if !row.note.is_some() {
         return Ok(later);
@@ -129,14 +130,16 @@ fn put_noted<O: Out>(
 fn put_unit<O: Out>(
     later: bool,
     row: &RelativeRow,
-    locations: &Locations,
+    locations: &mut Locations,
     out: &mut O,
 ) -> Result<(), Stopped>
-    ensures { (keyword absolute instance : List ℕ) → AreAt locations.now keyword instance → IsAbsolute row.now absolute
+    ensures text { (keyword absolute instance : List ℕ) → AreAt locations.old keyword instance → IsAbsolute row.now absolute
         → Puts (O.progress out.old) (O.progress out.new)
         (comma_if later ++ compact (node_value (unit_there row.now keyword absolute instance) [])) result }
+    ensures back { IsBack locations.old locations.new }
 {
-    put_beginning(later, row, out)?;
+    put_opening(later, row, locations, out)?;
+    put_closed_annotation(&row.note, out)?;
     put_error(&row.note, out)?;
     locations.put_end(row.valid, out)
 }

@@ -6,6 +6,7 @@ ghost use Rattle.js_tree.specs.RelativeState.{part};
 ghost use Rattle.js_tree.specs.code.NodeText.{end_text, valid_text};
 ghost use Rattle.js_tree.specs.code.RelativeText.{closing_text};
 
+use crate::relative::opening::Opening;
 use crate::relative::rows::{RelativeRow, RelativeRows, behind};
 use crate::relative::unescaping::text_of;
 use js_doc::{Memory, Out, Stopped, Text};
@@ -18,6 +19,8 @@ pub struct Locations {
     // With what stands before it, so that one call of `put` writes both.
     keyword: Vec<u8>,
     instance: Vec<u8>,
+    // How the node's text begins.
+    pub(crate) opening: Opening,
 }
 
 // What stands before the keyword location.
@@ -39,6 +42,7 @@ impl Locations {
         Ok(Locations {
             keyword,
             instance: Vec::with_capacity(alloc, instance)?,
+            opening: Opening::new(alloc)?,
         })
     }
 

@@ -17,7 +17,7 @@ ghost use Rattle.js_tree.specs.code.RelativeText.{AreRowsOfTree, AreRowsOfTrees,
 
 use crate::relative::locations::Locations;
 use crate::relative::rows::{RelativeRow, RelativeRows};
-use crate::writing::node_text::{put_annotation, put_error};
+use crate::writing::node_text::{put_annotation, put_closed_annotation, put_error};
 use js_doc::{Out, Stopped, put_escaped};
 
 /// Writes the rows' tree as compact text in the verbose format (JSON Schema Core, section 12.4.4), with whole
@@ -103,7 +103,8 @@ fn put_noted<O: Out>(
     ensures back { OnOk result (IsBack locations.old locations.new) }
 {
     let valid = row.valid;
-    put_beginning(later, row, out)?;
+    put_opening(later, row, locations, out)?;
+    put_closed_annotation(&row.note, out)?;
     put_children(valid, b",\"annotations\":[", below, locations, out)?;
     put_error(&row.note, out)?;
     put_children(!valid, b",\"errors\":[", below, locations, out)?;
@@ -156,7 +157,7 @@ fn put_silent<O: Out>(
     ensures back { OnOk result (IsBack locations.old locations.new) }
 {
     let valid = row.valid;
-    put_opening(later, row, out)?;
+    put_opening(later, row, locations, out)?;
     put_inside(valid, below, locations, out)?;
     locations.put_closing(valid, out)
 }
@@ -220,13 +221,33 @@ pub(crate) fn put_beginning<O: Out>(
         → Puts (O.progress out.old) (O.progress out.new)
         (comma_if later ++ beginning_text absolute (note_of row.now.note)) result }
 {
-    put_opening(later, row, out)?;
+    put_whole_opening(later, row, out)?;
     out.put(b"\"")?;
     put_annotation(&row.note, out)
 }
 
-/// Writes the beginning of a node, up to the end of its absolute location, without the closing quotation mark.
-fn put_opening<O: Out>(later: bool, row: &RelativeRow, out: &mut O) -> Result<(), Stopped>
+/// Writes the beginning of a node, up to the end of its absolute location, without the closing quotation mark. What
+/// stands before its token is kept for the next node.
+pub(crate) fn put_opening<O: Out>(
+    later: bool,
+    row: &RelativeRow,
+    locations: &mut Locations,
+    out: &mut O,
+) -> Result<(), Stopped>
+    ensures text { (absolute : List ℕ) → IsAbsolute row.now absolute
+        → Puts (O.progress out.old) (O.progress out.new) (opening_text later absolute) result }
+    ensures back { IsBack locations.old locations.new }
+{
+    let opening = &mut locations.opening;
+    if !opening.has(row.schema.as_bytes()) {
+        return put_whole_opening(later, row, out);
+    }
+    opening.put(later, row.absolute_slash, out)?;
+    out.put(row.absolute)
+}
+
+/// The same, of any schema.
+fn put_whole_opening<O: Out>(later: bool, row: &RelativeRow, out: &mut O) -> Result<(), Stopped>
     ensures { (absolute : List ℕ) → IsAbsolute row.now absolute
         → Puts (O.progress out.old) (O.progress out.new) (opening_text later absolute) result }
 {

@@ -1,4 +1,4 @@
-use Rattle.std.proofs.Common.{◌≡◌, ◌+◌, ◌-◌, ◌<◌, ◌≤◌, ◌++◌, [], codes, length, drop, take, map, true, false, sym, ap, subst, ◌∙◌, refl, append-nil, arith}
+use Rattle.std.proofs.Common.{◌≡◌, ◌+◌, ◌-◌, ◌<◌, ◌≤◌, ◌++◌, ◌∷◌, [], codes, length, drop, take, map, true, false, sym, ap, subst, ◌∙◌, refl, append-nil, arith}
 use Rattle.js_doc.specs.BytesOut.{Goes, Puts}
 use Rattle.js_doc.specs.Compact.{comma_if, compact, compact_items}
 use Rattle.js_doc.specs.Value.{items}
@@ -7,7 +7,7 @@ use Rattle.js_tree.specs.Form.{node_values, verbose}
 use Rattle.js_tree.specs.Relative.{escaped_tree, placed, placed_tree}
 use Rattle.js_tree.specs.RelativeState.{relative_row}
 use Rattle.js_tree.specs.Result.{ResultTree}
-use Rattle.js_tree.specs.code.NodeText.{beginning_text, end_text, error_part}
+use Rattle.js_tree.specs.code.NodeText.{annotation_part, end_text, error_part}
 use Rattle.js_tree.specs.code.RelativeText.{children_start, closing_text, inside_text, opening_text, unit_there}
 use Rattle.js_tree.proofs.ChildTexts.{rest_of}
 use Rattle.js_tree.proofs.EscapedRows.{at_below, is_absolute, next_tree, no_trees, some_trees, still_at}
@@ -44,20 +44,38 @@ put_tree-returns-clause-text g t c =
     let is = root_there c.args.later k i x t' root in
     subst (Goes (o c.args.out.now) (o c.put_node.new.out)) is (c.in_ok-put_node.ensures.text t'.below (k ++ t'.root.keyword) t'.root.absolute (i ++ t'.root.instance) down (is_absolute x t'.root root) below)
 
-pub put_noted-returns-in_err-put_beginning-clause-text : goal.put_noted-returns-in_err-put_beginning-clause-text
-put_noted-returns-in_err-put_beginning-clause-text g t c =
+pub put_noted-returns-in_err-put_opening-clause-text : goal.put_noted-returns-in_err-put_opening-clause-text
+put_noted-returns-in_err-put_opening-clause-text g t c =
     λ f k a i at abs e.
     let o = g.O.Out.progress in
     let x = c.args.row.now in
     let u = unit_there x k a i in
-    let p1 = comma_if c.args.later ++ beginning_text u.absolute u.note in
-    let p2 = annotations u.valid (node_values (placed k i f)) in
-    let p3 = error_part u.note in
-    let p4 = errors u.valid (node_values (placed k i f)) in
-    let p5 = end_text i k u.valid in
+    let p1 = opening_text c.args.later a in
+    let p2 = 34 ∷ annotation_part u.note in
+    let p3 = annotations u.valid (node_values (placed k i f)) in
+    let p4 = error_part u.note in
+    let p5 = errors u.valid (node_values (placed k i f)) in
+    let p6 = end_text i k u.valid in
     let r = c.from_residual.result in
-    subst (λ l. Puts (o c.args.out.now) (o c.put_beginning.new.out) l r) (noted_pieces c.args.later x k a i f)
-    (stops_in (o c.args.out.now) (o c.put_beginning.new.out) p1 (p2 ++ (p3 ++ (p4 ++ (p5)))) r c.from_residual.ensures.0 (c.in_err-put_beginning.ensures a abs))
+    subst (λ l. Puts (o c.args.out.now) (o c.put_opening.new.out) l r) (noted_pieces c.args.later x k a i f)
+    (stops_in (o c.args.out.now) (o c.put_opening.new.out) p1 (p2 ++ (p3 ++ (p4 ++ (p5 ++ p6)))) r c.from_residual.ensures.0 (c.in_err-put_opening.ensures.text a abs))
+
+pub put_noted-returns-in_err-put_closed_annotation-clause-text : goal.put_noted-returns-in_err-put_closed_annotation-clause-text
+put_noted-returns-in_err-put_closed_annotation-clause-text g t c =
+    λ f k a i at abs e.
+    let o = g.O.Out.progress in
+    let x = c.args.row.now in
+    let u = unit_there x k a i in
+    let p1 = opening_text c.args.later a in
+    let p2 = 34 ∷ annotation_part u.note in
+    let p3 = annotations u.valid (node_values (placed k i f)) in
+    let p4 = error_part u.note in
+    let p5 = errors u.valid (node_values (placed k i f)) in
+    let p6 = end_text i k u.valid in
+    let r = c.from_residual-in_err-put_closed_annotation.result in
+    subst (λ l. Puts (o c.args.out.now) (o c.put_closed_annotation.new.out) l r) (noted_pieces c.args.later x k a i f)
+    (then_puts (o c.args.out.now) (o c.put_opening.new.out) (o c.put_closed_annotation.new.out) p1 (p2 ++ (p3 ++ (p4 ++ (p5 ++ p6)))) r (c.in_ok-put_opening.ensures.text a abs)
+    (stops_in (o c.put_opening.new.out) (o c.put_closed_annotation.new.out) p2 (p3 ++ (p4 ++ (p5 ++ p6))) r c.from_residual-in_err-put_closed_annotation.ensures.0 c.in_err-put_closed_annotation.ensures))
 
 pub put_noted-returns-in_err-put_children-clause-text : goal.put_noted-returns-in_err-put_children-clause-text
 put_noted-returns-in_err-put_children-clause-text g t c =
@@ -65,15 +83,18 @@ put_noted-returns-in_err-put_children-clause-text g t c =
     let o = g.O.Out.progress in
     let x = c.args.row.now in
     let u = unit_there x k a i in
-    let p1 = comma_if c.args.later ++ beginning_text u.absolute u.note in
-    let p2 = annotations u.valid (node_values (placed k i f)) in
-    let p3 = error_part u.note in
-    let p4 = errors u.valid (node_values (placed k i f)) in
-    let p5 = end_text i k u.valid in
+    let p1 = opening_text c.args.later a in
+    let p2 = 34 ∷ annotation_part u.note in
+    let p3 = annotations u.valid (node_values (placed k i f)) in
+    let p4 = error_part u.note in
+    let p5 = errors u.valid (node_values (placed k i f)) in
+    let p6 = end_text i k u.valid in
+    let there = still_at c.args.locations.now c.put_opening.new.locations k i at c.in_ok-put_opening.ensures.back in
     let r = c.from_residual-in_err-put_children.result in
     subst (λ l. Puts (o c.args.out.now) (o c.put_children.new.out) l r) (noted_pieces c.args.later x k a i f)
-    (then_puts (o c.args.out.now) (o c.put_beginning.new.out) (o c.put_children.new.out) p1 (p2 ++ (p3 ++ (p4 ++ (p5)))) r (c.in_ok-put_beginning.ensures a abs)
-    (stops_in (o c.put_beginning.new.out) (o c.put_children.new.out) p2 (p3 ++ (p4 ++ (p5))) r c.from_residual-in_err-put_children.ensures.0 (c.in_err-put_children.ensures.text f (codes ",\"annotations\":") k i at e refl)))
+    (then_puts (o c.args.out.now) (o c.put_opening.new.out) (o c.put_children.new.out) p1 (p2 ++ (p3 ++ (p4 ++ (p5 ++ p6)))) r (c.in_ok-put_opening.ensures.text a abs)
+    (then_puts (o c.put_opening.new.out) (o c.put_closed_annotation.new.out) (o c.put_children.new.out) p2 (p3 ++ (p4 ++ (p5 ++ p6))) r c.in_ok-put_closed_annotation.ensures
+    (stops_in (o c.put_closed_annotation.new.out) (o c.put_children.new.out) p3 (p4 ++ (p5 ++ p6)) r c.from_residual-in_err-put_children.ensures.0 (c.in_err-put_children.ensures.text f (codes ",\"annotations\":") k i there e refl))))
 
 pub put_noted-returns-in_err-put_error-clause-text : goal.put_noted-returns-in_err-put_error-clause-text
 put_noted-returns-in_err-put_error-clause-text g t c =
@@ -81,55 +102,65 @@ put_noted-returns-in_err-put_error-clause-text g t c =
     let o = g.O.Out.progress in
     let x = c.args.row.now in
     let u = unit_there x k a i in
-    let p1 = comma_if c.args.later ++ beginning_text u.absolute u.note in
-    let p2 = annotations u.valid (node_values (placed k i f)) in
-    let p3 = error_part u.note in
-    let p4 = errors u.valid (node_values (placed k i f)) in
-    let p5 = end_text i k u.valid in
+    let p1 = opening_text c.args.later a in
+    let p2 = 34 ∷ annotation_part u.note in
+    let p3 = annotations u.valid (node_values (placed k i f)) in
+    let p4 = error_part u.note in
+    let p5 = errors u.valid (node_values (placed k i f)) in
+    let p6 = end_text i k u.valid in
+    let there = still_at c.args.locations.now c.put_opening.new.locations k i at c.in_ok-put_opening.ensures.back in
     let r = c.from_residual-in_err-put_error.result in
     subst (λ l. Puts (o c.args.out.now) (o c.put_error.new.out) l r) (noted_pieces c.args.later x k a i f)
-    (then_puts (o c.args.out.now) (o c.put_beginning.new.out) (o c.put_error.new.out) p1 (p2 ++ (p3 ++ (p4 ++ (p5)))) r (c.in_ok-put_beginning.ensures a abs)
-    (then_puts (o c.put_beginning.new.out) (o c.put_children.new.out) (o c.put_error.new.out) p2 (p3 ++ (p4 ++ (p5))) r (c.in_ok-put_children.ensures.text f (codes ",\"annotations\":") k i at e refl)
-    (stops_in (o c.put_children.new.out) (o c.put_error.new.out) p3 (p4 ++ (p5)) r c.from_residual-in_err-put_error.ensures.0 c.in_err-put_error.ensures)))
+    (then_puts (o c.args.out.now) (o c.put_opening.new.out) (o c.put_error.new.out) p1 (p2 ++ (p3 ++ (p4 ++ (p5 ++ p6)))) r (c.in_ok-put_opening.ensures.text a abs)
+    (then_puts (o c.put_opening.new.out) (o c.put_closed_annotation.new.out) (o c.put_error.new.out) p2 (p3 ++ (p4 ++ (p5 ++ p6))) r c.in_ok-put_closed_annotation.ensures
+    (then_puts (o c.put_closed_annotation.new.out) (o c.put_children.new.out) (o c.put_error.new.out) p3 (p4 ++ (p5 ++ p6)) r (c.in_ok-put_children.ensures.text f (codes ",\"annotations\":") k i there e refl)
+    (stops_in (o c.put_children.new.out) (o c.put_error.new.out) p4 (p5 ++ p6) r c.from_residual-in_err-put_error.ensures.0 c.in_err-put_error.ensures))))
 
 pub put_noted-returns-in_err-put_children-2-clause-text : goal.put_noted-returns-in_err-put_children-2-clause-text
 put_noted-returns-in_err-put_children-2-clause-text g t c =
     λ f k a i at abs e.
     let o = g.O.Out.progress in
     let x = c.args.row.now in
-    let l = c.args.locations.now in
     let u = unit_there x k a i in
-    let p1 = comma_if c.args.later ++ beginning_text u.absolute u.note in
-    let p2 = annotations u.valid (node_values (placed k i f)) in
-    let p3 = error_part u.note in
-    let p4 = errors u.valid (node_values (placed k i f)) in
-    let p5 = end_text i k u.valid in
+    let p1 = opening_text c.args.later a in
+    let p2 = 34 ∷ annotation_part u.note in
+    let p3 = annotations u.valid (node_values (placed k i f)) in
+    let p4 = error_part u.note in
+    let p5 = errors u.valid (node_values (placed k i f)) in
+    let p6 = end_text i k u.valid in
+    let there = still_at c.args.locations.now c.put_opening.new.locations k i at c.in_ok-put_opening.ensures.back in
+    let later = still_at c.put_opening.new.locations c.put_children.new.locations k i there c.in_ok-put_children.ensures.back in
     let r = c.from_residual-in_err-put_children-2.result in
     subst (λ l. Puts (o c.args.out.now) (o c.put_children-2.new.out) l r) (noted_pieces c.args.later x k a i f)
-    (then_puts (o c.args.out.now) (o c.put_beginning.new.out) (o c.put_children-2.new.out) p1 (p2 ++ (p3 ++ (p4 ++ (p5)))) r (c.in_ok-put_beginning.ensures a abs)
-    (then_puts (o c.put_beginning.new.out) (o c.put_children.new.out) (o c.put_children-2.new.out) p2 (p3 ++ (p4 ++ (p5))) r (c.in_ok-put_children.ensures.text f (codes ",\"annotations\":") k i at e refl)
-    (then_puts (o c.put_children.new.out) (o c.put_error.new.out) (o c.put_children-2.new.out) p3 (p4 ++ (p5)) r c.in_ok-put_error.ensures
-    (stops_in (o c.put_error.new.out) (o c.put_children-2.new.out) p4 (p5) r c.from_residual-in_err-put_children-2.ensures.0 (c.in_err-put_children-2.ensures.text f (codes ",\"errors\":") k i (still_at l c.put_children.new.locations k i at c.in_ok-put_children.ensures.back) e refl)))))
+    (then_puts (o c.args.out.now) (o c.put_opening.new.out) (o c.put_children-2.new.out) p1 (p2 ++ (p3 ++ (p4 ++ (p5 ++ p6)))) r (c.in_ok-put_opening.ensures.text a abs)
+    (then_puts (o c.put_opening.new.out) (o c.put_closed_annotation.new.out) (o c.put_children-2.new.out) p2 (p3 ++ (p4 ++ (p5 ++ p6))) r c.in_ok-put_closed_annotation.ensures
+    (then_puts (o c.put_closed_annotation.new.out) (o c.put_children.new.out) (o c.put_children-2.new.out) p3 (p4 ++ (p5 ++ p6)) r (c.in_ok-put_children.ensures.text f (codes ",\"annotations\":") k i there e refl)
+    (then_puts (o c.put_children.new.out) (o c.put_error.new.out) (o c.put_children-2.new.out) p4 (p5 ++ p6) r c.in_ok-put_error.ensures
+    (stops_in (o c.put_error.new.out) (o c.put_children-2.new.out) p5 (p6) r c.from_residual-in_err-put_children-2.ensures.0 (c.in_err-put_children-2.ensures.text f (codes ",\"errors\":") k i later e refl))))))
 
 pub put_noted-returns-clause-text : goal.put_noted-returns-clause-text
 put_noted-returns-clause-text g t c =
     λ f k a i at abs e.
     let o = g.O.Out.progress in
     let x = c.args.row.now in
-    let l = c.args.locations.now in
     let u = unit_there x k a i in
-    let p1 = comma_if c.args.later ++ beginning_text u.absolute u.note in
-    let p2 = annotations u.valid (node_values (placed k i f)) in
-    let p3 = error_part u.note in
-    let p4 = errors u.valid (node_values (placed k i f)) in
-    let p5 = end_text i k u.valid in
+    let p1 = opening_text c.args.later a in
+    let p2 = 34 ∷ annotation_part u.note in
+    let p3 = annotations u.valid (node_values (placed k i f)) in
+    let p4 = error_part u.note in
+    let p5 = errors u.valid (node_values (placed k i f)) in
+    let p6 = end_text i k u.valid in
+    let there = still_at c.args.locations.now c.put_opening.new.locations k i at c.in_ok-put_opening.ensures.back in
+    let later = still_at c.put_opening.new.locations c.put_children.new.locations k i there c.in_ok-put_children.ensures.back in
+    let last = still_at c.put_children.new.locations c.put_children-2.new.locations k i later c.in_ok-put_children-2.ensures.back in
     let r = c.put_end.result in
     subst (λ l. Puts (o c.args.out.now) (o c.put_end.new.out) l r) (noted_pieces c.args.later x k a i f)
-    (then_puts (o c.args.out.now) (o c.put_beginning.new.out) (o c.put_end.new.out) p1 (p2 ++ (p3 ++ (p4 ++ (p5)))) r (c.in_ok-put_beginning.ensures a abs)
-    (then_puts (o c.put_beginning.new.out) (o c.put_children.new.out) (o c.put_end.new.out) p2 (p3 ++ (p4 ++ (p5))) r (c.in_ok-put_children.ensures.text f (codes ",\"annotations\":") k i at e refl)
-    (then_puts (o c.put_children.new.out) (o c.put_error.new.out) (o c.put_end.new.out) p3 (p4 ++ (p5)) r c.in_ok-put_error.ensures
-    (then_puts (o c.put_error.new.out) (o c.put_children-2.new.out) (o c.put_end.new.out) p4 (p5) r (c.in_ok-put_children-2.ensures.text f (codes ",\"errors\":") k i (still_at l c.put_children.new.locations k i at c.in_ok-put_children.ensures.back) e refl)
-    (c.put_end.ensures k i (still_at c.put_children.new.locations c.put_children-2.new.locations k i (still_at l c.put_children.new.locations k i at c.in_ok-put_children.ensures.back) c.in_ok-put_children-2.ensures.back))))))
+    (then_puts (o c.args.out.now) (o c.put_opening.new.out) (o c.put_end.new.out) p1 (p2 ++ (p3 ++ (p4 ++ (p5 ++ p6)))) r (c.in_ok-put_opening.ensures.text a abs)
+    (then_puts (o c.put_opening.new.out) (o c.put_closed_annotation.new.out) (o c.put_end.new.out) p2 (p3 ++ (p4 ++ (p5 ++ p6))) r c.in_ok-put_closed_annotation.ensures
+    (then_puts (o c.put_closed_annotation.new.out) (o c.put_children.new.out) (o c.put_end.new.out) p3 (p4 ++ (p5 ++ p6)) r (c.in_ok-put_children.ensures.text f (codes ",\"annotations\":") k i there e refl)
+    (then_puts (o c.put_children.new.out) (o c.put_error.new.out) (o c.put_end.new.out) p4 (p5 ++ p6) r c.in_ok-put_error.ensures
+    (then_puts (o c.put_error.new.out) (o c.put_children-2.new.out) (o c.put_end.new.out) p5 (p6) r (c.in_ok-put_children-2.ensures.text f (codes ",\"errors\":") k i later e refl)
+    (c.put_end.ensures k i last))))))
 
 pub put_silent-returns-in_err-put_opening-clause-text : goal.put_silent-returns-in_err-put_opening-clause-text
 put_silent-returns-in_err-put_opening-clause-text g t c =
@@ -142,7 +173,7 @@ put_silent-returns-in_err-put_opening-clause-text g t c =
     let p3 = closing_text i k u.valid in
     let r = c.from_residual.result in
     subst (λ l. Puts (o c.args.out.now) (o c.put_opening.new.out) l r) (silent_pieces c.args.later x k a i f c.requires.silent)
-    (stops_in (o c.args.out.now) (o c.put_opening.new.out) p1 (p2 ++ (p3)) r c.from_residual.ensures.0 (c.in_err-put_opening.ensures a abs))
+    (stops_in (o c.args.out.now) (o c.put_opening.new.out) p1 (p2 ++ (p3)) r c.from_residual.ensures.0 (c.in_err-put_opening.ensures.text a abs))
 
 pub put_silent-returns-in_err-put_inside-clause-text : goal.put_silent-returns-in_err-put_inside-clause-text
 put_silent-returns-in_err-put_inside-clause-text g t c =
@@ -153,26 +184,27 @@ put_silent-returns-in_err-put_inside-clause-text g t c =
     let p1 = opening_text c.args.later u.absolute in
     let p2 = inside_text u.valid (node_values (placed k i f)) in
     let p3 = closing_text i k u.valid in
+    let there = still_at c.args.locations.now c.put_opening.new.locations k i at c.in_ok-put_opening.ensures.back in
     let r = c.from_residual-in_err-put_inside.result in
     subst (λ l. Puts (o c.args.out.now) (o c.put_inside.new.out) l r) (silent_pieces c.args.later x k a i f c.requires.silent)
-    (then_puts (o c.args.out.now) (o c.put_opening.new.out) (o c.put_inside.new.out) p1 (p2 ++ (p3)) r (c.in_ok-put_opening.ensures a abs)
-    (stops_in (o c.put_opening.new.out) (o c.put_inside.new.out) p2 (p3) r c.from_residual-in_err-put_inside.ensures.0 (c.in_err-put_inside.ensures.text f k i at e)))
+    (then_puts (o c.args.out.now) (o c.put_opening.new.out) (o c.put_inside.new.out) p1 (p2 ++ (p3)) r (c.in_ok-put_opening.ensures.text a abs)
+    (stops_in (o c.put_opening.new.out) (o c.put_inside.new.out) p2 (p3) r c.from_residual-in_err-put_inside.ensures.0 (c.in_err-put_inside.ensures.text f k i there e)))
 
 pub put_silent-returns-clause-text : goal.put_silent-returns-clause-text
 put_silent-returns-clause-text g t c =
     λ f k a i at abs e.
     let o = g.O.Out.progress in
     let x = c.args.row.now in
-    let l = c.args.locations.now in
     let u = unit_there x k a i in
     let p1 = opening_text c.args.later u.absolute in
     let p2 = inside_text u.valid (node_values (placed k i f)) in
     let p3 = closing_text i k u.valid in
+    let there = still_at c.args.locations.now c.put_opening.new.locations k i at c.in_ok-put_opening.ensures.back in
     let r = c.put_closing.result in
     subst (λ l. Puts (o c.args.out.now) (o c.put_closing.new.out) l r) (silent_pieces c.args.later x k a i f c.requires.silent)
-    (then_puts (o c.args.out.now) (o c.put_opening.new.out) (o c.put_closing.new.out) p1 (p2 ++ (p3)) r (c.in_ok-put_opening.ensures a abs)
-    (then_puts (o c.put_opening.new.out) (o c.put_inside.new.out) (o c.put_closing.new.out) p2 (p3) r (c.in_ok-put_inside.ensures.text f k i at e)
-    (c.put_closing.ensures k i (still_at l c.put_inside.new.locations k i at c.in_ok-put_inside.ensures.back))))
+    (then_puts (o c.args.out.now) (o c.put_opening.new.out) (o c.put_closing.new.out) p1 (p2 ++ (p3)) r (c.in_ok-put_opening.ensures.text a abs)
+    (then_puts (o c.put_opening.new.out) (o c.put_inside.new.out) (o c.put_closing.new.out) p2 (p3) r (c.in_ok-put_inside.ensures.text f k i there e)
+    (c.put_closing.ensures k i (still_at c.put_opening.new.locations c.put_inside.new.locations k i there c.in_ok-put_inside.ensures.back))))
 
 pub put_children-returns-then-is_empty-clause-text : goal.put_children-returns-then-is_empty-clause-text
 put_children-returns-then-is_empty-clause-text g t c =
