@@ -10,8 +10,8 @@ ghost use Rattle.js_tree.specs.code.KeptBetween.{AreAdded, AreLonger, AreSame, I
 ghost use Rattle.js_tree.specs.code.Listing.{AreMarkedRows};
 
 use crate::note::Note;
-use crate::relative::marks::{Mark, RelativeMarks};
 use crate::relative::rows::{RelativeRow, RelativeRows, behind};
+use crate::relative::marks::{Mark, RelativeMarks};
 use bumpalo::Bump;
 use js_doc::Memory;
 use std::alloc::Global;

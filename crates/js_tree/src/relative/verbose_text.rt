@@ -1,5 +1,5 @@
 //! The text of the verbose format, from relative rows.
-ghost use Rattle.std.specs.Prelude.{◌≡◌, ◌++◌, ◌∷◌, [], List, ℕ, codes, false, OnOk};
+ghost use Rattle.std.specs.Prelude.{◌≡◌, ◌<◌, ◌++◌, ◌∷◌, [], List, ℕ, codes, false, length, OnOk};
 ghost use Rattle.js_doc.specs.BytesOut.{Puts};
 ghost use Rattle.js_doc.specs.Compact.{comma_if, compact, compact_items};
 ghost use Rattle.js_doc.specs.Value.{items};
@@ -158,11 +158,15 @@ fn put_silent<O: Out>(
 {
     let valid = row.valid;
     put_opening(later, row, locations, out)?;
+    if below.is_empty() {
+        return locations.put_closing(valid, out);
+    }
     put_inside(valid, below, locations, out)?;
-    locations.put_closing(valid, out)
+    locations.put_end(valid, out)
 }
 
-/// Writes what is between the absolute location and the instance location: the trees of the rows, if there are any.
+/// Writes what is between the absolute location and the instance location: the trees of the rows, of which there are
+/// some.
 #[cycle(put_tree)]
 fn put_inside<O: Out>(
     valid: bool,
@@ -172,16 +176,13 @@ fn put_inside<O: Out>(
 ) -> Result<(), Stopped>
     requires { (f : Forest OutputUnit) × AreRowsOfTrees rows.now f × HasRoom locations.old rows.now }
     ensures text { (f : Forest OutputUnit) (keyword instance : List ℕ) → AreAt locations.old keyword instance
-        → AreRowsOfTrees rows.now f
+        → AreRowsOfTrees rows.now f → 0 < length rows.now
         → Puts (O.progress out.old) (O.progress out.new)
         (inside_text valid (node_values (placed keyword instance f))) result }
     ensures back { OnOk result (IsBack locations.old locations.new) }
 {
-    if rows.is_empty() {
-        return out.put(b"\",\"instanceLocation\":\"");
-    }
     put_children_start(valid, out)?;
-    put_trees(rows, b"],\"instanceLocation\":\"", locations, out)
+    put_trees(rows, b"]", locations, out)
 }
 
 /// Writes the trees of the rows, with commas between them, and then `end`, which begins with the closing bracket.

@@ -8,14 +8,14 @@ use Rattle.js_tree.specs.Relative.{escaped_tree, placed, placed_tree}
 use Rattle.js_tree.specs.RelativeState.{relative_row}
 use Rattle.js_tree.specs.Result.{ResultTree}
 use Rattle.js_tree.specs.code.NodeText.{annotation_part, end_text, error_part}
-use Rattle.js_tree.specs.code.RelativeText.{children_start, closing_text, inside_text, opening_text, unit_there}
+use Rattle.js_tree.specs.code.RelativeText.{children_start, inside_text, opening_text, unit_there}
 use Rattle.js_tree.proofs.ChildTexts.{rest_of}
 use Rattle.js_tree.proofs.EscapedRows.{at_below, is_absolute, next_tree, no_trees, some_trees, still_at}
 use Rattle.js_tree.proofs.FlatRows.{root_row, rows_below, shorter}
 use Rattle.js_tree.proofs.Nested.{is_none, not_none}
 use Rattle.js_tree.proofs.NodeTexts.{annotations, errors}
 use Rattle.js_tree.proofs.Pieces.{nothing_goes, stops_in, then_puts}
-use Rattle.js_tree.proofs.RelativeTexts.{back_again, children_placed, no_children_placed, none_there, noted_pieces, root_there, room_for_part, silent_pieces, some_there, stays_there, stops_last, tree_next}
+use Rattle.js_tree.proofs.RelativeTexts.{back_again, children_placed, leaf_pieces, no_children_placed, noted_pieces, root_there, room_for_part, silent_pieces, some_there, stays_there, stops_last, tree_next}
 use Rattle.js_tree.proofs.relative.verbose_text.+put_tree.Goals as goal
 
 pub put_tree-returns-in_err-put_node-clause-text : goal.put_tree-returns-in_err-put_node-clause-text
@@ -170,10 +170,24 @@ put_silent-returns-in_err-put_opening-clause-text g t c =
     let u = unit_there x k a i in
     let p1 = opening_text c.args.later u.absolute in
     let p2 = inside_text u.valid (node_values (placed k i f)) in
-    let p3 = closing_text i k u.valid in
+    let p3 = end_text i k u.valid in
     let r = c.from_residual.result in
     subst (λ l. Puts (o c.args.out.now) (o c.put_opening.new.out) l r) (silent_pieces c.args.later x k a i f c.requires.silent)
-    (stops_in (o c.args.out.now) (o c.put_opening.new.out) p1 (p2 ++ (p3)) r c.from_residual.ensures.0 (c.in_err-put_opening.ensures.text a abs))
+    (stops_in (o c.args.out.now) (o c.put_opening.new.out) p1 (p2 ++ p3) r c.from_residual.ensures.0 (c.in_err-put_opening.ensures.text a abs))
+
+pub put_silent-returns-then-is_empty-clause-text : goal.put_silent-returns-then-is_empty-clause-text
+put_silent-returns-then-is_empty-clause-text g t c =
+    λ f k a i at abs e.
+    let o = g.O.Out.progress in
+    let x = c.args.row.now in
+    let u = unit_there x k a i in
+    let p1 = opening_text c.args.later u.absolute in
+    let p3 = end_text i k u.valid in
+    let there = still_at c.args.locations.now c.put_opening.new.locations k i at c.in_ok-put_opening.ensures.back in
+    let none : length c.args.below.now ≡ 0 = is_none (length c.args.below.now) c.if-is_empty.ensures in
+    let r = c.put_closing.result in
+    subst (λ l. Puts (o c.args.out.now) (o c.put_closing.new.out) l r) (leaf_pieces c.args.later x k a i c.args.below.now f c.requires.silent none e)
+    (then_puts (o c.args.out.now) (o c.put_opening.new.out) (o c.put_closing.new.out) p1 (34 ∷ p3) r (c.in_ok-put_opening.ensures.text a abs) (c.put_closing.ensures k i there))
 
 pub put_silent-returns-in_err-put_inside-clause-text : goal.put_silent-returns-in_err-put_inside-clause-text
 put_silent-returns-in_err-put_inside-clause-text g t c =
@@ -183,12 +197,13 @@ put_silent-returns-in_err-put_inside-clause-text g t c =
     let u = unit_there x k a i in
     let p1 = opening_text c.args.later u.absolute in
     let p2 = inside_text u.valid (node_values (placed k i f)) in
-    let p3 = closing_text i k u.valid in
+    let p3 = end_text i k u.valid in
     let there = still_at c.args.locations.now c.put_opening.new.locations k i at c.in_ok-put_opening.ensures.back in
+    let some : 0 < length c.args.below.now = not_none (length c.args.below.now) c.if-is_empty.ensures in
     let r = c.from_residual-in_err-put_inside.result in
     subst (λ l. Puts (o c.args.out.now) (o c.put_inside.new.out) l r) (silent_pieces c.args.later x k a i f c.requires.silent)
-    (then_puts (o c.args.out.now) (o c.put_opening.new.out) (o c.put_inside.new.out) p1 (p2 ++ (p3)) r (c.in_ok-put_opening.ensures.text a abs)
-    (stops_in (o c.put_opening.new.out) (o c.put_inside.new.out) p2 (p3) r c.from_residual-in_err-put_inside.ensures.0 (c.in_err-put_inside.ensures.text f k i there e)))
+    (then_puts (o c.args.out.now) (o c.put_opening.new.out) (o c.put_inside.new.out) p1 (p2 ++ p3) r (c.in_ok-put_opening.ensures.text a abs)
+    (stops_in (o c.put_opening.new.out) (o c.put_inside.new.out) p2 p3 r c.from_residual-in_err-put_inside.ensures.0 (c.in_err-put_inside.ensures.text f k i there e some)))
 
 pub put_silent-returns-clause-text : goal.put_silent-returns-clause-text
 put_silent-returns-clause-text g t c =
@@ -198,13 +213,15 @@ put_silent-returns-clause-text g t c =
     let u = unit_there x k a i in
     let p1 = opening_text c.args.later u.absolute in
     let p2 = inside_text u.valid (node_values (placed k i f)) in
-    let p3 = closing_text i k u.valid in
+    let p3 = end_text i k u.valid in
     let there = still_at c.args.locations.now c.put_opening.new.locations k i at c.in_ok-put_opening.ensures.back in
-    let r = c.put_closing.result in
-    subst (λ l. Puts (o c.args.out.now) (o c.put_closing.new.out) l r) (silent_pieces c.args.later x k a i f c.requires.silent)
-    (then_puts (o c.args.out.now) (o c.put_opening.new.out) (o c.put_closing.new.out) p1 (p2 ++ (p3)) r (c.in_ok-put_opening.ensures.text a abs)
-    (then_puts (o c.put_opening.new.out) (o c.put_inside.new.out) (o c.put_closing.new.out) p2 (p3) r (c.in_ok-put_inside.ensures.text f k i there e)
-    (c.put_closing.ensures k i (still_at c.put_opening.new.locations c.put_inside.new.locations k i there c.in_ok-put_inside.ensures.back))))
+    let some : 0 < length c.args.below.now = not_none (length c.args.below.now) c.if-is_empty.ensures in
+    let last = still_at c.put_opening.new.locations c.put_inside.new.locations k i there c.in_ok-put_inside.ensures.back in
+    let r = c.put_end.result in
+    subst (λ l. Puts (o c.args.out.now) (o c.put_end.new.out) l r) (silent_pieces c.args.later x k a i f c.requires.silent)
+    (then_puts (o c.args.out.now) (o c.put_opening.new.out) (o c.put_end.new.out) p1 (p2 ++ p3) r (c.in_ok-put_opening.ensures.text a abs)
+    (then_puts (o c.put_opening.new.out) (o c.put_inside.new.out) (o c.put_end.new.out) p2 p3 r (c.in_ok-put_inside.ensures.text f k i there e some)
+    (c.put_end.ensures k i last)))
 
 pub put_children-returns-then-is_empty-clause-text : goal.put_children-returns-then-is_empty-clause-text
 put_children-returns-then-is_empty-clause-text g t c =
@@ -237,35 +254,25 @@ put_children-returns-clause-text g t c =
     subst (λ l. Puts (o c.args.out.now) (o c.put_trees.new.out) l r) (sym (children_placed name c.args.start.now c.args.here k i f (some_trees rows f e some) here start))
     (then_puts (o c.args.out.now) (o c.put.new.self) (o c.put_trees.new.out) c.args.start.now rest r c.in_ok-put.ensures (subst (λ l. Puts (o c.put.new.self) (o c.put_trees.new.out) l r) (append-nil rest) (c.put_trees.ensures.text f [] k i at e refl)))
 
-pub put_inside-returns-then-is_empty-clause-text : goal.put_inside-returns-then-is_empty-clause-text
-put_inside-returns-then-is_empty-clause-text g t c =
-    λ f k i at e.
-    let o = g.O.Out.progress in
-    let rows = c.args.rows.now in
-    let none : length rows ≡ 0 = is_none (length rows) c.if-is_empty.ensures in
-    subst (λ l. Puts (o c.args.out.now) (o c.put.new.self) l c.put.result) (none_there c.args.valid k i rows f none e) c.put.ensures
-
 pub put_inside-returns-in_err-put_children_start-clause-text : goal.put_inside-returns-in_err-put_children_start-clause-text
 put_inside-returns-in_err-put_children_start-clause-text g t c =
-    λ f k i at e.
+    λ f k i at e some.
     let o = g.O.Out.progress in
     let rows = c.args.rows.now in
-    let some : 0 < length rows = not_none (length rows) c.if-is_empty.ensures in
-    let rest = compact_items false (items (node_values (placed k i f))) ++ codes ",\"instanceLocation\":\"" in
+    let rest = compact_items false (items (node_values (placed k i f))) in
     let r = c.from_residual.result in
     subst (λ l. Puts (o c.args.out.now) (o c.put_children_start.new.out) l r) (some_there c.args.valid k i f (some_trees rows f e some))
     (stops_in (o c.args.out.now) (o c.put_children_start.new.out) (children_start c.args.valid) rest r c.from_residual.ensures.0 c.in_err-put_children_start.ensures)
 
 pub put_inside-returns-clause-text : goal.put_inside-returns-clause-text
 put_inside-returns-clause-text g t c =
-    λ f k i at e.
+    λ f k i at e some.
     let o = g.O.Out.progress in
     let rows = c.args.rows.now in
-    let some : 0 < length rows = not_none (length rows) c.if-is_empty.ensures in
-    let rest = compact_items false (items (node_values (placed k i f))) ++ codes ",\"instanceLocation\":\"" in
+    let rest = compact_items false (items (node_values (placed k i f))) in
     let r = c.put_trees.result in
     subst (λ l. Puts (o c.args.out.now) (o c.put_trees.new.out) l r) (some_there c.args.valid k i f (some_trees rows f e some))
-    (then_puts (o c.args.out.now) (o c.put_children_start.new.out) (o c.put_trees.new.out) (children_start c.args.valid) rest r c.in_ok-put_children_start.ensures (c.put_trees.ensures.text f (codes ",\"instanceLocation\":\"") k i at e refl))
+    (then_puts (o c.args.out.now) (o c.put_children_start.new.out) (o c.put_trees.new.out) (children_start c.args.valid) rest r c.in_ok-put_children_start.ensures (subst (λ l. Puts (o c.put_children_start.new.out) (o c.put_trees.new.out) l r) (append-nil rest) (c.put_trees.ensures.text f [] k i at e refl)))
 
 pub put_trees-loop-next-init : goal.put_trees-loop-next-init
 put_trees-loop-next-init g t c = (omega arith, stays_there c.args.locations.now, λ f rest e. (f, e, λ k i at. starts (g.O.Out.progress c.args.out.now) _))
