@@ -81,7 +81,7 @@ pub unit_in_parts : (later : Bool) (u : OutputUnit) → (comma_if later ++ head_
 unit_in_parts later u =
     append_assoc (comma_if later) (head_text u) (error_part u.note ++ tail_text u) ∙ ap (λ l. comma_if later ++ l) (leaf_text_is u u.note refl)
 
-pub unit_pieces : (later : Bool) (u : OutputUnit) → opening_text later u.absolute ++ ((34 ∷ annotation_part u.note) ++ (error_part u.note ++ tail_text u)) ≡ comma_if later ++ compact (node_value u [])
+pub unit_pieces : (later : Bool) (u : OutputUnit) → opening_text later u.absolute ++ 34 ∷ (annotation_part u.note ++ (error_part u.note ++ tail_text u)) ≡ comma_if later ++ compact (node_value u [])
 unit_pieces later u =
     sym (append_assoc (opening_text later u.absolute) (34 ∷ annotation_part u.note) (error_part u.note ++ tail_text u))
     ∙ (ap (λ l. l ++ (error_part u.note ++ tail_text u)) (beginning_in_parts later u.absolute u.note) ∙ unit_in_parts later u)

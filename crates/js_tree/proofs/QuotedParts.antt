@@ -5,7 +5,7 @@ use Rattle.js_doc.specs.Compact.{comma_if, compact, compact_items, quoted}
 use Rattle.js_doc.specs.Value.{Value, items}
 use Rattle.js_tree.specs.Form.{node_value}
 use Rattle.js_tree.specs.Locations.{instance_start, keyword_start}
-use Rattle.js_tree.specs.Note.{Note, silent}
+use Rattle.js_tree.specs.Note.{Note, error, silent}
 use Rattle.js_tree.specs.OutputUnit.{OutputUnit}
 use Rattle.js_tree.specs.code.NodeText.{annotation_part, beginning_text, end_text, error_part, valid_text}
 use Rattle.js_tree.specs.code.RelativeText.{children_start, inside_text, opening_text}
@@ -80,3 +80,13 @@ pub behind_mark : (found instance keyword : List ℕ) (valid : Bool) → found �
 behind_mark found instance keyword valid e =
     let rest = after_instance keyword valid in
     ap (λ l. drop 1 l ++ rest) e ∙ (append_assoc (codes ",\"instanceLocation\":\"") (escape instance) rest ∙ end_in_parts instance keyword valid)
+
+-- ---- a node without children, from the closing mark of its absolute location on
+
+pub rest_of_error : (note : Note) (reason end : List ℕ) → note ≡ error reason → codes "\",\"error\":\"" ++ (escape reason ++ 34 ∷ end) ≡ 34 ∷ (annotation_part note ++ (error_part note ++ end))
+rest_of_error note reason end e =
+    ap (λ l. codes "\",\"error\":" ++ l) (quoted_then reason end)
+    ∙ ap (λ n. 34 ∷ (annotation_part n ++ (error_part n ++ end))) (sym e)
+
+pub rest_of_other : (note : Note) (end : List ℕ) → error_part note ≡ [] → (34 ∷ annotation_part note) ++ end ≡ 34 ∷ (annotation_part note ++ (error_part note ++ end))
+rest_of_other note end e = ap (λ l. 34 ∷ (annotation_part note ++ (l ++ end))) (sym e)

@@ -13,41 +13,10 @@ returns-in_err-put_opening-clause-text g c =
     let o = g.O.Out.progress in
     let u = unit_there c.args.row.now k a i in
     let p1 = opening_text c.args.later a in
-    let p2 = 34 ∷ annotation_part u.note in
-    let p3 = error_part u.note in
-    let p4 = tail_text u in
+    let p2 = 34 ∷ (annotation_part u.note ++ (error_part u.note ++ tail_text u)) in
     let r = c.from_residual.result in
     subst (λ l. Puts (o c.args.out.now) (o c.put_opening.new.out) l r) (unit_pieces c.args.later u)
-    (stops_in (o c.args.out.now) (o c.put_opening.new.out) p1 (p2 ++ (p3 ++ p4)) r c.from_residual.ensures.0 (c.in_err-put_opening.ensures.text a abs))
-
-pub returns-in_err-put_closed_annotation-clause-text : goal.returns-in_err-put_closed_annotation-clause-text
-returns-in_err-put_closed_annotation-clause-text g c =
-    λ k a i at abs.
-    let o = g.O.Out.progress in
-    let u = unit_there c.args.row.now k a i in
-    let p1 = opening_text c.args.later a in
-    let p2 = 34 ∷ annotation_part u.note in
-    let p3 = error_part u.note in
-    let p4 = tail_text u in
-    let r = c.from_residual-in_err-put_closed_annotation.result in
-    subst (λ l. Puts (o c.args.out.now) (o c.put_closed_annotation.new.out) l r) (unit_pieces c.args.later u)
-    (then_puts (o c.args.out.now) (o c.put_opening.new.out) (o c.put_closed_annotation.new.out) p1 (p2 ++ (p3 ++ p4)) r (c.in_ok-put_opening.ensures.text a abs)
-    (stops_in (o c.put_opening.new.out) (o c.put_closed_annotation.new.out) p2 (p3 ++ p4) r c.from_residual-in_err-put_closed_annotation.ensures.0 c.in_err-put_closed_annotation.ensures))
-
-pub returns-in_err-put_error-clause-text : goal.returns-in_err-put_error-clause-text
-returns-in_err-put_error-clause-text g c =
-    λ k a i at abs.
-    let o = g.O.Out.progress in
-    let u = unit_there c.args.row.now k a i in
-    let p1 = opening_text c.args.later a in
-    let p2 = 34 ∷ annotation_part u.note in
-    let p3 = error_part u.note in
-    let p4 = tail_text u in
-    let r = c.from_residual-in_err-put_error.result in
-    subst (λ l. Puts (o c.args.out.now) (o c.put_error.new.out) l r) (unit_pieces c.args.later u)
-    (then_puts (o c.args.out.now) (o c.put_opening.new.out) (o c.put_error.new.out) p1 (p2 ++ (p3 ++ p4)) r (c.in_ok-put_opening.ensures.text a abs)
-    (then_puts (o c.put_opening.new.out) (o c.put_closed_annotation.new.out) (o c.put_error.new.out) p2 (p3 ++ p4) r c.in_ok-put_closed_annotation.ensures
-    (stops_in (o c.put_closed_annotation.new.out) (o c.put_error.new.out) p3 (p4) r c.from_residual-in_err-put_error.ensures.0 c.in_err-put_error.ensures)))
+    (stops_in (o c.args.out.now) (o c.put_opening.new.out) p1 p2 r c.from_residual.ensures.0 (c.in_err-put_opening.ensures.text a abs))
 
 pub returns-clause-text : goal.returns-clause-text
 returns-clause-text g c =
@@ -55,13 +24,8 @@ returns-clause-text g c =
     let o = g.O.Out.progress in
     let u = unit_there c.args.row.now k a i in
     let p1 = opening_text c.args.later a in
-    let p2 = 34 ∷ annotation_part u.note in
-    let p3 = error_part u.note in
-    let p4 = tail_text u in
+    let p2 = 34 ∷ (annotation_part u.note ++ (error_part u.note ++ tail_text u)) in
     let there = still_at c.args.locations.now c.put_opening.new.locations k i at c.in_ok-put_opening.ensures.back in
-    let r = c.put_end.result in
-    subst (λ l. Puts (o c.args.out.now) (o c.put_end.new.out) l r) (unit_pieces c.args.later u)
-    (then_puts (o c.args.out.now) (o c.put_opening.new.out) (o c.put_end.new.out) p1 (p2 ++ (p3 ++ p4)) r (c.in_ok-put_opening.ensures.text a abs)
-    (then_puts (o c.put_opening.new.out) (o c.put_closed_annotation.new.out) (o c.put_end.new.out) p2 (p3 ++ p4) r c.in_ok-put_closed_annotation.ensures
-    (then_puts (o c.put_closed_annotation.new.out) (o c.put_error.new.out) (o c.put_end.new.out) p3 (p4) r c.in_ok-put_error.ensures
-    (c.put_end.ensures k i there))))
+    let r = c.put_rest.result in
+    subst (λ l. Puts (o c.args.out.now) (o c.put_rest.new.out) l r) (unit_pieces c.args.later u)
+    (then_puts (o c.args.out.now) (o c.put_opening.new.out) (o c.put_rest.new.out) p1 p2 r (c.in_ok-put_opening.ensures.text a abs) (c.put_rest.ensures k i there))
