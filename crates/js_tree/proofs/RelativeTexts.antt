@@ -75,6 +75,11 @@ leaf_pieces later x keyword absolute instance rows f e h are =
     leaf_in_parts later u e
     ∙ ap (λ g. comma_if later ++ compact (node_value u (node_values (placed keyword instance g)))) (sym (no_trees rows 0 f are (omega (arith, h))))
 
+pub without_trees : (later : Bool) (u : OutputUnit) (keyword instance : List ℕ) (rows : List RelativeRow) (f : Forest OutputUnit) → length rows ≡ 0 → AreRowsOfTrees rows f
+    → comma_if later ++ compact (node_value u []) ≡ comma_if later ++ compact (node_value u (node_values (placed keyword instance f)))
+without_trees later u keyword instance rows f h are =
+    ap (λ g. comma_if later ++ compact (node_value u (node_values (placed keyword instance g)))) (sym (no_trees rows 0 f are (omega (arith, h))))
+
 -- the unit of a tree's root
 pub unit_is_there : (k i : List ℕ) (x : RelativeRow) (u : OutputUnit) → (relative_row x).0 ≡ escaped_unit u → unit_there x (k ++ u.keyword) u.absolute (i ++ u.instance) ≡ placed_unit k i u
 unit_is_there k i x u e =

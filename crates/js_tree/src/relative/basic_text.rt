@@ -131,7 +131,7 @@ fn put_noted<O: Out>(
 }
 
 /// Writes the unit as a node without children; after a comma, if a unit was written before.
-fn put_unit<O: Out>(
+pub(crate) fn put_unit<O: Out>(
     later: bool,
     row: &RelativeRow,
     locations: &mut Locations,

@@ -15,6 +15,7 @@ ghost use Rattle.js_tree.specs.Seen.{note_of};
 ghost use Rattle.js_tree.specs.code.NodeText.{beginning_text, given_text};
 ghost use Rattle.js_tree.specs.code.RelativeText.{AreRowsOfTree, AreRowsOfTrees, IsAbsolute, children_start, inside_text, opening_text, unit_there};
 
+use crate::relative::basic_text::put_unit;
 use crate::relative::locations::Locations;
 use crate::relative::rows::{RelativeRow, RelativeRows};
 use crate::writing::node_text::{put_annotation, put_closed_annotation, put_error};
@@ -102,6 +103,9 @@ fn put_noted<O: Out>(
         (node_values (placed keyword instance f)))) result }
     ensures back { OnOk result (IsBack locations.old locations.new) }
 {
+    if below.is_empty() {
+        return put_unit(later, row, locations, out);
+    }
     let valid = row.valid;
     put_opening(later, row, locations, out)?;
     put_closed_annotation(&row.note, out)?;

@@ -15,7 +15,7 @@ use Rattle.js_tree.proofs.FlatRows.{root_row, rows_below, shorter}
 use Rattle.js_tree.proofs.Nested.{is_none, not_none}
 use Rattle.js_tree.proofs.NodeTexts.{annotations, errors}
 use Rattle.js_tree.proofs.Pieces.{nothing_goes, stops_in, then_puts}
-use Rattle.js_tree.proofs.RelativeTexts.{back_again, children_placed, leaf_pieces, no_children_placed, noted_pieces, root_there, room_for_part, silent_pieces, some_there, stays_there, stops_last, tree_next}
+use Rattle.js_tree.proofs.RelativeTexts.{back_again, children_placed, leaf_pieces, no_children_placed, noted_pieces, root_there, room_for_part, silent_pieces, some_there, stays_there, stops_last, tree_next, without_trees}
 use Rattle.js_tree.proofs.relative.verbose_text.+put_tree.Goals as goal
 
 pub put_tree-returns-in_err-put_node-clause-text : goal.put_tree-returns-in_err-put_node-clause-text
@@ -43,6 +43,14 @@ put_tree-returns-clause-text g t c =
     let down = at_below c.args.locations.now c.go_to_node.new.self x t'.root k i at c.go_to_node.ensures root in
     let is = root_there c.args.later k i x t' root in
     subst (Goes (o c.args.out.now) (o c.put_node.new.out)) is (c.in_ok-put_node.ensures.text t'.below (k ++ t'.root.keyword) t'.root.absolute (i ++ t'.root.instance) down (is_absolute x t'.root root) below)
+
+pub put_noted-returns-then-is_empty-clause-text : goal.put_noted-returns-then-is_empty-clause-text
+put_noted-returns-then-is_empty-clause-text g t c =
+    λ f k a i at abs e.
+    let o = g.O.Out.progress in
+    let below = c.args.below.now in
+    let none : length below ≡ 0 = is_none (length below) c.if-is_empty.ensures in
+    subst (λ l. Puts (o c.args.out.now) (o c.put_unit.new.out) l c.put_unit.result) (without_trees c.args.later (unit_there c.args.row.now k a i) k i below f none e) (c.put_unit.ensures.text k a i at abs)
 
 pub put_noted-returns-in_err-put_opening-clause-text : goal.put_noted-returns-in_err-put_opening-clause-text
 put_noted-returns-in_err-put_opening-clause-text g t c =
