@@ -118,7 +118,8 @@ fn put_noted<O: Out>(
     locations: &mut Locations,
     out: &mut O,
 ) -> Result<bool, Stopped>
-    ensures listed { (keyword absolute instance : List ℕ) → AreAt locations.old keyword instance → IsAbsolute row.now absolute
+    ensures listed { (keyword absolute instance : List ℕ) → AreAt locations.old keyword instance
+        → IsAbsolute row.now absolute
         → AreListed (O.progress out.old) (O.progress out.new) later
         (if_noted (unit_there row.now keyword absolute instance)) result }
     ensures back { IsBack locations.old locations.new }
@@ -137,7 +138,8 @@ pub(crate) fn put_unit<O: Out>(
     locations: &mut Locations,
     out: &mut O,
 ) -> Result<(), Stopped>
-    ensures text { (keyword absolute instance : List ℕ) → AreAt locations.old keyword instance → IsAbsolute row.now absolute
+    ensures text { (keyword absolute instance : List ℕ) → AreAt locations.old keyword instance
+        → IsAbsolute row.now absolute
         → Puts (O.progress out.old) (O.progress out.new)
         (comma_if later ++ compact (node_value (unit_there row.now keyword absolute instance) [])) result }
     ensures back { IsBack locations.old locations.new }
@@ -155,7 +157,8 @@ fn put_rest<O: Out>(
 ) -> Result<(), Stopped>
     ensures { (keyword instance : List ℕ) → AreAt locations.now keyword instance
         → Puts (O.progress out.old) (O.progress out.new)
-        (34 ∷ (annotation_part (note_of note.now) ++ (error_part (note_of note.now) ++ end_text instance keyword valid)))
+        (34 ∷ (annotation_part (note_of note.now)
+        ++ (error_part (note_of note.now) ++ end_text instance keyword valid)))
         result }
 {
     match reason_of(note) {
