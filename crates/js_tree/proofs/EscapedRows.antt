@@ -5,7 +5,7 @@ use Rattle.json.specs.Print.{escape, escape_byte}
 use Rattle.js_tree.specs.Flat.{flat_of}
 use Rattle.js_tree.specs.Forest.{Forest, empty, tree, node_count}
 use Rattle.js_tree.specs.Marks.{left_trees, mark_of, marked}
-use Rattle.js_tree.specs.Locations.{AreAt, HasRoomFor, IsBack, IsDown, keyword_start}
+use Rattle.js_tree.specs.Locations.{AreAt, HasRoomFor, IsBack, IsDown, instance_start, keyword_start}
 use Rattle.js_tree.specs.OutputUnit.{OutputUnit}
 use Rattle.js_tree.specs.Relative.{escaped, escaped_tree, escaped_unit}
 use Rattle.js_tree.specs.RelativeState.{keyword_part, relative_row}
@@ -116,11 +116,11 @@ pub at_below : (old new : Locations) (x : RelativeRow) (u : OutputUnit) (keyword
     → AreAt new (keyword ++ u.keyword) (instance ++ u.instance)
 at_below old new x u keyword instance at d e = record {
   keyword_is = further_behind keyword_start new.keyword.items old.keyword.items (keyword_part x) keyword u.keyword d.longer_keyword at.keyword_is (ap (λ y. y.keyword) e);
-  instance_is = further new.instance.items old.instance.items x.instance.now instance u.instance d.longer_instance at.instance_is (ap (λ y. y.instance) e);
+  instance_is = further_behind instance_start new.instance.items old.instance.items x.instance.now instance u.instance d.longer_instance at.instance_is (ap (λ y. y.instance) e);
 }
 
 pub still_at : (old new : Locations) (keyword instance : List ℕ) → AreAt old keyword instance → IsBack old new → AreAt new keyword instance
 still_at old new keyword instance at b = record { keyword_is = b.same_keyword ∙ at.keyword_is; instance_is = b.same_instance ∙ at.instance_is }
 
 pub at_root : (at : Locations) (rows : RelativeRows) → HasRoomFor at rows → AreAt at [] []
-at_root at rows room = record { keyword_is = room.above_root.0 ∙ sym (append-nil keyword_start); instance_is = room.above_root.1 }
+at_root at rows room = record { keyword_is = room.above_root.0 ∙ sym (append-nil keyword_start); instance_is = room.above_root.1 ∙ sym (append-nil instance_start) }

@@ -28,6 +28,7 @@ pub mod MovesAreSteps
 pub mod Nested
 pub mod NodeTexts
 pub mod NotedRows
+pub mod OpeningKept
 pub mod Pieces
 pub mod PlacedRows
 pub mod Placing

@@ -14,9 +14,9 @@ use Rattle.js_tree.specs.OutputUnit.{OutputUnit, noted}
 use Rattle.js_tree.specs.Relative.{escaped, escaped_tree, escaped_unit, relative_tree}
 use Rattle.js_tree.specs.RelativeState.{AreRowsOf, relative_row}
 use Rattle.js_tree.specs.Result.{ResultTree, has_verdict, pruned, units}
-use Rattle.js_tree.specs.code.NodeText.{error_part, head_text, list_start, tail_text, valid_text}
+use Rattle.js_tree.specs.code.NodeText.{annotation_part, error_part, head_text, list_start, tail_text, valid_text}
 use Rattle.js_tree.specs.code.Listing.{AllListed, AreListed, if_noted, later_after, leaves, listed, listed_tree, may_list, values_text}
-use Rattle.js_tree.specs.code.RelativeText.{AreRowsOfTree, AreRowsOfTrees, unit_there}
+use Rattle.js_tree.specs.code.RelativeText.{AreRowsOfTree, AreRowsOfTrees, opening_text, unit_there}
 use Rattle.js_tree.specs.declared.relative.rows.RelativeRow.{RelativeRow}
 use Rattle.js_tree.specs.declared.relative.rows.RelativeRows.{RelativeRows}
 use Rattle.js_tree.proofs.EscapedRows.{NextTree, no_trees}
@@ -25,6 +25,7 @@ use Rattle.js_tree.proofs.Marks.{flat_form-flat_of}
 use Rattle.js_tree.proofs.NodeTexts.{leaf_text_is, list_text_is}
 use Rattle.js_tree.proofs.Pieces.{nothing_goes}
 use Rattle.js_tree.proofs.Placing.{placed_tree_again}
+use Rattle.js_tree.proofs.QuotedParts.{beginning_in_parts}
 use Rattle.js_tree.proofs.RelativeTexts.{unit_is_there}
 
 -- ---- values after values
@@ -79,6 +80,11 @@ its_note u false e h = absurd cc
 pub unit_in_parts : (later : Bool) (u : OutputUnit) → (comma_if later ++ head_text u) ++ (error_part u.note ++ tail_text u) ≡ comma_if later ++ compact (node_value u [])
 unit_in_parts later u =
     append_assoc (comma_if later) (head_text u) (error_part u.note ++ tail_text u) ∙ ap (λ l. comma_if later ++ l) (leaf_text_is u u.note refl)
+
+pub unit_pieces : (later : Bool) (u : OutputUnit) → opening_text later u.absolute ++ 34 ∷ (annotation_part u.note ++ (error_part u.note ++ tail_text u)) ≡ comma_if later ++ compact (node_value u [])
+unit_pieces later u =
+    sym (append_assoc (opening_text later u.absolute) (34 ∷ annotation_part u.note) (error_part u.note ++ tail_text u))
+    ∙ (ap (λ l. l ++ (error_part u.note ++ tail_text u)) (beginning_in_parts later u.absolute u.note) ∙ unit_in_parts later u)
 
 -- ---- the units of a tree
 

@@ -16,14 +16,14 @@ use Rattle.js_tree.specs.Relative.{escaped_unit, placed, placed_tree, placed_uni
 use Rattle.js_tree.specs.RelativeState.{keyword_part, relative_row}
 use Rattle.js_tree.specs.Result.{ResultTree}
 use Rattle.js_tree.specs.Seen.{note_of}
-use Rattle.js_tree.specs.code.NodeText.{beginning_text, end_text, error_part, given_text}
-use Rattle.js_tree.specs.code.RelativeText.{AreRowsOfTrees, children_start, closing_text, inside_text, opening_text, unit_there}
+use Rattle.js_tree.specs.code.NodeText.{annotation_part, beginning_text, end_text, error_part, given_text}
+use Rattle.js_tree.specs.code.RelativeText.{AreRowsOfTrees, children_start, inside_text, opening_text, unit_there}
 use Rattle.js_tree.specs.declared.relative.locations.Locations.{Locations}
 use Rattle.js_tree.specs.declared.relative.rows.RelativeRow.{RelativeRow}
 use Rattle.js_tree.proofs.EscapedRows.{no_trees}
 use Rattle.js_tree.proofs.FlatRows.{SomeTree}
 use Rattle.js_tree.proofs.NodeTexts.{annotations, errors, no_children, pieces_are}
-use Rattle.js_tree.proofs.QuotedParts.{none_inside, silent_in_parts, some_inside}
+use Rattle.js_tree.proofs.QuotedParts.{beginning_in_parts, leaf_in_parts, silent_in_parts, some_inside}
 
 -- ---- room for some of the rows
 
@@ -40,20 +40,45 @@ room_for_part l m rows n k h b = record {
       omega (arith, e, h.for_instance, b.instance_room, part_le (λ r. length r.instance.now) rows n k);
 }
 
+pub room_still : (l m : Locations) (rows : List RelativeRow) → HasRoom l rows → IsBack l m → HasRoom m rows
+room_still l m rows h b = record {
+  for_keyword =
+      let e = ap length b.same_keyword in
+      omega (arith, e, h.for_keyword, b.keyword_room);
+  for_instance =
+      let e = ap length b.same_instance in
+      omega (arith, e, h.for_instance, b.instance_room);
+}
+
 -- ---- the pieces of a node
 
 pub noted_pieces : (later : Bool) (x : RelativeRow) (keyword absolute instance : List ℕ) (f : Forest OutputUnit) → let u = unit_there x keyword absolute instance in let children = node_values (placed keyword instance f) in
-    (comma_if later ++ beginning_text absolute u.note) ++ (annotations u.valid children ++ (error_part u.note ++ (errors u.valid children ++ end_text instance keyword u.valid)))
+    opening_text later absolute ++ ((34 ∷ annotation_part u.note) ++ (annotations u.valid children ++ (error_part u.note ++ (errors u.valid children ++ end_text instance keyword u.valid))))
     ≡ comma_if later ++ compact (node_value u children)
 noted_pieces later x keyword absolute instance f =
     let u = unit_there x keyword absolute instance in
     let children = node_values (placed keyword instance f) in
-    append_assoc (comma_if later) (beginning_text absolute u.note) (annotations u.valid children ++ (error_part u.note ++ (errors u.valid children ++ end_text instance keyword u.valid)))
-    ∙ ap (λ l. comma_if later ++ l) (pieces_are u children u.valid u.note refl refl)
+    let rest = annotations u.valid children ++ (error_part u.note ++ (errors u.valid children ++ end_text instance keyword u.valid)) in
+    sym (append_assoc (opening_text later absolute) (34 ∷ annotation_part u.note) rest)
+    ∙ (ap (λ l. l ++ rest) (beginning_in_parts later absolute u.note)
+    ∙ (append_assoc (comma_if later) (beginning_text absolute u.note) rest
+    ∙ ap (λ l. comma_if later ++ l) (pieces_are u children u.valid u.note refl refl)))
 
 pub silent_pieces : (later : Bool) (x : RelativeRow) (keyword absolute instance : List ℕ) (f : Forest OutputUnit) → note_of x.note ≡ silent → let u = unit_there x keyword absolute instance in let children = node_values (placed keyword instance f) in
-    opening_text later absolute ++ (inside_text u.valid children ++ closing_text instance keyword u.valid) ≡ comma_if later ++ compact (node_value u children)
+    opening_text later absolute ++ (inside_text u.valid children ++ end_text instance keyword u.valid) ≡ comma_if later ++ compact (node_value u children)
 silent_pieces later x keyword absolute instance f e = silent_in_parts later (unit_there x keyword absolute instance) (node_values (placed keyword instance f)) e
+
+pub leaf_pieces : (later : Bool) (x : RelativeRow) (keyword absolute instance : List ℕ) (rows : List RelativeRow) (f : Forest OutputUnit) → note_of x.note ≡ silent → length rows ≡ 0 → AreRowsOfTrees rows f → let u = unit_there x keyword absolute instance in
+    opening_text later absolute ++ 34 ∷ end_text instance keyword u.valid ≡ comma_if later ++ compact (node_value u (node_values (placed keyword instance f)))
+leaf_pieces later x keyword absolute instance rows f e h are =
+    let u = unit_there x keyword absolute instance in
+    leaf_in_parts later u e
+    ∙ ap (λ g. comma_if later ++ compact (node_value u (node_values (placed keyword instance g)))) (sym (no_trees rows 0 f are (omega (arith, h))))
+
+pub without_trees : (later : Bool) (u : OutputUnit) (keyword instance : List ℕ) (rows : List RelativeRow) (f : Forest OutputUnit) → length rows ≡ 0 → AreRowsOfTrees rows f
+    → comma_if later ++ compact (node_value u []) ≡ comma_if later ++ compact (node_value u (node_values (placed keyword instance f)))
+without_trees later u keyword instance rows f h are =
+    ap (λ g. comma_if later ++ compact (node_value u (node_values (placed keyword instance g)))) (sym (no_trees rows 0 f are (omega (arith, h))))
 
 -- the unit of a tree's root
 pub unit_is_there : (k i : List ℕ) (x : RelativeRow) (u : OutputUnit) → (relative_row x).0 ≡ escaped_unit u → unit_there x (k ++ u.keyword) u.absolute (i ++ u.instance) ≡ placed_unit k i u
@@ -81,11 +106,7 @@ children_placed name start here k i empty s e g = let n = s.is in absurd cc
 children_placed name start here k i (tree u below after) s e g =
     rw (e, g) (sym (append_assoc name (91 ∷ []) (compact_items false (items (node_values (placed k i (tree u below after)))))))
 
-pub none_there : (valid : Bool) (k i : List ℕ) (rows : List RelativeRow) (f : Forest OutputUnit) → length rows ≡ 0 → AreRowsOfTrees rows f → codes "\",\"instanceLocation\":\"" ≡ inside_text valid (node_values (placed k i f))
-none_there valid k i rows f h e =
-    none_inside valid ∙ ap (λ g. inside_text valid (node_values (placed k i g))) (sym (no_trees rows 0 f e (omega (arith, h))))
-
-pub some_there : (valid : Bool) (k i : List ℕ) (f : Forest OutputUnit) → SomeTree f → children_start valid ++ (compact_items false (items (node_values (placed k i f))) ++ codes ",\"instanceLocation\":\"") ≡ inside_text valid (node_values (placed k i f))
+pub some_there : (valid : Bool) (k i : List ℕ) (f : Forest OutputUnit) → SomeTree f → children_start valid ++ compact_items false (items (node_values (placed k i f))) ≡ inside_text valid (node_values (placed k i f))
 some_there valid k i empty s = let n = s.is in absurd cc
 some_there valid k i (tree u below after) s = some_inside valid (node_value (placed_unit k i u) (node_values (placed (k ++ u.keyword) (i ++ u.instance) below))) (node_values (placed k i after))
 

@@ -1,6 +1,6 @@
 -- The locations of a node, with JSON escapes, while the rows of its tree are gone through from the root on (JSON Schema
 -- Core, section 12.3).
-use Rattle.std.specs.Prelude.{◌≡◌, ℕ, ◌+◌, ◌≤◌, List, [], ◌++◌, codes, length, vec_capacity}
+use Rattle.std.specs.Prelude.{◌≡◌, ℕ, ◌+◌, ◌≤◌, List, ◌++◌, codes, length, vec_capacity}
 use Rattle.std.specs.List.{sum_by}
 use Rattle.json.specs.Print.{escape}
 use Rattle.js_tree.specs.RelativeState.{keyword_part}
@@ -24,15 +24,19 @@ pub record HasRoom (at : Locations) (rows : List RelativeRow) : Type 0 where
 abbrev pub keyword_start : List ℕ
 keyword_start = codes "\",\"keywordLocation\":\""
 
+-- and what stands before the instance location
+abbrev pub instance_start : List ℕ
+instance_start = codes "\",\"instanceLocation\":\""
+
 -- they are those above the root of the rows, and there is room for those of each node
 pub record HasRoomFor (at : Locations) (rows : RelativeRows) : Type 0 where
-  pub above_root : (at.keyword.items ≡ keyword_start) × (at.instance.items ≡ [])
+  pub above_root : (at.keyword.items ≡ keyword_start) × (at.instance.items ≡ instance_start)
   pub room : HasRoom at rows.rows.items
 
 -- these are they, without the escapes
 pub record AreAt (at : Locations) (keyword : List ℕ) (instance : List ℕ) : Type 0 where
   pub keyword_is : at.keyword.items ≡ keyword_start ++ escape keyword
-  pub instance_is : at.instance.items ≡ escape instance
+  pub instance_is : at.instance.items ≡ instance_start ++ escape instance
 
 -- the same locations, and no less room
 pub record IsBack (old : Locations) (new : Locations) : Type 0 where

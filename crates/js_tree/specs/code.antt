@@ -5,6 +5,7 @@ pub mod KeptBetween
 pub mod Listing
 pub mod Nesting
 pub mod NodeText
+pub mod Opening
 pub mod Order
 pub mod PartOrder
 pub mod Put

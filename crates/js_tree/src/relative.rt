@@ -8,6 +8,7 @@ pub(crate) mod keeping;
 pub(crate) mod locations;
 pub(crate) mod marks;
 pub(crate) mod merged_tree;
+pub(crate) mod opening;
 pub(crate) mod rows;
 pub(crate) mod rows_tree;
 pub(crate) mod unescaping;

@@ -11,7 +11,7 @@ use Rattle.js_tree.specs.Relative.{escaped, escaped_tree}
 use Rattle.js_tree.specs.RelativeState.{absolute_part, relative_row}
 use Rattle.js_tree.specs.Result.{ResultTree}
 use Rattle.js_tree.specs.Seen.{note_of}
-use Rattle.js_tree.specs.code.NodeText.{given_text, valid_text}
+use Rattle.js_tree.specs.code.NodeText.{given_text}
 use Rattle.js_tree.specs.declared.relative.rows.RelativeRow.{RelativeRow}
 
 -- the rows are those of the trees, whose locations have no escapes
@@ -38,13 +38,8 @@ abbrev pub children_start : Bool → List ℕ
 children_start true = codes "\",\"annotations\":["
 children_start false = codes "\",\"errors\":["
 
--- from that mark to the instance location's opening one, of a node that says nothing
+-- from that mark to what stands before the instance location, of a node that says nothing
 abbrev pub inside_text : Bool → List Value → List ℕ
 inside_text valid children =
     34 ∷ (given_text (codes ",\"annotations\":") (value_if valid (array_of_some children))
-    ++ (given_text (codes ",\"errors\":") (value_if (not valid) (array_of_some children))
-    ++ codes ",\"instanceLocation\":\""))
-
--- the rest
-abbrev pub closing_text : List ℕ → List ℕ → Bool → List ℕ
-closing_text instance keyword valid = escape instance ++ (codes "\",\"keywordLocation\":\"" ++ (escape keyword ++ 34 ∷ valid_text valid))
+    ++ given_text (codes ",\"errors\":") (value_if (not valid) (array_of_some children)))

@@ -1,22 +1,26 @@
 //! The text of the basic format, from relative rows.
-ghost use Rattle.std.specs.Prelude.{◌≡◌, ◌++◌, OnOk, [], List, ℕ, codes};
+ghost use Rattle.std.specs.Prelude.{◌≡◌, ◌++◌, ◌∷◌, OnOk, MatchOption, [], List, ℕ, codes};
+ghost use Rattle.json.specs.Print.{escape};
 ghost use Rattle.js_doc.specs.BytesOut.{Puts};
 ghost use Rattle.js_doc.specs.Compact.{comma_if, compact};
 ghost use Rattle.js_tree.specs.Forest.{Forest};
 ghost use Rattle.js_tree.specs.Form.{node_value, unit_list};
 ghost use Rattle.js_tree.specs.Locations.{AreAt, HasRoom, HasRoomFor, IsBack};
+ghost use Rattle.js_tree.specs.Note.{error};
 ghost use Rattle.js_tree.specs.OutputUnit.{OutputUnit};
+ghost use Rattle.js_tree.specs.Seen.{note_of};
 ghost use Rattle.js_tree.specs.RelativeState.{AreRowsOf, AreWhole, relative_row};
 ghost use Rattle.js_tree.specs.Result.{ResultTree, pruned};
-ghost use Rattle.js_tree.specs.code.NodeText.{list_start, valid_text};
+ghost use Rattle.js_tree.specs.code.NodeText.{annotation_part, end_text, error_part, list_start, valid_text};
 ghost use Rattle.js_tree.specs.code.Listing.{AreListed, if_noted, listed, listed_tree, may_list};
 ghost use Rattle.js_tree.specs.code.RelativeText.{AreRowsOfTree, AreRowsOfTrees, IsAbsolute, unit_there};
 
+use crate::note::Note;
 use crate::relative::locations::Locations;
 use crate::relative::rows::{RelativeRow, RelativeRows};
-use crate::relative::verbose_text::put_beginning;
-use crate::writing::node_text::put_error;
-use js_doc::{Out, Stopped};
+use crate::relative::verbose_text::put_opening;
+use crate::writing::node_text::put_closed_annotation;
+use js_doc::{Out, Stopped, put_escaped};
 
 /// Writes the rows' tree as compact text in the basic format (JSON Schema Core, section 12.4.2). It prunes while it
 /// writes: a subtree is passed over if the verdict of its root differs from that of the whole tree. It allocates
@@ -111,12 +115,14 @@ fn may_list(verdict: bool, row: &RelativeRow) -> bool
 fn put_noted<O: Out>(
     later: bool,
     row: &RelativeRow,
-    locations: &Locations,
+    locations: &mut Locations,
     out: &mut O,
 ) -> Result<bool, Stopped>
-    ensures { (keyword absolute instance : List ℕ) → AreAt locations.now keyword instance → IsAbsolute row.now absolute
+    ensures listed { (keyword absolute instance : List ℕ) → AreAt locations.old keyword instance
+        → IsAbsolute row.now absolute
         → AreListed (O.progress out.old) (O.progress out.new) later
         (if_noted (unit_there row.now keyword absolute instance)) result }
+    ensures back { IsBack locations.old locations.new }
 {
     if !row.note.is_some() {
         return Ok(later);
@@ -126,19 +132,85 @@ fn put_noted<O: Out>(
 }
 
 /// Writes the unit as a node without children; after a comma, if a unit was written before.
-fn put_unit<O: Out>(
+pub(crate) fn put_unit<O: Out>(
     later: bool,
     row: &RelativeRow,
+    locations: &mut Locations,
+    out: &mut O,
+) -> Result<(), Stopped>
+    ensures text { (keyword absolute instance : List ℕ) → AreAt locations.old keyword instance
+        → IsAbsolute row.now absolute
+        → Puts (O.progress out.old) (O.progress out.new)
+        (comma_if later ++ compact (node_value (unit_there row.now keyword absolute instance) [])) result }
+    ensures back { IsBack locations.old locations.new }
+{
+    put_opening(later, row, locations, out)?;
+    put_rest(&row.note, row.valid, locations, out)
+}
+
+/// Writes the rest of it, from the closing quotation mark of the absolute location on.
+fn put_rest<O: Out>(
+    note: &Note,
+    valid: bool,
     locations: &Locations,
     out: &mut O,
 ) -> Result<(), Stopped>
-    ensures { (keyword absolute instance : List ℕ) → AreAt locations.now keyword instance → IsAbsolute row.now absolute
+    ensures { (keyword instance : List ℕ) → AreAt locations.now keyword instance
         → Puts (O.progress out.old) (O.progress out.new)
-        (comma_if later ++ compact (node_value (unit_there row.now keyword absolute instance) [])) result }
+        (34 ∷ (annotation_part (note_of note.now)
+        ++ (error_part (note_of note.now) ++ end_text instance keyword valid)))
+        result }
 {
-    put_beginning(later, row, out)?;
-    put_error(&row.note, out)?;
-    locations.put_end(row.valid, out)
+    match reason_of(note) {
+        Some(reason) => put_error_rest(reason, valid, locations, out),
+        None => put_annotation_rest(note, valid, locations, out),
+    }
+}
+
+/// The same where the note is an error with this text. Each quotation mark goes out with what stands beside it.
+fn put_error_rest<O: Out>(
+    reason: &str,
+    valid: bool,
+    locations: &Locations,
+    out: &mut O,
+) -> Result<(), Stopped>
+    ensures { (keyword instance : List ℕ) → AreAt locations.now keyword instance
+        → Puts (O.progress out.old) (O.progress out.new)
+        (codes "\",\"error\":\"" ++ (escape reason.now ++ 34 ∷ end_text instance keyword valid)) result }
+{
+    out.put(b"\",\"error\":\"")?;
+    put_escaped(reason.as_bytes(), out)?;
+    locations.put_closing(valid, out)
+}
+
+/// The same where the note isn't an error.
+fn put_annotation_rest<O: Out>(
+    note: &Note,
+    valid: bool,
+    locations: &Locations,
+    out: &mut O,
+) -> Result<(), Stopped>
+    ensures { (keyword instance : List ℕ) → AreAt locations.now keyword instance
+        → Puts (O.progress out.old) (O.progress out.new)
+        ((34 ∷ annotation_part (note_of note.now)) ++ end_text instance keyword valid) result }
+{
+    put_closed_annotation(note, out)?;
+    locations.put_end(valid, out)
+}
+
+// The text of the error, if the note is one.
+fn reason_of<'n>(note: &'n Note<'_>) -> Option<&'n str>
+    ensures { MatchOption result (error_part (note_of note.now) ≡ []) (λ reason. note_of note.now ≡ error reason.now) }
+{
+    match note {
+        Note::Error(reason) => Some(reason.as_str()),
+        Note::Silent => None,
+        Note::Value(_) => None,
+        Note::Names(_) => None,
+        Note::Index(_) => None,
+        Note::Indexes(_) => None,
+        Note::Truth => None,
+    }
 }
 
 /// Writes what is before the first unit.

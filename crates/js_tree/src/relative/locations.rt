@@ -1,11 +1,12 @@
 //! The locations of a node, put together from the parts that it and the nodes above it add.
 ghost use Rattle.std.specs.Prelude.{◌≡◌, ◌+◌, ◌≤◌, ◌∷◌, [], ◌++◌, List, ℕ, IfOk, length, vec_capacity};
+ghost use Rattle.json.specs.Print.{escape};
 ghost use Rattle.js_doc.specs.BytesOut.{Puts};
-ghost use Rattle.js_tree.specs.Locations.{AreAt, HasRoom, HasRoomFor, IsDown, IsUp, instances_added, keywords_added};
+ghost use Rattle.js_tree.specs.Locations.{AreAt, HasRoom, HasRoomFor, IsDown, IsUp, instances_added, keyword_start, keywords_added};
 ghost use Rattle.js_tree.specs.RelativeState.{part};
 ghost use Rattle.js_tree.specs.code.NodeText.{end_text, valid_text};
-ghost use Rattle.js_tree.specs.code.RelativeText.{closing_text};
 
+use crate::relative::opening::Opening;
 use crate::relative::rows::{RelativeRow, RelativeRows, behind};
 use crate::relative::unescaping::text_of;
 use js_doc::{Memory, Out, Stopped, Text};
@@ -15,13 +16,17 @@ use std::alloc::Global;
 /// sections 12.3.1 and 12.3.3).
 #[derive(Drop)]
 pub struct Locations {
-    // With what stands before it, so that one call of `put` writes both.
+    // Each with what stands before it, so that one call of `put` writes both.
     keyword: Vec<u8>,
     instance: Vec<u8>,
+    // How the node's text begins.
+    pub(crate) opening: Opening,
 }
 
 // What stands before the keyword location.
 const KEYWORD_START: &[u8] = b"\",\"keywordLocation\":\"";
+// What stands before the instance location. The first byte ends the text before it, unless that isn't a string.
+const INSTANCE_START: &[u8] = b"\",\"instanceLocation\":\"";
 
 impl Locations {
     /// Empty locations, with memory reserved for those of each node of the rows, so that writing allocates nothing. The
@@ -36,9 +41,13 @@ impl Locations {
         let room = keyword.checked_add(KEYWORD_START.len()).ok_or(Memory)?;
         let mut keyword = Vec::with_capacity(alloc, room)?;
         keyword.extend_from_slice(KEYWORD_START)?;
+        let room = instance.checked_add(INSTANCE_START.len()).ok_or(Memory)?;
+        let mut instance = Vec::with_capacity(alloc, room)?;
+        instance.extend_from_slice(INSTANCE_START)?;
         Ok(Locations {
             keyword,
-            instance: Vec::with_capacity(alloc, instance)?,
+            instance,
+            opening: Opening::new(alloc)?,
         })
     }
 
@@ -60,7 +69,8 @@ impl Locations {
     pub(crate) fn instance_text(&self, alloc: Global) -> Result<Text, Memory>
         ensures { (keyword instance : List ℕ) → AreAt self.now keyword instance → IfOk result (λ t. t ≡ instance) }
     {
-        text_of(alloc, "", false, self.instance.as_slice())
+        let escaped = behind(self.instance.as_slice(), INSTANCE_START.len());
+        text_of(alloc, "", false, escaped)
     }
 
     /// Goes from the node above to the node of the row. It allocates nothing.
@@ -86,16 +96,24 @@ impl Locations {
         ensures { (keyword instance : List ℕ) → AreAt self.now keyword instance
             → Puts (O.progress out.old) (O.progress out.new) (end_text instance keyword valid) result }
     {
-        out.put(b",\"instanceLocation\":\"")?;
-        self.put_closing(valid, out)
+        self.put_from(behind(self.instance.as_slice(), 1), valid, out)
     }
 
-    /// Writes the same, from behind the opening quotation mark of the instance location.
+    /// Writes the same, and before it the closing quotation mark of the text that stands there.
     pub(crate) fn put_closing<O: Out>(&self, valid: bool, out: &mut O) -> Result<(), Stopped>
         ensures { (keyword instance : List ℕ) → AreAt self.now keyword instance
-            → Puts (O.progress out.old) (O.progress out.new) (closing_text instance keyword valid) result }
+            → Puts (O.progress out.old) (O.progress out.new) (34 ∷ end_text instance keyword valid) result }
     {
-        out.put(self.instance.as_slice())?;
+        self.put_from(self.instance.as_slice(), valid, out)
+    }
+
+    // Writes the instance location, given with what stands before it, and what follows.
+    fn put_from<O: Out>(&self, instance: &[u8], valid: bool, out: &mut O) -> Result<(), Stopped>
+        ensures { (keyword there : List ℕ) → AreAt self.now keyword there
+            → Puts (O.progress out.old) (O.progress out.new)
+            (instance.now ++ (keyword_start ++ (escape keyword ++ 34 ∷ valid_text valid))) result }
+    {
+        out.put(instance)?;
         out.put(self.keyword.as_slice())?;
         put_last(valid, out)
     }

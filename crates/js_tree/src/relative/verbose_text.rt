@@ -1,5 +1,5 @@
 //! The text of the verbose format, from relative rows.
-ghost use Rattle.std.specs.Prelude.{◌≡◌, ◌++◌, ◌∷◌, [], List, ℕ, codes, false, OnOk};
+ghost use Rattle.std.specs.Prelude.{◌≡◌, ◌<◌, ◌++◌, ◌∷◌, [], List, ℕ, codes, false, length, OnOk};
 ghost use Rattle.js_doc.specs.BytesOut.{Puts};
 ghost use Rattle.js_doc.specs.Compact.{comma_if, compact, compact_items};
 ghost use Rattle.js_doc.specs.Value.{items};
@@ -15,9 +15,10 @@ ghost use Rattle.js_tree.specs.Seen.{note_of};
 ghost use Rattle.js_tree.specs.code.NodeText.{beginning_text, given_text};
 ghost use Rattle.js_tree.specs.code.RelativeText.{AreRowsOfTree, AreRowsOfTrees, IsAbsolute, children_start, inside_text, opening_text, unit_there};
 
+use crate::relative::basic_text::put_unit;
 use crate::relative::locations::Locations;
 use crate::relative::rows::{RelativeRow, RelativeRows};
-use crate::writing::node_text::{put_annotation, put_error};
+use crate::writing::node_text::{put_annotation, put_closed_annotation, put_error};
 use js_doc::{Out, Stopped, put_escaped};
 
 /// Writes the rows' tree as compact text in the verbose format (JSON Schema Core, section 12.4.4), with whole
@@ -102,8 +103,12 @@ fn put_noted<O: Out>(
         (node_values (placed keyword instance f)))) result }
     ensures back { OnOk result (IsBack locations.old locations.new) }
 {
+    if below.is_empty() {
+        return put_unit(later, row, locations, out);
+    }
     let valid = row.valid;
-    put_beginning(later, row, out)?;
+    put_opening(later, row, locations, out)?;
+    put_closed_annotation(&row.note, out)?;
     put_children(valid, b",\"annotations\":[", below, locations, out)?;
     put_error(&row.note, out)?;
     put_children(!valid, b",\"errors\":[", below, locations, out)?;
@@ -156,12 +161,16 @@ fn put_silent<O: Out>(
     ensures back { OnOk result (IsBack locations.old locations.new) }
 {
     let valid = row.valid;
-    put_opening(later, row, out)?;
+    put_opening(later, row, locations, out)?;
+    if below.is_empty() {
+        return locations.put_closing(valid, out);
+    }
     put_inside(valid, below, locations, out)?;
-    locations.put_closing(valid, out)
+    locations.put_end(valid, out)
 }
 
-/// Writes what is between the absolute location and the instance location: the trees of the rows, if there are any.
+/// Writes what is between the absolute location and the instance location: the trees of the rows, of which there are
+/// some.
 #[cycle(put_tree)]
 fn put_inside<O: Out>(
     valid: bool,
@@ -171,16 +180,13 @@ fn put_inside<O: Out>(
 ) -> Result<(), Stopped>
     requires { (f : Forest OutputUnit) × AreRowsOfTrees rows.now f × HasRoom locations.old rows.now }
     ensures text { (f : Forest OutputUnit) (keyword instance : List ℕ) → AreAt locations.old keyword instance
-        → AreRowsOfTrees rows.now f
+        → AreRowsOfTrees rows.now f → 0 < length rows.now
         → Puts (O.progress out.old) (O.progress out.new)
         (inside_text valid (node_values (placed keyword instance f))) result }
     ensures back { OnOk result (IsBack locations.old locations.new) }
 {
-    if rows.is_empty() {
-        return out.put(b"\",\"instanceLocation\":\"");
-    }
     put_children_start(valid, out)?;
-    put_trees(rows, b"],\"instanceLocation\":\"", locations, out)
+    put_trees(rows, b"]", locations, out)
 }
 
 /// Writes the trees of the rows, with commas between them, and then `end`, which begins with the closing bracket.
@@ -220,13 +226,33 @@ pub(crate) fn put_beginning<O: Out>(
         → Puts (O.progress out.old) (O.progress out.new)
         (comma_if later ++ beginning_text absolute (note_of row.now.note)) result }
 {
-    put_opening(later, row, out)?;
+    put_whole_opening(later, row, out)?;
     out.put(b"\"")?;
     put_annotation(&row.note, out)
 }
 
-/// Writes the beginning of a node, up to the end of its absolute location, without the closing quotation mark.
-fn put_opening<O: Out>(later: bool, row: &RelativeRow, out: &mut O) -> Result<(), Stopped>
+/// Writes the beginning of a node, up to the end of its absolute location, without the closing quotation mark. What
+/// stands before its token is kept for the next node.
+pub(crate) fn put_opening<O: Out>(
+    later: bool,
+    row: &RelativeRow,
+    locations: &mut Locations,
+    out: &mut O,
+) -> Result<(), Stopped>
+    ensures text { (absolute : List ℕ) → IsAbsolute row.now absolute
+        → Puts (O.progress out.old) (O.progress out.new) (opening_text later absolute) result }
+    ensures back { IsBack locations.old locations.new }
+{
+    let opening = &mut locations.opening;
+    if !opening.has(row.schema.as_bytes()) {
+        return put_whole_opening(later, row, out);
+    }
+    opening.put(later, row.absolute_slash, out)?;
+    out.put(row.absolute)
+}
+
+/// The same, of any schema.
+fn put_whole_opening<O: Out>(later: bool, row: &RelativeRow, out: &mut O) -> Result<(), Stopped>
     ensures { (absolute : List ℕ) → IsAbsolute row.now absolute
         → Puts (O.progress out.old) (O.progress out.new) (opening_text later absolute) result }
 {

@@ -1,7 +1,7 @@
 //! The JSON text of a node, written piece by piece. Its members ascend by name (Core, section 12.3).
-ghost use Rattle.std.specs.Prelude.{◌++◌, codes, false, map, pos, true};
+ghost use Rattle.std.specs.Prelude.{◌++◌, ◌∷◌, codes, false, map, pos, true};
 ghost use Rattle.js_doc.specs.BytesOut.{Puts};
-ghost use Rattle.js_doc.specs.Compact.{comma_if, compact, quoted};
+ghost use Rattle.js_doc.specs.Compact.{comma_if, compact, compact_items, quoted};
 ghost use Rattle.js_doc.specs.Seen.{value_of};
 ghost use Rattle.js_doc.specs.Value.{items, list, text, whole};
 ghost use Rattle.js_tree.specs.code.NodeText.{annotation_part, beginning_text, end_text, error_part, head_text, tail_text, valid_text};
@@ -89,35 +89,52 @@ pub(crate) fn put_annotation<O: Out>(note: &Note, out: &mut O) -> Result<(), Sto
     match note {
         Note::Silent => Ok(()),
         Note::Error(_) => Ok(()),
-        Note::Value(value) => put_value(value, out),
-        Note::Names(names) => put_names(names.as_slice(), out),
-        Note::Index(index) => put_index(*index, out),
-        Note::Indexes(indexes) => put_indexes(indexes.as_slice(), out),
+        Note::Value(value) => put_value(b",\"annotation\":", value, out),
+        Note::Names(names) => put_names(b",\"annotation\":[", names.as_slice(), out),
+        Note::Index(index) => put_index(b",\"annotation\":", *index, out),
+        Note::Indexes(indexes) => put_indexes(b",\"annotation\":[", indexes.as_slice(), out),
         Note::Truth => out.put(b",\"annotation\":true"),
     }
 }
 
-fn put_value<O: Out>(value: &Doc, out: &mut O) -> Result<(), Stopped>
-    ensures { Puts (O.progress out.old) (O.progress out.new)
-        (codes ",\"annotation\":" ++ compact (value_of value.now)) result }
+/// Writes the closing quotation mark of the text before it, and the annotation, if the note is one.
+pub(crate) fn put_closed_annotation<O: Out>(note: &Note, out: &mut O) -> Result<(), Stopped>
+    ensures { Puts (O.progress out.old) (O.progress out.new) (34 ∷ annotation_part (note_of note.now)) result }
 {
-    out.put(b",\"annotation\":")?;
+    match note {
+        Note::Silent => out.put(b"\""),
+        Note::Error(_) => out.put(b"\""),
+        Note::Value(value) => put_value(b"\",\"annotation\":", value, out),
+        Note::Names(names) => put_names(b"\",\"annotation\":[", names.as_slice(), out),
+        Note::Index(index) => put_index(b"\",\"annotation\":", *index, out),
+        Note::Indexes(indexes) => put_indexes(b"\",\"annotation\":[", indexes.as_slice(), out),
+        Note::Truth => out.put(b"\",\"annotation\":true"),
+    }
+}
+
+// Writes the value, after the text that stands before it.
+fn put_value<O: Out>(start: &[u8], value: &Doc, out: &mut O) -> Result<(), Stopped>
+    ensures { Puts (O.progress out.old) (O.progress out.new)
+        (start.now ++ compact (value_of value.now)) result }
+{
+    out.put(start)?;
     put_text(value, out)
 }
 
-fn put_index<O: Out>(index: u64, out: &mut O) -> Result<(), Stopped>
+fn put_index<O: Out>(start: &[u8], index: u64, out: &mut O) -> Result<(), Stopped>
     ensures { Puts (O.progress out.old) (O.progress out.new)
-        (codes ",\"annotation\":" ++ compact (whole (pos index))) result }
+        (start.now ++ compact (whole (pos index))) result }
 {
-    out.put(b",\"annotation\":")?;
+    out.put(start)?;
     put_number(Whole::from_u64(index), out)
 }
 
-fn put_names<O: Out>(names: &[&str], out: &mut O) -> Result<(), Stopped>
+// Writes the names as an array. `start` ends in the opening bracket.
+fn put_names<O: Out>(start: &[u8], names: &[&str], out: &mut O) -> Result<(), Stopped>
     ensures { Puts (O.progress out.old) (O.progress out.new)
-        (codes ",\"annotation\":" ++ compact (list (items (map text (map (λ name. name.now) names.now))))) result }
+        (start.now ++ compact_items false (items (map text (map (λ name. name.now) names.now)))) result }
 {
-    out.put(b",\"annotation\":[")?;
+    out.put(start)?;
     let mut later = false;
     for name in names {
         put_comma(later, out)?;
@@ -127,11 +144,11 @@ fn put_names<O: Out>(names: &[&str], out: &mut O) -> Result<(), Stopped>
     out.put(b"]")
 }
 
-fn put_indexes<O: Out>(indexes: &[u64], out: &mut O) -> Result<(), Stopped>
+fn put_indexes<O: Out>(start: &[u8], indexes: &[u64], out: &mut O) -> Result<(), Stopped>
     ensures { Puts (O.progress out.old) (O.progress out.new)
-        (codes ",\"annotation\":" ++ compact (list (items (map (λ index. whole (pos index)) indexes.now)))) result }
+        (start.now ++ compact_items false (items (map (λ index. whole (pos index)) indexes.now))) result }
 {
-    out.put(b",\"annotation\":[")?;
+    out.put(start)?;
     let mut later = false;
     for index in indexes {
         put_comma(later, out)?;

@@ -9,7 +9,7 @@ use Rattle.js_tree.proofs.ChildTexts.{rest_of}
 use Rattle.js_tree.proofs.EscapedRows.{at_below, is_absolute, next_tree, still_at}
 use Rattle.js_tree.proofs.FlatRows.{root_row, rows_below, shorter}
 use Rattle.js_tree.proofs.ListedRows.{both_listed, list_ends, list_goes_on, list_passes, list_starts, list_stops, listed_err, may_agree, next_listed, next_passed, stops_first, stops_rest, tree_listed}
-use Rattle.js_tree.proofs.RelativeTexts.{back_again, room_for_part, stays_there}
+use Rattle.js_tree.proofs.RelativeTexts.{back_again, room_for_part, room_still, stays_there}
 use Rattle.js_tree.proofs.RoomLeft.{fewer_below, room_below, some_row}
 use Rattle.js_tree.proofs.relative.basic_text.+put_trees.Goals as goal
 
@@ -29,7 +29,7 @@ put_tree-returns-in_err-later-clause-listed g t c =
     let res = c.from_residual.result in
     subst (λ us. AreListed (o c.args.out.now) (o c.put_noted.new.out) c.args.later us res) (tree_listed v k i x r root)
     (listed_err (o c.args.out.now) (o c.put_noted.new.out) c.args.later (these ++ below) res c.from_residual.ensures.0
-    (stops_first (o c.args.out.now) (o c.put_noted.new.out) c.args.later these below (c.in_err-later.ensures (k ++ r.root.keyword) r.root.absolute (i ++ r.root.instance) down abs)))
+    (stops_first (o c.args.out.now) (o c.put_noted.new.out) c.args.later these below (c.in_err-later.ensures.listed (k ++ r.root.keyword) r.root.absolute (i ++ r.root.instance) down abs)))
 
 pub put_tree-put_trees-requires : goal.put_tree-put_trees-requires
 put_tree-put_trees-requires g t c κs within =
@@ -38,9 +38,10 @@ put_tree-put_trees-requires g t c κs within =
     let e = c.requires.1 in
     let some = some_row rows (escaped_tree r) e in
     let is = ap (map relative_row) (rest_of rows) ∙ rows_below relative_row rows (escaped_tree r) e in
-    let room = room_below c.args.locations.now c.go_to_node.new.self rows c.index-rows-0.result c.requires.2 some c.index-rows-0.is c.go_to_node.ensures in (
+    let room = room_below c.args.locations.now c.go_to_node.new.self rows c.index-rows-0.result c.requires.2 some c.index-rows-0.is c.go_to_node.ensures in
+    let still = room_still c.go_to_node.new.self c.put_noted.new.locations (drop 1 rows) room c.in_ok-later.ensures.back in (
       omega (arith, fewer_below rows some, c.decreases),
-      (within, (r.below, is, subst (HasRoom c.go_to_node.new.self) (sym (rest_of rows)) room)),
+      (within, (r.below, is, subst (HasRoom c.put_noted.new.locations) (sym (rest_of rows)) still)),
     )
 
 pub put_tree-returns-in_err-later-2-clause-listed : goal.put_tree-returns-in_err-later-2-clause-listed
@@ -54,6 +55,7 @@ put_tree-returns-in_err-later-2-clause-listed g t c =
     let new = c.go_to_node.new.self in
     let root = root_row relative_row c.args.rows.now (escaped_tree r) x e c.index-rows-0.is in
     let down = at_below old new x r.root k i at c.go_to_node.ensures root in
+    let there = still_at new c.put_noted.new.locations (k ++ r.root.keyword) (i ++ r.root.instance) down c.in_ok-later.ensures.back in
     let abs = is_absolute x r.root root in
     let is = ap (map relative_row) (rest_of rows) ∙ rows_below relative_row rows (escaped_tree r) e in
     let these = if_noted (unit_there x (k ++ r.root.keyword) r.root.absolute (i ++ r.root.instance)) in
@@ -61,7 +63,7 @@ put_tree-returns-in_err-later-2-clause-listed g t c =
     let res = c.from_residual-in_err-later-2.result in
     subst (λ us. AreListed (o c.args.out.now) (o c.put_trees.new.out) c.args.later us res) (tree_listed v k i x r root)
     (listed_err (o c.args.out.now) (o c.put_trees.new.out) c.args.later (these ++ below) res c.from_residual-in_err-later-2.ensures.0
-    (stops_rest (o c.args.out.now) (o c.put_noted.new.out) (o c.put_trees.new.out) c.args.later c.in_ok-later.later these below (c.in_ok-later.ensures (k ++ r.root.keyword) r.root.absolute (i ++ r.root.instance) down abs) (c.in_err-later-2.ensures.listed r.below (k ++ r.root.keyword) (i ++ r.root.instance) down is)))
+    (stops_rest (o c.args.out.now) (o c.put_noted.new.out) (o c.put_trees.new.out) c.args.later c.in_ok-later.later these below (c.in_ok-later.ensures.listed (k ++ r.root.keyword) r.root.absolute (i ++ r.root.instance) down abs) (c.in_err-later-2.ensures.listed r.below (k ++ r.root.keyword) (i ++ r.root.instance) there is)))
 
 pub put_tree-returns-clause-listed : goal.put_tree-returns-clause-listed
 put_tree-returns-clause-listed g t c =
@@ -74,12 +76,13 @@ put_tree-returns-clause-listed g t c =
     let new = c.go_to_node.new.self in
     let root = root_row relative_row c.args.rows.now (escaped_tree r) x e c.index-rows-0.is in
     let down = at_below old new x r.root k i at c.go_to_node.ensures root in
+    let there = still_at new c.put_noted.new.locations (k ++ r.root.keyword) (i ++ r.root.instance) down c.in_ok-later.ensures.back in
     let abs = is_absolute x r.root root in
     let is = ap (map relative_row) (rest_of rows) ∙ rows_below relative_row rows (escaped_tree r) e in
     let these = if_noted (unit_there x (k ++ r.root.keyword) r.root.absolute (i ++ r.root.instance)) in
     let below = listed v (k ++ r.root.keyword) (i ++ r.root.instance) r.below in
     subst (λ us. AllListed (o c.args.out.now) (o c.put_trees.new.out) c.args.later us c.in_ok-later-2.later) (tree_listed v k i x r root)
-    (both_listed (o c.args.out.now) (o c.put_noted.new.out) (o c.put_trees.new.out) c.args.later c.in_ok-later.later c.in_ok-later-2.later these below (c.in_ok-later.ensures (k ++ r.root.keyword) r.root.absolute (i ++ r.root.instance) down abs) (c.in_ok-later-2.ensures.listed r.below (k ++ r.root.keyword) (i ++ r.root.instance) down is))
+    (both_listed (o c.args.out.now) (o c.put_noted.new.out) (o c.put_trees.new.out) c.args.later c.in_ok-later.later c.in_ok-later-2.later these below (c.in_ok-later.ensures.listed (k ++ r.root.keyword) r.root.absolute (i ++ r.root.instance) down abs) (c.in_ok-later-2.ensures.listed r.below (k ++ r.root.keyword) (i ++ r.root.instance) there is))
 
 pub put_trees-loop-next-init : goal.put_trees-loop-next-init
 put_trees-loop-next-init g t c = (

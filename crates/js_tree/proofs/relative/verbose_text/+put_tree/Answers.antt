@@ -1,4 +1,4 @@
-use Rattle.std.proofs.Common.{◌≡◌, ◌+◌, ◌-◌, ◌<◌, ◌≤◌, ◌++◌, [], codes, length, drop, take, map, true, false, sym, ap, subst, ◌∙◌, refl, append-nil, arith}
+use Rattle.std.proofs.Common.{◌≡◌, ◌+◌, ◌-◌, ◌<◌, ◌≤◌, ◌++◌, ◌∷◌, [], codes, length, drop, take, map, true, false, sym, ap, subst, ◌∙◌, refl, append-nil, arith}
 use Rattle.js_doc.specs.BytesOut.{Goes, Puts}
 use Rattle.js_doc.specs.Compact.{comma_if, compact, compact_items}
 use Rattle.js_doc.specs.Value.{items}
@@ -7,15 +7,15 @@ use Rattle.js_tree.specs.Form.{node_values, verbose}
 use Rattle.js_tree.specs.Relative.{escaped_tree, placed, placed_tree}
 use Rattle.js_tree.specs.RelativeState.{relative_row}
 use Rattle.js_tree.specs.Result.{ResultTree}
-use Rattle.js_tree.specs.code.NodeText.{beginning_text, end_text, error_part}
-use Rattle.js_tree.specs.code.RelativeText.{children_start, closing_text, inside_text, opening_text, unit_there}
+use Rattle.js_tree.specs.code.NodeText.{annotation_part, end_text, error_part}
+use Rattle.js_tree.specs.code.RelativeText.{children_start, inside_text, opening_text, unit_there}
 use Rattle.js_tree.proofs.ChildTexts.{rest_of}
 use Rattle.js_tree.proofs.EscapedRows.{at_below, is_absolute, next_tree, no_trees, some_trees, still_at}
 use Rattle.js_tree.proofs.FlatRows.{root_row, rows_below, shorter}
 use Rattle.js_tree.proofs.Nested.{is_none, not_none}
 use Rattle.js_tree.proofs.NodeTexts.{annotations, errors}
 use Rattle.js_tree.proofs.Pieces.{nothing_goes, stops_in, then_puts}
-use Rattle.js_tree.proofs.RelativeTexts.{back_again, children_placed, no_children_placed, none_there, noted_pieces, root_there, room_for_part, silent_pieces, some_there, stays_there, stops_last, tree_next}
+use Rattle.js_tree.proofs.RelativeTexts.{back_again, children_placed, leaf_pieces, no_children_placed, noted_pieces, root_there, room_for_part, silent_pieces, some_there, stays_there, stops_last, tree_next, without_trees}
 use Rattle.js_tree.proofs.relative.verbose_text.+put_tree.Goals as goal
 
 pub put_tree-returns-in_err-put_node-clause-text : goal.put_tree-returns-in_err-put_node-clause-text
@@ -44,20 +44,46 @@ put_tree-returns-clause-text g t c =
     let is = root_there c.args.later k i x t' root in
     subst (Goes (o c.args.out.now) (o c.put_node.new.out)) is (c.in_ok-put_node.ensures.text t'.below (k ++ t'.root.keyword) t'.root.absolute (i ++ t'.root.instance) down (is_absolute x t'.root root) below)
 
-pub put_noted-returns-in_err-put_beginning-clause-text : goal.put_noted-returns-in_err-put_beginning-clause-text
-put_noted-returns-in_err-put_beginning-clause-text g t c =
+pub put_noted-returns-then-is_empty-clause-text : goal.put_noted-returns-then-is_empty-clause-text
+put_noted-returns-then-is_empty-clause-text g t c =
+    λ f k a i at abs e.
+    let o = g.O.Out.progress in
+    let below = c.args.below.now in
+    let none : length below ≡ 0 = is_none (length below) c.if-is_empty.ensures in
+    subst (λ l. Puts (o c.args.out.now) (o c.put_unit.new.out) l c.put_unit.result) (without_trees c.args.later (unit_there c.args.row.now k a i) k i below f none e) (c.put_unit.ensures.text k a i at abs)
+
+pub put_noted-returns-in_err-put_opening-clause-text : goal.put_noted-returns-in_err-put_opening-clause-text
+put_noted-returns-in_err-put_opening-clause-text g t c =
     λ f k a i at abs e.
     let o = g.O.Out.progress in
     let x = c.args.row.now in
     let u = unit_there x k a i in
-    let p1 = comma_if c.args.later ++ beginning_text u.absolute u.note in
-    let p2 = annotations u.valid (node_values (placed k i f)) in
-    let p3 = error_part u.note in
-    let p4 = errors u.valid (node_values (placed k i f)) in
-    let p5 = end_text i k u.valid in
+    let p1 = opening_text c.args.later a in
+    let p2 = 34 ∷ annotation_part u.note in
+    let p3 = annotations u.valid (node_values (placed k i f)) in
+    let p4 = error_part u.note in
+    let p5 = errors u.valid (node_values (placed k i f)) in
+    let p6 = end_text i k u.valid in
     let r = c.from_residual.result in
-    subst (λ l. Puts (o c.args.out.now) (o c.put_beginning.new.out) l r) (noted_pieces c.args.later x k a i f)
-    (stops_in (o c.args.out.now) (o c.put_beginning.new.out) p1 (p2 ++ (p3 ++ (p4 ++ (p5)))) r c.from_residual.ensures.0 (c.in_err-put_beginning.ensures a abs))
+    subst (λ l. Puts (o c.args.out.now) (o c.put_opening.new.out) l r) (noted_pieces c.args.later x k a i f)
+    (stops_in (o c.args.out.now) (o c.put_opening.new.out) p1 (p2 ++ (p3 ++ (p4 ++ (p5 ++ p6)))) r c.from_residual.ensures.0 (c.in_err-put_opening.ensures.text a abs))
+
+pub put_noted-returns-in_err-put_closed_annotation-clause-text : goal.put_noted-returns-in_err-put_closed_annotation-clause-text
+put_noted-returns-in_err-put_closed_annotation-clause-text g t c =
+    λ f k a i at abs e.
+    let o = g.O.Out.progress in
+    let x = c.args.row.now in
+    let u = unit_there x k a i in
+    let p1 = opening_text c.args.later a in
+    let p2 = 34 ∷ annotation_part u.note in
+    let p3 = annotations u.valid (node_values (placed k i f)) in
+    let p4 = error_part u.note in
+    let p5 = errors u.valid (node_values (placed k i f)) in
+    let p6 = end_text i k u.valid in
+    let r = c.from_residual-in_err-put_closed_annotation.result in
+    subst (λ l. Puts (o c.args.out.now) (o c.put_closed_annotation.new.out) l r) (noted_pieces c.args.later x k a i f)
+    (then_puts (o c.args.out.now) (o c.put_opening.new.out) (o c.put_closed_annotation.new.out) p1 (p2 ++ (p3 ++ (p4 ++ (p5 ++ p6)))) r (c.in_ok-put_opening.ensures.text a abs)
+    (stops_in (o c.put_opening.new.out) (o c.put_closed_annotation.new.out) p2 (p3 ++ (p4 ++ (p5 ++ p6))) r c.from_residual-in_err-put_closed_annotation.ensures.0 c.in_err-put_closed_annotation.ensures))
 
 pub put_noted-returns-in_err-put_children-clause-text : goal.put_noted-returns-in_err-put_children-clause-text
 put_noted-returns-in_err-put_children-clause-text g t c =
@@ -65,15 +91,18 @@ put_noted-returns-in_err-put_children-clause-text g t c =
     let o = g.O.Out.progress in
     let x = c.args.row.now in
     let u = unit_there x k a i in
-    let p1 = comma_if c.args.later ++ beginning_text u.absolute u.note in
-    let p2 = annotations u.valid (node_values (placed k i f)) in
-    let p3 = error_part u.note in
-    let p4 = errors u.valid (node_values (placed k i f)) in
-    let p5 = end_text i k u.valid in
+    let p1 = opening_text c.args.later a in
+    let p2 = 34 ∷ annotation_part u.note in
+    let p3 = annotations u.valid (node_values (placed k i f)) in
+    let p4 = error_part u.note in
+    let p5 = errors u.valid (node_values (placed k i f)) in
+    let p6 = end_text i k u.valid in
+    let there = still_at c.args.locations.now c.put_opening.new.locations k i at c.in_ok-put_opening.ensures.back in
     let r = c.from_residual-in_err-put_children.result in
     subst (λ l. Puts (o c.args.out.now) (o c.put_children.new.out) l r) (noted_pieces c.args.later x k a i f)
-    (then_puts (o c.args.out.now) (o c.put_beginning.new.out) (o c.put_children.new.out) p1 (p2 ++ (p3 ++ (p4 ++ (p5)))) r (c.in_ok-put_beginning.ensures a abs)
-    (stops_in (o c.put_beginning.new.out) (o c.put_children.new.out) p2 (p3 ++ (p4 ++ (p5))) r c.from_residual-in_err-put_children.ensures.0 (c.in_err-put_children.ensures.text f (codes ",\"annotations\":") k i at e refl)))
+    (then_puts (o c.args.out.now) (o c.put_opening.new.out) (o c.put_children.new.out) p1 (p2 ++ (p3 ++ (p4 ++ (p5 ++ p6)))) r (c.in_ok-put_opening.ensures.text a abs)
+    (then_puts (o c.put_opening.new.out) (o c.put_closed_annotation.new.out) (o c.put_children.new.out) p2 (p3 ++ (p4 ++ (p5 ++ p6))) r c.in_ok-put_closed_annotation.ensures
+    (stops_in (o c.put_closed_annotation.new.out) (o c.put_children.new.out) p3 (p4 ++ (p5 ++ p6)) r c.from_residual-in_err-put_children.ensures.0 (c.in_err-put_children.ensures.text f (codes ",\"annotations\":") k i there e refl))))
 
 pub put_noted-returns-in_err-put_error-clause-text : goal.put_noted-returns-in_err-put_error-clause-text
 put_noted-returns-in_err-put_error-clause-text g t c =
@@ -81,55 +110,65 @@ put_noted-returns-in_err-put_error-clause-text g t c =
     let o = g.O.Out.progress in
     let x = c.args.row.now in
     let u = unit_there x k a i in
-    let p1 = comma_if c.args.later ++ beginning_text u.absolute u.note in
-    let p2 = annotations u.valid (node_values (placed k i f)) in
-    let p3 = error_part u.note in
-    let p4 = errors u.valid (node_values (placed k i f)) in
-    let p5 = end_text i k u.valid in
+    let p1 = opening_text c.args.later a in
+    let p2 = 34 ∷ annotation_part u.note in
+    let p3 = annotations u.valid (node_values (placed k i f)) in
+    let p4 = error_part u.note in
+    let p5 = errors u.valid (node_values (placed k i f)) in
+    let p6 = end_text i k u.valid in
+    let there = still_at c.args.locations.now c.put_opening.new.locations k i at c.in_ok-put_opening.ensures.back in
     let r = c.from_residual-in_err-put_error.result in
     subst (λ l. Puts (o c.args.out.now) (o c.put_error.new.out) l r) (noted_pieces c.args.later x k a i f)
-    (then_puts (o c.args.out.now) (o c.put_beginning.new.out) (o c.put_error.new.out) p1 (p2 ++ (p3 ++ (p4 ++ (p5)))) r (c.in_ok-put_beginning.ensures a abs)
-    (then_puts (o c.put_beginning.new.out) (o c.put_children.new.out) (o c.put_error.new.out) p2 (p3 ++ (p4 ++ (p5))) r (c.in_ok-put_children.ensures.text f (codes ",\"annotations\":") k i at e refl)
-    (stops_in (o c.put_children.new.out) (o c.put_error.new.out) p3 (p4 ++ (p5)) r c.from_residual-in_err-put_error.ensures.0 c.in_err-put_error.ensures)))
+    (then_puts (o c.args.out.now) (o c.put_opening.new.out) (o c.put_error.new.out) p1 (p2 ++ (p3 ++ (p4 ++ (p5 ++ p6)))) r (c.in_ok-put_opening.ensures.text a abs)
+    (then_puts (o c.put_opening.new.out) (o c.put_closed_annotation.new.out) (o c.put_error.new.out) p2 (p3 ++ (p4 ++ (p5 ++ p6))) r c.in_ok-put_closed_annotation.ensures
+    (then_puts (o c.put_closed_annotation.new.out) (o c.put_children.new.out) (o c.put_error.new.out) p3 (p4 ++ (p5 ++ p6)) r (c.in_ok-put_children.ensures.text f (codes ",\"annotations\":") k i there e refl)
+    (stops_in (o c.put_children.new.out) (o c.put_error.new.out) p4 (p5 ++ p6) r c.from_residual-in_err-put_error.ensures.0 c.in_err-put_error.ensures))))
 
 pub put_noted-returns-in_err-put_children-2-clause-text : goal.put_noted-returns-in_err-put_children-2-clause-text
 put_noted-returns-in_err-put_children-2-clause-text g t c =
     λ f k a i at abs e.
     let o = g.O.Out.progress in
     let x = c.args.row.now in
-    let l = c.args.locations.now in
     let u = unit_there x k a i in
-    let p1 = comma_if c.args.later ++ beginning_text u.absolute u.note in
-    let p2 = annotations u.valid (node_values (placed k i f)) in
-    let p3 = error_part u.note in
-    let p4 = errors u.valid (node_values (placed k i f)) in
-    let p5 = end_text i k u.valid in
+    let p1 = opening_text c.args.later a in
+    let p2 = 34 ∷ annotation_part u.note in
+    let p3 = annotations u.valid (node_values (placed k i f)) in
+    let p4 = error_part u.note in
+    let p5 = errors u.valid (node_values (placed k i f)) in
+    let p6 = end_text i k u.valid in
+    let there = still_at c.args.locations.now c.put_opening.new.locations k i at c.in_ok-put_opening.ensures.back in
+    let later = still_at c.put_opening.new.locations c.put_children.new.locations k i there c.in_ok-put_children.ensures.back in
     let r = c.from_residual-in_err-put_children-2.result in
     subst (λ l. Puts (o c.args.out.now) (o c.put_children-2.new.out) l r) (noted_pieces c.args.later x k a i f)
-    (then_puts (o c.args.out.now) (o c.put_beginning.new.out) (o c.put_children-2.new.out) p1 (p2 ++ (p3 ++ (p4 ++ (p5)))) r (c.in_ok-put_beginning.ensures a abs)
-    (then_puts (o c.put_beginning.new.out) (o c.put_children.new.out) (o c.put_children-2.new.out) p2 (p3 ++ (p4 ++ (p5))) r (c.in_ok-put_children.ensures.text f (codes ",\"annotations\":") k i at e refl)
-    (then_puts (o c.put_children.new.out) (o c.put_error.new.out) (o c.put_children-2.new.out) p3 (p4 ++ (p5)) r c.in_ok-put_error.ensures
-    (stops_in (o c.put_error.new.out) (o c.put_children-2.new.out) p4 (p5) r c.from_residual-in_err-put_children-2.ensures.0 (c.in_err-put_children-2.ensures.text f (codes ",\"errors\":") k i (still_at l c.put_children.new.locations k i at c.in_ok-put_children.ensures.back) e refl)))))
+    (then_puts (o c.args.out.now) (o c.put_opening.new.out) (o c.put_children-2.new.out) p1 (p2 ++ (p3 ++ (p4 ++ (p5 ++ p6)))) r (c.in_ok-put_opening.ensures.text a abs)
+    (then_puts (o c.put_opening.new.out) (o c.put_closed_annotation.new.out) (o c.put_children-2.new.out) p2 (p3 ++ (p4 ++ (p5 ++ p6))) r c.in_ok-put_closed_annotation.ensures
+    (then_puts (o c.put_closed_annotation.new.out) (o c.put_children.new.out) (o c.put_children-2.new.out) p3 (p4 ++ (p5 ++ p6)) r (c.in_ok-put_children.ensures.text f (codes ",\"annotations\":") k i there e refl)
+    (then_puts (o c.put_children.new.out) (o c.put_error.new.out) (o c.put_children-2.new.out) p4 (p5 ++ p6) r c.in_ok-put_error.ensures
+    (stops_in (o c.put_error.new.out) (o c.put_children-2.new.out) p5 (p6) r c.from_residual-in_err-put_children-2.ensures.0 (c.in_err-put_children-2.ensures.text f (codes ",\"errors\":") k i later e refl))))))
 
 pub put_noted-returns-clause-text : goal.put_noted-returns-clause-text
 put_noted-returns-clause-text g t c =
     λ f k a i at abs e.
     let o = g.O.Out.progress in
     let x = c.args.row.now in
-    let l = c.args.locations.now in
     let u = unit_there x k a i in
-    let p1 = comma_if c.args.later ++ beginning_text u.absolute u.note in
-    let p2 = annotations u.valid (node_values (placed k i f)) in
-    let p3 = error_part u.note in
-    let p4 = errors u.valid (node_values (placed k i f)) in
-    let p5 = end_text i k u.valid in
+    let p1 = opening_text c.args.later a in
+    let p2 = 34 ∷ annotation_part u.note in
+    let p3 = annotations u.valid (node_values (placed k i f)) in
+    let p4 = error_part u.note in
+    let p5 = errors u.valid (node_values (placed k i f)) in
+    let p6 = end_text i k u.valid in
+    let there = still_at c.args.locations.now c.put_opening.new.locations k i at c.in_ok-put_opening.ensures.back in
+    let later = still_at c.put_opening.new.locations c.put_children.new.locations k i there c.in_ok-put_children.ensures.back in
+    let last = still_at c.put_children.new.locations c.put_children-2.new.locations k i later c.in_ok-put_children-2.ensures.back in
     let r = c.put_end.result in
     subst (λ l. Puts (o c.args.out.now) (o c.put_end.new.out) l r) (noted_pieces c.args.later x k a i f)
-    (then_puts (o c.args.out.now) (o c.put_beginning.new.out) (o c.put_end.new.out) p1 (p2 ++ (p3 ++ (p4 ++ (p5)))) r (c.in_ok-put_beginning.ensures a abs)
-    (then_puts (o c.put_beginning.new.out) (o c.put_children.new.out) (o c.put_end.new.out) p2 (p3 ++ (p4 ++ (p5))) r (c.in_ok-put_children.ensures.text f (codes ",\"annotations\":") k i at e refl)
-    (then_puts (o c.put_children.new.out) (o c.put_error.new.out) (o c.put_end.new.out) p3 (p4 ++ (p5)) r c.in_ok-put_error.ensures
-    (then_puts (o c.put_error.new.out) (o c.put_children-2.new.out) (o c.put_end.new.out) p4 (p5) r (c.in_ok-put_children-2.ensures.text f (codes ",\"errors\":") k i (still_at l c.put_children.new.locations k i at c.in_ok-put_children.ensures.back) e refl)
-    (c.put_end.ensures k i (still_at c.put_children.new.locations c.put_children-2.new.locations k i (still_at l c.put_children.new.locations k i at c.in_ok-put_children.ensures.back) c.in_ok-put_children-2.ensures.back))))))
+    (then_puts (o c.args.out.now) (o c.put_opening.new.out) (o c.put_end.new.out) p1 (p2 ++ (p3 ++ (p4 ++ (p5 ++ p6)))) r (c.in_ok-put_opening.ensures.text a abs)
+    (then_puts (o c.put_opening.new.out) (o c.put_closed_annotation.new.out) (o c.put_end.new.out) p2 (p3 ++ (p4 ++ (p5 ++ p6))) r c.in_ok-put_closed_annotation.ensures
+    (then_puts (o c.put_closed_annotation.new.out) (o c.put_children.new.out) (o c.put_end.new.out) p3 (p4 ++ (p5 ++ p6)) r (c.in_ok-put_children.ensures.text f (codes ",\"annotations\":") k i there e refl)
+    (then_puts (o c.put_children.new.out) (o c.put_error.new.out) (o c.put_end.new.out) p4 (p5 ++ p6) r c.in_ok-put_error.ensures
+    (then_puts (o c.put_error.new.out) (o c.put_children-2.new.out) (o c.put_end.new.out) p5 (p6) r (c.in_ok-put_children-2.ensures.text f (codes ",\"errors\":") k i later e refl)
+    (c.put_end.ensures k i last))))))
 
 pub put_silent-returns-in_err-put_opening-clause-text : goal.put_silent-returns-in_err-put_opening-clause-text
 put_silent-returns-in_err-put_opening-clause-text g t c =
@@ -139,10 +178,24 @@ put_silent-returns-in_err-put_opening-clause-text g t c =
     let u = unit_there x k a i in
     let p1 = opening_text c.args.later u.absolute in
     let p2 = inside_text u.valid (node_values (placed k i f)) in
-    let p3 = closing_text i k u.valid in
+    let p3 = end_text i k u.valid in
     let r = c.from_residual.result in
     subst (λ l. Puts (o c.args.out.now) (o c.put_opening.new.out) l r) (silent_pieces c.args.later x k a i f c.requires.silent)
-    (stops_in (o c.args.out.now) (o c.put_opening.new.out) p1 (p2 ++ (p3)) r c.from_residual.ensures.0 (c.in_err-put_opening.ensures a abs))
+    (stops_in (o c.args.out.now) (o c.put_opening.new.out) p1 (p2 ++ p3) r c.from_residual.ensures.0 (c.in_err-put_opening.ensures.text a abs))
+
+pub put_silent-returns-then-is_empty-clause-text : goal.put_silent-returns-then-is_empty-clause-text
+put_silent-returns-then-is_empty-clause-text g t c =
+    λ f k a i at abs e.
+    let o = g.O.Out.progress in
+    let x = c.args.row.now in
+    let u = unit_there x k a i in
+    let p1 = opening_text c.args.later u.absolute in
+    let p3 = end_text i k u.valid in
+    let there = still_at c.args.locations.now c.put_opening.new.locations k i at c.in_ok-put_opening.ensures.back in
+    let none : length c.args.below.now ≡ 0 = is_none (length c.args.below.now) c.if-is_empty.ensures in
+    let r = c.put_closing.result in
+    subst (λ l. Puts (o c.args.out.now) (o c.put_closing.new.out) l r) (leaf_pieces c.args.later x k a i c.args.below.now f c.requires.silent none e)
+    (then_puts (o c.args.out.now) (o c.put_opening.new.out) (o c.put_closing.new.out) p1 (34 ∷ p3) r (c.in_ok-put_opening.ensures.text a abs) (c.put_closing.ensures k i there))
 
 pub put_silent-returns-in_err-put_inside-clause-text : goal.put_silent-returns-in_err-put_inside-clause-text
 put_silent-returns-in_err-put_inside-clause-text g t c =
@@ -152,27 +205,31 @@ put_silent-returns-in_err-put_inside-clause-text g t c =
     let u = unit_there x k a i in
     let p1 = opening_text c.args.later u.absolute in
     let p2 = inside_text u.valid (node_values (placed k i f)) in
-    let p3 = closing_text i k u.valid in
+    let p3 = end_text i k u.valid in
+    let there = still_at c.args.locations.now c.put_opening.new.locations k i at c.in_ok-put_opening.ensures.back in
+    let some : 0 < length c.args.below.now = not_none (length c.args.below.now) c.if-is_empty.ensures in
     let r = c.from_residual-in_err-put_inside.result in
     subst (λ l. Puts (o c.args.out.now) (o c.put_inside.new.out) l r) (silent_pieces c.args.later x k a i f c.requires.silent)
-    (then_puts (o c.args.out.now) (o c.put_opening.new.out) (o c.put_inside.new.out) p1 (p2 ++ (p3)) r (c.in_ok-put_opening.ensures a abs)
-    (stops_in (o c.put_opening.new.out) (o c.put_inside.new.out) p2 (p3) r c.from_residual-in_err-put_inside.ensures.0 (c.in_err-put_inside.ensures.text f k i at e)))
+    (then_puts (o c.args.out.now) (o c.put_opening.new.out) (o c.put_inside.new.out) p1 (p2 ++ p3) r (c.in_ok-put_opening.ensures.text a abs)
+    (stops_in (o c.put_opening.new.out) (o c.put_inside.new.out) p2 p3 r c.from_residual-in_err-put_inside.ensures.0 (c.in_err-put_inside.ensures.text f k i there e some)))
 
 pub put_silent-returns-clause-text : goal.put_silent-returns-clause-text
 put_silent-returns-clause-text g t c =
     λ f k a i at abs e.
     let o = g.O.Out.progress in
     let x = c.args.row.now in
-    let l = c.args.locations.now in
     let u = unit_there x k a i in
     let p1 = opening_text c.args.later u.absolute in
     let p2 = inside_text u.valid (node_values (placed k i f)) in
-    let p3 = closing_text i k u.valid in
-    let r = c.put_closing.result in
-    subst (λ l. Puts (o c.args.out.now) (o c.put_closing.new.out) l r) (silent_pieces c.args.later x k a i f c.requires.silent)
-    (then_puts (o c.args.out.now) (o c.put_opening.new.out) (o c.put_closing.new.out) p1 (p2 ++ (p3)) r (c.in_ok-put_opening.ensures a abs)
-    (then_puts (o c.put_opening.new.out) (o c.put_inside.new.out) (o c.put_closing.new.out) p2 (p3) r (c.in_ok-put_inside.ensures.text f k i at e)
-    (c.put_closing.ensures k i (still_at l c.put_inside.new.locations k i at c.in_ok-put_inside.ensures.back))))
+    let p3 = end_text i k u.valid in
+    let there = still_at c.args.locations.now c.put_opening.new.locations k i at c.in_ok-put_opening.ensures.back in
+    let some : 0 < length c.args.below.now = not_none (length c.args.below.now) c.if-is_empty.ensures in
+    let last = still_at c.put_opening.new.locations c.put_inside.new.locations k i there c.in_ok-put_inside.ensures.back in
+    let r = c.put_end.result in
+    subst (λ l. Puts (o c.args.out.now) (o c.put_end.new.out) l r) (silent_pieces c.args.later x k a i f c.requires.silent)
+    (then_puts (o c.args.out.now) (o c.put_opening.new.out) (o c.put_end.new.out) p1 (p2 ++ p3) r (c.in_ok-put_opening.ensures.text a abs)
+    (then_puts (o c.put_opening.new.out) (o c.put_inside.new.out) (o c.put_end.new.out) p2 p3 r (c.in_ok-put_inside.ensures.text f k i there e some)
+    (c.put_end.ensures k i last)))
 
 pub put_children-returns-then-is_empty-clause-text : goal.put_children-returns-then-is_empty-clause-text
 put_children-returns-then-is_empty-clause-text g t c =
@@ -205,35 +262,25 @@ put_children-returns-clause-text g t c =
     subst (λ l. Puts (o c.args.out.now) (o c.put_trees.new.out) l r) (sym (children_placed name c.args.start.now c.args.here k i f (some_trees rows f e some) here start))
     (then_puts (o c.args.out.now) (o c.put.new.self) (o c.put_trees.new.out) c.args.start.now rest r c.in_ok-put.ensures (subst (λ l. Puts (o c.put.new.self) (o c.put_trees.new.out) l r) (append-nil rest) (c.put_trees.ensures.text f [] k i at e refl)))
 
-pub put_inside-returns-then-is_empty-clause-text : goal.put_inside-returns-then-is_empty-clause-text
-put_inside-returns-then-is_empty-clause-text g t c =
-    λ f k i at e.
-    let o = g.O.Out.progress in
-    let rows = c.args.rows.now in
-    let none : length rows ≡ 0 = is_none (length rows) c.if-is_empty.ensures in
-    subst (λ l. Puts (o c.args.out.now) (o c.put.new.self) l c.put.result) (none_there c.args.valid k i rows f none e) c.put.ensures
-
 pub put_inside-returns-in_err-put_children_start-clause-text : goal.put_inside-returns-in_err-put_children_start-clause-text
 put_inside-returns-in_err-put_children_start-clause-text g t c =
-    λ f k i at e.
+    λ f k i at e some.
     let o = g.O.Out.progress in
     let rows = c.args.rows.now in
-    let some : 0 < length rows = not_none (length rows) c.if-is_empty.ensures in
-    let rest = compact_items false (items (node_values (placed k i f))) ++ codes ",\"instanceLocation\":\"" in
+    let rest = compact_items false (items (node_values (placed k i f))) in
     let r = c.from_residual.result in
     subst (λ l. Puts (o c.args.out.now) (o c.put_children_start.new.out) l r) (some_there c.args.valid k i f (some_trees rows f e some))
     (stops_in (o c.args.out.now) (o c.put_children_start.new.out) (children_start c.args.valid) rest r c.from_residual.ensures.0 c.in_err-put_children_start.ensures)
 
 pub put_inside-returns-clause-text : goal.put_inside-returns-clause-text
 put_inside-returns-clause-text g t c =
-    λ f k i at e.
+    λ f k i at e some.
     let o = g.O.Out.progress in
     let rows = c.args.rows.now in
-    let some : 0 < length rows = not_none (length rows) c.if-is_empty.ensures in
-    let rest = compact_items false (items (node_values (placed k i f))) ++ codes ",\"instanceLocation\":\"" in
+    let rest = compact_items false (items (node_values (placed k i f))) in
     let r = c.put_trees.result in
     subst (λ l. Puts (o c.args.out.now) (o c.put_trees.new.out) l r) (some_there c.args.valid k i f (some_trees rows f e some))
-    (then_puts (o c.args.out.now) (o c.put_children_start.new.out) (o c.put_trees.new.out) (children_start c.args.valid) rest r c.in_ok-put_children_start.ensures (c.put_trees.ensures.text f (codes ",\"instanceLocation\":\"") k i at e refl))
+    (then_puts (o c.args.out.now) (o c.put_children_start.new.out) (o c.put_trees.new.out) (children_start c.args.valid) rest r c.in_ok-put_children_start.ensures (subst (λ l. Puts (o c.put_children_start.new.out) (o c.put_trees.new.out) l r) (append-nil rest) (c.put_trees.ensures.text f [] k i at e refl)))
 
 pub put_trees-loop-next-init : goal.put_trees-loop-next-init
 put_trees-loop-next-init g t c = (omega arith, stays_there c.args.locations.now, λ f rest e. (f, e, λ k i at. starts (g.O.Out.progress c.args.out.now) _))

@@ -1,43 +1,10 @@
-use Rattle.std.proofs.Common.{◌∷◌, ◌++◌, ◌∙◌, append_assoc, subst}
-use Rattle.json.specs.Print.{escape}
-use Rattle.js_doc.specs.BytesOut.{Goes, Puts, Stops}
-use Rattle.js_tree.specs.Locations.{keyword_start}
-use Rattle.js_tree.specs.code.NodeText.{valid_text}
-use Rattle.js_tree.proofs.Pieces.{then_puts, stops_in}
+use Rattle.std.proofs.Common.{subst, ◌∙◌}
+use Rattle.js_doc.specs.BytesOut.{Puts}
+use Rattle.js_tree.proofs.QuotedParts.{from_mark}
 use Rattle.js_tree.proofs.relative.locations.Locations.put_closing.Goals as goal
-
-pub returns-in_err-put : goal.returns-in_err-put
-returns-in_err-put g c =
-    λ k i at.
-    let o = g.O.Out.progress in
-    let a = o c.args.out.now in
-    let b = o c.put.new.self in
-    let r = c.from_residual.result in
-    stops_in a b (escape i) (keyword_start ++ (escape k ++ 34 ∷ valid_text c.args.valid)) r c.from_residual.ensures.0 (subst (Stops a b) (c.as_slice.ensures.value ∙ at.instance_is) c.in_err-put.ensures)
-
-pub returns-in_err-put-2 : goal.returns-in_err-put-2
-returns-in_err-put-2 g c =
-    λ k i at.
-    let o = g.O.Out.progress in
-    let a = o c.args.out.now in
-    let b = o c.put.new.self in
-    let d = o c.put-2.new.self in
-    let last = 34 ∷ valid_text c.args.valid in
-    let r = c.from_residual-in_err-put-2.result in
-    let at_once = stops_in b d (keyword_start ++ escape k) last r c.from_residual-in_err-put-2.ensures.0 (subst (Stops b d) (c.as_slice-2.ensures.value ∙ at.keyword_is) c.in_err-put-2.ensures) in
-    then_puts a b d (escape i) (keyword_start ++ (escape k ++ last)) r (subst (Goes a b) (c.as_slice.ensures.value ∙ at.instance_is) c.in_ok-put.ensures)
-    (subst (λ l. Puts b d l r) (append_assoc keyword_start (escape k) last) at_once)
 
 pub returns : goal.returns
 returns g c =
     λ k i at.
     let o = g.O.Out.progress in
-    let a = o c.args.out.now in
-    let b = o c.put.new.self in
-    let d = o c.put-2.new.self in
-    let z = o c.put_last.new.out in
-    let last = 34 ∷ valid_text c.args.valid in
-    let r = c.put_last.result in
-    let at_once = then_puts b d z (keyword_start ++ escape k) last r (subst (Goes b d) (c.as_slice-2.ensures.value ∙ at.keyword_is) c.in_ok-put-2.ensures) c.put_last.ensures in
-    then_puts a b z (escape i) (keyword_start ++ (escape k ++ last)) r (subst (Goes a b) (c.as_slice.ensures.value ∙ at.instance_is) c.in_ok-put.ensures)
-    (subst (λ l. Puts b z l r) (append_assoc keyword_start (escape k) last) at_once)
+    subst (λ l. Puts (o c.args.out.now) (o c.put_from.new.out) l c.put_from.result) (from_mark c.as_slice.result.now i k c.args.valid (c.as_slice.ensures.value ∙ at.instance_is)) (c.put_from.ensures k i at)
