@@ -6,7 +6,8 @@ ghost use Rattle.js_bundle.specs.Schemas.{is_place};
 ghost use Rattle.js_eval.specs.Bundle.{schemas_of};
 ghost use Rattle.js_eval.specs.Sited.{numbered_site};
 ghost use Rattle.js_eval.specs.Walk.Reported.{Reported};
-ghost use Rattle.js_eval.specs.Walked.{AreNotedRows, AreResultRows, IsResultWithin, IsVerdict, LeadsTo, NoneStands, OnTooLarge};
+ghost use Rattle.js_eval.specs.Walked.{AreNotedRows, AreResultRows, IsResultWithin, IsVerdict, LeadsTo, NoneStands};
+ghost use Rattle.js_eval.specs.Walked.{OnTooLarge};
 
 use crate::finished_world::Here;
 use crate::instance::Instance;

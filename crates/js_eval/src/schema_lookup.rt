@@ -44,7 +44,7 @@ pub(crate) fn names_at(schemas: &Schemas, place: Place) -> &[KeywordName]
 
 /// The subschema that a step through a keyword leads to, and its place. `schema`: the schema at `place`, where the
 /// look-up starts.
-pub(crate) fn below<'a>(
+pub(crate) fn subschema_at<'a>(
     schemas: &'a Schemas,
     place: Place,
     schema: &'a Doc,

@@ -18,7 +18,7 @@ use Rattle.js_tree.specs.code.KeptBetween.{AreAdded, AreSame, IsEnd, IsPending, 
 use Rattle.js_tree.specs.code.Listing.{AreMarkedRows}
 use Rattle.js_tree.specs.code.RelativeText.{AreRowsOfTrees}
 use Rattle.js_tree.specs.declared.relative.keeping.Between.{Between}
-use Rattle.js_tree.specs.declared.relative.keeping.Start.{Start}
+use Rattle.js_tree.specs.declared.relative.keeping.Lengths.{Lengths}
 use Rattle.js_tree.specs.declared.relative.rows.RelativeRow.{RelativeRow}
 use Rattle.js_tree.specs.declared.relative.marks.Mark.{Mark}
 use Rattle.js_tree.proofs.EscapedRows.{NextTree, further, no_trees}
@@ -34,7 +34,7 @@ use Rattle.js_tree.proofs.RoomLeft.{fewer_below}
 pub same_parts : (a b c : Between) → AreSame a b → AreSame b c → AreSame a c
 same_parts a b c d e = record { keyword = e.keyword ∙ d.keyword; instance = e.instance ∙ d.instance }
 
-pub still_pending : (a b : Between) (s : Start) (k i : List ℕ) → IsPending a s k i → AreSame a b → IsPending b s k i
+pub still_pending : (a b : Between) (s : Lengths) (k i : List ℕ) → IsPending a s k i → AreSame a b → IsPending b s k i
 still_pending a b s k i p e = record {
   keyword_fits = subst (λ xs. s.keyword ≤ length xs) (sym e.keyword) p.keyword_fits;
   instance_fits = subst (λ xs. s.instance ≤ length xs) (sym e.instance) p.instance_fits;
@@ -42,7 +42,7 @@ still_pending a b s k i p e = record {
   instance_is = ap (drop s.instance) e.instance ∙ p.instance_is;
 }
 
-pub none_pending : (a : Between) (s : Start) → IsEnd a s → IsPending a s [] []
+pub none_pending : (a : Between) (s : Lengths) → IsEnd a s → IsPending a s [] []
 none_pending a s e = record {
   keyword_fits = omega (arith, e.0);
   instance_fits = omega (arith, e.1);
@@ -51,7 +51,7 @@ none_pending a s e = record {
 }
 
 -- the unit of a node that stays
-pub joined_unit : (a : Between) (s : Start) (x : RelativeRow) (u : OutputUnit) (k i keyword instance : List ℕ) (note : Note) → IsPending a s k i → (relative_row x).0 ≡ escaped_unit u
+pub joined_unit : (a : Between) (s : Lengths) (x : RelativeRow) (u : OutputUnit) (k i keyword instance : List ℕ) (note : Note) → IsPending a s k i → (relative_row x).0 ≡ escaped_unit u
     → keyword ≡ drop s.keyword a.keyword.items ++ keyword_part x → instance ≡ drop s.instance a.instance.items ++ x.instance.now → note ≡ note_of x.note
     → ◌≡◌ {A = OutputUnit} (record { valid = x.valid; keyword = keyword; absolute = escape x.schema.now ++ absolute_part x; instance = instance; note = note })
     (escaped_unit (placed_unit k i u))

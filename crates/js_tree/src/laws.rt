@@ -6,7 +6,8 @@
 ghost use Rattle.std.specs.Prelude.{◌≡◌, [], ◌+◌, ◌<◌, ◌↔◌, Bool, IsTrue, List, Some, false, true, ℕ};
 ghost use Rattle.js_tree.specs.Alike.{same_but_keyword};
 ghost use Rattle.js_tree.specs.Forest.{Forest, ◌⊹◌, node_count, tree};
-ghost use Rattle.js_tree.specs.Holding.{BoxedClosesAll, BoxedHolds, FlatHolds, RelativeHolds, TrimmingHolds, VerdictHolds};
+ghost use Rattle.js_tree.specs.Holding.{BoxedClosesAll, BoxedHolds, FlatHolds, RelativeHolds, TrimmingHolds};
+ghost use Rattle.js_tree.specs.Holding.{VerdictHolds};
 ghost use Rattle.js_tree.specs.Events.{closing, opening};
 ghost use Rattle.js_tree.specs.Note.{silent};
 ghost use Rattle.js_tree.specs.Relative.{IsLocated, placed_tree, relative_tree};

@@ -9,7 +9,7 @@ ghost use Rattle.js_eval.specs.Sited.{numbered_site};
 ghost use Rattle.js_eval.specs.declared.cursors.application.To.TheVariants as to;
 
 use crate::instance::{Applied, Instance};
-use crate::schema_lookup::below;
+use crate::schema_lookup::subschema_at;
 use js_bundle::{Place, Schemas, Step};
 use js_doc::Doc;
 
@@ -43,7 +43,9 @@ impl<'a> Held<'a> {
     {
         match self {
             Held::One(place, schema) => (*place, schema),
-            Held::Each(place, schema, keyword) => below(schemas, *place, schema, keyword, step),
+            Held::Each(place, schema, keyword) => subschema_at(
+                schemas, *place, schema, keyword, step,
+            ),
         }
     }
 

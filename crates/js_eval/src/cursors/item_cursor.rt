@@ -31,32 +31,6 @@ pub(crate) struct ItemCursor<'a> {
     pub passed_over: Vec<bool>,
 }
 
-/// Each schema of a keyword's list, applied to the value itself.
-#[tactic(auto, using(crate::proofs::ItemsLeft::all_left))]
-pub(crate) fn each_listed<'a>(
-    alloc: Global,
-    place: Place,
-    schema: &'a Doc,
-    keyword: &'a str,
-    list: &'a [Doc],
-    value: Instance<'a>,
-) -> ItemCursor<'a>
-    ensures asked { (documents : Documents) → items_asked documents result
-        ≡ map (λ e. application (schemas_of documents) (numbered_site documents place) keyword.now
-        (spec.Index e.0) spec.Alone (instance_of value.entry))
-        (indexed_from 0 (map value_of list.now)) }
-    ensures held { (documents : Documents) → IsSchemaAt documents place (value_of schema.now)
-        → IsHeld documents result.held }
-{
-    ItemCursor {
-        held: Held::Each(place, schema, keyword),
-        to: To::Whole(value),
-        items: list,
-        next: 0,
-        passed_over: Vec::new(alloc),
-    }
-}
-
 /// Each schema of a keyword's list, applied to the item at the same index.
 #[tactic(auto, using(crate::proofs::ItemsLeft::all_left))]
 pub(crate) fn each_at_index<'a>(

@@ -13,7 +13,7 @@ ghost use Rattle.js_eval.specs.Sited.{numbered_site};
 
 use crate::cursors::member_cursor::pattern_of;
 use crate::instance::{Applied, Instance};
-use crate::schema_lookup::below;
+use crate::schema_lookup::subschema_at;
 use crate::searching::searchers::{NamedPattern, Searchers};
 use js_bundle::{Place, Schemas, Step};
 use js_doc::{Doc, Members, Memory, Pairs};
@@ -147,7 +147,13 @@ fn begin<'a>(
             cursor.present = Some(pattern);
             cursor.name = name;
             let step = Step::Name(name);
-            let (place, schema) = below(schemas, cursor.place, cursor.schema, cursor.keyword, step);
+            let (place, schema) = subschema_at(
+                schemas,
+                cursor.place,
+                cursor.schema,
+                cursor.keyword,
+                step,
+            );
             cursor.below = place;
             cursor.schema_below = schema;
             cursor.left = cursor.members.pairs();

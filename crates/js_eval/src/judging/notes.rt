@@ -1,5 +1,6 @@
 //! The notes of keywords and of schemas: annotations and errors (Core, sections 7.7, 10, 11 and 12.3.4).
-ghost use Rattle.std.specs.Prelude.{◌≡◌, ◌++◌, ◌∷◌, [], ℕ, true, false, IfOk, List, None, OnOk, codes, cond, decimal, filter, map, option_map, string_bytes};
+ghost use Rattle.std.specs.Prelude.{◌≡◌, ◌++◌, ◌∷◌, [], ℕ, true, false, IfOk, List, None, OnOk, codes, cond, decimal};
+ghost use Rattle.std.specs.Prelude.{filter, map, option_map, string_bytes};
 ghost use Rattle.std.specs.Option.{option_map_or};
 ghost use Rattle.js_assert.specs.Argument.{entries};
 ghost use Rattle.js_assert.specs.Assertion.{asserted};

@@ -1,9 +1,11 @@
 //! The single steps of the recursion. Each that returns a `Result` fails with `Memory` if an allocation fails.
-ghost use Rattle.std.specs.Prelude.{◌≡◌, ◌∷◌, [], ◌<◌, ◌≤◌, List, true, map, length, drop, nat_eq, IfOk, OnOk, MatchOption, ℕ};
+ghost use Rattle.std.specs.Prelude.{◌≡◌, ◌∷◌, [], ◌<◌, ◌≤◌, List, true, map, length, drop, nat_eq, IfOk, OnOk};
+ghost use Rattle.std.specs.Prelude.{MatchOption, ℕ};
 ghost use Rattle.std.specs.List.{dedup, list_all};
 ghost use Rattle.std.specs.String.Boundary.{IsSplitPoint};
 ghost use Rattle.js_bundle.specs.Resource.{Site};
-ghost use Rattle.js_eval.specs.Walk.Steps.{SchemaOpened, SchemaClosed, IsJudged, KeywordOpened, KeywordClosed, KeywordDone, WentDown, CameBack};
+ghost use Rattle.js_eval.specs.Walk.Steps.{SchemaOpened, SchemaClosed, IsJudged, KeywordOpened, KeywordClosed};
+ghost use Rattle.js_eval.specs.Walk.Steps.{KeywordDone, WentDown, CameBack};
 ghost use Rattle.js_doc.specs.Value.{Value as JsonValue};
 ghost use Rattle.js_eval.specs.SchemaSet.{Text as Bytes};
 ghost use Rattle.js_eval.specs.Walk.Reported.{DropsSilent};

@@ -1,5 +1,6 @@
 //! What a walk needs to know of schemas and of an instance.
-ghost use Rattle.std.specs.Prelude.{◌≡◌, ◌∷◌, [], List, ℕ, Bool, Option, false, true, filter, map, length, nat_eq, option_to_list, IfOk, OnOk, MatchOption};
+ghost use Rattle.std.specs.Prelude.{◌≡◌, ◌∷◌, [], List, ℕ, Bool, Option, false, true, filter, map, length, nat_eq};
+ghost use Rattle.std.specs.Prelude.{option_to_list, IfOk, OnOk, MatchOption};
 ghost use Rattle.std.specs.List.{dedup, list_all};
 ghost use Rattle.js_doc.specs.Members.{IsAscending};
 ghost use Rattle.js_doc.specs.Value.{Value as JsonValue};
@@ -11,7 +12,8 @@ ghost use Rattle.js_eval.specs.Keywords as table;
 ghost use Rattle.js_eval.specs.Passes.{how_many};
 ghost use Rattle.js_eval.specs.SchemaSet.{Text as Bytes, SchemaSet};
 ghost use Rattle.js_eval.specs.Walk.Visited.{AreJudged, is_visited};
-ghost use Rattle.js_eval.specs.Walk.Told.{IsKeywordAt, asked_by, accepts_at, keywords_at, kind_at, passes_at, at_name, at_step};
+ghost use Rattle.js_eval.specs.Walk.Told.{IsKeywordAt, asked_by, accepts_at, keywords_at, kind_at, passes_at, at_name};
+ghost use Rattle.js_eval.specs.Walk.Told.{at_step};
 
 use crate::keywords::kind::Kind;
 use crate::walking::path::Path;

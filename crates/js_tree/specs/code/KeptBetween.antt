@@ -10,7 +10,7 @@ use Rattle.js_tree.specs.Relative.{escaped, placed_unit, relative_tree}
 use Rattle.js_tree.specs.RelativeState.{keyword_part, relative_row}
 use Rattle.js_tree.specs.Result.{ResultTree}
 use Rattle.js_tree.specs.declared.relative.keeping.Between.{Between}
-use Rattle.js_tree.specs.declared.relative.keeping.Start.{Start}
+use Rattle.js_tree.specs.declared.relative.keeping.Lengths.{Lengths}
 use Rattle.js_tree.specs.declared.relative.rows.RelativeRow.{RelativeRow}
 use Rattle.js_tree.specs.declared.relative.marks.Mark.{Mark}
 
@@ -33,7 +33,7 @@ kept_relative t = let r = relative_tree t in record { root = r.root; below = kep
 -- ---- of the code
 
 -- what is behind the start is what the removed nodes since the last kept one add, with escapes
-pub record IsPending (between : Between) (start : Start) (keyword : List ℕ) (instance : List ℕ) : Type 0 where
+pub record IsPending (between : Between) (start : Lengths) (keyword : List ℕ) (instance : List ℕ) : Type 0 where
   pub keyword_fits : start.keyword ≤ length between.keyword.items
   pub instance_fits : start.instance ≤ length between.instance.items
   pub keyword_is : drop start.keyword between.keyword.items ≡ escape keyword
@@ -50,7 +50,7 @@ pub record AreLonger (old : Between) (row : RelativeRow) (new : Between) : Type 
   pub instance : new.instance.items ≡ old.instance.items ++ row.instance.now
 
 -- how long the parts are
-abbrev pub IsEnd : Between → Start → Type 0
+abbrev pub IsEnd : Between → Lengths → Type 0
 IsEnd between start = (start.keyword ≡ length between.keyword.items) × (start.instance ≡ length between.instance.items)
 
 -- the rows of the trees were added

@@ -1,6 +1,7 @@
 //! Pruning and condensing of flat forms, in place.
 ghost use Rattle.std.specs.Prelude.{◌≡◌, ◌<◌, ◌≤◌, ◌+◌, ◌^◌, ◌++◌, List, drop, take, length, map, suc};
-ghost use Rattle.js_tree.specs.code.Compacting.{AreMarkedTrees, gathered, left, left_of, left_tree_count, marked_rows, gone_with, room, stays};
+ghost use Rattle.js_tree.specs.code.Compacting.{AreMarkedTrees, gathered, left, left_of, left_tree_count, marked_rows};
+ghost use Rattle.js_tree.specs.code.Compacting.{gone_with, room, stays};
 ghost use Rattle.js_tree.specs.Flat.{flat_form, flat_of};
 ghost use Rattle.js_tree.specs.FlatState.{IsWholeTree, noted_of, row_of, flat_state, whole_tree};
 ghost use Rattle.js_tree.specs.Forest.{Forest, node_count};

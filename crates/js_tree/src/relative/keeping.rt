@@ -26,7 +26,7 @@ struct Between {
 
 // How long these were at the last node that stays. What is behind that is still to be added.
 #[derive(Clone, Copy)]
-struct Start {
+struct Lengths {
     keyword: usize,
     instance: usize,
 }
@@ -71,10 +71,10 @@ fn keep_marked<'a>(
 
 impl Between {
     // How long they are.
-    fn end(&self) -> Start
+    fn end(&self) -> Lengths
         ensures { IsEnd self.now result }
     {
-        Start {
+        Lengths {
             keyword: self.keyword.len(),
             instance: self.instance.len(),
         }
@@ -90,7 +90,7 @@ impl Between {
     }
 
     // Takes away what was added behind this.
-    fn go_back(&mut self, end: Start)
+    fn go_back(&mut self, end: Lengths)
         ensures { (before : Between) (row : RelativeRow) → IsEnd before end → AreLonger before row self.old
             → AreSame before self.new }
     {
@@ -105,7 +105,7 @@ impl Between {
         &mut self,
         arena: &'a Bump,
         row: &mut RelativeRow<'a>,
-        start: Start,
+        start: Lengths,
         kept: &mut Vec<RelativeRow<'a>>,
     ) -> Result<(), Memory>
         ensures row { (u : OutputUnit) (keyword instance : List ℕ) → IsPending self.old start keyword instance
@@ -140,7 +140,7 @@ fn keep_trees<'a>(
     arena: &'a Bump,
     rows: &mut [RelativeRow<'a>],
     marks: &[Mark],
-    start: Start,
+    start: Lengths,
     between: &mut Between,
     kept: &mut Vec<RelativeRow<'a>>,
 ) -> Result<(), Memory>
@@ -173,7 +173,7 @@ fn keep_tree<'a>(
     arena: &'a Bump,
     rows: &mut [RelativeRow<'a>],
     marks: &[Mark],
-    start: Start,
+    start: Lengths,
     between: &mut Between,
     kept: &mut Vec<RelativeRow<'a>>,
 ) -> Result<(), Memory>
@@ -202,7 +202,7 @@ fn keep_node<'a>(
     arena: &'a Bump,
     rows: &mut [RelativeRow<'a>],
     marks: &[Mark],
-    start: Start,
+    start: Lengths,
     between: &mut Between,
     kept: &mut Vec<RelativeRow<'a>>,
 ) -> Result<(), Memory>
@@ -230,7 +230,7 @@ fn keep_below<'a>(
     arena: &'a Bump,
     rows: &mut [RelativeRow<'a>],
     marks: &[Mark],
-    start: Start,
+    start: Lengths,
     between: &mut Between,
     kept: &mut Vec<RelativeRow<'a>>,
 ) -> Result<(), Memory>

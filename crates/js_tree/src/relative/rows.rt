@@ -1,10 +1,13 @@
 //! A result as relative rows: of each location a row keeps only what it adds to that of the node above.
-ghost use Rattle.std.specs.Prelude.{◌≡◌, ◌==◌, ◌<◌, ◌||◌, ◌∷◌, [], ◌++◌, IfOk, IsTrue, OnOk, drop, length, not, true, vec_capacity};
+ghost use Rattle.std.specs.Prelude.{◌≡◌, ◌==◌, ◌<◌, ◌||◌, ◌∷◌, [], ◌++◌, IfOk, IsTrue, OnOk, drop, length, not, true};
+ghost use Rattle.std.specs.Prelude.{vec_capacity};
 ghost use Rattle.std.specs.List.{list_all};
 ghost use Rattle.json.specs.Print.{escape};
 ghost use Rattle.js_doc.specs.Escapes.{stands};
 ghost use Rattle.js_tree.specs.Events.{opening, closing};
-ghost use Rattle.js_tree.specs.RelativeState.{AreRowsOf, AreTrimmedOf, AreWhole, DropsSilentLeaf, IsRootAt, node_above, open_node, open_nodes, part, relative_after, relative_start, relative_state, row_goes, trimming_start};
+ghost use Rattle.js_tree.specs.RelativeState.{AreRowsOf, AreTrimmedOf, AreWhole, DropsSilentLeaf, IsRootAt, node_above};
+ghost use Rattle.js_tree.specs.RelativeState.{open_node, open_nodes, part, relative_after, relative_start};
+ghost use Rattle.js_tree.specs.RelativeState.{relative_state, row_goes, trimming_start};
 ghost use Rattle.js_tree.specs.Result.{ResultTree};
 ghost use Rattle.js_tree.specs.Seen.{note_of};
 ghost use Rattle.js_tree.specs.Trimmed.{trimmed_tree};

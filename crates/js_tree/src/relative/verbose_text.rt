@@ -13,12 +13,13 @@ ghost use Rattle.js_tree.specs.RelativeState.{AreRowsOf, AreWhole, part};
 ghost use Rattle.js_tree.specs.Result.{ResultTree};
 ghost use Rattle.js_tree.specs.Seen.{note_of};
 ghost use Rattle.js_tree.specs.code.NodeText.{beginning_text, given_text};
-ghost use Rattle.js_tree.specs.code.RelativeText.{AreRowsOfTree, AreRowsOfTrees, IsAbsolute, children_start, inside_text, opening_text, unit_there};
+ghost use Rattle.js_tree.specs.code.RelativeText.{AreRowsOfTree, AreRowsOfTrees, IsAbsolute, children_start};
+ghost use Rattle.js_tree.specs.code.RelativeText.{inside_text, opening_text, unit_there};
 
 use crate::relative::basic_text::put_unit;
 use crate::relative::locations::Locations;
 use crate::relative::rows::{RelativeRow, RelativeRows};
-use crate::writing::node_text::{put_annotation, put_closed_annotation, put_error};
+use crate::writing::node_text::{put_closed_annotation, put_error};
 use js_doc::{Out, Stopped, put_escaped};
 
 /// Writes the rows' tree as compact text in the verbose format (JSON Schema Core, section 12.4.4), with whole
@@ -214,21 +215,6 @@ fn put_trees<O: Out>(
         later = true;
     }
     out.put(end)
-}
-
-/// Writes the members before `annotations`; after a comma, if the node isn't the first in its list.
-pub(crate) fn put_beginning<O: Out>(
-    later: bool,
-    row: &RelativeRow,
-    out: &mut O,
-) -> Result<(), Stopped>
-    ensures { (absolute : List ℕ) → IsAbsolute row.now absolute
-        → Puts (O.progress out.old) (O.progress out.new)
-        (comma_if later ++ beginning_text absolute (note_of row.now.note)) result }
-{
-    put_whole_opening(later, row, out)?;
-    out.put(b"\"")?;
-    put_annotation(&row.note, out)
 }
 
 /// Writes the beginning of a node, up to the end of its absolute location, without the closing quotation mark. What

@@ -4,7 +4,8 @@ ghost use Rattle.js_doc.specs.BytesOut.{Puts};
 ghost use Rattle.js_doc.specs.Compact.{comma_if, compact, compact_items, quoted};
 ghost use Rattle.js_doc.specs.Seen.{value_of};
 ghost use Rattle.js_doc.specs.Value.{items, list, text, whole};
-ghost use Rattle.js_tree.specs.code.NodeText.{annotation_part, beginning_text, end_text, error_part, head_text, tail_text, valid_text};
+ghost use Rattle.js_tree.specs.code.NodeText.{annotation_part, beginning_text, end_text, error_part, head_text};
+ghost use Rattle.js_tree.specs.code.NodeText.{tail_text, valid_text};
 ghost use Rattle.js_tree.specs.Seen.{note_of};
 
 use crate::note::Note;
