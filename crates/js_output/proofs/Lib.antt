@@ -3,7 +3,7 @@ pub mod BundleCauses
 pub mod Sites
 pub mod Recorded
 pub mod RowsThere
-pub mod PreparedForms
+pub mod MergedForms
 pub mod Sending
 pub mod Answering
 pub mod FinishedSchemas

@@ -63,7 +63,7 @@ fn judge_value<W: Write>(
 {
     let arena = Bump::new(alloc);
     let prepared = Prepared::new(alloc, &arena, schemas, place, format, instance)?;
-    let valid = prepared.verdict();
+    let valid = prepared.root_valid();
     prepared.write(out)?;
     Ok(valid)
 }

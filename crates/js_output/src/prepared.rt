@@ -65,7 +65,7 @@ impl<'a> Prepared<'a> {
     }
 
     /// The verdict.
-    pub(crate) fn verdict(&self) -> bool
+    pub(crate) fn root_valid(&self) -> bool
         requires { ArePrepared self.now }
         ensures { (valid : Bool) (value : Value) → IsPrepared self.now valid value → result ≡ valid }
     {

@@ -26,7 +26,7 @@ const START: &[u8] = b",{\"absoluteKeywordLocation\":\"";
 
 const START_LENGTH: usize = 29;
 // Longer locations aren't kept, so that nothing is allocated while rows are written.
-const LONGEST: usize = 256;
+const LONGEST_KEPT: usize = 256;
 
 impl Opening {
     /// Keeps the empty location, and reserves all memory that it will need.
@@ -34,14 +34,14 @@ impl Opening {
     /// # Errors
     /// `Memory` if an allocation fails.
     pub fn new(alloc: Global) -> Result<Opening, Memory> {
-        let mut text = Vec::with_capacity(alloc, START_LENGTH + LONGEST + 1)?;
+        let mut text = Vec::with_capacity(alloc, START_LENGTH + LONGEST_KEPT + 1)?;
         text.extend_from_slice(START)?;
         text.push(b'/')?;
         Ok(Opening { text })
     }
 
     /// Whether this location is kept now. It isn't if it has escapes or is very long.
-    pub fn has(&mut self, schema: &[u8]) -> bool
+    pub fn is_kept(&mut self, schema: &[u8]) -> bool
         ensures { result ≡ true → (schema_kept self.new.text.items ≡ schema.now) × (escape schema.now ≡ schema.now) }
     {
         if self.is_of(schema) {
@@ -52,7 +52,7 @@ impl Opening {
 
     /// Writes what is kept: with the comma before it if the node isn't the first in its list, and with the slash if
     /// there is one.
-    pub fn put<O: Out>(&self, later: bool, slash: bool, out: &mut O) -> Result<(), Stopped>
+    pub fn put_kept<O: Out>(&self, later: bool, slash: bool, out: &mut O) -> Result<(), Stopped>
         ensures { Puts (O.progress out.old) (O.progress out.new)
             (front_text later (schema_kept self.now.text.items) slash) result }
     {
@@ -72,7 +72,7 @@ impl Opening {
     fn keep(&mut self, schema: &[u8]) -> bool
         ensures { result ≡ true → (schema_kept self.new.text.items ≡ schema.now) × (escape schema.now ≡ schema.now) }
     {
-        if schema.len() > LONGEST {
+        if schema.len() > LONGEST_KEPT {
             return false;
         }
         if !stand_as_they_are(schema) {

@@ -230,10 +230,10 @@ pub(crate) fn put_opening<O: Out>(
     ensures back { IsBack locations.old locations.new }
 {
     let opening = &mut locations.opening;
-    if !opening.has(row.schema.as_bytes()) {
+    if !opening.is_kept(row.schema.as_bytes()) {
         return put_whole_opening(later, row, out);
     }
-    opening.put(later, row.absolute_slash, out)?;
+    opening.put_kept(later, row.absolute_slash, out)?;
     out.put(row.absolute)
 }
 

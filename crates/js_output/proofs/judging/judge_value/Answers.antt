@@ -21,4 +21,4 @@ returns-clause-answer g c =
     let format = c.args.format in
     let (t, is, stands, made) = c.in_ok-prepared.ensures.prepared in
     tells-sent docs (place_at docs c.args.place) (value_of c.args.instance.now) format t is stands g.W.Write.contents c.args.out.now c.write.new.out
-    c.verdict-valid.result (c.verdict-valid.ensures t.root.valid (form format t) made) (c.in_ok-write.ensures.sent t.root.valid (form format t) made)
+    c.root_valid-valid.result (c.root_valid-valid.ensures t.root.valid (form format t) made) (c.in_ok-write.ensures.sent t.root.valid (form format t) made)

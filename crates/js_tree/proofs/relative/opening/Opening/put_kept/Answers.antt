@@ -1,7 +1,7 @@
 use Rattle.std.proofs.Common.{ap, subst, sym, ◌∙◌}
 use Rattle.js_doc.specs.BytesOut.{Puts}
 use Rattle.js_tree.proofs.OpeningKept.{written}
-use Rattle.js_tree.proofs.relative.opening.Opening.put.Goals as goal
+use Rattle.js_tree.proofs.relative.opening.Opening.put_kept.Goals as goal
 
 pub returns : goal.returns
 returns g c =
