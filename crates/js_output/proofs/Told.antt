@@ -18,7 +18,7 @@ use Rattle.js_output.specs.Device.{Tracked, input_limit, Sends, SendsBeginning}
 use Rattle.js_output.specs.Documents.{DocumentTexts, bundle_of}
 use Rattle.js_output.specs.Entry.{entry_place}
 use Rattle.js_output.specs.Finished.{AreFinished}
-use Rattle.js_output.specs.Headline.{IsPreparedFor, IsAccepted, IsStandardResult, TellsResult}
+use Rattle.js_output.specs.Headline.{Shows, IsAccepted, IsStandardResult, TellsResult}
 use Rattle.js_output.specs.Outcome.{beginning_causes, Output, output_of, ValueOutcome, ReadOutcome, TextOutcome, InstanceOutcome, FinishedOutcome, Outcome, telling_output}
 use Rattle.js_output.specs.Telling.{Telling, Answers, Tells}
 use Rattle.js_output.proofs.Answering.{tells-map}
@@ -28,7 +28,7 @@ use Rattle.js_output.specs.declared.fault.Fault.TheVariants as fault
 
 -- ---- the form shows what the format asks for
 
-shows : (format : Format) (t : ResultTree) → IsPreparedFor format t (form format t)
+shows : (format : Format) (t : ResultTree) → Shows format t (form format t)
 shows Flag t = refl
 shows Basic t = refl
 shows Verbose t = refl
