@@ -81,6 +81,44 @@ impl<'a, C: Collector<'a>> Reporter<Here<'a>, HeldText> for Collecting<'a, C> {
     }
 
     #[inline(never)]
+    fn leaf_keyword(
+        &mut self,
+        alloc: Global,
+        world: &Here<'a>,
+        place: Place,
+        value: Instance<'a>,
+        keyword: Keyword<'a>,
+        judged: Judged,
+        matching: u64,
+        keyword_location: &mut Trail<HeldText>,
+        instance_location: &Trail<HeldText>,
+    ) -> Result<(), Memory> {
+        let here = keyword_location.mark();
+        world.go_to_keyword(keyword, keyword_location)?;
+        self.open_keyword(
+            alloc,
+            world,
+            place,
+            keyword,
+            keyword_location,
+            instance_location,
+        )?;
+        self.close_keyword(
+            alloc,
+            world,
+            place,
+            value,
+            keyword,
+            judged,
+            matching,
+            &[],
+            &[],
+        )?;
+        keyword_location.cut(here);
+        Ok(())
+    }
+
+    #[inline(never)]
     fn close_schema(
         &mut self,
         alloc: Global,

@@ -1,7 +1,14 @@
 //! The reporter that keeps the result of a walk as rows.
-ghost use Rattle.std.specs.Prelude.{◌≡◌, OnOk, string_bytes};
+ghost use Rattle.std.specs.Prelude.{◌≡◌, List, ℕ, OnOk, string_bytes, true};
 ghost use Rattle.js_doc.specs.Fragment.{fragment_token};
-ghost use Rattle.js_tree.specs.RelativeState.{relative_after, relative_state};
+ghost use Rattle.js_bundle.specs.Schemas.{is_place};
+ghost use Rattle.js_tree.specs.RelativeState.{TakesLeafAt, relative_after, relative_state};
+ghost use Rattle.js_eval.specs.Bundle.{schemas_of};
+ghost use Rattle.js_eval.specs.Seen.{instance_of, keyword_of};
+ghost use Rattle.js_eval.specs.Sited.{numbered_site};
+ghost use Rattle.js_eval.specs.Walk.Told.{IsKeywordAt, LeafTold};
+ghost use Rattle.js_eval.specs.code.Recorded.{TakesEvent};
+ghost use Rattle.js_eval.specs.code.Standard.{IsWrittenAsItIs};
 
 use crate::finished_world::Here;
 use crate::instance::Instance;
@@ -103,6 +110,47 @@ impl<'a> Reporter<Here<'a>, HeldText> for Recording<'a> {
     }
 
     #[inline(never)]
+    fn leaf_keyword(
+        &mut self,
+        alloc: Global,
+        world: &Here<'a>,
+        place: Place,
+        value: Instance<'a>,
+        keyword: Keyword<'a>,
+        judged: Judged,
+        matching: u64,
+        keyword_location: &mut Trail<HeldText>,
+        instance_location: &Trail<HeldText>,
+    ) -> Result<(), Memory> {
+        if self.takes_leaf(keyword, keyword_location, instance_location) {
+            return self.add_leaf(alloc, world, place, value, keyword, judged, matching);
+        }
+        let here = keyword_location.mark();
+        world.go_to_keyword(keyword, keyword_location)?;
+        self.open_keyword(
+            alloc,
+            world,
+            place,
+            keyword,
+            keyword_location,
+            instance_location,
+        )?;
+        self.close_keyword(
+            alloc,
+            world,
+            place,
+            value,
+            keyword,
+            judged,
+            matching,
+            &[],
+            &[],
+        )?;
+        keyword_location.cut(here);
+        Ok(())
+    }
+
+    #[inline(never)]
     fn close_schema(
         &mut self,
         alloc: Global,
@@ -114,6 +162,61 @@ impl<'a> Reporter<Here<'a>, HeldText> for Recording<'a> {
         let note = world.schema_says(alloc, place, schema)?;
         self.rows.leave(valid, note);
         Ok(())
+    }
+}
+
+impl<'a> Recording<'a> {
+    // Whether the row of a keyword's leaf may be added at once, below a schema's node at these locations.
+    fn takes_leaf(
+        &self,
+        keyword: Keyword<'a>,
+        keyword_location: &Trail<HeldText>,
+        instance_location: &Trail<HeldText>,
+    ) -> bool
+        ensures name { result ≡ true → IsWrittenAsItIs keyword.entry.name.now }
+        ensures at { result ≡ true → TakesLeafAt self.now.rows keyword_location.now instance_location.now }
+    {
+        if !is_written_as_it_is(keyword.kind, keyword.name) {
+            return false;
+        }
+        self.rows
+            .takes_leaf(keyword_location.as_str(), instance_location.as_str())
+    }
+
+    // Adds the row of a keyword's leaf.
+    fn add_leaf(
+        &mut self,
+        alloc: Global,
+        world: &Here<'a>,
+        place: Place,
+        value: Instance<'a>,
+        keyword: Keyword<'a>,
+        judged: Judged,
+        matching: u64,
+    ) -> Result<(), Memory>
+        requires place { is_place world.now.schemas.now place ≡ true }
+        requires keyword { IsKeywordAt (schemas_of world.now.schemas.now) (numbered_site world.now.schemas.now place)
+            (keyword_of keyword) }
+        requires name { IsWrittenAsItIs keyword.name.now }
+        ensures { (above instance : List ℕ) → TakesLeafAt self.old.rows above instance
+            → OnOk result (LeafTold (schemas_of world.now.schemas.now) TakesEvent
+            (numbered_site world.now.schemas.now place) (instance_of value.entry) (keyword_of keyword.entry) matching
+            judged.passes judged.held above instance self.old self.new) }
+    {
+        let name = keyword.name;
+        let note = keyword_note(
+            alloc,
+            world,
+            place,
+            value,
+            keyword,
+            judged,
+            matching,
+            &[],
+            &[],
+        )?;
+        self.rows
+            .add_leaf(world.schemas.absolute_of(place), name, judged.passes, note)
     }
 }
 
