@@ -10,7 +10,7 @@ use Rattle.js_doc.specs.Escapes.{stands}
 use Rattle.js_tree.specs.Events.{closing, opening}
 use Rattle.js_tree.specs.FlatState.{FlatRow, closed_row, opening_row, with_closed}
 use Rattle.js_tree.specs.Note.{Note}
-use Rattle.js_tree.specs.RelativeState.{HasLeaf, OpenNode, TakesLeafAt, escaped_row, open_at, open_node, open_nodes, relative_after, relative_closed, relative_opened, relative_row, relative_state, row_goes, rows_closed}
+use Rattle.js_tree.specs.RelativeState.{HasLeaf, OpenNode, TakesLeafAt, escaped_row, open_node, open_nodes, relative_after, relative_opened, relative_row, relative_state, row_goes, rows_closed}
 use Rattle.js_tree.specs.declared.relative.rows.OpenNode.{OpenNode as DeclaredOpen}
 use Rattle.js_tree.specs.declared.relative.rows.RelativeRow.{RelativeRow}
 use Rattle.js_tree.specs.declared.relative.rows.RelativeRows.{RelativeRows}
