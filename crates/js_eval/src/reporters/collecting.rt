@@ -5,7 +5,7 @@ use crate::finished_world::Here;
 use crate::instance::Instance;
 use crate::judging::notes::keyword_note;
 use crate::keywords::keyword::Keyword;
-use crate::walking::{HeldText, Judged, Reporter, Trail};
+use crate::walking::{HeldText, Judged, Reporter, Trail, World};
 use js_bundle::Place;
 use js_doc::{Doc, Memory, Text};
 use js_tree::{Collector, Head};

@@ -14,7 +14,7 @@ use crate::finished_world::Here;
 use crate::instance::Instance;
 use crate::judging::notes::keyword_note;
 use crate::keywords::keyword::{Keyword, is_written_as_it_is};
-use crate::walking::{HeldText, Judged, Reporter, Trail};
+use crate::walking::{HeldText, Judged, Reporter, Trail, World};
 use js_bundle::Place;
 use js_doc::{Doc, Memory, push_fragment_token};
 use js_tree::RelativeRows;

@@ -2,13 +2,14 @@ use Rattle.std.proofs.Common.{◌∙◌}
 use Rattle.js_eval.specs.Bundle.{schemas_of}
 use Rattle.js_eval.specs.Seen.{instance_of, keyword_of}
 use Rattle.js_eval.specs.Sited.{numbered_site}
+use Rattle.js_eval.specs.code.Recorded.{TakesEvent}
 use Rattle.js_eval.proofs.LeavesTold.{leaf_of_steps}
 use Rattle.js_eval.proofs.Recursion.Splits.{split_at_name}
 use Rattle.js_eval.proofs.Recursion.Stepping.{trail_back}
 use Rattle.js_eval.proofs.reporters.recording.RecordingReporterHereHeldText.leaf_keyword.Goals as goal
 
-pub returns-then-takes_leaf : goal.returns-then-takes_leaf
-returns-then-takes_leaf c =
+pub returns-then-takes_leaf-clause-told : goal.returns-then-takes_leaf-clause-told
+returns-then-takes_leaf-clause-told c =
     let yes = c.if-takes_leaf.true in
     c.add_leaf.ensures c.args.keyword_location.now c.args.instance_location.now (c.takes_leaf.ensures.at yes)
 
@@ -18,7 +19,7 @@ cut-requires c =
 
 pub returns-clause-told : goal.returns-clause-told
 returns-clause-told c =
-    leaf_of_steps (schemas_of c.args.world.now.schemas.now) _ (numbered_site c.args.world.now.schemas.now c.args.place) (instance_of c.args.value) (keyword_of c.args.keyword) c.args.matching c.args.judged.passes c.args.judged.held c.args.keyword_location.now c.args.instance_location.now c.go_to_keyword.new.trail
+    leaf_of_steps (schemas_of c.args.world.now.schemas.now) TakesEvent (numbered_site c.args.world.now.schemas.now c.args.place) (instance_of c.args.value) (keyword_of c.args.keyword) c.args.matching c.args.judged.passes c.args.judged.held c.args.keyword_location.now c.args.instance_location.now c.go_to_keyword.new.trail
     c.args.self.now c.open_keyword.new.self c.close_keyword.new.self c.in_ok-go_to_keyword.ensures c.in_ok-open_keyword.ensures c.in_ok-close_keyword.ensures
 
 pub returns-clause-back : goal.returns-clause-back
