@@ -1,5 +1,5 @@
 //! The reporter that keeps the result of a walk as rows.
-ghost use Rattle.std.specs.Prelude.{◌≡◌, OnOk, string_bytes};
+ghost use Rattle.std.specs.Prelude.{◌≡◌, ◌++◌, OnOk, string_bytes};
 ghost use Rattle.js_doc.specs.Fragment.{fragment_token};
 ghost use Rattle.js_tree.specs.RelativeState.{relative_after, relative_state};
 
@@ -18,8 +18,8 @@ use std::alloc::Global;
 #[derive(Drop)]
 pub(crate) struct Recording<'a> {
     pub rows: RelativeRows<'a>,
-    // What the absolute location of a keyword adds to that of its place, where its name may need escapes. One string
-    // serves all keywords.
+    // What the absolute location of a keyword adds to what its row borrows, where that isn't just a slash and its name.
+    // One string serves all keywords.
     pub token: String,
 }
 
@@ -45,11 +45,11 @@ impl<'a> Reporter<Here<'a>, HeldText> for Recording<'a> {
         keyword_location: &Trail<HeldText>,
         instance_location: &Trail<HeldText>,
     ) -> Result<(), Memory> {
-        let absolute = world.schemas.absolute_of(place);
+        let (schema, rest) = world.schemas.location_of(place);
         self.rows.enter(
             keyword_location.as_str(),
-            absolute,
-            "",
+            schema,
+            rest,
             instance_location.as_str(),
         )
     }
@@ -64,8 +64,8 @@ impl<'a> Reporter<Here<'a>, HeldText> for Recording<'a> {
         keyword_location: &Trail<HeldText>,
         instance_location: &Trail<HeldText>,
     ) -> Result<(), Memory> {
-        let schema = world.schemas.absolute_of(place);
-        if is_written_as_it_is(keyword.kind, keyword.name) {
+        let (schema, rest) = world.schemas.location_of(place);
+        if rest.is_empty() && is_written_as_it_is(keyword.kind, keyword.name) {
             return self.rows.enter_keyword(
                 keyword_location.as_str(),
                 schema,
@@ -73,7 +73,7 @@ impl<'a> Reporter<Here<'a>, HeldText> for Recording<'a> {
                 instance_location.as_str(),
             );
         }
-        set_token(&mut self.token, keyword.name)?;
+        set_token(&mut self.token, rest, keyword.name)?;
         self.rows.enter(
             keyword_location.as_str(),
             schema,
@@ -117,10 +117,11 @@ impl<'a> Reporter<Here<'a>, HeldText> for Recording<'a> {
     }
 }
 
-// Sets the token to what the absolute location of a keyword adds to that of its place.
-fn set_token(token: &mut String, name: &str) -> Result<(), Memory>
-    ensures { OnOk result (string_bytes token.new ≡ fragment_token name.now) }
+// Sets the token to the rest of the location of a place, and what that of a keyword adds to it.
+fn set_token(token: &mut String, rest: &str, name: &str) -> Result<(), Memory>
+    ensures { OnOk result (string_bytes token.new ≡ rest.now ++ fragment_token name.now) }
 {
     token.clear();
+    token.push_str(rest)?;
     push_fragment_token(token, name)
 }
