@@ -119,10 +119,11 @@ impl Schemas {
         ensures { option_map location (place_at self.now place) ≡ Some (result.0.now ++ result.1.now) }
     {
         let kept = &self.kept.locations[place.number];
+        let text = kept.text.as_str();
         if kept.is_fragment {
-            (self.resource(place), kept.text.as_str())
+            (self.resource(place), text)
         } else {
-            (kept.text.as_str(), "")
+            (text, "")
         }
     }
 

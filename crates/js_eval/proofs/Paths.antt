@@ -3,7 +3,7 @@ use Rattle.std.specs.Prelude.{◌≡◌, ℕ, true, List, [], ◌∷◌, Option,
 use Rattle.std.proofs.Common.{ap, sym, ◌∙◌}
 use Rattle.std.specs.List.{list_all}
 use Rattle.std.proofs.lemmas.Bool.{and_parts, eqb-true}
-use Rattle.std.proofs.lemmas.List.{append-nil, append_assoc}
+use Rattle.std.proofs.lemmas.List.{append-nil, append_assoc, nil_from_length}
 use Rattle.std.proofs.lemmas.Option.{slice_get-get_or}
 use borrow.Author.Tests.{ltb-true}
 use Rattle.js_doc.specs.Fragment.{fragment_text, fragment_token}
@@ -47,6 +47,9 @@ keyword_location_is documents n keyword t u e f =
 pub in_one_piece : (lent rest token u : List ℕ) → (length rest == 0) ≡ true → u ≡ lent ++ token → u ≡ (lent ++ rest) ++ token
 in_one_piece lent rest token u none e =
     e ∙ ap (λ x. x ++ token) (sym (append-nil lent)) ∙ ap (λ r. (lent ++ r) ++ token) (sym (nil_from_length rest (eqb-true (length rest) 0 none)))
+
+pub first_alone : (o : Option (List ℕ)) (lent rest : List ℕ) → (length rest == 0) ≡ true → o ≡ Some (lent ++ rest) → o ≡ Some lent
+first_alone o lent rest none e = e ∙ ap (λ r. Some (lent ++ r)) (nil_from_length rest (eqb-true (length rest) 0 none)) ∙ ap Some (append-nil lent)
 
 -- where all are places, those of a path are the places that they stand for
 pub path_is : (documents : Documents) (path : List ℕ) → list_all (is_place documents) path ≡ true → path_at documents path ≡ map (numbered_site documents) path

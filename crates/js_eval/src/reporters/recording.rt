@@ -45,10 +45,10 @@ impl<'a> Reporter<Here<'a>, HeldText> for Recording<'a> {
         keyword_location: &Trail<HeldText>,
         instance_location: &Trail<HeldText>,
     ) -> Result<(), Memory> {
-        let (schema, rest) = world.schemas.location_of(place);
+        let (absolute, rest) = world.schemas.location_of(place);
         self.rows.enter(
             keyword_location.as_str(),
-            schema,
+            absolute,
             rest,
             instance_location.as_str(),
         )

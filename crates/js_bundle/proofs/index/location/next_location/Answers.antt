@@ -5,6 +5,7 @@ use Rattle.js_bundle.specs.code.KeptLocation.{is_long, kept_location, repeated}
 use Rattle.js_bundle.specs.code.TextPrefix.{BeginsLocation}
 use Rattle.js_bundle.specs.code.Scan.{site_of}
 use Rattle.js_bundle.specs.Location.{canonical, way}
+use Rattle.js_bundle.specs.Url.{printed}
 use Rattle.js_bundle.proofs.Indexing.SharedTokens.{location_begins, location_ends}
 use Rattle.js_bundle.proofs.index.location.next_location.Goals as goal
 
