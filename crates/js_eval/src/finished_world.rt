@@ -302,14 +302,14 @@ impl Here<'_> {
     ///
     /// # Errors
     /// `Memory` if an allocation fails.
-    #[tactic(auto, using(crate::proofs::Paths::location_is))]
     pub fn absolute_schema(&self, alloc: Global, place: Place) -> Result<Text, Memory>
         requires { is_place self.now.schemas.now place ≡ true }
         ensures { IfOk result (λ t. t ≡ (schemas_of self.now.schemas.now).absolute
             (numbered_site self.now.schemas.now place) None) }
     {
         let (location, rest) = self.schemas.location_of(place);
-        Ok(Text::new(joined(alloc, location, rest)?))
+        let whole = joined(alloc, location, rest)?;
+        Ok(Text::new(whole))
     }
 
     /// The absolute keyword location of the keyword with this name at a place (Core, section 12.3.2).

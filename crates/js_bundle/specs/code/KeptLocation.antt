@@ -16,4 +16,7 @@ abbrev pub repeated : Text → Text
 repeated uri = if is_long uri then [] else uri
 
 abbrev pub kept_location : Site → KeptLocation
-kept_location place = record { text = repeated (canonical place) ++ (codes "#" ++ fragment_text (way place)); is_fragment = is_long (canonical place) }
+kept_location place = record {
+  text = repeated (canonical place) ++ (codes "#" ++ fragment_text (way place));
+  is_fragment = is_long (canonical place);
+}

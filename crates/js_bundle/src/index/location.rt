@@ -119,8 +119,8 @@ fn begin_location(
 
 // Whether the two repeat the same of the URIs of their resources, whose roots are as deep.
 fn begins_as(before: &Site<'_>, site: &Site<'_>) -> bool
-    ensures { result ≡ (bytes_eq (repeated (printed before.now.own.value.base)) (repeated (printed site.now.own.value.base))
-        && length before.now.own.value.resource == length site.now.own.value.resource) }
+    ensures { result ≡ (bytes_eq (repeated (printed before.now.own.value.base))
+        (repeated (printed site.now.own.value.base)) && length before.now.own.value.resource == length site.now.own.value.resource) }
 {
     repeated(uri::printed(&before.own.base)) == repeated(uri::printed(&site.own.base))
         && before.own.resource.tokens().len() == site.own.resource.tokens().len()

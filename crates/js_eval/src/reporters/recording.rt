@@ -123,5 +123,6 @@ fn set_token(token: &mut String, rest: &str, name: &str) -> Result<(), Memory>
 {
     token.clear();
     token.push_str(rest)?;
-    push_fragment_token(token, name)
+    push_fragment_token(token, name)?;
+    Ok(())
 }

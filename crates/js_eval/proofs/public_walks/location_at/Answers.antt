@@ -7,7 +7,8 @@ use Rattle.js_eval.proofs.public_walks.location_at.Goals as goal
 pub returns-then-is_empty : goal.returns-then-is_empty
 returns-then-is_empty c =
     let lent = c.location_of.result in
-    first_alone (option_map location (place_at c.args.schemas.now c.args.place)) lent.0.now lent.1.now (sym c.is_empty.ensures ∙ c.if-is_empty.true) c.location_of.ensures
+    let place = option_map location (place_at c.args.schemas.now c.args.place) in
+    first_alone place lent.0.now lent.1.now (sym c.is_empty.ensures ∙ c.if-is_empty.true) c.location_of.ensures
 
 pub returns : goal.returns
 returns c = c.in_ok-whole.ensures ∙ ap Some (sym (c.in_ok-kept.ensures ∙ c.as_str.ensures.value))

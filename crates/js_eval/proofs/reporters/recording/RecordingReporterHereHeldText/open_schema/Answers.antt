@@ -8,4 +8,6 @@ pub returns : goal.returns
 returns c =
     let lent = c.location_of.result in
     let e = location_is c.args.world.now.schemas.now c.args.place (lent.0.now ++ lent.1.now) c.location_of.ensures in
-    opening_alike c.enter.result (relative_state c.enter.new.self) (relative_state c.args.self.now.rows) c.as_str.ensures e c.as_str-2.ensures c.enter.ensures
+    let new = relative_state c.enter.new.self in
+    let old = relative_state c.args.self.now.rows in
+    opening_alike c.enter.result new old c.as_str.ensures e c.as_str-2.ensures c.enter.ensures
