@@ -313,7 +313,9 @@ def bundles():
     bounds = {"most_seconds": 4, "most_memory": 400_000_000}
     few, many = under_a_long_uri(20_000), under_a_long_uri(90_000)
     yield check("90,000 places under a URI of 60,000 bytes", many, '{"x":2}', out=INVALID, status=1, **bounds)
-    yield check("20,000 places under a URI of 60,000 bytes", few, '{"x":2}', "verbose", out=None, status=1, **bounds)
+    for it in FORMATS:
+        yield check(f"20,000 places under a URI of 60,000 bytes, {it}", few, '{"x":2}', it, out=None, **bounds)
+    yield check("the root alone under a URI of 60,000 bytes", few, "0", "detailed", out=None, **bounds)
 
 
 def patterns():

@@ -93,7 +93,7 @@ pub fn walk<'a>(
 
 /// Evaluates the schema at the place on the value, and returns the result as rows (JSON Schema Core, section 12.4.4).
 /// A row keeps, in the arena, only what its locations add to those of the node above, and borrows the absolute
-/// location of its schema.
+/// location of its schema, or if that is long, the URI of its resource.
 ///
 /// # Errors
 /// Those of [`walk`].
