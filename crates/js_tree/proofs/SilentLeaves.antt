@@ -1,5 +1,5 @@
 -- A node that opens and closes without a note leaves nothing behind where such nodes have no rows.
-use Rattle.std.specs.Prelude.{◌≡◌, ℕ, suc, ◌==◌, ◌-◌, ◌<◌, ◌^◌, ◌+◌, Bool, true, false, not, ◌||◌, List, [], ◌∷◌, ◌++◌, drop, length, map, refl}
+use Rattle.std.specs.Prelude.{◌≡◌, ℕ, suc, ◌==◌, ◌-◌, ◌<◌, ◌≤◌, ◌^◌, ◌+◌, Bool, true, false, not, ◌||◌, List, [], ◌∷◌, ◌++◌, drop, length, map, refl}
 use Rattle.std.proofs.Common.{arith, ap, sym, ◌∙◌, append-nil, Bor}
 use Rattle.std.proofs.Math.Seq.{take-append_seam}
 use Rattle.std.proofs.lemmas.Bool.Decides.{nat_tests}
@@ -9,6 +9,7 @@ use Rattle.js_tree.specs.Events.{closing, opening}
 use Rattle.js_tree.specs.FlatState.{FlatRow, opening_row}
 use Rattle.js_tree.specs.Note.{silent}
 use Rattle.js_tree.specs.RelativeState.{DropsSilentLeaf, OpenNode, RelativeState, escaped_row, node_above, open_at, open_nodes, relative_after, relative_closed, relative_opened, relative_row, relative_state, rows_closed, row_goes}
+use Rattle.js_tree.specs.SilentNodes.{DropsSilentNode}
 use Rattle.js_tree.specs.declared.note.Note.TheVariants as note
 use Rattle.js_tree.specs.declared.relative.rows.OpenNode.{OpenNode as DeclaredOpen}
 use Rattle.js_tree.specs.declared.relative.rows.RelativeRow.{RelativeRow}
@@ -77,36 +78,73 @@ rows_with old rows nodes few shallow = record {
   trims = old.trims;
 }
 
--- some value has the state after a node has opened
-abbrev IsThere : RelativeState → Type 0
-IsThere s = (m : RelativeRows) × relative_state m ≡ s
+-- some value has the state after a node has opened, with at most one row and one open node more
+record IsThere (old : RelativeRows) (rows nodes : ℕ) (s : RelativeState) : Type 0 where
+  value : RelativeRows
+  state : relative_state value ≡ s
+  trims : value.trims ≡ old.trims
+  few : length value.rows.items ≤ rows + 1
+  shallow : length value.nodes.items ≤ nodes + 1
 
 there : (nodes rows : ℕ) → not (suc nodes == 0) || rows == 0 ≡ true
 there nodes rows = grind (arith, nat_tests)
 
 pushed : (old : RelativeRows) (rows : List RelativeRow) (nodes : List DeclaredOpen) (keyword absolute instance : List ℕ)
     → length rows + 1 < 2 ^ 63 → length nodes + 1 < 2 ^ 63 → not (length nodes == 0) || length rows == 0 ≡ true
-    → IsThere (relative_opened old.trims (map relative_row rows) (open_nodes nodes []) keyword absolute instance)
+    → IsThere old (length rows) (length nodes)
+    (relative_opened old.trims (map relative_row rows) (open_nodes nodes []) keyword absolute instance)
 pushed old rows nodes keyword absolute instance few shallow may =
     let above : OpenNode = node_above (open_nodes nodes []) in
     let row : RelativeRow = row_at (drop above.keyword keyword) absolute (drop above.instance instance) in
-    let node : DeclaredOpen = record { number = length rows; keyword = length keyword; instance = length instance } in (
-      rows_with old (rows ++ row ∷ []) (nodes ++ node ∷ []) (omega (arith, few, length-append rows (row ∷ []))) (omega (arith, shallow, length-append nodes (node ∷ []))),
-      opens rows rows (rows ++ row ∷ []) nodes nodes (nodes ++ node ∷ []) row keyword absolute instance keyword instance may
+    let node : DeclaredOpen = record { number = length rows; keyword = length keyword; instance = length instance } in
+    record {
+      value = rows_with old (rows ++ row ∷ []) (nodes ++ node ∷ []) (omega (arith, few, length-append rows (row ∷ []))) (omega (arith, shallow, length-append nodes (node ∷ [])));
+      state = opens rows rows (rows ++ row ∷ []) nodes nodes (nodes ++ node ∷ []) row keyword absolute instance keyword instance may
           refl refl refl refl (row_is (drop above.keyword keyword) absolute (drop above.instance instance))
-          refl (open_nodes-append nodes node []) refl,
-    )
+          refl (open_nodes-append nodes node []) refl;
+      trims = refl;
+      few = omega (arith, length-append rows (row ∷ []));
+      shallow = omega (arith, length-append nodes (node ∷ []));
+    }
 
 -- with a node that has opened, or without it after the root has closed
-opened_with : (old : RelativeRows) (rows : List RelativeRow) (nodes : List DeclaredOpen) (keyword absolute instance : List ℕ) → length rows + 1 < 2 ^ 63 → length nodes + 1 < 2 ^ 63
-    → IsThere (relative_opened old.trims (map relative_row rows) (open_nodes nodes []) keyword absolute instance)
+opened_with : (old : RelativeRows) (rows : List RelativeRow) (nodes : List DeclaredOpen) (keyword absolute instance : List ℕ)
+    → length rows + 1 < 2 ^ 63 → length nodes + 1 < 2 ^ 63
+    → IsThere old (length rows) (length nodes)
+    (relative_opened old.trims (map relative_row rows) (open_nodes nodes []) keyword absolute instance)
 opened_with old [] [] keyword absolute instance few shallow = pushed old [] [] keyword absolute instance few shallow refl
-opened_with old (r ∷ rows) [] keyword absolute instance few shallow = (rows_with old (r ∷ rows) [] (omega (arith, few)) (omega (arith)), refl)
+opened_with old (r ∷ rows) [] keyword absolute instance few shallow = record {
+  value = rows_with old (r ∷ rows) [] (omega (arith, few)) (omega (arith));
+  state = refl;
+  trims = refl;
+  few = omega (arith);
+  shallow = omega (arith);
+}
 opened_with old rows (o ∷ nodes) keyword absolute instance few shallow = pushed old rows (o ∷ nodes) keyword absolute instance few shallow (there (length nodes) (length rows))
 
+gone_again : (rows m : RelativeRows) (keyword absolute instance : List ℕ) → rows.trims ≡ true
+    → relative_state m ≡ relative_after (relative_state rows) (opening keyword absolute instance)
+    → relative_state rows ≡ relative_after (relative_state m) (closing true silent)
+gone_again rows m keyword absolute instance e opened =
+    sym (ap (λ s. relative_after s (closing true silent)) opened ∙ leaves_nothing (relative_state rows) keyword absolute instance true e)
+
 -- if there is room for a row and for an open node
-pub drops_silent : (rows : RelativeRows) → rows.trims ≡ true → length rows.rows.items + 1 < 2 ^ 63
+drops_leaf : (rows : RelativeRows) → rows.trims ≡ true → length rows.rows.items + 1 < 2 ^ 63
     → length rows.nodes.items + 1 < 2 ^ 63 → DropsSilentLeaf rows
-drops_silent rows e few shallow = λ keyword absolute instance.
+drops_leaf rows e few shallow = λ keyword absolute instance.
     let m = opened_with rows rows.rows.items rows.nodes.items keyword absolute instance few shallow in
-    (m.0, m.1, (rows, sym (ap (λ s. relative_after s (closing true silent)) m.1 ∙ leaves_nothing (relative_state rows) keyword absolute instance true e), refl))
+    (m.value, m.state, (rows, gone_again rows m.value keyword absolute instance e m.state, refl))
+
+-- if there is room for two of each
+pub drops_silent : (rows : RelativeRows) → rows.trims ≡ true → length rows.rows.items + 2 < 2 ^ 63
+    → length rows.nodes.items + 2 < 2 ^ 63 → DropsSilentNode rows
+drops_silent rows e few shallow = λ keyword absolute instance.
+    let m = opened_with rows rows.rows.items rows.nodes.items keyword absolute instance (omega (arith, few)) (omega (arith, shallow)) in
+    let few' = m.few in
+    let shallow' = m.shallow in
+    record {
+      opened = m.value;
+      opens = m.state;
+      leaves = drops_leaf m.value (m.trims ∙ e) (omega (arith, few, few')) (omega (arith, shallow, shallow'));
+      closes = gone_again rows m.value keyword absolute instance e m.state;
+    }

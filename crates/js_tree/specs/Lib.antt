@@ -20,6 +20,7 @@ pub mod Relative
 pub mod RelativeState
 pub mod Result
 pub mod Seen
+pub mod SilentNodes
 pub mod Step
 pub mod Sublist
 pub mod Trimmed

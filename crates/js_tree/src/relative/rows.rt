@@ -4,9 +4,10 @@ ghost use Rattle.std.specs.List.{list_all};
 ghost use Rattle.json.specs.Print.{escape};
 ghost use Rattle.js_doc.specs.Escapes.{stands};
 ghost use Rattle.js_tree.specs.Events.{opening, closing};
-ghost use Rattle.js_tree.specs.RelativeState.{AreRowsOf, AreTrimmedOf, AreWhole, DropsSilentLeaf, IsRootAt, node_above, open_node, open_nodes, part, relative_after, relative_start, relative_state, row_goes, trimming_start};
+ghost use Rattle.js_tree.specs.RelativeState.{AreRowsOf, AreTrimmedOf, AreWhole, IsRootAt, node_above, open_node, open_nodes, part, relative_after, relative_start, relative_state, row_goes, trimming_start};
 ghost use Rattle.js_tree.specs.Result.{ResultTree};
 ghost use Rattle.js_tree.specs.Seen.{note_of};
+ghost use Rattle.js_tree.specs.SilentNodes.{DropsSilentNode};
 ghost use Rattle.js_tree.specs.Trimmed.{trimmed_tree};
 
 use crate::note::Note;
@@ -34,8 +35,8 @@ pub struct RelativeRow<'a> {
     pub(crate) size: usize,
 }
 
-// A vector has no more elements.
-const MOST: usize = usize::MAX / 2;
+// A vector that has fewer elements can hold two more.
+const MOST: usize = usize::MAX / 2 - 1;
 
 // An open node: the number of its row, and the lengths of its whole locations.
 #[derive(Clone, Copy)]
@@ -189,11 +190,12 @@ impl<'a> RelativeRows<'a> {
         }
     }
 
-    /// Whether a node that opens and closes at once, passing and without a note, would leave the rows as they are. The
-    /// caller may then leave it out. True with `trimming`, unless the rows are as many as a vector can hold.
+    /// Whether a node that opens and closes, passing and without a note, with nothing or such leaves below it, would
+    /// leave the rows as they are. The caller may then leave it out. True with `trimming`, unless the rows are as many
+    /// as a vector can hold.
     #[inline(always)]
     pub fn drops_silent(&self) -> bool
-        ensures { result ≡ true → DropsSilentLeaf self.now }
+        ensures { result ≡ true → DropsSilentNode self.now }
     {
         self.trims && self.rows.len() < MOST && self.nodes.len() < MOST
     }
