@@ -1,12 +1,13 @@
 -- The keywords of a schema that apply no schemas, judged by the assertions of its place and counted by its names.
-use Rattle.std.specs.Prelude.{◌≡◌, ℕ, ◌+◌, Bool, true, false, not, ◌&&◌, cond, List, [], ◌∷◌, ◌++◌, Option, Some, None, is_some, option_map, option_to_list, filter, length, refl}
+use Rattle.std.specs.Prelude.{◌≡◌, ℕ, ◌+◌, Bool, true, false, not, ◌&&◌, ◌||◌, cond, List, [], ◌∷◌, ◌++◌, Option, Some, None, is_some, option_map, option_to_list, filter, length, refl}
 use Rattle.std.specs.List.{AllByRecursion, list_all, flat_map}
 use Rattle.std.specs.Option.{option_map_or}
 use Rattle.std.specs.Str.{bytes_eq}
-use Rattle.std.proofs.Common.{sym, ◌∙◌, ap, ap₂, arith, length-append}
+use Rattle.std.proofs.Common.{sym, ◌∙◌, ap, ap₂, subst, arith, length-append}
 use Rattle.std.proofs.lemmas.List.Elements.{filter-append}
 use Rattle.std.proofs.lemmas.List.Folds.{list_all-append}
 use Rattle.std.proofs.lemmas.Slice.Eq.{bytes_eq-Decides}
+use Rattle.js_doc.specs.Members.{IsAscending}
 use Rattle.js_doc.specs.Value.{Value, Named}
 use Rattle.js_assert.specs.Argument.{entries}
 use Rattle.js_assert.specs.Assertion.{Asserted, asserted, says}
@@ -23,9 +24,10 @@ use Rattle.js_eval.specs.Keywords.{Keyword, has_node, is_else, is_after_if, come
 use Rattle.js_eval.specs.Kind.{Applicator, applicators, kind, kind_in}
 use Rattle.js_eval.specs.Passes.{passes_of}
 use Rattle.js_eval.specs.Sited.{numbered_site}
-use Rattle.js_eval.specs.Walk.Told.{keywords_at, passes_at}
-use Rattle.js_eval.specs.Walk.Visited.{AreJudged, is_visited, may_apply}
-use Rattle.js_eval.specs.code.Leaves.{has_leaf}
+use Rattle.js_eval.specs.Verdict.{accepts}
+use Rattle.js_eval.specs.Walk.Told.{accepts_at, keywords_at, passes_at}
+use Rattle.js_eval.specs.Walk.Visited.{AreJudged, AreSilent, is_assertion, is_visited, may_apply}
+use Rattle.js_eval.specs.code.Leaves.{has_leaf, is_plain}
 use Rattle.js_eval.specs.code.Standard.{kind_by, turn_by_name, keyword_names_of}
 use Rattle.js_eval.specs.code.Turns.{turn_by, turn_of, is_ever, in_order}
 use Rattle.js_eval.specs.declared.keywords.kind.Kind.{Kind}
@@ -35,10 +37,6 @@ use Rattle.js_eval.proofs.Standard.{kind_is, turn_is}
 use Rattle.js_eval.proofs.Turns.{else_has_node, else_before}
 
 -- ---- a keyword makes an assertion if it is of that kind
-
-abbrev is_assertion : Kind → Bool
-is_assertion Assertion = true
-is_assertion _ = false
 
 either_kind : (b : Bool) → b ≡ is_assertion (cond b Assertion Annotation)
 either_kind true = refl
@@ -265,3 +263,39 @@ judged_together documents n v matching assertions names pass count there built n
           ∙ (each_said ms v matching ms ∙ sym (all_hold (λ k. passes_of ms v matching k [] (kind k.0)) unvisited ms)));
       many = counted ∙ (ap (λ l. length (filter has_leaf l)) named ∙ (leaves_counted ms ∙ sym (all_counted unvisited ms)));
     }
+
+-- ---- where all are assertions
+
+plain_of : (name : List ℕ) → is_plain (keyword_name name) ≡ (not (is_ever (turn_of name)) || is_assertion (kind name))
+plain_of name = ap₂ (λ t κ. not (is_ever t) || is_assertion κ) (sym (turn_is name)) (kind_is name)
+
+either_plain : (ever b : Bool) → cond (ever && true) b true ≡ (not ever || b)
+either_plain true b = refl
+either_plain false b = refl
+
+abbrev any_keyword : Keyword → Bool
+any_keyword k = true
+
+all_kept : (ks : List Keyword) → filter any_keyword ks ≡ ks
+all_kept [] = refl
+all_kept (k ∷ ks) = ap (λ l. k ∷ l) (all_kept ks)
+
+plain_each : (ms : Named) → list_all (λ m. cond (with_turn any_keyword m) (is_assertion (kind m.0)) true) ms ≡ list_all is_plain (keyword_names_of ms)
+plain_each [] = refl
+plain_each (m ∷ ms) = ap₂ (λ x y. x && y) (either_plain (is_ever (turn_of m.0)) (is_assertion (kind m.0)) ∙ sym (plain_of m.0)) (plain_each ms)
+
+all_assert : (ms : Named) → list_all is_plain (keyword_names_of ms) ≡ true → list_all (λ k. is_assertion (kind k.0)) (in_order ms) ≡ true
+all_assert ms plain =
+    let says = λ (k : Keyword). is_assertion (kind k.0) in
+    ap (list_all says) (sym (all_kept (in_order ms))) ∙ (all_hold says any_keyword ms ∙ (plain_each ms ∙ plain))
+
+pub silent_there : (documents : Documents) (n : ℕ) (v schema : Value) (names : List KeywordName) (pass : Bool) (count : ℕ) → schema ≡ (numbered_site documents n).schema
+    → true ≡ accepts schema → IsAscending (entries schema) → names ≡ keyword_names_of (entries (numbered_site documents n).schema) → true ≡ list_all is_plain names
+    → AreJudged (schemas_of documents) (numbered_site documents n) v 0 pass count → pass ≡ true → AreSilent (schemas_of documents) (numbered_site documents n) v count
+unfolding accepts_at keywords_at
+silent_there documents n v schema names pass count here accepted ascending named plain judged passes = record {
+  accepts = sym (accepted ∙ ap accepts here);
+  ascending = subst (λ s. IsAscending (entries s)) here ascending;
+  asserts = all_assert (entries (numbered_site documents n).schema) (ap (list_all is_plain) (sym named) ∙ sym plain);
+  judged = subst (λ b. AreJudged (schemas_of documents) (numbered_site documents n) v 0 b count) passes judged;
+}

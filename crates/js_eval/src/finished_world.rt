@@ -15,7 +15,7 @@ use crate::cursors::asking::{Asking, next_asked};
 use crate::cursors::start_by_kind::{Facts, Scene, asking_of_keyword};
 use crate::instance::{Applied, Instance};
 use crate::judging::notes::schema_note;
-use crate::judging::others::others_at;
+use crate::judging::others::{others_at, silent_at};
 use crate::judging::passing;
 use crate::keywords::keyword::{Keyword, is_written_as_it_is};
 use crate::keywords::keyword_cursor::Keywords;
@@ -106,6 +106,16 @@ impl<'a> World for Here<'a> {
         matching: u64,
     ) -> Result<Others, Memory> {
         others_at(alloc, self.schemas, &self.searchers, place, value, matching)
+    }
+
+    fn silent(
+        &self,
+        alloc: Global,
+        place: Place,
+        schema: &'a Doc,
+        value: Instance<'a>,
+    ) -> Result<Option<usize>, Memory> {
+        silent_at(alloc, self.schemas, &self.searchers, place, schema, value)
     }
 
     #[tactic(auto, unfolding(crate::specs::Walk::Told::keywords_at))]

@@ -17,7 +17,7 @@ use Rattle.js_eval.specs.declared.keywords.kind.Kind.{Kind}
 use Rattle.js_tree.specs.Events.{Event, opening, closing}
 use Rattle.js_tree.specs.Note.{silent}
 use Rattle.js_eval.specs.Walk.Keeping.{condition_step, matching_step}
-use Rattle.js_eval.specs.Walk.Reported.{DropsSilent}
+use Rattle.js_eval.specs.Walk.Reported.{DropsSilent, DropsSilentLeaf}
 use Rattle.js_eval.specs.Walk.Steps.{MarkOf, StartOf, SchemaOpened, SchemaClosed, IsJudged, KeywordOpened, KeywordClosed, WentDown, CameBack, NodeDone, KeywordDone, EachDone}
 use Rattle.js_eval.specs.Walk.Told.{IsAt, IsWayRestored, KeywordWalked, NodeWalked, KeywordHasNone, SomeHasNone, HasNone, asked_by, names_given, indexes_given, at_name, keywords_at, accepts_at, kind_at, says_at, schema_says, at_step}
 use Rattle.js_eval.specs.Walked.{OnTooLarge}
@@ -60,6 +60,10 @@ step_back old new s mark m e = ap (λ n. take n new) m ∙ (ap (take (length old
 pub kind_is : (k : Keyword) → kind_at k ≡ kind k.0
 unfolding kind_at
 kind_is k = refl
+
+pub drops_leaf : {C : Type 0} (takes : C → Event → C → Type 0) (c : C) → DropsSilent takes c → DropsSilentLeaf takes c
+drops_leaf takes c drops = λ keyword absolute instance.
+    let gone = drops keyword absolute instance in (gone.opened, gone.opens, (c, gone.closes, refl))
 
 pub at_most_one : (b : Bool) → cond b 1 0 ≤ 1
 at_most_one true = omega arith
@@ -165,7 +169,7 @@ module _ {M H K C P : Type 0} (S : SchemaSet P) (text_of : M → Text) (takes : 
 
   -- one that passes and has no note, of which the reporter keeps nothing
   pub skipped_step : (path : List P) (place : P) (v : Value) (k : Keyword) (matching : ℕ) (passes : Bool) (w w₁ : Way M H K) (c : C)
-      → passes ≡ true → IsJudged S place v k matching (record { asked = 0; held = 0 }) passes → says_at S place v matching k 0 [] [] true ≡ silent → DropsSilent takes c
+      → passes ≡ true → IsJudged S place v k matching (record { asked = 0; held = 0 }) passes → says_at S place v matching k 0 [] [] true ≡ silent → DropsSilentLeaf takes c
       → w₁.names.items ≡ w.names.items → w₁.indexes.items ≡ w.indexes.items → w₁.left + 1 ≡ w.left → IsWayRestored w w₁
       → KeywordDone S text_of takes n path place v k matching [] (record { passes = passes; held = 0 }) w w₁ c c
   skipped_step path place v k matching passes w w₁ c p judged said drops names indexes left back =

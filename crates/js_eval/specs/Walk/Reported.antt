@@ -16,5 +16,16 @@ pub record Reported {C P : Type 0} (S : SchemaSet P) (place : P) (v : Value) (ta
   pub passes : Passes takes (events result) c d
 
 -- the events of a leaf that passes and has no note, wherever it is, lead from this state back to it
+abbrev pub DropsSilentLeaf : {C : Type 0} → (C → Event → C → Type 0) → C → Type 0
+DropsSilentLeaf takes c = (keyword absolute instance : List ℕ) → Passes takes (opening keyword absolute instance ∷ closing true silent ∷ []) c c
+
+-- a node that opens leads to a state where such leaves leave nothing, and from there, if it passes and has no note, back
+pub record OpensSilent {C : Type 0} (takes : C → Event → C → Type 0) (keyword absolute instance : List ℕ) (c : C) : Type 0 where
+  pub opened : C
+  pub opens : takes c (opening keyword absolute instance) opened
+  pub leaves : DropsSilentLeaf takes opened
+  pub closes : takes opened (closing true silent) c
+
+-- wherever it is
 abbrev pub DropsSilent : {C : Type 0} → (C → Event → C → Type 0) → C → Type 0
-DropsSilent takes c = (keyword absolute instance : List ℕ) → Passes takes (opening keyword absolute instance ∷ closing true silent ∷ []) c c
+DropsSilent takes c = (keyword absolute instance : List ℕ) → OpensSilent takes keyword absolute instance c

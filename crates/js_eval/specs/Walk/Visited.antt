@@ -2,20 +2,26 @@
 -- schemas (Core, sections 8.2.3, 10 and 11), and judges all others together.
 use Rattle.std.specs.Prelude.{◌≡◌, ℕ, Bool, true, false, not, ◌||◌, List, [], filter, length}
 use Rattle.std.specs.List.{list_all}
+use Rattle.js_doc.specs.Members.{IsAscending}
 use Rattle.js_doc.specs.Value.{Value}
+use Rattle.js_assert.specs.Argument.{entries}
 use Rattle.js_eval.specs.Keywords.{Keyword}
 use Rattle.js_eval.specs.Kind.{kind}
 use Rattle.js_eval.specs.SchemaSet.{SchemaSet}
 use Rattle.js_eval.specs.declared.keywords.kind.Kind.{Kind}
 use Rattle.js_eval.specs.declared.keywords.kind.Kind.TheVariants.{Assertion, Annotation}
 use Rattle.js_eval.specs.declared.walking.tally.Others.{Others}
-use Rattle.js_eval.specs.Walk.Told.{keywords_at, passes_at}
+use Rattle.js_eval.specs.Walk.Told.{accepts_at, keywords_at, passes_at}
 
 -- a keyword of this kind may apply schemas
 abbrev pub may_apply : Kind → Bool
 may_apply Assertion = false
 may_apply Annotation = false
 may_apply _ = true
+
+abbrev pub is_assertion : Kind → Bool
+is_assertion Assertion = true
+is_assertion _ = false
 
 unfoldable pub is_visited : Bool → Keyword → Bool
 is_visited quiet k = not quiet || may_apply (kind k.0)
@@ -34,3 +40,10 @@ module _ {Place : Type 0} (S : SchemaSet Place) (place : Place) where
   abbrev pub AreJudgedIf : Bool → Value → ℕ → Others → Type 0
   AreJudgedIf true v matching o = AreJudged v matching o.pass o.count
   AreJudgedIf false v matching o = (o.pass ≡ true) × (o.count ≡ 0)
+
+  -- the schema isn't `false`, all its keywords are assertions that the value passes, and there are so many
+  pub record AreSilent (v : Value) (count : ℕ) : Type 0 where
+    pub accepts : accepts_at S place ≡ true
+    pub ascending : IsAscending (entries (S.schema place))
+    pub asserts : list_all (λ k. is_assertion (kind k.0)) (keywords_at S place) ≡ true
+    pub judged : AreJudged v 0 true count

@@ -13,7 +13,7 @@ use crate::walking::pointer_text::PointerText;
 use crate::walking::reporter::Reporter;
 use crate::walking::steps::{
     asked, childless_node, close_keyword, close_schema, come_back, go_down, next_keyword,
-    open_keyword, open_schema, others_of,
+    open_keyword, open_schema, others_of, silent_count,
 };
 use crate::walking::tally::{Case, Judged, Judging, Known, Tally};
 use crate::walking::way::{Start, Way};
@@ -52,6 +52,14 @@ pub(crate) fn node<W: World, H: PointerText + Drop, R: Reporter<W, H>>(
     }
     if way.left == 0 {
         return Err(WalkFault::TooLarge);
+    }
+    let silent = silent_count(alloc, world, into, place, schema, value)?;
+    if let Some(count) = silent {
+        if way.left <= count {
+            return Err(WalkFault::TooLarge);
+        }
+        way.left = way.left - count - 1;
+        return Ok(true);
     }
     let start = way.start();
     open_schema(alloc, world, way, into, place)?;

@@ -22,7 +22,8 @@ pub(crate) trait Reporter<W: World, H: PointerText + Drop> {
     fn is_quiet(&self) -> bool
         ensures { result ≡ true → (c d : Self) (e : Event) → takes c e d };
 
-    /// Whether the reporter keeps nothing of a leaf that passes and has no note, so that a walk needn't report it.
+    /// Whether the reporter keeps nothing of a leaf that passes and has no note, nor of such a node with such leaves
+    /// below it, so that a walk needn't report them.
     fn drops_silent(&self) -> bool
         ensures { result ≡ true → DropsSilent takes self.now };
 

@@ -9,7 +9,7 @@ ghost use Rattle.js_eval.specs.SchemaSet.{Text as Bytes};
 ghost use Rattle.js_eval.specs.Walk.Reported.{DropsSilent};
 ghost use Rattle.js_eval.specs.Walk.Told.{IsKeywordAt, asked_by, says_at};
 ghost use Rattle.js_tree.specs.Note.{silent};
-ghost use Rattle.js_eval.specs.Walk.Visited.{AreJudgedIf};
+ghost use Rattle.js_eval.specs.Walk.Visited.{AreJudgedIf, AreSilent};
 
 use crate::keywords::kind::Kind;
 use crate::walking::keeping::{cut_unless, indexes_origin, keep, names_origin};
@@ -334,6 +334,30 @@ pub(crate) fn come_back<W: World, H: PointerText + Drop>(
         holds,
         world.item(application),
     )
+}
+
+/// The number of keywords of a schema, if the reporter would keep nothing of its node: it isn't `false`, and all of them
+/// are assertions, which the value passes.
+#[inline(always)]
+pub(crate) fn silent_count<W: World, H: PointerText + Drop, R: Reporter<W, H>>(
+    alloc: Global,
+    world: &W,
+    into: &R,
+    place: Place,
+    schema: W::Schema,
+    value: W::Value,
+) -> Result<Option<usize>, Memory>
+    requires place { W.is_place world.now place ≡ true }
+    requires schema { W.stands_at world.now place schema }
+    ensures silent { IfOk result (λ o. MatchOption o (Unit {0})
+        (λ n. AreSilent (W.schemas world.now) (W.site world.now place) (W.value_of value) n)) }
+    ensures drops { IfOk result (λ o. MatchOption o (Unit {0}) (λ _. DropsSilent R.takes into.now)) }
+{
+    if into.drops_silent() {
+        world.silent(alloc, place, schema, value)
+    } else {
+        Ok(None)
+    }
 }
 
 /// What the keywords show that the walk hasn't visited: all those that apply no schemas, if it is quiet. `matching`:

@@ -10,7 +10,7 @@ ghost use Rattle.js_eval.specs.Evaluated.{name_in_step, index_in_step};
 ghost use Rattle.js_eval.specs.Keywords as table;
 ghost use Rattle.js_eval.specs.Passes.{how_many};
 ghost use Rattle.js_eval.specs.SchemaSet.{Text as Bytes, SchemaSet};
-ghost use Rattle.js_eval.specs.Walk.Visited.{AreJudged, is_visited};
+ghost use Rattle.js_eval.specs.Walk.Visited.{AreJudged, AreSilent, is_visited};
 ghost use Rattle.js_eval.specs.Walk.Told.{IsKeywordAt, asked_by, accepts_at, keywords_at, kind_at, passes_at, at_name, at_step};
 
 use crate::keywords::kind::Kind;
@@ -108,6 +108,20 @@ pub(crate) trait World {
         requires { is_place self.now place ≡ true }
         ensures { IfOk result (λ o. AreJudged (schemas self.now) (site self.now place) (value_of value) matching
             o.pass o.count) };
+
+    /// The number of keywords of a schema, if it isn't `false` and all are assertions, which the value passes: neither
+    /// it nor they have notes then.
+    fn silent(
+        &self,
+        alloc: Global,
+        place: Place,
+        schema: Self::Schema,
+        value: Self::Value,
+    ) -> Result<Option<usize>, Memory>
+        requires place { is_place self.now place ≡ true }
+        requires schema { stands_at self.now place schema }
+        ensures { IfOk result (λ o. MatchOption o (Unit {0})
+            (λ n. AreSilent (schemas self.now) (site self.now place) (value_of value) n)) };
 
     fn next_keyword(&self, keywords: &mut Self::Keywords) -> Option<Self::Keyword>
         ensures { MatchOption result (listed keywords.old ≡ [])

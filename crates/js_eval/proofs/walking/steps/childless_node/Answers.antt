@@ -1,6 +1,6 @@
 use Rattle.std.proofs.Common.{[], arith, refl}
 use Rattle.js_eval.proofs.Recursion.Splits.{split_at_name}
-use Rattle.js_eval.proofs.Recursion.Stepping.{childless_step, skipped_step}
+use Rattle.js_eval.proofs.Recursion.Stepping.{childless_step, drops_leaf, skipped_step}
 use Rattle.js_eval.specs.declared.walking.tally.Tally.{Tally}
 use Rattle.js_eval.proofs.walking.steps.childless_node.Goals as goal
 
@@ -15,7 +15,7 @@ returns-then-is_dropped g c = λ depth path.
     let dropped = c.if-is_dropped.true in
     skipped_step (g.W.World.schemas c.args.world.now) g.W.World.text_of g.R.Reporter.takes depth path place v (g.W.World.keyword_of c.args.case.keyword) c.args.matching c.in_ok-passes.passes
     c.args.way.now _ c.args.into.now
-    (c.is_dropped.ensures.passes dropped) c.in_ok-passes.ensures (c.is_dropped.ensures.silent place v c.args.matching 0 [] [] dropped) (c.is_dropped.ensures.drops dropped)
+    (c.is_dropped.ensures.passes dropped) c.in_ok-passes.ensures (c.is_dropped.ensures.silent place v c.args.matching 0 [] [] dropped) (drops_leaf g.R.Reporter.takes c.args.into.now (c.is_dropped.ensures.drops dropped))
     refl refl (let l = c.requires.left in omega (arith, l)) (record { path = refl; scope = refl; keyword = refl; instance = refl })
 
 pub returns : goal.returns
