@@ -1,5 +1,5 @@
 -- A schema's node of which nothing is kept: all its keywords are assertions, and they pass.
-use Rattle.std.specs.Prelude.{◌≡◌, ℕ, suc, ◌+◌, ◌≤◌, Bool, true, false, not, ◌&&◌, cond, List, [], ◌∷◌, ◌++◌, Option, None, map, filter, length, drop, sum_by, refl}
+use Rattle.std.specs.Prelude.{◌≡◌, ℕ, suc, ◌+◌, ◌-◌, ◌<◌, ◌≤◌, Bool, true, false, not, ◌&&◌, cond, List, [], ◌∷◌, ◌++◌, Option, None, map, filter, length, drop, sum_by, refl}
 use Rattle.std.specs.List.{list_all}
 use Rattle.std.proofs.Common.{sym, ◌∙◌, ap, subst, arith, inr}
 use Rattle.js_doc.specs.Members.{IsAscending}
@@ -32,6 +32,9 @@ use Rattle.js_eval.proofs.Recursion.NodeTelling.{KeywordsLoop, at_end, ended, ke
 use Rattle.js_eval.proofs.Recursion.Stepping.{node_more, skipped_step}
 use Rattle.js_eval.proofs.Recursion.Visited.{all_visited, condition_kept, every_visited, matching_kept, ones, others_alone}
 use Rattle.js_eval.proofs.SaysThere.{assertion_is_silent}
+
+pub taken_away : (left count : ℕ) → count < left → ((left - count - 1) + count) + 1 ≡ left
+taken_away left count h = omega (arith, h)
 
 -- ---- an assertion
 

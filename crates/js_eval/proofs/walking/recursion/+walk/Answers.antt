@@ -13,6 +13,9 @@ use Rattle.js_eval.proofs.Recursion.Counted.{counts_later}
 use Rattle.js_eval.specs.Walk.Told.{SomeHasNone, KeywordHasNone, HasNone}
 use Rattle.js_eval.proofs.Recursion.Each.{each_start}
 use Rattle.js_eval.proofs.Recursion.Stepping.{each_step, step_back, at_most_one, on_too_large, keyword_step, asked_same, node_start, node_more, loop_as, node_failed, node_too_large, node_end}
+use Rattle.js_eval.specs.Walk.Reported.{DropsSilent}
+use Rattle.js_eval.specs.Walk.Visited.{AreSilent}
+use Rattle.js_eval.proofs.Recursion.SilentNode.{silent_node, silent_too_large, taken_away}
 use Rattle.js_eval.proofs.Recursion.Splits.{split_at_name, split_at_step}
 use Rattle.js_eval.proofs.Recursion.Visited.{given_back}
 use Rattle.js_eval.proofs.Recursion.NodeTelling.{at_next, none_at_zero, none_left, one_less}
@@ -164,8 +167,8 @@ node-keyword_node-requires g t c κs within =
     let n = c.start-start.ensures.indexes in
     let names : c.start-start.result.names ≤ length c.keywords.way.names.items = omega (arith, l, e1, e2, m) in
     let indexes : c.start-start.result.indexes ≤ length c.keywords.way.indexes.items = omega (arith, i, n) in
-    let k = g.W.World.keyword_of c.in-Some.keyword in
-    let x : g.W.World.listed c.keywords.judging.keywords ≡ k ∷ g.W.World.listed c.next_keyword.new.judging.keywords = c.in-Some.ensures.next in
+    let k = g.W.World.keyword_of c.in-Some-next_keyword.keyword in
+    let x : g.W.World.listed c.keywords.judging.keywords ≡ k ∷ g.W.World.listed c.next_keyword.new.judging.keywords = c.in-Some-next_keyword.ensures.next in
     let loop = rw (x, sym c.next_keyword.ensures.known) at c.keywords.invariant.loop in
     let next = at_next (g.W.World.schemas c.args.world.now) (c.args.depth - 1) (map site c.args.way.now.path) (site c.args.place) (g.W.World.value_of c.args.value) c.is_quiet-quiet.result g.R.Reporter.takes c.next_keyword.new.judging.known.valid c.next_keyword.new.judging.known.condition c.next_keyword.new.judging.known.matching
     (map g.W.World.text_of c.args.way.now.names.items) (map g.W.World.text_of c.keywords.way.names.items) c.args.way.now.indexes.items c.keywords.way.indexes.items c.args.way.now.left c.keywords.way.left c.args.way.now.keyword c.args.way.now.instance c.args.into.now c.keywords.into k (g.W.World.listed c.next_keyword.new.judging.keywords) loop in
@@ -179,9 +182,9 @@ node-returns-in_err-judged g t c =
     let path = map site c.args.way.now.path in
     let place = site c.args.place in
     let v = g.W.World.value_of c.args.value in
-    let k = g.W.World.keyword_of c.in-Some.keyword in
+    let k = g.W.World.keyword_of c.in-Some-next_keyword.keyword in
     let rest = g.W.World.listed c.next_keyword.new.judging.keywords in
-    let x : g.W.World.listed c.keywords.judging.keywords ≡ k ∷ rest = c.in-Some.ensures.next in
+    let x : g.W.World.listed c.keywords.judging.keywords ≡ k ∷ rest = c.in-Some-next_keyword.ensures.next in
     let loop = rw (x, sym c.next_keyword.ensures.known) at c.keywords.invariant.loop in
     let same : map site c.keywords.way.path ≡ path ++ place ∷ [] = ap (map site) c.keywords.invariant.path ∙ map-append site c.args.way.now.path (c.args.place ∷ []) in
     let apps = asked_by S (c.args.depth - 1) (map site c.keywords.way.path) place v k c.next_keyword.new.judging.known.condition (map g.W.World.text_of (drop c.start-start.result.names c.keywords.way.names.items)) (drop c.start-start.result.indexes c.keywords.way.indexes.items) in
@@ -198,9 +201,9 @@ node-keywords-preserved g t c =
     let path = map site c.args.way.now.path in
     let place = site c.args.place in
     let v = g.W.World.value_of c.args.value in
-    let k = g.W.World.keyword_of c.in-Some.keyword in
+    let k = g.W.World.keyword_of c.in-Some-next_keyword.keyword in
     let rest = g.W.World.listed c.next_keyword.new.judging.keywords in
-    let x : g.W.World.listed c.keywords.judging.keywords ≡ k ∷ rest = c.in-Some.ensures.next in
+    let x : g.W.World.listed c.keywords.judging.keywords ≡ k ∷ rest = c.in-Some-next_keyword.ensures.next in
     let loop = rw (x, sym c.next_keyword.ensures.known) at c.keywords.invariant.loop in
     let same : map site c.keywords.way.path ≡ path ++ place ∷ [] = ap (map site) c.keywords.invariant.path ∙ map-append site c.args.way.now.path (c.args.place ∷ []) in
     let done = c.in_ok-judged.ensures in
@@ -224,7 +227,7 @@ node-returns-then-way-others g t c =
     let path = map site c.args.way.now.path in
     let place = site c.args.place in
     let v = g.W.World.value_of c.args.value in
-    let x : g.W.World.listed c.keywords.judging.keywords ≡ [] = c.in_default.ensures.next in
+    let x : g.W.World.listed c.keywords.judging.keywords ≡ [] = c.in_default-next_keyword.ensures.next in
     let loop = rw (x, sym c.next_keyword.ensures.known) at c.keywords.invariant.loop in
     subst (λ d. HasNone S d path place v c.args.way.now.left) (one_less c.args.depth c.if-depth-eq0.false)
     (node_too_large S g.W.World.text_of g.R.Reporter.takes (c.args.depth - 1) path place v c.is_quiet-quiet.result c.in_ok-others.others c.next_keyword.new.judging.known.valid c.next_keyword.new.judging.known.condition c.next_keyword.new.judging.known.matching
@@ -237,10 +240,34 @@ node-returns g t c =
     let path = map site c.args.way.now.path in
     let place = site c.args.place in
     let v = g.W.World.value_of c.args.value in
-    let x : g.W.World.listed c.keywords.judging.keywords ≡ [] = c.in_default.ensures.next in
+    let x : g.W.World.listed c.keywords.judging.keywords ≡ [] = c.in_default-next_keyword.ensures.next in
     let loop = rw (x, sym c.next_keyword.ensures.known) at c.keywords.invariant.loop in
     subst (λ d. NodeDone S g.W.World.text_of g.R.Reporter.takes d path place v (c.next_keyword.new.judging.known.valid && c.in_ok-others.others.pass) c.args.way.now c.close_schema.new.way c.args.into.now c.close_schema.new.into) (one_less c.args.depth c.if-depth-eq0.false)
     (node_end S g.W.World.text_of g.R.Reporter.takes (c.args.depth - 1) path place v c.is_quiet-quiet.result c.keywords-keywords.ensures.ascending c.is_quiet-quiet.ensures c.in_ok-others.others c.next_keyword.new.judging.known.valid (c.next_keyword.new.judging.known.valid && c.in_ok-others.others.pass)
     c.next_keyword.new.judging.known.condition c.next_keyword.new.judging.known.matching c.args.way.now c.keywords.way _ c.close_schema.new.way c.start-start.result c.args.place (g.W.World.resource c.args.world.now c.args.place)
     c.args.into.now c.keywords.into c.close_schema.new.into c.start-start.ensures c.keywords.invariant.path c.keywords.invariant.scope c.keywords.invariant.keyword c.keywords.invariant.instance c.keywords.invariant.falls loop
     c.in_ok-others.ensures refl refl refl refl refl refl refl (given_back c.keywords.way.left c.in_ok-others.others.count c.if-way-others.false) c.in_ok-close_schema.ensures)
+
+pub node-returns-then-way-count : goal.node-returns-then-way-count
+node-returns-then-way-count g t c =
+    let S = g.W.World.schemas c.args.world.now in
+    let site = g.W.World.site c.args.world.now in
+    let path = map site c.args.way.now.path in
+    let place = site c.args.place in
+    let v = g.W.World.value_of c.args.value in
+    let all = subst (λ o. MatchOption o (Unit {0}) (λ m. AreSilent S place v m)) c.in-Some.is c.in_ok-silent.ensures.silent in
+    subst (λ d. HasNone S d path place v c.args.way.now.left) (one_less c.args.depth c.if-depth-eq0.false)
+    (silent_too_large S place v (c.args.depth - 1) path c.in-Some.count c.args.way.now.left all c.if-way-count.true)
+
+pub node-returns-in-Some : goal.node-returns-in-Some
+node-returns-in-Some g t c =
+    let S = g.W.World.schemas c.args.world.now in
+    let site = g.W.World.site c.args.world.now in
+    let path = map site c.args.way.now.path in
+    let place = site c.args.place in
+    let v = g.W.World.value_of c.args.value in
+    let all = subst (λ o. MatchOption o (Unit {0}) (λ m. AreSilent S place v m)) c.in-Some.is c.in_ok-silent.ensures.silent in
+    let drops = subst (λ o. MatchOption o (Unit {0}) (λ _. DropsSilent g.R.Reporter.takes c.args.into.now)) c.in-Some.is c.in_ok-silent.ensures.drops in
+    subst (λ d. NodeDone S g.W.World.text_of g.R.Reporter.takes d path place v true c.args.way.now _ c.args.into.now c.args.into.now) (one_less c.args.depth c.if-depth-eq0.false)
+    (silent_node S g.W.World.text_of g.R.Reporter.takes (c.args.depth - 1) path place v counts_later c.in-Some.count c.args.way.now _ c.args.into.now all drops refl refl
+    (taken_away c.args.way.now.left c.in-Some.count c.if-way-count.false) (record { path = refl; scope = refl; keyword = refl; instance = refl }))
