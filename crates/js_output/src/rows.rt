@@ -14,9 +14,9 @@ use js_eval::{WalkFault, walk_noted_rows, walk_rows};
 use js_tree::{Format, RelativeRows, kept_rows};
 use std::alloc::Global;
 
-/// Judges the instance at the place, and keeps the rows that the format is written from: for verbose all, for basic none
-/// of nodes of which it shows nothing, for detailed and merged those of the nodes that condensing keeps. What the rows
-/// keep of their locations stands in the arena.
+/// Judges the instance at the place, and keeps the rows that the format is written from: for verbose all, for basic
+/// none of nodes of which it shows nothing, for detailed and merged those of the nodes that condensing keeps. What the
+/// rows keep of their locations stands in the arena.
 pub(crate) fn rows_of<'a>(
     alloc: Global,
     arena: &'a Bump,

@@ -5,8 +5,8 @@
 //! a verdict, three locations, and a *note*, which is an error, an annotation or nothing. A unit is *noted* if it has
 //! an error or an annotation.
 //!
-//! `collecting` receives a result's nodes, `reducing` prunes, condenses and merges trees and flat forms, `writing` makes
-//! their text, and `relative` does all of this with rows that keep only what their locations add to those above.
+//! `collecting` receives a result's nodes, `reducing` prunes, condenses and merges trees and flat forms, `writing`
+//! makes their text, and `relative` does all of this with rows that keep only what their locations add to those above.
 #![tactic(auto)]
 
 mod collecting;

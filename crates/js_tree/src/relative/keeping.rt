@@ -260,8 +260,8 @@ fn add_part(location: &mut Vec<u8>, slash: bool, text: &[u8]) -> Result<(), Memo
     Ok(())
 }
 
-// What is behind the start, and then this part. If nothing is behind it, that is the part itself; otherwise both go into
-// the arena, with the slash.
+// What is behind the start, and then this part. If nothing is behind it, that is the part itself; otherwise both go
+// into the arena, with the slash.
 fn joined<'a>(
     arena: &'a Bump,
     location: &mut Vec<u8>,
