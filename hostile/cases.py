@@ -22,7 +22,7 @@ POINTS = '[{"x":2,"y":1},{"x":1,"z":6}]'
 class Case:
     """A run of the program. Where `out` is None, the reference answers; a large text is a function to its pieces.
 
-    A run that takes more than `most_seconds` fails.
+    A run that takes more than `most_seconds` fails. One with `most_memory` has so many bytes of address space.
     """
 
     name: str
@@ -33,6 +33,7 @@ class Case:
     errors: bytes = b""
     status: int = 0
     most_seconds: float | None = None
+    most_memory: int | None = None
 
     def wanted(self):
         """What must be answered. The case's files must be in the current folder."""
@@ -213,6 +214,14 @@ def places(count):
     return compact({"$defs": {f"n{i:06}": True for i in range(count)}})
 
 
+def under_a_long_uri(count, length=60_000):
+    """As many schemas in a resource whose URI has that length."""
+    uri = U + "a" * (length - len(U))
+    last = f"d{count - 1:05}"
+    return compact({"$id": uri, "$defs": {f"d{i:05}": True for i in range(count - 1)} | {last: {"title": "a~/%"}},
+                    "properties": {"x": {"$ref": f"#/$defs/{last}", "minimum": 3, "a~/%": 1}}})
+
+
 def wide_bundle(count=6_000):
     """As many schemas side by side, found by their names, their indexes, references of each kind, and patterns."""
     made, properties = {}, {}
@@ -300,6 +309,13 @@ def bundles():
     # A table that hashes takes as many comparisons as there are pairs of such names.
     alike = compact({"$defs": {it: True for it in colliding(64_000)}})
     yield valid("64,000 places whose keys have one hash", alike, "0", most_seconds=4)
+    # Whole, the locations of 20,000 such places take 1.2 GB, those of 90,000 take 5.4 GB.
+    bounds = {"most_seconds": 4, "most_memory": 400_000_000}
+    few, many = under_a_long_uri(20_000), under_a_long_uri(90_000)
+    yield check("90,000 places under a URI of 60,000 bytes", many, '{"x":2}', out=INVALID, status=1, **bounds)
+    for it in FORMATS:
+        yield check(f"20,000 places under a URI of 60,000 bytes, {it}", few, '{"x":2}', it, out=None, **bounds)
+    yield check("the root alone under a URI of 60,000 bytes", few, "0", "detailed", out=None, **bounds)
 
 
 def patterns():

@@ -74,8 +74,11 @@ class Room:
         words = [self.program, *case.words]
         if self.times:
             words = [sys.executable, "-S", "-c", MEASURED, *words]
+        memory = case.most_memory or stack and MEMORY_BOUND
+        if memory:
+            words = ["prlimit", f"--as={memory}:{memory}", *words]
         if stack:
-            words = ["prlimit", f"--stack={stack}:{stack}", f"--as={MEMORY_BOUND}:{MEMORY_BOUND}", *words]
+            words = ["prlimit", f"--stack={stack}:{stack}", *words]
         begin = time.monotonic()
         with open("given", "rb") as given, open("out", "wb") as out:
             _, errors, status = answer_of(words, self.seconds, None, stdin=given, stdout=out)

@@ -10,6 +10,7 @@ pub mod EachFound
 pub mod DynamicTargets
 pub mod KeptOfPlaces
 pub mod KeptUnderNumber
+pub mod LocationsLent
 pub mod PatternsFound
 pub mod SchemaAtPlace
 pub mod ResourcesNext

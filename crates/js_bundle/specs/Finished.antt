@@ -11,11 +11,11 @@ use Rattle.js_bundle.specs.Finding.{dynamic_at, number_of_target, under_number}
 use Rattle.js_bundle.specs.code.PartsByPlace.{ArePartsByPlace}
 use Rattle.js_bundle.specs.code.Index.{IsIndexOf}
 use Rattle.js_bundle.specs.KeywordName.{keyword_names}
-use Rattle.js_bundle.specs.Location.{location}
 use Rattle.js_bundle.specs.Refusals.{candidates}
 use Rattle.js_bundle.specs.Resource.{sites}
 use Rattle.js_bundle.specs.ResourceTable.{IsResourceTable}
 use Rattle.js_bundle.specs.Seen.{AreRead}
+use Rattle.js_bundle.specs.code.KeptLocation.{kept_location}
 use Rattle.js_bundle.specs.code.KeptSite.{kept_site, kept_site_of}
 
 pub record IsCheckOf (documents : Documents) (kept : Checked) : Type 0 where
@@ -27,7 +27,7 @@ pub record IsCheckOf (documents : Documents) (kept : Checked) : Type 0 where
   pub keywords : ArePartsByPlace keyword_names (sites documents) kept.keywords.names.items kept.keywords.ends.items
   pub dynamic : IsSparseList (get nat_eq kept.references.dynamic) (dynamic_at (sites documents)) (sites documents)
   pub plain : IsSparseList (under_number kept.references.plain.items) (number_of_target (sites documents) (codes "$ref")) (sites documents)
-  pub locations : kept.locations.items ≡ map location (sites documents)
+  pub locations : kept.locations.items ≡ map kept_location (sites documents)
   pub index : IsIndexOf kept.index (sites documents)
   pub resources : IsResourceTable kept.resources (sites documents)
   pub edges : map edges_of kept.edges.items ≡ edges_from 0 documents

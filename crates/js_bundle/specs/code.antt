@@ -4,6 +4,7 @@ pub mod Scan
 pub mod Index
 pub mod KeptSite
 pub mod Edges
+pub mod KeptLocation
 pub mod TextPrefix
 pub mod Positions
 pub mod PartsByPlace

@@ -10,12 +10,12 @@ ghost use Rattle.js_bundle.specs.code.PartsByPlace.{ArePartsByPlace};
 ghost use Rattle.js_bundle.specs.code.Index.{IsIndexOf};
 ghost use Rattle.js_bundle.specs.code.Positions.{ArePositionsOf};
 ghost use Rattle.js_bundle.specs.KeywordName.{keyword_names};
-ghost use Rattle.js_bundle.specs.Location.{location};
 ghost use Rattle.js_bundle.specs.Refusals.{candidates, second_pass};
 ghost use Rattle.js_bundle.specs.Resource.{sites};
 ghost use Rattle.js_bundle.specs.ResourceTable.{AreRooted, IsResourceTable};
 ghost use Rattle.js_bundle.specs.code.Scan.{site_of};
 ghost use Rattle.js_bundle.specs.Seen.{document_of, AreRead};
+ghost use Rattle.js_bundle.specs.code.KeptLocation.{kept_location};
 ghost use Rattle.js_bundle.specs.code.KeptSite.{kept_site, kept_site_of};
 
 pub(crate) mod assertions_and_patterns;
@@ -33,12 +33,12 @@ use crate::check::references::{References, resolve_all};
 use crate::document::Document;
 use crate::index::Index;
 use crate::index::edges::{Edges, edges_in};
+use crate::index::kept_location::KeptLocation;
 use crate::index::keyword_table::KeywordTable;
 use crate::index::positions::Positions;
 use crate::index::resource_table::{Resources, resources_of};
 use crate::scan::scan;
 use crate::scan::site::Site;
-use js_doc::Text;
 use std::alloc::Global;
 
 /// What is kept of checked documents, place by place.
@@ -49,7 +49,7 @@ pub(crate) struct Checked {
     pub(crate) keywords: KeywordTable,
     pub(crate) references: References,
     /// The absolute location of each.
-    pub(crate) locations: Vec<Text>,
+    pub(crate) locations: Vec<KeptLocation>,
     pub(crate) index: Index,
     pub(crate) resources: Resources,
     /// What each place holds.
@@ -108,7 +108,7 @@ pub(crate) fn check_whole(alloc: Global, documents: &[Document]) -> Result<Check
         (number_of_target (sites (map document_of documents.now)) (codes "$ref"))
         (sites (map document_of documents.now))) }
     ensures locations { IfOk result (λ c. c.locations.items
-        ≡ map location (sites (map document_of documents.now))) }
+        ≡ map kept_location (sites (map document_of documents.now))) }
     ensures index { IfOk result (λ c. IsIndexOf c.index (sites (map document_of documents.now))) }
     ensures resources { IfOk result
         (λ c. IsResourceTable c.resources (sites (map document_of documents.now))) }

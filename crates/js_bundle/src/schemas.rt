@@ -1,5 +1,5 @@
 //! Finished schemas: places, and what stands there.
-ghost use Rattle.std.specs.Prelude.{◌≡◌, Some, true, map, option_map, IfOk, string_bytes};
+ghost use Rattle.std.specs.Prelude.{◌≡◌, ◌++◌, Some, true, map, option_map, IfOk, string_bytes};
 ghost use Rattle.js_doc.specs.Seen.{value_of};
 ghost use Rattle.js_bundle.specs.Finding.{tokens_of};
 ghost use Rattle.js_bundle.specs.Location.{absolute, canonical, location};
@@ -112,12 +112,19 @@ impl Schemas {
         absolute_location(alloc, &site.own, &site.pointer, keyword)
     }
 
-    /// The absolute location of the place, lent.
-    pub fn absolute_of(&self, place: Place) -> &str
+    /// The absolute location of the place, lent in two pieces, one behind the other. Mostly the second one is empty. If
+    /// the URI of the place's resource is long, the first one is that URI.
+    pub fn location_of(&self, place: Place) -> (&str, &str)
         requires { is_place self.now place ≡ true }
-        ensures { option_map location (place_at self.now place) ≡ Some result.now }
+        ensures { option_map location (place_at self.now place) ≡ Some (result.0.now ++ result.1.now) }
     {
-        self.kept.locations[place.number].as_str()
+        let kept = &self.kept.locations[place.number];
+        let text = kept.text.as_str();
+        if kept.is_fragment {
+            (self.resource(place), text)
+        } else {
+            (text, "")
+        }
     }
 
     /// All places, in scan order: document by document, a schema before those that it holds, these by keyword ascending

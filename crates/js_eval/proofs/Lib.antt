@@ -1,3 +1,4 @@
+pub mod LeavesTold
 pub mod Lists
 pub mod Agree
 pub mod Results

@@ -1,9 +1,9 @@
 -- The places of a path, and what stands at a place.
-use Rattle.std.specs.Prelude.{◌≡◌, ℕ, true, List, [], ◌∷◌, Option, Some, None, ◌++◌, codes, map, option_map, option_to_list, unwrap_or, length, refl}
+use Rattle.std.specs.Prelude.{◌≡◌, ℕ, true, List, [], ◌∷◌, Option, Some, None, ◌++◌, codes, map, option_map, option_to_list, unwrap_or, length, ◌==◌, refl}
 use Rattle.std.proofs.Common.{ap, sym, ◌∙◌}
 use Rattle.std.specs.List.{list_all}
-use Rattle.std.proofs.lemmas.Bool.{and_parts}
-use Rattle.std.proofs.lemmas.List.{append-nil, append_assoc}
+use Rattle.std.proofs.lemmas.Bool.{and_parts, eqb-true}
+use Rattle.std.proofs.lemmas.List.{append-nil, append_assoc, nil_from_length}
 use Rattle.std.proofs.lemmas.Option.{slice_get-get_or}
 use borrow.Author.Tests.{ltb-true}
 use Rattle.js_doc.specs.Fragment.{fragment_text, fragment_token}
@@ -42,6 +42,14 @@ pub keyword_location_is : (documents : Documents) (n : ℕ) (keyword t u : List 
     → u ≡ absolute (numbered_site documents n) (keyword ∷ [])
 keyword_location_is documents n keyword t u e f =
     f ∙ ap (λ x. x ++ fragment_token keyword) (location_is documents n t e) ∙ one_further (numbered_site documents n) keyword
+
+-- one that is lent in two pieces, of which the second one is empty
+pub in_one_piece : (lent rest token u : List ℕ) → (length rest == 0) ≡ true → u ≡ lent ++ token → u ≡ (lent ++ rest) ++ token
+in_one_piece lent rest token u none e =
+    e ∙ ap (λ x. x ++ token) (sym (append-nil lent)) ∙ ap (λ r. (lent ++ r) ++ token) (sym (nil_from_length rest (eqb-true (length rest) 0 none)))
+
+pub first_alone : (o : Option (List ℕ)) (lent rest : List ℕ) → (length rest == 0) ≡ true → o ≡ Some (lent ++ rest) → o ≡ Some lent
+first_alone o lent rest none e = e ∙ ap (λ r. Some (lent ++ r)) (nil_from_length rest (eqb-true (length rest) 0 none)) ∙ ap Some (append-nil lent)
 
 -- where all are places, those of a path are the places that they stand for
 pub path_is : (documents : Documents) (path : List ℕ) → list_all (is_place documents) path ≡ true → path_at documents path ≡ map (numbered_site documents) path

@@ -11,3 +11,4 @@ pub mod Holding
 pub mod NamesLeft
 pub mod ListLeft
 pub mod Leaves
+pub mod Recorded

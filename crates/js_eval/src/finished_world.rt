@@ -302,13 +302,14 @@ impl Here<'_> {
     ///
     /// # Errors
     /// `Memory` if an allocation fails.
-    #[tactic(auto, using(crate::proofs::Paths::location_is))]
     pub fn absolute_schema(&self, alloc: Global, place: Place) -> Result<Text, Memory>
         requires { is_place self.now.schemas.now place ≡ true }
         ensures { IfOk result (λ t. t ≡ (schemas_of self.now.schemas.now).absolute
             (numbered_site self.now.schemas.now place) None) }
     {
-        Ok(Text::new(String::from_str(alloc, self.schemas.absolute_of(place))?))
+        let (location, rest) = self.schemas.location_of(place);
+        let whole = joined(alloc, location, rest)?;
+        Ok(Text::new(whole))
     }
 
     /// The absolute keyword location of the keyword with this name at a place (Core, section 12.3.2).
@@ -325,8 +326,9 @@ impl Here<'_> {
         ensures { IfOk result (λ t. t ≡ (schemas_of self.now.schemas.now).absolute
             (numbered_site self.now.schemas.now place) (Some keyword.now)) }
     {
-        let location = one_further(alloc, self.schemas.absolute_of(place), keyword)?;
-        Ok(Text::new(location))
+        let (location, rest) = self.schemas.location_of(place);
+        let further = one_further(alloc, location, rest, keyword)?;
+        Ok(Text::new(further))
     }
 
     /// The note of a schema's node.
@@ -348,11 +350,20 @@ impl Here<'_> {
     }
 }
 
-// The location with one more token at its end.
-fn one_further(alloc: Global, location: &str, token: &str) -> Result<String, Memory>
-    ensures { IfOk result (λ t. string_bytes t ≡ location.now ++ fragment_token token.now) }
+// A location, of its two pieces.
+fn joined(alloc: Global, location: &str, rest: &str) -> Result<String, Memory>
+    ensures { IfOk result (λ t. string_bytes t ≡ location.now ++ rest.now) }
 {
     let mut text = String::from_str(alloc, location)?;
+    text.push_str(rest)?;
+    Ok(text)
+}
+
+// The same with one more token at its end.
+fn one_further(alloc: Global, location: &str, rest: &str, token: &str) -> Result<String, Memory>
+    ensures { IfOk result (λ t. string_bytes t ≡ (location.now ++ rest.now) ++ fragment_token token.now) }
+{
+    let mut text = joined(alloc, location, rest)?;
     push_fragment_token(&mut text, token)?;
     Ok(text)
 }

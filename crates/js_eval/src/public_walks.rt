@@ -1,8 +1,9 @@
 //! The public walks: each evaluates a schema of finished schemas on a value, and returns the result as a tree, as
 //! rows, in a collector, or as the verdict alone.
-ghost use Rattle.std.specs.Prelude.{◌≡◌, true, IfOk, IfErr, MatchResult};
+ghost use Rattle.std.specs.Prelude.{◌≡◌, Some, true, option_map, IfOk, IfErr, MatchResult};
 ghost use Rattle.js_doc.specs.Seen.{value_of};
-ghost use Rattle.js_bundle.specs.Schemas.{is_place};
+ghost use Rattle.js_bundle.specs.Location.{location};
+ghost use Rattle.js_bundle.specs.Schemas.{is_place, place_at};
 ghost use Rattle.js_eval.specs.Bundle.{schemas_of};
 ghost use Rattle.js_eval.specs.Sited.{numbered_site};
 ghost use Rattle.js_eval.specs.Walk.Reported.{Reported};
@@ -19,7 +20,7 @@ use crate::searching::searchers::Searchers;
 use crate::walking::{HeldText, PointerText, Reporter, UnseenText, WalkFault, walk_from};
 use bumpalo::Bump;
 use js_bundle::{Place, Schemas};
-use js_doc::Doc;
+use js_doc::{Doc, Memory};
 use js_tree::{Boxed, Collector, RelativeRows, Tree};
 use std::alloc::Global;
 use std::marker::PhantomData;
@@ -92,7 +93,7 @@ pub fn walk<'a>(
 
 /// Evaluates the schema at the place on the value, and returns the result as rows (JSON Schema Core, section 12.4.4).
 /// A row keeps, in the arena, only what its locations add to those of the node above, and borrows the absolute
-/// location of its schema.
+/// location of its schema, or if that is long, the URI of its resource.
 ///
 /// # Errors
 /// Those of [`walk`].
@@ -145,11 +146,31 @@ pub fn walk_noted_rows<'a>(
     let mut rows = rows;
     match done {
         Ok(valid) => {
-            rows.put_root_back(schemas.absolute_of(place), valid)?;
+            let absolute = location_at(alloc, arena, schemas, place)?;
+            rows.put_root_back(absolute, valid)?;
             Ok(rows)
         }
         Err(fault) => Err(fault),
     }
+}
+
+// The absolute location of the place as one text: lent by the schemas, or made in the arena.
+fn location_at<'a>(
+    alloc: Global,
+    arena: &'a Bump,
+    schemas: &'a Schemas,
+    place: Place,
+) -> Result<&'a str, Memory>
+    requires { is_place schemas.now place ≡ true }
+    ensures { IfOk result (λ t. option_map location (place_at schemas.now place) ≡ Some t.now) }
+{
+    let (location, rest) = schemas.location_of(place);
+    if rest.is_empty() {
+        return Ok(location);
+    }
+    let whole = schemas.absolute(alloc, place, None)?;
+    let kept = arena.try_alloc_str(whole.as_str())?;
+    Ok(kept)
 }
 
 /// Whether the value is valid against the schema at the place (JSON Schema Core, section 12.4.1). This is the verdict

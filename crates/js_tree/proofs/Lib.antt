@@ -18,6 +18,7 @@ pub mod Forests
 pub mod KeptBetween
 pub mod KeptRows
 pub mod KeptTree
+pub mod Leaves
 pub mod ListedRows
 pub mod ListedUnits
 pub mod MergedLaws

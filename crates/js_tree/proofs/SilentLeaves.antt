@@ -78,7 +78,7 @@ rows_with old rows nodes few shallow = record {
 }
 
 -- some value has the state after a node has opened
-abbrev IsThere : RelativeState → Type 0
+abbrev pub IsThere : RelativeState → Type 0
 IsThere s = (m : RelativeRows) × relative_state m ≡ s
 
 there : (nodes rows : ℕ) → not (suc nodes == 0) || rows == 0 ≡ true
@@ -98,7 +98,7 @@ pushed old rows nodes keyword absolute instance few shallow may =
     )
 
 -- with a node that has opened, or without it after the root has closed
-opened_with : (old : RelativeRows) (rows : List RelativeRow) (nodes : List DeclaredOpen) (keyword absolute instance : List ℕ) → length rows + 1 < 2 ^ 63 → length nodes + 1 < 2 ^ 63
+pub opened_with : (old : RelativeRows) (rows : List RelativeRow) (nodes : List DeclaredOpen) (keyword absolute instance : List ℕ) → length rows + 1 < 2 ^ 63 → length nodes + 1 < 2 ^ 63
     → IsThere (relative_opened old.trims (map relative_row rows) (open_nodes nodes []) keyword absolute instance)
 opened_with old [] [] keyword absolute instance few shallow = pushed old [] [] keyword absolute instance few shallow refl
 opened_with old (r ∷ rows) [] keyword absolute instance few shallow = (rows_with old (r ∷ rows) [] (omega (arith, few)) (omega (arith)), refl)

@@ -1,5 +1,5 @@
 -- What a collector of rows holds that have only what their locations add to those of the node above, with JSON escapes.
-use Rattle.std.specs.Prelude.{◌≡◌, ℕ, ◌-◌, Bool, true, false, not, ◌&&◌, if◌then◌else◌, nat_eq, List, [], ◌∷◌, ◌++◌, drop, length, map, take}
+use Rattle.std.specs.Prelude.{◌≡◌, ℕ, ◌-◌, ◌+◌, ◌<◌, ◌≤◌, ◌^◌, Bool, true, false, not, ◌&&◌, if◌then◌else◌, nat_eq, List, [], ◌∷◌, ◌++◌, drop, length, map, take}
 use Rattle.json.specs.Print.{escape}
 use Rattle.js_tree.specs.Events.{Event, Passes, opening, closing}
 use Rattle.js_tree.specs.Flat.{flat_form}
@@ -145,3 +145,21 @@ abbrev pub DropsSilentLeaf : RelativeRows → Type 0
 DropsSilentLeaf rows = (keyword absolute instance : List ℕ)
     → Passes (λ a e b. relative_state b ≡ relative_after (relative_state a) e)
     (opening keyword absolute instance ∷ closing true silent ∷ []) rows rows
+
+-- the innermost open node has a keyword location as long as this one and an instance location no shorter than this one,
+-- and there is room for one more row and one more open node
+pub record TakesLeafAt (rows : RelativeRows) (keyword instance : List ℕ) : Type 0 where
+  pub node : OpenNode
+  pub others : List OpenNode
+  pub open_are : open_nodes rows.nodes.items [] ≡ node ∷ others
+  pub keyword_is : node.keyword ≡ length keyword
+  pub instance_is : length instance ≤ node.instance
+  pub few : length rows.rows.items + 1 < 2 ^ 63
+  pub shallow : length rows.nodes.items + 1 < 2 ^ 63
+
+-- the keyword with this name, of this schema, opens and closes at once below the node at these locations: its events
+-- lead from the old rows to the new
+abbrev pub HasLeaf : (keyword schema name instance : List ℕ) → Bool → Note → RelativeRows → RelativeRows → Type 0
+HasLeaf keyword schema name instance valid note old new =
+    Passes (λ a e b. relative_state b ≡ relative_after (relative_state a) e)
+    (opening (keyword ++ 47 ∷ name) (schema ++ 47 ∷ name) instance ∷ closing valid note ∷ []) old new

@@ -5,6 +5,7 @@ pub(crate) mod apart;
 pub(crate) mod basic_text;
 pub(crate) mod differing;
 pub(crate) mod keeping;
+pub(crate) mod leaf;
 pub(crate) mod locations;
 pub(crate) mod marks;
 pub(crate) mod merged_tree;

@@ -4,9 +4,9 @@ use Rattle.std.proofs.lemmas.List.{length-map, length-take}
 use Rattle.js_bundle.specs.declared.index.positions.Positions.{Positions}
 use Rattle.js_bundle.specs.declared.scan.site.Site as rust
 use Rattle.js_bundle.specs.code.Index.{HasPlaceAdded, IsIndexOf}
+use Rattle.js_bundle.specs.code.KeptLocation.{kept_location}
 use Rattle.js_bundle.specs.code.Positions.{ArePositionsOf, HasPositionAdded}
 use Rattle.js_bundle.specs.code.Scan.{site_of}
-use Rattle.js_bundle.specs.Location.{location}
 use Rattle.js_bundle.specs.ResourceNumber.{begins_resource}
 use Rattle.js_bundle.proofs.Indexing.SparseLists.{ended}
 use Rattle.js_bundle.proofs.Indexing.IndexFinds.{index_more, index_whole}
@@ -16,13 +16,13 @@ use Rattle.js_bundle.proofs.Checking.PassNext.{place_next}
 pub record ArePositionsSoFar (ss : List rust.Site) (i : ℕ) (positions : Positions) : Type 0 where
   pub index : IsIndexOf positions.index (map site_of (take i ss))
   pub roots : positions.roots.items ++ map begins_resource (map site_of (drop i ss)) ≡ map begins_resource (map site_of ss)
-  pub locations : positions.locations.items ++ map location (map site_of (drop i ss)) ≡ map location (map site_of ss)
+  pub locations : positions.locations.items ++ map kept_location (map site_of (drop i ss)) ≡ map kept_location (map site_of ss)
 
 pub positions_first : (ss : List rust.Site) (positions : Positions) → ArePositionsOf positions [] → ArePositionsSoFar ss 0 positions
 positions_first ss positions h = record {
   index = h.index;
   roots = ap (λ bs. bs ++ map begins_resource (map site_of ss)) h.roots;
-  locations = ap (λ ls. ls ++ map location (map site_of ss)) h.locations;
+  locations = ap (λ ls. ls ++ map kept_location (map site_of ss)) h.locations;
 }
 
 pub positions_next : (ss : List rust.Site) (i : ℕ) (x : rust.Site) (old new : Positions) → i < length ss → x ≡ get_or ss i x
@@ -35,7 +35,7 @@ positions_next ss i x old new low is a h =
     record {
       index = index_more ss i x old.index new.index low is h.index (subst (λ n. HasPlaceAdded old.index (site_of x) n new.index) count a.index);
       roots = place_next begins_resource ss i x old.roots.items new.roots.items (begins_resource (site_of x)) (map begins_resource (map site_of ss)) low is a.roots refl h.roots;
-      locations = place_next location ss i x old.locations.items new.locations.items (location (site_of x)) (map location (map site_of ss)) low is a.locations refl h.locations;
+      locations = place_next kept_location ss i x old.locations.items new.locations.items (kept_location (site_of x)) (map kept_location (map site_of ss)) low is a.locations refl h.locations;
     }
 
 pub positions_whole : (ss : List rust.Site) (i : ℕ) (positions : Positions) → i ≡ length ss → ArePositionsSoFar ss i positions → ArePositionsOf positions (map site_of ss)
@@ -44,5 +44,5 @@ positions_whole ss i positions whole h =
     record {
       index = index_whole ss i positions.index low h.index;
       roots = ended begins_resource ss i positions.roots.items (map begins_resource (map site_of ss)) low h.roots;
-      locations = ended location ss i positions.locations.items (map location (map site_of ss)) low h.locations;
+      locations = ended kept_location ss i positions.locations.items (map kept_location (map site_of ss)) low h.locations;
     }

@@ -1,14 +1,15 @@
 -- The texts that tell where a place stands go on from where those of the place before it are the same.
 use Rattle.std.proofs.Common.{◌≡◌, ℕ, zero, suc, ◌-◌, ◌≤◌, min, List, [], ◌∷◌, ◌++◌, Bool, true, false, ◌&&◌, ◌==◌, bytes_eq, codes, decimal, take, drop, length, string_bytes, if◌then◌else◌, refl, sym, ap, ap₂, ◌∙◌, append_assoc, arith}
 use Rattle.std.proofs.lemmas.Bool.{and_parts, eqb-true}
-use Rattle.std.proofs.lemmas.List.{append-nil, length-drop, take-append-drop, take-take}
+use Rattle.std.proofs.lemmas.List.{length-drop, take-append-drop, take-take}
 use Rattle.js_doc.specs.Fragment.{fragment_text}
 use Rattle.js_doc.specs.Pointer.{Tokens, pointer_text, token_text}
 use Rattle.js_doc.proofs.Named.{is_text-sound}
 use Rattle.js_bundle.specs.declared.index.text_prefix.TextPrefix.{TextPrefix}
 use Rattle.js_bundle.specs.code.TextPrefix.{tokens_alike, BeginsKey, BeginsLocation}
 use Rattle.js_bundle.specs.code.Index.{place_key}
-use Rattle.js_bundle.specs.Location.{canonical, location, way}
+use Rattle.js_bundle.specs.code.KeptLocation.{repeated}
+use Rattle.js_bundle.specs.Location.{canonical, way}
 use Rattle.js_bundle.specs.Resource.{Site}
 use Rattle.js_bundle.specs.Url.{printed}
 use Rattle.js_bundle.proofs.Indexing.WaysWritten.{fragment_append}
@@ -90,29 +91,29 @@ located base mark w v =
 pub location_on : (base mark : List ℕ) (n m : ℕ) (w : Tokens) → n ≤ m → (base ++ (mark ++ fragment_text (take n w))) ++ fragment_text (drop n (take m w)) ≡ base ++ (mark ++ fragment_text (take m w))
 location_on base mark n m w h = located base mark (take n w) (drop n (take m w)) ∙ ap (λ x. base ++ (mark ++ fragment_text x)) (front_and_rest n m w h)
 
-pub location_whole : (base mark : List ℕ) (n : ℕ) (w : Tokens) → (base ++ (mark ++ fragment_text (take n w))) ++ fragment_text (drop n w) ≡ base ++ (mark ++ fragment_text (w ++ []))
-location_whole base mark n w = located base mark (take n w) (drop n w) ∙ ap (λ x. base ++ (mark ++ fragment_text x)) (take-append-drop n w ∙ sym (append-nil w))
+pub location_whole : (base mark : List ℕ) (n : ℕ) (w : Tokens) → (base ++ (mark ++ fragment_text (take n w))) ++ fragment_text (drop n w) ≡ base ++ (mark ++ fragment_text w)
+location_whole base mark n w = located base mark (take n w) (drop n w) ∙ ap (λ x. base ++ (mark ++ fragment_text x)) (take-append-drop n w)
 
 pub location_goes_on : (b : TextPrefix) (before place : Site) (most : ℕ) → BeginsLocation b before
-    → (bytes_eq (printed before.own.base) (printed place.own.base) && length before.own.resource == length place.own.resource) ≡ true
+    → (bytes_eq (repeated (printed before.own.base)) (repeated (printed place.own.base)) && length before.own.resource == length place.own.resource) ≡ true
     → b.tokens ≤ most → most ≤ tokens_alike place.pointer before.pointer - length place.own.resource → BeginsLocation b place
 location_goes_on b before place most h alike few low =
-    let parts = and_parts (bytes_eq (printed before.own.base) (printed place.own.base)) (length before.own.resource == length place.own.resource) alike in
+    let parts = and_parts (bytes_eq (repeated (printed before.own.base)) (repeated (printed place.own.base))) (length before.own.resource == length place.own.resource) alike in
     let deep : length before.own.resource ≡ length place.own.resource = eqb-true (length before.own.resource) (length place.own.resource) parts.1 in
     record {
       text = h.text
-          ∙ ap (λ t. t ++ (codes "#" ++ fragment_text (take b.tokens (way before)))) (is_text-sound (printed before.own.base) (printed place.own.base) parts.0)
-          ∙ ap (λ n. canonical place ++ (codes "#" ++ fragment_text (take b.tokens (drop n before.pointer)))) deep
-          ∙ ap (λ t. canonical place ++ (codes "#" ++ fragment_text t)) (shared_way b.tokens (length place.own.resource) place.pointer before.pointer (omega (arith, few, low)));
+          ∙ ap (λ t. t ++ (codes "#" ++ fragment_text (take b.tokens (way before)))) (is_text-sound (repeated (printed before.own.base)) (repeated (printed place.own.base)) parts.0)
+          ∙ ap (λ n. repeated (canonical place) ++ (codes "#" ++ fragment_text (take b.tokens (drop n before.pointer)))) deep
+          ∙ ap (λ t. repeated (canonical place) ++ (codes "#" ++ fragment_text t)) (shared_way b.tokens (length place.own.resource) place.pointer before.pointer (omega (arith, few, low)));
     }
 
 pub location_begins : (b new : TextPrefix) (place : Site) (told : ℕ) → BeginsLocation b place → b.tokens ≤ told → string_bytes new.text ≡ string_bytes b.text ++ fragment_text (drop b.tokens (take told (way place))) → new.tokens ≡ told → BeginsLocation new place
 location_begins b new place told h low pushed is = record {
-  text = pushed ∙ ap (λ t. t ++ fragment_text (drop b.tokens (take told (way place)))) h.text ∙ location_on (canonical place) (codes "#") b.tokens told (way place) low
-      ∙ ap (λ n. canonical place ++ (codes "#" ++ fragment_text (take n (way place)))) (sym is);
+  text = pushed ∙ ap (λ t. t ++ fragment_text (drop b.tokens (take told (way place)))) h.text ∙ location_on (repeated (canonical place)) (codes "#") b.tokens told (way place) low
+      ∙ ap (λ n. repeated (canonical place) ++ (codes "#" ++ fragment_text (take n (way place)))) (sym is);
 }
 
-pub location_ends : (b : TextPrefix) (place : Site) (told : ℕ) (copied text : List ℕ) → BeginsLocation b place → b.tokens ≡ told → copied ≡ string_bytes b.text → text ≡ copied ++ fragment_text (drop told (way place)) → text ≡ location place
+pub location_ends : (b : TextPrefix) (place : Site) (told : ℕ) (copied text : List ℕ) → BeginsLocation b place → b.tokens ≡ told → copied ≡ string_bytes b.text → text ≡ copied ++ fragment_text (drop told (way place)) → text ≡ repeated (canonical place) ++ (codes "#" ++ fragment_text (way place))
 location_ends b place told copied text h is same pushed =
-    pushed ∙ ap (λ t. t ++ fragment_text (drop told (way place))) (same ∙ h.text ∙ ap (λ n. canonical place ++ (codes "#" ++ fragment_text (take n (way place)))) is)
-    ∙ location_whole (canonical place) (codes "#") told (way place)
+    pushed ∙ ap (λ t. t ++ fragment_text (drop told (way place))) (same ∙ h.text ∙ ap (λ n. repeated (canonical place) ++ (codes "#" ++ fragment_text (take n (way place)))) is)
+    ∙ location_whole (repeated (canonical place)) (codes "#") told (way place)

@@ -6,6 +6,7 @@ use Rattle.js_doc.specs.Fragment.{fragment_text}
 use Rattle.js_doc.specs.Pointer.{Tokens}
 use Rattle.js_bundle.specs.declared.index.text_prefix.TextPrefix.{TextPrefix}
 use Rattle.js_bundle.specs.code.Index.{place_key}
+use Rattle.js_bundle.specs.code.KeptLocation.{repeated}
 use Rattle.js_bundle.specs.Location.{canonical, way}
 use Rattle.js_bundle.specs.Resource.{Site}
 
@@ -23,4 +24,4 @@ pub record BeginsKey (prefix : TextPrefix) (place : Site) : Type 0 where
   pub text : string_bytes prefix.text ≡ place_key place.document (take prefix.tokens place.pointer)
 
 pub record BeginsLocation (prefix : TextPrefix) (place : Site) : Type 0 where
-  pub text : string_bytes prefix.text ≡ canonical place ++ (codes "#" ++ fragment_text (take prefix.tokens (way place)))
+  pub text : string_bytes prefix.text ≡ repeated (canonical place) ++ (codes "#" ++ fragment_text (take prefix.tokens (way place)))

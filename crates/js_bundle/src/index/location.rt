@@ -3,16 +3,17 @@ ghost use Rattle.std.specs.Prelude.{◌≡◌, ◌≤◌, ◌-◌, ◌++◌, ◌
 ghost use Rattle.std.specs.Prelude.{string_bytes, IfOk, OnOk, MatchOption};
 ghost use Rattle.js_doc.specs.Fragment.{fragment_text};
 ghost use Rattle.js_bundle.specs.Finding.{tokens_of};
+ghost use Rattle.js_bundle.specs.code.KeptLocation.{kept_location, repeated};
 ghost use Rattle.js_bundle.specs.code.TextPrefix.{BeginsLocation, shared_with};
 ghost use Rattle.js_bundle.specs.code.Scan.{site_of};
-ghost use Rattle.js_bundle.specs.Location.{location};
 ghost use Rattle.js_bundle.specs.Url.{printed};
 
+use crate::index::kept_location::{KeptLocation, is_long, repeated};
 use crate::index::text_prefix::TextPrefix;
 use crate::scan::scope::Scope;
 use crate::scan::site::Site;
 use crate::uri;
-use js_doc::{Memory, Pointer, Token, push_fragment_token};
+use js_doc::{Memory, Pointer, Text, Token, push_fragment_token};
 use std::alloc::Global;
 
 /// The absolute location of what stands at the pointer in a resource, or of a keyword there.
@@ -60,18 +61,18 @@ fn push_keyword(text: &mut String, keyword: Option<&str>) -> Result<(), Memory>
     }
 }
 
-/// Makes the location of a place, and its prefix, from the prefix of the location before it.
+/// Makes what is kept of the location of a place, and its prefix, from the prefix of that of the place before it.
 pub(crate) fn next_location(
     alloc: Global,
     prefix: &mut TextPrefix,
     before: Option<&Site<'_>>,
     site: &Site<'_>,
     shared: usize,
-) -> Result<String, Memory>
+) -> Result<KeptLocation, Memory>
     requires before { MatchOption before (Unit {0}) (λ b. BeginsLocation prefix.old (site_of b.now)) }
     requires shared { shared ≡ shared_with (option_map (λ b. site_of b.now) before) (site_of site.now) }
     ensures begins { OnOk result (BeginsLocation prefix.new (site_of site.now)) }
-    ensures location { IfOk result (λ t. string_bytes t ≡ location (site_of site.now)) }
+    ensures location { IfOk result (λ l. l ≡ kept_location (site_of site.now)) }
 {
     let root = site.own.resource.tokens().len();
     let way = way_from(site.pointer.tokens(), root);
@@ -80,7 +81,10 @@ pub(crate) fn next_location(
     extend_location(prefix, way, told)?;
     let mut text = prefix.text_with_room(alloc, way)?;
     push_way(&mut text, way, told)?;
-    Ok(text)
+    Ok(KeptLocation {
+        text: Text::new(text),
+        is_fragment: is_long(uri::printed(&site.own.base)),
+    })
 }
 
 // The tokens after those of the resource's root.
@@ -108,27 +112,29 @@ fn begin_location(
     ensures within { OnOk result (prefix.new.tokens ≤ most) }
 {
     match before {
-        Some(before) if has_base_and_depth_of(before, site) && prefix.tokens <= most => Ok(()),
+        Some(before) if begins_as(before, site) && prefix.tokens <= most => Ok(()),
         _ => begin_location_anew(prefix, &site.own),
     }
 }
 
-// Whether the resources of the two have the same URI, and roots as deep.
-fn has_base_and_depth_of(before: &Site<'_>, site: &Site<'_>) -> bool
-    ensures { result ≡ (bytes_eq (printed before.now.own.value.base) (printed site.now.own.value.base)
-        && length before.now.own.value.resource == length site.now.own.value.resource) }
+// Whether the two repeat the same of the URIs of their resources, whose roots are as deep.
+fn begins_as(before: &Site<'_>, site: &Site<'_>) -> bool
+    ensures { result ≡ (bytes_eq (repeated (printed before.now.own.value.base))
+        (repeated (printed site.now.own.value.base)) && length before.now.own.value.resource == length site.now.own.value.resource) }
 {
-    uri::printed(&before.own.base) == uri::printed(&site.own.base)
+    repeated(uri::printed(&before.own.base)) == repeated(uri::printed(&site.own.base))
         && before.own.resource.tokens().len() == site.own.resource.tokens().len()
 }
 
 fn begin_location_anew(prefix: &mut TextPrefix, scope: &Scope) -> Result<(), Memory>
-    ensures text { OnOk result (string_bytes prefix.new.text ≡ printed scope.now.base ++ codes "#") }
+    ensures text { OnOk result (string_bytes prefix.new.text ≡ repeated (printed scope.now.base) ++ codes "#") }
     ensures none { OnOk result (prefix.new.tokens ≡ 0) }
 {
     prefix.tokens = 0;
     prefix.text.clear();
-    push_resource_uri(&mut prefix.text, scope)
+    prefix.text.push_str(repeated(uri::printed(&scope.base)))?;
+    prefix.text.push('#')?;
+    Ok(())
 }
 
 // Adds the first tokens of the way to it.

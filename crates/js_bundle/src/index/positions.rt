@@ -4,12 +4,13 @@ ghost use Rattle.js_bundle.specs.code.Positions.{BeginTexts, IsLast, ArePosition
 ghost use Rattle.js_bundle.specs.code.Scan.{site_of};
 
 use crate::index::Index;
+use crate::index::kept_location::KeptLocation;
 use crate::index::keys::next_key;
 use crate::index::location::next_location;
 use crate::index::resource_table::begins_resource;
 use crate::index::text_prefix::{TextPrefix, shared_with};
 use crate::scan::site::Site;
-use js_doc::{Memory, Text};
+use js_doc::Memory;
 use std::alloc::Global;
 
 /// Where places stand, one after another.
@@ -19,7 +20,7 @@ pub(crate) struct Positions {
     /// Of each, whether it is the root of its own resource.
     pub(crate) roots: Vec<bool>,
     /// The absolute location of each.
-    pub(crate) locations: Vec<Text>,
+    pub(crate) locations: Vec<KeptLocation>,
 }
 
 /// How the texts of a place begin. Those of the next one continue from there.
@@ -71,7 +72,7 @@ impl Positions {
         let key = next_key(alloc, &mut prefixes.key, before, site, shared)?;
         self.index.add_place(alloc, site, earlier.len(), key)?;
         let location = next_location(alloc, &mut prefixes.location, before, site, shared)?;
-        self.locations.push(Text::new(location))?;
+        self.locations.push(location)?;
         Ok(())
     }
 }

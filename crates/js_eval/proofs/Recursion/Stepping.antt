@@ -14,12 +14,12 @@ use Rattle.js_eval.specs.Kind.{kind}
 use Rattle.js_eval.specs.Location.{step_tokens}
 use Rattle.js_eval.specs.SchemaSet.{Text, SchemaSet, Step}
 use Rattle.js_eval.specs.declared.keywords.kind.Kind.{Kind}
-use Rattle.js_tree.specs.Events.{Event, opening, closing}
+use Rattle.js_tree.specs.Events.{Event, Passes, opening, closing}
 use Rattle.js_tree.specs.Note.{silent}
 use Rattle.js_eval.specs.Walk.Keeping.{condition_step, matching_step}
 use Rattle.js_eval.specs.Walk.Reported.{DropsSilent}
 use Rattle.js_eval.specs.Walk.Steps.{MarkOf, StartOf, SchemaOpened, SchemaClosed, IsJudged, KeywordOpened, KeywordClosed, WentDown, CameBack, NodeDone, KeywordDone, EachDone}
-use Rattle.js_eval.specs.Walk.Told.{IsAt, IsWayRestored, KeywordWalked, NodeWalked, KeywordHasNone, SomeHasNone, HasNone, asked_by, names_given, indexes_given, at_name, keywords_at, accepts_at, kind_at, says_at, schema_says, at_step}
+use Rattle.js_eval.specs.Walk.Told.{IsAt, IsWayRestored, LeafTold, KeywordWalked, NodeWalked, KeywordHasNone, SomeHasNone, HasNone, asked_by, names_given, indexes_given, at_name, keywords_at, accepts_at, kind_at, says_at, schema_says, at_step}
 use Rattle.js_eval.specs.Walked.{OnTooLarge}
 use Rattle.js_eval.specs.declared.walking.fault.WalkFault.{WalkFault}
 use Rattle.js_eval.specs.declared.walking.fault.WalkFault.TheVariants.{Memory, TooLarge}
@@ -49,7 +49,7 @@ kept_whole : {A : Type 0} (b : Bool) (xs : List A) → xs ≡ cond b xs (take (l
 kept_whole true xs = refl
 kept_whole false xs = sym (take-length xs)
 
-trail_back : (old new : Text) (k : Keyword) (mark : ℕ) → mark ≡ length old → new ≡ at_name old k → take mark new ≡ old
+pub trail_back : (old new : Text) (k : Keyword) (mark : ℕ) → mark ≡ length old → new ≡ at_name old k → take mark new ≡ old
 unfolding at_name
 trail_back old new k mark m e = ap (λ n. take n new) m ∙ (ap (take (length old)) e ∙ take-append_seam old (pointer_text (k.0 ∷ [])))
 
@@ -157,11 +157,28 @@ module _ {M H K C P : Type 0} (S : SchemaSet P) (text_of : M → Text) (takes : 
     falls = omega arith;
   }
 
-  pub childless_step : (path : List P) (place : P) (v : Value) (k : Keyword) (matching : ℕ) (len : K → ℕ) (w w₁ w₃ : Way M H K) (here : Mark K) (passes : Bool) (c c' d : C)
-      → MarkOf len w here → KeywordOpened S text_of takes place k w w₁ c c' → KeywordClosed S text_of takes len place v k matching (record { asked = 0; held = 0 }) here passes w₁ w₃ c' d
-      → KeywordDone S text_of takes n path place v k matching [] (record { passes = passes; held = 0 }) w w₃ c d
-  childless_step path place v k matching len w w₁ w₃ here passes c c' d m opened close =
-      keyword_step path place v k matching [] len w w₁ w₁ w₃ here (record { asked = 0; held = 0 }) passes path (kind_at k) [] c c' c' d m opened refl refl refl (nothing_done path (kind_at k) w₁ c') close
+  -- a keyword that applies no schema, whose node opens and closes at once
+  pub leaf_step : (path : List P) (place : P) (v : Value) (k : Keyword) (matching : ℕ) (passes : Bool) (w w₁ : Way M H K) (c d : C)
+      → IsJudged S place v k matching (record { asked = 0; held = 0 }) passes → LeafTold S takes place v k matching passes 0 w.keyword w.instance c d
+      → w₁.names.items ≡ w.names.items → w₁.indexes.items ≡ w.indexes.items → w₁.left + 1 ≡ w.left → IsWayRestored w w₁
+      → KeywordDone S text_of takes n path place v k matching [] (record { passes = passes; held = 0 }) w w₁ c d
+  leaf_step path place v k matching passes w w₁ c d judged leaf names indexes left back =
+      let none = nothing_done path (kind_at k) w₁ c in
+      let none_walked = rw (names, indexes) at none.walked in
+      let walked = keyword_walked S n path place v k matching [] passes 0 0 (map text_of w.names.items) (map text_of w.names.items) (map text_of w₁.names.items) w.indexes.items w.indexes.items w₁.indexes.items w.left w₁.left w₁.left none_walked left judged
+      (ap (map text_of) names ∙ kept_whole passes (map text_of w.names.items)) (indexes ∙ kept_whole passes w.indexes.items) in
+      let said = says_at S place v matching k 0 [] [] passes in
+      record {
+        walked = walked;
+        told = λ at h.
+            let closed : takes leaf.0 (closing passes said) d = subst (λ x. takes leaf.0 (closing passes said) x) leaf.2.2 leaf.2.1 in
+            keyword_told S n path place v k matching [] takes passes 0 0 (map text_of w.names.items) (map text_of w.names.items) w.indexes.items w.indexes.items w₁.left w₁.left w.keyword w.instance
+            (S.absolute place (Some k.0)) (at_name w.keyword k) said [] [] c leaf.0 leaf.0 d at h none_walked walked.verdict refl refl leaf.1
+            (λ at' h'. record { forest = empty; nodes = tt; passes = refl })
+            (sym (names_of_none S n path (kind_at k))) (sym (indexes_of_none S n path (kind_at k))) refl closed;
+        back = back;
+        falls = omega (arith, left);
+      }
 
   -- one that passes and has no note, of which the reporter keeps nothing
   pub skipped_step : (path : List P) (place : P) (v : Value) (k : Keyword) (matching : ℕ) (passes : Bool) (w w₁ : Way M H K) (c : C)
@@ -169,23 +186,11 @@ module _ {M H K C P : Type 0} (S : SchemaSet P) (text_of : M → Text) (takes : 
       → w₁.names.items ≡ w.names.items → w₁.indexes.items ≡ w.indexes.items → w₁.left + 1 ≡ w.left → IsWayRestored w w₁
       → KeywordDone S text_of takes n path place v k matching [] (record { passes = passes; held = 0 }) w w₁ c c
   skipped_step path place v k matching passes w w₁ c p judged said drops names indexes left back =
-      let none = nothing_done path (kind_at k) w₁ c in
-      let none_walked = rw (names, indexes) at none.walked in
-      let walked = keyword_walked S n path place v k matching [] passes 0 0 (map text_of w.names.items) (map text_of w.names.items) (map text_of w₁.names.items) w.indexes.items w.indexes.items w₁.indexes.items w.left w₁.left w₁.left none_walked left judged
-      (ap (map text_of) names ∙ kept_whole passes (map text_of w.names.items)) (indexes ∙ kept_whole passes w.indexes.items) in
-      record {
-        walked = walked;
-        told = λ at h.
-            let gone = drops (at_name w.keyword k) (S.absolute place (Some k.0)) w.instance in
-            let closed : takes gone.0 (closing passes silent) c = subst (λ b. takes gone.0 (closing b silent) c) (sym p) (subst (λ x. takes gone.0 (closing true silent) x) gone.2.2 gone.2.1) in
-            keyword_told S n path place v k matching [] takes passes 0 0 (map text_of w.names.items) (map text_of w.names.items) w.indexes.items w.indexes.items w₁.left w₁.left w.keyword w.instance
-            (S.absolute place (Some k.0)) (at_name w.keyword k) silent [] [] c gone.0 gone.0 c at h none_walked walked.verdict refl refl gone.1
-            (λ at' h'. record { forest = empty; nodes = tt; passes = refl })
-            (sym (names_of_none S n path (kind_at k))) (sym (indexes_of_none S n path (kind_at k)))
-            (sym said ∙ ap (λ b. says_at S place v matching k 0 [] [] b) (sym p)) closed;
-        back = back;
-        falls = omega (arith, left);
-      }
+      let silent_is : closing true silent ≡ closing passes (says_at S place v matching k 0 [] [] passes) =
+      ap (λ b. closing b silent) (sym p) ∙ ap (closing passes) (sym said ∙ ap (λ b. says_at S place v matching k 0 [] [] b) (sym p)) in
+      let opened : Event = opening (at_name w.keyword k) (S.absolute place (Some k.0)) w.instance in
+      let leaf = subst (λ e. Passes takes (opened ∷ e ∷ []) c c) silent_is (drops (at_name w.keyword k) (S.absolute place (Some k.0)) w.instance) in
+      leaf_step path place v k matching passes w w₁ c c judged leaf names indexes left back
 
   -- ---- a schema
 

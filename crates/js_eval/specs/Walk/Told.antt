@@ -19,7 +19,7 @@ use Rattle.js_eval.specs.Size.{node_total}
 use Rattle.js_eval.specs.Verdict.{within, accepts}
 use Rattle.js_eval.specs.declared.keywords.kind.Kind.{Kind}
 use Rattle.js_eval.specs.Walk.Said.{keyword_says}
-use Rattle.js_tree.specs.Events.{Event, Passes, events, events_of}
+use Rattle.js_tree.specs.Events.{Event, Passes, closing, events, events_of, opening}
 use Rattle.js_eval.specs.declared.walking.way.Way.{Way}
 
 -- the texts of a walk's two trails are those of this location
@@ -154,3 +154,10 @@ module _ {Place : Type 0} (S : SchemaSet Place) (n : ℕ) where
 
     abbrev pub HasNone : ℕ → Type 0
     HasNone old = ((within S n).settled above place v ≡ false) ⊎ (old < node_total S n above place v)
+
+-- the node of a keyword of the place that applies no schema, below a schema's node at these locations, opens and closes
+module _ {C P : Type 0} (S : SchemaSet P) (takes : C → Event → C → Type 0) (place : P) (v : Value) (k : Keyword) where
+  abbrev pub LeafTold : (matching : ℕ) (passes : Bool) (held : ℕ) (keyword instance : Text) → C → C → Type 0
+  LeafTold matching passes held keyword instance c d =
+      Passes takes (opening (at_name keyword k) (S.absolute place (Some k.0)) instance
+      ∷ closing passes (says_at S place v matching k held [] [] passes) ∷ []) c d

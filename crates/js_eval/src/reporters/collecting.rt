@@ -5,7 +5,7 @@ use crate::finished_world::Here;
 use crate::instance::Instance;
 use crate::judging::notes::keyword_note;
 use crate::keywords::keyword::Keyword;
-use crate::walking::{HeldText, Judged, Reporter, Trail};
+use crate::walking::{HeldText, Judged, Reporter, Trail, World};
 use js_bundle::Place;
 use js_doc::{Doc, Memory, Text};
 use js_tree::{Collector, Head};
@@ -78,6 +78,44 @@ impl<'a, C: Collector<'a>> Reporter<Here<'a>, HeldText> for Collecting<'a, C> {
             alloc, world, place, value, keyword, judged, matching, names, indexes,
         )?;
         self.collector.leave(judged.passes, note)
+    }
+
+    #[inline(never)]
+    fn leaf_keyword(
+        &mut self,
+        alloc: Global,
+        world: &Here<'a>,
+        place: Place,
+        value: Instance<'a>,
+        keyword: Keyword<'a>,
+        judged: Judged,
+        matching: u64,
+        keyword_location: &mut Trail<HeldText>,
+        instance_location: &Trail<HeldText>,
+    ) -> Result<(), Memory> {
+        let here = keyword_location.mark();
+        world.go_to_keyword(keyword, keyword_location)?;
+        self.open_keyword(
+            alloc,
+            world,
+            place,
+            keyword,
+            keyword_location,
+            instance_location,
+        )?;
+        self.close_keyword(
+            alloc,
+            world,
+            place,
+            value,
+            keyword,
+            judged,
+            matching,
+            &[],
+            &[],
+        )?;
+        keyword_location.cut(here);
+        Ok(())
     }
 
     #[inline(never)]

@@ -1,13 +1,14 @@
 //! The reporter that keeps the result of a walk as rows.
-ghost use Rattle.std.specs.Prelude.{◌≡◌, OnOk, string_bytes};
+ghost use Rattle.std.specs.Prelude.{◌≡◌, ◌++◌, OnOk, string_bytes, true};
 ghost use Rattle.js_doc.specs.Fragment.{fragment_token};
-ghost use Rattle.js_tree.specs.RelativeState.{relative_after, relative_state};
+ghost use Rattle.js_tree.specs.RelativeState.{TakesLeafAt, relative_after, relative_state};
+ghost use Rattle.js_eval.specs.code.Standard.{IsWrittenAsItIs};
 
 use crate::finished_world::Here;
 use crate::instance::Instance;
 use crate::judging::notes::keyword_note;
 use crate::keywords::keyword::{Keyword, is_written_as_it_is};
-use crate::walking::{HeldText, Judged, Reporter, Trail};
+use crate::walking::{HeldText, Judged, Reporter, Trail, World};
 use js_bundle::Place;
 use js_doc::{Doc, Memory, push_fragment_token};
 use js_tree::RelativeRows;
@@ -18,8 +19,8 @@ use std::alloc::Global;
 #[derive(Drop)]
 pub(crate) struct Recording<'a> {
     pub rows: RelativeRows<'a>,
-    // What the absolute location of a keyword adds to that of its place, where its name may need escapes. One string
-    // serves all keywords.
+    // What the absolute location of a keyword adds to what its row borrows, where that isn't just a slash and its name.
+    // One string serves all keywords.
     pub token: String,
 }
 
@@ -45,11 +46,11 @@ impl<'a> Reporter<Here<'a>, HeldText> for Recording<'a> {
         keyword_location: &Trail<HeldText>,
         instance_location: &Trail<HeldText>,
     ) -> Result<(), Memory> {
-        let absolute = world.schemas.absolute_of(place);
+        let (absolute, rest) = world.schemas.location_of(place);
         self.rows.enter(
             keyword_location.as_str(),
             absolute,
-            "",
+            rest,
             instance_location.as_str(),
         )
     }
@@ -64,8 +65,8 @@ impl<'a> Reporter<Here<'a>, HeldText> for Recording<'a> {
         keyword_location: &Trail<HeldText>,
         instance_location: &Trail<HeldText>,
     ) -> Result<(), Memory> {
-        let schema = world.schemas.absolute_of(place);
-        if is_written_as_it_is(keyword.kind, keyword.name) {
+        let (schema, rest) = world.schemas.location_of(place);
+        if rest.is_empty() && is_written_as_it_is(keyword.kind, keyword.name) {
             return self.rows.enter_keyword(
                 keyword_location.as_str(),
                 schema,
@@ -73,7 +74,7 @@ impl<'a> Reporter<Here<'a>, HeldText> for Recording<'a> {
                 instance_location.as_str(),
             );
         }
-        set_token(&mut self.token, keyword.name)?;
+        set_token(&mut self.token, rest, keyword.name)?;
         self.rows.enter(
             keyword_location.as_str(),
             schema,
@@ -103,6 +104,61 @@ impl<'a> Reporter<Here<'a>, HeldText> for Recording<'a> {
     }
 
     #[inline(never)]
+    fn leaf_keyword(
+        &mut self,
+        alloc: Global,
+        world: &Here<'a>,
+        place: Place,
+        value: Instance<'a>,
+        keyword: Keyword<'a>,
+        judged: Judged,
+        matching: u64,
+        keyword_location: &mut Trail<HeldText>,
+        instance_location: &Trail<HeldText>,
+    ) -> Result<(), Memory> {
+        let (schema, rest) = world.schemas.location_of(place);
+        if rest.is_empty() && self.takes_leaf(keyword, keyword_location, instance_location) {
+            let note = keyword_note(
+                alloc,
+                world,
+                place,
+                value,
+                keyword,
+                judged,
+                matching,
+                &[],
+                &[],
+            )?;
+            return self
+                .rows
+                .add_leaf(schema, keyword.name, judged.passes, note);
+        }
+        let here = keyword_location.mark();
+        world.go_to_keyword(keyword, keyword_location)?;
+        self.open_keyword(
+            alloc,
+            world,
+            place,
+            keyword,
+            keyword_location,
+            instance_location,
+        )?;
+        self.close_keyword(
+            alloc,
+            world,
+            place,
+            value,
+            keyword,
+            judged,
+            matching,
+            &[],
+            &[],
+        )?;
+        keyword_location.cut(here);
+        Ok(())
+    }
+
+    #[inline(never)]
     fn close_schema(
         &mut self,
         alloc: Global,
@@ -117,10 +173,31 @@ impl<'a> Reporter<Here<'a>, HeldText> for Recording<'a> {
     }
 }
 
-// Sets the token to what the absolute location of a keyword adds to that of its place.
-fn set_token(token: &mut String, name: &str) -> Result<(), Memory>
-    ensures { OnOk result (string_bytes token.new ≡ fragment_token name.now) }
+impl<'a> Recording<'a> {
+    // Whether the row of a keyword's leaf may be added at once, below a schema's node at these locations.
+    fn takes_leaf(
+        &self,
+        keyword: Keyword<'a>,
+        keyword_location: &Trail<HeldText>,
+        instance_location: &Trail<HeldText>,
+    ) -> bool
+        ensures name { result ≡ true → IsWrittenAsItIs keyword.entry.name.now }
+        ensures at { result ≡ true → TakesLeafAt self.now.rows keyword_location.now instance_location.now }
+    {
+        if !is_written_as_it_is(keyword.kind, keyword.name) {
+            return false;
+        }
+        self.rows
+            .takes_leaf(keyword_location.as_str(), instance_location.as_str())
+    }
+}
+
+// Sets the token to the rest of the location of a place, and what that of a keyword adds to it.
+fn set_token(token: &mut String, rest: &str, name: &str) -> Result<(), Memory>
+    ensures { OnOk result (string_bytes token.new ≡ rest.now ++ fragment_token name.now) }
 {
     token.clear();
-    push_fragment_token(token, name)
+    token.push_str(rest)?;
+    push_fragment_token(token, name)?;
+    Ok(())
 }

@@ -59,6 +59,21 @@ impl<W: World, H: PointerText + Drop> Reporter<W, H> for Silent {
         Ok(())
     }
 
+    fn leaf_keyword(
+        &mut self,
+        _alloc: Global,
+        _world: &W,
+        _place: Place,
+        _value: W::Value,
+        _keyword: W::Keyword,
+        _judged: Judged,
+        _matching: u64,
+        _keyword_location: &mut Trail<H>,
+        _instance_location: &Trail<H>,
+    ) -> Result<(), Memory> {
+        Ok(())
+    }
+
     fn close_schema(
         &mut self,
         _alloc: Global,

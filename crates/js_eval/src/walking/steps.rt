@@ -245,9 +245,24 @@ pub(crate) fn childless_node<W: World, H: PointerText + Drop, R: Reporter<W, H>>
         way.left -= 1;
         return Ok(judged);
     }
-    let here = way.current_marks();
-    open_keyword(alloc, world, way, into, case.place, case.keyword)?;
-    close_judged(alloc, world, way, into, case, here, judged, matching)?;
+    let Case {
+        place,
+        schema: _,
+        value,
+        keyword,
+    } = case;
+    way.left -= 1;
+    into.leaf_keyword(
+        alloc,
+        world,
+        place,
+        value,
+        keyword,
+        judged,
+        matching,
+        &mut way.keyword,
+        &way.instance,
+    )?;
     Ok(judged)
 }
 

@@ -69,7 +69,8 @@ fn asked(
 fn location(alloc: Global, schemas: &Schemas, place: Option<Place>) -> Result<String, Fail> {
     match place {
         Some(place) if schemas.has(place) => {
-            Ok(String::from_str(alloc, schemas.absolute_of(place))?)
+            let (location, rest) = schemas.location_of(place);
+            Ok(format!(in alloc; "{location}{rest}")?)
         }
         Some(_) => Err(Fail::from("it is no place")),
         None => Ok(String::from_str(alloc, "none")?),
@@ -82,7 +83,7 @@ fn standing(rt: &HostRuntime, schemas: &Schemas, place: Place) -> Result<String,
 {
     mark_begin(rt);
     let is_place = schemas.has(place);
-    let location = schemas.absolute_of(place);
+    let (location, rest) = schemas.location_of(place);
     let document = schemas.document(place);
     let pointer = schemas.pointer(place);
     let schema = schemas.schema(place);
@@ -95,7 +96,7 @@ fn standing(rt: &HostRuntime, schemas: &Schemas, place: Place) -> Result<String,
     let pointer = pointer.text(alloc)?;
     let schema = text(alloc, schema)?;
     Ok(format!(in alloc;
-        "{is_place} {location}, document {document} at {pointer}, resource {number} of {count}, {resource}: {schema} {keywords:?}"
+        "{is_place} {location}{rest}, document {document} at {pointer}, resource {number} of {count}, {resource}: {schema} {keywords:?}"
     )?)
 }
 

@@ -38,14 +38,14 @@ pub struct RelativeRow<'a> {
 }
 
 // A vector has no more elements.
-const MOST: usize = usize::MAX / 2;
+pub(crate) const MOST: usize = usize::MAX / 2;
 
 // An open node: the number of its row, and the lengths of its whole locations.
 #[derive(Clone, Copy)]
-struct OpenNode {
-    number: usize,
-    keyword: usize,
-    instance: usize,
+pub(crate) struct OpenNode {
+    pub number: usize,
+    pub keyword: usize,
+    pub instance: usize,
 }
 
 /// Collects the nodes of a tree in preorder, as `Flat` does, but with relative rows. A node takes the memory of its row
@@ -55,7 +55,7 @@ pub struct RelativeRows<'a> {
     pub(crate) arena: &'a Bump,
     pub(crate) rows: Vec<RelativeRow<'a>>,
     // The open nodes, the innermost last.
-    nodes: Vec<OpenNode>,
+    pub(crate) nodes: Vec<OpenNode>,
     // What goes into the arena, while it is escaped.
     scratch: Vec<u8>,
     // Whether nodes without a note below which no row is left have no rows.
@@ -112,14 +112,15 @@ impl<'a> RelativeRows<'a> {
             let scratch = &mut self.scratch;
             let added = behind(keyword, above.keyword);
             let kept = in_arena(self.arena, scratch, added)?;
+            let added_instance = behind(instance, above.instance);
             let row = RelativeRow {
                 valid: false,
                 keyword_slash: false,
                 absolute_slash: false,
                 keyword: kept,
-                instance: in_arena(self.arena, scratch, behind(instance, above.instance))?,
+                instance: shared_or_in_arena(self.arena, scratch, added_instance, added, kept)?,
                 schema,
-                absolute: token_in_arena(self.arena, scratch, token.as_bytes(), added, kept)?,
+                absolute: shared_or_in_arena(self.arena, scratch, token.as_bytes(), added, kept)?,
                 note: Note::Silent,
                 size: 0,
             };
@@ -271,7 +272,7 @@ impl<'a> RelativeRows<'a> {
 
 // Whether the row of a node that closes goes: it has no note, and of its subtree's rows, which are so many, only it is
 // left.
-fn goes(trims: bool, note: &Note<'_>, size: usize) -> bool
+pub(crate) fn goes(trims: bool, note: &Note<'_>, size: usize) -> bool
     ensures { result ≡ row_goes trims (note_of note.now) size }
 {
     trims && size == 1 && !note.is_some()
@@ -343,20 +344,22 @@ fn is_token(added: &[u8], name: &[u8]) -> bool
     added[0] == b'/' && &added[1..] == name
 }
 
-// The token with its escapes, in the arena. Most keywords' names add the same to both locations, and that is kept once.
-fn token_in_arena<'a>(
+// The bytes with their escapes: what is kept of those that are added to the keyword location, if they are the same, and
+// otherwise in the arena. Most keywords' names add the same to both keyword locations, and most schemas that are applied
+// to members add the same to the keyword location and the instance location.
+fn shared_or_in_arena<'a>(
     arena: &'a Bump,
     scratch: &mut Vec<u8>,
-    token: &[u8],
+    bytes: &[u8],
     added: &[u8],
     kept: &'a [u8],
 ) -> Result<&'a [u8], Memory>
-    ensures { kept.now ≡ escape added.now → IfOk result (λ b. b.now ≡ escape token.now) }
+    ensures { kept.now ≡ escape added.now → IfOk result (λ b. b.now ≡ escape bytes.now) }
 {
-    if token == added {
+    if bytes == added {
         return Ok(kept);
     }
-    in_arena(arena, scratch, token)
+    in_arena(arena, scratch, bytes)
 }
 
 fn escaped_in_arena<'a>(

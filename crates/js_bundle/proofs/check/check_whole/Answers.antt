@@ -4,7 +4,7 @@ use Rattle.indexmap.specs.IndexMap.{get}
 use Rattle.js_bundle.specs.AssertionsAndPatterns.{assertions_at, patterns_at}
 use Rattle.js_bundle.specs.Finding.{dynamic_at, number_of_target, under_number}
 use Rattle.js_bundle.specs.KeywordName.{keyword_names}
-use Rattle.js_bundle.specs.Location.{location}
+use Rattle.js_bundle.specs.code.KeptLocation.{kept_location}
 use Rattle.js_bundle.specs.Resource.{sites}
 use Rattle.js_bundle.specs.ResourceTable.{AreRooted, IsResourceTable}
 use Rattle.js_bundle.specs.Seen.{document_of}
@@ -124,7 +124,7 @@ returns-clause-locations c =
     let ds = map document_of c.args.documents.now in
     let first : map site_of c.as_slice.result.now ≡ sites ds =
     lists_all ds (map site_of c.as_slice.result.now) (ap (map site_of) c.as_slice.ensures.value ∙ c.in_ok-sites.ensures) c.in_ok-passed.ensures.clear in
-    c.in_ok-passed.ensures.positions.locations ∙ ap (map location) first
+    c.in_ok-passed.ensures.positions.locations ∙ ap (map kept_location) first
 
 pub returns-clause-index : goal.returns-clause-index
 returns-clause-index c =

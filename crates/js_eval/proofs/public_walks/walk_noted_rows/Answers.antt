@@ -24,6 +24,6 @@ returns-in-Ok-clause-ok c =
       trimmed_are = trimmed_held h.result c.trimming.result (rows_of c.walk_to-done.new.reporter) c.trimming.ensures passes;
       located = result_is_located (schemas_of schemas) [] (numbered_site schemas c.args.place) (value_of c.args.value.now) at_root h.result h.is;
     } in
-    let absolute = location_is schemas c.args.place c.absolute_of.result.now c.absolute_of.ensures in
-    let root = root_is_at (schemas_of schemas) (numbered_site schemas c.args.place) (value_of c.args.value.now) h.result c.absolute_of.result.now c.in-Ok.valid h.is absolute h.verdict in
+    let absolute = location_is schemas c.args.place c.in_ok-absolute-in-Ok.absolute.now c.in_ok-absolute-in-Ok.ensures in
+    let root = root_is_at (schemas_of schemas) (numbered_site schemas c.args.place) (value_of c.args.value.now) h.result c.in_ok-absolute-in-Ok.absolute.now c.in-Ok.valid h.is absolute h.verdict in
     (h.result, record { is = h.is; stands = h.stands }, c.in_ok-put_root_back-in-Ok.ensures h.result trimmed root)

@@ -1,4 +1,4 @@
-use Rattle.std.proofs.Common.{◌∙◌, append-nil}
+use Rattle.std.proofs.Common.{◌++◌}
 use Rattle.js_tree.specs.RelativeState.{relative_state}
 use Rattle.js_eval.proofs.OpeningsAlike.{opening_alike}
 use Rattle.js_eval.proofs.Paths.{location_is}
@@ -6,6 +6,8 @@ use Rattle.js_eval.proofs.reporters.recording.RecordingReporterHereHeldText.open
 
 pub returns : goal.returns
 returns c =
-    let schema = c.absolute_of-absolute.result.now in
-    let e = append-nil schema ∙ location_is c.args.world.now.schemas.now c.args.place schema c.absolute_of-absolute.ensures in
-    opening_alike c.enter.result (relative_state c.enter.new.self) (relative_state c.args.self.now.rows) c.as_str.ensures e c.as_str-2.ensures c.enter.ensures
+    let lent = c.location_of.result in
+    let e = location_is c.args.world.now.schemas.now c.args.place (lent.0.now ++ lent.1.now) c.location_of.ensures in
+    let new = relative_state c.enter.new.self in
+    let old = relative_state c.args.self.now.rows in
+    opening_alike c.enter.result new old c.as_str.ensures e c.as_str-2.ensures c.enter.ensures

@@ -1,0 +1,47 @@
+-- The absolute location of a place, from what is kept of it.
+use Rattle.std.proofs.Common.{◌≡◌, List, ℕ, [], ◌++◌, true, false, Option, Some, None, codes, option_map, unwrap_or}
+use Rattle.std.proofs.Common.{if◌then◌else◌, sym, ap, ◌∙◌}
+use Rattle.std.proofs.lemmas.List.{append-nil}
+use Rattle.js_doc.specs.Fragment.{fragment_text}
+use Rattle.js_bundle.specs.declared.index.kept_location.KeptLocation.{KeptLocation}
+use Rattle.js_bundle.specs.code.KeptLocation.{is_long, kept_location, repeated}
+use Rattle.js_bundle.specs.Location.{canonical, location, way}
+use Rattle.js_bundle.specs.Resource.{Site}
+
+-- a `#` and the fragment, behind the resource's URI
+whole_behind : (uri rest : List ℕ) → is_long uri ≡ true → uri ++ rest ≡ uri ++ (repeated uri ++ rest)
+whole_behind uri rest long = ap (λ b. uri ++ ((if b then [] else uri) ++ rest)) (sym long)
+
+-- all of it
+whole_kept : (uri rest : List ℕ) → is_long uri ≡ false → uri ++ rest ≡ (repeated uri ++ rest) ++ []
+whole_kept uri rest short =
+    ap (λ b. (if b then [] else uri) ++ rest) (sym short) ∙ sym (append-nil (repeated uri ++ rest))
+
+written : (place : Site) → location place ≡ canonical place ++ (codes "#" ++ fragment_text (way place))
+written place = ap (λ w. canonical place ++ (codes "#" ++ fragment_text w)) (append-nil (way place))
+
+same : {A : Type 0} (x y : A) → Some x ≡ Some y → x ≡ y
+same x y e = ap (λ o. unwrap_or o x) e
+
+pub in_two_pieces : (o : Option Site) (kept : KeptLocation) (uri : List ℕ) → option_map kept_location o ≡ Some kept
+    → option_map canonical o ≡ Some uri → kept.is_fragment ≡ true → option_map location o ≡ Some (uri ++ kept.text)
+in_two_pieces None kept uri e u long = absurd (cc)
+in_two_pieces (Some place) kept uri e u long =
+    let is = same (kept_location place) kept e in
+    let its = same (canonical place) uri u in
+    ap Some (
+      written place
+      ∙ whole_behind (canonical place) (codes "#" ++ fragment_text (way place)) (ap (λ k. k.is_fragment) is ∙ long)
+      ∙ ap (λ k. canonical place ++ k.text) is ∙ ap (λ t. t ++ kept.text) its
+    )
+
+pub in_one_piece : (o : Option Site) (kept : KeptLocation) → option_map kept_location o ≡ Some kept
+    → kept.is_fragment ≡ false → option_map location o ≡ Some (kept.text ++ [])
+in_one_piece None kept e short = absurd (cc)
+in_one_piece (Some place) kept e short =
+    let is = same (kept_location place) kept e in
+    ap Some (
+      written place
+      ∙ whole_kept (canonical place) (codes "#" ++ fragment_text (way place)) (ap (λ k. k.is_fragment) is ∙ short)
+      ∙ ap (λ k. k.text ++ []) is
+    )

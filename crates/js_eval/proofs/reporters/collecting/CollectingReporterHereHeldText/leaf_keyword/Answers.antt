@@ -1,0 +1,24 @@
+use Rattle.std.proofs.Common.{◌∙◌, Some, refl, subst}
+use Rattle.js_tree.specs.Events.{opening}
+use Rattle.js_eval.specs.Bundle.{schemas_of}
+use Rattle.js_eval.specs.Seen.{keyword_of}
+use Rattle.js_eval.specs.Sited.{numbered_site}
+use Rattle.js_eval.proofs.Recursion.Splits.{split_at_name}
+use Rattle.js_eval.proofs.Recursion.Stepping.{trail_back}
+use Rattle.js_eval.proofs.reporters.collecting.CollectingReporterHereHeldText.leaf_keyword.Goals as goal
+
+pub cut-requires : goal.cut-requires
+cut-requires g c =
+    split_at_name c.args.keyword_location.now c.go_to_keyword.new.trail (keyword_of c.args.keyword) c.mark-here.result c.mark-here.ensures c.in_ok-go_to_keyword.ensures
+
+pub returns-clause-told : goal.returns-clause-told
+returns-clause-told g c =
+    let absolute = (schemas_of c.args.world.now.schemas.now).absolute (numbered_site c.args.world.now.schemas.now c.args.place) (Some c.args.keyword.name.now) in (
+      c.open_keyword.new.self,
+      subst (λ text. g.C.Collector.takes c.args.self.now.collector (opening text absolute c.args.instance_location.now) c.open_keyword.new.self.collector) c.in_ok-go_to_keyword.ensures c.in_ok-open_keyword.ensures,
+      (c.close_keyword.new.self, c.in_ok-close_keyword.ensures, refl),
+    )
+
+pub returns-clause-back : goal.returns-clause-back
+returns-clause-back g c =
+    c.cut.ensures ∙ trail_back c.args.keyword_location.now c.go_to_keyword.new.trail (keyword_of c.args.keyword) c.mark-here.result c.mark-here.ensures c.in_ok-go_to_keyword.ensures
