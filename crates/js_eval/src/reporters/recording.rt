@@ -118,6 +118,7 @@ impl<'a> Reporter<Here<'a>, HeldText> for Recording<'a> {
     ) -> Result<(), Memory> {
         let (schema, rest) = world.schemas.location_of(place);
         if rest.is_empty() && self.takes_leaf(keyword, keyword_location, instance_location) {
+            let name = keyword.name;
             let note = keyword_note(
                 alloc,
                 world,
@@ -129,9 +130,7 @@ impl<'a> Reporter<Here<'a>, HeldText> for Recording<'a> {
                 &[],
                 &[],
             )?;
-            return self
-                .rows
-                .add_leaf(schema, keyword.name, judged.passes, note);
+            return self.rows.add_leaf(schema, name, judged.passes, note);
         }
         let here = keyword_location.mark();
         world.go_to_keyword(keyword, keyword_location)?;
