@@ -6,9 +6,9 @@ ghost use Rattle.js_bundle.specs.Names.{known_as};
 ghost use Rattle.js_bundle.specs.code.Scan.{site_of};
 
 pub(crate) mod edges;
+pub(crate) mod kept_location;
 pub(crate) mod keys;
 pub(crate) mod keyword_table;
-pub(crate) mod kept_location;
 pub(crate) mod location;
 pub(crate) mod numbering;
 pub(crate) mod parts_by_place;

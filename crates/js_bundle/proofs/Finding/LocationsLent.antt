@@ -30,9 +30,9 @@ in_two_pieces (Some place) kept uri e u long =
     let is = same (kept_location place) kept e in
     let its = same (canonical place) uri u in
     ap Some (
-      written place
-      ∙ whole_behind (canonical place) (codes "#" ++ fragment_text (way place)) (ap (λ k. k.is_fragment) is ∙ long)
-      ∙ ap (λ k. canonical place ++ k.text) is ∙ ap (λ t. t ++ kept.text) its
+    written place
+    ∙ whole_behind (canonical place) (codes "#" ++ fragment_text (way place)) (ap (λ k. k.is_fragment) is ∙ long)
+    ∙ ap (λ k. canonical place ++ k.text) is ∙ ap (λ t. t ++ kept.text) its
     )
 
 pub in_one_piece : (o : Option Site) (kept : KeptLocation) → option_map kept_location o ≡ Some kept
@@ -41,7 +41,7 @@ in_one_piece None kept e short = absurd (cc)
 in_one_piece (Some place) kept e short =
     let is = same (kept_location place) kept e in
     ap Some (
-      written place
-      ∙ whole_kept (canonical place) (codes "#" ++ fragment_text (way place)) (ap (λ k. k.is_fragment) is ∙ short)
-      ∙ ap (λ k. k.text ++ []) is
+    written place
+    ∙ whole_kept (canonical place) (codes "#" ++ fragment_text (way place)) (ap (λ k. k.is_fragment) is ∙ short)
+    ∙ ap (λ k. k.text ++ []) is
     )
