@@ -37,7 +37,7 @@ impl<'a> Applying<'a> {
     }
 
     /// The next member that applies schemas, as a keyword, and its turn.
-    pub fn next(&mut self) -> Option<(Turn, Keyword<'a>)>
+    pub fn next_applicator(&mut self) -> Option<(Turn, Keyword<'a>)>
         ensures { MatchOption result
             ((applicators_from self.old.members.now self.old.rank ≡ [])
             × (applicators_from self.new.members.now self.new.rank ≡ []))

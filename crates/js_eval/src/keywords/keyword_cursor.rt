@@ -117,7 +117,7 @@ impl<'a> KeywordCursor<'a> {
         ensures { MatchOption result (keywords_left self.old ≡ [])
             (λ k. keywords_left self.old ≡ keyword_of k ∷ keywords_left self.new) }
     {
-        while let Some((turn, keyword)) = self.left.next() {
+        while let Some((turn, keyword)) = self.left.next_in_turn() {
             match turn {
                 Turn::Never => {}
                 Turn::First => return Some(keyword),
@@ -177,7 +177,7 @@ fn next_ever<'a>(left: &mut InTurn<'a>) -> Option<Keyword<'a>>
     ensures { MatchOption result (ever (members_left left.old) ≡ [])
         (λ k. ever (members_left left.old) ≡ keyword_of k ∷ ever (members_left left.new)) }
 {
-    while let Some((turn, keyword)) = left.next() {
+    while let Some((turn, keyword)) = left.next_in_turn() {
         if is_ever(turn) {
             return Some(keyword);
         }

@@ -7,7 +7,7 @@ pub returns : goal.returns
 returns c =
     let none = c.in_default.ensures in
     let kept = c.loop-turn.self.kept in
-    let e : up_to_if c.args.self.now.kept (members_left c.args.self.now.left) ≡ after_if kept (members_left c.next.new.self) =
+    let e : up_to_if c.args.self.now.kept (members_left c.args.self.now.left) ≡ after_if kept (members_left c.next_in_turn.new.self) =
     sym c.loop-turn.invariant.same ∙ (ap (up_to_if kept) none.0 ∙ sym (ap (after_if kept) none.1)) in
     let before : keywords_left c.args.self.now ≡ up_to_if c.args.self.now.kept (members_left c.args.self.now.left) =
     ap (λ b. cond b (after_if c.args.self.now.kept (members_left c.args.self.now.left)) (up_to_if c.args.self.now.kept (members_left c.args.self.now.left))) c.requires in

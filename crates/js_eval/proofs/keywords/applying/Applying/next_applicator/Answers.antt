@@ -1,6 +1,6 @@
 use Rattle.std.proofs.Common.{sym, ◌∙◌, rules}
 use Rattle.js_eval.proofs.Applicators.{passed_over, taken}
-use Rattle.js_eval.proofs.keywords.applying.Applying.next.Goals as goal
+use Rattle.js_eval.proofs.keywords.applying.Applying.next_applicator.Goals as goal
 
 pub returns-then-applies : goal.returns-then-applies
 returns-then-applies c =
