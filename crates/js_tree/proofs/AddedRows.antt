@@ -62,13 +62,22 @@ joined_unit a s x u k i keyword instance note p e kw ins n =
     (further instance (drop s.instance a.instance.items) x.instance.now i u.instance ins p.instance_is (ap (λ y. y.instance) e))
     ∙ ap (λ y. record { valid = y.valid; keyword = escape (k ++ u.keyword); absolute = y.absolute; instance = escape (i ++ u.instance); note = y.note }) e
 
+-- it is as it was where nothing is pending
+pub unit_stays : (a : Between) (s : Lengths) (x : RelativeRow) (u : OutputUnit) (k i : List ℕ) → IsPending a s k i → (relative_row x).0 ≡ escaped_unit u
+    → length a.keyword.items ≤ s.keyword → length a.instance.items ≤ s.instance → (relative_row x).0 ≡ escaped_unit (placed_unit k i u)
+unit_stays a s x u k i p e kw ins =
+    joined_unit a s x u k i (keyword_part x) x.instance.now (note_of x.note) p e
+    (ap (λ l. l ++ keyword_part x) (sym (drop_all s.keyword a.keyword.items kw))) (ap (λ l. l ++ x.instance.now) (sym (drop_all s.instance a.instance.items ins))) refl
+
 -- and its row, after the others
-pub row_added : (old new : List RelativeRow) (x : RelativeRow) (w : OutputUnit) → new ≡ old ++ x ∷ [] → (relative_row x).0 ≡ escaped_unit w → x.size ≡ 0
-    → map relative_row new ≡ map relative_row old ++ (escaped_unit w, 0) ∷ []
-row_added old new x w e u z =
+pub row_added : (old new : List RelativeRow) (x y : RelativeRow) (n : ℕ) (note : Note) → new ≡ old ++ y ∷ [] → note ≡ note_of x.note
+    → relative_row y ≡ (record { valid = x.valid; keyword = keyword_part x; absolute = escape x.schema.now ++ absolute_part x; instance = x.instance.now; note = note }, n)
+    → map relative_row new ≡ map relative_row old ++ ((relative_row x).0, n) ∷ []
+row_added old new x y n note e m r =
     ap (map relative_row) e
-    ∙ (map-append relative_row old (x ∷ [])
-    ∙ ap₂ (λ a b. map relative_row old ++ (a, b) ∷ []) u z)
+    ∙ (map-append relative_row old (y ∷ [])
+    ∙ ap (λ z. map relative_row old ++ z ∷ [])
+    (r ∙ ap (λ o. (record { valid = x.valid; keyword = keyword_part x; absolute = escape x.schema.now ++ absolute_part x; instance = x.instance.now; note = o }, n)) m))
 
 -- ---- the rows below the first
 

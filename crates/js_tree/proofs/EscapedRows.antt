@@ -19,7 +19,7 @@ use Rattle.js_tree.proofs.Marks.{flat_form-flat_of}
 
 -- ---- the trees of rows
 
-none_of : (f : Forest OutputUnit) → escaped f ≡ empty → f ≡ empty
+pub none_of : (f : Forest OutputUnit) → escaped f ≡ empty → f ≡ empty
 none_of empty e = refl
 none_of (tree u below after) e = absurd cc
 

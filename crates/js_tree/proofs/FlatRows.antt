@@ -140,6 +140,14 @@ pub rows_below : {R : Type 0} (row_of : R → FlatRow) (rows : List R) (t : Resu
 rows_below row_of [] t e = absurd cc
 rows_below row_of (r ∷ rows) t e = let k : map row_of rows ≡ flat_of t.below = cc in k
 
+no_nodes : (f : Forest OutputUnit) → node_count f ≡ 0 → f ≡ empty
+no_nodes empty e = refl
+no_nodes (tree u below after) e = absurd cc
+
+-- one row is that of a node without children
+pub none_below : {R : Type 0} (row_of : R → FlatRow) (rows : List R) (t : ResultTree) → map row_of rows ≡ flat_form t → length rows ≡ 1 → t.below ≡ empty
+none_below row_of rows t e n = no_nodes t.below (omega (arith, n, ap length e, length-map rows row_of, length-flat_of t.below))
+
 -- ---- a tree whose rows come next, by its unit alone
 
 pub record SomeTree (f : Forest OutputUnit) : Type 0 where

@@ -1,5 +1,5 @@
 -- The marks of the rows of trees, written and read tree by tree.
-use Rattle.std.proofs.Common.{◌≡◌, ℕ, suc, ◌+◌, ◌-◌, ◌≤◌, Bool, true, false, ◌||◌, if◌then◌else◌, List, [], ◌∷◌, ◌++◌, length, take, drop, map, get_or, slice_set, refl, ap, sym, ◌∙◌, append_assoc, append-nil, arith}
+use Rattle.std.proofs.Common.{◌≡◌, ℕ, suc, ◌+◌, ◌-◌, ◌≤◌, Bool, true, false, ◌||◌, if◌then◌else◌, List, [], ◌∷◌, ◌++◌, length, take, drop, map, get_or, slice_set, refl, ap, ap₂, sym, ◌∙◌, append_assoc, append-nil, arith}
 use Rattle.std.proofs.lemmas.List.{length-append, length-map}
 use Rattle.js_tree.specs.Flat.{flat_of}
 use Rattle.js_tree.specs.Forest.{Forest, empty, tree, node_count}
@@ -7,6 +7,7 @@ use Rattle.js_tree.specs.Marks.{left_trees, mark_of, marked}
 use Rattle.js_tree.specs.OutputUnit.{OutputUnit}
 use Rattle.js_tree.specs.RelativeState.{relative_row}
 use Rattle.js_tree.specs.Relative.{escaped, escaped_tree}
+use Rattle.js_tree.specs.Result.{ResultTree}
 use Rattle.js_tree.specs.code.Listing.{AreMarkedRows}
 use Rattle.js_tree.specs.code.RelativeText.{AreRowsOfTree}
 use Rattle.js_tree.specs.declared.relative.rows.RelativeRow.{RelativeRow}
@@ -94,6 +95,14 @@ one_tree v u below m n e k =
     let count : Mark → ℕ = λ a. if (a.stays || a.below) then 1 else 0 in
     let same : count m ≡ count (mark_of v u (left_trees v below)) = ap count e in
     omega (arith, k, same, first_left v u below empty)
+
+-- a node without children
+pub leaf_marked : (v : Bool) (r : ResultTree) (x : RelativeRow) (old new : List Mark) (n : ℕ) → (relative_row x).0 ≡ r.root → r.below ≡ empty
+    → (new ≡ old ++ marked v (tree (relative_row x).0 empty empty)) × (n ≡ left_trees v (tree (relative_row x).0 empty empty))
+    → (new ≡ old ++ marked v (tree r.root r.below empty)) × (n ≡ left_trees v (tree r.root r.below empty))
+leaf_marked v r x old new n u b told =
+    let is : tree (relative_row x).0 empty empty ≡ tree r.root r.below empty = ap₂ (λ w f. tree w f empty) u (sym b) in
+    (told.0 ∙ ap (λ f. old ++ marked v f) is, told.1 ∙ ap (left_trees v) is)
 
 -- ---- marks that are read tree by tree
 

@@ -1,5 +1,6 @@
 //! The rows of the tree that pruning and condensing leave, from those of the whole tree.
-ghost use Rattle.std.specs.Prelude.{◌≡◌, ◌+◌, ◌≤◌, ◌++◌, ◌∷◌, [], Bool, IfOk, List, OnOk, ℕ, drop, false, length, map};
+ghost use Rattle.std.specs.Prelude.{◌≡◌, ◌+◌, ◌≤◌, ◌++◌, ◌∷◌, [], Bool, IfOk, IsTrue, List, OnOk, ℕ, drop, false};
+ghost use Rattle.std.specs.Prelude.{length, map};
 ghost use Rattle.js_tree.specs.Forest.{Forest, empty, tree};
 ghost use Rattle.js_tree.specs.Marks.{AreMarksOf};
 ghost use Rattle.js_tree.specs.OutputUnit.{OutputUnit};
@@ -61,12 +62,21 @@ fn keep_marked<'a>(
         instance: Vec::new(alloc),
     };
     let start = between.end();
-    let mut kept = Vec::new(alloc);
-    let arena = rows.arena;
     let marks = marks.marks.as_slice();
+    let mut kept = Vec::with_capacity(alloc, staying(marks))?;
+    let arena = rows.arena;
     keep_node(arena, &mut rows.rows, marks, start, &mut between, &mut kept)?;
     rows.rows = kept;
     Ok(rows)
+}
+
+// So many nodes stay: the root does whatever its mark says.
+fn staying(marks: &[Mark]) -> usize {
+    marks
+        .iter()
+        .filter(|mark| mark.stays)
+        .count()
+        .saturating_add(1)
 }
 
 impl Between {
@@ -98,40 +108,83 @@ impl Between {
         self.instance.truncate(end.instance);
     }
 
-    // Adds the row of a node that stays, with what is behind the start before what its old row adds. The note is moved.
-    // It isn't inlined, so that the stack holds no row on each level.
+    // Whether nothing is behind this.
+    fn is_at(&self, start: Lengths) -> bool
+        ensures { IsTrue result → (length self.now.keyword.items ≤ start.keyword)
+            × (length self.now.instance.items ≤ start.instance) }
+    {
+        self.keyword.len() <= start.keyword && self.instance.len() <= start.instance
+    }
+
+    // Adds the row of a node that stays, with what is behind the start before what its old row adds, and with this
+    // size. The note is moved. It isn't inlined, so that the stack holds no row on each level.
     #[inline(never)]
     fn add_row<'a>(
         &mut self,
         arena: &'a Bump,
         row: &mut RelativeRow<'a>,
         start: Lengths,
+        size: usize,
         kept: &mut Vec<RelativeRow<'a>>,
     ) -> Result<(), Memory>
         ensures row { (u : OutputUnit) (keyword instance : List ℕ) → IsPending self.old start keyword instance
             → (relative_row row.old).0 ≡ escaped_unit u → OnOk result (map relative_row kept.new.items
-            ≡ map relative_row kept.old.items ++ (escaped_unit (placed_unit keyword instance u), 0) ∷ []) }
+            ≡ map relative_row kept.old.items ++ (escaped_unit (placed_unit keyword instance u), size) ∷ []) }
         ensures count { OnOk result (length kept.new.items ≡ length kept.old.items + 1) }
+        ensures same { OnOk result (AreSame self.old self.new) }
+    {
+        if self.is_at(start) {
+            return move_row(row, size, kept);
+        }
+        self.prepend_pending(arena, row, start)?;
+        move_row(row, size, kept)
+    }
+
+    // Puts what is behind the start before what the row adds.
+    fn prepend_pending<'a>(
+        &mut self,
+        arena: &'a Bump,
+        row: &mut RelativeRow<'a>,
+        start: Lengths,
+    ) -> Result<(), Memory>
+        ensures row { (u : OutputUnit) (keyword instance : List ℕ) → IsPending self.old start keyword instance
+            → (relative_row row.old).0 ≡ escaped_unit u
+            → OnOk result ((relative_row row.new).0 ≡ escaped_unit (placed_unit keyword instance u)) }
         ensures same { OnOk result (AreSame self.old self.new) }
     {
         let slash = row.keyword_slash;
         let (slash, keyword) = joined(arena, &mut self.keyword, start.keyword, slash, row.keyword)?;
         let from = start.instance;
         let (_, instance) = joined(arena, &mut self.instance, from, false, row.instance)?;
-        let row = RelativeRow {
-            valid: row.valid,
-            keyword_slash: slash,
-            absolute_slash: row.absolute_slash,
-            keyword,
-            instance,
-            schema: row.schema,
-            absolute: row.absolute,
-            note: replace(&mut row.note, Note::Silent),
-            size: 0,
-        };
-        kept.push(row)?;
+        row.keyword_slash = slash;
+        row.keyword = keyword;
+        row.instance = instance;
         Ok(())
     }
+}
+
+// Adds the row as it is, with this size. The note is moved.
+fn move_row<'a>(
+    row: &mut RelativeRow<'a>,
+    size: usize,
+    kept: &mut Vec<RelativeRow<'a>>,
+) -> Result<(), Memory>
+    ensures row { OnOk result (map relative_row kept.new.items
+        ≡ map relative_row kept.old.items ++ ((relative_row row.old).0, size) ∷ []) }
+    ensures count { OnOk result (length kept.new.items ≡ length kept.old.items + 1) }
+{
+    kept.push(RelativeRow {
+        valid: row.valid,
+        keyword_slash: row.keyword_slash,
+        absolute_slash: row.absolute_slash,
+        keyword: row.keyword,
+        instance: row.instance,
+        schema: row.schema,
+        absolute: row.absolute,
+        note: replace(&mut row.note, Note::Silent),
+        size,
+    })?;
+    Ok(())
 }
 
 // Adds the rows of what is left of the trees of the rows.
@@ -214,8 +267,12 @@ fn keep_node<'a>(
         (tree (placed_unit keyword instance u) (kept_between v [] [] below) empty)) }
     ensures same { OnOk result (AreSame between.old between.new) }
 {
+    let count = rows.len();
+    if count == 1 {
+        return between.add_row(arena, &mut rows[0], start, 1, kept);
+    }
     let number = kept.len();
-    between.add_row(arena, &mut rows[0], start, kept)?;
+    between.add_row(arena, &mut rows[0], start, 0, kept)?;
     let end = between.end();
     keep_trees(arena, &mut rows[1..], &marks[1..], end, between, kept)?;
     let size = kept.len() - number;

@@ -69,6 +69,10 @@ fn mark_tree(verdict: bool, rows: &[RelativeRow], marks: &mut Vec<Mark>) -> Resu
         → (marks.new.items ≡ marks.old.items ++ marked verdict (tree r.root r.below empty))
         × (trees ≡ left_trees verdict (tree r.root r.below empty))) }
 {
+    let count = rows.len();
+    if count == 1 {
+        return mark_leaf(verdict, &rows[0], marks);
+    }
     let number = marks.len();
     marks.push(Mark {
         stays: false,
@@ -77,6 +81,17 @@ fn mark_tree(verdict: bool, rows: &[RelativeRow], marks: &mut Vec<Mark>) -> Resu
     let trees = mark_trees(verdict, &rows[1..], marks)?;
     let mark = mark_of(verdict, &rows[0], trees);
     marks[number] = mark;
+    Ok(trees_of(mark))
+}
+
+// Marks the row of a node without children: most rows are of such nodes.
+fn mark_leaf(verdict: bool, row: &RelativeRow, marks: &mut Vec<Mark>) -> Result<usize, Memory>
+    ensures { IfOk result (λ trees.
+        (marks.new.items ≡ marks.old.items ++ marked verdict (tree (relative_row row.now).0 empty empty))
+        × (trees ≡ left_trees verdict (tree (relative_row row.now).0 empty empty))) }
+{
+    let mark = mark_of(verdict, row, 0);
+    marks.push(mark)?;
     Ok(trees_of(mark))
 }
 

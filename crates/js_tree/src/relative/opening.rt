@@ -41,7 +41,7 @@ impl Opening {
     }
 
     /// Whether this location is kept now. It isn't if it has escapes or is very long.
-    pub fn is_kept(&mut self, schema: &[u8]) -> bool
+    pub fn keeps_schema(&mut self, schema: &[u8]) -> bool
         ensures { result ≡ true → (schema_kept self.new.text.items ≡ schema.now) × (escape schema.now ≡ schema.now) }
     {
         if self.is_of(schema) {

@@ -230,7 +230,7 @@ pub(crate) fn put_opening<O: Out>(
     ensures back { IsBack locations.old locations.new }
 {
     let opening = &mut locations.opening;
-    if !opening.is_kept(row.schema.as_bytes()) {
+    if !opening.keeps_schema(row.schema.as_bytes()) {
         return put_whole_opening(later, row, out);
     }
     opening.put_kept(later, row.absolute_slash, out)?;

@@ -1,10 +1,11 @@
 use Rattle.std.proofs.Common.{◌≡◌, ◌+◌, ◌-◌, [], OnOk, length, map, slice_index_or, refl, ap, sym, subst, ◌∙◌, arith}
+use Rattle.js_tree.specs.Forest.{empty, tree}
 use Rattle.js_tree.specs.Relative.{escaped_tree, placed_unit}
 use Rattle.js_tree.specs.RelativeState.{relative_row}
 use Rattle.js_tree.specs.code.KeptBetween.{AreAdded, kept_between}
 use Rattle.js_tree.proofs.AddedRows.{add_ends, add_goes_on, add_starts, below_set, fewer_set, node_added, none_pending, same_parts, so_many, still_pending, still_there}
-use Rattle.js_tree.proofs.EscapedRows.{next_tree}
-use Rattle.js_tree.proofs.FlatRows.{root_row, shorter}
+use Rattle.js_tree.proofs.EscapedRows.{next_tree, none_of}
+use Rattle.js_tree.proofs.FlatRows.{none_below, root_row, shorter}
 use Rattle.js_tree.proofs.KeptBetween.{node_goes}
 use Rattle.js_tree.proofs.MarkedRows.{as_many, first_mark, flat_rows, marked_below, marked_next, next_marks, root_mark}
 use Rattle.js_tree.proofs.RoomLeft.{fewer_below, some_row}
@@ -30,7 +31,7 @@ keep_node-keep_trees-requires t c =
     let below = c.requires.2 in
     let h = c.requires.3 in
     let some = some_row rows (escaped_tree (record { root = u; below = below })) (flat_rows rows marks v u below h) in
-    let x = c.add_row.new.row in
+    let x = c.add_row-2.new.row in
     (omega (arith, fewer_set rows x some, c.decreases), (v, below, below_set rows x marks v u below h))
 
 pub keep_node-overflow_sub-size : goal.keep_node-overflow_sub-size
@@ -38,9 +39,9 @@ keep_node-overflow_sub-size t c =
     let v = c.requires.0 in
     let u = c.requires.1 in
     let below = c.requires.2 in
-    let marked = below_set c.args.rows.now c.add_row.new.row c.args.marks.now v u below c.requires.3 in
-    let told = c.in_ok-keep_trees.ensures.rows v below [] [] (none_pending c.add_row.new.self c.end-end.result c.end-end.ensures) marked in
-    let count = so_many c.add_row.new.kept.items c.keep_trees.new.kept.items (kept_between v [] [] below) told in
+    let marked = below_set c.args.rows.now c.add_row-2.new.row c.args.marks.now v u below c.requires.3 in
+    let told = c.in_ok-keep_trees.ensures.rows v below [] [] (none_pending c.add_row-2.new.self c.end-end.result c.end-end.ensures) marked in
+    let count = so_many c.add_row-2.new.kept.items c.keep_trees.new.kept.items (kept_between v [] [] below) told in
     omega (arith, count, c.in_ok-add_row.ensures.count, c.len-number.ensures, c.len.ensures, c.args.kept.now.ok.0, c.keep_trees.new.kept.ok.0)
 
 pub keep_node-index_mut-row-requires : goal.keep_node-index_mut-row-requires
@@ -48,10 +49,22 @@ keep_node-index_mut-row-requires t c =
     let v = c.requires.0 in
     let u = c.requires.1 in
     let below = c.requires.2 in
-    let marked = below_set c.args.rows.now c.add_row.new.row c.args.marks.now v u below c.requires.3 in
-    let told = c.in_ok-keep_trees.ensures.rows v below [] [] (none_pending c.add_row.new.self c.end-end.result c.end-end.ensures) marked in
-    let count = so_many c.add_row.new.kept.items c.keep_trees.new.kept.items (kept_between v [] [] below) told in
+    let marked = below_set c.args.rows.now c.add_row-2.new.row c.args.marks.now v u below c.requires.3 in
+    let told = c.in_ok-keep_trees.ensures.rows v below [] [] (none_pending c.add_row-2.new.self c.end-end.result c.end-end.ensures) marked in
+    let count = so_many c.add_row-2.new.kept.items c.keep_trees.new.kept.items (kept_between v [] [] below) told in
     omega (arith, count, c.in_ok-add_row.ensures.count, c.len-number.ensures, c.args.kept.now.ok.0, c.keep_trees.new.kept.ok.0)
+
+pub keep_node-returns-then-count-eq1-clause-rows : goal.keep_node-returns-then-count-eq1-clause-rows
+keep_node-returns-then-count-eq1-clause-rows t c =
+    λ v u below k i p h.
+    let rows = c.args.rows.now in
+    let flat = flat_rows rows c.args.marks.now v u below h in
+    let one = escaped_tree (record { root = u; below = below }) in
+    let first = slice_index_or rows 0 c.index-rows-0.result in
+    let root = root_row relative_row rows one first flat (ap (slice_index_or rows 0) c.index-rows-0.is) in
+    let none = none_of below (none_below relative_row rows one flat (omega (arith, c.if-count-eq1.true))) in
+    subst (λ f. OnOk c.add_row.result (AreAdded c.args.kept.now.items c.add_row.new.kept.items (tree (placed_unit k i u) (kept_between v [] [] f) empty)))
+    (sym none) (c.add_row.ensures.row u k i p root)
 
 pub keep_node-returns-clause-rows : goal.keep_node-returns-clause-rows
 keep_node-returns-clause-rows t c =
@@ -59,12 +72,12 @@ keep_node-returns-clause-rows t c =
     let rows = c.args.rows.now in
     let marks = c.args.marks.now in
     let old = c.args.kept.now.items in
-    let mid = c.add_row.new.kept.items in
+    let mid = c.add_row-2.new.kept.items in
     let new = c.keep_trees.new.kept.items in
-    let first = slice_index_or rows 0 c.index-rows-0.result in
-    let root = root_row relative_row rows (escaped_tree (record { root = u; below = below })) first (flat_rows rows marks v u below h) (ap (slice_index_or rows 0) c.index-rows-0.is) in
+    let first = slice_index_or rows 0 c.index-rows-0-2.result in
+    let root = root_row relative_row rows (escaped_tree (record { root = u; below = below })) first (flat_rows rows marks v u below h) (ap (slice_index_or rows 0) c.index-rows-0-2.is) in
     let row = c.in_ok-add_row.ensures.row u k i p root in
-    let told = c.in_ok-keep_trees.ensures.rows v below [] [] (none_pending c.add_row.new.self c.end-end.result c.end-end.ensures) (below_set rows c.add_row.new.row marks v u below h) in
+    let told = c.in_ok-keep_trees.ensures.rows v below [] [] (none_pending c.add_row-2.new.self c.end-end.result c.end-end.ensures) (below_set rows c.add_row-2.new.row marks v u below h) in
     let number : c.len-number.result ≡ length old = c.len-number.ensures ∙ c.args.kept.now.ok.0 in
     let size : c.len.result - c.len-number.result ≡ length new - c.len-number.result = ap (λ n. n - c.len-number.result) (c.len.ensures ∙ c.keep_trees.new.kept.ok.0) in
     let same = ap (λ r. (relative_row r).0) c.index_mut-row.ensures.value in

@@ -1,10 +1,11 @@
+use Rattle.std.proofs.lemmas.Result.{IfOk-weaker}
 use Rattle.std.proofs.Common.{◌≡◌, ◌+◌, ◌-◌, ◌++◌, ◌∷◌, append-nil, drop, take, map, sym, ap, ◌∙◌, arith}
 use Rattle.js_tree.specs.Marks.{left_trees, mark_of, marked}
 use Rattle.js_tree.specs.RelativeState.{relative_row}
 use Rattle.js_tree.specs.Result.{ResultTree}
 use Rattle.js_tree.proofs.ChildTexts.{rest_of}
-use Rattle.js_tree.proofs.FlatRows.{first_tree, root_row, rows_below, shorter}
-use Rattle.js_tree.proofs.MarkedRows.{mark_ends, mark_fits, mark_goes_on, mark_set, mark_starts, one_tree}
+use Rattle.js_tree.proofs.FlatRows.{first_tree, none_below, root_row, rows_below, shorter}
+use Rattle.js_tree.proofs.MarkedRows.{leaf_marked, mark_ends, mark_fits, mark_goes_on, mark_set, mark_starts, one_tree}
 use Rattle.js_tree.proofs.Marks.{flat_form-flat_of}
 use Rattle.js_tree.proofs.relative.marks.+mark_trees.Goals as goal
 
@@ -85,13 +86,25 @@ mark_trees-loop-next-smaller t' c =
     let t = first_tree relative_row rows l.next w.left x w.left_is c.loop-next-test.true c.index-rows-first.is in
     omega (arith, t.size, t.fits)
 
+pub mark_tree-returns-then-count-eq1 : goal.mark_tree-returns-then-count-eq1
+mark_tree-returns-then-count-eq1 t c =
+    let rows = c.args.rows.now in
+    let old = c.args.marks.now.items in
+    let new = c.mark_leaf.new.marks.items in
+    IfOk-weaker c.mark_leaf.result _ _
+    (λ n told r e.
+        let root = root_row relative_row rows r c.index-rows-0.result e c.index-rows-0.is in
+        let none = none_below relative_row rows r e (omega (arith, c.if-count-eq1.true)) in
+        leaf_marked c.args.verdict r c.index-rows-0.result old new n root none told)
+    c.mark_leaf.ensures
+
 pub mark_tree-returns : goal.mark_tree-returns
 mark_tree-returns t' c =
     λ r e.
     let v = c.args.verdict in
     let rows = c.args.rows.now in
-    let x = c.index-rows-0.result in
-    let root = root_row relative_row rows r x e c.index-rows-0.is in
+    let x = c.index-rows-0-2.result in
+    let root = root_row relative_row rows r x e c.index-rows-0-2.is in
     let is = ap (map relative_row) (rest_of rows) ∙ rows_below relative_row rows r e in
     let told = c.in_ok-trees.ensures r.below is in
     let old = c.args.marks.now.items in

@@ -10,8 +10,8 @@ returns-in_err-put_kept-clause-text g c =
     λ absolute is.
     let o = g.O.Out.progress in
     let row = c.args.row.now in
-    let kept = schema_kept c.is_kept.new.self.text.items in
-    let has = c.is_kept.ensures c.if-not-is_kept.false in
+    let kept = schema_kept c.keeps_schema.new.self.text.items in
+    let has = c.keeps_schema.ensures c.if-not-keeps_schema.false in
     let r = c.from_residual.result in
     subst (λ l. Puts (o c.args.out.now) (o c.put_kept.new.out) l r) (front_then c.args.later row.absolute_slash kept c.as_bytes.result.now row.schema.now row.absolute.now absolute has.0 has.1 c.as_bytes.ensures.value is)
     (stops_in (o c.args.out.now) (o c.put_kept.new.out) (front_text c.args.later kept row.absolute_slash) row.absolute.now r c.from_residual.ensures.0 c.in_err-put_kept.ensures)
@@ -21,8 +21,8 @@ returns-clause-text g c =
     λ absolute is.
     let o = g.O.Out.progress in
     let row = c.args.row.now in
-    let kept = schema_kept c.is_kept.new.self.text.items in
-    let has = c.is_kept.ensures c.if-not-is_kept.false in
+    let kept = schema_kept c.keeps_schema.new.self.text.items in
+    let has = c.keeps_schema.ensures c.if-not-keeps_schema.false in
     let r = c.put.result in
     subst (λ l. Puts (o c.args.out.now) (o c.put.new.self) l r) (front_then c.args.later row.absolute_slash kept c.as_bytes.result.now row.schema.now row.absolute.now absolute has.0 has.1 c.as_bytes.ensures.value is)
     (then_puts (o c.args.out.now) (o c.put_kept.new.out) (o c.put.new.self) (front_text c.args.later kept row.absolute_slash) row.absolute.now r c.in_ok-put_kept.ensures c.put.ensures)

@@ -1,13 +1,17 @@
-use Rattle.std.proofs.Common.{refl, ap, sym, ◌∙◌}
-use Rattle.js_tree.specs.Relative.{placed_unit}
-use Rattle.js_tree.specs.RelativeState.{part}
-use Rattle.js_tree.specs.Seen.{note_of}
-use Rattle.js_tree.proofs.AddedRows.{joined_unit, row_added}
+use Rattle.std.proofs.Common.{◌≡◌, ◌++◌, ◌∷◌, [], OnOk, map, subst}
+use Rattle.js_tree.specs.RelativeState.{relative_row}
+use Rattle.js_tree.proofs.AddedRows.{unit_stays}
 use Rattle.js_tree.proofs.relative.keeping.Between.add_row.Goals as goal
+
+pub returns-then-is_at-clause-row : goal.returns-then-is_at-clause-row
+returns-then-is_at-clause-row c =
+    λ u k i p e.
+    let at = c.is_at.ensures c.if-is_at.true in
+    subst (λ w. OnOk c.move_row.result (map relative_row c.move_row.new.kept.items ≡ map relative_row c.args.kept.now.items ++ (w, c.args.size) ∷ []))
+    (unit_stays c.args.self.now c.args.start c.args.row.now u k i p e at.0 at.1) c.move_row.ensures.row
 
 pub returns-clause-row : goal.returns-clause-row
 returns-clause-row c =
     λ u k i p e.
-    let whole = sym (ap (λ b. part b c.in_ok-instance.instance.now) (c.in_ok-instance.ensures.plain refl)) ∙ c.in_ok-instance.ensures.joined p.instance_fits in
-    let unit = joined_unit c.args.self.now c.args.start c.args.row.now u k i _ _ _ p e (c.in_ok-slash.ensures.joined p.keyword_fits) whole (ap note_of c.replace.ensures.value) in
-    row_added c.args.kept.now.items c.push.new.self.items _ (placed_unit k i u) c.in_ok-push.ensures.items unit refl
+    subst (λ w. OnOk c.move_row-2.result (map relative_row c.move_row-2.new.kept.items ≡ map relative_row c.args.kept.now.items ++ (w, c.args.size) ∷ []))
+    (c.in_ok-prepend_pending.ensures.row u k i p e) c.move_row-2.ensures.row
