@@ -93,9 +93,9 @@ mark_tree-returns-then-count-eq1 t c =
     let new = c.mark_leaf.new.marks.items in
     IfOk-weaker c.mark_leaf.result _ _
     (λ n told r e.
-        let root = root_row relative_row rows r c.index-rows-0.result e c.index-rows-0.is in
-        let none = none_below relative_row rows r e (omega (arith, c.if-count-eq1.true)) in
-        leaf_marked c.args.verdict r c.index-rows-0.result old new n root none told)
+    let root = root_row relative_row rows r c.index-rows-0.result e c.index-rows-0.is in
+    let none = none_below relative_row rows r e (omega (arith, c.if-count-eq1.true)) in
+    leaf_marked c.args.verdict r c.index-rows-0.result old new n root none told)
     c.mark_leaf.ensures
 
 pub mark_tree-returns : goal.mark_tree-returns
