@@ -1,7 +1,7 @@
 -- A keyword's leaf as two events, one after the other.
-use Rattle.std.specs.Prelude.{◌≡◌, ℕ, Bool, List, [], ◌∷◌, ◌++◌, Some, refl}
+use Rattle.std.specs.Prelude.{◌≡◌, ℕ, Bool, [], ◌∷◌, ◌++◌, Some, refl}
 use Rattle.std.proofs.Common.{ap, append-nil, sym, ◌∙◌, subst}
-use Rattle.js_doc.specs.Pointer.{escape, pointer_text}
+use Rattle.js_doc.specs.Pointer.{escape}
 use Rattle.js_doc.specs.Value.{Value}
 use Rattle.js_tree.specs.Events.{Event, Passes, closing, opening}
 use Rattle.js_tree.specs.Note.{Note}
