@@ -29,6 +29,7 @@ pub mod PlainNames
 pub mod Applicators
 pub mod JudgedTogether
 pub mod Held
+pub mod HeldTogether
 pub mod Holding
 pub mod NamesLeft
 pub mod Collected

@@ -1,14 +1,15 @@
 -- Which keywords a walk visits one by one. A walk that reports nothing, a quiet one, visits those alone that may apply
 -- schemas (Core, sections 8.2.3, 10 and 11), and judges all others together.
-use Rattle.std.specs.Prelude.{◌≡◌, ℕ, Bool, true, false, not, ◌||◌, List, [], filter, length}
+use Rattle.std.specs.Prelude.{◌≡◌, ℕ, Bool, true, false, not, ◌||◌, List, [], ◌∷◌, ◌++◌, filter, length}
 use Rattle.std.specs.List.{list_all}
 use Rattle.js_doc.specs.Value.{Value}
-use Rattle.js_eval.specs.Keywords.{Keyword}
+use Rattle.js_eval.specs.Keywords.{Keyword, keywords}
 use Rattle.js_eval.specs.Kind.{kind}
 use Rattle.js_eval.specs.SchemaSet.{SchemaSet}
 use Rattle.js_eval.specs.declared.keywords.kind.Kind.{Kind}
 use Rattle.js_eval.specs.declared.keywords.kind.Kind.TheVariants.{Assertion, Annotation}
 use Rattle.js_eval.specs.declared.walking.tally.Others.{Others}
+use Rattle.js_eval.specs.declared.walking.tally.Together.{Together}
 use Rattle.js_eval.specs.Walk.Told.{keywords_at, passes_at}
 
 -- a keyword of this kind may apply schemas
@@ -34,3 +35,11 @@ module _ {Place : Type 0} (S : SchemaSet Place) (place : Place) where
   abbrev pub AreJudgedIf : Bool → Value → ℕ → Others → Type 0
   AreJudgedIf true v matching o = AreJudged v matching o.pass o.count
   AreJudgedIf false v matching o = (o.pass ≡ true) × (o.count ≡ 0)
+
+  -- it is one of the keywords that have a node
+  abbrev pub IsListed : Keyword → Type 0
+  IsListed k = (before : List Keyword) × (after : List Keyword) × (before ++ k ∷ after ≡ keywords (S.schema place))
+
+  -- what is known of those that a quiet walk doesn't visit, if anything is
+  abbrev pub AreTogether : Value → Together → Type 0
+  AreTogether v t = t.known ≡ true → (count : ℕ) × AreJudged v t.matching t.pass count

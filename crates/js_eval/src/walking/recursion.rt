@@ -1,10 +1,11 @@
 //! The recursion of a walk. Three functions evaluate a schema, a keyword, and the applications of a keyword.
 //!
 //! No bound names a lifetime, so that they may be recursive. A nested schema application takes one call of each.
-ghost use Rattle.std.specs.Prelude.{◌≡◌, ◌≤◌, true, map, length, drop, nat_eq, MatchResult};
+ghost use Rattle.std.specs.Prelude.{◌≡◌, ◌≤◌, ◌<◌, true, map, length, drop, nat_eq, MatchResult, OnOk};
 ghost use Rattle.std.specs.List.{dedup, list_all};
 ghost use Rattle.js_eval.specs.Walk.Steps.{NodeDone, KeywordDone, EachDone};
 ghost use Rattle.js_eval.specs.Walk.Told.{IsKeywordAt, HasNone, KeywordHasNone, SomeHasNone, asked_by};
+ghost use Rattle.js_eval.specs.Walk.Visited.{AreTogether, IsListed};
 ghost use Rattle.js_eval.specs.Walked.{OnTooLarge};
 
 use crate::keywords::kind::Kind;
@@ -12,10 +13,10 @@ use crate::walking::fault::WalkFault;
 use crate::walking::pointer_text::PointerText;
 use crate::walking::reporter::Reporter;
 use crate::walking::steps::{
-    asked, childless_node, close_keyword, close_schema, come_back, go_down, next_keyword,
-    open_keyword, open_schema, others_of,
+    asked, close_keyword, close_schema, come_back, go_down, leaf_node, next_keyword, open_keyword,
+    open_schema, others_of,
 };
-use crate::walking::tally::{Case, Judged, Judging, Known, Tally};
+use crate::walking::tally::{Case, Judged, Judging, Known, Tally, Together};
 use crate::walking::way::{Start, Way};
 use crate::walking::world::World;
 use js_bundle::Place;
@@ -63,6 +64,7 @@ pub(crate) fn node<W: World, H: PointerText + Drop, R: Reporter<W, H>>(
     let quiet = into.is_quiet();
     let keywords = world.keywords(place, schema, quiet);
     let mut judging = Judging { keywords, known };
+    let mut together = Together::unknown();
     'keywords: while let Some(keyword) = next_keyword(world, &mut judging) {
         let case = Case {
             place,
@@ -79,6 +81,7 @@ pub(crate) fn node<W: World, H: PointerText + Drop, R: Reporter<W, H>>(
             case,
             start,
             judging.known,
+            &mut together,
         )?;
         let known = judging.known;
         judging.known = known.with_keyword(world.kind(keyword), judged.passes, judged.held);
@@ -108,6 +111,7 @@ pub(crate) fn keyword_node<W: World, H: PointerText + Drop, R: Reporter<W, H>>(
     case: Case<W::Schema, W::Value, W::Keyword>,
     start: Start,
     known: Known,
+    together: &mut Together,
 ) -> Result<Judged, WalkFault>
     requires path { list_all (W.is_place world.now) way.old.path ≡ true }
     requires scope { way.old.scope ≡ dedup nat_eq (map (W.resource world.now) way.old.path) }
@@ -116,7 +120,12 @@ pub(crate) fn keyword_node<W: World, H: PointerText + Drop, R: Reporter<W, H>>(
     requires names { start.names ≤ length way.old.names.items }
     requires indexes { start.indexes ≤ length way.old.indexes.items }
     requires keyword { IsKeywordAt (W.schemas world.now) (W.site world.now case.place) (W.keyword_of case.keyword) }
-    ensures { MatchResult result
+    requires listed { IsListed (W.schemas world.now) (W.site world.now case.place) (W.keyword_of case.keyword) }
+    requires together { AreTogether (W.schemas world.now) (W.site world.now case.place) (W.value_of case.value)
+        together.old }
+    ensures together { OnOk result (AreTogether (W.schemas world.now) (W.site world.now case.place)
+        (W.value_of case.value) together.new) }
+    ensures done { MatchResult result
         (λ j. KeywordDone (W.schemas world.now) W.text_of R.takes depth (map (W.site world.now) way.old.path)
         (W.site world.now case.place) (W.value_of case.value) (W.keyword_of case.keyword) known.matching
         (asked_by (W.schemas world.now) depth (map (W.site world.now) way.old.path) (W.site world.now case.place)
@@ -134,9 +143,50 @@ pub(crate) fn keyword_node<W: World, H: PointerText + Drop, R: Reporter<W, H>>(
         return Err(WalkFault::TooLarge);
     }
     if !world.asks(case.keyword) {
-        let judged = childless_node(alloc, world, way, into, case, known.matching)?;
+        let judged = leaf_node(alloc, world, way, into, case, together, known.matching)?;
         return Ok(judged);
     }
+    applicator_node(alloc, world, way, into, depth, case, start, known)
+}
+
+/// The same of a keyword that may apply schemas. Apart from `keyword_node`, so that a leaf doesn't pay for its locals.
+/// The limit must allow one more node.
+///
+/// # Errors
+/// As for `keyword_node`.
+#[cycle(walk)]
+fn applicator_node<W: World, H: PointerText + Drop, R: Reporter<W, H>>(
+    alloc: Global,
+    world: &W,
+    way: &mut Way<W::Name, H>,
+    into: &mut R,
+    depth: usize,
+    case: Case<W::Schema, W::Value, W::Keyword>,
+    start: Start,
+    known: Known,
+) -> Result<Judged, WalkFault>
+    requires path { list_all (W.is_place world.now) way.old.path ≡ true }
+    requires scope { way.old.scope ≡ dedup nat_eq (map (W.resource world.now) way.old.path) }
+    requires place { W.is_place world.now case.place ≡ true }
+    requires schema { W.stands_at world.now case.place case.schema }
+    requires names { start.names ≤ length way.old.names.items }
+    requires indexes { start.indexes ≤ length way.old.indexes.items }
+    requires left { 0 < way.old.left }
+    requires keyword { IsKeywordAt (W.schemas world.now) (W.site world.now case.place) (W.keyword_of case.keyword) }
+    ensures { MatchResult result
+        (λ j. KeywordDone (W.schemas world.now) W.text_of R.takes depth (map (W.site world.now) way.old.path)
+        (W.site world.now case.place) (W.value_of case.value) (W.keyword_of case.keyword) known.matching
+        (asked_by (W.schemas world.now) depth (map (W.site world.now) way.old.path) (W.site world.now case.place)
+        (W.value_of case.value) (W.keyword_of case.keyword)
+        known.condition (map W.text_of (drop start.names way.old.names.items))
+        (drop start.indexes way.old.indexes.items)) j way.old way.new into.old into.new)
+        (λ e. OnTooLarge e (KeywordHasNone (W.schemas world.now) depth (map (W.site world.now) way.old.path)
+        (W.site world.now case.place) (W.value_of case.value) (W.keyword_of case.keyword)
+        (asked_by (W.schemas world.now) depth (map (W.site world.now) way.old.path) (W.site world.now case.place)
+        (W.value_of case.value) (W.keyword_of case.keyword)
+        known.condition (map W.text_of (drop start.names way.old.names.items))
+        (drop start.indexes way.old.indexes.items)) way.old.left)) }
+{
     let here = way.current_marks();
     let mut asking = asked(alloc, world, way, case, start, known.condition)?;
     open_keyword(alloc, world, way, into, case.place, case.keyword)?;

@@ -9,15 +9,16 @@ ghost use Rattle.js_eval.specs.Walk.Steps.{KeywordDone, WentDown, CameBack};
 ghost use Rattle.js_doc.specs.Value.{Value as JsonValue};
 ghost use Rattle.js_eval.specs.SchemaSet.{Text as Bytes};
 ghost use Rattle.js_eval.specs.Walk.Reported.{DropsSilent};
-ghost use Rattle.js_eval.specs.Walk.Told.{IsKeywordAt, asked_by, says_at};
+ghost use Rattle.js_eval.specs.Walk.Told.{IsKeywordAt, asked_by, kind_at, says_at};
 ghost use Rattle.js_tree.specs.Note.{silent};
-ghost use Rattle.js_eval.specs.Walk.Visited.{AreJudgedIf};
+ghost use Rattle.js_eval.specs.Walk.Visited.{AreJudged, AreJudgedIf, AreTogether, IsListed};
+ghost use Rattle.js_eval.specs.declared.keywords.kind.Kind.TheVariants.{Assertion};
 
 use crate::keywords::kind::Kind;
 use crate::walking::keeping::{cut_unless, indexes_origin, keep, names_origin};
 use crate::walking::pointer_text::PointerText;
 use crate::walking::reporter::Reporter;
-use crate::walking::tally::{Case, Judged, Judging, Others, Tally};
+use crate::walking::tally::{Case, Judged, Judging, Others, Tally, Together};
 use crate::walking::way::{Mark, Start, Way};
 use crate::walking::world::World;
 use js_bundle::Place;
@@ -264,6 +265,117 @@ pub(crate) fn childless_node<W: World, H: PointerText + Drop, R: Reporter<W, H>>
         &way.instance,
     )?;
     Ok(judged)
+}
+
+/// The same as `childless_node`. If all assertions pass, and the reporter keeps nothing of one that does, they are judged
+/// together.
+#[inline(always)]
+pub(crate) fn leaf_node<W: World, H: PointerText + Drop, R: Reporter<W, H>>(
+    alloc: Global,
+    world: &W,
+    way: &mut Way<W::Name, H>,
+    into: &mut R,
+    case: Case<W::Schema, W::Value, W::Keyword>,
+    together: &mut Together,
+    matching: u64,
+) -> Result<Judged, Memory>
+    requires place { W.is_place world.now case.place ≡ true }
+    requires schema { W.stands_at world.now case.place case.schema }
+    requires keyword { IsKeywordAt (W.schemas world.now) (W.site world.now case.place) (W.keyword_of case.keyword) }
+    requires listed { IsListed (W.schemas world.now) (W.site world.now case.place) (W.keyword_of case.keyword) }
+    requires left { 0 < way.old.left }
+    requires together { AreTogether (W.schemas world.now) (W.site world.now case.place) (W.value_of case.value)
+        together.old }
+    ensures done { IfOk result (λ j. (depth : ℕ) (path : List Site)
+        → KeywordDone (W.schemas world.now) W.text_of R.takes depth path (W.site world.now case.place)
+        (W.value_of case.value) (W.keyword_of case.keyword) matching [] j
+        way.old way.new into.old into.new) }
+    ensures together { OnOk result (AreTogether (W.schemas world.now) (W.site world.now case.place)
+        (W.value_of case.value) together.new) }
+{
+    let over = is_passed_over(alloc, world, into, case, together, matching)?;
+    if over {
+        way.left -= 1;
+        return Ok(Judged {
+            passes: true,
+            held: 0,
+        });
+    }
+    childless_node(alloc, world, way, into, case, matching)
+}
+
+// Whether the reporter would keep nothing of a keyword's leaf, as all assertions pass.
+#[inline(always)]
+fn is_passed_over<W: World, H: PointerText + Drop, R: Reporter<W, H>>(
+    alloc: Global,
+    world: &W,
+    into: &R,
+    case: Case<W::Schema, W::Value, W::Keyword>,
+    together: &mut Together,
+    matching: u64,
+) -> Result<bool, Memory>
+    requires place { W.is_place world.now case.place ≡ true }
+    requires listed { IsListed (W.schemas world.now) (W.site world.now case.place) (W.keyword_of case.keyword) }
+    requires together { AreTogether (W.schemas world.now) (W.site world.now case.place) (W.value_of case.value)
+        together.old }
+    ensures together { OnOk result (AreTogether (W.schemas world.now) (W.site world.now case.place)
+        (W.value_of case.value) together.new) }
+    ensures passes { IfOk result (λ b. b ≡ true → IsJudged (W.schemas world.now) (W.site world.now case.place)
+        (W.value_of case.value) (W.keyword_of case.keyword) matching (record { asked = 0; held = 0 }) true) }
+    ensures silent { IfOk result (λ b. (place : Site) (v : JsonValue) (matching held : ℕ) (names : List Bytes)
+        (indexes : List ℕ) → b ≡ true → says_at (W.schemas world.now) place v matching (W.keyword_of case.keyword)
+        held names indexes true ≡ silent) }
+    ensures drops { IfOk result (λ b. b ≡ true → DropsSilent R.takes into.now) }
+{
+    if !may_drop(world, into, case.keyword) {
+        return Ok(false);
+    }
+    all_pass(alloc, world, case.place, case.value, together, matching)
+}
+
+// Whether the reporter keeps nothing of a keyword's leaf that passes: it is an assertion, so that it has no note then.
+#[inline(always)]
+#[tactic(auto, using(crate::proofs::SaysThere::assertion_is_silent))]
+fn may_drop<W: World, H: PointerText + Drop, R: Reporter<W, H>>(
+    world: &W,
+    into: &R,
+    keyword: W::Keyword,
+) -> bool
+    ensures assertion { result ≡ true → kind_at (W.keyword_of keyword) ≡ Assertion }
+    ensures silent { (place : Site) (v : JsonValue) (matching held : ℕ) (names : List Bytes) (indexes : List ℕ)
+        → result ≡ true → says_at (W.schemas world.now) place v matching (W.keyword_of keyword) held names indexes
+        true ≡ silent }
+    ensures drops { result ≡ true → DropsSilent R.takes into.now }
+{
+    matches!(world.kind(keyword), Kind::Assertion) && into.drops_silent()
+}
+
+// Whether all keywords of the place pass that apply no schemas. They are judged if they aren't yet, for so many matches.
+#[inline(always)]
+fn all_pass<W: World>(
+    alloc: Global,
+    world: &W,
+    place: Place,
+    value: W::Value,
+    together: &mut Together,
+    matching: u64,
+) -> Result<bool, Memory>
+    requires place { W.is_place world.now place ≡ true }
+    requires together { AreTogether (W.schemas world.now) (W.site world.now place) (W.value_of value) together.old }
+    ensures together { OnOk result (AreTogether (W.schemas world.now) (W.site world.now place) (W.value_of value)
+        together.new) }
+    ensures pass { IfOk result (λ b. b ≡ true → (count : ℕ)
+        × AreJudged (W.schemas world.now) (W.site world.now place) (W.value_of value) matching true count) }
+{
+    if !together.known || together.matching != matching {
+        let others = world.others(alloc, place, value, matching)?;
+        *together = Together {
+            known: true,
+            matching,
+            pass: others.pass,
+        };
+    }
+    Ok(together.pass)
 }
 
 // Whether the reporter would keep nothing of a keyword's leaf: it passes, and is an assertion, so that it has no note

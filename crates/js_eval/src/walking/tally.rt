@@ -1,5 +1,5 @@
 //! What a walk knows of a keyword from its applications, and of a schema from its keywords.
-ghost use Rattle.std.specs.Prelude.{◌≡◌, ◌&&◌, ◌≤◌, ◌<◌, ◌+◌, cond};
+ghost use Rattle.std.specs.Prelude.{◌≡◌, ◌&&◌, ◌≤◌, ◌<◌, ◌+◌, cond, false};
 ghost use Rattle.js_eval.specs.Walk.Keeping.{condition_step, matching_step};
 
 use crate::keywords::kind::Kind;
@@ -51,6 +51,15 @@ pub(crate) struct Others {
     pub count: usize,
 }
 
+/// Whether all keywords of a schema pass that apply no schemas, once they are judged together: given how many items
+/// match the adjacent `contains`.
+#[derive(Clone, Copy)]
+pub(crate) struct Together {
+    pub known: bool,
+    pub matching: u64,
+    pub pass: bool,
+}
+
 impl Tally {
     /// The tally with one more application.
     pub fn with_application(self, holds: bool) -> Tally
@@ -62,6 +71,19 @@ impl Tally {
         Tally {
             asked: self.asked + 1,
             held: self.held + if holds { 1 } else { 0 },
+        }
+    }
+}
+
+impl Together {
+    /// They aren't judged yet.
+    pub fn unknown() -> Together
+        ensures { result.known ≡ false }
+    {
+        Together {
+            known: false,
+            matching: 0,
+            pass: false,
         }
     }
 }

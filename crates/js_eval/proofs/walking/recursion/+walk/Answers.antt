@@ -4,7 +4,7 @@ use Rattle.std.specs.Prelude.{MatchOption}
 use Rattle.std.proofs.lemmas.List.{length-append, length-map, map-append}
 use Rattle.std.proofs.lemmas.List.Folds.{list_all-append}
 use Rattle.std.specs.List.{dedup, list_all}
-use Rattle.std.specs.Prelude.{true, nat_eq}
+use Rattle.std.specs.Prelude.{true, false, nat_eq}
 use Rattle.js_eval.specs.Walk.Scope.{HasGrown}
 use Rattle.js_eval.proofs.Lists.{and_true}
 use Rattle.js_eval.specs.Walk.Steps.{KeywordDone, NodeDone}
@@ -18,6 +18,7 @@ use Rattle.js_eval.proofs.Recursion.Visited.{given_back}
 use Rattle.js_eval.proofs.Recursion.NodeTelling.{at_next, none_at_zero, none_left, one_less}
 use Rattle.js_eval.proofs.Recursion.KeywordTelling.{keyword_none}
 use Rattle.js_eval.specs.Walk.Told.{asked_by}
+use Rattle.js_eval.specs.Walk.Visited.{IsListed}
 use Rattle.js_eval.proofs.walking.recursion.+walk.Goals as goal
 
 pub applications-each-init : goal.applications-each-init
@@ -71,8 +72,8 @@ applications-each-preserved g t c =
       held = let e = c.with_application-tally.ensures.asked in let f = c.with_application-tally.ensures.held in let i = c.each.invariant.held in omega (arith, e, f, i, at_most_one c.in_ok-holds.holds);
     }
 
-pub keyword_node-returns-then-not-asks : goal.keyword_node-returns-then-not-asks
-keyword_node-returns-then-not-asks g t c =
+pub keyword_node-returns-then-not-asks-clause-done : goal.keyword_node-returns-then-not-asks-clause-done
+keyword_node-returns-then-not-asks-clause-done g t c =
     let S = g.W.World.schemas c.args.world.now in
     let path = map (g.W.World.site c.args.world.now) c.args.way.now.path in
     let place = g.W.World.site c.args.world.now c.args.case.place in
@@ -81,11 +82,11 @@ keyword_node-returns-then-not-asks g t c =
     let names = map g.W.World.text_of (drop c.args.start.names c.args.way.now.names.items) in
     let indexes = drop c.args.start.indexes c.args.way.now.indexes.items in
     let none : asked_by S c.args.depth path place v k c.args.known.condition names indexes ≡ [] = c.asks.ensures c.args.depth path place v c.args.known.condition names indexes c.if-not-asks.true in
-    subst (λ apps. KeywordDone S g.W.World.text_of g.R.Reporter.takes c.args.depth path place v k c.args.known.matching apps c.in_ok-judged.judged c.args.way.now c.childless_node.new.way c.args.into.now c.childless_node.new.into)
-    (sym none) (c.in_ok-judged.ensures c.args.depth path)
+    subst (λ apps. KeywordDone S g.W.World.text_of g.R.Reporter.takes c.args.depth path place v k c.args.known.matching apps c.in_ok-judged.judged c.args.way.now c.leaf_node.new.way c.args.into.now c.leaf_node.new.into)
+    (sym none) (c.in_ok-judged.ensures.done c.args.depth path)
 
-pub keyword_node-returns-in_err-tally : goal.keyword_node-returns-in_err-tally
-keyword_node-returns-in_err-tally g t c =
+pub applicator_node-returns-in_err-tally : goal.applicator_node-returns-in_err-tally
+applicator_node-returns-in_err-tally g t c =
     let S = g.W.World.schemas c.args.world.now in
     let path = map (g.W.World.site c.args.world.now) c.args.way.now.path in
     let place = g.W.World.site c.args.world.now c.args.case.place in
@@ -98,8 +99,8 @@ keyword_node-returns-in_err-tally g t c =
     rw (p.1, p.2) (on_too_large (SomeHasNone S c.args.depth (map (g.W.World.site c.args.world.now) c.open_keyword.new.way.path) (g.W.World.asked c.args.world.now c.in_ok-asking.asking) c.open_keyword.new.way.left) (KeywordHasNone S c.args.depth path place v k apps c.args.way.now.left) c.in_err-tally.field-0.0
     (λ none. keyword_none S c.args.depth path place v k c.args.known.matching apps c.args.way.now.left c.open_keyword.new.way.left c.in_ok-open_keyword.ensures.left (rw (same, q) at none)) c.in_err-tally.ensures)
 
-pub keyword_node-close_keyword-requires-clause-names : goal.keyword_node-close_keyword-requires-clause-names
-keyword_node-close_keyword-requires-clause-names g t c =
+pub applicator_node-close_keyword-requires-clause-names : goal.applicator_node-close_keyword-requires-clause-names
+applicator_node-close_keyword-requires-clause-names g t c =
     let w = c.in_ok-tally.ensures.walked.of_names in
     let o = ap length c.in_ok-open_keyword.ensures.names in
     let l = ap length w ∙ length-append (map g.W.World.text_of c.open_keyword.new.way.names.items) _ in
@@ -108,12 +109,12 @@ keyword_node-close_keyword-requires-clause-names g t c =
     let m = c.current_marks-here.ensures.names in
     omega (arith, l, e1, e2, o, m)
 
-pub keyword_node-close_keyword-requires-clause-trail : goal.keyword_node-close_keyword-requires-clause-trail
-keyword_node-close_keyword-requires-clause-trail g t c =
+pub applicator_node-close_keyword-requires-clause-trail : goal.applicator_node-close_keyword-requires-clause-trail
+applicator_node-close_keyword-requires-clause-trail g t c =
     split_at_name c.args.way.now.keyword c.applications.new.way.keyword (g.W.World.keyword_of c.args.case.keyword) (g.H.PointerText.length_at c.current_marks-here.result.keyword) c.current_marks-here.ensures.keyword (c.in_ok-tally.ensures.back.keyword ∙ c.in_ok-open_keyword.ensures.keyword)
 
-pub keyword_node-returns : goal.keyword_node-returns
-keyword_node-returns g t c =
+pub applicator_node-returns : goal.applicator_node-returns
+applicator_node-returns g t c =
     let S = g.W.World.schemas c.args.world.now in
     let path = map (g.W.World.site c.args.world.now) c.args.way.now.path in
     let place = g.W.World.site c.args.world.now c.args.case.place in
@@ -145,6 +146,7 @@ node-keywords-init g t c =
       keyword = c.in_ok-open_schema.ensures.keyword;
       instance = c.in_ok-open_schema.ensures.instance;
       falls = let l = c.in_ok-open_schema.ensures.left in omega (arith, l);
+      together = λ e. absurd (let z : false ≡ true = sym c.unknown-together.ensures ∙ e in cc);
     }
 
 pub node-keyword_node-requires : goal.node-keyword_node-requires
@@ -170,7 +172,9 @@ node-keyword_node-requires g t c κs within =
     let next = at_next (g.W.World.schemas c.args.world.now) (c.args.depth - 1) (map site c.args.way.now.path) (site c.args.place) (g.W.World.value_of c.args.value) c.is_quiet-quiet.result g.R.Reporter.takes c.next_keyword.new.judging.known.valid c.next_keyword.new.judging.known.condition c.next_keyword.new.judging.known.matching
     (map g.W.World.text_of c.args.way.now.names.items) (map g.W.World.text_of c.keywords.way.names.items) c.args.way.now.indexes.items c.keywords.way.indexes.items c.args.way.now.left c.keywords.way.left c.args.way.now.keyword c.args.way.now.instance c.args.into.now c.keywords.into k (g.W.World.listed c.next_keyword.new.judging.keywords) loop in
     let there = is_keyword_at (g.W.World.schemas c.args.world.now) (site c.args.place) c.keywords-keywords.ensures.ascending next.done next.rest k next.so.split in
-    search (rules, places, scope, names, indexes, there)
+    let listed : IsListed (g.W.World.schemas c.args.world.now) (site c.args.place) k = (next.done, next.rest, next.so.split) in
+    let together = c.keywords.invariant.together in
+    search (rules, places, scope, names, indexes, there, listed, together)
 
 pub node-returns-in_err-judged : goal.node-returns-in_err-judged
 node-returns-in_err-judged g t c =
@@ -189,7 +193,7 @@ node-returns-in_err-judged g t c =
     rw (p.1, p.2) (on_too_large (KeywordHasNone S (c.args.depth - 1) (map site c.keywords.way.path) place v k apps c.keywords.way.left) (HasNone S c.args.depth path place v c.args.way.now.left) c.in_err-judged.field-0.0
     (λ none. subst (λ d. HasNone S d path place v c.args.way.now.left) (one_less c.args.depth c.if-depth-eq0.false)
     (node_failed S g.W.World.text_of g.R.Reporter.takes (c.args.depth - 1) path place v c.is_quiet-quiet.result counts_later c.keywords-keywords.ensures.ascending k rest c.next_keyword.new.judging.known.valid c.next_keyword.new.judging.known.condition c.next_keyword.new.judging.known.matching
-    c.args.way.now c.keywords.way c.start-start.result (map site c.keywords.way.path) c.args.into.now c.keywords.into c.start-start.ensures same loop none)) c.in_err-judged.ensures)
+    c.args.way.now c.keywords.way c.start-start.result (map site c.keywords.way.path) c.args.into.now c.keywords.into c.start-start.ensures same loop none)) c.in_err-judged.ensures.done)
 
 pub node-keywords-preserved : goal.node-keywords-preserved
 node-keywords-preserved g t c =
@@ -203,7 +207,7 @@ node-keywords-preserved g t c =
     let x : g.W.World.listed c.keywords.judging.keywords ≡ k ∷ rest = c.in-Some.ensures.next in
     let loop = rw (x, sym c.next_keyword.ensures.known) at c.keywords.invariant.loop in
     let same : map site c.keywords.way.path ≡ path ++ place ∷ [] = ap (map site) c.keywords.invariant.path ∙ map-append site c.args.way.now.path (c.args.place ∷ []) in
-    let done = c.in_ok-judged.ensures in
+    let done = c.in_ok-judged.ensures.done in
     record {
       loop = loop_as S g.R.Reporter.takes (c.args.depth - 1) path place v c.is_quiet-quiet.result k rest c.next_keyword.new.judging.known.valid c.in_ok-judged.judged.passes c.with_keyword-judging.result.valid c.next_keyword.new.judging.known.condition c.with_keyword-judging.result.condition c.next_keyword.new.judging.known.matching c.with_keyword-judging.result.matching
           c.in_ok-judged.judged.held c.kind.result (map g.W.World.text_of c.args.way.now.names.items) (map g.W.World.text_of c.keyword_node.new.way.names.items) c.args.way.now.indexes.items c.keyword_node.new.way.indexes.items c.args.way.now.left c.keyword_node.new.way.left c.args.way.now.keyword c.args.way.now.instance c.args.into.now c.keyword_node.new.into
@@ -215,6 +219,7 @@ node-keywords-preserved g t c =
       keyword = done.back.keyword ∙ c.keywords.invariant.keyword;
       instance = done.back.instance ∙ c.keywords.invariant.instance;
       falls = let f = done.falls in let i = c.keywords.invariant.falls in omega (arith, f, i);
+      together = c.in_ok-judged.ensures.together;
     }
 
 pub node-returns-then-way-others : goal.node-returns-then-way-others

@@ -1,18 +1,22 @@
 use Rattle.std.proofs.Common.{◌≡◌, ◌++◌, ◌∷◌, [], ◌+◌, ◌*◌, ◌-◌, ◌<◌, ◌≤◌, length, map}
 use Rattle.js_eval.specs.Walk.Scope.{HasGrown}
 use Rattle.js_eval.specs.Walk.Told.{IsWayRestored}
+use Rattle.js_eval.specs.Walk.Visited.{AreTogether}
 use Rattle.js_eval.proofs.Recursion.Each.{EachSoFar}
 use Rattle.js_eval.proofs.Recursion.NodeTelling.{KeywordsLoop}
 use Rattle.js_eval.proofs.walking.recursion.+walk.Given as goal
 
 abbrev pub decreases-applications : goal.decreases-applications
-decreases-applications g l = 3 * l.depth + 1
+decreases-applications g l = 4 * l.depth + 1
 
 abbrev pub decreases-keyword_node : goal.decreases-keyword_node
-decreases-keyword_node g l = 3 * l.depth + 2
+decreases-keyword_node g l = 4 * l.depth + 3
+
+abbrev pub decreases-applicator_node : goal.decreases-applicator_node
+decreases-applicator_node g l = 4 * l.depth + 2
 
 abbrev pub decreases-node : goal.decreases-node
-decreases-node g l = 3 * l.depth
+decreases-node g l = 4 * l.depth
 
 abbrev pub invariant-applications-each : goal.invariant-applications-each
 invariant-applications-each g l =
@@ -38,6 +42,7 @@ invariant-node-keywords g l =
       keyword : l.way.keyword ≡ l.fn.way.keyword;
       instance : l.way.instance ≡ l.fn.way.instance;
       falls : l.way.left < l.fn.way.left;
+      together : AreTogether (g.W.World.schemas l.world) (g.W.World.site l.world l.place) (g.W.World.value_of l.value) l.together;
     }
 
 abbrev pub decreases-node-keywords : goal.decreases-node-keywords
