@@ -10,4 +10,3 @@ pub mod Listed
 pub mod Halves
 pub mod Counting
 pub mod Telling
-pub mod RegexCrosses

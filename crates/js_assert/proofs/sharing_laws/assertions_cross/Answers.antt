@@ -28,8 +28,11 @@ returns-clause-send c =
     let count : IsSend (as_row u64-field) = search sendable in
     let truth : IsSend (as_row bool-field) = search sendable in
     let w = Box-send Whole.the_row whole in
-    view_send Inside.the_row _ _ _ _ (declared_send Inside.the_type (variants_send Test.enum
-      ((types, tt), ((Box-send Choices.the_row choices, tt), ((Box-send Doc.the_row doc, tt), ((nonzero, tt), ((w, tt), ((w, tt), ((w, tt), ((w, tt), ((count, tt), ((count, tt), ((c.patterns_cross.ensures.send, tt), ((count, tt), ((count, tt), ((truth, tt), ((count, tt), ((count, tt), ((count, tt), ((count, tt), ((Vec-send Text.the_row text, tt), ((Vec-send Dependence.the_row dependence, tt), tt)))))))))))))))))))), (truth, tt)))
+    view_send Inside.the_row _ _ _ _ (declared_send Inside.the_type (
+      variants_send Test.enum
+          ((types, tt), ((Box-send Choices.the_row choices, tt), ((Box-send Doc.the_row doc, tt), ((nonzero, tt), ((w, tt), ((w, tt), ((w, tt), ((w, tt), ((count, tt), ((count, tt), ((c.patterns_cross.ensures.send, tt), ((count, tt), ((count, tt), ((truth, tt), ((count, tt), ((count, tt), ((count, tt), ((count, tt), ((Vec-send Text.the_row text, tt), ((Vec-send Dependence.the_row dependence, tt), tt)))))))))))))))))))),
+      (truth, tt),
+    ))
 
 pub returns-clause-sync : goal.returns-clause-sync
 returns-clause-sync c =
@@ -43,5 +46,8 @@ returns-clause-sync c =
     let count : IsSync (as_row u64-field) = search sendable in
     let truth : IsSync (as_row bool-field) = search sendable in
     let w = Box-sync Whole.the_row whole in
-    view_sync Inside.the_row _ _ _ _ (declared_sync Inside.the_type (variants_sync Test.enum
-      ((types, tt), ((Box-sync Choices.the_row choices, tt), ((Box-sync Doc.the_row doc, tt), ((nonzero, tt), ((w, tt), ((w, tt), ((w, tt), ((w, tt), ((count, tt), ((count, tt), ((c.patterns_cross.ensures.sync, tt), ((count, tt), ((count, tt), ((truth, tt), ((count, tt), ((count, tt), ((count, tt), ((count, tt), ((Vec-sync Text.the_row text, tt), ((Vec-sync Dependence.the_row dependence, tt), tt)))))))))))))))))))), (truth, tt)))
+    view_sync Inside.the_row _ _ _ _ (declared_sync Inside.the_type (
+      variants_sync Test.enum
+          ((types, tt), ((Box-sync Choices.the_row choices, tt), ((Box-sync Doc.the_row doc, tt), ((nonzero, tt), ((w, tt), ((w, tt), ((w, tt), ((w, tt), ((count, tt), ((count, tt), ((c.patterns_cross.ensures.sync, tt), ((count, tt), ((count, tt), ((truth, tt), ((count, tt), ((count, tt), ((count, tt), ((count, tt), ((Vec-sync Text.the_row text, tt), ((Vec-sync Dependence.the_row dependence, tt), tt)))))))))))))))))))),
+      (truth, tt),
+    ))
