@@ -1,7 +1,6 @@
 -- Each part but assertions and patterns crosses threads by `crosses`; its fact is of a parameter, which says the same of
 -- the type.
 use denote.Exit.{yes}
-use denote.RattleType.{RattleType}
 use denote.Builtin.{usize}
 use denote.Param.Send.{IsSend, IsSync, sendable, view_send, view_sync}
 use denote.Param.SendFields.{declared_send, declared_sync}
