@@ -15,11 +15,13 @@
    Texts (URIs, documents, instances, output) are bytes with a length; no zero ends them. The library reads a text that
    you pass during the call only, so it stays yours. No pointer that you pass may be null, not even with the length 0.
 
-   After each call except jschema_text the handle has the text of that call: the output of a check, the list of
-   jschema_places; for JSCHEMA_REFUSED the line that says what is refused; otherwise none. jschema_text copies it out.
+   After each call except jschema_text and jschema_share the handle has the text of that call: the output of a check,
+   the list of jschema_places; for JSCHEMA_REFUSED the line that says what is refused; otherwise none. jschema_text
+   copies it out.
 
    Threads: give a handle to one call at a time. Between calls it may go to another thread, if a lock, or a thread's
-   start or end, orders the calls. Threads that work side by side need a handle each. */
+   start or end, orders the calls. Threads that work side by side need a handle each: jschema_share makes more handles
+   on the same finished schemas, without a copy of them. */
 #ifndef JSCHEMA_H
 #define JSCHEMA_H
 
@@ -86,6 +88,12 @@ uint32_t jschema_places(jschema *handle);
    JSCHEMA_REFUSED: the URI is refused, or names no schema.
    After anything but JSCHEMA_DONE, *entry and the handle's numbers are as before. */
 uint32_t jschema_entry(jschema *handle, const uint8_t *uri, size_t uri_length, size_t *entry);
+
+/* Makes `other` a second handle on the same finished schemas, for another thread, with the numbers that this handle has
+   so far. No schema is copied; the last handle frees them. What `other` held is freed first.
+   JSCHEMA_MISUSED: this handle is empty or not finished. JSCHEMA_FAILED: out of memory.
+   After anything but JSCHEMA_DONE, `other` is as before. This handle is as before, with its text. */
+uint32_t jschema_share(jschema *handle, jschema *other);
 
 /* Checks an instance (a JSON text) against the schema with this number. The text is the output in the format: a JSON
    text in UTF-8 with a line feed at its end.

@@ -39,6 +39,9 @@ static void expect_only_new(const char *state, jschema *handle) {
     expect(state, handle, jschema_entry(handle, URI, &entry), JSCHEMA_MISUSED, "");
     expect(state, handle, jschema_check(handle, 0, TEXT("1"), JSCHEMA_FLAG), JSCHEMA_MISUSED, "");
     expect_that("an entry that isn't found has no number", entry == 7);
+    jschema other = JSCHEMA_EMPTY;
+    expect(state, handle, jschema_share(handle, &other), JSCHEMA_MISUSED, "");
+    expect("nothing is shared", &other, jschema_finish(&other), JSCHEMA_MISUSED, "");
     expect_that("an empty handle has no text", jschema_text(handle, out, 1) == 0 && out[0] == 'x');
 }
 
@@ -126,6 +129,37 @@ static void test_finished(void) {
     jschema_free(&handle);
 }
 
+/* Handles on the same schemas: with the same numbers, each with its own text, and each until it is freed itself. */
+static void test_shared(void) {
+    jschema handle = JSCHEMA_EMPTY, other = JSCHEMA_EMPTY;
+    size_t entry = 7, number = 7;
+    jschema_new(&handle);
+    jschema_add(&handle, URI, INTEGER);
+    jschema_new(&other);
+    expect("documents before", &other, jschema_add(&other, OTHER, TEXT("true")), JSCHEMA_DONE, "");
+    expect("not finished", &handle, jschema_share(&handle, &other), JSCHEMA_MISUSED, "");
+    expect("they stay", &other, jschema_finish(&other), JSCHEMA_DONE, "");
+    expect("as they were", &other, jschema_places(&other), JSCHEMA_DONE, "https://example.com/t#\n");
+    jschema_finish(&handle);
+    jschema_entry(&handle, URI, &entry);
+    jschema_check(&handle, entry, TEXT("\"a\""), JSCHEMA_FLAG);
+    expect("share", &handle, jschema_share(&handle, &other), JSCHEMA_DONE, INVALID);
+    expect("a text of its own", &other, jschema_add(&other, OTHER, TEXT("true")), JSCHEMA_MISUSED, "");
+    expect("the same number", &other, jschema_check(&other, entry, TEXT("1"), JSCHEMA_FLAG), JSCHEMA_DONE, VALID);
+    expect("the same places", &other, jschema_places(&other), JSCHEMA_DONE, "https://example.com/s#\n");
+    expect("a number of its own", &other, jschema_entry(&other, URI, &number), JSCHEMA_DONE, "");
+    expect_that("the next number", number == 1);
+    expect("not the first one's", &handle, jschema_check(&handle, 1, TEXT("1"), JSCHEMA_FLAG), JSCHEMA_MISUSED, "");
+    jschema_free(&handle);
+    expect("after the first is freed", &other, jschema_check(&other, number, TEXT("\"a\""), JSCHEMA_FLAG),
+           JSCHEMA_INVALID, INVALID);
+    expect("share back", &other, jschema_share(&other, &handle), JSCHEMA_DONE, INVALID);
+    jschema_free(&other);
+    expect("after the second is freed", &handle, jschema_check(&handle, 1, TEXT("1"), JSCHEMA_FLAG), JSCHEMA_DONE,
+           VALID);
+    jschema_free(&handle);
+}
+
 /* As much of a text as fits is copied, and the rest of the room stays. */
 static void test_text(void) {
     jschema handle = JSCHEMA_EMPTY;
@@ -150,6 +184,7 @@ int main(void) {
     test_empty();
     test_adding();
     test_finished();
+    test_shared();
     test_text();
     expect_that("the version", jschema_version() == 100);
     printf("%d passed, %d failed\n", passed, failed);

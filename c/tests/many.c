@@ -34,6 +34,13 @@ static void round_of(long checks) {
     }
     jschema_free(&handle);
     for (long i = 0; i < checks / 100; i++) {
+        jschema other = made(&entry), more = JSCHEMA_EMPTY;
+        if (jschema_share(&other, &more) || jschema_share(&more, &other)) give_up("not shared");
+        jschema_free(&other);
+        if (jschema_check(&more, entry, TEXT("[]"), JSCHEMA_FLAG)) give_up("another verdict");
+        jschema_free(&more);
+    }
+    for (long i = 0; i < checks / 100; i++) {
         jschema other = made(&entry);
         jschema_free(&other);
     }

@@ -21,7 +21,7 @@ static uint8_t said[1 << 14];
     }
 
 int main(void) {
-    jschema handle = JSCHEMA_EMPTY;
+    jschema handle = JSCHEMA_EMPTY, other = JSCHEMA_EMPTY;
     size_t entry = 0;
     setvbuf(stdout, printed, _IOFBF, sizeof printed);
     STEP("new", jschema_new(&handle));
@@ -33,6 +33,10 @@ int main(void) {
     STEP("places", jschema_places(&handle));
     STEP("refused entry", jschema_entry(&handle, TEXT("https://example.com/u"), &entry));
     STEP("entry", jschema_entry(&handle, URI, &entry));
+    STEP("share", jschema_share(&handle, &other));
+    jschema_free(&handle);
+    STEP("share back", jschema_share(&other, &handle));
+    jschema_free(&other);
     STEP("refused instance", jschema_check(&handle, entry, TEXT("{\"a\": 0.5}"), JSCHEMA_FLAG));
     for (uint32_t format = JSCHEMA_FLAG; format <= JSCHEMA_MERGED; format++) {
         STEP("check", jschema_check(&handle, entry, TEXT("{\"age\": -1, \"x\": \"yyy\"}"), format));

@@ -4,6 +4,7 @@ from __future__ import annotations
 import ctypes
 import ctypes.util
 import os
+import threading
 from ctypes import POINTER, byref, c_bool, c_char_p, c_size_t, c_uint32, c_void_p
 from pathlib import Path
 from typing import Any, Optional
@@ -52,6 +53,7 @@ def _load(path: str) -> ctypes.CDLL:
                 ("finish", c_uint32, (handle,)),
                 ("places", c_uint32, (handle,)),
                 ("entry", c_uint32, (handle, c_char_p, c_size_t, POINTER(c_size_t))),
+                ("share", c_uint32, (handle, handle)),
                 ("check", c_uint32, (handle, c_size_t, c_char_p, c_size_t, c_uint32)),
                 ("text", c_size_t, (handle, c_char_p, c_size_t)),
                 ("free", None, (handle,))):
@@ -88,6 +90,13 @@ class _Schemas:
 
     def finish(self) -> None:
         self._done(self._library.jschema_finish(self._handle))
+
+    def shared(self) -> _Schemas:
+        """Another handle on the same finished schemas."""
+        other = _Schemas(self._library)
+        self._done(self._library.jschema_share(self._handle, other._handle))
+        other.uris = self.uris
+        return other
 
     def places(self) -> list[str]:
         self._done(self._library.jschema_places(self._handle))
@@ -132,32 +141,34 @@ class _Schemas:
         raise fault_of(line, self.uris) or EngineError(
             f"the library answered status {status}: {line.strip() or 'no message'}")
 
+    def free(self) -> None:
+        self._library.jschema_free(self._handle)
+
     def __del__(self) -> None:
         if hasattr(self, "_handle"):
-            self._library.jschema_free(self._handle)
+            self.free()
 
 
 class LibraryEngine:
-    """The engine. Each thread that checks at the same time as others has schemas of its own, which are made when they
-    are needed and kept."""
+    """The engine. Each thread that checks at the same time as others has a handle of its own on the same schemas. It is
+    made when it is needed, and kept."""
 
     def __init__(self, library: Optional[str] = None) -> None:
         path = library or find_library()
         if path is None:
             raise EngineError("no library libjschema.so: tools/build-library in its repository makes it")
         self._library = _load(path)
-        self._documents: list[tuple[str, bytes]] = []
+        # Checks nothing once it is finished: the others are made of it, one at a time.
         self._first = _Schemas(self._library)
+        self._sharing = threading.Lock()
         # Those that no call uses. (The methods of a list are atomic.)
         self._free: list[_Schemas] = []
 
     def add(self, uri: str, document: bytes) -> None:
         self._first.add(uri, document)
-        self._documents.append((uri, document))
 
     def finish(self) -> None:
         self._first.finish()
-        self._free.append(self._first)
 
     def places(self) -> list[str]:
         schemas = self._taken()
@@ -182,21 +193,16 @@ class LibraryEngine:
 
     def close(self) -> None:
         self._free.clear()
-        self._documents.clear()
+        with self._sharing:
+            self._first.free()
 
     def _taken(self) -> _Schemas:
-        """Schemas for one call, which no other thread uses. Afterwards they go back to those that are free."""
+        """A handle for one call, which no other thread uses. Afterwards it goes back to those that are free."""
         try:
             return self._free.pop()
         except IndexError:
-            return self._copy()
-
-    def _copy(self) -> _Schemas:
-        schemas = _Schemas(self._library)
-        for uri, document in self._documents:
-            schemas.add(uri, document)
-        schemas.finish()
-        return schemas
+            with self._sharing:
+                return self._first.shared()
 
 
 def _encoded(uri: str) -> bytes:

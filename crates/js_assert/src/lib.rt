@@ -17,6 +17,7 @@ mod objects;
 mod pattern;
 mod reading;
 mod searcher;
+pub mod sharing_laws;
 mod strings;
 mod unique;
 

@@ -22,6 +22,7 @@ use crate::uri::{LONGEST, has_no_fragment, without_fragment};
 use js_doc::{Doc, Pointer, ReadFault, read};
 use std::alloc::Global;
 use std::marker::Model;
+use std::sync::Arc;
 use url::{ParseError, Url};
 
 /// A bundle has no more documents.
@@ -129,6 +130,34 @@ impl Bundle {
             Err(fault) => Err((refusal_of(alloc, fault), self)),
         }
     }
+
+    /// The same, for several owners: threads too can share the schemas (`sharing_laws`).
+    ///
+    /// # Errors
+    /// As for [`Bundle::finish`].
+    pub fn finish_shared(self, alloc: Global) -> Result<Arc<Schemas>, (Refusal, Bundle)>
+        ensures ok { IfOk result (λ s. s.value ≡ self) }
+        ensures clear { OnOk result (IsClear (candidates self)) }
+        ensures none { OnOk result (refusals self ≡ []) }
+        ensures shallow { OnOk result (NoneTooDeep self) }
+        ensures refused { IfErr result (λ p. IsRefusalOf self p.0) }
+        ensures back { IfErr result (λ p. p.1 ≡ self) }
+    {
+        match Arc::new(alloc, self.finish(alloc)?) {
+            Ok(schemas) => Ok(schemas),
+            Err(refused) => Err((
+                refusal_of(alloc, CheckFault::Memory),
+                unfinished(refused.value),
+            )),
+        }
+    }
+}
+
+fn unfinished(schemas: Schemas) -> Bundle
+    ensures { result ≡ schemas }
+{
+    let Schemas { documents, kept: _ } = schemas;
+    Bundle { documents }
 }
 
 fn refusal_of(alloc: Global, fault: CheckFault) -> Refusal

@@ -17,6 +17,7 @@ mod place;
 mod refusal;
 mod scan;
 mod schemas;
+pub mod sharing_laws;
 mod uri;
 
 pub use bundle::Bundle;

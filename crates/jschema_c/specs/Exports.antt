@@ -4,7 +4,7 @@ use Rattle.jschema_c.specs.declared.session.Phase.TheVariants as phase
 use Rattle.jschema_c.specs.declared.session.Session.{Session}
 use Rattle.jschema_c.specs.declared.status.Status.{Status}
 use Rattle.jschema_c.specs.declared.status.Status.TheVariants as status
-use Rattle.jschema_c.specs.Session.{AddCall, FinishCall, ListCall, EntryCall, CheckCall}
+use Rattle.jschema_c.specs.Session.{AddCall, FinishCall, ListCall, EntryCall, CheckCall, IsFinished, finished_in}
 use Rattle.jschema_c.specs.Status.{code}
 
 -- no document, no entry, no text
@@ -41,6 +41,26 @@ abbrev pub SessionChecks : ℕ → List ℕ → ℕ → Session → Session → 
 SessionChecks entry instance format before after s =
     CheckCall before.phase before.entries.items entry instance format s after.text.items
     × ((after.phase ≡ before.phase) × (after.entries.items ≡ before.entries.items))
+
+-- a session over the same finished schemas, with the same entries, and without a text
+pub record IsSharedBy (s shared : Session) : Type 0 where
+  pub finished : IsFinished s.phase
+  pub schemas : finished_in shared.phase ≡ finished_in s.phase
+  pub entries : shared.entries.items ≡ s.entries.items
+  pub text : shared.text.items ≡ []
+
+-- a session is what a handle holds now, or that is as before
+abbrev pub IsPut : Session → Option Session → Option Session → Status → Type 0
+IsPut s before after status.Done = after ≡ Some s
+IsPut s before after status.Failed = after ≡ before
+IsPut s before after _ = ⊥
+
+-- the other handle holds a session that shares the schemas of the one, or all is as before
+abbrev pub Shares : Option Session → Option Session → Option Session → Status → Type 0
+Shares held before after status.Done = (s : Session) × (shared : Session) × (held ≡ Some s) × IsSharedBy s shared × (after ≡ Some shared)
+Shares held before after status.Misused = (after ≡ before) × ((s : Session) → held ≡ Some s → finished_in s.phase ≡ None)
+Shares held before after status.Failed = after ≡ before
+Shares held before after _ = ⊥
 
 -- as much of the text as fits is copied, and the rest stays
 abbrev pub copied : List ℕ → List ℕ → List ℕ

@@ -1,5 +1,5 @@
 -- What a session answers to each call, and what it and its text are afterwards.
-use Rattle.std.specs.Prelude.{◌≡◌, ℕ, List, [], ◌∷◌, ◌++◌, length, slice_get, Some, Result, Ok, Err, Bool, true, false, ⊤}
+use Rattle.std.specs.Prelude.{◌≡◌, ℕ, List, [], ◌∷◌, ◌++◌, length, slice_get, Option, Some, None, Result, Ok, Err, Bool, true, false, ⊤}
 use Rattle.std.specs.Str.{IsUtf8}
 use Rattle.js_tree.specs.declared.forms.Format.{Format}
 use Rattle.js_bundle.specs.Adding.{IsAdded, IsRefusedBy}
@@ -21,6 +21,11 @@ use Rattle.jschema_c.specs.declared.session.Phase.TheVariants as phase
 use Rattle.jschema_c.specs.declared.status.Status.{Status}
 use Rattle.jschema_c.specs.declared.status.Status.TheVariants as status
 use Rattle.jschema_c.specs.Status.{format_number}
+
+-- the documents, once they are finished
+abbrev pub finished_in : Phase → Option Documents
+finished_in (phase.Adding documents) = None
+finished_in (phase.Finished schemas) = Some schemas.value
 
 -- ---- the status, and the text
 
@@ -51,11 +56,11 @@ AddedTo _ uri text _ = ⊥
 -- documents were finished before, or the URI isn't UTF-8
 abbrev pub CannotAdd : Phase → List ℕ → Type 0
 CannotAdd (phase.Adding documents) uri = ¬ (IsUtf8 uri)
-CannotAdd (phase.Finished documents) uri = ⊤
+CannotAdd (phase.Finished schemas) uri = ⊤
 
 abbrev pub RefusesText : Phase → List ℕ → List ℕ → Fault → Type 0
 RefusesText (phase.Adding documents) uri text f = (r : Refusal) × IsRefusedBy (length documents) uri text r × (f ≡ fault_by r.kind r)
-RefusesText (phase.Finished documents) uri text f = ⊥
+RefusesText (phase.Finished schemas) uri text f = ⊥
 
 -- the document is added, or all is as it was
 abbrev pub Adds : List ℕ → List ℕ → Phase → Phase → Result Status Fault → Type 0
@@ -70,16 +75,16 @@ AddCall uri document old new answered text = (came : Result Status Fault) × Add
 -- ---- finishing
 
 abbrev pub FinishedAs : Phase → Phase → Type 0
-FinishedAs (phase.Adding documents) new = (new ≡ phase.Finished documents) × (refusals documents ≡ [])
-FinishedAs (phase.Finished documents) new = ⊥
+FinishedAs (phase.Adding documents) new = (finished_in new ≡ Some documents) × (refusals documents ≡ [])
+FinishedAs (phase.Finished schemas) new = ⊥
 
 abbrev pub IsFinished : Phase → Type 0
 IsFinished (phase.Adding documents) = ⊥
-IsFinished (phase.Finished documents) = ⊤
+IsFinished (phase.Finished schemas) = ⊤
 
 abbrev pub RefusesDocuments : Phase → Fault → Type 0
 RefusesDocuments (phase.Adding documents) f = (r : Refusal) × IsRefusalOf documents r × (f ≡ fault_by r.kind r)
-RefusesDocuments (phase.Finished documents) f = ⊥
+RefusesDocuments (phase.Finished schemas) f = ⊥
 
 -- the documents are finished and nothing of them is refused, or all is as it was
 abbrev pub Finishes : Phase → Phase → Result Status Fault → Type 0
@@ -95,11 +100,11 @@ FinishCall old new answered text = (came : Result Status Fault) × Finishes old 
 
 abbrev pub Listed : Phase → List ℕ → Type 0
 Listed (phase.Adding documents) text = ⊥
-Listed (phase.Finished documents) text = text ≡ lines_of (sites documents)
+Listed (phase.Finished schemas) text = text ≡ lines_of (sites schemas.value)
 
 abbrev pub CannotList : Phase → Type 0
 CannotList (phase.Adding documents) = ⊤
-CannotList (phase.Finished documents) = ⊥
+CannotList (phase.Finished schemas) = ⊥
 
 -- the text has a line for each place
 abbrev pub Lists : Phase → List ℕ → Result Status Fault → Type 0
@@ -116,17 +121,17 @@ ListCall held answered text = (given : List ℕ) × (came : Result Status Fault)
 -- one more entry is kept, the place that the URI names, and its number is how many there were
 abbrev pub Entered : Phase → List ℕ → List ℕ → List ℕ → ℕ → Type 0
 Entered (phase.Adding documents) uri old new number = ⊥
-Entered (phase.Finished documents) uri old new number =
-    (place : ℕ) × StandsFor documents place (entry_place documents uri) × (new ≡ old ++ place ∷ []) × (number ≡ length old)
+Entered (phase.Finished schemas) uri old new number =
+    (place : ℕ) × StandsFor schemas.value place (entry_place schemas.value uri) × (new ≡ old ++ place ∷ []) × (number ≡ length old)
 
 -- documents aren't finished yet, or the URI isn't UTF-8
 abbrev pub CannotEnter : Phase → List ℕ → Type 0
 CannotEnter (phase.Adding documents) uri = ⊤
-CannotEnter (phase.Finished documents) uri = ¬ (IsUtf8 uri)
+CannotEnter (phase.Finished schemas) uri = ¬ (IsUtf8 uri)
 
 abbrev pub RefusesEntry : Phase → List ℕ → Fault → Type 0
 RefusesEntry (phase.Adding documents) uri f = ⊥
-RefusesEntry (phase.Finished documents) uri f = (e : EntryFault) × IsEntryFault documents uri e × (f ≡ entry_fault_of e)
+RefusesEntry (phase.Finished schemas) uri f = (e : EntryFault) × IsEntryFault schemas.value uri e × (f ≡ entry_fault_of e)
 
 -- of the entries and the number, before and after
 abbrev pub Enters : Phase → List ℕ → List ℕ × ℕ → List ℕ × ℕ → Result Status Fault → Type 0
@@ -142,7 +147,7 @@ EntryCall schemas uri old new answered text = (came : Result Status Fault) × En
 
 -- what is asked: the place of finished documents that an entry has, and the format of a number
 pub record Asked (held : Phase) (entries : List ℕ) (entry number : ℕ) (documents : Documents) (place : ℕ) (format : Format) : Type 0 where
-  pub finished : held ≡ phase.Finished documents
+  pub finished : finished_in held ≡ Some documents
   pub kept : slice_get entries entry ≡ Some place
   pub there : is_place documents place ≡ true
   pub numbered : number ≡ format_number format

@@ -4,7 +4,7 @@
 
 ghost use Rattle.std.specs.Prelude.{◌≡◌, ◌≢◌, None, IfSome, length};
 ghost use Rattle.jschema_c.specs.Exports.{IsNew, OnHandle, SessionAdds, SessionFinishes, SessionLists, SessionEnters};
-ghost use Rattle.jschema_c.specs.Exports.{SessionChecks, copied};
+ghost use Rattle.jschema_c.specs.Exports.{AnswersNumber, IsPut, SessionChecks, Shares, copied};
 ghost use Rattle.jschema_c.specs.Status.{code};
 ghost use Rattle.jschema_c.specs.declared.status.Status.TheVariants as Status;
 
@@ -98,6 +98,26 @@ pub extern "C" fn jschema_entry(
     status.code()
 }
 
+/// Makes another handle on the same finished schemas, with the same numbers of entries: for another thread. What it
+/// held is dropped.
+#[unsafe(no_mangle)]
+pub extern "C" fn jschema_share(alloc: Global, handle: &mut Handle, other: &mut Handle) -> u32
+    ensures shares { AnswersNumber result (Shares handle.old.value other.old.value other.new.value) }
+    ensures stays { handle.new.value ≡ handle.old.value }
+{
+    let Some(session) = handle.take_session(alloc) else {
+        return Status::Misused.code();
+    };
+    let made = session.shared(alloc);
+    handle.put_session(session);
+    let status = match made {
+        Ok(Some(shared)) => put_shared(alloc, shared, other),
+        Ok(None) => Status::Misused,
+        Err(_) => Status::Failed,
+    };
+    status.code()
+}
+
 /// Checks an instance against the schema that an entry's number names.
 #[unsafe(no_mangle)]
 pub extern "C" fn jschema_check(
@@ -151,4 +171,18 @@ pub extern "C" fn jschema_version() -> u32
     ensures { result ≡ 100 }
 {
     100
+}
+
+// Puts a session into a handle, in place of what that held.
+fn put_shared(alloc: Global, shared: Session, other: &mut Handle) -> Status
+    ensures { IsPut shared other.old.value other.new.value result }
+{
+    match Box::new(alloc, shared) {
+        Ok(made) => {
+            jschema_free(alloc, other);
+            other.put_session(made);
+            Status::Done
+        }
+        Err(_) => Status::Failed,
+    }
 }

@@ -1,7 +1,8 @@
 //! What a handle holds: documents or schemas, the entries that were looked up, and a text.
-ghost use Rattle.std.specs.Prelude.{◌≡◌, [], true};
+ghost use Rattle.std.specs.Prelude.{◌≡◌, [], None, true, IfOk, MatchOption};
 ghost use Rattle.jschema_c.specs.Exports.{IsNew, SessionAdds, SessionFinishes, SessionLists, SessionEnters};
-ghost use Rattle.jschema_c.specs.Exports.{SessionChecks};
+ghost use Rattle.jschema_c.specs.Exports.{IsSharedBy, SessionChecks};
+ghost use Rattle.jschema_c.specs.Session.{finished_in};
 ghost use Rattle.jschema_c.specs.Session.{Adds, Finishes, Lists, Enters, Checks, Judges, Says, SaysFault};
 ghost use Rattle.js_bundle.specs.Schemas.{is_place, place_at};
 ghost use Rattle.js_output.specs.Outcome.{InstanceOutcome};
@@ -10,16 +11,17 @@ use crate::status::{Status, format_numbered};
 use js_bundle::{Bundle, Place, Schemas};
 use js_output::{Fault, Sink, judge, list_places, refusal_line};
 use js_tree::Format;
-use std::alloc::Global;
+use std::alloc::{AllocError, Global};
 use std::mem::replace;
+use std::sync::Arc;
 
 /// Documents, or the schemas of finished ones.
 #[derive(Drop)]
 pub enum Phase {
     /// Documents can be added.
     Adding(Bundle),
-    /// Instances can be checked.
-    Finished(Schemas),
+    /// Instances can be checked. Other sessions, in other threads too, may own the schemas as well.
+    Finished(Arc<Schemas>),
 }
 
 /// A phase, the entries that were looked up in it, and the text of the last call.
@@ -76,6 +78,26 @@ impl Session {
         answered(alloc, came, &mut self.text)
     }
 
+    /// Another session over the same finished schemas, with the same numbered entries. `None` if the documents aren't
+    /// finished.
+    ///
+    /// # Errors
+    /// `AllocError` if an allocation fails.
+    pub(crate) fn shared(&self, alloc: Global) -> Result<Option<Session>, AllocError>
+        ensures { IfOk result (λ o. MatchOption o (finished_in self.now.phase ≡ None) (IsSharedBy self.now)) }
+    {
+        let Phase::Finished(schemas) = &self.phase else {
+            return Ok(None);
+        };
+        let mut entries = Vec::with_capacity(alloc, self.entries.len())?;
+        entries.extend_from_slice(self.entries.as_slice())?;
+        Ok(Some(Session {
+            phase: Phase::Finished(schemas.clone()?),
+            entries,
+            text: Vec::new(alloc),
+        }))
+    }
+
     /// Checks an instance.
     pub(crate) fn check_instance(
         &mut self,
@@ -123,7 +145,7 @@ fn finished(alloc: Global, phase: &mut Phase) -> Result<Status, Fault>
     let Phase::Adding(bundle) = phase else {
         return Ok(Status::Misused);
     };
-    match replace(bundle, Bundle::new(alloc)).finish(alloc) {
+    match replace(bundle, Bundle::new(alloc)).finish_shared(alloc) {
         Ok(schemas) => {
             *phase = Phase::Finished(schemas);
             Ok(Status::Done)

@@ -37,6 +37,7 @@ impl<'a> Every<'a> {
     }
 
     /// The next member, as a keyword, and its turn.
+    #[inline(always)]
     pub fn next_member(&mut self) -> Option<(Turn, Keyword<'a>)>
         ensures { MatchOption result ((map pair_of self.old.left ≡ []) × (map pair_of self.new.left ≡ []))
             (λ m. (map pair_of self.old.left ≡ keyword_of m.1 ∷ map pair_of self.new.left)
@@ -84,6 +85,7 @@ impl<'a> InTurn<'a> {
     ghost use Rattle.js_eval.specs.code.Turns.{turn_of};
 
     /// The next member, as a keyword, and its turn.
+    #[inline(always)]
     pub fn next_in_turn(&mut self) -> Option<(Turn, Keyword<'a>)>
         ensures { MatchOption result ((members_left self.old ≡ []) × (members_left self.new ≡ []))
             (λ m. (members_left self.old ≡ keyword_of m.1 ∷ members_left self.new)
