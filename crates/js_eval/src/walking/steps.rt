@@ -242,8 +242,8 @@ pub(crate) fn childless_node<W: World, H: PointerText + Drop, R: Reporter<W, H>>
 {
     let passes = passes_alone(alloc, world, case, matching)?;
     let judged = Judged { passes, held: 0 };
-    if is_dropped(world, into, case.keyword, passes) {
-        way.left -= 1;
+    way.left -= 1;
+    if passes && may_drop(world, into, case.keyword) {
         return Ok(judged);
     }
     let Case {
@@ -252,7 +252,6 @@ pub(crate) fn childless_node<W: World, H: PointerText + Drop, R: Reporter<W, H>>
         value,
         keyword,
     } = case;
-    way.left -= 1;
     into.leaf_keyword(
         alloc,
         world,
@@ -376,25 +375,6 @@ fn all_pass<W: World>(
         };
     }
     Ok(together.pass)
-}
-
-// Whether the reporter would keep nothing of a keyword's leaf: it passes, and is an assertion, so that it has no note
-// then.
-#[inline(always)]
-#[tactic(auto, using(crate::proofs::SaysThere::assertion_is_silent))]
-fn is_dropped<W: World, H: PointerText + Drop, R: Reporter<W, H>>(
-    world: &W,
-    into: &R,
-    keyword: W::Keyword,
-    passes: bool,
-) -> bool
-    ensures passes { result ≡ true → passes ≡ true }
-    ensures silent { (place : Site) (v : JsonValue) (matching held : ℕ) (names : List Bytes) (indexes : List ℕ)
-        → result ≡ true → says_at (W.schemas world.now) place v matching (W.keyword_of keyword) held names indexes
-        true ≡ silent }
-    ensures drops { result ≡ true → DropsSilent R.takes into.now }
-{
-    passes && matches!(world.kind(keyword), Kind::Assertion) && into.drops_silent()
 }
 
 // Whether a keyword passes that applies no schema.
