@@ -108,7 +108,7 @@ pub extern "C" fn jschema_share(alloc: Global, handle: &mut Handle, other: &mut 
     let Some(session) = handle.take_session(alloc) else {
         return Status::Misused.code();
     };
-    let made = session.shared(alloc);
+    let made = session.share_schemas(alloc);
     handle.put_session(session);
     let status = match made {
         Ok(Some(shared)) => put_shared(alloc, shared, other),

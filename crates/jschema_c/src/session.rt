@@ -83,7 +83,7 @@ impl Session {
     ///
     /// # Errors
     /// `AllocError` if an allocation fails.
-    pub(crate) fn shared(&self, alloc: Global) -> Result<Option<Session>, AllocError>
+    pub(crate) fn share_schemas(&self, alloc: Global) -> Result<Option<Session>, AllocError>
         ensures { IfOk result (λ o. MatchOption o (finished_in self.now.phase ≡ None) (IsSharedBy self.now)) }
     {
         let Phase::Finished(schemas) = &self.phase else {
