@@ -14,7 +14,9 @@ use crate::string::Text;
 use serde_json::{Map, Value};
 use std::alloc::Global;
 
+// It stands in the two loops below, so that a value without parts costs no call.
 #[cycle(convert_owned)]
+#[inline(always)]
 pub(crate) fn convert_owned(alloc: Global, value: Value) -> Result<Doc, ReadFault>
     ensures ok { IfOk result (λ d. value_in (view value) ≡ Ok (value_of d)) }
     ensures err { IfErr result (λ e. IsConversionFault (value_in (view value)) e) }
@@ -36,6 +38,7 @@ pub(crate) fn convert_owned(alloc: Global, value: Value) -> Result<Doc, ReadFaul
 }
 
 #[cycle(convert_owned)]
+#[inline(never)]
 fn convert_owned_items(alloc: Global, values: Vec<Value>) -> Result<Vec<Doc>, ReadFault>
     ensures ok { IfOk result
         (λ v. items_in 0 (items_view values.items) ≡ Ok (items_seen v.items)) }
@@ -55,6 +58,7 @@ fn convert_owned_items(alloc: Global, values: Vec<Value>) -> Result<Vec<Doc>, Re
 }
 
 #[cycle(convert_owned)]
+#[inline(never)]
 fn convert_owned_members(alloc: Global, map: Map<String, Value>) -> Result<Members, ReadFault>
     ensures ok { IfOk result (λ m. members_in (members_view map.entries) ≡ Ok (members m)) }
     ensures err { IfErr result (λ e. IsConversionFault (members_in (members_view map.entries)) e) }
