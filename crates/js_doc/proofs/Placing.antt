@@ -1,5 +1,5 @@
 -- Where a name stands among members whose names ascend, and what is got and put there.
-use Rattle.std.proofs.Common.{◌≡◌, ℕ, ◌+◌, ◌<◌, ◌≤◌, suc, zero, List, [], ◌∷◌, ◌++◌, map, length, get_or, set, insert}
+use Rattle.std.proofs.Common.{◌≡◌, ℕ, ◌+◌, ◌-◌, ◌/◌, ◌<◌, ◌≤◌, suc, zero, List, [], ◌∷◌, ◌++◌, map, length, get_or, set, insert}
 use Rattle.std.proofs.Common.{Some, None, String, Global, Ordering, Less}
 use Rattle.std.proofs.Common.{Equal, Greater, true, string_bytes, refl, sym, ap, ◌∙◌, subst, arith}
 use Rattle.std.proofs.lemmas.Cmp.{nat_list_cmp_total}
@@ -43,6 +43,10 @@ above_same : (h x k : List ℕ) → name_cmp h x ≡ Less → name_cmp k x ≡ E
 above_same h x k e f = above h k (subst (λ y. name_cmp h y ≡ Less) (sym (name_equal k x f)) e)
 
 -- ---- a search
+
+-- the middle is one of the places
+pub middle_within : (low high n : ℕ) → low < high → high ≤ n → (low + (high - low) / 2 < high) × (low + (high - low) / 2 < n)
+middle_within low high n h fits = let below : low + (high - low) / 2 < high = omega (arith, h) in (below, omega (arith, below, fits))
 
 -- what a comparison says of an entry's name
 pub compared : (k x : List ℕ) (e : Entry) (o r : Ordering) → r ≡ name_cmp k x → x ≡ string_bytes e.0 → r ≡ o

@@ -9,6 +9,7 @@ use crate::pairs::Pairs;
 use crate::places::{place, search};
 use std::alloc::{AllocError, Global};
 use std::marker::Model;
+use std::mem;
 
 /// The members of an object: each name once, in ascending order of its bytes (RFC 8259, section 4).
 #[cycle(doc)]
@@ -135,7 +136,8 @@ impl Members {
     {
         doc.lawful();
         match place(self.entries.as_slice(), name.as_str()) {
-            Ok(rank) => self.entries[rank] = (name, doc),
+            // The old member is dropped as one: an assignment has a case for each kind of value.
+            Ok(rank) => drop(mem::replace(&mut self.entries[rank], (name, doc))),
             Err(rank) => self.entries.insert(rank, (name, doc))?,
         }
         Ok(())

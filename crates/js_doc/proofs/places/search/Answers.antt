@@ -1,5 +1,5 @@
-use Rattle.std.proofs.Common.{◌+◌, ◌-◌, ◌/◌, ◌<◌, length, get_or, Less, Equal, Greater, arith}
-use Rattle.js_doc.proofs.Placing.{compared, stands_at, goes_below, goes_above, goes_between, ranks_fit}
+use Rattle.std.proofs.Common.{◌+◌, ◌-◌, ◌/◌, length, get_or, Less, Equal, Greater, arith}
+use Rattle.js_doc.proofs.Placing.{middle_within, compared, stands_at, goes_below, goes_above, goes_between, ranks_fit}
 use Rattle.js_doc.proofs.places.search.Goals as goal
 
 pub loop-low-init : goal.loop-low-init
@@ -8,43 +8,24 @@ loop-low-init c = (omega arith, (ranks_fit c.args.name.now c.args.entries.now).1
 pub loop-low-preserved-in-Less : goal.loop-low-preserved-in-Less
 loop-low-preserved-in-Less c =
     let l = c.loop-low in
-    let es = c.args.entries.now in
-    let at = l.low + (l.high - l.low) / 2 in
-    let below : at < l.high = omega (arith, c.loop-low-test.true) in
-    let h : at < length es = omega (arith, below, l.invariant.2) in
-    let i = c.index-entries-middle.result in
-    let is = compared c.args.name.now _ (get_or es at i) Less _ c.name_order.ensures c.as_str.ensures.value c.in-Less.is in (
-      l.invariant.0,
-      goes_below c.args.name.now es at i h is,
-      omega (arith, h),
-    )
+    let within = middle_within l.low l.high (length c.args.entries.now) c.loop-low-test.true l.invariant.2 in
+    let is = compared c.args.name.now _ (get_or c.args.entries.now (l.low + (l.high - l.low) / 2) c.index-entries-middle.result) Less _ c.name_order.ensures c.as_str.ensures.value c.in-Less.is in
+    (l.invariant.0, goes_below c.args.name.now c.args.entries.now _ _ within.1 is, omega (arith, within.1))
 
 pub returns-in-Equal-clause-ok : goal.returns-in-Equal-clause-ok
 returns-in-Equal-clause-ok c =
     let l = c.loop-low in
-    let es = c.args.entries.now in
-    let at = l.low + (l.high - l.low) / 2 in
-    let below : at < l.high = omega (arith, c.loop-low-test.true) in
-    let h : at < length es = omega (arith, below, l.invariant.2) in
-    let i = c.index-entries-middle.result in
-    let is = compared c.args.name.now _ (get_or es at i) Equal _ c.name_order.ensures c.as_str.ensures.value c.in-Equal.is in
-    stands_at c.args.name.now es at i h is
+    let within = middle_within l.low l.high (length c.args.entries.now) c.loop-low-test.true l.invariant.2 in
+    let is = compared c.args.name.now _ (get_or c.args.entries.now (l.low + (l.high - l.low) / 2) c.index-entries-middle.result) Equal _ c.name_order.ensures c.as_str.ensures.value c.in-Equal.is in
+    stands_at c.args.name.now c.args.entries.now _ _ within.1 is
 
 pub loop-low-preserved : goal.loop-low-preserved
 loop-low-preserved c =
     let l = c.loop-low in
-    let es = c.args.entries.now in
-    let at = l.low + (l.high - l.low) / 2 in
-    let below : at < l.high = omega (arith, c.loop-low-test.true) in
-    let h : at < length es = omega (arith, below, l.invariant.2) in
-    let i = c.index-entries-middle.result in
-    let e = get_or es at i in
-    let is = compared c.args.name.now _ e Greater _ c.name_order.ensures c.as_str.ensures.value c.in-Greater.is in
-    let past = goes_above c.args.name.now es at i c.requires h is in (
-      omega (arith, past),
-      l.invariant.1,
-      l.invariant.2,
-    )
+    let within = middle_within l.low l.high (length c.args.entries.now) c.loop-low-test.true l.invariant.2 in
+    let is = compared c.args.name.now _ (get_or c.args.entries.now (l.low + (l.high - l.low) / 2) c.index-entries-middle.result) Greater _ c.name_order.ensures c.as_str.ensures.value c.in-Greater.is in
+    let past = goes_above c.args.name.now c.args.entries.now _ _ c.requires within.1 is in
+    (omega (arith, past), l.invariant.1, l.invariant.2)
 
 pub returns-clause-err : goal.returns-clause-err
 returns-clause-err c =
