@@ -74,11 +74,12 @@ run_through bs i n room none =
     split bs i n ∙ ap (λ b. cond b (length c + prefix_len stands (drop (i + n) bs)) (prefix_len stands c)) (eq-eqb _ _ (leading_from_mask_l needs_escape c none))
     ∙ ap (λ k. k + prefix_len stands (drop (i + n) bs)) (length-chunk i n bs room)
 
-pub run_stops : (bs : List ℕ) (i n : ℕ) → i + n ≤ length bs → n ≤ 64 → 0 < mask_l (map needs_escape (chunk i n bs)) → prefix_len stands (drop i bs) ≡ count_trailing_zeros 64 (mask_l (map needs_escape (chunk i n bs)))
-run_stops bs i n room short some =
+-- m has a bit for each byte of the vector that has to be escaped
+pub run_stops : (bs : List ℕ) (i n m : ℕ) → m ≡ mask_l (map needs_escape (chunk i n bs)) → i + n ≤ length bs → n ≤ 64 → 0 < m → prefix_len stands (drop i bs) ≡ count_trailing_zeros 64 m
+run_stops bs i n m is room short some =
     let c = chunk i n bs in
-    split bs i n ∙ ap (λ b. cond b (length c + prefix_len stands (drop (i + n) bs)) (prefix_len stands c)) (ne_eqb _ _ (λ (e : prefix_len stands c ≡ length c). omega (arith, some, empty_mask c e)))
-    ∙ sym (trailing_mask_l needs_escape 64 c (omega (arith, short, length-chunk i n bs room)) some)
+    split bs i n ∙ ap (λ b. cond b (length c + prefix_len stands (drop (i + n) bs)) (prefix_len stands c)) (ne_eqb _ _ (λ (e : prefix_len stands c ≡ length c). omega (arith, is, some, empty_mask c e)))
+    ∙ sym (trailing_mask_l needs_escape 64 c (omega (arith, short, length-chunk i n bs room)) (omega (arith, is, some))) ∙ ap (count_trailing_zeros 64) (sym is)
 
 -- the rest of a run, from a byte within it on
 past_next : (b : Bool) (all n rest : ℕ) → suc n ≤ cond b (1 + all) 0 → (n ≤ all → all ≡ n + rest) → cond b (1 + all) 0 ≡ suc n + rest
@@ -100,3 +101,9 @@ run_from bs start within end from to same =
 
 pub none_behind : (bs : List ℕ) (i : ℕ) → length bs ≤ i → prefix_len stands (drop i bs) ≡ 0
 none_behind bs i h = omega (arith, prefix_len-le-length stands (drop i bs), length-drop i bs)
+
+-- no byte of the last vector has to be escaped
+pub last_stands : (bs : List ℕ) (n : ℕ) → n ≤ length bs → mask_l (map needs_escape (chunk (length bs - n) n bs)) ≡ 0 → length bs ≡ (length bs - n) + prefix_len stands (drop (length bs - n) bs)
+last_stands bs n room none =
+    let run = run_through bs (length bs - n) n (omega (arith, room)) none in
+    omega (arith, room, run, none_behind bs (length bs - n + n) (omega (arith, room)))

@@ -48,6 +48,10 @@ above_same h x k e f = above h k (subst (λ y. name_cmp h y ≡ Less) (sym (name
 pub middle_within : (low high n : ℕ) → low < high → high ≤ n → (low + (high - low) / 2 < high) × (low + (high - low) / 2 < n)
 middle_within low high n h fits = let below : low + (high - low) / 2 < high = omega (arith, h) in (below, omega (arith, below, fits))
 
+-- so is the last one, where there are some
+pub last_place : (n : ℕ) → (n ≡ 0 → ⊥) → (n - 1 < n) × (n - 1 + 1 ≡ n)
+last_place n some = (omega (arith, some), omega (arith, some))
+
 -- what a comparison says of an entry's name
 pub compared : (k x : List ℕ) (e : Entry) (o r : Ordering) → r ≡ name_cmp k x → x ≡ string_bytes e.0 → r ≡ o
     → name_cmp k (string_bytes e.0) ≡ o

@@ -1,18 +1,15 @@
-use Rattle.std.proofs.Common.{◌-◌, length, sym, ap, ◌∙◌, arith}
-use lib.Count.{count_trailing_zeros}
+use Rattle.std.proofs.Common.{◌-◌, length, ◌∙◌, arith}
 use Rattle.js_doc.proofs.EscapeMasks.{run_bound, run_from, run_through, run_stops}
 use Rattle.js_doc.proofs.runs.run_end.Goals as goal
 
 pub returns-then-escapes-ne0-clause-value : goal.returns-then-escapes-ne0-clause-value
 returns-then-escapes-ne0-clause-value c =
-    let found = c.escapes_of_16-escapes in
-    let run = run_stops c.args.bytes.now c.loop-end.end 16 (omega arith) (omega arith) (omega (arith, found.ensures)) ∙ ap (count_trailing_zeros 64) (sym found.ensures) in
+    let run = run_stops c.args.bytes.now c.loop-end.end 16 _ c.escapes_of_16-escapes.ensures (omega arith) (omega arith) (omega arith) in
     omega (arith, run, c.loop-end.invariant.0)
 
 pub returns-then-escapes-ne0-clause-bound : goal.returns-then-escapes-ne0-clause-bound
 returns-then-escapes-ne0-clause-bound c =
-    let found = c.escapes_of_16-escapes in
-    let run = run_stops c.args.bytes.now c.loop-end.end 16 (omega arith) (omega arith) (omega (arith, found.ensures)) ∙ ap (count_trailing_zeros 64) (sym found.ensures) in
+    let run = run_stops c.args.bytes.now c.loop-end.end 16 _ c.escapes_of_16-escapes.ensures (omega arith) (omega arith) (omega arith) in
     omega (arith, run, run_bound c.args.bytes.now c.loop-end.end c.loop-end.invariant.1)
 
 pub loop-end-preserved : goal.loop-end-preserved

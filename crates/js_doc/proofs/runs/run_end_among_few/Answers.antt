@@ -1,12 +1,10 @@
-use Rattle.std.proofs.Common.{◌+◌, ◌-◌, length, sym, ap, ◌∙◌, arith}
-use lib.Count.{count_trailing_zeros}
+use Rattle.std.proofs.Common.{◌+◌, ◌-◌, length, ◌∙◌, arith}
 use Rattle.js_doc.proofs.EscapeMasks.{run_from, run_through, run_stops}
 use Rattle.js_doc.proofs.runs.run_end_among_few.Goals as goal
 
 pub returns-then-escapes-ne0 : goal.returns-then-escapes-ne0
 returns-then-escapes-ne0 c =
-    let found = c.escapes_of_8-escapes in
-    let run = run_stops c.args.bytes.now c.args.start 8 (omega arith) (omega arith) (omega (arith, found.ensures)) ∙ ap (count_trailing_zeros 64) (sym found.ensures) in
+    let run = run_stops c.args.bytes.now c.args.start 8 _ c.escapes_of_8-escapes.ensures (omega arith) (omega arith) (omega arith) in
     omega (arith, run)
 
 pub returns : goal.returns
