@@ -1,5 +1,5 @@
 //! From `serde_json`'s value to ours, whose texts move: one tree goes as the other comes.
-ghost use Rattle.std.specs.Prelude.{◌≡◌, Ok, IfOk, IfErr};
+ghost use Rattle.std.specs.Prelude.{◌≡◌, ◌≤◌, [], Ok, IfOk, IfErr, vec_capacity};
 ghost use Rattle.serde_json.specs.View.{view, items_view, members_view};
 ghost use Rattle.js_doc.specs.Value.{members};
 ghost use Rattle.js_doc.specs.Seen.{value_of, items_seen};
@@ -9,6 +9,7 @@ ghost use Rattle.js_doc.specs.Reading.{IsConversionFault};
 use crate::doc::Doc;
 use crate::items::Items;
 use crate::members::Members;
+use crate::memory::Memory;
 use crate::reading::{ReadFault, convert_number, index_token};
 use crate::string::Text;
 use serde_json::{Map, Value};
@@ -44,10 +45,10 @@ fn convert_owned_items(alloc: Global, values: Vec<Value>) -> Result<Vec<Doc>, Re
         (λ v. items_in 0 (items_view values.items) ≡ Ok (items_seen v.items)) }
     ensures err { IfErr result (λ e. IsConversionFault (items_in 0 (items_view values.items)) e) }
 {
-    let mut docs = Vec::with_capacity(alloc, values.len())?;
+    let mut docs = room(alloc, values.len())?;
     for value in values {
         match convert_owned(alloc, value) {
-            Ok(doc) => docs.push(doc)?,
+            Ok(doc) => docs.push_reserved(doc),
             Err(fault) => {
                 let token = index_token(alloc, docs.len())?;
                 return Err(fault.lifted(token));
@@ -71,4 +72,13 @@ fn convert_owned_members(alloc: Global, map: Map<String, Value>) -> Result<Membe
         }
     }
     Ok(members)
+}
+
+// No values, with room for so many.
+pub(crate) fn room(alloc: Global, len: usize) -> Result<Vec<Doc>, Memory>
+    ensures items { IfOk result (λ v. v.items ≡ []) }
+    ensures room { IfOk result (λ v. len ≤ vec_capacity v) }
+{
+    let docs = Vec::with_capacity(alloc, len)?;
+    Ok(docs)
 }

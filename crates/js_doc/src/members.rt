@@ -7,7 +7,7 @@ use crate::doc::Doc;
 use crate::memory::Memory;
 use crate::pairs::Pairs;
 use crate::places::{place, search};
-use std::alloc::{AllocError, Global};
+use std::alloc::Global;
 use std::marker::Model;
 use std::mem;
 
@@ -62,8 +62,8 @@ impl Members {
     /// No members, with room for some.
     ///
     /// # Errors
-    /// No memory.
-    pub(crate) fn with_capacity(alloc: Global, capacity: usize) -> Result<Members, AllocError>
+    /// `Memory`.
+    pub(crate) fn with_capacity(alloc: Global, capacity: usize) -> Result<Members, Memory>
         ensures { IfOk result (λ m. m ≡ []) }
     {
         Ok(Members {

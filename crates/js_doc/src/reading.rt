@@ -8,7 +8,7 @@ ghost use Rattle.js_doc.specs.Seen.{value_of, items_seen};
 ghost use Rattle.js_doc.specs.WholeNumbers.{whole_number, value_in, items_in, members_in};
 ghost use Rattle.js_doc.specs.Reading.{IsReadAs, IsReadFault, IsConversionFault, Lifts};
 
-use crate::conversion::convert_owned;
+use crate::conversion::{convert_owned, room};
 use crate::doc::Doc;
 use crate::items::Items;
 use crate::members::Members;
@@ -17,7 +17,7 @@ use crate::pointer::Pointer;
 use crate::string::Text;
 use crate::whole::Whole;
 use serde_json::{Map, Number, Value};
-use std::alloc::{AllocError, AllocFailed, Global};
+use std::alloc::Global;
 
 /// Why a text isn't read.
 #[derive(Debug, PartialEq, Eq, Drop)]
@@ -29,26 +29,6 @@ pub enum ReadFault {
     /// 3: a number isn't a whole one from -2^63 to 2^64 - 1. The pointer leads to the first such number in
     /// preorder, an object's members by name ascending.
     NotWhole(Pointer),
-}
-
-impl From<AllocError> for ReadFault {
-    ghost use Rattle.js_doc.specs.declared.reading.ReadFault.TheVariants.{Memory};
-
-    ghost from_gives = { λ _ e. e ≡ Memory };
-
-    fn from(_refused: AllocError) -> ReadFault {
-        ReadFault::Memory
-    }
-}
-
-impl<T: Drop> From<AllocFailed<T>> for ReadFault {
-    ghost use Rattle.js_doc.specs.declared.reading.ReadFault.TheVariants.{Memory};
-
-    ghost from_gives = { λ _ e. e ≡ Memory };
-
-    fn from(_refused: AllocFailed<T>) -> ReadFault {
-        ReadFault::Memory
-    }
 }
 
 impl From<Memory> for ReadFault {
@@ -138,7 +118,7 @@ fn convert(alloc: Global, value: &Value) -> Result<Doc, ReadFault>
         Value::Null => Ok(Doc::Null),
         Value::Bool(b) => Ok(Doc::Truth(*b)),
         Value::Number(number) => convert_number(alloc, number),
-        Value::String(text) => Ok(Doc::Text(Text::new(text.clone()?))),
+        Value::String(text) => Ok(Doc::Text(text_of(text)?)),
         Value::Array(values) => {
             let docs = convert_items(alloc, values)?;
             Ok(Doc::List(Items::new(docs)))
@@ -156,10 +136,10 @@ fn convert_items(alloc: Global, values: &Vec<Value>) -> Result<Vec<Doc>, ReadFau
         (λ v. items_in 0 (items_view values.now.items) ≡ Ok (items_seen v.items)) }
     ensures err { IfErr result (λ e. IsConversionFault (items_in 0 (items_view values.now.items)) e) }
 {
-    let mut docs = Vec::with_capacity(alloc, values.len())?;
+    let mut docs = room(alloc, values.len())?;
     for value in values {
         match convert(alloc, value) {
-            Ok(doc) => docs.push(doc)?,
+            Ok(doc) => docs.push_reserved(doc),
             Err(fault) => {
                 let token = index_token(alloc, docs.len())?;
                 return Err(fault.lifted(token));
@@ -177,9 +157,9 @@ fn convert_members(alloc: Global, map: &Map<String, Value>) -> Result<Members, R
     let mut members = Members::new(alloc);
     for (name, value) in map.iter() {
         match convert(alloc, value) {
-            Ok(doc) => members.put(name.clone()?, doc)?,
+            Ok(doc) => members.put(text_of(name)?.into_string(), doc)?,
             Err(fault) => {
-                let token = name_token(name)?;
+                let token = text_of(name)?;
                 return Err(fault.lifted(token));
             }
         }
@@ -187,16 +167,16 @@ fn convert_members(alloc: Global, map: &Map<String, Value>) -> Result<Members, R
     Ok(members)
 }
 
-pub(crate) fn index_token(alloc: Global, index: usize) -> Result<Text, AllocError>
+pub(crate) fn index_token(alloc: Global, index: usize) -> Result<Text, Memory>
     ensures { IfOk result (λ t. t ≡ decimal index) }
 {
     let text = index.to_string(alloc)?;
     Ok(Text::new(text))
 }
 
-fn name_token(name: &String) -> Result<Text, AllocError>
-    ensures { IfOk result (λ t. t ≡ string_bytes name.now) }
+fn text_of(string: &String) -> Result<Text, Memory>
+    ensures { IfOk result (λ t. t ≡ string_bytes string.now) }
 {
-    let text = name.clone()?;
+    let text = string.clone()?;
     Ok(Text::new(text))
 }

@@ -1,5 +1,5 @@
 use Rattle.std.proofs.Common.{◌≡◌, ◌+◌, [], ◌∷◌, ◌++◌, length, Ok, string_bytes, decimal, sym, ap, ◌∙◌, subst, append_assoc, append-nil, arith}
-use Rattle.std.proofs.lemmas.List.{length_push, nil_from_length}
+use Rattle.std.proofs.lemmas.List.{length-append, length_push, nil_from_length}
 use Rattle.std.specs.List.Sorted.{IsStrictlySortedBy}
 use Rattle.std.specs.Map.{keys_of}
 use Rattle.std.specs.String.{string_cmp}
@@ -13,7 +13,14 @@ use Rattle.js_doc.proofs.conversion.+convert_owned.Goals as goal
 
 pub convert_owned_items-loop-value-init : goal.convert_owned_items-loop-value-init
 convert_owned_items-loop-value-init t c =
-    let none = c.in_ok-docs.ensures.items in ([], sym c.into_iter-value-iterator.ensures.into_iter_gives.0, ap (λ ds. Ok (items_seen ds)) (sym none), ap length none)
+    let none = c.in_ok-docs.ensures.items in ([], sym c.into_iter-value-iterator.ensures.into_iter_gives.0, ap (λ ds. Ok (items_seen ds)) (sym none), ap length none, omega (arith, c.in_ok-docs.ensures.room, c.len.ensures, c.args.values.ok.0))
+
+pub convert_owned_items-push_reserved-requires : goal.convert_owned_items-push_reserved-requires
+convert_owned_items-push_reserved-requires t c =
+    let l = c.loop-value in
+    let left = c.next.new.self.rest.items in
+    let all : c.args.values.items ≡ l.invariant.0 ++ c.in-Some.value ∷ left = l.invariant.1 ∙ ap (λ ws. l.invariant.0 ++ ws) c.in-Some.ensures.steps.0 in
+    omega (arith, l.docs.ok.0, l.invariant.3, l.invariant.4, ap length all, length-append l.invariant.0 (c.in-Some.value ∷ left))
 
 pub convert_owned_items-loop-value-preserved : goal.convert_owned_items-loop-value-preserved
 convert_owned_items-loop-value-preserved t c =
@@ -22,11 +29,12 @@ convert_owned_items-loop-value-preserved t c =
     let v = c.in-Some.value in
     let left = c.next.new.self.rest.items in
     let all : c.args.values.items ≡ done ++ v ∷ left = l.invariant.1 ∙ ap (λ ws. done ++ ws) c.in-Some.ensures.steps.0 in
-    let pushed = c.in_ok-push-in-Ok.ensures.items in (
+    let pushed = c.push_reserved.ensures.items in (
       done ++ v ∷ [],
       all ∙ sym (append_assoc done (v ∷ []) left),
       items_extend 0 done v _ _ l.invariant.2 c.in-Ok.ensures.ok ∙ ap Ok (sym (snoc_items_seen l.docs.items c.in-Ok.doc) ∙ ap items_seen (sym pushed)),
       ap length pushed ∙ length_push l.docs.items c.in-Ok.doc ∙ ap (λ n. n + 1) l.invariant.3 ∙ sym (length_push done v),
+      omega (arith, l.invariant.4, c.push_reserved.ensures.capacity),
     )
 
 pub convert_owned_items-returns-in-Err-clause-err : goal.convert_owned_items-returns-in-Err-clause-err

@@ -1,4 +1,4 @@
-use Rattle.std.proofs.Common.{◌≡◌, Ok, List, ◌++◌, length}
+use Rattle.std.proofs.Common.{◌≡◌, ◌≤◌, Ok, List, ◌++◌, length, vec_capacity}
 use Rattle.serde_json.specs.View.{items_view, members_view}
 use Rattle.serde_json.specs.declared.value.Value.{Value}
 use Rattle.js_doc.specs.Value.{members}
@@ -9,7 +9,7 @@ use Rattle.js_doc.proofs.conversion.+convert_owned.Given as goal
 
 abbrev pub invariant-convert_owned_items-loop-value : goal.invariant-convert_owned_items-loop-value
 invariant-convert_owned_items-loop-value l =
-    (done : List Value) × (l.fn.values.items ≡ done ++ l.value-iterator.rest.items) × (items_in 0 (items_view done) ≡ Ok (items_seen l.docs.items)) × (length l.docs.items ≡ length done)
+    (done : List Value) × (l.fn.values.items ≡ done ++ l.value-iterator.rest.items) × (items_in 0 (items_view done) ≡ Ok (items_seen l.docs.items)) × (length l.docs.items ≡ length done) × (length l.fn.values.items ≤ vec_capacity l.docs)
 
 abbrev pub invariant-convert_owned_members-loop-name : goal.invariant-convert_owned_members-loop-name
 invariant-convert_owned_members-loop-name l =

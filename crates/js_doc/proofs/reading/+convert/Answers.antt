@@ -35,10 +35,11 @@ convert_items-loop-value-preserved t c =
     let here : get_or xs l.value-index v ≡ v = search rules in
     let next : take (l.value-index + 1) xs ≡ take l.value-index xs ++ v ∷ [] =
     take_more xs l.value-index v (search rules) ∙ ap (λ w. take l.value-index xs ++ w ∷ []) here in
-    let pushed = c.in_ok-push-in-Ok.ensures.items in (
+    let pushed = c.push_reserved.ensures.items in (
       ap (λ ws. items_in 0 (items_view ws)) next ∙ items_extend 0 (take l.value-index xs) v _ _ l.invariant.0 c.in-Ok.ensures.ok
           ∙ ap Ok (sym (snoc_items_seen l.docs.items c.in-Ok.doc) ∙ ap items_seen (sym pushed)),
       ap length pushed ∙ length_push l.docs.items c.in-Ok.doc ∙ ap (λ n. n + 1) l.invariant.1,
+      omega (arith, l.invariant.2, c.push_reserved.ensures.capacity),
     )
 
 pub convert_members-loop-name-preserved : goal.convert_members-loop-name-preserved
@@ -48,7 +49,7 @@ convert_members-loop-name-preserved t c =
     let e : Entry = (c.in-Some.name.now, c.in-Some.value.now) in
     let left = c.next.new.self in
     let all : c.args.map.now.entries ≡ done ++ e ∷ left = l.invariant.1 ∙ ap (λ es. done ++ es) c.in-Some.ensures.steps in
-    let named : string_bytes c.in_ok-clone-in-Ok.field-0 ≡ string_bytes e.0 = c.in_ok-clone-in-Ok.ensures.cases in (
+    let named : string_bytes c.into_string.result ≡ string_bytes e.0 = c.into_string.ensures ∙ c.in_ok-text_of-in-Ok.ensures in (
       done ++ e ∷ [],
       all ∙ sym (append_assoc done (e ∷ []) left),
       members_extend done e left l.members _ l.invariant.2 c.in-Ok.ensures.ok (subst (λ es. IsStrictlySortedBy string_cmp (keys_of es)) all c.iter-name-items.ensures.ordered) ∙ ap (λ ns. Ok (members ns)) (ap (λ k. put k (value_of c.in-Ok.doc) l.members) (sym named) ∙ sym c.in_ok-put-in-Ok.ensures.ok),

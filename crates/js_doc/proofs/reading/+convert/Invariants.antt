@@ -1,4 +1,4 @@
-use Rattle.std.proofs.Common.{◌≡◌, Ok, List, ◌++◌, take, length}
+use Rattle.std.proofs.Common.{◌≡◌, ◌≤◌, Ok, List, ◌++◌, take, length, vec_capacity}
 use Rattle.serde_json.specs.View.{items_view, members_view}
 use Rattle.js_doc.specs.Value.{members}
 use Rattle.js_doc.specs.Seen.{items_seen}
@@ -8,7 +8,7 @@ use Rattle.js_doc.proofs.reading.+convert.Given as goal
 
 abbrev pub invariant-convert_items-loop-value : goal.invariant-convert_items-loop-value
 invariant-convert_items-loop-value l =
-    (items_in 0 (items_view (take l.value-index l.value-items)) ≡ Ok (items_seen l.docs.items)) × (length l.docs.items ≡ l.value-index)
+    (items_in 0 (items_view (take l.value-index l.value-items)) ≡ Ok (items_seen l.docs.items)) × (length l.docs.items ≡ l.value-index) × (length l.value-items ≤ vec_capacity l.docs)
 
 abbrev pub invariant-convert_members-loop-name : goal.invariant-convert_members-loop-name
 invariant-convert_members-loop-name l =
