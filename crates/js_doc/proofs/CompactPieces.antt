@@ -4,7 +4,9 @@ use Rattle.std.proofs.lemmas.List.{drop_more, drop_all}
 use Rattle.js_doc.specs.Seen.{value_of, items_seen, members_seen}
 use Rattle.js_doc.specs.Compact.{quoted, compact, comma_if, compact_items, compact_members}
 use Rattle.js_doc.specs.declared.doc.Doc.{Doc}
+use Rattle.js_doc.specs.BytesOut.{Progress, Goes}
 use Rattle.js_doc.proofs.Alike.{Entry}
+use Rattle.js_doc.proofs.BytesGone.{Wrote, goes_on, same_left}
 
 pub item_left : (ds : List Doc) (i : ℕ) (d : Doc) (later : Bool) → i < length ds → get_or ds i d ≡ d
     → compact_items later (items_seen (drop i ds)) ≡ comma_if later ++ (compact (value_of d) ++ compact_items true (items_seen (drop (i + 1) ds)))
@@ -19,3 +21,10 @@ entry_left es i e later k h is f = rw (drop_more es i e h, is, f)
 
 pub entry_end : (es : List Entry) (i : ℕ) (later : Bool) → length es ≤ i → compact_members later (members_seen (drop i es)) ≡ 125 ∷ []
 entry_end es i later h = ap (λ xs. compact_members later (members_seen xs)) (drop_all i es h)
+
+-- the comma before the member at i has gone out, and its name comes next
+pub name_next : (a b c : Progress) (all : List ℕ) (es : List Entry) (i : ℕ) (e : Entry) (later : Bool) (k : List ℕ) → Wrote a b (compact_members later (members_seen (drop i es))) all
+    → i < length es → get_or es i e ≡ e → k ≡ string_bytes e.0 → Goes b c (comma_if later)
+    → Wrote a c (quoted k ++ (58 ∷ [] ++ (compact (value_of e.1) ++ compact_members true (members_seen (drop (i + 1) es))))) all
+name_next a b c all es i e later k w h is f comma =
+    goes_on a b c (comma_if later) _ all (same_left a b _ _ all w (entry_left es i e later k h is f)) comma

@@ -6,7 +6,9 @@ use Rattle.std.proofs.lemmas.List.{take_all}
 use Rattle.std.specs.List.{list_all, prefix_len}
 use Rattle.json.specs.Print.{escape, escape_byte}
 use Rattle.json.proofs.Printed.Strings.{escape_to_stop, escape_at, escape_end}
+use Rattle.js_doc.specs.BytesOut.{Progress, Goes}
 use Rattle.js_doc.specs.Escapes.{stands}
+use Rattle.js_doc.proofs.BytesGone.{Wrote, goes_on, same_left}
 
 -- what follows from i on
 abbrev pub escaped_from : List ℕ → ℕ → List ℕ
@@ -18,6 +20,11 @@ run bs start end = take (end - start) (drop start bs)
 pub run_first : (bs : List ℕ) (start end : ℕ) → end ≡ start + prefix_len stands (drop start bs) → escaped_from bs start ≡ run bs start end ++ escaped_from bs end
 run_first bs start end is =
     sym (append-nil (escaped_from bs start)) ∙ (escape_to_stop bs start end [] is ∙ ap (λ l. run bs start end ++ l) (append-nil (escaped_from bs end)))
+
+-- the run has gone out
+pub run_gone : (a b c : Progress) (bs : List ℕ) (start end : ℕ) (all : List ℕ) → Wrote a b (escaped_from bs start) all → end ≡ start + prefix_len stands (drop start bs) → Goes b c (run bs start end)
+    → Wrote a c (escaped_from bs end) all
+run_gone a b c bs start end all w is run_goes = goes_on a b c (run bs start end) _ all (same_left a b _ _ all w (run_first bs start end is)) run_goes
 
 -- then a byte that is escaped
 pub escape_next : (bs : List ℕ) (i : ℕ) → i < length bs → escaped_from bs i ≡ escape_byte (get_or bs i 0) ++ escaped_from bs (i + 1)

@@ -2,7 +2,7 @@ use Rattle.std.proofs.Common.{◌+◌, [], ◌∷◌, ◌++◌, drop, false, tru
 use Rattle.js_doc.specs.Seen.{value_of, items_seen, members_seen}
 use Rattle.js_doc.specs.Compact.{quoted, compact, comma_if, compact_items, compact_members}
 use Rattle.js_doc.proofs.BytesGone.{starts, goes_on, same_left, puts_err, puts_last}
-use Rattle.js_doc.proofs.CompactPieces.{item_left, item_end, entry_left, entry_end}
+use Rattle.js_doc.proofs.CompactPieces.{item_left, item_end, entry_left, entry_end, name_next}
 use Rattle.js_doc.proofs.printing.+put_text.Goals as goal
 
 pub put_items-returns-in_err-put : goal.put_items-returns-in_err-put
@@ -50,16 +50,14 @@ pub put_members-returns-in_err-put_string : goal.put_members-returns-in_err-put_
 put_members-returns-in_err-put_string g t c =
     let l = c.loop-name in
     let k = c.as_str.result.now in
-    let w = same_left _ _ _ _ _ l.invariant (entry_left c.args.entries.now l.name-index c.loop-name-item.result l.later k c.loop-name-test.true (sym c.loop-name-item.is) c.as_str.ensures.value) in
-    let x = goes_on _ _ _ (comma_if l.later) _ _ w c.in_ok-put_comma.ensures in
+    let x = name_next _ _ _ _ c.args.entries.now l.name-index c.loop-name-item.result l.later k l.invariant c.loop-name-test.true (sym c.loop-name-item.is) c.as_str.ensures.value c.in_ok-put_comma.ensures in
     puts_err _ _ _ (quoted k) _ _ _ c.from_residual-in_err-put_string.ensures.0 x c.in_err-put_string.ensures
 
 pub put_members-returns-in_err-put-2 : goal.put_members-returns-in_err-put-2
 put_members-returns-in_err-put-2 g t c =
     let l = c.loop-name in
     let k = c.as_str.result.now in
-    let w = same_left _ _ _ _ _ l.invariant (entry_left c.args.entries.now l.name-index c.loop-name-item.result l.later k c.loop-name-test.true (sym c.loop-name-item.is) c.as_str.ensures.value) in
-    let x = goes_on _ _ _ (comma_if l.later) _ _ w c.in_ok-put_comma.ensures in
+    let x = name_next _ _ _ _ c.args.entries.now l.name-index c.loop-name-item.result l.later k l.invariant c.loop-name-test.true (sym c.loop-name-item.is) c.as_str.ensures.value c.in_ok-put_comma.ensures in
     let y = goes_on _ _ _ (quoted k) _ _ x c.in_ok-put_string.ensures in
     puts_err _ _ _ (58 ∷ []) _ _ _ c.from_residual-in_err-put-2.ensures.0 y c.in_err-put-2.ensures
 
@@ -67,8 +65,7 @@ pub put_members-returns-in_err-put_text : goal.put_members-returns-in_err-put_te
 put_members-returns-in_err-put_text g t c =
     let l = c.loop-name in
     let k = c.as_str.result.now in
-    let w = same_left _ _ _ _ _ l.invariant (entry_left c.args.entries.now l.name-index c.loop-name-item.result l.later k c.loop-name-test.true (sym c.loop-name-item.is) c.as_str.ensures.value) in
-    let x = goes_on _ _ _ (comma_if l.later) _ _ w c.in_ok-put_comma.ensures in
+    let x = name_next _ _ _ _ c.args.entries.now l.name-index c.loop-name-item.result l.later k l.invariant c.loop-name-test.true (sym c.loop-name-item.is) c.as_str.ensures.value c.in_ok-put_comma.ensures in
     let y = goes_on _ _ _ (quoted k) _ _ x c.in_ok-put_string.ensures in
     let z = goes_on _ _ _ (58 ∷ []) _ _ y c.in_ok-put-2.ensures in
     puts_err _ _ _ (compact (value_of c.loop-name-item.result.1)) _ _ _ c.from_residual-in_err-put_text.ensures.0 z c.in_err-put_text.ensures
@@ -77,8 +74,7 @@ pub put_members-loop-name-preserved : goal.put_members-loop-name-preserved
 put_members-loop-name-preserved g t c =
     let l = c.loop-name in
     let k = c.as_str.result.now in
-    let w = same_left _ _ _ _ _ l.invariant (entry_left c.args.entries.now l.name-index c.loop-name-item.result l.later k c.loop-name-test.true (sym c.loop-name-item.is) c.as_str.ensures.value) in
-    let x = goes_on _ _ _ (comma_if l.later) _ _ w c.in_ok-put_comma.ensures in
+    let x = name_next _ _ _ _ c.args.entries.now l.name-index c.loop-name-item.result l.later k l.invariant c.loop-name-test.true (sym c.loop-name-item.is) c.as_str.ensures.value c.in_ok-put_comma.ensures in
     let y = goes_on _ _ _ (quoted k) _ _ x c.in_ok-put_string.ensures in
     let z = goes_on _ _ _ (58 ∷ []) _ _ y c.in_ok-put-2.ensures in
     goes_on _ _ _ (compact (value_of c.loop-name-item.result.1)) _ _ z c.in_ok-put_text.ensures
