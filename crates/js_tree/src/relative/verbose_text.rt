@@ -17,6 +17,7 @@ ghost use Rattle.js_tree.specs.code.RelativeText.{AreRowsOfTree, AreRowsOfTrees,
 ghost use Rattle.js_tree.specs.code.RelativeText.{inside_text, opening_text, unit_there};
 
 use crate::relative::basic_text::put_unit;
+use crate::relative::gathered::Gathered;
 use crate::relative::locations::Locations;
 use crate::relative::rows::{RelativeRow, RelativeRows};
 use crate::writing::node_text::{put_closed_annotation, put_error};
@@ -38,7 +39,9 @@ pub fn put_verbose<O: Out>(
         → Puts (O.progress out.old) (O.progress out.new) (compact (verbose t)) result }
 {
     let mut locations = locations;
-    put_tree(false, rows.rows.as_slice(), &mut locations, out)
+    let mut gathered = locations.take_gathered();
+    let rows = rows.rows.as_slice();
+    put_tree(false, rows, &mut locations, &mut gathered, out)
 }
 
 /// Writes the tree of the rows, below a node with these locations; after a comma, if it isn't the first in its list.
@@ -47,6 +50,7 @@ fn put_tree<O: Out>(
     later: bool,
     rows: &[RelativeRow],
     locations: &mut Locations,
+    gathered: &mut Gathered,
     out: &mut O,
 ) -> Result<(), Stopped>
     requires { (r : ResultTree) × AreRowsOfTree rows.now r × HasRoom locations.old rows.now }
@@ -58,7 +62,7 @@ fn put_tree<O: Out>(
 {
     let row = &rows[0];
     locations.go_to_node(row);
-    put_node(later, row, &rows[1..], locations, out)?;
+    put_node(later, row, &rows[1..], locations, gathered, out)?;
     locations.go_back(row);
     Ok(())
 }
@@ -70,30 +74,7 @@ fn put_node<O: Out>(
     row: &RelativeRow,
     below: &[RelativeRow],
     locations: &mut Locations,
-    out: &mut O,
-) -> Result<(), Stopped>
-    requires { (f : Forest OutputUnit) × AreRowsOfTrees below.now f × HasRoom locations.old below.now }
-    ensures text { (f : Forest OutputUnit) (keyword absolute instance : List ℕ) → AreAt locations.old keyword instance
-        → IsAbsolute row.now absolute → AreRowsOfTrees below.now f
-        → Puts (O.progress out.old) (O.progress out.new)
-        (comma_if later ++ compact (node_value (unit_there row.now keyword absolute instance)
-        (node_values (placed keyword instance f)))) result }
-    ensures back { OnOk result (IsBack locations.old locations.new) }
-{
-    let note = &row.note;
-    if note.is_some() {
-        return put_noted(later, row, below, locations, out);
-    }
-    put_silent(later, row, below, locations, out)
-}
-
-/// Writes a node with a note.
-#[cycle(put_tree)]
-fn put_noted<O: Out>(
-    later: bool,
-    row: &RelativeRow,
-    below: &[RelativeRow],
-    locations: &mut Locations,
+    gathered: &mut Gathered,
     out: &mut O,
 ) -> Result<(), Stopped>
     requires { (f : Forest OutputUnit) × AreRowsOfTrees below.now f × HasRoom locations.old below.now }
@@ -105,14 +86,46 @@ fn put_noted<O: Out>(
     ensures back { OnOk result (IsBack locations.old locations.new) }
 {
     if below.is_empty() {
-        return put_unit(later, row, locations, out);
+        return put_unit(later, row, locations, gathered, out);
     }
+    let note = &row.note;
+    if note.is_some() {
+        return put_noted(later, row, below, locations, gathered, out);
+    }
+    put_silent(later, row, below, locations, gathered, out)
+}
+
+/// Writes a node with a note, and the trees below it.
+#[cycle(put_tree)]
+fn put_noted<O: Out>(
+    later: bool,
+    row: &RelativeRow,
+    below: &[RelativeRow],
+    locations: &mut Locations,
+    gathered: &mut Gathered,
+    out: &mut O,
+) -> Result<(), Stopped>
+    requires { (f : Forest OutputUnit) × AreRowsOfTrees below.now f × HasRoom locations.old below.now }
+    ensures text { (f : Forest OutputUnit) (keyword absolute instance : List ℕ) → AreAt locations.old keyword instance
+        → IsAbsolute row.now absolute → AreRowsOfTrees below.now f
+        → Puts (O.progress out.old) (O.progress out.new)
+        (comma_if later ++ compact (node_value (unit_there row.now keyword absolute instance)
+        (node_values (placed keyword instance f)))) result }
+    ensures back { OnOk result (IsBack locations.old locations.new) }
+{
     let valid = row.valid;
     put_opening(later, row, locations, out)?;
     put_closed_annotation(&row.note, out)?;
-    put_children(valid, b",\"annotations\":[", below, locations, out)?;
+    put_children(
+        valid,
+        b",\"annotations\":[",
+        below,
+        locations,
+        gathered,
+        out,
+    )?;
     put_error(&row.note, out)?;
-    put_children(!valid, b",\"errors\":[", below, locations, out)?;
+    put_children(!valid, b",\"errors\":[", below, locations, gathered, out)?;
     locations.put_end(valid, out)
 }
 
@@ -123,6 +136,7 @@ fn put_children<O: Out>(
     start: &[u8],
     rows: &[RelativeRow],
     locations: &mut Locations,
+    gathered: &mut Gathered,
     out: &mut O,
 ) -> Result<(), Stopped>
     requires { (f : Forest OutputUnit) × AreRowsOfTrees rows.now f × HasRoom locations.old rows.now }
@@ -139,20 +153,21 @@ fn put_children<O: Out>(
         return Ok(());
     }
     out.put(start)?;
-    put_trees(rows, b"]", locations, out)
+    put_trees(rows, b"]", locations, gathered, out)
 }
 
-/// Writes a node without a note. Most nodes have none, and each call of `put` costs time, so quotation marks and
-/// brackets are written together with the text beside them.
+/// Writes a node without a note, and the trees below it, of which there are some.
 #[cycle(put_tree)]
 fn put_silent<O: Out>(
     later: bool,
     row: &RelativeRow,
     below: &[RelativeRow],
     locations: &mut Locations,
+    gathered: &mut Gathered,
     out: &mut O,
 ) -> Result<(), Stopped>
     requires silent { note_of row.now.note ≡ silent }
+    requires some { 0 < length below.now }
     requires trees { (f : Forest OutputUnit) × AreRowsOfTrees below.now f × HasRoom locations.old below.now }
     ensures text { (f : Forest OutputUnit) (keyword absolute instance : List ℕ) → AreAt locations.old keyword instance
         → IsAbsolute row.now absolute → AreRowsOfTrees below.now f
@@ -163,10 +178,7 @@ fn put_silent<O: Out>(
 {
     let valid = row.valid;
     put_opening(later, row, locations, out)?;
-    if below.is_empty() {
-        return locations.put_closing(valid, out);
-    }
-    put_inside(valid, below, locations, out)?;
+    put_inside(valid, below, locations, gathered, out)?;
     locations.put_end(valid, out)
 }
 
@@ -177,6 +189,7 @@ fn put_inside<O: Out>(
     valid: bool,
     rows: &[RelativeRow],
     locations: &mut Locations,
+    gathered: &mut Gathered,
     out: &mut O,
 ) -> Result<(), Stopped>
     requires { (f : Forest OutputUnit) × AreRowsOfTrees rows.now f × HasRoom locations.old rows.now }
@@ -187,7 +200,7 @@ fn put_inside<O: Out>(
     ensures back { OnOk result (IsBack locations.old locations.new) }
 {
     put_children_start(valid, out)?;
-    put_trees(rows, b"]", locations, out)
+    put_trees(rows, b"]", locations, gathered, out)
 }
 
 /// Writes the trees of the rows, with commas between them, and then `end`, which begins with the closing bracket.
@@ -196,6 +209,7 @@ fn put_trees<O: Out>(
     rows: &[RelativeRow],
     end: &[u8],
     locations: &mut Locations,
+    gathered: &mut Gathered,
     out: &mut O,
 ) -> Result<(), Stopped>
     requires { (f : Forest OutputUnit) × AreRowsOfTrees rows.now f × HasRoom locations.old rows.now }
@@ -211,7 +225,7 @@ fn put_trees<O: Out>(
         let first = next;
         let row = &rows[first];
         next = first + row.size;
-        put_tree(later, &rows[first..next], locations, out)?;
+        put_tree(later, &rows[first..next], locations, gathered, out)?;
         later = true;
     }
     out.put(end)

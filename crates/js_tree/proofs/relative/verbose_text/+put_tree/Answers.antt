@@ -15,7 +15,7 @@ use Rattle.js_tree.proofs.FlatRows.{root_row, rows_below, shorter}
 use Rattle.js_tree.proofs.Nested.{is_none, not_none}
 use Rattle.js_tree.proofs.NodeTexts.{annotations, errors}
 use Rattle.js_tree.proofs.Pieces.{nothing_goes, stops_in, then_puts}
-use Rattle.js_tree.proofs.RelativeTexts.{back_again, children_placed, leaf_pieces, no_children_placed, noted_pieces, root_there, room_for_part, silent_pieces, some_there, stays_there, stops_last, tree_next, without_trees}
+use Rattle.js_tree.proofs.RelativeTexts.{back_again, children_placed, no_children_placed, noted_pieces, root_there, room_for_part, silent_pieces, some_there, stays_there, stops_last, tree_next, without_trees}
 use Rattle.js_tree.proofs.relative.verbose_text.+put_tree.Goals as goal
 
 pub put_tree-returns-in_err-put_node-clause-text : goal.put_tree-returns-in_err-put_node-clause-text
@@ -44,8 +44,8 @@ put_tree-returns-clause-text g t c =
     let is = root_there c.args.later k i x t' root in
     subst (Goes (o c.args.out.now) (o c.put_node.new.out)) is (c.in_ok-put_node.ensures.text t'.below (k ++ t'.root.keyword) t'.root.absolute (i ++ t'.root.instance) down (is_absolute x t'.root root) below)
 
-pub put_noted-returns-then-is_empty-clause-text : goal.put_noted-returns-then-is_empty-clause-text
-put_noted-returns-then-is_empty-clause-text g t c =
+pub put_node-returns-then-is_empty-clause-text : goal.put_node-returns-then-is_empty-clause-text
+put_node-returns-then-is_empty-clause-text g t c =
     λ f k a i at abs e.
     let o = g.O.Out.progress in
     let below = c.args.below.now in
@@ -183,20 +183,6 @@ put_silent-returns-in_err-put_opening-clause-text g t c =
     subst (λ l. Puts (o c.args.out.now) (o c.put_opening.new.out) l r) (silent_pieces c.args.later x k a i f c.requires.silent)
     (stops_in (o c.args.out.now) (o c.put_opening.new.out) p1 (p2 ++ p3) r c.from_residual.ensures.0 (c.in_err-put_opening.ensures.text a abs))
 
-pub put_silent-returns-then-is_empty-clause-text : goal.put_silent-returns-then-is_empty-clause-text
-put_silent-returns-then-is_empty-clause-text g t c =
-    λ f k a i at abs e.
-    let o = g.O.Out.progress in
-    let x = c.args.row.now in
-    let u = unit_there x k a i in
-    let p1 = opening_text c.args.later u.absolute in
-    let p3 = end_text i k u.valid in
-    let there = still_at c.args.locations.now c.put_opening.new.locations k i at c.in_ok-put_opening.ensures.back in
-    let none : length c.args.below.now ≡ 0 = is_none (length c.args.below.now) c.if-is_empty.ensures in
-    let r = c.put_closing.result in
-    subst (λ l. Puts (o c.args.out.now) (o c.put_closing.new.out) l r) (leaf_pieces c.args.later x k a i c.args.below.now f c.requires.silent none e)
-    (then_puts (o c.args.out.now) (o c.put_opening.new.out) (o c.put_closing.new.out) p1 (34 ∷ p3) r (c.in_ok-put_opening.ensures.text a abs) (c.put_closing.ensures k i there))
-
 pub put_silent-returns-in_err-put_inside-clause-text : goal.put_silent-returns-in_err-put_inside-clause-text
 put_silent-returns-in_err-put_inside-clause-text g t c =
     λ f k a i at abs e.
@@ -207,11 +193,10 @@ put_silent-returns-in_err-put_inside-clause-text g t c =
     let p2 = inside_text u.valid (node_values (placed k i f)) in
     let p3 = end_text i k u.valid in
     let there = still_at c.args.locations.now c.put_opening.new.locations k i at c.in_ok-put_opening.ensures.back in
-    let some : 0 < length c.args.below.now = not_none (length c.args.below.now) c.if-is_empty.ensures in
     let r = c.from_residual-in_err-put_inside.result in
     subst (λ l. Puts (o c.args.out.now) (o c.put_inside.new.out) l r) (silent_pieces c.args.later x k a i f c.requires.silent)
     (then_puts (o c.args.out.now) (o c.put_opening.new.out) (o c.put_inside.new.out) p1 (p2 ++ p3) r (c.in_ok-put_opening.ensures.text a abs)
-    (stops_in (o c.put_opening.new.out) (o c.put_inside.new.out) p2 p3 r c.from_residual-in_err-put_inside.ensures.0 (c.in_err-put_inside.ensures.text f k i there e some)))
+    (stops_in (o c.put_opening.new.out) (o c.put_inside.new.out) p2 p3 r c.from_residual-in_err-put_inside.ensures.0 (c.in_err-put_inside.ensures.text f k i there e c.requires.some)))
 
 pub put_silent-returns-clause-text : goal.put_silent-returns-clause-text
 put_silent-returns-clause-text g t c =
@@ -223,12 +208,11 @@ put_silent-returns-clause-text g t c =
     let p2 = inside_text u.valid (node_values (placed k i f)) in
     let p3 = end_text i k u.valid in
     let there = still_at c.args.locations.now c.put_opening.new.locations k i at c.in_ok-put_opening.ensures.back in
-    let some : 0 < length c.args.below.now = not_none (length c.args.below.now) c.if-is_empty.ensures in
     let last = still_at c.put_opening.new.locations c.put_inside.new.locations k i there c.in_ok-put_inside.ensures.back in
     let r = c.put_end.result in
     subst (λ l. Puts (o c.args.out.now) (o c.put_end.new.out) l r) (silent_pieces c.args.later x k a i f c.requires.silent)
     (then_puts (o c.args.out.now) (o c.put_opening.new.out) (o c.put_end.new.out) p1 (p2 ++ p3) r (c.in_ok-put_opening.ensures.text a abs)
-    (then_puts (o c.put_opening.new.out) (o c.put_inside.new.out) (o c.put_end.new.out) p2 p3 r (c.in_ok-put_inside.ensures.text f k i there e some)
+    (then_puts (o c.put_opening.new.out) (o c.put_inside.new.out) (o c.put_end.new.out) p2 p3 r (c.in_ok-put_inside.ensures.text f k i there e c.requires.some)
     (c.put_end.ensures k i last)))
 
 pub put_children-returns-then-is_empty-clause-text : goal.put_children-returns-then-is_empty-clause-text
