@@ -1,21 +1,20 @@
 //! The text of the verbose format, from relative rows.
-ghost use Rattle.std.specs.Prelude.{◌≡◌, ◌<◌, ◌++◌, ◌∷◌, [], List, ℕ, codes, false, length, OnOk};
+ghost use Rattle.std.specs.Prelude.{◌≡◌, ◌++◌, List, ℕ, codes, false, OnOk};
 ghost use Rattle.js_doc.specs.BytesOut.{Puts};
-ghost use Rattle.js_doc.specs.Compact.{comma_if, compact, compact_items};
-ghost use Rattle.js_doc.specs.Value.{items};
+ghost use Rattle.js_doc.specs.Compact.{comma_if, compact};
 ghost use Rattle.js_tree.specs.Forest.{Forest};
-ghost use Rattle.js_tree.specs.Form.{array_of_some, node_value, node_values, value_if, verbose};
+ghost use Rattle.js_tree.specs.Form.{node_value, node_values, verbose};
 ghost use Rattle.js_tree.specs.Locations.{AreAt, HasRoom, HasRoomFor, IsBack};
-ghost use Rattle.js_tree.specs.Note.{silent};
 ghost use Rattle.js_tree.specs.OutputUnit.{OutputUnit};
 ghost use Rattle.js_tree.specs.Relative.{placed, placed_tree};
 ghost use Rattle.js_tree.specs.RelativeState.{AreRowsOf, AreWhole, part};
 ghost use Rattle.js_tree.specs.Result.{ResultTree};
 ghost use Rattle.js_tree.specs.Seen.{note_of};
-ghost use Rattle.js_tree.specs.code.NodeText.{beginning_text, given_text};
-ghost use Rattle.js_tree.specs.code.RelativeText.{AreRowsOfTree, AreRowsOfTrees, IsAbsolute, children_start};
-ghost use Rattle.js_tree.specs.code.RelativeText.{inside_text, opening_text, unit_there};
+ghost use Rattle.js_tree.specs.code.Listing.{values_text};
+ghost use Rattle.js_tree.specs.code.RelativeText.{AreRowsOfTree, AreRowsOfTrees, IsAbsolute, after_children};
+ghost use Rattle.js_tree.specs.code.RelativeText.{before_children, children_start, error_behind, opening_text, unit_there};
 
+use crate::note::Note;
 use crate::relative::basic_text::put_unit;
 use crate::relative::gathered::Gathered;
 use crate::relative::locations::Locations;
@@ -88,105 +87,14 @@ fn put_node<O: Out>(
     if below.is_empty() {
         return put_unit(later, row, locations, gathered, out);
     }
-    let note = &row.note;
-    if note.is_some() {
-        return put_noted(later, row, below, locations, gathered, out);
-    }
-    put_silent(later, row, below, locations, gathered, out)
+    put_front(later, row, locations, gathered, out)?;
+    put_trees(below, locations, gathered, out)?;
+    put_back(row, locations, gathered, out)
 }
 
-/// Writes a node with a note, and the trees below it.
+/// Writes the trees of the rows, with commas between them.
 #[cycle(put_tree)]
-fn put_noted<O: Out>(
-    later: bool,
-    row: &RelativeRow,
-    below: &[RelativeRow],
-    locations: &mut Locations,
-    gathered: &mut Gathered,
-    out: &mut O,
-) -> Result<(), Stopped>
-    requires { (f : Forest OutputUnit) × AreRowsOfTrees below.now f × HasRoom locations.old below.now }
-    ensures text { (f : Forest OutputUnit) (keyword absolute instance : List ℕ) → AreAt locations.old keyword instance
-        → IsAbsolute row.now absolute → AreRowsOfTrees below.now f
-        → Puts (O.progress out.old) (O.progress out.new)
-        (comma_if later ++ compact (node_value (unit_there row.now keyword absolute instance)
-        (node_values (placed keyword instance f)))) result }
-    ensures back { OnOk result (IsBack locations.old locations.new) }
-{
-    let valid = row.valid;
-    put_opening(later, row, locations, out)?;
-    put_closed_annotation(&row.note, out)?;
-    put_children(
-        valid,
-        b",\"annotations\":[",
-        below,
-        locations,
-        gathered,
-        out,
-    )?;
-    put_error(&row.note, out)?;
-    put_children(!valid, b",\"errors\":[", below, locations, gathered, out)?;
-    locations.put_end(valid, out)
-}
-
-/// Writes `start` and the trees of the rows, if there are any and `here` says that they belong here.
-#[cycle(put_tree)]
-fn put_children<O: Out>(
-    here: bool,
-    start: &[u8],
-    rows: &[RelativeRow],
-    locations: &mut Locations,
-    gathered: &mut Gathered,
-    out: &mut O,
-) -> Result<(), Stopped>
-    requires { (f : Forest OutputUnit) × AreRowsOfTrees rows.now f × HasRoom locations.old rows.now }
-    ensures text { (f : Forest OutputUnit) (name keyword instance : List ℕ) → AreAt locations.old keyword instance
-        → AreRowsOfTrees rows.now f → start.now ≡ name ++ 91 ∷ []
-        → Puts (O.progress out.old) (O.progress out.new)
-        (given_text name (value_if here (array_of_some (node_values (placed keyword instance f))))) result }
-    ensures back { OnOk result (IsBack locations.old locations.new) }
-{
-    if !here {
-        return Ok(());
-    }
-    if rows.is_empty() {
-        return Ok(());
-    }
-    out.put(start)?;
-    put_trees(rows, b"]", locations, gathered, out)
-}
-
-/// Writes a node without a note, and the trees below it, of which there are some.
-#[cycle(put_tree)]
-fn put_silent<O: Out>(
-    later: bool,
-    row: &RelativeRow,
-    below: &[RelativeRow],
-    locations: &mut Locations,
-    gathered: &mut Gathered,
-    out: &mut O,
-) -> Result<(), Stopped>
-    requires silent { note_of row.now.note ≡ silent }
-    requires some { 0 < length below.now }
-    requires trees { (f : Forest OutputUnit) × AreRowsOfTrees below.now f × HasRoom locations.old below.now }
-    ensures text { (f : Forest OutputUnit) (keyword absolute instance : List ℕ) → AreAt locations.old keyword instance
-        → IsAbsolute row.now absolute → AreRowsOfTrees below.now f
-        → Puts (O.progress out.old) (O.progress out.new)
-        (comma_if later ++ compact (node_value (unit_there row.now keyword absolute instance)
-        (node_values (placed keyword instance f)))) result }
-    ensures back { OnOk result (IsBack locations.old locations.new) }
-{
-    let valid = row.valid;
-    put_opening(later, row, locations, out)?;
-    put_inside(valid, below, locations, gathered, out)?;
-    locations.put_end(valid, out)
-}
-
-/// Writes what is between the absolute location and the instance location: the trees of the rows, of which there are
-/// some.
-#[cycle(put_tree)]
-fn put_inside<O: Out>(
-    valid: bool,
+fn put_trees<O: Out>(
     rows: &[RelativeRow],
     locations: &mut Locations,
     gathered: &mut Gathered,
@@ -194,29 +102,9 @@ fn put_inside<O: Out>(
 ) -> Result<(), Stopped>
     requires { (f : Forest OutputUnit) × AreRowsOfTrees rows.now f × HasRoom locations.old rows.now }
     ensures text { (f : Forest OutputUnit) (keyword instance : List ℕ) → AreAt locations.old keyword instance
-        → AreRowsOfTrees rows.now f → 0 < length rows.now
+        → AreRowsOfTrees rows.now f
         → Puts (O.progress out.old) (O.progress out.new)
-        (inside_text valid (node_values (placed keyword instance f))) result }
-    ensures back { OnOk result (IsBack locations.old locations.new) }
-{
-    put_children_start(valid, out)?;
-    put_trees(rows, b"]", locations, gathered, out)
-}
-
-/// Writes the trees of the rows, with commas between them, and then `end`, which begins with the closing bracket.
-#[cycle(put_tree)]
-fn put_trees<O: Out>(
-    rows: &[RelativeRow],
-    end: &[u8],
-    locations: &mut Locations,
-    gathered: &mut Gathered,
-    out: &mut O,
-) -> Result<(), Stopped>
-    requires { (f : Forest OutputUnit) × AreRowsOfTrees rows.now f × HasRoom locations.old rows.now }
-    ensures text { (f : Forest OutputUnit) (rest keyword instance : List ℕ) → AreAt locations.old keyword instance
-        → AreRowsOfTrees rows.now f → end.now ≡ 93 ∷ rest
-        → Puts (O.progress out.old) (O.progress out.new)
-        (compact_items false (items (node_values (placed keyword instance f))) ++ rest) result }
+        (values_text false (node_values (placed keyword instance f))) result }
     ensures back { OnOk result (IsBack locations.old locations.new) }
 {
     let mut later = false;
@@ -228,7 +116,99 @@ fn put_trees<O: Out>(
         put_tree(later, &rows[first..next], locations, gathered, out)?;
         later = true;
     }
-    out.put(end)
+    Ok(())
+}
+
+/// Writes what stands before the children of a node that has some. Its pieces go out together, unless they are too long
+/// for that.
+#[inline(never)]
+fn put_front<O: Out>(
+    later: bool,
+    row: &RelativeRow,
+    locations: &mut Locations,
+    gathered: &mut Gathered,
+    out: &mut O,
+) -> Result<(), Stopped>
+    ensures text { (absolute : List ℕ) → IsAbsolute row.now absolute
+        → Puts (O.progress out.old) (O.progress out.new)
+        (before_children later absolute (note_of row.now.note) row.now.valid) result }
+    ensures back { IsBack locations.old locations.new }
+{
+    gathered.clear();
+    match put_front_pieces(later, row, locations, gathered) {
+        Ok(()) => out.put(gathered.as_slice()),
+        Err(Stopped) => put_front_pieces(later, row, locations, out),
+    }
+}
+
+/// Writes the same piece by piece.
+fn put_front_pieces<O: Out>(
+    later: bool,
+    row: &RelativeRow,
+    locations: &mut Locations,
+    out: &mut O,
+) -> Result<(), Stopped>
+    ensures text { (absolute : List ℕ) → IsAbsolute row.now absolute
+        → Puts (O.progress out.old) (O.progress out.new)
+        (before_children later absolute (note_of row.now.note) row.now.valid) result }
+    ensures back { IsBack locations.old locations.new }
+{
+    put_opening(later, row, locations, out)?;
+    put_closed_annotation(&row.note, out)?;
+    put_list_start(&row.note, row.valid, out)
+}
+
+/// Writes the beginning of the list of children, and the error if it stands before them.
+fn put_list_start<O: Out>(note: &Note, valid: bool, out: &mut O) -> Result<(), Stopped>
+    ensures { Puts (O.progress out.old) (O.progress out.new) (children_start (note_of note.now) valid) result }
+{
+    if valid {
+        return out.put(b",\"annotations\":[");
+    }
+    put_error(note, out)?;
+    out.put(b",\"errors\":[")
+}
+
+/// Writes what stands after the children. Its pieces go out together, unless they are too long for that.
+#[inline(never)]
+fn put_back<O: Out>(
+    row: &RelativeRow,
+    locations: &Locations,
+    gathered: &mut Gathered,
+    out: &mut O,
+) -> Result<(), Stopped>
+    ensures { (keyword instance : List ℕ) → AreAt locations.now keyword instance
+        → Puts (O.progress out.old) (O.progress out.new)
+        (after_children instance keyword (note_of row.now.note) row.now.valid) result }
+{
+    gathered.clear();
+    match put_back_pieces(row, locations, gathered) {
+        Ok(()) => out.put(gathered.as_slice()),
+        Err(Stopped) => put_back_pieces(row, locations, out),
+    }
+}
+
+/// Writes the same piece by piece.
+fn put_back_pieces<O: Out>(
+    row: &RelativeRow,
+    locations: &Locations,
+    out: &mut O,
+) -> Result<(), Stopped>
+    ensures { (keyword instance : List ℕ) → AreAt locations.now keyword instance
+        → Puts (O.progress out.old) (O.progress out.new)
+        (after_children instance keyword (note_of row.now.note) row.now.valid) result }
+{
+    let valid = row.valid;
+    out.put(b"]")?;
+    put_error_behind(&row.note, valid, out)?;
+    locations.put_end(valid, out)
+}
+
+/// Writes the error if it stands after the children.
+fn put_error_behind<O: Out>(note: &Note, valid: bool, out: &mut O) -> Result<(), Stopped>
+    ensures { Puts (O.progress out.old) (O.progress out.new) (error_behind (note_of note.now) valid) result }
+{
+    if valid { put_error(note, out) } else { Ok(()) }
 }
 
 /// Writes the beginning of a node, up to the end of its absolute location, without the closing quotation mark. What
@@ -281,16 +261,5 @@ fn put_start<O: Out>(later: bool, out: &mut O) -> Result<(), Stopped>
         out.put(b",{\"absoluteKeywordLocation\":\"")
     } else {
         out.put(b"{\"absoluteKeywordLocation\":\"")
-    }
-}
-
-/// Writes the closing quotation mark of the absolute location, and the beginning of the list of children.
-fn put_children_start<O: Out>(valid: bool, out: &mut O) -> Result<(), Stopped>
-    ensures { Puts (O.progress out.old) (O.progress out.new) (children_start valid) result }
-{
-    if valid {
-        out.put(b"\",\"annotations\":[")
-    } else {
-        out.put(b"\",\"errors\":[")
     }
 }
