@@ -4,26 +4,27 @@ use Rattle.std.specs.List.{sum_by}
 use Rattle.std.specs.Result.{IsErr}
 use Rattle.std.proofs.lemmas.List.Sums.{sum_by-take-drop, sum_by-take-le}
 use Rattle.js_doc.specs.BytesOut.{Progress, Puts, Stops}
-use Rattle.js_doc.specs.Compact.{comma_if, compact, compact_items}
-use Rattle.js_doc.specs.Value.{items}
+use Rattle.js_doc.specs.Compact.{comma_if, compact}
+use Rattle.js_doc.specs.Value.{Value, items, list}
 use Rattle.js_doc.proofs.BytesGone.{Wrote, same_left}
 use Rattle.js_tree.specs.Forest.{Forest, empty, tree}
-use Rattle.js_tree.specs.Form.{array_of_some, node_value, node_values, value_if, verbose}
+use Rattle.js_tree.specs.Form.{node_value, node_values, verbose}
 use Rattle.js_tree.specs.Locations.{HasRoom, IsBack}
-use Rattle.js_tree.specs.Note.{silent}
+use Rattle.js_tree.specs.Note.{Note}
 use Rattle.js_tree.specs.OutputUnit.{OutputUnit}
 use Rattle.js_tree.specs.Relative.{escaped_unit, placed, placed_tree, placed_unit}
 use Rattle.js_tree.specs.RelativeState.{keyword_part, relative_row}
 use Rattle.js_tree.specs.Result.{ResultTree}
-use Rattle.js_tree.specs.Seen.{note_of}
-use Rattle.js_tree.specs.code.NodeText.{annotation_part, beginning_text, end_text, error_part, given_text}
-use Rattle.js_tree.specs.code.RelativeText.{AreRowsOfTrees, children_start, inside_text, opening_text, unit_there}
+use Rattle.js_tree.specs.code.Listing.{values_text}
+use Rattle.js_tree.specs.code.NodeText.{annotation_part, beginning_text, end_text, error_part}
+use Rattle.js_tree.specs.code.RelativeText.{AreRowsOfTrees, after_children, before_children, children_start, error_behind, opening_text, unit_there}
 use Rattle.js_tree.specs.declared.relative.locations.Locations.{Locations}
 use Rattle.js_tree.specs.declared.relative.rows.RelativeRow.{RelativeRow}
 use Rattle.js_tree.proofs.EscapedRows.{no_trees}
 use Rattle.js_tree.proofs.FlatRows.{SomeTree}
-use Rattle.js_tree.proofs.NodeTexts.{annotations, errors, no_children, pieces_are}
-use Rattle.js_tree.proofs.QuotedParts.{beginning_in_parts, leaf_in_parts, silent_in_parts, some_inside}
+use Rattle.js_tree.proofs.ListedUnits.{array_text}
+use Rattle.js_tree.proofs.NodeTexts.{annotations, errors, pieces_are}
+use Rattle.js_tree.proofs.QuotedParts.{beginning_in_parts}
 
 -- ---- room for some of the rows
 
@@ -64,16 +65,36 @@ noted_pieces later x keyword absolute instance f =
     ∙ (append_assoc (comma_if later) (beginning_text absolute u.note) rest
     ∙ ap (λ l. comma_if later ++ l) (pieces_are u children u.valid u.note refl refl)))
 
-pub silent_pieces : (later : Bool) (x : RelativeRow) (keyword absolute instance : List ℕ) (f : Forest OutputUnit) → note_of x.note ≡ silent → let u = unit_there x keyword absolute instance in let children = node_values (placed keyword instance f) in
-    opening_text later absolute ++ (inside_text u.valid children ++ end_text instance keyword u.valid) ≡ comma_if later ++ compact (node_value u children)
-silent_pieces later x keyword absolute instance f e = silent_in_parts later (unit_there x keyword absolute instance) (node_values (placed keyword instance f)) e
+-- an array, and what follows it
+array_then : (vs : List Value) (rest : List ℕ) → 91 ∷ (values_text false vs ++ 93 ∷ rest) ≡ compact (list (items vs)) ++ rest
+array_then vs rest =
+    ap (λ l. 91 ∷ l) (sym (append_assoc (values_text false vs) (93 ∷ []) rest))
+    ∙ ap (λ l. l ++ rest) (sym (array_text vs))
 
-pub leaf_pieces : (later : Bool) (x : RelativeRow) (keyword absolute instance : List ℕ) (rows : List RelativeRow) (f : Forest OutputUnit) → note_of x.note ≡ silent → length rows ≡ 0 → AreRowsOfTrees rows f → let u = unit_there x keyword absolute instance in
-    opening_text later absolute ++ 34 ∷ end_text instance keyword u.valid ≡ comma_if later ++ compact (node_value u (node_values (placed keyword instance f)))
-leaf_pieces later x keyword absolute instance rows f e h are =
+children_then : (note : Note) (valid : Bool) (v : Value) (vs : List Value) (end : List ℕ) →
+    children_start note valid ++ (values_text false (v ∷ vs) ++ 93 ∷ (error_behind note valid ++ end))
+    ≡ annotations valid (v ∷ vs) ++ (error_part note ++ (errors valid (v ∷ vs) ++ end))
+children_then note true v vs end = ap (λ l. codes ",\"annotations\":" ++ l) (array_then (v ∷ vs) (error_part note ++ end))
+children_then note false v vs end =
+    append_assoc (error_part note) (codes ",\"errors\":[") (values_text false (v ∷ vs) ++ 93 ∷ end)
+    ∙ ap (λ l. error_part note ++ (codes ",\"errors\":" ++ l)) (array_then (v ∷ vs) end)
+
+-- a node with children
+pub parent_pieces : (later : Bool) (x : RelativeRow) (keyword absolute instance : List ℕ) (f : Forest OutputUnit) → SomeTree f →
     let u = unit_there x keyword absolute instance in
-    leaf_in_parts later u e
-    ∙ ap (λ g. comma_if later ++ compact (node_value u (node_values (placed keyword instance g)))) (sym (no_trees rows 0 f are (omega (arith, h))))
+    before_children later absolute u.note u.valid ++ (values_text false (node_values (placed keyword instance f)) ++ after_children instance keyword u.note u.valid)
+    ≡ comma_if later ++ compact (node_value u (node_values (placed keyword instance f)))
+parent_pieces later x keyword absolute instance empty s = let n = s.is in absurd cc
+parent_pieces later x keyword absolute instance (tree w below after) s =
+    let u = unit_there x keyword absolute instance in
+    let v = node_value (placed_unit keyword instance w) (node_values (placed (keyword ++ w.keyword) (instance ++ w.instance) below)) in
+    let vs = node_values (placed keyword instance after) in
+    let rest = values_text false (v ∷ vs) ++ after_children instance keyword u.note u.valid in
+    append_assoc (opening_text later absolute) ((34 ∷ annotation_part u.note) ++ children_start u.note u.valid) rest
+    ∙ ap (λ l. opening_text later absolute ++ l)
+    (append_assoc (34 ∷ annotation_part u.note) (children_start u.note u.valid) rest
+    ∙ ap (λ l. (34 ∷ annotation_part u.note) ++ l) (children_then u.note u.valid v vs (end_text instance keyword u.valid)))
+    ∙ noted_pieces later x keyword absolute instance (tree w below after)
 
 pub without_trees : (later : Bool) (u : OutputUnit) (keyword instance : List ℕ) (rows : List RelativeRow) (f : Forest OutputUnit) → length rows ≡ 0 → AreRowsOfTrees rows f
     → comma_if later ++ compact (node_value u []) ≡ comma_if later ++ compact (node_value u (node_values (placed keyword instance f)))
@@ -94,34 +115,16 @@ root_there later k i x t e =
 pub stays_there : (l : Locations) → IsBack l l
 stays_there l = record { same_keyword = refl; same_instance = refl; keyword_room = omega arith; instance_room = omega arith }
 
--- ---- children
-
-pub no_children_placed : (name : List ℕ) (here : Bool) (k i : List ℕ) (rows : List RelativeRow) (f : Forest OutputUnit) → length rows ≡ 0 → AreRowsOfTrees rows f → given_text name (value_if here (array_of_some (node_values (placed k i f)))) ≡ []
-no_children_placed name here k i rows f h e =
-    ap (λ g. given_text name (value_if here (array_of_some (node_values (placed k i g))))) (no_trees rows 0 f e (omega (arith, h)))
-    ∙ no_children name here
-
-pub children_placed : (name start : List ℕ) (here : Bool) (k i : List ℕ) (f : Forest OutputUnit) → SomeTree f → here ≡ true → start ≡ name ++ 91 ∷ [] → given_text name (value_if here (array_of_some (node_values (placed k i f)))) ≡ start ++ compact_items false (items (node_values (placed k i f)))
-children_placed name start here k i empty s e g = let n = s.is in absurd cc
-children_placed name start here k i (tree u below after) s e g =
-    rw (e, g) (sym (append_assoc name (91 ∷ []) (compact_items false (items (node_values (placed k i (tree u below after)))))))
-
-pub some_there : (valid : Bool) (k i : List ℕ) (f : Forest OutputUnit) → SomeTree f → children_start valid ++ compact_items false (items (node_values (placed k i f))) ≡ inside_text valid (node_values (placed k i f))
-some_there valid k i empty s = let n = s.is in absurd cc
-some_there valid k i (tree u below after) s = some_inside valid (node_value (placed_unit k i u) (node_values (placed (k ++ u.keyword) (i ++ u.instance) below))) (node_values (placed k i after))
-
 -- ---- tree by tree
 
-tree_left : (later : Bool) (k i rest : List ℕ) (f : Forest OutputUnit) (u : OutputUnit) (below after : Forest OutputUnit) → f ≡ tree u below after → compact_items later (items (node_values (placed k i f))) ++ rest ≡ (comma_if later ++ compact (verbose (placed_tree k i (record { root = u; below = below })))) ++ (compact_items true (items (node_values (placed k i after))) ++ rest)
-tree_left later k i rest f u below after e =
-    let text = compact (verbose (placed_tree k i (record { root = u; below = below }))) in
-    let left = compact_items true (items (node_values (placed k i after))) in
-    ap (λ g. compact_items later (items (node_values (placed k i g))) ++ rest) e
-    ∙ (ap (λ l. l ++ rest) (sym (append_assoc (comma_if later) text left)) ∙ append_assoc (comma_if later ++ text) left rest)
+tree_left : (later : Bool) (k i : List ℕ) (f : Forest OutputUnit) (u : OutputUnit) (below after : Forest OutputUnit) → f ≡ tree u below after → values_text later (node_values (placed k i f)) ≡ (comma_if later ++ compact (verbose (placed_tree k i (record { root = u; below = below })))) ++ values_text true (node_values (placed k i after))
+tree_left later k i f u below after e =
+    ap (λ g. values_text later (node_values (placed k i g))) e
+    ∙ sym (append_assoc (comma_if later) (compact (verbose (placed_tree k i (record { root = u; below = below })))) (values_text true (node_values (placed k i after))))
 
 -- the first of them comes next
-pub tree_next : (a b : Progress) (later : Bool) (k i rest : List ℕ) (f : Forest OutputUnit) (u : OutputUnit) (below after : Forest OutputUnit) (all : List ℕ) → Wrote a b (compact_items later (items (node_values (placed k i f))) ++ rest) all → f ≡ tree u below after → Wrote a b ((comma_if later ++ compact (verbose (placed_tree k i (record { root = u; below = below })))) ++ (compact_items true (items (node_values (placed k i after))) ++ rest)) all
-tree_next a b later k i rest f u below after all w e = same_left a b _ _ all w (tree_left later k i rest f u below after e)
+pub tree_next : (a b : Progress) (later : Bool) (k i : List ℕ) (f : Forest OutputUnit) (u : OutputUnit) (below after : Forest OutputUnit) (all : List ℕ) → Wrote a b (values_text later (node_values (placed k i f))) all → f ≡ tree u below after → Wrote a b ((comma_if later ++ compact (verbose (placed_tree k i (record { root = u; below = below })))) ++ values_text true (node_values (placed k i after))) all
+tree_next a b later k i f u below after all w e = same_left a b _ _ all w (tree_left later k i f u below after e)
 
 pub back_again : (l m n : Locations) → IsBack l m → IsBack m n → IsBack l n
 back_again l m n b c = record {

@@ -4,6 +4,7 @@
 pub(crate) mod apart;
 pub(crate) mod basic_text;
 pub(crate) mod differing;
+pub(crate) mod gathered;
 pub(crate) mod keeping;
 pub(crate) mod leaf;
 pub(crate) mod locations;

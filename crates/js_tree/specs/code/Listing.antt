@@ -1,6 +1,6 @@
 -- What basic lists and what condensing keeps of trees that have only what their locations add, below a node with given
 -- locations.
-use Rattle.std.specs.Prelude.{◌≡◌, ℕ, Bool, true, false, List, [], ◌∷◌, ◌++◌, ◌&&◌, ◌||◌, nat_lt, if◌then◌else◌, map, Result, MatchResult}
+use Rattle.std.specs.Prelude.{◌≡◌, ℕ, Bool, true, List, [], ◌∷◌, ◌++◌, ◌&&◌, ◌||◌, nat_lt, if◌then◌else◌, map, Result, MatchResult}
 use Rattle.js_doc.specs.BytesOut.{Goes, Progress, Stops}
 use Rattle.js_doc.specs.Compact.{comma_if, compact}
 use Rattle.js_doc.specs.Value.{Value}

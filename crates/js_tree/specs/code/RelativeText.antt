@@ -1,17 +1,16 @@
 -- The text of a node whose row has only what its locations add, in pieces (of private functions).
-use Rattle.std.specs.Prelude.{◌≡◌, ℕ, Bool, true, false, not, List, ◌∷◌, ◌++◌, codes, map}
+use Rattle.std.specs.Prelude.{◌≡◌, ℕ, Bool, true, false, List, [], ◌∷◌, ◌++◌, codes, map}
 use Rattle.json.specs.Print.{escape}
 use Rattle.js_doc.specs.Compact.{comma_if}
-use Rattle.js_doc.specs.Value.{Value}
 use Rattle.js_tree.specs.Flat.{flat_form, flat_of}
 use Rattle.js_tree.specs.Forest.{Forest}
-use Rattle.js_tree.specs.Form.{array_of_some, value_if}
+use Rattle.js_tree.specs.Note.{Note}
 use Rattle.js_tree.specs.OutputUnit.{OutputUnit}
 use Rattle.js_tree.specs.Relative.{escaped, escaped_tree}
 use Rattle.js_tree.specs.RelativeState.{absolute_part, relative_row}
 use Rattle.js_tree.specs.Result.{ResultTree}
 use Rattle.js_tree.specs.Seen.{note_of}
-use Rattle.js_tree.specs.code.NodeText.{given_text}
+use Rattle.js_tree.specs.code.NodeText.{annotation_part, end_text, error_part}
 use Rattle.js_tree.specs.declared.relative.rows.RelativeRow.{RelativeRow}
 
 -- the rows are those of the trees, whose locations have no escapes
@@ -34,12 +33,21 @@ unit_there r keyword absolute instance =
 abbrev pub opening_text : Bool → List ℕ → List ℕ
 opening_text later absolute = comma_if later ++ (codes "{\"absoluteKeywordLocation\":\"" ++ escape absolute)
 
-abbrev pub children_start : Bool → List ℕ
-children_start true = codes "\",\"annotations\":["
-children_start false = codes "\",\"errors\":["
+-- the beginning of the list of children; the error of a node that fails stands before it
+abbrev pub children_start : Note → Bool → List ℕ
+children_start note true = codes ",\"annotations\":["
+children_start note false = error_part note ++ codes ",\"errors\":["
 
--- from that mark to what stands before the instance location, of a node that says nothing
-abbrev pub inside_text : Bool → List Value → List ℕ
-inside_text valid children =
-    34 ∷ (given_text (codes ",\"annotations\":") (value_if valid (array_of_some children))
-    ++ given_text (codes ",\"errors\":") (value_if (not valid) (array_of_some children)))
+-- the error of a node that passes stands after the list
+abbrev pub error_behind : Note → Bool → List ℕ
+error_behind note true = error_part note
+error_behind note false = []
+
+-- what stands before the children of a node that has some
+abbrev pub before_children : Bool → List ℕ → Note → Bool → List ℕ
+before_children later absolute note valid =
+    opening_text later absolute ++ ((34 ∷ annotation_part note) ++ children_start note valid)
+
+-- and what stands after them
+abbrev pub after_children : List ℕ → List ℕ → Note → Bool → List ℕ
+after_children instance keyword note valid = 93 ∷ (error_behind note valid ++ end_text instance keyword valid)

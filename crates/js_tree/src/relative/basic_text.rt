@@ -16,6 +16,7 @@ ghost use Rattle.js_tree.specs.code.Listing.{AreListed, if_noted, listed, listed
 ghost use Rattle.js_tree.specs.code.RelativeText.{AreRowsOfTree, AreRowsOfTrees, IsAbsolute, unit_there};
 
 use crate::note::Note;
+use crate::relative::gathered::Gathered;
 use crate::relative::locations::Locations;
 use crate::relative::rows::{RelativeRow, RelativeRows};
 use crate::relative::verbose_text::put_opening;
@@ -39,11 +40,12 @@ pub fn put_basic<O: Out>(
         → Puts (O.progress out.old) (O.progress out.new) (compact (unit_list (pruned t))) result }
 {
     let mut locations = locations;
+    let mut gathered = locations.take_gathered();
     let rows = rows.rows.as_slice();
     let root = &rows[0];
     let verdict = root.valid;
     put_list_start(verdict, out)?;
-    put_trees(verdict, false, rows, &mut locations, out)?;
+    put_trees(verdict, false, rows, &mut locations, &mut gathered, out)?;
     put_list_end(verdict, out)
 }
 
@@ -55,6 +57,7 @@ fn put_trees<O: Out>(
     later: bool,
     rows: &[RelativeRow],
     locations: &mut Locations,
+    gathered: &mut Gathered,
     out: &mut O,
 ) -> Result<bool, Stopped>
     requires { (f : Forest OutputUnit) × AreRowsOfTrees rows.now f × HasRoom locations.old rows.now }
@@ -72,7 +75,7 @@ fn put_trees<O: Out>(
         if !may_list(verdict, row) {
             continue;
         }
-        later = put_tree(verdict, later, &rows[first..next], locations, out)?;
+        later = put_tree(verdict, later, &rows[first..next], locations, gathered, out)?;
     }
     Ok(later)
 }
@@ -84,6 +87,7 @@ fn put_tree<O: Out>(
     later: bool,
     rows: &[RelativeRow],
     locations: &mut Locations,
+    gathered: &mut Gathered,
     out: &mut O,
 ) -> Result<bool, Stopped>
     requires { (r : ResultTree) × AreRowsOfTree rows.now r × HasRoom locations.old rows.now }
@@ -95,8 +99,8 @@ fn put_tree<O: Out>(
 {
     let row = &rows[0];
     locations.go_to_node(row);
-    let later = put_noted(later, row, locations, out)?;
-    let later = put_trees(verdict, later, &rows[1..], locations, out)?;
+    let later = put_noted(later, row, locations, gathered, out)?;
+    let later = put_trees(verdict, later, &rows[1..], locations, gathered, out)?;
     locations.go_back(row);
     Ok(later)
 }
@@ -116,6 +120,7 @@ fn put_noted<O: Out>(
     later: bool,
     row: &RelativeRow,
     locations: &mut Locations,
+    gathered: &mut Gathered,
     out: &mut O,
 ) -> Result<bool, Stopped>
     ensures listed { (keyword absolute instance : List ℕ) → AreAt locations.old keyword instance
@@ -127,12 +132,35 @@ fn put_noted<O: Out>(
     if !row.note.is_some() {
         return Ok(later);
     }
-    put_unit(later, row, locations, out)?;
+    put_unit(later, row, locations, gathered, out)?;
     Ok(true)
 }
 
-/// Writes the unit as a node without children; after a comma, if a unit was written before.
+/// Writes the unit as a node without children; after a comma, if a unit was written before. Its pieces go out together,
+/// unless they are too long for that.
+#[inline(never)]
 pub(crate) fn put_unit<O: Out>(
+    later: bool,
+    row: &RelativeRow,
+    locations: &mut Locations,
+    gathered: &mut Gathered,
+    out: &mut O,
+) -> Result<(), Stopped>
+    ensures text { (keyword absolute instance : List ℕ) → AreAt locations.old keyword instance
+        → IsAbsolute row.now absolute
+        → Puts (O.progress out.old) (O.progress out.new)
+        (comma_if later ++ compact (node_value (unit_there row.now keyword absolute instance) [])) result }
+    ensures back { IsBack locations.old locations.new }
+{
+    gathered.clear();
+    match put_pieces(later, row, locations, gathered) {
+        Ok(()) => out.put(gathered.as_slice()),
+        Err(Stopped) => put_pieces(later, row, locations, out),
+    }
+}
+
+/// Writes the unit piece by piece.
+fn put_pieces<O: Out>(
     later: bool,
     row: &RelativeRow,
     locations: &mut Locations,

@@ -2,16 +2,18 @@
 ghost use Rattle.std.specs.Prelude.{◌≡◌, ◌+◌, ◌≤◌, ◌∷◌, [], ◌++◌, List, ℕ, IfOk, length, vec_capacity};
 ghost use Rattle.json.specs.Print.{escape};
 ghost use Rattle.js_doc.specs.BytesOut.{Puts};
-ghost use Rattle.js_tree.specs.Locations.{AreAt, HasRoom, HasRoomFor, IsDown, IsUp, instances_added, keyword_start};
+ghost use Rattle.js_tree.specs.Locations.{AreAt, HasRoom, HasRoomFor, IsBack, IsDown, IsUp, instances_added, keyword_start};
 ghost use Rattle.js_tree.specs.Locations.{keywords_added};
 ghost use Rattle.js_tree.specs.RelativeState.{part};
 ghost use Rattle.js_tree.specs.code.NodeText.{end_text, valid_text};
 
+use crate::relative::gathered::Gathered;
 use crate::relative::opening::Opening;
 use crate::relative::rows::{RelativeRow, RelativeRows, behind};
 use crate::relative::unescaping::text_of;
 use js_doc::{Memory, Out, Stopped, Text};
 use std::alloc::Global;
+use std::mem::replace;
 
 /// The keyword location and the instance location of one node, while relative rows are written (JSON Schema Core,
 /// sections 12.3.1 and 12.3.3).
@@ -22,6 +24,8 @@ pub struct Locations {
     instance: Vec<u8>,
     // How the node's text begins.
     pub(crate) opening: Opening,
+    // The memory for the text of one node.
+    gathered: Gathered,
 }
 
 // What stands before the keyword location.
@@ -49,7 +53,16 @@ impl Locations {
             keyword,
             instance,
             opening: Opening::new(alloc)?,
+            gathered: Gathered::new(alloc)?,
         })
+    }
+
+    /// Hands on the memory for the text of one node, which it has once.
+    pub(crate) fn take_gathered(&mut self) -> Gathered
+        ensures { IsBack self.old self.new }
+    {
+        let alloc = *self.keyword.allocator();
+        replace(&mut self.gathered, Gathered::without_memory(alloc))
     }
 
     /// The keyword location, as a text of its own.

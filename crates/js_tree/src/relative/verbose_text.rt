@@ -1,22 +1,22 @@
 //! The text of the verbose format, from relative rows.
-ghost use Rattle.std.specs.Prelude.{◌≡◌, ◌<◌, ◌++◌, ◌∷◌, [], List, ℕ, codes, false, length, OnOk};
+ghost use Rattle.std.specs.Prelude.{◌≡◌, ◌++◌, List, ℕ, codes, false, OnOk};
 ghost use Rattle.js_doc.specs.BytesOut.{Puts};
-ghost use Rattle.js_doc.specs.Compact.{comma_if, compact, compact_items};
-ghost use Rattle.js_doc.specs.Value.{items};
+ghost use Rattle.js_doc.specs.Compact.{comma_if, compact};
 ghost use Rattle.js_tree.specs.Forest.{Forest};
-ghost use Rattle.js_tree.specs.Form.{array_of_some, node_value, node_values, value_if, verbose};
+ghost use Rattle.js_tree.specs.Form.{node_value, node_values, verbose};
 ghost use Rattle.js_tree.specs.Locations.{AreAt, HasRoom, HasRoomFor, IsBack};
-ghost use Rattle.js_tree.specs.Note.{silent};
 ghost use Rattle.js_tree.specs.OutputUnit.{OutputUnit};
 ghost use Rattle.js_tree.specs.Relative.{placed, placed_tree};
 ghost use Rattle.js_tree.specs.RelativeState.{AreRowsOf, AreWhole, part};
 ghost use Rattle.js_tree.specs.Result.{ResultTree};
 ghost use Rattle.js_tree.specs.Seen.{note_of};
-ghost use Rattle.js_tree.specs.code.NodeText.{beginning_text, given_text};
-ghost use Rattle.js_tree.specs.code.RelativeText.{AreRowsOfTree, AreRowsOfTrees, IsAbsolute, children_start};
-ghost use Rattle.js_tree.specs.code.RelativeText.{inside_text, opening_text, unit_there};
+ghost use Rattle.js_tree.specs.code.Listing.{values_text};
+ghost use Rattle.js_tree.specs.code.RelativeText.{AreRowsOfTree, AreRowsOfTrees, IsAbsolute, after_children};
+ghost use Rattle.js_tree.specs.code.RelativeText.{before_children, children_start, error_behind, opening_text, unit_there};
 
+use crate::note::Note;
 use crate::relative::basic_text::put_unit;
+use crate::relative::gathered::Gathered;
 use crate::relative::locations::Locations;
 use crate::relative::rows::{RelativeRow, RelativeRows};
 use crate::writing::node_text::{put_closed_annotation, put_error};
@@ -38,7 +38,9 @@ pub fn put_verbose<O: Out>(
         → Puts (O.progress out.old) (O.progress out.new) (compact (verbose t)) result }
 {
     let mut locations = locations;
-    put_tree(false, rows.rows.as_slice(), &mut locations, out)
+    let mut gathered = locations.take_gathered();
+    let rows = rows.rows.as_slice();
+    put_tree(false, rows, &mut locations, &mut gathered, out)
 }
 
 /// Writes the tree of the rows, below a node with these locations; after a comma, if it isn't the first in its list.
@@ -47,6 +49,7 @@ fn put_tree<O: Out>(
     later: bool,
     rows: &[RelativeRow],
     locations: &mut Locations,
+    gathered: &mut Gathered,
     out: &mut O,
 ) -> Result<(), Stopped>
     requires { (r : ResultTree) × AreRowsOfTree rows.now r × HasRoom locations.old rows.now }
@@ -58,7 +61,7 @@ fn put_tree<O: Out>(
 {
     let row = &rows[0];
     locations.go_to_node(row);
-    put_node(later, row, &rows[1..], locations, out)?;
+    put_node(later, row, &rows[1..], locations, gathered, out)?;
     locations.go_back(row);
     Ok(())
 }
@@ -70,30 +73,7 @@ fn put_node<O: Out>(
     row: &RelativeRow,
     below: &[RelativeRow],
     locations: &mut Locations,
-    out: &mut O,
-) -> Result<(), Stopped>
-    requires { (f : Forest OutputUnit) × AreRowsOfTrees below.now f × HasRoom locations.old below.now }
-    ensures text { (f : Forest OutputUnit) (keyword absolute instance : List ℕ) → AreAt locations.old keyword instance
-        → IsAbsolute row.now absolute → AreRowsOfTrees below.now f
-        → Puts (O.progress out.old) (O.progress out.new)
-        (comma_if later ++ compact (node_value (unit_there row.now keyword absolute instance)
-        (node_values (placed keyword instance f)))) result }
-    ensures back { OnOk result (IsBack locations.old locations.new) }
-{
-    let note = &row.note;
-    if note.is_some() {
-        return put_noted(later, row, below, locations, out);
-    }
-    put_silent(later, row, below, locations, out)
-}
-
-/// Writes a node with a note.
-#[cycle(put_tree)]
-fn put_noted<O: Out>(
-    later: bool,
-    row: &RelativeRow,
-    below: &[RelativeRow],
-    locations: &mut Locations,
+    gathered: &mut Gathered,
     out: &mut O,
 ) -> Result<(), Stopped>
     requires { (f : Forest OutputUnit) × AreRowsOfTrees below.now f × HasRoom locations.old below.now }
@@ -105,104 +85,26 @@ fn put_noted<O: Out>(
     ensures back { OnOk result (IsBack locations.old locations.new) }
 {
     if below.is_empty() {
-        return put_unit(later, row, locations, out);
+        return put_unit(later, row, locations, gathered, out);
     }
-    let valid = row.valid;
-    put_opening(later, row, locations, out)?;
-    put_closed_annotation(&row.note, out)?;
-    put_children(valid, b",\"annotations\":[", below, locations, out)?;
-    put_error(&row.note, out)?;
-    put_children(!valid, b",\"errors\":[", below, locations, out)?;
-    locations.put_end(valid, out)
+    put_front(later, row, locations, gathered, out)?;
+    put_trees(below, locations, gathered, out)?;
+    put_back(row, locations, gathered, out)
 }
 
-/// Writes `start` and the trees of the rows, if there are any and `here` says that they belong here.
+/// Writes the trees of the rows, with commas between them.
 #[cycle(put_tree)]
-fn put_children<O: Out>(
-    here: bool,
-    start: &[u8],
+fn put_trees<O: Out>(
     rows: &[RelativeRow],
     locations: &mut Locations,
-    out: &mut O,
-) -> Result<(), Stopped>
-    requires { (f : Forest OutputUnit) × AreRowsOfTrees rows.now f × HasRoom locations.old rows.now }
-    ensures text { (f : Forest OutputUnit) (name keyword instance : List ℕ) → AreAt locations.old keyword instance
-        → AreRowsOfTrees rows.now f → start.now ≡ name ++ 91 ∷ []
-        → Puts (O.progress out.old) (O.progress out.new)
-        (given_text name (value_if here (array_of_some (node_values (placed keyword instance f))))) result }
-    ensures back { OnOk result (IsBack locations.old locations.new) }
-{
-    if !here {
-        return Ok(());
-    }
-    if rows.is_empty() {
-        return Ok(());
-    }
-    out.put(start)?;
-    put_trees(rows, b"]", locations, out)
-}
-
-/// Writes a node without a note. Most nodes have none, and each call of `put` costs time, so quotation marks and
-/// brackets are written together with the text beside them.
-#[cycle(put_tree)]
-fn put_silent<O: Out>(
-    later: bool,
-    row: &RelativeRow,
-    below: &[RelativeRow],
-    locations: &mut Locations,
-    out: &mut O,
-) -> Result<(), Stopped>
-    requires silent { note_of row.now.note ≡ silent }
-    requires trees { (f : Forest OutputUnit) × AreRowsOfTrees below.now f × HasRoom locations.old below.now }
-    ensures text { (f : Forest OutputUnit) (keyword absolute instance : List ℕ) → AreAt locations.old keyword instance
-        → IsAbsolute row.now absolute → AreRowsOfTrees below.now f
-        → Puts (O.progress out.old) (O.progress out.new)
-        (comma_if later ++ compact (node_value (unit_there row.now keyword absolute instance)
-        (node_values (placed keyword instance f)))) result }
-    ensures back { OnOk result (IsBack locations.old locations.new) }
-{
-    let valid = row.valid;
-    put_opening(later, row, locations, out)?;
-    if below.is_empty() {
-        return locations.put_closing(valid, out);
-    }
-    put_inside(valid, below, locations, out)?;
-    locations.put_end(valid, out)
-}
-
-/// Writes what is between the absolute location and the instance location: the trees of the rows, of which there are
-/// some.
-#[cycle(put_tree)]
-fn put_inside<O: Out>(
-    valid: bool,
-    rows: &[RelativeRow],
-    locations: &mut Locations,
+    gathered: &mut Gathered,
     out: &mut O,
 ) -> Result<(), Stopped>
     requires { (f : Forest OutputUnit) × AreRowsOfTrees rows.now f × HasRoom locations.old rows.now }
     ensures text { (f : Forest OutputUnit) (keyword instance : List ℕ) → AreAt locations.old keyword instance
-        → AreRowsOfTrees rows.now f → 0 < length rows.now
+        → AreRowsOfTrees rows.now f
         → Puts (O.progress out.old) (O.progress out.new)
-        (inside_text valid (node_values (placed keyword instance f))) result }
-    ensures back { OnOk result (IsBack locations.old locations.new) }
-{
-    put_children_start(valid, out)?;
-    put_trees(rows, b"]", locations, out)
-}
-
-/// Writes the trees of the rows, with commas between them, and then `end`, which begins with the closing bracket.
-#[cycle(put_tree)]
-fn put_trees<O: Out>(
-    rows: &[RelativeRow],
-    end: &[u8],
-    locations: &mut Locations,
-    out: &mut O,
-) -> Result<(), Stopped>
-    requires { (f : Forest OutputUnit) × AreRowsOfTrees rows.now f × HasRoom locations.old rows.now }
-    ensures text { (f : Forest OutputUnit) (rest keyword instance : List ℕ) → AreAt locations.old keyword instance
-        → AreRowsOfTrees rows.now f → end.now ≡ 93 ∷ rest
-        → Puts (O.progress out.old) (O.progress out.new)
-        (compact_items false (items (node_values (placed keyword instance f))) ++ rest) result }
+        (values_text false (node_values (placed keyword instance f))) result }
     ensures back { OnOk result (IsBack locations.old locations.new) }
 {
     let mut later = false;
@@ -211,10 +113,102 @@ fn put_trees<O: Out>(
         let first = next;
         let row = &rows[first];
         next = first + row.size;
-        put_tree(later, &rows[first..next], locations, out)?;
+        put_tree(later, &rows[first..next], locations, gathered, out)?;
         later = true;
     }
-    out.put(end)
+    Ok(())
+}
+
+/// Writes what stands before the children of a node that has some. Its pieces go out together, unless they are too long
+/// for that.
+#[inline(never)]
+fn put_front<O: Out>(
+    later: bool,
+    row: &RelativeRow,
+    locations: &mut Locations,
+    gathered: &mut Gathered,
+    out: &mut O,
+) -> Result<(), Stopped>
+    ensures text { (absolute : List ℕ) → IsAbsolute row.now absolute
+        → Puts (O.progress out.old) (O.progress out.new)
+        (before_children later absolute (note_of row.now.note) row.now.valid) result }
+    ensures back { IsBack locations.old locations.new }
+{
+    gathered.clear();
+    match put_front_pieces(later, row, locations, gathered) {
+        Ok(()) => out.put(gathered.as_slice()),
+        Err(Stopped) => put_front_pieces(later, row, locations, out),
+    }
+}
+
+/// Writes the same piece by piece.
+fn put_front_pieces<O: Out>(
+    later: bool,
+    row: &RelativeRow,
+    locations: &mut Locations,
+    out: &mut O,
+) -> Result<(), Stopped>
+    ensures text { (absolute : List ℕ) → IsAbsolute row.now absolute
+        → Puts (O.progress out.old) (O.progress out.new)
+        (before_children later absolute (note_of row.now.note) row.now.valid) result }
+    ensures back { IsBack locations.old locations.new }
+{
+    put_opening(later, row, locations, out)?;
+    put_closed_annotation(&row.note, out)?;
+    put_list_start(&row.note, row.valid, out)
+}
+
+/// Writes the beginning of the list of children, and the error if it stands before them.
+fn put_list_start<O: Out>(note: &Note, valid: bool, out: &mut O) -> Result<(), Stopped>
+    ensures { Puts (O.progress out.old) (O.progress out.new) (children_start (note_of note.now) valid) result }
+{
+    if valid {
+        return out.put(b",\"annotations\":[");
+    }
+    put_error(note, out)?;
+    out.put(b",\"errors\":[")
+}
+
+/// Writes what stands after the children. Its pieces go out together, unless they are too long for that.
+#[inline(never)]
+fn put_back<O: Out>(
+    row: &RelativeRow,
+    locations: &Locations,
+    gathered: &mut Gathered,
+    out: &mut O,
+) -> Result<(), Stopped>
+    ensures { (keyword instance : List ℕ) → AreAt locations.now keyword instance
+        → Puts (O.progress out.old) (O.progress out.new)
+        (after_children instance keyword (note_of row.now.note) row.now.valid) result }
+{
+    gathered.clear();
+    match put_back_pieces(row, locations, gathered) {
+        Ok(()) => out.put(gathered.as_slice()),
+        Err(Stopped) => put_back_pieces(row, locations, out),
+    }
+}
+
+/// Writes the same piece by piece.
+fn put_back_pieces<O: Out>(
+    row: &RelativeRow,
+    locations: &Locations,
+    out: &mut O,
+) -> Result<(), Stopped>
+    ensures { (keyword instance : List ℕ) → AreAt locations.now keyword instance
+        → Puts (O.progress out.old) (O.progress out.new)
+        (after_children instance keyword (note_of row.now.note) row.now.valid) result }
+{
+    let valid = row.valid;
+    out.put(b"]")?;
+    put_error_behind(&row.note, valid, out)?;
+    locations.put_end(valid, out)
+}
+
+/// Writes the error if it stands after the children.
+fn put_error_behind<O: Out>(note: &Note, valid: bool, out: &mut O) -> Result<(), Stopped>
+    ensures { Puts (O.progress out.old) (O.progress out.new) (error_behind (note_of note.now) valid) result }
+{
+    if valid { put_error(note, out) } else { Ok(()) }
 }
 
 /// Writes the beginning of a node, up to the end of its absolute location, without the closing quotation mark. What
@@ -267,16 +261,5 @@ fn put_start<O: Out>(later: bool, out: &mut O) -> Result<(), Stopped>
         out.put(b",{\"absoluteKeywordLocation\":\"")
     } else {
         out.put(b"{\"absoluteKeywordLocation\":\"")
-    }
-}
-
-/// Writes the closing quotation mark of the absolute location, and the beginning of the list of children.
-fn put_children_start<O: Out>(valid: bool, out: &mut O) -> Result<(), Stopped>
-    ensures { Puts (O.progress out.old) (O.progress out.new) (children_start valid) result }
-{
-    if valid {
-        out.put(b"\",\"annotations\":[")
-    } else {
-        out.put(b"\",\"errors\":[")
     }
 }

@@ -1,4 +1,4 @@
-use Rattle.std.proofs.Common.{◌∷◌, ◌++◌}
+use Rattle.std.proofs.Common.{◌∷◌}
 use Rattle.js_tree.specs.Seen.{note_of}
 use Rattle.js_tree.specs.code.NodeText.{annotation_part, end_text}
 use Rattle.js_tree.proofs.Pieces.{then_puts, stops_in}

@@ -5,10 +5,11 @@ use Rattle.js_tree.specs.Marks.{whole_of}
 use Rattle.js_tree.specs.Relative.{escaped_tree, relative_tree}
 use Rattle.js_tree.specs.code.NodeText.{list_start, valid_text}
 use Rattle.js_tree.specs.code.Listing.{listed, values_text}
-use Rattle.js_tree.proofs.EscapedRows.{at_root}
+use Rattle.js_tree.proofs.EscapedRows.{at_root, still_at}
 use Rattle.js_tree.proofs.FlatRows.{root_row}
 use Rattle.js_tree.proofs.ListedRows.{basic_in_parts, whole_rows, whole_rows_of}
 use Rattle.js_tree.proofs.Pieces.{then_puts, stops_in}
+use Rattle.js_tree.proofs.RelativeTexts.{room_still}
 use Rattle.js_tree.specs.RelativeState.{relative_row}
 use Rattle.js_tree.proofs.relative.basic_text.put_basic.Goals as goal
 
@@ -16,7 +17,6 @@ pub returns-in_err-put_list_start : goal.returns-in_err-put_list_start
 returns-in_err-put_list_start g c =
     λ t h.
     let o = g.O.Out.progress in
-    let root = at_root c.args.locations c.args.rows.now c.requires.room in
     let v = c.index-rows-0.result.valid in
     let is = c.as_slice-rows.ensures.value in
     let v_is = ap (λ u. u.valid) (root_row relative_row c.as_slice-rows.result.now (escaped_tree (relative_tree t)) c.index-rows-0.result (whole_rows c.args.rows.now t c.as_slice-rows.result.now is h) c.index-rows-0.is) in
@@ -31,14 +31,14 @@ pub put_trees-requires : goal.put_trees-requires
 put_trees-requires g c =
     let t = c.requires.whole.0 in
     let is = c.as_slice-rows.ensures.value in
-    let room = subst (HasRoom c.args.locations) (sym is) c.requires.room.room in
+    let room = room_still c.args.locations c.take_gathered-gathered.new.self c.as_slice-rows.result.now (subst (HasRoom c.args.locations) (sym is) c.requires.room.room) c.take_gathered-gathered.ensures in
     (whole_of t, whole_rows_of c.args.rows.now t c.as_slice-rows.result.now is c.requires.whole.1, room)
 
 pub returns-in_err-put_trees : goal.returns-in_err-put_trees
 returns-in_err-put_trees g c =
     λ t h.
     let o = g.O.Out.progress in
-    let root = at_root c.args.locations c.args.rows.now c.requires.room in
+    let root = still_at c.args.locations c.take_gathered-gathered.new.self [] [] (at_root c.args.locations c.args.rows.now c.requires.room) c.take_gathered-gathered.ensures in
     let v = c.index-rows-0.result.valid in
     let is = c.as_slice-rows.ensures.value in
     let v_is = ap (λ u. u.valid) (root_row relative_row c.as_slice-rows.result.now (escaped_tree (relative_tree t)) c.index-rows-0.result (whole_rows c.args.rows.now t c.as_slice-rows.result.now is h) c.index-rows-0.is) in
@@ -55,7 +55,7 @@ pub returns : goal.returns
 returns g c =
     λ t h.
     let o = g.O.Out.progress in
-    let root = at_root c.args.locations c.args.rows.now c.requires.room in
+    let root = still_at c.args.locations c.take_gathered-gathered.new.self [] [] (at_root c.args.locations c.args.rows.now c.requires.room) c.take_gathered-gathered.ensures in
     let v = c.index-rows-0.result.valid in
     let is = c.as_slice-rows.ensures.value in
     let v_is = ap (λ u. u.valid) (root_row relative_row c.as_slice-rows.result.now (escaped_tree (relative_tree t)) c.index-rows-0.result (whole_rows c.args.rows.now t c.as_slice-rows.result.now is h) c.index-rows-0.is) in

@@ -5,17 +5,18 @@ use Rattle.js_tree.specs.Form.{verbose}
 use Rattle.js_tree.specs.Locations.{HasRoom}
 use Rattle.js_tree.specs.Relative.{relative_tree}
 use Rattle.js_tree.specs.RelativeState.{relative_row}
-use Rattle.js_tree.proofs.EscapedRows.{at_root}
+use Rattle.js_tree.proofs.EscapedRows.{at_root, still_at}
 use Rattle.js_tree.proofs.Placing.{placed_tree_again}
+use Rattle.js_tree.proofs.RelativeTexts.{room_still}
 use Rattle.js_tree.proofs.relative.verbose_text.put_verbose.Goals as goal
 
 pub put_tree-requires : goal.put_tree-requires
 put_tree-requires g c =
     let t = c.requires.whole.0 in
-    let is = c.as_slice.ensures.value in (
+    let is = c.as_slice-rows.ensures.value in (
       relative_tree t,
       ap (map relative_row) is ∙ ap (λ s. s.rows) c.requires.whole.1.rows_are,
-      subst (HasRoom c.args.locations) (sym is) c.requires.room.room,
+      room_still c.args.locations c.take_gathered-gathered.new.self c.as_slice-rows.result.now (subst (HasRoom c.args.locations) (sym is) c.requires.room.room) c.take_gathered-gathered.ensures,
     )
 
 pub returns : goal.returns
@@ -23,5 +24,5 @@ returns g c =
     λ t are.
     let o = g.O.Out.progress in
     let r = relative_tree t in
-    let rows_are = ap (map relative_row) c.as_slice.ensures.value ∙ ap (λ s. s.rows) are.rows_are in
-    subst (λ t. Puts (o c.args.out.now) (o c.put_tree.new.out) (compact (verbose t)) c.put_tree.result) (placed_tree_again t are.located) (c.put_tree.ensures.text r [] [] (at_root c.args.locations c.args.rows.now c.requires.room) rows_are)
+    let rows_are = ap (map relative_row) c.as_slice-rows.ensures.value ∙ ap (λ s. s.rows) are.rows_are in
+    subst (λ t. Puts (o c.args.out.now) (o c.put_tree.new.out) (compact (verbose t)) c.put_tree.result) (placed_tree_again t are.located) (c.put_tree.ensures.text r [] [] (still_at c.args.locations c.take_gathered-gathered.new.self [] [] (at_root c.args.locations c.args.rows.now c.requires.room) c.take_gathered-gathered.ensures) rows_are)

@@ -1,4 +1,4 @@
-use Rattle.std.proofs.Common.{◌++◌, codes, subst}
+use Rattle.std.proofs.Common.{◌++◌, subst}
 use Rattle.std.specs.Fmt.{signed_decimal}
 use Rattle.js_doc.specs.BytesOut.{Puts}
 use Rattle.js_tree.proofs.Pieces.{then_puts, stops_in}

@@ -1,8 +1,8 @@
-use Rattle.std.proofs.Common.{◌+◌, ◌++◌, drop, map, get_or, codes, pos, false, subst}
+use Rattle.std.proofs.Common.{◌+◌, ◌++◌, drop, map, get_or, pos, false, subst}
 use Rattle.std.specs.Fmt.{signed_decimal}
 use Rattle.js_doc.specs.BytesOut.{Goes, Stops}
-use Rattle.js_doc.specs.Compact.{compact, compact_items}
-use Rattle.js_doc.specs.Value.{items, list, whole}
+use Rattle.js_doc.specs.Compact.{compact_items}
+use Rattle.js_doc.specs.Value.{items, whole}
 use Rattle.js_tree.proofs.Pieces.{stops_in, stops_at_comma, stops_at_item, item_goes, array_ends, seen_at, seen_all}
 use Rattle.js_tree.proofs.writing.node_text.put_indexes.Goals as goal
 

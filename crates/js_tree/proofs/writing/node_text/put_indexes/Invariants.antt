@@ -1,6 +1,6 @@
 use Rattle.std.proofs.Common.{◌++◌, drop, map, false, pos}
-use Rattle.js_doc.specs.Compact.{compact, compact_items}
-use Rattle.js_doc.specs.Value.{items, list, whole}
+use Rattle.js_doc.specs.Compact.{compact_items}
+use Rattle.js_doc.specs.Value.{items, whole}
 use Rattle.js_doc.proofs.BytesGone.{Wrote}
 use Rattle.js_tree.proofs.writing.node_text.put_indexes.Given as goal
 

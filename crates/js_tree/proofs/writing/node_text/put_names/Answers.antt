@@ -1,6 +1,6 @@
-use Rattle.std.proofs.Common.{◌+◌, [], ◌++◌, drop, map, get_or, codes, false, ap}
-use Rattle.js_doc.specs.Compact.{compact, compact_items}
-use Rattle.js_doc.specs.Value.{items, list, text}
+use Rattle.std.proofs.Common.{◌+◌, [], ◌++◌, drop, map, get_or, false, ap}
+use Rattle.js_doc.specs.Compact.{compact_items}
+use Rattle.js_doc.specs.Value.{items, text}
 use Rattle.js_tree.proofs.Pieces.{stops_in, stops_at_comma, stops_at_item, item_goes, array_ends, seen_at, seen_all}
 use Rattle.js_tree.proofs.writing.node_text.put_names.Goals as goal
 

@@ -1,6 +1,6 @@
 use Rattle.std.proofs.Common.{◌++◌, drop, map, false}
-use Rattle.js_doc.specs.Compact.{compact, compact_items}
-use Rattle.js_doc.specs.Value.{items, list, text}
+use Rattle.js_doc.specs.Compact.{compact_items}
+use Rattle.js_doc.specs.Value.{items, text}
 use Rattle.js_doc.proofs.BytesGone.{Wrote}
 use Rattle.js_tree.proofs.writing.node_text.put_names.Given as goal
 

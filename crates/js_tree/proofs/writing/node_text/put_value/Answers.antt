@@ -1,4 +1,3 @@
-use Rattle.std.proofs.Common.{codes}
 use Rattle.js_doc.specs.Compact.{compact}
 use Rattle.js_doc.specs.Seen.{value_of}
 use Rattle.js_tree.proofs.Pieces.{then_puts, stops_in}

@@ -1,7 +1,7 @@
-use Rattle.std.proofs.Common.{◌≡◌, ◌+◌, ◌-◌, ◌≤◌, ◌∷◌, [], ◌++◌, ap, drop, length, take, subst, sym, ◌∙◌, arith}
+use Rattle.std.proofs.Common.{◌≡◌, ◌∷◌, [], ◌++◌, ap, subst, sym, ◌∙◌, arith}
 use Rattle.json.specs.Print.{escape}
 use Rattle.js_doc.proofs.QuotedRuns.{nothing_escaped}
-use Rattle.js_tree.specs.code.Opening.{schema_kept, schema_start}
+use Rattle.js_tree.specs.code.Opening.{schema_start}
 use Rattle.js_tree.proofs.OpeningKept.{kept_is, shape_is, start_left}
 use Rattle.js_tree.proofs.relative.opening.Opening.keep.Goals as goal
 

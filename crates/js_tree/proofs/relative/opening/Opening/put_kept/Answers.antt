@@ -1,4 +1,4 @@
-use Rattle.std.proofs.Common.{ap, subst, sym, ◌∙◌}
+use Rattle.std.proofs.Common.{subst, ◌∙◌}
 use Rattle.js_doc.specs.BytesOut.{Puts}
 use Rattle.js_tree.proofs.OpeningKept.{written}
 use Rattle.js_tree.proofs.relative.opening.Opening.put_kept.Goals as goal

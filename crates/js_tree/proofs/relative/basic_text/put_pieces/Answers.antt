@@ -5,7 +5,7 @@ use Rattle.js_tree.specs.code.RelativeText.{opening_text, unit_there}
 use Rattle.js_tree.proofs.EscapedRows.{still_at}
 use Rattle.js_tree.proofs.ListedRows.{unit_pieces}
 use Rattle.js_tree.proofs.Pieces.{then_puts, stops_in}
-use Rattle.js_tree.proofs.relative.basic_text.put_unit.Goals as goal
+use Rattle.js_tree.proofs.relative.basic_text.put_pieces.Goals as goal
 
 pub returns-in_err-put_opening-clause-text : goal.returns-in_err-put_opening-clause-text
 returns-in_err-put_opening-clause-text g c =
