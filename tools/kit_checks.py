@@ -67,6 +67,9 @@ ANSWERS = 'printf "./proofs/ends/$one/Answers.antt:1:1: error: %s\\nfn js_doc::e
 # An `rt must-fail` that answers each edit so, and has to find the library that `rt lib` made.
 SAYS = r"""[ -e crates/js_doc/out/rlib/stamp ] && [ ! -e crates/js_doc/out/incremental ] || exit 1
 for edit in first second; do printf "rt: must-fail js_doc/$edit.edit: %s\\n"; done"""
+SAYS_OF_EACH = r"""for edit in "crates/$2/must-fail"/*; do
+    echo "rt: must-fail $2/${edit##*/}: refused, as it must be"
+done; [ "$(ls "crates/$2/must-fail" | wc -l)" = 1 ]"""
 CALLS_IT = 'echo "fn js_doc::ends::$one: no proof: it calls \\`js_doc::ends::other\\`, which is not proved"'
 DOES_NOT_COMPILE = 'echo "error[type]: src/ends.rt:1:1"; exit 1'
 
@@ -89,7 +92,8 @@ def of_wrong_bodies(room):
     for words in ([script], [script, "--quick"]):
         yield Check(f"{' '.join(words)}, no rt", words, f"{missing}: No such file", homes[0], {"RT": missing})
     proving = room.executable("rt/proves all", FAKE_RT % 'echo "fn js_doc::ends::$one: proved"')
-    yield Check(f"{script}, an rt that proves all", [script], "NOT REFUSED", homes[0], {"RT": proving})
+    for words in ([script], [script, "--jobs", "2"]):
+        yield Check(f"{' '.join(words)}, an rt that proves all", words, "0 passed, 2 failed", homes[0], {"RT": proving})
     for says, failure in (("refused, as it must be", ""),
                           ("refused, as it must be: ./proofs/ends/Answers.antt:1:1: no", ""),
                           ("refused, as it must be (only because a proof file names it)", "FAILED js_doc/second.edit"),
@@ -97,6 +101,8 @@ def of_wrong_bodies(room):
                           ("NOT REFUSED: the crate is still proved", "FAILED js_doc/first.edit: NOT REFUSED")):
         rt = room.executable(f"rt/says {says[:30]} {len(says)}", SAYS % says)
         yield Check(f"{script}, an rt that says '{says}'", [script], failure, homes[0], {"RT": rt})
+    rt = room.executable("rt/refuses what is there", SAYS_OF_EACH)
+    yield Check(f"{script} --jobs 2, an rt that refuses", [script, "--jobs", "2"], "", homes[0], {"RT": rt})
     for name, says, body in (("proves all", "NOT REFUSED", 'echo "fn js_doc::ends::$one: proved"'),
                              ("refuses each", "", REFUSES),
                              ("refuses answers", "", ANSWERS.format("another type")),
