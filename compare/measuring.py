@@ -17,6 +17,8 @@ MANY_BYTES = 2_000_000
 MANY_LEAST, MANY_MOST = 3, 100
 TIME = shutil.which("time")
 DATA_BYTES = 6_000_000_000
+# How long a process may take.
+SECONDS = float(os.environ.get("SECONDS_EACH", 600))
 
 
 @dataclass
@@ -131,8 +133,9 @@ def verdicts(tool, case, variant):
     mode = mode_of(variant)
     if variant == "errors" and "errors" not in tool.asked:
         mode = "verdict"
-    done = subprocess.run(tool.command(mode, case.files[variant]), capture_output=True, text=True,
-                          env=os.environ | tool.environment)
+    done = run_bounded(tool.command(mode, case.files[variant]), tool.environment, SECONDS)
+    if done.returncode is None:
+        return f"no end after {SECONDS:g} s"
     answer = tool.verdicts(mode, done)
     return answer if answer is not None else fault_of(done)
 
@@ -162,7 +165,7 @@ def measure_case(tools, case, rounds, seconds):
                     spent[tool.name] += wall
     for tool in tools:
         if tool.name in measured and not measured[tool.name].fault:
-            done = run_bounded(tool.command("verdict", case.files["one"]), tool.environment, 600)
+            done = run_bounded(tool.command("verdict", case.files["one"]), tool.environment, SECONDS)
             measured[tool.name].megabytes = done.megabytes
     return measured, wanted
 

@@ -75,12 +75,12 @@ class Jschema(Tool):
         return errors[0]["instanceLocation"] if errors else None
 
     def verdicts(self, mode, done):
-        if done.returncode > 1:
+        if done.returncode not in (0, 1):
             return None
         if mode == "errors":
             return [done.returncode == 0]
         words = [line.split(" ")[0] for line in done.stdout.splitlines()[:-1]]
-        return None if "skip" in words else [word == "pass" for word in words]
+        return [word == "pass" for word in words] if words and set(words) <= {"pass", "fail"} else None
 
 
 class Library(Tool):

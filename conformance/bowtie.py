@@ -1,11 +1,11 @@
 #!/usr/bin/env python3
 """Speaks the protocol of Bowtie, the harness of the JSON Schema community, over the built program.
 
-    conformance/bowtie.py --home URL [--version TEXT] [--meta-schemas FOLDER] [--program FILE]
+    conformance/bowtie.py --home URL [--version TEXT] [--meta-schemas FOLDER] [--program FILE] [--seconds N]
 
 Requests are lines of JSON on standard input, `start`, `dialect`, `run` and `stop`; each but the last is answered by a
-line on standard output. A test that the program gives no verdict on is skipped, with the name of the refusal. URL is
-where this repository stands: Bowtie wants to know it.
+line on standard output. A test that the program gives no verdict on is skipped, with the name of the refusal. Where it
+crashes, or takes more than N seconds, the answer says so. URL is where this repository stands: Bowtie wants to know it.
 """
 import argparse
 import json
@@ -13,7 +13,7 @@ import platform
 import sys
 import tempfile
 
-from program import Program, ProgramFailed, default_program, parse_json
+from program import SECONDS, Program, ProgramFailed, default_program, parse_json
 from suite import META_SCHEMA, find_meta_schemas, needed
 
 PROTOCOL = 1
@@ -77,12 +77,18 @@ def main():
     parser.add_argument("--version", metavar="TEXT", help="the version to report to Bowtie")
     parser.add_argument("--meta-schemas", metavar="FOLDER", help="the documents of the meta-schema")
     parser.add_argument("--program", default=default_program(), help="the program, in place of the built one")
+    parser.add_argument("--seconds", type=float, default=SECONDS, help="limit for each run (default: %(default)s)")
     given = parser.parse_args()
     if given.program is None:
         print("bowtie: no program is built: ./jschema builds it, and ./test", file=sys.stderr)
         return 1
     with tempfile.TemporaryDirectory(prefix="jschema-bowtie-") as folder:
-        session = Session(Program(given.program, folder), find_meta_schemas(given.meta_schemas), given)
+        try:
+            program = Program(given.program, folder, given.seconds)
+        except ProgramFailed as fault:
+            print(f"bowtie: {fault}", file=sys.stderr)
+            return 1
+        session = Session(program, find_meta_schemas(given.meta_schemas), given)
         for line in sys.stdin:
             request = parse_json(line)
             if request["cmd"] == "stop":

@@ -62,7 +62,7 @@ def judge_output(program, suite, name, number, group, format_):
     if done.returncode > 1:
         outcome = refusal(done.stderr, documents)
     else:
-        meant = program.check_words("basic", test["output"][format_], json.loads(done.stdout), output_schema(suite))
+        meant = program.check_words("basic", test["output"][format_], read_output(done.stdout), output_schema(suite))
         status = program.run(*meant).returncode
         if status > 1:
             raise ProgramFailed(f"the schema for the output isn't accepted: {meant}")
@@ -70,6 +70,14 @@ def judge_output(program, suite, name, number, group, format_):
         shown_by = (program.path, *meant) if status else ()
     title = f"{test['description']} ({format_})"
     return Judged(os.path.join("output-tests", name), group["description"], title, f"{g}.{t}", outcome, shown_by)
+
+
+def read_output(text):
+    """The output of a check."""
+    try:
+        return json.loads(text)
+    except ValueError as error:
+        raise ProgramFailed(f"an output that isn't JSON: {text[-300:]!r}") from error
 
 
 def output_schema(suite):

@@ -1,4 +1,5 @@
-"""The program under test: what it says of each test of a suite's groups, and why it skips one."""
+"""The program under test: what it says of each test of a suite's groups, and why it skips one. Whatever else it does,
+as a crash or a run without an end, is a ProgramFailed."""
 import itertools
 import json
 import os
@@ -17,7 +18,7 @@ REFUSED_REFERENCE = "RefusedReference"
 
 
 class ProgramFailed(Exception):
-    """The program did something that it must not do on these arguments."""
+    """The program did something that it must not do on these arguments, or isn't there."""
 
 
 @dataclass(frozen=True)
@@ -57,12 +58,21 @@ def words_of(documents):
 class Program:
     """A built program, and a folder for its input files."""
 
-    def __init__(self, path, folder):
-        self.path, self.folder, self.numbers = os.path.abspath(path), folder, itertools.count()
+    def __init__(self, path, folder, seconds=SECONDS):
+        self.path, self.folder, self.seconds, self.numbers = os.path.abspath(path), folder, seconds, itertools.count()
+        if not (os.path.isfile(path) and os.access(path, os.X_OK)):
+            raise ProgramFailed(f"no program at {path}")
 
     def run(self, *words):
-        """Runs it with these arguments."""
-        return subprocess.run([self.path, *words], capture_output=True, text=True, encoding="utf-8", timeout=SECONDS)
+        """Runs it with these arguments. It must end with a verdict, or refuse them."""
+        try:
+            done = subprocess.run([self.path, *words], capture_output=True, text=True, encoding="utf-8",
+                                  timeout=self.seconds)
+        except subprocess.TimeoutExpired as error:
+            raise ProgramFailed(f"{words[0]}: no end after {self.seconds:g} s") from error
+        if done.returncode not in (0, 1, 3):
+            raise ProgramFailed(f"{words[0]} ended with {done.returncode}: {done.stderr.strip()}")
+        return done
 
     def file(self, value):
         """A new file of the folder that holds a value."""
@@ -78,9 +88,9 @@ class Program:
             return [self.outcomes([group], documents)[0] for group in groups]
         if done.returncode == 3:
             return [[refusal(done.stderr, documents)] * len(group["tests"]) for group in groups]
-        if done.returncode > 1:
-            raise ProgramFailed(f"suite ended with {done.returncode}: {done.stderr.strip()}")
         said = {(int(g), int(t)): status for status, g, t in LINE.findall(done.stdout)}
+        if said.keys() != {(g, t) for g, group in enumerate(groups) for t in range(len(group["tests"]))}:
+            raise ProgramFailed(f"suite doesn't say of each test what came of it: {done.stdout[-300:]!r}")
         return [self.of_group(group, documents, [said[g, t] for t in range(len(group["tests"]))])
                 for g, group in enumerate(groups)]
 

@@ -181,6 +181,9 @@ def of_tree(node, words):
     for it in cases.STANDARD_FORMATS:
         yield in_turn(*words, "flat_doc", it, answer=text(forms.form(node, it)))
         yield quiet(*words, "put_flat", it, answer=text(forms.form(node, it)))
+    # (of rows nothing is merged)
+    yield Question((*words, "flat_doc", "merged"), whole)
+    yield quiet(*words, "put_flat", "merged", answer=whole)
     yield quiet(*words, "put_tree", answer=whole)
     for call, answer in (
             ("prune", pruned), ("flat_prune", pruned), ("condense", condensed), ("flat_condense", condensed),

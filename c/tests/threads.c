@@ -6,8 +6,15 @@ enum { THREADS = 8, CHECKS = 400 };
 
 #define SCHEMA "{\"properties\": {\"age\": {\"minimum\": 0}}, \"additionalProperties\": {\"pattern\": \"^a+$\"}}"
 
-static const char *const INSTANCES[] = {"{\"age\": 1}", "{\"age\": -1}", "{\"name\": \"aaa\"}", "{\"name\": \"b\"}",
-                                        "1.5"};
+/* Instances, and what a check of each answers. */
+static const struct {
+    const char *text;
+    uint32_t status;
+} INSTANCES[] = {{"{\"age\": 1}", JSCHEMA_DONE},
+                 {"{\"age\": -1}", JSCHEMA_INVALID},
+                 {"{\"name\": \"aaa\"}", JSCHEMA_DONE},
+                 {"{\"name\": \"b\"}", JSCHEMA_INVALID},
+                 {"1.5", JSCHEMA_REFUSED}};
 
 typedef struct {
     jschema handle;
@@ -15,13 +22,15 @@ typedef struct {
     uint64_t sum;
 } worker;
 
-/* A sum over all statuses and texts of a handle. */
+/* A sum over all texts of a handle. The program ends where a status is wrong, or a text is missing. */
 static uint64_t sum_of_checks(jschema *handle, size_t entry) {
     uint64_t sum = 14695981039346656037u;
     for (int i = 0; i < CHECKS; i++) {
-        const char *instance = INSTANCES[i % 5];
-        sum += jschema_check(handle, entry, (const uint8_t *)instance, strlen(instance), (uint32_t)(i / 5 % 5));
+        const char *instance = INSTANCES[i % 5].text;
+        uint32_t format = (uint32_t)(i / 5 % 5);
+        uint32_t status = jschema_check(handle, entry, (const uint8_t *)instance, strlen(instance), format);
         text said = text_of(handle);
+        if (status != INSTANCES[i % 5].status || said.length == 0) give_up("another answer");
         for (size_t j = 0; j < said.length; j++) sum = (sum ^ said.bytes[j]) * 1099511628211u;
         free(said.bytes);
     }

@@ -1,0 +1,190 @@
+"""Tests of the scripts that run the Rattle kit: over fake kits."""
+import os
+import re
+import shutil
+import sys
+from dataclasses import dataclass
+from pathlib import Path
+
+from programs import HOME, TimeoutExpired, answer_of, no_end
+from script_checks import FAKES, SECONDS, Check
+
+BENCHES = {"bench/finish": ["--most", "1000", "places"], "bench/merge": ["alike"], "bench/walk": ["items"]}
+BENCH_CRATES = ("js_doc", "js_assert", "js_bundle", "js_tree", "js_eval")
+
+
+def of_benches(room):
+    """Without a kit, with one that fails or hangs, and with a program that does."""
+    home = room.copy("benches")
+    for crate in BENCH_CRATES:
+        for part in ("src", "specs", "proofs"):
+            os.makedirs(os.path.join(home, "crates", crate, part))
+    kits = {"no kit": (room.path_without_kit(), "needs the Rattle kit")}
+    for name, body, says in (("a kit that fails", "echo 'not proved' >&2; exit 1", "not built:\n\nnot proved"),
+                             ("a kit that hangs", "exec sleep 100", "not built: no end after 1 s")):
+        kits[name] = os.path.dirname(room.executable(f"{name}/rt", body)) + os.pathsep + os.environ["PATH"], says
+    for fake, says in (("crashes", "status -11"), ("hangs", "no end after 1 s"),
+                       ("answers nothing", "answers|ValueError")):
+        program = room.executable(f"fakes/{fake}", FAKES[fake][0])
+        kit = room.executable(f"kit of a program that {fake}/rt",
+                              f"mkdir -p out && cp '{program}' out/measure && echo 1")
+        kits[f"a program that {fake}"] = os.path.dirname(kit) + os.pathsep + os.environ["PATH"], says
+    for script, words in BENCHES.items():
+        for name, (path, says) in kits.items():
+            yield Check(f"{script}, {name}", [script, "--seconds", "1", *words], says, home, {"PATH": path},
+                        has_count=False)
+
+
+# What a fake kit prints in the place of a proof.
+BY_RT, BY_RATTLE = "rt: lib", "rattle: build"
+
+
+def of_library(room):
+    """Over a fake kit: the crates below the library are taken as `rt ci` left them, unless a source has changed."""
+    kit = os.path.dirname(os.path.dirname(room.executable(
+        "fake kit/bin/rt", f'[ "$1" = doc ] && echo "${{0%/bin/rt}}/START-HERE.md" || {{ echo "rt: $1"; exit 1; }}')))
+    room.executable("fake kit/bin/rattle", 'echo "rattle: $1"; exit 1')
+    room.executable("fake kit/c/liblibc_c.a", "")
+    env = {"PATH": os.path.join(kit, "bin") + os.pathsep + os.environ["PATH"]}
+    for name, says, how in (("after rt ci", BY_RATTLE, {}), ("a crate isn't built", BY_RT, {"without": "js_doc"}),
+                            ("rt lib built a crate", BY_RT, {"stamped": "js_eval"}),
+                            ("a source was edited", BY_RT, {"edited": "js_assert"}),
+                            ("a crate that it doesn't use was edited", BY_RATTLE, {"edited": "js_command"})):
+        home = room.copy_with_crates(f"library, {name}", **how)
+        yield Check(f"tools/build-library, {name}", ["tools/build-library"], says, home, env, has_count=False, status=4)
+
+
+# A fake rt for two functions: `check` tells of each by what is written in it, and `must-fail` refuses nothing.
+FAKE_RT = r"""[ "$1" = must-fail ] && for edit in "crates/$2/must-fail"/*; do
+    echo "rt: must-fail $2/${edit##*/}: NOT REFUSED: the crate is still proved"
+done
+for one in first second; do
+    if ! grep -q "wrong_$one" src/ends.rt; then echo "fn js_doc::ends::$one: proved"; else %s; fi
+done 2>/dev/null
+echo only=2 proved=1"""
+REFUSES = 'echo "fn js_doc::ends::$one: no proof: expected answers in ..; \\`search\\` did not prove \\`returns\\`"'
+ANSWERS = 'printf "./proofs/ends/$one/Answers.antt:1:1: error: %s\\nfn js_doc::ends::$one: not proved\\n" "{}"'
+# An `rt must-fail` that answers each edit so, and has to find the library that `rt lib` made.
+SAYS = r"""[ -e crates/js_doc/out/rlib/stamp ] && [ ! -e crates/js_doc/out/incremental ] || exit 1
+for edit in first second; do printf "rt: must-fail js_doc/$edit.edit: %s\\n"; done"""
+SAYS_OF_EACH = r"""for edit in "crates/$2/must-fail"/*; do
+    echo "rt: must-fail $2/${edit##*/}: refused, as it must be"
+done; [ "$(ls "crates/$2/must-fail" | wc -l)" = 1 ]"""
+CALLS_IT = 'echo "fn js_doc::ends::$one: no proof: it calls \\`js_doc::ends::other\\`, which is not proved"'
+DOES_NOT_COMPILE = 'echo "error[type]: src/ends.rt:1:1"; exit 1'
+
+
+def of_wrong_bodies(room):
+    """Over fakes of rt: an edit passes only where the function that it is in is refused for its contract."""
+    homes = [room.copy("wrong bodies"), room.copy("wrong bodies of what isn't proved")]
+    for home, first in zip(homes, ("right_first", "wrong_first")):
+        for folder in ("crates/js_doc/src", "wrong-bodies/js_doc"):
+            os.makedirs(os.path.join(home, folder))
+        for folder in ("rlib", "incremental"):
+            os.makedirs(os.path.join(home, "crates/js_doc/out", folder))
+        Path(home, "crates/js_doc/out/rlib/stamp").touch()
+        Path(home, "crates/js_doc/src/ends.rt").write_text(
+            f"fn first() {{\n    {first}\n}}\n\nfn second() {{\n    right_second\n}}\n")
+        for one in ("first", "second"):
+            Path(home, f"wrong-bodies/js_doc/{one}.edit").write_text(
+                f"file: src/ends.rt\nold: right_{one}\nnew: wrong_{one}\n")
+    missing, script = os.path.join(room.folder, "none"), "tools/wrong-bodies"
+    for words in ([script], [script, "--quick"]):
+        yield Check(f"{' '.join(words)}, no rt", words, f"{missing}: No such file", homes[0], {"RT": missing})
+    proving = room.executable("rt/proves all", FAKE_RT % 'echo "fn js_doc::ends::$one: proved"')
+    for words in ([script], [script, "--jobs", "2"]):
+        yield Check(f"{' '.join(words)}, an rt that proves all", words, "0 passed, 2 failed", homes[0], {"RT": proving})
+    for says, failure in (("refused, as it must be", ""),
+                          ("refused, as it must be: ./proofs/ends/Answers.antt:1:1: no", ""),
+                          ("refused, as it must be (only because a proof file names it)", "FAILED js_doc/second.edit"),
+                          ("BAD EDIT: it did not reach the prover\\nerror: ends.rt", "FAILED(.|\n)*error: ends.rt"),
+                          ("NOT REFUSED: the crate is still proved", "FAILED js_doc/first.edit: NOT REFUSED")):
+        rt = room.executable(f"rt/says {says[:30]} {len(says)}", SAYS % says)
+        yield Check(f"{script}, an rt that says '{says}'", [script], failure, homes[0], {"RT": rt})
+    rt = room.executable("rt/refuses what is there", SAYS_OF_EACH)
+    yield Check(f"{script} --jobs 2, an rt that refuses", [script, "--jobs", "2"], "", homes[0], {"RT": rt})
+    for name, says, body in (("proves all", "NOT REFUSED", 'echo "fn js_doc::ends::$one: proved"'),
+                             ("refuses each", "", REFUSES),
+                             ("refuses answers", "", ANSWERS.format("another type")),
+                             ("refuses names alone", "NOT REFUSED", ANSWERS.format("it has no field")),
+                             ("refuses callers alone", "NOT REFUSED", CALLS_IT),
+                             ("can't compile it", "NOT REFUSED", DOES_NOT_COMPILE)):
+        env = {"RT": room.executable(f"rt/{name}", FAKE_RT % body)}
+        yield Check(f"{script} --quick, an rt that {name}", [script, "--quick"], says, homes[0], env)
+    yield Check(f"{script} --quick, a crate that isn't proved", [script, "--quick"], "isn't proved without them",
+                homes[1], {"RT": room.executable("rt/refuses each", FAKE_RT % REFUSES)})
+
+
+# A fake gate: what a fake prover does, in the order of lines. The words of a line: the crate, the folder of kept work,
+# and where it runs ('-' for none), and the seconds of a core that it takes; without these it sleeps for a second.
+FAKE_GATE = """
+js_doc - - 1.2
+js_doc rt-edits-1 rt-edit-1 1.2
+js_doc rt-edits-1 rt-edit-2
+js_doc rt-edits-1 rt-edit-3
+js_doc rt-edits-1 rt-edit-4 1.2
+
+js_tree rt-edits-2/seed - 1.2
+js_tree rt-edits-2/5 rt-edit-5
+js_tree rt-edits-2/6 rt-edit-6
+
+js_eval - rt-edit-7
+"""
+# The columns of gate-times: proof, build, tests, kept check, wrong bodies, tried, each.
+WANTED_TIMES = r"""
+\| `js_doc` \| 1 \| 0 \| 0 \| [23] \| 0 \| 3 \| 0 \|
+\| `js_tree` \| 0 \| 0 \| 0 \| 1 \| 0 \| 2 \| 0 \|
+\| `js_eval` \| 0 \| 0 \| 0 \| 0 \| 0 \| 1 \| 0 \|
+"""
+SPINS = "import sys, time\nwhile time.process_time() < float(sys.argv[1]): pass\ntime.sleep(float(sys.argv[2]))"
+
+
+@dataclass
+class Times:
+    """tools/gate-times over a gate whose crates are checked side by side."""
+
+    name: str
+    folder: str
+    words: tuple = ("tools/gate-times",)
+
+    def script(self):
+        """The gate, as the shell runs it."""
+        yield f"'{HOME}/tools/gate-times' $$ & watch=$!"
+        for lane in FAKE_GATE.strip().split("\n\n"):
+            yield "("
+            for crate, kept, folder, *seconds in map(str.split, lane.split("\n")):
+                room = self.folder if folder == "-" else os.path.join(self.folder, folder)
+                os.makedirs(room, exist_ok=True)
+                numbers = f"{seconds[0]} 0" if seconds else "0 1"
+                given = "" if kept == "-" else f"--incremental '{self.folder}/{kept}'"
+                yield f"(cd '{room}' && '{self.folder}/rattle' -c '{SPINS}' {numbers} --crate-name {crate} {given})"
+            yield ") & lanes+=($!)"
+        yield 'wait "${lanes[@]}"; kill -TERM $watch; wait $watch'
+
+    def fault(self):
+        os.makedirs(self.folder)
+        os.symlink(sys.executable, os.path.join(self.folder, "rattle"))
+        try:
+            out, errors, _ = answer_of(["bash", "-c", "\n".join(self.script())], SECONDS)
+        except TimeoutExpired as error:
+            return no_end(error)
+        missing = [it for it in WANTED_TIMES.split("\n") if not re.search(it, out.decode())]
+        return f"{missing} in {out.decode()} {errors.decode()}" if missing else None
+
+
+def of_times(room):
+    """How wrong bodies are counted: over one folder in turn, each over a copy of a check, or one from nothing."""
+    yield Times("tools/gate-times", os.path.join(room.folder, "gate with times"))
+
+
+def of_gate(room):
+    """./test over a fake rt: where the proofs fail, or come to no count, it fails and runs nothing more."""
+    home = room.copy("gate")
+    shutil.copy(os.path.join(HOME, "test"), home)
+    yield Check("test, no kit", ["test"], "needs the Rattle kit", home,
+                {"PATH": room.path_without_kit("bash", "dirname")})
+    for name, body, says in (("fails", "echo '3 passed, 1 failed'; exit 1", "3 passed, 1 failed"),
+                             ("ends with another status", "echo '3 passed, 0 failed'; exit 2", "3 passed, 1 failed"),
+                             ("comes to no count", "echo proved", "rt ci came to no count")):
+        rt = os.path.dirname(room.executable(f"gate's rt that {name}/rt", body))
+        yield Check(f"test, an rt that {name}", ["test"], says, home, {"PATH": rt + os.pathsep + os.environ["PATH"]})
