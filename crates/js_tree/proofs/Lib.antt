@@ -11,6 +11,7 @@ pub mod EscapedRows
 pub mod FlagText
 pub mod FlatRows
 pub mod FlatTold
+pub mod Gathering
 pub mod Giving
 pub mod MarkedRows
 pub mod Marks

@@ -1,12 +1,10 @@
 -- The text of trees that have only what their locations add, below a node with given locations.
-use Rattle.std.proofs.Common.{◌≡◌, ℕ, ◌≤◌, Bool, true, false, List, [], ◌∷◌, ◌++◌, codes, length, take, drop, Result, Ok, Err, refl, ap, sym, ◌∙◌, append_assoc, arith}
+use Rattle.std.proofs.Common.{◌≡◌, ℕ, ◌≤◌, Bool, true, false, List, [], ◌∷◌, ◌++◌, codes, length, take, drop, refl, ap, sym, ◌∙◌, append_assoc, arith}
 use Rattle.std.specs.List.{sum_by}
-use Rattle.std.specs.Result.{IsErr}
 use Rattle.std.proofs.lemmas.List.Sums.{sum_by-take-drop, sum_by-take-le}
-use Rattle.js_doc.specs.BytesOut.{Progress, Puts, Stops}
+use Rattle.js_doc.specs.BytesOut.{Progress}
 use Rattle.js_doc.specs.Compact.{comma_if, compact}
 use Rattle.js_doc.specs.Value.{Value, items, list}
-use Rattle.js_doc.proofs.BytesGone.{Wrote, same_left}
 use Rattle.js_tree.specs.Forest.{Forest, empty, tree}
 use Rattle.js_tree.specs.Form.{node_value, node_values, verbose}
 use Rattle.js_tree.specs.Locations.{HasRoom, IsBack}
@@ -22,6 +20,7 @@ use Rattle.js_tree.specs.declared.relative.locations.Locations.{Locations}
 use Rattle.js_tree.specs.declared.relative.rows.RelativeRow.{RelativeRow}
 use Rattle.js_tree.proofs.EscapedRows.{no_trees}
 use Rattle.js_tree.proofs.FlatRows.{SomeTree}
+use Rattle.js_tree.proofs.Gathering.{LeftToPass, same_to_pass}
 use Rattle.js_tree.proofs.ListedUnits.{array_text}
 use Rattle.js_tree.proofs.NodeTexts.{annotations, errors, pieces_are}
 use Rattle.js_tree.proofs.QuotedParts.{beginning_in_parts}
@@ -123,8 +122,8 @@ tree_left later k i f u below after e =
     ∙ sym (append_assoc (comma_if later) (compact (verbose (placed_tree k i (record { root = u; below = below })))) (values_text true (node_values (placed k i after))))
 
 -- the first of them comes next
-pub tree_next : (a b : Progress) (later : Bool) (k i : List ℕ) (f : Forest OutputUnit) (u : OutputUnit) (below after : Forest OutputUnit) (all : List ℕ) → Wrote a b (values_text later (node_values (placed k i f))) all → f ≡ tree u below after → Wrote a b ((comma_if later ++ compact (verbose (placed_tree k i (record { root = u; below = below })))) ++ values_text true (node_values (placed k i after))) all
-tree_next a b later k i f u below after all w e = same_left a b _ _ all w (tree_left later k i f u below after e)
+pub tree_next : (a b : Progress) (p q : List ℕ) (later : Bool) (k i : List ℕ) (f : Forest OutputUnit) (u : OutputUnit) (below after : Forest OutputUnit) (all : List ℕ) → LeftToPass a b p q (values_text later (node_values (placed k i f))) all → f ≡ tree u below after → LeftToPass a b p q ((comma_if later ++ compact (verbose (placed_tree k i (record { root = u; below = below })))) ++ values_text true (node_values (placed k i after))) all
+tree_next a b p q later k i f u below after all w e = same_to_pass a b p q _ _ all w (tree_left later k i f u below after e)
 
 pub back_again : (l m n : Locations) → IsBack l m → IsBack m n → IsBack l n
 back_again l m n b c = record {
@@ -133,7 +132,3 @@ back_again l m n b c = record {
   keyword_room = omega (arith, b.keyword_room, c.keyword_room);
   instance_room = omega (arith, b.instance_room, c.instance_room);
 }
-
-pub stops_last : {T E : Type 0} (a b : Progress) (p : List ℕ) (r : Result T E) → IsErr r → Stops a b p → Puts a b p r
-stops_last a b p (Ok x) h s = absurd cc
-stops_last a b p (Err e) h s = s

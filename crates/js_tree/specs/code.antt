@@ -1,6 +1,7 @@
 -- Definitions for private functions only: no public clause cites them.
 pub mod Compacting
 pub mod Differing
+pub mod Gathering
 pub mod KeptBetween
 pub mod Listing
 pub mod Nesting

@@ -12,6 +12,7 @@ ghost use Rattle.js_tree.specs.Seen.{note_of};
 ghost use Rattle.js_tree.specs.RelativeState.{AreRowsOf, AreWhole, relative_row};
 ghost use Rattle.js_tree.specs.Result.{ResultTree, pruned};
 ghost use Rattle.js_tree.specs.code.NodeText.{annotation_part, end_text, error_part, list_start, valid_text};
+ghost use Rattle.js_tree.specs.code.Gathering.{Passed};
 ghost use Rattle.js_tree.specs.code.Listing.{AreListed, if_noted, listed, listed_tree, may_list};
 ghost use Rattle.js_tree.specs.code.RelativeText.{AreRowsOfTree, AreRowsOfTrees, IsAbsolute, unit_there};
 
@@ -136,10 +137,8 @@ fn put_noted<O: Out>(
     Ok(true)
 }
 
-/// Writes the unit as a node without children; after a comma, if a unit was written before. Its pieces go out together,
-/// unless they are too long for that.
-#[inline(never)]
-pub(crate) fn put_unit<O: Out>(
+/// Writes the unit as a node without children; after a comma, if a unit was written before.
+fn put_unit<O: Out>(
     later: bool,
     row: &RelativeRow,
     locations: &mut Locations,
@@ -153,9 +152,32 @@ pub(crate) fn put_unit<O: Out>(
     ensures back { IsBack locations.old locations.new }
 {
     gathered.clear();
+    add_unit(later, row, locations, gathered, out)?;
+    out.put(gathered.as_slice())
+}
+
+/// Gathers the unit's text, or writes it behind what was gathered if there is no room for it.
+#[inline(never)]
+pub(crate) fn add_unit<O: Out>(
+    later: bool,
+    row: &RelativeRow,
+    locations: &mut Locations,
+    gathered: &mut Gathered,
+    out: &mut O,
+) -> Result<(), Stopped>
+    ensures text { (keyword absolute instance : List ℕ) → AreAt locations.old keyword instance
+        → IsAbsolute row.now absolute
+        → Passed (O.progress out.old) (O.progress out.new) gathered.old.text.items gathered.new.text.items
+        (comma_if later ++ compact (node_value (unit_there row.now keyword absolute instance) [])) result }
+    ensures back { IsBack locations.old locations.new }
+{
+    let before = gathered.len();
     match put_pieces(later, row, locations, gathered) {
-        Ok(()) => out.put(gathered.as_slice()),
-        Err(Stopped) => put_pieces(later, row, locations, out),
+        Ok(()) => Ok(()),
+        Err(Stopped) => {
+            gathered.put_out(before, out)?;
+            put_pieces(later, row, locations, out)
+        }
     }
 }
 

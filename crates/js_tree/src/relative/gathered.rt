@@ -1,18 +1,19 @@
-//! The text of a node, put together in memory before it goes out.
-ghost use Rattle.std.specs.Prelude.{◌≡◌, []};
+//! Text that is put together in memory before it goes out.
+ghost use Rattle.std.specs.Prelude.{◌≡◌, [], OnOk, length, take};
+ghost use Rattle.js_doc.specs.BytesOut.{Puts};
 
 use js_doc::{Memory, Out, Stopped};
 use std::alloc::Global;
 
-/// A text in memory that the pieces of one node are put into. Then they go out together: each call of another output
-/// costs as much as some hundred bytes. A text that is too long doesn't fit, so nothing is allocated.
+/// Text in memory that the pieces of nodes are put into. They go out together: each call of another output costs as much
+/// as some hundred bytes. It has a limit, so nothing is allocated while it is used.
 #[derive(Drop)]
 pub(crate) struct Gathered {
     pub(crate) text: Vec<u8>,
 }
 
-// Longer texts don't fit.
-const LONGEST: usize = 1024;
+// Longer text doesn't fit.
+const LONGEST: usize = 8192;
 
 impl Gathered {
     /// No text, and all the memory that it will need.
@@ -43,6 +44,27 @@ impl Gathered {
         ensures { result.now ≡ self.now.text.items }
     {
         self.text.as_slice()
+    }
+
+    /// How many bytes that is.
+    pub fn len(&self) -> usize
+        ensures { result ≡ length self.now.text.items }
+    {
+        self.text.len()
+    }
+
+    /// Puts so many bytes of the beginning out, and forgets the others.
+    ///
+    /// # Errors
+    /// `Stopped` if the output stops; then a beginning of them was written.
+    pub fn put_out<O: Out>(&mut self, count: usize, out: &mut O) -> Result<(), Stopped>
+        ensures text { Puts (O.progress out.old) (O.progress out.new) (take count self.old.text.items) result }
+        ensures empty { OnOk result (self.new.text.items ≡ []) }
+    {
+        self.text.truncate(count);
+        out.put(self.text.as_slice())?;
+        self.text.clear();
+        Ok(())
     }
 }
 

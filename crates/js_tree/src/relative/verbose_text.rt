@@ -10,12 +10,13 @@ ghost use Rattle.js_tree.specs.Relative.{placed, placed_tree};
 ghost use Rattle.js_tree.specs.RelativeState.{AreRowsOf, AreWhole, part};
 ghost use Rattle.js_tree.specs.Result.{ResultTree};
 ghost use Rattle.js_tree.specs.Seen.{note_of};
+ghost use Rattle.js_tree.specs.code.Gathering.{Passed};
 ghost use Rattle.js_tree.specs.code.Listing.{values_text};
 ghost use Rattle.js_tree.specs.code.RelativeText.{AreRowsOfTree, AreRowsOfTrees, IsAbsolute, after_children};
 ghost use Rattle.js_tree.specs.code.RelativeText.{before_children, children_start, error_behind, opening_text, unit_there};
 
 use crate::note::Note;
-use crate::relative::basic_text::put_unit;
+use crate::relative::basic_text::add_unit;
 use crate::relative::gathered::Gathered;
 use crate::relative::locations::Locations;
 use crate::relative::rows::{RelativeRow, RelativeRows};
@@ -40,10 +41,12 @@ pub fn put_verbose<O: Out>(
     let mut locations = locations;
     let mut gathered = locations.take_gathered();
     let rows = rows.rows.as_slice();
-    put_tree(false, rows, &mut locations, &mut gathered, out)
+    gathered.clear();
+    put_tree(false, rows, &mut locations, &mut gathered, out)?;
+    out.put(gathered.as_slice())
 }
 
-/// Writes the tree of the rows, below a node with these locations; after a comma, if it isn't the first in its list.
+/// Gathers and writes the tree of the rows, below a node with these locations; after a comma, if it isn't the first in its list.
 #[cycle(put_tree)]
 fn put_tree<O: Out>(
     later: bool,
@@ -55,7 +58,7 @@ fn put_tree<O: Out>(
     requires { (r : ResultTree) × AreRowsOfTree rows.now r × HasRoom locations.old rows.now }
     ensures text { (r : ResultTree) (keyword instance : List ℕ) → AreAt locations.old keyword instance
         → AreRowsOfTree rows.now r
-        → Puts (O.progress out.old) (O.progress out.new)
+        → Passed (O.progress out.old) (O.progress out.new) gathered.old.text.items gathered.new.text.items
         (comma_if later ++ compact (verbose (placed_tree keyword instance r))) result }
     ensures back { OnOk result (IsBack locations.old locations.new) }
 {
@@ -79,17 +82,17 @@ fn put_node<O: Out>(
     requires { (f : Forest OutputUnit) × AreRowsOfTrees below.now f × HasRoom locations.old below.now }
     ensures text { (f : Forest OutputUnit) (keyword absolute instance : List ℕ) → AreAt locations.old keyword instance
         → IsAbsolute row.now absolute → AreRowsOfTrees below.now f
-        → Puts (O.progress out.old) (O.progress out.new)
+        → Passed (O.progress out.old) (O.progress out.new) gathered.old.text.items gathered.new.text.items
         (comma_if later ++ compact (node_value (unit_there row.now keyword absolute instance)
         (node_values (placed keyword instance f)))) result }
     ensures back { OnOk result (IsBack locations.old locations.new) }
 {
     if below.is_empty() {
-        return put_unit(later, row, locations, gathered, out);
+        return add_unit(later, row, locations, gathered, out);
     }
-    put_front(later, row, locations, gathered, out)?;
+    add_front(later, row, locations, gathered, out)?;
     put_trees(below, locations, gathered, out)?;
-    put_back(row, locations, gathered, out)
+    add_back(row, locations, gathered, out)
 }
 
 /// Writes the trees of the rows, with commas between them.
@@ -103,7 +106,7 @@ fn put_trees<O: Out>(
     requires { (f : Forest OutputUnit) × AreRowsOfTrees rows.now f × HasRoom locations.old rows.now }
     ensures text { (f : Forest OutputUnit) (keyword instance : List ℕ) → AreAt locations.old keyword instance
         → AreRowsOfTrees rows.now f
-        → Puts (O.progress out.old) (O.progress out.new)
+        → Passed (O.progress out.old) (O.progress out.new) gathered.old.text.items gathered.new.text.items
         (values_text false (node_values (placed keyword instance f))) result }
     ensures back { OnOk result (IsBack locations.old locations.new) }
 {
@@ -119,10 +122,10 @@ fn put_trees<O: Out>(
     Ok(())
 }
 
-/// Writes what stands before the children of a node that has some. Its pieces go out together, unless they are too long
-/// for that.
+/// Gathers what stands before the children of a node that has some, or writes it behind what was gathered if there is
+/// no room for it.
 #[inline(never)]
-fn put_front<O: Out>(
+fn add_front<O: Out>(
     later: bool,
     row: &RelativeRow,
     locations: &mut Locations,
@@ -130,19 +133,22 @@ fn put_front<O: Out>(
     out: &mut O,
 ) -> Result<(), Stopped>
     ensures text { (absolute : List ℕ) → IsAbsolute row.now absolute
-        → Puts (O.progress out.old) (O.progress out.new)
+        → Passed (O.progress out.old) (O.progress out.new) gathered.old.text.items gathered.new.text.items
         (before_children later absolute (note_of row.now.note) row.now.valid) result }
     ensures back { IsBack locations.old locations.new }
 {
-    gathered.clear();
-    match put_front_pieces(later, row, locations, gathered) {
-        Ok(()) => out.put(gathered.as_slice()),
-        Err(Stopped) => put_front_pieces(later, row, locations, out),
+    let before = gathered.len();
+    match put_front(later, row, locations, gathered) {
+        Ok(()) => Ok(()),
+        Err(Stopped) => {
+            gathered.put_out(before, out)?;
+            put_front(later, row, locations, out)
+        }
     }
 }
 
-/// Writes the same piece by piece.
-fn put_front_pieces<O: Out>(
+/// Writes what stands before the children of a node that has some.
+fn put_front<O: Out>(
     later: bool,
     row: &RelativeRow,
     locations: &mut Locations,
@@ -169,31 +175,30 @@ fn put_list_start<O: Out>(note: &Note, valid: bool, out: &mut O) -> Result<(), S
     out.put(b",\"errors\":[")
 }
 
-/// Writes what stands after the children. Its pieces go out together, unless they are too long for that.
+/// Gathers what stands after the children, or writes it behind what was gathered if there is no room for it.
 #[inline(never)]
-fn put_back<O: Out>(
+fn add_back<O: Out>(
     row: &RelativeRow,
     locations: &Locations,
     gathered: &mut Gathered,
     out: &mut O,
 ) -> Result<(), Stopped>
     ensures { (keyword instance : List ℕ) → AreAt locations.now keyword instance
-        → Puts (O.progress out.old) (O.progress out.new)
+        → Passed (O.progress out.old) (O.progress out.new) gathered.old.text.items gathered.new.text.items
         (after_children instance keyword (note_of row.now.note) row.now.valid) result }
 {
-    gathered.clear();
-    match put_back_pieces(row, locations, gathered) {
-        Ok(()) => out.put(gathered.as_slice()),
-        Err(Stopped) => put_back_pieces(row, locations, out),
+    let before = gathered.len();
+    match put_back(row, locations, gathered) {
+        Ok(()) => Ok(()),
+        Err(Stopped) => {
+            gathered.put_out(before, out)?;
+            put_back(row, locations, out)
+        }
     }
 }
 
-/// Writes the same piece by piece.
-fn put_back_pieces<O: Out>(
-    row: &RelativeRow,
-    locations: &Locations,
-    out: &mut O,
-) -> Result<(), Stopped>
+/// Writes what stands after the children.
+fn put_back<O: Out>(row: &RelativeRow, locations: &Locations, out: &mut O) -> Result<(), Stopped>
     ensures { (keyword instance : List ℕ) → AreAt locations.now keyword instance
         → Puts (O.progress out.old) (O.progress out.new)
         (after_children instance keyword (note_of row.now.note) row.now.valid) result }

@@ -1,5 +1,4 @@
 use Rattle.std.proofs.Common.{ℕ, List, ◌≤◌, ◌+◌, ◌-◌, ◌*◌, false, drop, length}
-use Rattle.js_doc.proofs.BytesGone.{Wrote}
 use Rattle.js_tree.specs.Forest.{Forest}
 use Rattle.js_tree.specs.Form.{node_values}
 use Rattle.js_tree.specs.Locations.{AreAt, IsBack}
@@ -7,6 +6,7 @@ use Rattle.js_tree.specs.OutputUnit.{OutputUnit}
 use Rattle.js_tree.specs.Relative.{placed}
 use Rattle.js_tree.specs.code.Listing.{values_text}
 use Rattle.js_tree.specs.code.RelativeText.{AreRowsOfTrees}
+use Rattle.js_tree.proofs.Gathering.{LeftToPass}
 use Rattle.js_tree.proofs.relative.verbose_text.+put_tree.Given as goal
 
 abbrev pub decreases-put_tree : goal.decreases-put_tree
@@ -25,7 +25,7 @@ invariant-put_trees-loop-next g l =
     × ((f : Forest OutputUnit) → AreRowsOfTrees l.rows f
     → (left : Forest OutputUnit) × AreRowsOfTrees (drop l.next l.rows) left
     × ((keyword instance : List ℕ) → AreAt l.fn.locations keyword instance
-    → Wrote (g.O.Out.progress l.fn.out) (g.O.Out.progress l.out) (values_text l.later (node_values (placed keyword instance left))) (values_text false (node_values (placed keyword instance f)))))
+    → LeftToPass (g.O.Out.progress l.fn.out) (g.O.Out.progress l.out) l.fn.gathered.text.items l.gathered.text.items (values_text l.later (node_values (placed keyword instance left))) (values_text false (node_values (placed keyword instance f)))))
 
 abbrev pub decreases-put_trees-loop-next : goal.decreases-put_trees-loop-next
 decreases-put_trees-loop-next g l = length l.rows - l.next

@@ -6,6 +6,7 @@ use Rattle.js_tree.specs.Locations.{HasRoom}
 use Rattle.js_tree.specs.Relative.{relative_tree}
 use Rattle.js_tree.specs.RelativeState.{relative_row}
 use Rattle.js_tree.proofs.EscapedRows.{at_root, still_at}
+use Rattle.js_tree.proofs.Gathering.{rest_goes, stopped_before}
 use Rattle.js_tree.proofs.Placing.{placed_tree_again}
 use Rattle.js_tree.proofs.RelativeTexts.{room_still}
 use Rattle.js_tree.proofs.relative.verbose_text.put_verbose.Goals as goal
@@ -19,10 +20,23 @@ put_tree-requires g c =
       room_still c.args.locations c.take_gathered-gathered.new.self c.as_slice-rows.result.now (subst (HasRoom c.args.locations) (sym is) c.requires.room.room) c.take_gathered-gathered.ensures,
     )
 
+pub returns-in_err-put_tree : goal.returns-in_err-put_tree
+returns-in_err-put_tree g c =
+    λ t are.
+    let o = g.O.Out.progress in
+    let rows_are = ap (map relative_row) c.as_slice-rows.ensures.value ∙ ap (λ s. s.rows) are.rows_are in
+    let at = still_at c.args.locations c.take_gathered-gathered.new.self [] [] (at_root c.args.locations c.args.rows.now c.requires.room) c.take_gathered-gathered.ensures in
+    let r = c.from_residual.result in
+    subst (λ t. Puts (o c.args.out.now) (o c.put_tree.new.out) (compact (verbose t)) r) (placed_tree_again t are.located)
+    (stopped_before (o c.args.out.now) (o c.put_tree.new.out) c.clear.new.self.text.items _ r c.clear.ensures c.from_residual.ensures.0 (c.in_err-put_tree.ensures.text (relative_tree t) [] [] at rows_are))
+
 pub returns : goal.returns
 returns g c =
     λ t are.
     let o = g.O.Out.progress in
-    let r = relative_tree t in
     let rows_are = ap (map relative_row) c.as_slice-rows.ensures.value ∙ ap (λ s. s.rows) are.rows_are in
-    subst (λ t. Puts (o c.args.out.now) (o c.put_tree.new.out) (compact (verbose t)) c.put_tree.result) (placed_tree_again t are.located) (c.put_tree.ensures.text r [] [] (still_at c.args.locations c.take_gathered-gathered.new.self [] [] (at_root c.args.locations c.args.rows.now c.requires.room) c.take_gathered-gathered.ensures) rows_are)
+    let at = still_at c.args.locations c.take_gathered-gathered.new.self [] [] (at_root c.args.locations c.args.rows.now c.requires.room) c.take_gathered-gathered.ensures in
+    let r = c.put.result in
+    let rest = subst (λ l. Puts (o c.put_tree.new.out) (o c.put.new.self) l r) c.as_slice.ensures c.put.ensures in
+    subst (λ t. Puts (o c.args.out.now) (o c.put.new.self) (compact (verbose t)) r) (placed_tree_again t are.located)
+    (rest_goes (o c.args.out.now) (o c.put_tree.new.out) (o c.put.new.self) c.clear.new.self.text.items c.put_tree.new.gathered.text.items _ r c.clear.ensures (c.in_ok-put_tree.ensures.text (relative_tree t) [] [] at rows_are) rest)

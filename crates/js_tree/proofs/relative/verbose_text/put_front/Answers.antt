@@ -3,7 +3,7 @@ use Rattle.js_tree.specs.Seen.{note_of}
 use Rattle.js_tree.specs.code.NodeText.{annotation_part}
 use Rattle.js_tree.specs.code.RelativeText.{children_start, opening_text}
 use Rattle.js_tree.proofs.Pieces.{stops_in, then_puts}
-use Rattle.js_tree.proofs.relative.verbose_text.put_front_pieces.Goals as goal
+use Rattle.js_tree.proofs.relative.verbose_text.put_front.Goals as goal
 
 pub returns-in_err-put_opening-clause-text : goal.returns-in_err-put_opening-clause-text
 returns-in_err-put_opening-clause-text g c =
