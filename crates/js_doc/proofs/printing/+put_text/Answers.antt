@@ -1,4 +1,4 @@
-use Rattle.std.proofs.Common.{◌+◌, [], ◌∷◌, ◌++◌, drop, false, true, string_bytes, refl, sym}
+use Rattle.std.proofs.Common.{[], ◌∷◌, false, string_bytes, refl, sym}
 use Rattle.js_doc.specs.Seen.{value_of, items_seen, members_seen}
 use Rattle.js_doc.specs.Compact.{quoted, compact, comma_if, compact_items, compact_members}
 use Rattle.js_doc.proofs.BytesGone.{starts, goes_on, same_left, puts_err, puts_last}
