@@ -22,6 +22,10 @@ pub(crate) fn stand_apart(a: &RelativeRow, b: &RelativeRow) -> bool
 fn absolutes_differ(a: &RelativeRow, b: &RelativeRow) -> bool
     ensures { IsTrue result → (relative_row a.now).0.absolute ≢ (relative_row b.now).0.absolute }
 {
+    // Most differ here already, and schemas are longer.
+    if ends_differ(a.absolute, b.absolute) {
+        return true;
+    }
     if a.schema == b.schema {
         return parts_differ(a.absolute_slash, a.absolute, b.absolute_slash, b.absolute);
     }

@@ -83,6 +83,7 @@ fn put_trees<O: Out>(
 
 /// Writes the units of the tree of the rows. Its root has the verdict.
 #[cycle(put_trees)]
+#[inline(always)]
 fn put_tree<O: Out>(
     verdict: bool,
     later: bool,

@@ -5,8 +5,8 @@ ghost use Rattle.js_doc.specs.BytesOut.{Puts};
 use js_doc::{Memory, Out, Stopped};
 use std::alloc::Global;
 
-/// Text in memory that the pieces of nodes are put into. They go out together: each call of another output costs as much
-/// as some hundred bytes. It has a limit, so nothing is allocated while it is used.
+/// Text in memory that the pieces of nodes are put into. They go out together, since each call of another output costs
+/// as much as some hundred bytes. It has a limit, so nothing is allocated while it is used.
 #[derive(Drop)]
 pub(crate) struct Gathered {
     pub(crate) text: Vec<u8>,

@@ -164,6 +164,7 @@ impl Between {
 }
 
 // Adds the row as it is, with this size. The note is moved.
+#[inline(always)]
 fn move_row<'a>(
     row: &mut RelativeRow<'a>,
     size: usize,
@@ -222,6 +223,7 @@ fn keep_trees<'a>(
 
 // Adds the rows of what is left of the tree of the rows.
 #[cycle(keep_trees)]
+#[inline(always)]
 fn keep_tree<'a>(
     arena: &'a Bump,
     rows: &mut [RelativeRow<'a>],
@@ -251,6 +253,7 @@ fn keep_tree<'a>(
 
 // Adds the row of the first row's node, and those of what is left below it.
 #[cycle(keep_trees)]
+#[inline(always)]
 fn keep_node<'a>(
     arena: &'a Bump,
     rows: &mut [RelativeRow<'a>],

@@ -2,8 +2,8 @@
 ghost use Rattle.std.specs.Prelude.{◌≡◌, ◌+◌, ◌≤◌, ◌∷◌, [], ◌++◌, List, ℕ, IfOk, length, vec_capacity};
 ghost use Rattle.json.specs.Print.{escape};
 ghost use Rattle.js_doc.specs.BytesOut.{Puts};
-ghost use Rattle.js_tree.specs.Locations.{AreAt, HasRoom, HasRoomFor, IsBack, IsDown, IsUp, instances_added, keyword_start};
-ghost use Rattle.js_tree.specs.Locations.{keywords_added};
+ghost use Rattle.js_tree.specs.Locations.{AreAt, HasRoom, HasRoomFor, IsBack, IsDown, IsUp, instances_added};
+ghost use Rattle.js_tree.specs.Locations.{keyword_start, keywords_added};
 ghost use Rattle.js_tree.specs.RelativeState.{part};
 ghost use Rattle.js_tree.specs.code.NodeText.{end_text, valid_text};
 
@@ -24,7 +24,7 @@ pub struct Locations {
     instance: Vec<u8>,
     // How the node's text begins.
     pub(crate) opening: Opening,
-    // The memory for the text of one node.
+    // The memory for text that is gathered before it goes out.
     gathered: Gathered,
 }
 
@@ -57,7 +57,7 @@ impl Locations {
         })
     }
 
-    /// Hands on the memory for the text of one node, which it has once.
+    /// Hands on the memory for text that is gathered, which it has once.
     pub(crate) fn take_gathered(&mut self) -> Gathered
         ensures { IsBack self.old self.new }
     {

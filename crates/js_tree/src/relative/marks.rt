@@ -63,6 +63,7 @@ fn mark_trees(verdict: bool, rows: &[RelativeRow], marks: &mut Vec<Mark>) -> Res
 
 // Marks the tree of the rows. Returns 1 if something is left of it, and otherwise 0.
 #[cycle(mark_trees)]
+#[inline(always)]
 fn mark_tree(verdict: bool, rows: &[RelativeRow], marks: &mut Vec<Mark>) -> Result<usize, Memory>
     requires { (r : ResultTree) × (map relative_row rows.now ≡ flat_form r) }
     ensures { IfOk result (λ trees. (r : ResultTree) → map relative_row rows.now ≡ flat_form r
@@ -85,6 +86,7 @@ fn mark_tree(verdict: bool, rows: &[RelativeRow], marks: &mut Vec<Mark>) -> Resu
 }
 
 // Marks the row of a node without children: most rows are of such nodes.
+#[inline(always)]
 fn mark_leaf(verdict: bool, row: &RelativeRow, marks: &mut Vec<Mark>) -> Result<usize, Memory>
     ensures { IfOk result (λ trees.
         (marks.new.items ≡ marks.old.items ++ marked verdict (tree (relative_row row.now).0 empty empty))
@@ -95,6 +97,7 @@ fn mark_leaf(verdict: bool, row: &RelativeRow, marks: &mut Vec<Mark>) -> Result<
     Ok(trees_of(mark))
 }
 
+#[inline(always)]
 fn mark_of(verdict: bool, row: &RelativeRow, trees: usize) -> Mark
     ensures { result ≡ mark_of verdict (relative_row row.now).0 trees }
 {
@@ -114,6 +117,7 @@ fn mark_of(verdict: bool, row: &RelativeRow, trees: usize) -> Mark
     }
 }
 
+#[inline(always)]
 fn trees_of(mark: Mark) -> usize
     ensures { result ≡ (if (mark.stays || mark.below) then 1 else 0) }
 {

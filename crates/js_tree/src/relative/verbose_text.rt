@@ -13,7 +13,8 @@ ghost use Rattle.js_tree.specs.Seen.{note_of};
 ghost use Rattle.js_tree.specs.code.Gathering.{Passed};
 ghost use Rattle.js_tree.specs.code.Listing.{values_text};
 ghost use Rattle.js_tree.specs.code.RelativeText.{AreRowsOfTree, AreRowsOfTrees, IsAbsolute, after_children};
-ghost use Rattle.js_tree.specs.code.RelativeText.{before_children, children_start, error_behind, opening_text, unit_there};
+ghost use Rattle.js_tree.specs.code.RelativeText.{before_children, children_start, error_behind, opening_text};
+ghost use Rattle.js_tree.specs.code.RelativeText.{unit_there};
 
 use crate::note::Note;
 use crate::relative::basic_text::add_unit;
@@ -48,6 +49,7 @@ pub fn put_verbose<O: Out>(
 
 /// Gathers and writes the tree of the rows, below a node with these locations; after a comma, if it isn't the first in its list.
 #[cycle(put_tree)]
+#[inline(always)]
 fn put_tree<O: Out>(
     later: bool,
     rows: &[RelativeRow],
@@ -71,6 +73,7 @@ fn put_tree<O: Out>(
 
 /// Writes a node with these locations, and the trees below it.
 #[cycle(put_tree)]
+#[inline(always)]
 fn put_node<O: Out>(
     later: bool,
     row: &RelativeRow,
