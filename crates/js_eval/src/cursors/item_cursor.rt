@@ -5,11 +5,11 @@ ghost use Rattle.js_eval.specs.Applications.{among_indexes, application, indexed
 ghost use Rattle.js_eval.specs.code.Applied.{IsHeld, applied_of};
 ghost use Rattle.js_eval.specs.code.Asked.{IsApplied};
 ghost use Rattle.js_eval.specs.code.Cursors.{AreMarked, is_marked, items_asked, items_left};
-ghost use Rattle.js_eval.specs.code.Terms.{Documents, IsSchemaAt, instance_of, numbered_site, schemas_of, value_of};
+ghost use Rattle.js_eval.specs.code.Terms.{Documents, IsSchemaAt, numbered_site, schemas_of, value_of};
 ghost use Rattle.js_eval.specs.SchemaSet as spec;
 
 use crate::cursors::application::{Held, To, apply_to_part};
-use crate::instance::{Applied, Instance};
+use crate::instance::Applied;
 use js_bundle::{Place, Schemas, Step};
 use js_doc::{Doc, Memory};
 use std::alloc::Global;
