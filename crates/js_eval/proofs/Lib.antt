@@ -9,6 +9,7 @@ pub mod Examples
 pub mod AskedNothing
 pub mod FoundByName
 pub mod Turns
+pub mod UnseenWalks
 pub mod HowMany
 pub mod JudgedDocuments
 pub mod Largest

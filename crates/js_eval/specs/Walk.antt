@@ -4,4 +4,5 @@ pub mod Said
 pub mod Told
 pub mod Visited
 pub mod Steps
+pub mod Ended
 pub mod Reported

@@ -7,6 +7,8 @@ pub mod Applicator
 pub mod KeywordsLeft
 pub mod Applied
 pub mod Standing
+pub mod Starting
+pub mod Terms
 pub mod Holding
 pub mod NamesLeft
 pub mod ListLeft

@@ -1,15 +1,11 @@
 //! Finished schemas and their patterns, as a walk uses them.
 ghost use Rattle.std.specs.Prelude.{◌≡◌, ◌++◌, IfOk, None, OnOk, Some, map, option_to_list, string_bytes, true};
-ghost use Rattle.js_bundle.specs.Schemas.{is_place};
 ghost use Rattle.js_doc.specs.Fragment.{fragment_token};
-ghost use Rattle.js_eval.specs.Bundle.{schemas_of};
-ghost use Rattle.js_eval.specs.code.Standing.{IsSchemaAt};
 ghost use Rattle.js_doc.specs.Seen.{value_of as schema_value};
 ghost use Rattle.js_eval.specs.Evaluated.{index_in_step, name_in_step};
-ghost use Rattle.js_eval.specs.Seen.{instance_of, step_of};
-ghost use Rattle.js_eval.specs.Sited.{numbered_site};
 ghost use Rattle.js_eval.specs.Walk.Told.{at_step, schema_says};
 ghost use Rattle.js_tree.specs.Seen.{note_of};
+ghost use Rattle.js_eval.specs.code.Terms.{IsSchemaAt, instance_of, is_place, numbered_site, schemas_of, step_of};
 
 use crate::cursors::asking::{Asking, next_asked};
 use crate::cursors::start_by_kind::{Facts, Scene, asking_of_keyword};
@@ -17,7 +13,7 @@ use crate::instance::{Applied, Instance};
 use crate::judging::notes::schema_note;
 use crate::judging::others::others_at;
 use crate::judging::passing;
-use crate::keywords::keyword::{Keyword, is_written_as_it_is};
+use crate::keywords::keyword::{Keyword, KeywordAt, is_written_as_it_is};
 use crate::keywords::keyword_cursor::Keywords;
 use crate::keywords::kind::Kind;
 use crate::schema::is_accepting;
@@ -144,11 +140,14 @@ impl<'a> World for Here<'a> {
         if matches!(keyword.kind, Kind::AdditionalProperties) {
             keep_all(alloc, self.schemas, &self.searchers, place, schema, value)?;
         }
+        let at = KeywordAt {
+            place,
+            schema,
+            keyword,
+        };
         let scene = Scene {
             path,
             scope: resources,
-            place,
-            schema,
             value,
         };
         let facts = Facts {
@@ -156,7 +155,7 @@ impl<'a> World for Here<'a> {
             names,
             indexes,
         };
-        asking_of_keyword(alloc, self.schemas, scene, facts, keyword)
+        asking_of_keyword(alloc, self.schemas, &at, scene, facts)
     }
 
     fn next(&self, alloc: Global, asking: &mut Asking<'a>) -> Result<Option<Applied<'a>>, Memory> {

@@ -1,8 +1,6 @@
 //! Values that schemas are applied to, and applications.
 ghost use Rattle.std.specs.Prelude.{◌≡◌, [], MatchOption, map};
-ghost use Rattle.js_assert.specs.Argument.{entries, values};
-ghost use Rattle.js_doc.specs.Seen.{value_of};
-ghost use Rattle.js_eval.specs.Seen.{instance_of};
+ghost use Rattle.js_eval.specs.code.Terms.{entries, instance_of, value_of, values};
 
 use js_bundle::{Place, Step};
 use js_doc::{Doc, Members};

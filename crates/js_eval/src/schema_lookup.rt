@@ -7,18 +7,14 @@ ghost use Rattle.js_bundle.specs.Resource.{sites};
 ghost use Rattle.js_bundle.specs.ResourceNumber.{dynamic_target_in};
 ghost use Rattle.js_bundle.specs.Schemas.{StandsFor, has_keyword, is_place, path_at, place_at};
 ghost use Rattle.js_bundle.specs.Target.{dynamic_target};
-ghost use Rattle.js_doc.specs.Seen.{value_of};
-ghost use Rattle.js_assert.specs.Argument.{entries};
-ghost use Rattle.js_bundle.specs.Ranked.{HoldsAtRank, is_alone};
-ghost use Rattle.js_eval.specs.Bundle.{schemas_of};
-ghost use Rattle.js_eval.specs.code.Holding.{IsIn, held_at};
+ghost use Rattle.js_bundle.specs.Ranked.{HoldsAtRank};
 ghost use Rattle.js_eval.specs.code.Standard.{keyword_names_of};
-ghost use Rattle.js_eval.specs.code.Standing.{IsSchemaAt};
+ghost use Rattle.js_eval.specs.code.Starting.{HoldsOne};
+ghost use Rattle.js_eval.specs.code.Terms.{IsSchemaAt, entries, numbered_site};
+ghost use Rattle.js_eval.specs.code.Terms.{resource_of, schemas_of, step_of, value_of};
 ghost use Rattle.js_eval.specs.SchemaSet as spec;
-ghost use Rattle.js_eval.specs.Seen.{keyword_of, step_of};
-ghost use Rattle.js_eval.specs.Sited.{numbered_site, resource_of};
 
-use crate::keywords::keyword::Keyword;
+use crate::keywords::keyword::{Keyword, KeywordAt};
 use crate::walking::Path;
 use js_bundle::laws::{a_number_tells_a_resource, numbers_tell_the_dynamic_scope};
 use js_bundle::{KeywordName, Place, Schemas, Step};
@@ -85,22 +81,17 @@ pub(crate) fn below_at_rank<'a>(
 }
 
 /// The single subschema of a keyword, and its place.
-pub(crate) fn held_below<'a>(
-    schemas: &Schemas,
-    place: Place,
-    schema: &'a Doc,
-    keyword: Keyword<'a>,
-) -> (Place, &'a Doc)
-    requires place { IsSchemaAt schemas.now place (value_of schema.now) }
-    requires kind { held_at keyword.kind ≡ is_alone }
-    requires keyword { IsIn (value_of schema.now) (keyword_of keyword) }
+pub(crate) fn held_below<'a>(schemas: &Schemas, at: &KeywordAt<'a>) -> (Place, &'a Doc)
+    requires { HoldsOne schemas.now at.now }
     ensures is { IsSchemaAt schemas.now result.0 (value_of result.1.now) }
     ensures site { numbered_site schemas.now result.0
-        ≡ (schemas_of schemas.now).below (numbered_site schemas.now place) keyword.entry.name.now spec.Alone }
+        ≡ (schemas_of schemas.now).below (numbered_site schemas.now at.now.place) at.now.keyword.name.now spec.Alone }
 {
+    let schema = at.schema;
+    let keyword = at.keyword;
     below_at_rank(
         schemas,
-        place,
+        at.place,
         schema,
         keyword,
         Step::Alone,

@@ -1,11 +1,8 @@
 //! Applications: which subschema of a keyword is applied to which part of a value.
 ghost use Rattle.std.specs.Prelude.{◌≡◌};
-ghost use Rattle.js_doc.specs.Seen.{value_of};
 ghost use Rattle.js_eval.specs.code.Applied.{IsHeld, applied, applied_of, at_in, site_in, step_in, applied_value};
 ghost use Rattle.js_eval.specs.code.Asked.{IsApplied};
-ghost use Rattle.js_eval.specs.code.Standing.{IsSchemaAt};
-ghost use Rattle.js_eval.specs.Seen.{instance_of, step_of};
-ghost use Rattle.js_eval.specs.Sited.{numbered_site};
+ghost use Rattle.js_eval.specs.code.Terms.{IsSchemaAt, instance_of, numbered_site, step_of, value_of};
 ghost use Rattle.js_eval.specs.declared.cursors.application.To.TheVariants as to;
 
 use crate::instance::{Applied, Instance};

@@ -1,13 +1,9 @@
 //! The applications that a keyword asks for, one after another (Core, sections 8.2.3, 10 and 11).
 ghost use Rattle.std.specs.Prelude.{◌≡◌, ◌∷◌, [], IfOk, MatchOption};
-ghost use Rattle.js_bundle.specs.Document.{Documents};
-ghost use Rattle.js_doc.specs.Seen.{value_of};
 ghost use Rattle.js_eval.specs.code.Applied.{applied_of};
 ghost use Rattle.js_eval.specs.code.Asked.{IsApplied, IsAsking, IsOne, asked, one_asked};
-ghost use Rattle.js_eval.specs.code.Standing.{IsSchemaAt};
+ghost use Rattle.js_eval.specs.code.Terms.{Documents, IsSchemaAt, instance_of, numbered_site, value_of};
 ghost use Rattle.js_eval.specs.SchemaSet as spec;
-ghost use Rattle.js_eval.specs.Seen.{instance_of};
-ghost use Rattle.js_eval.specs.Sited.{numbered_site};
 
 use crate::cursors::item_cursor::{ItemCursor, next_on_item};
 use crate::cursors::list_cursor::{ListCursor, next_in_list};

@@ -1,20 +1,15 @@
 //! Applications item by item (Core, sections 10.2.1, 10.3.1 and 11.2): each schema of a list on the value, or a schema
 //! on each item of an array.
 ghost use Rattle.std.specs.Prelude.{◌≡◌, ◌∷◌, [], IfOk, MatchOption, filter, length, map, nat_le, nat_lt, not, take};
-ghost use Rattle.js_doc.specs.Seen.{value_of};
-ghost use Rattle.js_bundle.specs.Document.{Documents};
 ghost use Rattle.js_eval.specs.Applications.{among_indexes, application, indexed_from};
 ghost use Rattle.js_eval.specs.code.Applied.{IsHeld, applied_of};
 ghost use Rattle.js_eval.specs.code.Asked.{IsApplied};
-ghost use Rattle.js_eval.specs.Bundle.{schemas_of};
 ghost use Rattle.js_eval.specs.code.Cursors.{AreMarked, is_marked, items_asked, items_left};
-ghost use Rattle.js_eval.specs.code.Standing.{IsSchemaAt};
+ghost use Rattle.js_eval.specs.code.Terms.{Documents, IsSchemaAt, numbered_site, schemas_of, value_of};
 ghost use Rattle.js_eval.specs.SchemaSet as spec;
-ghost use Rattle.js_eval.specs.Seen.{instance_of};
-ghost use Rattle.js_eval.specs.Sited.{numbered_site};
 
 use crate::cursors::application::{Held, To, apply_to_part};
-use crate::instance::{Applied, Instance};
+use crate::instance::Applied;
 use js_bundle::{Place, Schemas, Step};
 use js_doc::{Doc, Memory};
 use std::alloc::Global;

@@ -3,21 +3,16 @@
 ghost use Rattle.std.specs.Prelude.{◌≡◌, ◌||◌, ◌∷◌, [], IfOk, MatchOption, filter, map, not};
 ghost use Rattle.std.specs.List.{list_any};
 ghost use Rattle.std.specs.Option.{option_map_or};
-ghost use Rattle.js_assert.specs.Argument.{entries, has};
 ghost use Rattle.js_assert.specs.Pattern.{matches};
-ghost use Rattle.js_bundle.specs.Document.{Documents};
 ghost use Rattle.js_doc.specs.Members.{get};
-ghost use Rattle.js_doc.specs.Seen.{value_of};
 ghost use Rattle.js_doc.specs.Value.{text};
 ghost use Rattle.js_eval.specs.Applications.{among_names, application};
 ghost use Rattle.js_eval.specs.code.Applied.{IsHeld, applied_of};
 ghost use Rattle.js_eval.specs.code.Asked.{IsApplied};
-ghost use Rattle.js_eval.specs.Bundle.{schemas_of};
 ghost use Rattle.js_eval.specs.code.Cursors.{is_chosen, is_matched, is_named, members_asked, chosen_members, named_in};
-ghost use Rattle.js_eval.specs.code.Standing.{IsSchemaAt};
+ghost use Rattle.js_eval.specs.code.Terms.{Documents, IsSchemaAt, entries, has};
+ghost use Rattle.js_eval.specs.code.Terms.{instance_of, numbered_site, schemas_of, texts_of, value_of};
 ghost use Rattle.js_eval.specs.SchemaSet as spec;
-ghost use Rattle.js_eval.specs.Seen.{instance_of, texts_of};
-ghost use Rattle.js_eval.specs.Sited.{numbered_site};
 
 use crate::cursors::application::{Held, To, apply_to_part};
 use crate::instance::{Applied, Instance, object_in};

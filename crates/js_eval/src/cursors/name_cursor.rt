@@ -2,25 +2,17 @@
 //! on the member. The members are looked up name by name; or, since names and members both ascend, the two are gone
 //! through side by side.
 ghost use Rattle.std.specs.Prelude.{◌≡◌, ◌∷◌, ◌+◌, ◌<◌, ◌^◌, [], MatchOption, Some, filter, length, map, slice_get};
-ghost use Rattle.js_assert.specs.Argument.{entries, has};
-ghost use Rattle.js_bundle.specs.Document.{Documents};
 ghost use Rattle.js_doc.specs.Members.{IsAscending};
-ghost use Rattle.js_doc.specs.Seen.{pair_of, value_of};
 ghost use Rattle.js_doc.specs.Value as doc;
 ghost use Rattle.js_bundle.specs.Ranked.{is_name};
-ghost use Rattle.js_eval.specs.Applications.{application};
-ghost use Rattle.js_eval.specs.Bundle.{schemas_of};
 ghost use Rattle.js_eval.specs.code.Applied.{applied_of};
 ghost use Rattle.js_eval.specs.code.Asked.{IsApplied};
-ghost use Rattle.js_eval.specs.code.Holding.{IsIn, held_at};
 ghost use Rattle.js_eval.specs.code.NamesLeft.{AreLeft, IsNames, members_among, names_asked, names_left};
-ghost use Rattle.js_eval.specs.code.Standing.{IsSchemaAt};
-ghost use Rattle.js_eval.specs.SchemaSet as spec;
-ghost use Rattle.js_eval.specs.Seen.{keyword_of};
-ghost use Rattle.js_eval.specs.Sited.{numbered_site};
+ghost use Rattle.js_eval.specs.code.Starting.{HoldsBy, IsAtPlace, on_namesakes};
+ghost use Rattle.js_eval.specs.code.Terms.{Documents, entries, has, pair_of, value_of};
 
 use crate::instance::{Applied, Instance};
-use crate::keywords::keyword::Keyword;
+use crate::keywords::keyword::{Keyword, KeywordAt};
 use crate::schema_lookup::below_at_rank;
 use js_bundle::{Place, Schemas, Step};
 use js_doc::{Doc, Members, Pairs, name_order};
@@ -47,31 +39,26 @@ pub(crate) enum Among<'a> {
     Left(Pairs<'a>),
 }
 
-/// The schema of each name that a member has, applied to the member. It looks each name up.
+/// The schema of each name that a member has, applied to the member.
 pub(crate) fn each_of_names<'a>(
-    place: Place,
-    schema: &'a Doc,
-    keyword: Keyword<'a>,
+    at: &KeywordAt<'a>,
     named: &'a Members,
-    members: &'a Members,
+    among: Among<'a>,
 ) -> NameCursor<'a>
-    requires kind { held_at keyword.kind ≡ is_name }
-    requires keyword { IsIn (value_of schema.now) (keyword_of keyword) }
-    requires named { named.now ≡ entries (value_of keyword.argument.now) }
+    requires at { HoldsBy is_name at.now }
+    requires named { named.now ≡ entries (value_of at.now.keyword.argument.now) }
+    requires ascend { IsAscending (members_among among) }
     ensures asked { (documents : Documents) → names_asked documents result
-        ≡ map (λ m. application (schemas_of documents) (numbered_site documents place) keyword.entry.name.now
-        (spec.Name m.0) (spec.Name m.0) m.1)
-        (filter (λ m. has m.0 named.now) members.now) }
-    ensures is { (documents : Documents) → IsSchemaAt documents place (value_of schema.now) → IsNames documents result }
+        ≡ on_namesakes documents at.now (filter (λ m. has m.0 named.now) (members_among among.entry)) }
+    ensures is { (documents : Documents) → IsAtPlace documents at.now → IsNames documents result }
 {
-    names_ascend(members);
     NameCursor {
-        place,
-        schema,
-        keyword,
+        place: at.place,
+        schema: at.schema,
+        keyword: at.keyword,
         names: named.pairs(),
         rank: 0,
-        among: Among::All(members),
+        among,
     }
 }
 
@@ -80,33 +67,6 @@ pub(crate) fn names_ascend(members: &Members)
     ensures { IsAscending members.now }
 {
     let _ = members.pairs();
-}
-
-/// The same. It goes through names and members side by side.
-pub(crate) fn each_in_step<'a>(
-    place: Place,
-    schema: &'a Doc,
-    keyword: Keyword<'a>,
-    named: &'a Members,
-    members: &'a Members,
-) -> NameCursor<'a>
-    requires kind { held_at keyword.kind ≡ is_name }
-    requires keyword { IsIn (value_of schema.now) (keyword_of keyword) }
-    requires named { named.now ≡ entries (value_of keyword.argument.now) }
-    ensures asked { (documents : Documents) → names_asked documents result
-        ≡ map (λ m. application (schemas_of documents) (numbered_site documents place) keyword.entry.name.now
-        (spec.Name m.0) (spec.Name m.0) m.1)
-        (filter (λ m. has m.0 named.now) members.now) }
-    ensures is { (documents : Documents) → IsSchemaAt documents place (value_of schema.now) → IsNames documents result }
-{
-    NameCursor {
-        place,
-        schema,
-        keyword,
-        names: named.pairs(),
-        rank: 0,
-        among: Among::Left(members.pairs()),
-    }
 }
 
 /// The next application, or None after the last.

@@ -3,13 +3,10 @@
 ghost use Rattle.std.specs.Prelude.{◌≡◌, ◌∷◌, [], IfOk, MatchOption, filter, map};
 ghost use Rattle.std.specs.List.{flat_map};
 ghost use Rattle.js_assert.specs.Pattern.{matches};
-ghost use Rattle.js_bundle.specs.Document.{Documents};
-ghost use Rattle.js_doc.specs.Seen.{pair_of, value_of};
 ghost use Rattle.js_eval.specs.code.Applied.{applied_of};
 ghost use Rattle.js_eval.specs.code.Asked.{ArePatterns, IsApplied};
 ghost use Rattle.js_eval.specs.code.Cursors.{IsBegun, matching_asked, on_matched_member, patterns_asked};
-ghost use Rattle.js_eval.specs.code.Standing.{IsSchemaAt};
-ghost use Rattle.js_eval.specs.Sited.{numbered_site};
+ghost use Rattle.js_eval.specs.code.Terms.{Documents, IsSchemaAt, numbered_site, pair_of, value_of};
 
 use crate::cursors::member_cursor::pattern_of;
 use crate::instance::{Applied, Instance};

@@ -1,23 +1,18 @@
 //! The applications that a keyword asks for, by its kind (Core, sections 8.2.3, 10 and 11).
 ghost use Rattle.std.specs.Prelude.{◌≡◌, ◌∷◌, [], IfOk, map, nat_eq, true};
 ghost use Rattle.std.specs.List.{dedup, list_all};
-ghost use Rattle.js_assert.specs.Argument.{entries};
-ghost use Rattle.js_bundle.specs.Schemas.{is_place};
-ghost use Rattle.js_doc.specs.Seen.{value_of};
-ghost use Rattle.js_bundle.specs.Ranked.{is_alone};
-ghost use Rattle.js_eval.specs.Applications.{application, asks_of, if_fails, if_holds};
+ghost use Rattle.js_eval.specs.Applications.{asks_of, if_fails, if_holds};
 ghost use Rattle.js_eval.specs.code.Asked.{IsAsking, asked};
-ghost use Rattle.js_eval.specs.code.Holding.{IsIn, held_at};
-ghost use Rattle.js_eval.specs.code.Standing.{IsSchemaAt};
-ghost use Rattle.js_eval.specs.Bundle.{schemas_of};
+ghost use Rattle.js_eval.specs.code.Holding.{IsIn};
+ghost use Rattle.js_eval.specs.code.Starting.{HoldsOne, IsAtPlace, by_keyword};
+ghost use Rattle.js_eval.specs.code.Terms.{IsSchemaAt, entries, instance_of, is_place, keyword_of};
+ghost use Rattle.js_eval.specs.code.Terms.{numbered_site, resource_of, schemas_of, texts_of, value_of};
 ghost use Rattle.js_eval.specs.SchemaSet as spec;
-ghost use Rattle.js_eval.specs.Seen.{instance_of, keyword_of, texts_of};
-ghost use Rattle.js_eval.specs.Sited.{numbered_site, resource_of};
 
 use crate::cursors::asking::{Asking, alone};
 use crate::cursors::{start_items, start_members};
 use crate::instance::Instance;
-use crate::keywords::keyword::Keyword;
+use crate::keywords::keyword::KeywordAt;
 use crate::keywords::kind::Kind;
 use crate::schema_lookup::{dynamic_target_at, held_below, target_at};
 use crate::walking::Path;
@@ -25,17 +20,13 @@ use js_bundle::{Place, Schemas};
 use js_doc::{Doc, Memory};
 use std::alloc::Global;
 
-/// Where a keyword is evaluated, and on what value.
+/// In which dynamic scope a keyword is evaluated, and on what value.
 #[derive(Clone, Copy)]
 pub(crate) struct Scene<'s, 'a> {
     /// The places of the schemas being applied, from the root's to that of the keyword's schema.
     pub path: &'s Path,
     /// The numbers of their schema resources, without consecutive repeats.
     pub scope: &'s [usize],
-    /// The place of the keyword's schema.
-    pub place: Place,
-    /// That schema.
-    pub schema: &'a Doc,
     /// The value.
     pub value: Instance<'a>,
 }
@@ -58,74 +49,49 @@ pub(crate) struct Facts<'s, 'a> {
 pub(crate) fn asking_of_keyword<'a>(
     alloc: Global,
     schemas: &'a Schemas,
+    at: &KeywordAt<'a>,
     scene: Scene<'_, 'a>,
     facts: Facts<'_, 'a>,
-    keyword: Keyword<'a>,
 ) -> Result<Asking<'a>, Memory>
-    requires schema { IsSchemaAt schemas.now scene.place (value_of scene.schema.now) }
+    requires place { IsAtPlace schemas.now at.now }
     requires path { list_all (is_place schemas.now) scene.path.now ≡ true }
     requires resources { scene.scope.now ≡ dedup nat_eq (map (resource_of schemas.now) scene.path.now) }
-    requires keyword { IsIn (value_of scene.schema.now) (keyword_of keyword) }
+    requires keyword { IsIn (value_of at.now.schema.now) (keyword_of at.now.keyword) }
     ensures asked { IfOk result (λ a. asked schemas.now a
         ≡ asks_of (schemas_of schemas.now) (map (numbered_site schemas.now) scene.entry.path.now)
-        (numbered_site schemas.now scene.entry.place) (entries (value_of scene.entry.schema.now))
+        (numbered_site schemas.now at.now.place) (entries (value_of at.now.schema.now))
         (instance_of scene.entry.value) facts.entry.condition (texts_of facts.entry.names.now) facts.entry.indexes.now
-        (keyword_of keyword.entry) keyword.entry.kind) }
+        (keyword_of at.now.keyword) at.now.keyword.kind) }
     ensures is { IfOk result (λ a. IsAsking schemas.now a) }
 {
-    let Scene {
-        path,
-        scope,
-        place,
-        schema,
-        value,
-    } = scene;
-    match keyword.kind {
-        Kind::Reference => Ok(referred(schemas, place, schema, value)),
+    let Scene { path, scope, value } = scene;
+    let condition = facts.condition;
+    match at.keyword.kind {
+        Kind::Reference => Ok(referred(schemas, at.place, at.schema, value)),
         Kind::DynamicReference => Ok(referred_dynamically(
-            schemas, place, schema, path, scope, value,
+            schemas, at.place, at.schema, path, scope, value,
         )),
-        Kind::AllOf => Ok(start_items::each_in_list(place, schema, keyword, value)),
-        Kind::AnyOf => Ok(start_items::each_in_list(place, schema, keyword, value)),
-        Kind::OneOf => Ok(start_items::each_in_list(place, schema, keyword, value)),
-        Kind::Not => Ok(held(schemas, place, schema, keyword, value)),
-        Kind::If => Ok(held(schemas, place, schema, keyword, value)),
-        Kind::Then => Ok(held_then(schemas, place, schema, keyword, facts.condition, value)),
-        Kind::Else => Ok(held_else(schemas, place, schema, keyword, facts.condition, value)),
-        Kind::DependentSchemas => {
-            start_members::dependent(alloc, schemas, place, schema, keyword, value)
+        Kind::AllOf => Ok(start_items::each_in_list(at, value)),
+        Kind::AnyOf => Ok(start_items::each_in_list(at, value)),
+        Kind::OneOf => Ok(start_items::each_in_list(at, value)),
+        Kind::Not => Ok(held(schemas, at, value)),
+        Kind::If => Ok(held(schemas, at, value)),
+        Kind::Then => Ok(held_then(schemas, at, condition, value)),
+        Kind::Else => Ok(held_else(schemas, at, condition, value)),
+        Kind::DependentSchemas => start_members::dependent(alloc, schemas, at, value),
+        Kind::PrefixItems => Ok(start_items::prefix(alloc, schemas, at, value)),
+        Kind::Items => Ok(start_items::following(alloc, schemas, at, value)),
+        Kind::Contains => Ok(start_items::every(alloc, schemas, at, value)),
+        Kind::Properties => start_members::properties(alloc, at, value),
+        Kind::PatternProperties => start_members::patterns(alloc, schemas, at, value),
+        Kind::AdditionalProperties => start_members::additional(alloc, schemas, at, value),
+        Kind::PropertyNames => start_members::property_names(alloc, schemas, at, value),
+        Kind::UnevaluatedItems => {
+            start_items::unevaluated_items(alloc, schemas, at, facts.indexes, value)
         }
-        Kind::PrefixItems => Ok(start_items::prefix(alloc, schemas, place, schema, keyword, value)),
-        Kind::Items => Ok(start_items::following(alloc, schemas, place, schema, keyword, value)),
-        Kind::Contains => Ok(start_items::every(alloc, schemas, place, schema, keyword, value)),
-        Kind::Properties => start_members::properties(alloc, place, schema, keyword, value),
-        Kind::PatternProperties => {
-            start_members::patterns(alloc, schemas, place, schema, keyword, value)
+        Kind::UnevaluatedProperties => {
+            start_members::unevaluated_properties(alloc, schemas, at, facts.names, value)
         }
-        Kind::AdditionalProperties => {
-            start_members::additional(alloc, schemas, place, schema, keyword, value)
-        }
-        Kind::PropertyNames => {
-            start_members::property_names(alloc, schemas, place, schema, keyword, value)
-        }
-        Kind::UnevaluatedItems => start_items::unevaluated_items(
-            alloc,
-            schemas,
-            place,
-            schema,
-            keyword,
-            facts.indexes,
-            value,
-        ),
-        Kind::UnevaluatedProperties => start_members::unevaluated_properties(
-            alloc,
-            schemas,
-            place,
-            schema,
-            keyword,
-            facts.names,
-            value,
-        ),
         Kind::Assertion => Ok(Asking::One(None)),
         Kind::Annotation => Ok(Asking::One(None)),
     }
@@ -178,46 +144,30 @@ fn referred_dynamically<'a>(
 }
 
 // The keyword's schema, applied to the value itself.
-fn held<'a>(
-    schemas: &'a Schemas,
-    place: Place,
-    schema: &'a Doc,
-    keyword: Keyword<'a>,
-    value: Instance<'a>,
-) -> Asking<'a>
-    requires place { IsSchemaAt schemas.now place (value_of schema.now) }
-    requires kind { held_at keyword.kind ≡ is_alone }
-    requires keyword { IsIn (value_of schema.now) (keyword_of keyword) }
+fn held<'a>(schemas: &'a Schemas, at: &KeywordAt<'a>, value: Instance<'a>) -> Asking<'a>
+    requires { HoldsOne schemas.now at.now }
     ensures asked { asked schemas.now result
-        ≡ application (schemas_of schemas.now)
-        (numbered_site schemas.now place) keyword.entry.name.now spec.Alone spec.Alone
-        (instance_of value.entry) ∷ [] }
+        ≡ by_keyword schemas.now at.now spec.Alone spec.Alone (instance_of value.entry) ∷ [] }
     ensures is { IsAsking schemas.now result }
 {
-    let (place, schema) = held_below(schemas, place, schema, keyword);
+    let (place, schema) = held_below(schemas, at);
     alone(place, schema, value)
 }
 
 // The schema of `then`, applied if the adjacent `if` succeeds. `condition`: whether it does, or None without an `if`.
 fn held_then<'a>(
     schemas: &'a Schemas,
-    place: Place,
-    schema: &'a Doc,
-    keyword: Keyword<'a>,
+    at: &KeywordAt<'a>,
     condition: Option<bool>,
     value: Instance<'a>,
 ) -> Asking<'a>
-    requires place { IsSchemaAt schemas.now place (value_of schema.now) }
-    requires kind { held_at keyword.kind ≡ is_alone }
-    requires keyword { IsIn (value_of schema.now) (keyword_of keyword) }
+    requires { HoldsOne schemas.now at.now }
     ensures asked { asked schemas.now result ≡ if_holds condition
-        (application (schemas_of schemas.now)
-        (numbered_site schemas.now place) keyword.entry.name.now spec.Alone spec.Alone
-        (instance_of value.entry) ∷ []) }
+        (by_keyword schemas.now at.now spec.Alone spec.Alone (instance_of value.entry) ∷ []) }
     ensures is { IsAsking schemas.now result }
 {
     match condition {
-        Some(true) => held(schemas, place, schema, keyword, value),
+        Some(true) => held(schemas, at, value),
         Some(false) => Asking::One(None),
         None => Asking::One(None),
     }
@@ -226,23 +176,17 @@ fn held_then<'a>(
 // The schema of `else`, applied if the adjacent `if` fails. `condition`: whether it succeeds, or None without an `if`.
 fn held_else<'a>(
     schemas: &'a Schemas,
-    place: Place,
-    schema: &'a Doc,
-    keyword: Keyword<'a>,
+    at: &KeywordAt<'a>,
     condition: Option<bool>,
     value: Instance<'a>,
 ) -> Asking<'a>
-    requires place { IsSchemaAt schemas.now place (value_of schema.now) }
-    requires kind { held_at keyword.kind ≡ is_alone }
-    requires keyword { IsIn (value_of schema.now) (keyword_of keyword) }
+    requires { HoldsOne schemas.now at.now }
     ensures asked { asked schemas.now result ≡ if_fails condition
-        (application (schemas_of schemas.now)
-        (numbered_site schemas.now place) keyword.entry.name.now spec.Alone spec.Alone
-        (instance_of value.entry) ∷ []) }
+        (by_keyword schemas.now at.now spec.Alone spec.Alone (instance_of value.entry) ∷ []) }
     ensures is { IsAsking schemas.now result }
 {
     match condition {
-        Some(false) => held(schemas, place, schema, keyword, value),
+        Some(false) => held(schemas, at, value),
         Some(true) => Asking::One(None),
         None => Asking::One(None),
     }

@@ -2,33 +2,29 @@
 //! an argument that should be an object, isn't one.
 ghost use Rattle.std.specs.Prelude.{◌≡◌, ◌||◌, IfOk, filter, map, not};
 ghost use Rattle.std.specs.List.{flat_map};
-ghost use Rattle.js_assert.specs.Argument.{entries, has};
 ghost use Rattle.js_assert.specs.Pattern.{matches};
-ghost use Rattle.js_bundle.specs.Document.{Documents};
-ghost use Rattle.js_doc.specs.Seen.{value_of};
+ghost use Rattle.js_bundle.specs.Ranked.{is_name};
+ghost use Rattle.js_doc.specs.Members.{IsAscending};
 ghost use Rattle.js_doc.specs.Value.{text};
-ghost use Rattle.js_bundle.specs.Ranked.{is_alone, is_name};
-ghost use Rattle.js_eval.specs.Applications.{among_names, application, is_property, matches_pattern};
-ghost use Rattle.js_eval.specs.code.Asked.{IsAsking, asked};
-ghost use Rattle.js_eval.specs.code.Holding.{IsIn, held_at};
-ghost use Rattle.js_eval.specs.code.Standing.{IsSchemaAt};
-ghost use Rattle.js_eval.specs.Bundle.{schemas_of};
+ghost use Rattle.js_eval.specs.Applications.{among_names, is_property, matches_pattern};
 ghost use Rattle.js_eval.specs.SchemaSet as spec;
-ghost use Rattle.js_eval.specs.Seen.{instance_of, keyword_of, texts_of};
-ghost use Rattle.js_eval.specs.Sited.{numbered_site};
+ghost use Rattle.js_eval.specs.code.Asked.{IsAsking, asked};
+ghost use Rattle.js_eval.specs.code.NamesLeft.{members_among};
+ghost use Rattle.js_eval.specs.code.Starting.{HoldsBy, HoldsOne, IsAtPlace, by_keyword, on_members, on_namesakes};
+ghost use Rattle.js_eval.specs.code.Terms.{Documents, entries, has, instance_of, texts_of, value_of};
 
 use crate::cursors::asking::Asking;
 use crate::cursors::member_cursor::{
     each_additional, each_in_place, each_name, each_named, each_other, object_at,
 };
-use crate::cursors::name_cursor::{each_in_step, each_of_names};
+use crate::cursors::name_cursor::{Among, each_of_names, names_ascend};
 use crate::cursors::pattern_cursor::each_matching;
 use crate::instance::{Instance, object_in};
-use crate::keywords::keyword::Keyword;
+use crate::keywords::keyword::KeywordAt;
 use crate::schema::argument_in;
 use crate::schema_lookup::held_below;
-use js_bundle::{Place, Schemas};
-use js_doc::{Doc, Members, Memory};
+use js_bundle::Schemas;
+use js_doc::{Members, Memory};
 use std::alloc::Global;
 
 /// `properties` goes through the members and looks each up among its names, if it has more names than this number times
@@ -48,24 +44,24 @@ const PER_NAME: usize = 2;
 pub(crate) fn dependent<'a>(
     alloc: Global,
     schemas: &'a Schemas,
-    place: Place,
-    schema: &'a Doc,
-    keyword: Keyword<'a>,
+    at: &KeywordAt<'a>,
     value: Instance<'a>,
 ) -> Result<Asking<'a>, Memory>
-    requires { IsSchemaAt schemas.now place (value_of schema.now) }
+    requires { IsAtPlace schemas.now at.now }
     ensures asked { IfOk result (λ a. asked schemas.now a
-        ≡ map (λ m. application (schemas_of schemas.now) (numbered_site schemas.now place) keyword.entry.name.now
-        (spec.Name m.0) spec.Alone (instance_of value.entry))
-        (filter (λ m. has m.0 (entries (instance_of value.entry))) (entries (value_of keyword.entry.argument.now)))) }
+        ≡ map (λ m. by_keyword schemas.now at.now (spec.Name m.0) spec.Alone (instance_of value.entry))
+        (filter (λ m. has m.0 (entries (instance_of value.entry)))
+        (entries (value_of at.now.keyword.argument.now)))) }
     ensures is { IfOk result (λ a. IsAsking schemas.now a) }
 {
+    let schema = at.schema;
+    let keyword = at.keyword;
     let Some(named) = object_in(keyword.argument) else {
         return Ok(Asking::One(None));
     };
     match value.object() {
         Some(members) => {
-            let cursor = each_in_place(place, schema, keyword.name, named, members, value);
+            let cursor = each_in_place(at.place, schema, keyword.name, named, members, value);
             Ok(Asking::Members(Box::new(alloc, cursor)?))
         }
         None => Ok(Asking::One(None)),
@@ -78,56 +74,57 @@ pub(crate) fn dependent<'a>(
 /// `Memory` if an allocation fails.
 pub(crate) fn properties<'a>(
     alloc: Global,
-    place: Place,
-    schema: &'a Doc,
-    keyword: Keyword<'a>,
+    at: &KeywordAt<'a>,
     value: Instance<'a>,
 ) -> Result<Asking<'a>, Memory>
-    requires kind { held_at keyword.kind ≡ is_name }
-    requires keyword { IsIn (value_of schema.now) (keyword_of keyword) }
+    requires { HoldsBy is_name at.now }
     ensures asked { IfOk result (λ a. (documents : Documents) → asked documents a
-        ≡ map (λ m. application (schemas_of documents) (numbered_site documents place) keyword.entry.name.now
-        (spec.Name m.0) (spec.Name m.0) m.1)
-        (filter (λ m. has m.0 (entries (value_of keyword.entry.argument.now))) (entries (instance_of value.entry)))) }
-    ensures is { IfOk result (λ a. (documents : Documents) → IsSchemaAt documents place (value_of schema.now)
-        → IsAsking documents a) }
+        ≡ on_namesakes documents at.now (filter (λ m. has m.0 (entries (value_of at.now.keyword.argument.now)))
+        (entries (instance_of value.entry)))) }
+    ensures is { IfOk result (λ a. (documents : Documents) → IsAtPlace documents at.now → IsAsking documents a) }
 {
+    let keyword = at.keyword;
     let Some(named) = object_in(keyword.argument) else {
         return Ok(Asking::One(None));
     };
     match value.object() {
-        Some(members) => named_members(alloc, place, schema, keyword, named, members),
+        Some(members) => named_members(alloc, at, named, members),
         None => Ok(Asking::One(None)),
     }
 }
 
 fn named_members<'a>(
     alloc: Global,
-    place: Place,
-    schema: &'a Doc,
-    keyword: Keyword<'a>,
+    at: &KeywordAt<'a>,
     named: &'a Members,
     members: &'a Members,
 ) -> Result<Asking<'a>, Memory>
-    requires kind { held_at keyword.kind ≡ is_name }
-    requires keyword { IsIn (value_of schema.now) (keyword_of keyword) }
-    requires named { named.now ≡ entries (value_of keyword.argument.now) }
+    requires at { HoldsBy is_name at.now }
+    requires named { named.now ≡ entries (value_of at.now.keyword.argument.now) }
     ensures asked { IfOk result (λ a. (documents : Documents) → asked documents a
-        ≡ map (λ m. application (schemas_of documents) (numbered_site documents place) keyword.entry.name.now
-        (spec.Name m.0) (spec.Name m.0) m.1)
-        (filter (λ m. has m.0 named.now) members.now)) }
-    ensures is { IfOk result (λ a. (documents : Documents) → IsSchemaAt documents place (value_of schema.now)
-        → IsAsking documents a) }
+        ≡ on_namesakes documents at.now (filter (λ m. has m.0 named.now) members.now)) }
+    ensures is { IfOk result (λ a. (documents : Documents) → IsAtPlace documents at.now → IsAsking documents a) }
 {
     if named.len() / MANY_MORE > members.len() {
-        let cursor = each_named(place, schema, keyword.name, named, members);
-        Ok(Asking::Members(Box::new(alloc, cursor)?))
-    } else if named.len() < FEW || members.len() / PER_NAME > named.len() {
-        let cursor = each_of_names(place, schema, keyword, named, members);
-        Ok(Asking::Names(cursor))
+        let schema = at.schema;
+        let keyword = at.keyword;
+        let cursor = each_named(at.place, schema, keyword.name, named, members);
+        return Ok(Asking::Members(Box::new(alloc, cursor)?));
+    }
+    let among = among_members(named, members);
+    Ok(Asking::Names(each_of_names(at, named, among)))
+}
+
+// The members, in the form in which the names are found among them faster.
+fn among_members<'a>(named: &'a Members, members: &'a Members) -> Among<'a>
+    ensures members { members_among result ≡ members.now }
+    ensures ascend { IsAscending (members_among result) }
+{
+    if named.len() < FEW || members.len() / PER_NAME > named.len() {
+        names_ascend(members);
+        Among::All(members)
     } else {
-        let cursor = each_in_step(place, schema, keyword, named, members);
-        Ok(Asking::Names(cursor))
+        Among::Left(members.pairs())
     }
 }
 
@@ -138,26 +135,25 @@ fn named_members<'a>(
 pub(crate) fn patterns<'a>(
     alloc: Global,
     schemas: &'a Schemas,
-    place: Place,
-    schema: &'a Doc,
-    keyword: Keyword<'a>,
+    at: &KeywordAt<'a>,
     value: Instance<'a>,
 ) -> Result<Asking<'a>, Memory>
-    requires { IsSchemaAt schemas.now place (value_of schema.now) }
+    requires { IsAtPlace schemas.now at.now }
     ensures asked { IfOk result (λ a. asked schemas.now a
-        ≡ flat_map (λ p. map (λ m. application (schemas_of schemas.now)
-        (numbered_site schemas.now place) keyword.entry.name.now (spec.Name p.0) (spec.Name m.0) m.1)
+        ≡ flat_map (λ p. map (λ m. by_keyword schemas.now at.now (spec.Name p.0) (spec.Name m.0) m.1)
         (filter (λ m. matches p.0 m.0) (entries (instance_of value.entry))))
-        (entries (value_of keyword.entry.argument.now))) }
+        (entries (value_of at.now.keyword.argument.now))) }
     ensures is { IfOk result (λ a. IsAsking schemas.now a) }
 {
+    let schema = at.schema;
+    let keyword = at.keyword;
     let Some(patterns) = object_in(keyword.argument) else {
         return Ok(Asking::One(None));
     };
     match value.object() {
         Some(members) => {
             let cursor = each_matching(
-                place,
+                at.place,
                 schema,
                 keyword.name,
                 patterns,
@@ -177,27 +173,22 @@ pub(crate) fn patterns<'a>(
 pub(crate) fn additional<'a>(
     alloc: Global,
     schemas: &'a Schemas,
-    place: Place,
-    schema: &'a Doc,
-    keyword: Keyword<'a>,
+    at: &KeywordAt<'a>,
     value: Instance<'a>,
 ) -> Result<Asking<'a>, Memory>
-    requires place { IsSchemaAt schemas.now place (value_of schema.now) }
-    requires kind { held_at keyword.kind ≡ is_alone }
-    requires keyword { IsIn (value_of schema.now) (keyword_of keyword) }
-    ensures asked { IfOk result (λ a. asked schemas.now a
-        ≡ map (λ m. application (schemas_of schemas.now)
-        (numbered_site schemas.now place) keyword.entry.name.now spec.Alone (spec.Name m.0) m.1)
-        (filter (λ m. not (is_property (entries (value_of schema.now)) m.0
-        || matches_pattern (entries (value_of schema.now)) m.0)) (entries (instance_of value.entry)))) }
+    requires { HoldsOne schemas.now at.now }
+    ensures asked { IfOk result (λ a. asked schemas.now a ≡ on_members schemas.now at.now
+        (filter (λ m. not (is_property (entries (value_of at.now.schema.now)) m.0
+        || matches_pattern (entries (value_of at.now.schema.now)) m.0)) (entries (instance_of value.entry)))) }
     ensures is { IfOk result (λ a. IsAsking schemas.now a) }
 {
-    let (below, held) = held_below(schemas, place, schema, keyword);
+    let (below, held) = held_below(schemas, at);
+    let schema = at.schema;
     let properties = object_at(schema, "properties");
     let patterns = object_at(schema, "patternProperties");
     match value.object() {
         Some(members) => {
-            let cursor = each_additional(below, held, place, properties, patterns, members);
+            let cursor = each_additional(below, held, at.place, properties, patterns, members);
             Ok(Asking::Members(Box::new(alloc, cursor)?))
         }
         None => Ok(Asking::One(None)),
@@ -211,21 +202,16 @@ pub(crate) fn additional<'a>(
 pub(crate) fn property_names<'a>(
     alloc: Global,
     schemas: &'a Schemas,
-    place: Place,
-    schema: &'a Doc,
-    keyword: Keyword<'a>,
+    at: &KeywordAt<'a>,
     value: Instance<'a>,
 ) -> Result<Asking<'a>, Memory>
-    requires place { IsSchemaAt schemas.now place (value_of schema.now) }
-    requires kind { held_at keyword.kind ≡ is_alone }
-    requires keyword { IsIn (value_of schema.now) (keyword_of keyword) }
+    requires { HoldsOne schemas.now at.now }
     ensures asked { IfOk result (λ a. asked schemas.now a
-        ≡ map (λ m. application (schemas_of schemas.now)
-        (numbered_site schemas.now place) keyword.entry.name.now spec.Alone (spec.Name m.0) (text m.0))
+        ≡ map (λ m. by_keyword schemas.now at.now spec.Alone (spec.Name m.0) (text m.0))
         (entries (instance_of value.entry))) }
     ensures is { IfOk result (λ a. IsAsking schemas.now a) }
 {
-    let (below, held) = held_below(schemas, place, schema, keyword);
+    let (below, held) = held_below(schemas, at);
     match value.object() {
         Some(members) => {
             let cursor = each_name(below, held, members);
@@ -242,25 +228,19 @@ pub(crate) fn property_names<'a>(
 pub(crate) fn unevaluated_properties<'a>(
     alloc: Global,
     schemas: &'a Schemas,
-    place: Place,
-    schema: &'a Doc,
-    keyword: Keyword<'a>,
+    at: &KeywordAt<'a>,
     evaluated: &[&'a str],
     value: Instance<'a>,
 ) -> Result<Asking<'a>, Memory>
-    requires place { IsSchemaAt schemas.now place (value_of schema.now) }
-    requires kind { held_at keyword.kind ≡ is_alone }
-    requires keyword { IsIn (value_of schema.now) (keyword_of keyword) }
-    ensures asked { IfOk result (λ a. asked schemas.now a
-        ≡ map (λ m. application (schemas_of schemas.now)
-        (numbered_site schemas.now place) keyword.entry.name.now spec.Alone (spec.Name m.0) m.1)
+    requires { HoldsOne schemas.now at.now }
+    ensures asked { IfOk result (λ a. asked schemas.now a ≡ on_members schemas.now at.now
         (filter (λ m. not (among_names m.0 (texts_of evaluated.now))) (entries (instance_of value.entry)))) }
     ensures is { IfOk result (λ a. IsAsking schemas.now a) }
 {
     let Some(members) = value.object() else {
         return Ok(Asking::One(None));
     };
-    let (below, held) = held_below(schemas, place, schema, keyword);
+    let (below, held) = held_below(schemas, at);
     let cursor = each_other(alloc, below, held, evaluated, members)?;
     Ok(Asking::Members(Box::new(alloc, cursor)?))
 }

@@ -2,12 +2,9 @@
 ghost use Rattle.std.specs.Prelude.{◌≡◌, IfOk, filter, length, true};
 ghost use Rattle.std.specs.List.{list_all};
 ghost use Rattle.js_assert.specs.Assertion as spec;
-ghost use Rattle.js_bundle.specs.Schemas.{is_place};
-ghost use Rattle.js_eval.specs.Bundle.{schemas_of};
-ghost use Rattle.js_eval.specs.Seen.{instance_of};
-ghost use Rattle.js_eval.specs.Sited.{numbered_site};
 ghost use Rattle.js_eval.specs.Walk.Visited.{AreJudged};
 ghost use Rattle.js_eval.specs.code.Leaves.{has_leaf};
+ghost use Rattle.js_eval.specs.code.Terms.{instance_of, is_place, numbered_site, schemas_of};
 
 use crate::instance::Instance;
 use crate::judging::passing::holds;

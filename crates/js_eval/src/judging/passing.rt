@@ -5,16 +5,12 @@ ghost use Rattle.js_assert.specs.Argument.{entries, on_array, on_string};
 ghost use Rattle.js_assert.specs.Assertion as spec;
 ghost use Rattle.js_assert.specs.Assertion.{asserted};
 ghost use Rattle.js_assert.specs.Pattern.{matches};
-ghost use Rattle.js_bundle.specs.Schemas.{is_place};
-ghost use Rattle.js_doc.specs.Seen.{value_of};
-ghost use Rattle.js_eval.specs.Bundle.{schemas_of};
-ghost use Rattle.js_eval.specs.code.Standing.{IsSchemaAt};
 ghost use Rattle.js_eval.specs.Keywords as table;
 ghost use Rattle.js_eval.specs.Passes.{all, any, how_many, may_contain_none, passes_of};
-ghost use Rattle.js_eval.specs.Seen.{instance_of, keyword_of};
-ghost use Rattle.js_eval.specs.Sited.{numbered_site};
 ghost use Rattle.js_eval.specs.Walk.Told.{IsKeywordAt, passes_at};
 ghost use Rattle.js_eval.specs.declared.keywords.kind.Kind.TheVariants.{Assertion as AssertionKind};
+ghost use Rattle.js_eval.specs.code.Terms.{IsSchemaAt, instance_of, is_place};
+ghost use Rattle.js_eval.specs.code.Terms.{keyword_of, numbered_site, schemas_of, value_of};
 
 use crate::instance::Instance;
 use crate::keywords::keyword::Keyword;

@@ -5,7 +5,7 @@ ghost use Rattle.js_eval.specs.Kind as table;
 ghost use Rattle.js_eval.specs.code.Standard.{IsWrittenAsItIs};
 
 use crate::keywords::kind::Kind;
-use js_bundle::KeywordName;
+use js_bundle::{KeywordName, Place};
 use js_doc::{Doc, is_plain_token};
 
 /// A keyword's name, which keyword of the standard it is, its kind, and its argument.
@@ -17,6 +17,14 @@ pub(crate) struct Keyword<'a> {
     pub argument: &'a Doc,
     ghost known: { which ≡ keyword_name name.now },
     ghost named: { kind ≡ table.kind name.now },
+}
+
+/// A keyword, the schema that has it, and the place of that schema.
+#[derive(Clone, Copy)]
+pub(crate) struct KeywordAt<'a> {
+    pub place: Place,
+    pub schema: &'a Doc,
+    pub keyword: Keyword<'a>,
 }
 
 /// Whether a keyword's name is known to need no escapes in a pointer, in a fragment or in a JSON string. Those of the

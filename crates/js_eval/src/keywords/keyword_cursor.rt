@@ -1,13 +1,11 @@
 //! The keywords of a schema that a walk visits, one after another, in the order of their nodes.
 ghost use Rattle.std.specs.Prelude.{◌≡◌, ◌++◌, ◌∷◌, [], List, MatchOption, false, filter, true};
-ghost use Rattle.js_assert.specs.Argument.{entries};
 ghost use Rattle.js_doc.specs.Members.{IsAscending};
-ghost use Rattle.js_doc.specs.Seen.{value_of};
 ghost use Rattle.js_eval.specs.Keywords as table;
 ghost use Rattle.js_eval.specs.code.KeywordsLeft.{kept_or, keywords_in, keywords_left, members_left};
 ghost use Rattle.js_eval.specs.code.Standard.{keyword_names_of};
+ghost use Rattle.js_eval.specs.code.Terms.{entries, keyword_of, value_of};
 ghost use Rattle.js_eval.specs.code.Turns.{ever, in_order};
-ghost use Rattle.js_eval.specs.Seen.{keyword_of};
 ghost use Rattle.js_eval.specs.Walk.Visited.{is_visited};
 
 use crate::cursors::name_cursor::names_ascend;

@@ -6,7 +6,7 @@ use crate::keywords::kind::Kind;
 use js_doc::Memory;
 
 /// Which members or items a keyword has evaluated.
-#[derive(Clone, Copy, Debug, PartialEq, Eq)]
+#[derive(Clone, Copy)]
 pub(crate) enum Origin {
     /// Those that it applies a schema to.
     Applied,

@@ -54,7 +54,7 @@ pub(crate) trait PointerText {
 }
 
 /// A stored text.
-#[derive(Debug, Drop)]
+#[derive(Drop)]
 pub(crate) struct HeldText {
     pub text: String,
 }

@@ -1,10 +1,11 @@
 //! The recursion of a walk. Three functions evaluate a schema, a keyword, and the applications of a keyword.
 //!
 //! No bound names a lifetime, so that they may be recursive. A nested schema application takes one call of each.
-ghost use Rattle.std.specs.Prelude.{◌≡◌, ◌≤◌, ◌<◌, true, map, length, drop, nat_eq, MatchResult, OnOk};
+ghost use Rattle.std.specs.Prelude.{◌≡◌, ◌≤◌, ◌<◌, true, map, length, nat_eq, MatchResult, OnOk};
 ghost use Rattle.std.specs.List.{dedup, list_all};
-ghost use Rattle.js_eval.specs.Walk.Steps.{NodeDone, KeywordDone, EachDone};
-ghost use Rattle.js_eval.specs.Walk.Told.{IsKeywordAt, HasNone, KeywordHasNone, SomeHasNone, asked_by};
+ghost use Rattle.js_eval.specs.Walk.Ended.{KeywordEnds};
+ghost use Rattle.js_eval.specs.Walk.Steps.{NodeDone, EachDone};
+ghost use Rattle.js_eval.specs.Walk.Told.{IsKeywordAt, HasNone, SomeHasNone};
 ghost use Rattle.js_eval.specs.Walk.Visited.{AreTogether, IsListed};
 ghost use Rattle.js_eval.specs.Walked.{OnTooLarge};
 
@@ -125,19 +126,9 @@ pub(crate) fn keyword_node<W: World, H: PointerText + Drop, R: Reporter<W, H>>(
         together.old }
     ensures together { OnOk result (AreTogether (W.schemas world.now) (W.site world.now case.place)
         (W.value_of case.value) together.new) }
-    ensures done { MatchResult result
-        (λ j. KeywordDone (W.schemas world.now) W.text_of R.takes depth (map (W.site world.now) way.old.path)
-        (W.site world.now case.place) (W.value_of case.value) (W.keyword_of case.keyword) known.matching
-        (asked_by (W.schemas world.now) depth (map (W.site world.now) way.old.path) (W.site world.now case.place)
-        (W.value_of case.value) (W.keyword_of case.keyword)
-        known.condition (map W.text_of (drop start.names way.old.names.items))
-        (drop start.indexes way.old.indexes.items)) j way.old way.new into.old into.new)
-        (λ e. OnTooLarge e (KeywordHasNone (W.schemas world.now) depth (map (W.site world.now) way.old.path)
-        (W.site world.now case.place) (W.value_of case.value) (W.keyword_of case.keyword)
-        (asked_by (W.schemas world.now) depth (map (W.site world.now) way.old.path) (W.site world.now case.place)
-        (W.value_of case.value) (W.keyword_of case.keyword)
-        known.condition (map W.text_of (drop start.names way.old.names.items))
-        (drop start.indexes way.old.indexes.items)) way.old.left)) }
+    ensures done { KeywordEnds (W.schemas world.now) W.text_of R.takes depth (map (W.site world.now) way.old.path)
+        (W.site world.now case.place) (W.value_of case.value) (W.keyword_of case.keyword) known start result
+        way.old way.new into.old into.new }
 {
     if way.left == 0 {
         return Err(WalkFault::TooLarge);
@@ -173,19 +164,9 @@ fn applicator_node<W: World, H: PointerText + Drop, R: Reporter<W, H>>(
     requires indexes { start.indexes ≤ length way.old.indexes.items }
     requires left { 0 < way.old.left }
     requires keyword { IsKeywordAt (W.schemas world.now) (W.site world.now case.place) (W.keyword_of case.keyword) }
-    ensures { MatchResult result
-        (λ j. KeywordDone (W.schemas world.now) W.text_of R.takes depth (map (W.site world.now) way.old.path)
-        (W.site world.now case.place) (W.value_of case.value) (W.keyword_of case.keyword) known.matching
-        (asked_by (W.schemas world.now) depth (map (W.site world.now) way.old.path) (W.site world.now case.place)
-        (W.value_of case.value) (W.keyword_of case.keyword)
-        known.condition (map W.text_of (drop start.names way.old.names.items))
-        (drop start.indexes way.old.indexes.items)) j way.old way.new into.old into.new)
-        (λ e. OnTooLarge e (KeywordHasNone (W.schemas world.now) depth (map (W.site world.now) way.old.path)
-        (W.site world.now case.place) (W.value_of case.value) (W.keyword_of case.keyword)
-        (asked_by (W.schemas world.now) depth (map (W.site world.now) way.old.path) (W.site world.now case.place)
-        (W.value_of case.value) (W.keyword_of case.keyword)
-        known.condition (map W.text_of (drop start.names way.old.names.items))
-        (drop start.indexes way.old.indexes.items)) way.old.left)) }
+    ensures { KeywordEnds (W.schemas world.now) W.text_of R.takes depth (map (W.site world.now) way.old.path)
+        (W.site world.now case.place) (W.value_of case.value) (W.keyword_of case.keyword) known start result
+        way.old way.new into.old into.new }
 {
     let here = way.current_marks();
     let mut asking = asked(alloc, world, way, case, start, known.condition)?;

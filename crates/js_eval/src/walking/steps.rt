@@ -266,8 +266,8 @@ pub(crate) fn childless_node<W: World, H: PointerText + Drop, R: Reporter<W, H>>
     Ok(judged)
 }
 
-/// The same as `childless_node`. If all assertions pass, and the reporter keeps nothing of one that does, they are judged
-/// together.
+/// The same as `childless_node`. If all assertions pass, and the reporter keeps nothing of one that does, they are
+/// judged together.
 #[inline(always)]
 pub(crate) fn leaf_node<W: World, H: PointerText + Drop, R: Reporter<W, H>>(
     alloc: Global,
@@ -349,7 +349,8 @@ fn may_drop<W: World, H: PointerText + Drop, R: Reporter<W, H>>(
     matches!(world.kind(keyword), Kind::Assertion) && into.drops_silent()
 }
 
-// Whether all keywords of the place pass that apply no schemas. They are judged if they aren't yet, for so many matches.
+// Whether all keywords of the place pass that apply no schemas. They are judged if they aren't yet, for so many
+// matches.
 #[inline(always)]
 fn all_pass<W: World>(
     alloc: Global,

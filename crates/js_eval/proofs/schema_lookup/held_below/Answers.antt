@@ -5,4 +5,5 @@ use Rattle.js_eval.proofs.schema_lookup.held_below.Goals as goal
 
 pub below_at_rank-requires-clause-held : goal.below_at_rank-requires-clause-held
 below_at_rank-requires-clause-held c =
-    one_ranked c.args.keyword.which c.args.keyword.kind (value_of c.args.schema.now) (keyword_of c.args.keyword) c.args.keyword.known c.args.keyword.named c.requires.kind c.requires.keyword
+    let k = c.args.at.now.keyword in
+    one_ranked k.which k.kind (value_of c.args.at.now.schema.now) (keyword_of k) k.known k.named c.requires.1.0 c.requires.1.1

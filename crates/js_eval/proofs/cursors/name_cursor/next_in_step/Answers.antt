@@ -20,9 +20,7 @@ returns-in_err-key-clause-left c = λ all h.
 
 pub returns-in_err-name-in-Less-clause-next : goal.returns-in_err-name-in-Less-clause-next
 returns-in_err-name-in-Less-clause-next c =
-    let l = c.loop-names in
-    let n : String Global × Doc = (l.name.now, l.schema.now) in
-    let m : String Global × Doc = (l.key.now, l.member.now) in
+    let l = c.loop-names in let n : String Global × Doc = (l.name.now, l.schema.now) in let m : String Global × Doc = (l.key.now, l.member.now) in
     let less : name_cmp (pair_of n).0 (pair_of m).0 ≡ Less = sym (c.name_order.ensures ∙ ap₂ name_cmp c.as_str.ensures.value c.as_str-in-loop-names.ensures.value) ∙ c.in-Less.is in
     rw c.from_residual-in_err-name-in-Less.ensures
     (sym l.invariant.same ∙ pass_name (pair_of n) (pair_of m) (map pair_of l.names) (map pair_of l.members) less l.invariant.members
@@ -30,19 +28,15 @@ returns-in_err-name-in-Less-clause-next c =
 
 pub returns-in_err-name-in-Less-clause-left : goal.returns-in_err-name-in-Less-clause-left
 returns-in_err-name-in-Less-clause-left c = λ all h.
-    let l = c.loop-names in
-    let n : String Global × Doc = (l.name.now, l.schema.now) in
+    let l = c.loop-names in let n : String Global × Doc = (l.name.now, l.schema.now) in
     let more = next_left all l.at (pair_of n) (map pair_of l.names) (l.invariant.left all h) in
     (ap (map pair_of) (c.in_err-name-in-Less.ensures.steps.1 ∙ sym c.in_err-name-in-Less.ensures.steps.0) ∙ more.0 ∙ ap (λ r. drop r all) (sym l.invariant.rank), rw c.from_residual-in_err-name-in-Less.ensures tt)
 
 pub loop-names-preserved-in-Less : goal.loop-names-preserved-in-Less
 loop-names-preserved-in-Less c =
-    let l = c.loop-names in
-    let n : String Global × Doc = (l.name.now, l.schema.now) in
-    let m : String Global × Doc = (l.key.now, l.member.now) in
+    let l = c.loop-names in let n : String Global × Doc = (l.name.now, l.schema.now) in let m : String Global × Doc = (l.key.now, l.member.now) in
     let less : name_cmp (pair_of n).0 (pair_of m).0 ≡ Less = sym (c.name_order.ensures ∙ ap₂ name_cmp c.as_str.ensures.value c.as_str-in-loop-names.ensures.value) ∙ c.in-Less.is in
-    let steps = c.in_ok-name-in-Less.ensures.steps in
-    let many : length l.names ≡ suc (length c.next-in-Less.new.self) = ap length steps in
+    let steps = c.in_ok-name-in-Less.ensures.steps in let many : length l.names ≡ suc (length c.next-in-Less.new.self) = ap length steps in
     record {
       same = ap (names_left (map pair_of (m ∷ l.members))) (sym steps)
           ∙ sym (pass_name (pair_of n) (pair_of m) (map pair_of l.names) (map pair_of l.members) less l.invariant.members)
@@ -56,25 +50,20 @@ loop-names-preserved-in-Less c =
 
 pub returns-in-Equal-clause-next : goal.returns-in-Equal-clause-next
 returns-in-Equal-clause-next c =
-    let l = c.loop-names in
-    let n : String Global × Doc = (l.name.now, l.schema.now) in
-    let m : String Global × Doc = (l.key.now, l.member.now) in
+    let l = c.loop-names in let n : String Global × Doc = (l.name.now, l.schema.now) in let m : String Global × Doc = (l.key.now, l.member.now) in
     let equal : name_cmp (pair_of n).0 (pair_of m).0 ≡ Equal = sym (c.name_order.ensures ∙ ap₂ name_cmp c.as_str.ensures.value c.as_str-in-loop-names.ensures.value) ∙ c.in-Equal.is in
     sym l.invariant.same ∙ take_both (pair_of n) (pair_of m) (map pair_of l.names) (map pair_of l.members) equal l.invariant.members
     ∙ ap (λ k. (k, value_of l.member.now) ∷ names_left (map pair_of l.members) l.names) (sym c.as_str-in-Equal.ensures.value)
 
 pub returns-in-Equal-clause-left : goal.returns-in-Equal-clause-left
 returns-in-Equal-clause-left c = λ all h.
-    let l = c.loop-names in
-    let n : String Global × Doc = (l.name.now, l.schema.now) in
+    let l = c.loop-names in let n : String Global × Doc = (l.name.now, l.schema.now) in
     let more = next_left all l.at (pair_of n) (map pair_of l.names) (l.invariant.left all h) in
     (more.0 ∙ ap (λ r. drop r all) (sym l.invariant.rank), more.1 ∙ ap (λ k. Some (k, value_of l.schema.now)) (sym c.as_str-in-Equal.ensures.value))
 
 pub returns-in_err-key-in-Greater-clause-next : goal.returns-in_err-key-in-Greater-clause-next
 returns-in_err-key-in-Greater-clause-next c =
-    let l = c.loop-names in
-    let n : String Global × Doc = (l.name.now, l.schema.now) in
-    let m : String Global × Doc = (l.key.now, l.member.now) in
+    let l = c.loop-names in let n : String Global × Doc = (l.name.now, l.schema.now) in let m : String Global × Doc = (l.key.now, l.member.now) in
     let greater : name_cmp (pair_of n).0 (pair_of m).0 ≡ Greater = sym (c.name_order.ensures ∙ ap₂ name_cmp c.as_str.ensures.value c.as_str-in-loop-names.ensures.value) ∙ c.in-Greater.is in
     rw c.from_residual-in_err-key-in-Greater.ensures
     (sym l.invariant.same ∙ pass_member (pair_of n) (pair_of m) (map pair_of l.names) (map pair_of l.members) greater l.invariant.names
@@ -82,16 +71,13 @@ returns-in_err-key-in-Greater-clause-next c =
 
 pub returns-in_err-key-in-Greater-clause-left : goal.returns-in_err-key-in-Greater-clause-left
 returns-in_err-key-in-Greater-clause-left c = λ all h.
-    let l = c.loop-names in
-    let n : String Global × Doc = (l.name.now, l.schema.now) in
+    let l = c.loop-names in let n : String Global × Doc = (l.name.now, l.schema.now) in
     let more = next_left all l.at (pair_of n) (map pair_of l.names) (l.invariant.left all h) in
     (more.0 ∙ ap (λ r. drop r all) (sym l.invariant.rank), rw c.from_residual-in_err-key-in-Greater.ensures tt)
 
 pub loop-names-preserved : goal.loop-names-preserved
 loop-names-preserved c =
-    let l = c.loop-names in
-    let n : String Global × Doc = (l.name.now, l.schema.now) in
-    let m : String Global × Doc = (l.key.now, l.member.now) in
+    let l = c.loop-names in let n : String Global × Doc = (l.name.now, l.schema.now) in let m : String Global × Doc = (l.key.now, l.member.now) in
     let greater : name_cmp (pair_of n).0 (pair_of m).0 ≡ Greater = sym (c.name_order.ensures ∙ ap₂ name_cmp c.as_str.ensures.value c.as_str-in-loop-names.ensures.value) ∙ c.in-Greater.is in
     let steps = c.in_ok-key-in-Greater.ensures.steps in
     record {

@@ -1,11 +1,10 @@
 use Rattle.std.proofs.Common.{map, ap}
-use Rattle.js_eval.specs.Applications.{application, indexed_from}
-use Rattle.js_eval.specs.Bundle.{schemas_of}
+use Rattle.js_eval.specs.Applications.{indexed_from}
 use Rattle.js_eval.specs.SchemaSet as spec
 use Rattle.js_eval.specs.Seen.{instance_of}
-use Rattle.js_eval.specs.Sited.{numbered_site}
+use Rattle.js_eval.specs.code.Starting.{by_keyword}
 use Rattle.js_eval.proofs.cursors.start_items.each_in_list.Goals as goal
 
 pub returns-clause-asked : goal.returns-clause-asked
 returns-clause-asked c = λ documents.
-    ap (λ vs. map (λ e. application (schemas_of documents) (numbered_site documents c.args.place) c.args.keyword.name.now (spec.Index e.0) spec.Alone (instance_of c.args.value)) (indexed_from 0 vs)) c.array_in.ensures
+    ap (λ vs. map (λ e. by_keyword documents c.args.at.now (spec.Index e.0) spec.Alone (instance_of c.args.value)) (indexed_from 0 vs)) c.array_in.ensures

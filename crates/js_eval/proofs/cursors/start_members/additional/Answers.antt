@@ -15,5 +15,5 @@ returns-in_ok-new-in-Some-clause-asked c =
     ap (members_asked documents) c.in_ok-new-in-Some.ensures.ok
     ∙ moved (on_members (λ n. not (is_named c.object_at-properties.result n || is_matched c.object_at-patterns.result n))) _ _ _ _ _
     (c.each_additional-cursor.ensures.asked documents) c.held_below-below.ensures.site c.in-Some.ensures
-    ∙ ap (map (λ m. record { place = (schemas_of documents).below (numbered_site documents c.args.place) c.args.keyword.name.now spec.Alone; step = spec.Alone; at = spec.Name m.0; value = m.1 }))
-    (additional_by c.object_at-properties.result c.object_at-patterns.result (entries (value_of c.args.schema.now)) (entries (instance_of c.args.value)) c.object_at-properties.ensures c.object_at-patterns.ensures)
+    ∙ ap (map (λ m. record { place = (schemas_of documents).below (numbered_site documents c.args.at.now.place) c.args.at.now.keyword.name.now spec.Alone; step = spec.Alone; at = spec.Name m.0; value = m.1 }))
+    (additional_by c.object_at-properties.result c.object_at-patterns.result (entries (value_of c.args.at.now.schema.now)) (entries (instance_of c.args.value)) c.object_at-properties.ensures c.object_at-patterns.ensures)

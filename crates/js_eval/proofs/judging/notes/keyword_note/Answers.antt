@@ -10,16 +10,14 @@ use Rattle.js_eval.proofs.judging.notes.keyword_note.Goals as goal
 
 pub returns-then-judged : goal.returns-then-judged
 returns-then-judged c =
-    let place = numbered_site c.args.here.now.schemas.now c.args.place in
-    IfOk-weaker c.annotation_of.result _ _
+    let place = numbered_site c.args.here.now.schemas.now c.args.place in IfOk-weaker c.annotation_of.result _ _
     (λ n told. says_there (schemas_of c.args.here.now.schemas.now) place (instance_of c.args.value) c.args.matching (keyword_of c.args.keyword) c.args.judged.held (texts_of c.args.names.now) c.args.indexes.now
     true c.args.judged.passes c.args.keyword.kind (note_of n) c.args.keyword.named c.if-judged.true told)
     (c.annotation_of.ensures (entries place.schema) c.args.matching c.args.judged.held)
 
 pub returns-in_ok-error : goal.returns-in_ok-error
 returns-in_ok-error c =
-    let place = numbered_site c.args.here.now.schemas.now c.args.place in
-    IfOk-weaker c.failure_of.result _ _
+    let place = numbered_site c.args.here.now.schemas.now c.args.place in IfOk-weaker c.failure_of.result _ _
     (λ n told. says_there (schemas_of c.args.here.now.schemas.now) place (instance_of c.args.value) c.args.matching (keyword_of c.args.keyword) c.args.judged.held (texts_of c.args.names.now) c.args.indexes.now
     false c.args.judged.passes c.args.keyword.kind (note_of n) c.args.keyword.named c.if-judged.false told)
     (c.failure_of.ensures (entries place.schema) (instance_of c.args.value) c.args.matching (keyword_of c.args.keyword) (texts_of c.args.names.now) c.args.indexes.now c.in_ok-error.ensures)

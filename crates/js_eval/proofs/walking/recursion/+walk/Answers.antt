@@ -46,16 +46,11 @@ applications-with_application-tally-requires-clause-few g t c =
 
 pub applications-each-preserved : goal.applications-each-preserved
 applications-each-preserved g t c =
-    let S = g.W.World.schemas c.args.world.now in
-    let path = map (g.W.World.site c.args.world.now) c.args.way.now.path in
-    let a = g.W.World.application_of c.args.world.now c.in-Some.application in
-    let rest = g.W.World.asked c.args.world.now c.next.new.asking in
+    let S = g.W.World.schemas c.args.world.now in let path = map (g.W.World.site c.args.world.now) c.args.way.now.path in
+    let a = g.W.World.application_of c.args.world.now c.in-Some.application in let rest = g.W.World.asked c.args.world.now c.next.new.asking in
     let x : g.W.World.asked c.args.world.now c.each.asking ≡ a ∷ rest =
     subst (λ o. MatchOption o (g.W.World.asked c.args.world.now c.each.asking ≡ []) (λ b. g.W.World.asked c.args.world.now c.each.asking ≡ g.W.World.application_of c.args.world.now b ∷ rest)) c.in-Some.is c.in_ok-application.ensures.next in
-    let so = rw x at c.each.invariant.so in
-    let down = c.in_ok-go_down.ensures in
-    let done = c.in_ok-holds.ensures in
-    let back = c.in_ok-come_back.ensures in
+    let so = rw x at c.each.invariant.so in let down = c.in_ok-go_down.ensures in let done = c.in_ok-holds.ensures in let back = c.in_ok-come_back.ensures in
     let same : c.go_down.new.way.path ≡ c.args.way.now.path = down.path ∙ c.each.invariant.back.path in
     record {
       so = rw (c.with_application-tally.ensures.asked, c.with_application-tally.ensures.held) (each_step S g.W.World.text_of g.R.Reporter.takes c.args.depth path c.args.kind (g.W.World.asked c.args.world.now c.args.asking.now) rest a (map g.W.World.text_of c.args.way.now.names.items) c.args.way.now.indexes.items c.args.way.now.left c.args.way.now.keyword c.args.way.now.instance
@@ -74,24 +69,17 @@ applications-each-preserved g t c =
 
 pub keyword_node-returns-then-not-asks-clause-done : goal.keyword_node-returns-then-not-asks-clause-done
 keyword_node-returns-then-not-asks-clause-done g t c =
-    let S = g.W.World.schemas c.args.world.now in
-    let path = map (g.W.World.site c.args.world.now) c.args.way.now.path in
-    let place = g.W.World.site c.args.world.now c.args.case.place in
-    let v = g.W.World.value_of c.args.case.value in
-    let k = g.W.World.keyword_of c.args.case.keyword in
-    let names = map g.W.World.text_of (drop c.args.start.names c.args.way.now.names.items) in
-    let indexes = drop c.args.start.indexes c.args.way.now.indexes.items in
+    let S = g.W.World.schemas c.args.world.now in let path = map (g.W.World.site c.args.world.now) c.args.way.now.path in
+    let place = g.W.World.site c.args.world.now c.args.case.place in let v = g.W.World.value_of c.args.case.value in let k = g.W.World.keyword_of c.args.case.keyword in
+    let names = map g.W.World.text_of (drop c.args.start.names c.args.way.now.names.items) in let indexes = drop c.args.start.indexes c.args.way.now.indexes.items in
     let none : asked_by S c.args.depth path place v k c.args.known.condition names indexes ≡ [] = c.asks.ensures c.args.depth path place v c.args.known.condition names indexes c.if-not-asks.true in
     subst (λ apps. KeywordDone S g.W.World.text_of g.R.Reporter.takes c.args.depth path place v k c.args.known.matching apps c.in_ok-judged.judged c.args.way.now c.leaf_node.new.way c.args.into.now c.leaf_node.new.into)
     (sym none) (c.in_ok-judged.ensures.done c.args.depth path)
 
 pub applicator_node-returns-in_err-tally : goal.applicator_node-returns-in_err-tally
 applicator_node-returns-in_err-tally g t c =
-    let S = g.W.World.schemas c.args.world.now in
-    let path = map (g.W.World.site c.args.world.now) c.args.way.now.path in
-    let place = g.W.World.site c.args.world.now c.args.case.place in
-    let v = g.W.World.value_of c.args.case.value in
-    let k = g.W.World.keyword_of c.args.case.keyword in
+    let S = g.W.World.schemas c.args.world.now in let path = map (g.W.World.site c.args.world.now) c.args.way.now.path in
+    let place = g.W.World.site c.args.world.now c.args.case.place in let v = g.W.World.value_of c.args.case.value in let k = g.W.World.keyword_of c.args.case.keyword in
     let apps = asked_by S c.args.depth path place v k c.args.known.condition (map g.W.World.text_of (drop c.args.start.names c.args.way.now.names.items)) (drop c.args.start.indexes c.args.way.now.indexes.items) in
     let p = err_from_is_err_and c.from_residual-in_err-tally.result c.from_residual-in_err-tally.ensures.1 in
     let q : g.W.World.asked c.args.world.now c.in_ok-asking.asking ≡ apps = c.in_ok-asking.ensures.asked ∙ asked_same S c.args.depth path place v k c.args.known.condition (map g.W.World.text_of (drop c.args.start.names c.args.way.now.names.items)) (drop c.args.start.indexes c.args.way.now.indexes.items) in
@@ -101,11 +89,9 @@ applicator_node-returns-in_err-tally g t c =
 
 pub applicator_node-close_keyword-requires-clause-names : goal.applicator_node-close_keyword-requires-clause-names
 applicator_node-close_keyword-requires-clause-names g t c =
-    let w = c.in_ok-tally.ensures.walked.of_names in
-    let o = ap length c.in_ok-open_keyword.ensures.names in
+    let w = c.in_ok-tally.ensures.walked.of_names in let o = ap length c.in_ok-open_keyword.ensures.names in
     let l = ap length w ∙ length-append (map g.W.World.text_of c.open_keyword.new.way.names.items) _ in
-    let e1 = length-map c.applications.new.way.names.items g.W.World.text_of in
-    let e2 = length-map c.open_keyword.new.way.names.items g.W.World.text_of in
+    let e1 = length-map c.applications.new.way.names.items g.W.World.text_of in let e2 = length-map c.open_keyword.new.way.names.items g.W.World.text_of in
     let m = c.current_marks-here.ensures.names in
     omega (arith, l, e1, e2, o, m)
 
@@ -115,11 +101,8 @@ applicator_node-close_keyword-requires-clause-trail g t c =
 
 pub applicator_node-returns : goal.applicator_node-returns
 applicator_node-returns g t c =
-    let S = g.W.World.schemas c.args.world.now in
-    let path = map (g.W.World.site c.args.world.now) c.args.way.now.path in
-    let place = g.W.World.site c.args.world.now c.args.case.place in
-    let v = g.W.World.value_of c.args.case.value in
-    let k = g.W.World.keyword_of c.args.case.keyword in
+    let S = g.W.World.schemas c.args.world.now in let path = map (g.W.World.site c.args.world.now) c.args.way.now.path in
+    let place = g.W.World.site c.args.world.now c.args.case.place in let v = g.W.World.value_of c.args.case.value in let k = g.W.World.keyword_of c.args.case.keyword in
     let apps = asked_by S c.args.depth path place v k c.args.known.condition (map g.W.World.text_of (drop c.args.start.names c.args.way.now.names.items)) (drop c.args.start.indexes c.args.way.now.indexes.items) in
     let q : g.W.World.asked c.args.world.now c.in_ok-asking.asking ≡ apps = c.in_ok-asking.ensures.asked ∙ asked_same S c.args.depth path place v k c.args.known.condition (map g.W.World.text_of (drop c.args.start.names c.args.way.now.names.items)) (drop c.args.start.indexes c.args.way.now.indexes.items) in
     keyword_step S g.W.World.text_of g.R.Reporter.takes c.args.depth path place v k c.args.known.matching apps
@@ -157,18 +140,12 @@ node-keyword_node-requires g t c κs within =
     let resource = g.W.World.resource c.args.world.now in
     let scope : c.keywords.way.scope ≡ dedup nat_eq (map resource c.keywords.way.path) =
     c.keywords.invariant.scope.scope (map resource c.args.way.now.path) c.requires.scope ∙ ap (dedup nat_eq) (sym (map-append resource c.args.way.now.path (c.args.place ∷ [])) ∙ ap (map resource) (sym c.keywords.invariant.path)) in
-    let so = c.keywords.invariant.loop.so in
-    let l = ap length so.of_names ∙ length-append (map g.W.World.text_of c.args.way.now.names.items) _ in
-    let e1 = length-map c.keywords.way.names.items g.W.World.text_of in
-    let e2 = length-map c.args.way.now.names.items g.W.World.text_of in
-    let i = ap length so.of_indexes ∙ length-append c.args.way.now.indexes.items _ in
-    let m = c.start-start.ensures.names in
-    let n = c.start-start.ensures.indexes in
+    let so = c.keywords.invariant.loop.so in let l = ap length so.of_names ∙ length-append (map g.W.World.text_of c.args.way.now.names.items) _ in
+    let e1 = length-map c.keywords.way.names.items g.W.World.text_of in let e2 = length-map c.args.way.now.names.items g.W.World.text_of in
+    let i = ap length so.of_indexes ∙ length-append c.args.way.now.indexes.items _ in let m = c.start-start.ensures.names in let n = c.start-start.ensures.indexes in
     let names : c.start-start.result.names ≤ length c.keywords.way.names.items = omega (arith, l, e1, e2, m) in
-    let indexes : c.start-start.result.indexes ≤ length c.keywords.way.indexes.items = omega (arith, i, n) in
-    let k = g.W.World.keyword_of c.in-Some.keyword in
-    let x : g.W.World.listed c.keywords.judging.keywords ≡ k ∷ g.W.World.listed c.next_keyword.new.judging.keywords = c.in-Some.ensures.next in
-    let loop = rw (x, sym c.next_keyword.ensures.known) at c.keywords.invariant.loop in
+    let indexes : c.start-start.result.indexes ≤ length c.keywords.way.indexes.items = omega (arith, i, n) in let k = g.W.World.keyword_of c.in-Some.keyword in
+    let x : g.W.World.listed c.keywords.judging.keywords ≡ k ∷ g.W.World.listed c.next_keyword.new.judging.keywords = c.in-Some.ensures.next in let loop = rw (x, sym c.next_keyword.ensures.known) at c.keywords.invariant.loop in
     let next = at_next (g.W.World.schemas c.args.world.now) (c.args.depth - 1) (map site c.args.way.now.path) (site c.args.place) (g.W.World.value_of c.args.value) c.is_quiet-quiet.result g.R.Reporter.takes c.next_keyword.new.judging.known.valid c.next_keyword.new.judging.known.condition c.next_keyword.new.judging.known.matching
     (map g.W.World.text_of c.args.way.now.names.items) (map g.W.World.text_of c.keywords.way.names.items) c.args.way.now.indexes.items c.keywords.way.indexes.items c.args.way.now.left c.keywords.way.left c.args.way.now.keyword c.args.way.now.instance c.args.into.now c.keywords.into k (g.W.World.listed c.next_keyword.new.judging.keywords) loop in
     let there = is_keyword_at (g.W.World.schemas c.args.world.now) (site c.args.place) c.keywords-keywords.ensures.ascending next.done next.rest k next.so.split in
@@ -178,15 +155,10 @@ node-keyword_node-requires g t c κs within =
 
 pub node-returns-in_err-judged : goal.node-returns-in_err-judged
 node-returns-in_err-judged g t c =
-    let S = g.W.World.schemas c.args.world.now in
-    let site = g.W.World.site c.args.world.now in
-    let path = map site c.args.way.now.path in
-    let place = site c.args.place in
-    let v = g.W.World.value_of c.args.value in
-    let k = g.W.World.keyword_of c.in-Some.keyword in
-    let rest = g.W.World.listed c.next_keyword.new.judging.keywords in
-    let x : g.W.World.listed c.keywords.judging.keywords ≡ k ∷ rest = c.in-Some.ensures.next in
-    let loop = rw (x, sym c.next_keyword.ensures.known) at c.keywords.invariant.loop in
+    let S = g.W.World.schemas c.args.world.now in let site = g.W.World.site c.args.world.now in
+    let path = map site c.args.way.now.path in let place = site c.args.place in
+    let v = g.W.World.value_of c.args.value in let k = g.W.World.keyword_of c.in-Some.keyword in let rest = g.W.World.listed c.next_keyword.new.judging.keywords in
+    let x : g.W.World.listed c.keywords.judging.keywords ≡ k ∷ rest = c.in-Some.ensures.next in let loop = rw (x, sym c.next_keyword.ensures.known) at c.keywords.invariant.loop in
     let same : map site c.keywords.way.path ≡ path ++ place ∷ [] = ap (map site) c.keywords.invariant.path ∙ map-append site c.args.way.now.path (c.args.place ∷ []) in
     let apps = asked_by S (c.args.depth - 1) (map site c.keywords.way.path) place v k c.next_keyword.new.judging.known.condition (map g.W.World.text_of (drop c.start-start.result.names c.keywords.way.names.items)) (drop c.start-start.result.indexes c.keywords.way.indexes.items) in
     let p = err_from_is_err_and c.from_residual-in_err-judged.result c.from_residual-in_err-judged.ensures.1 in
@@ -197,15 +169,10 @@ node-returns-in_err-judged g t c =
 
 pub node-keywords-preserved : goal.node-keywords-preserved
 node-keywords-preserved g t c =
-    let S = g.W.World.schemas c.args.world.now in
-    let site = g.W.World.site c.args.world.now in
-    let path = map site c.args.way.now.path in
-    let place = site c.args.place in
-    let v = g.W.World.value_of c.args.value in
-    let k = g.W.World.keyword_of c.in-Some.keyword in
-    let rest = g.W.World.listed c.next_keyword.new.judging.keywords in
-    let x : g.W.World.listed c.keywords.judging.keywords ≡ k ∷ rest = c.in-Some.ensures.next in
-    let loop = rw (x, sym c.next_keyword.ensures.known) at c.keywords.invariant.loop in
+    let S = g.W.World.schemas c.args.world.now in let site = g.W.World.site c.args.world.now in
+    let path = map site c.args.way.now.path in let place = site c.args.place in
+    let v = g.W.World.value_of c.args.value in let k = g.W.World.keyword_of c.in-Some.keyword in let rest = g.W.World.listed c.next_keyword.new.judging.keywords in
+    let x : g.W.World.listed c.keywords.judging.keywords ≡ k ∷ rest = c.in-Some.ensures.next in let loop = rw (x, sym c.next_keyword.ensures.known) at c.keywords.invariant.loop in
     let same : map site c.keywords.way.path ≡ path ++ place ∷ [] = ap (map site) c.keywords.invariant.path ∙ map-append site c.args.way.now.path (c.args.place ∷ []) in
     let done = c.in_ok-judged.ensures.done in
     record {
@@ -224,11 +191,8 @@ node-keywords-preserved g t c =
 
 pub node-returns-then-way-others : goal.node-returns-then-way-others
 node-returns-then-way-others g t c =
-    let S = g.W.World.schemas c.args.world.now in
-    let site = g.W.World.site c.args.world.now in
-    let path = map site c.args.way.now.path in
-    let place = site c.args.place in
-    let v = g.W.World.value_of c.args.value in
+    let S = g.W.World.schemas c.args.world.now in let site = g.W.World.site c.args.world.now in
+    let path = map site c.args.way.now.path in let place = site c.args.place in let v = g.W.World.value_of c.args.value in
     let x : g.W.World.listed c.keywords.judging.keywords ≡ [] = c.in_default.ensures.next in
     let loop = rw (x, sym c.next_keyword.ensures.known) at c.keywords.invariant.loop in
     subst (λ d. HasNone S d path place v c.args.way.now.left) (one_less c.args.depth c.if-depth-eq0.false)
@@ -237,11 +201,8 @@ node-returns-then-way-others g t c =
 
 pub node-returns : goal.node-returns
 node-returns g t c =
-    let S = g.W.World.schemas c.args.world.now in
-    let site = g.W.World.site c.args.world.now in
-    let path = map site c.args.way.now.path in
-    let place = site c.args.place in
-    let v = g.W.World.value_of c.args.value in
+    let S = g.W.World.schemas c.args.world.now in let site = g.W.World.site c.args.world.now in
+    let path = map site c.args.way.now.path in let place = site c.args.place in let v = g.W.World.value_of c.args.value in
     let x : g.W.World.listed c.keywords.judging.keywords ≡ [] = c.in_default.ensures.next in
     let loop = rw (x, sym c.next_keyword.ensures.known) at c.keywords.invariant.loop in
     subst (λ d. NodeDone S g.W.World.text_of g.R.Reporter.takes d path place v (c.next_keyword.new.judging.known.valid && c.in_ok-others.others.pass) c.args.way.now c.close_schema.new.way c.args.into.now c.close_schema.new.into) (one_less c.args.depth c.if-depth-eq0.false)
