@@ -1,5 +1,5 @@
 -- The texts that tell where a place stands go on from where those of the place before it are the same.
-use Rattle.std.proofs.Common.{◌≡◌, ℕ, zero, suc, ◌-◌, ◌≤◌, min, List, [], ◌∷◌, ◌++◌, Bool, true, false, ◌&&◌, ◌==◌, bytes_eq, codes, decimal, take, drop, length, string_bytes, if◌then◌else◌, refl, sym, ap, ap₂, ◌∙◌, append_assoc, append-nil, arith}
+use Rattle.std.proofs.Common.{◌≡◌, ℕ, zero, suc, ◌-◌, ◌≤◌, min, List, [], ◌∷◌, ◌++◌, Bool, true, false, ◌&&◌, ◌==◌, bytes_eq, codes, decimal, take, drop, length, string_bytes, if◌then◌else◌, refl, sym, ap, ap₂, ◌∙◌, append_assoc, arith}
 use Rattle.std.proofs.lemmas.Bool.{and_parts, eqb-true}
 use Rattle.std.proofs.lemmas.List.{length-drop, take-append-drop, take-take}
 use Rattle.js_doc.specs.Pointer.{Tokens, token_text}
@@ -55,14 +55,6 @@ shared_ends q p i e = by_lists (drop i q) (drop i p) (length-drop i q) (length-d
 -- the first n tokens are those of another text with the same head
 goes_on : (head : List ℕ) (form : Representation) (p q : Tokens) (b : TextPrefix) → BeginsWith head form p b → take b.tokens p ≡ take b.tokens q → BeginsWith head form q b
 goes_on head form p q b h same = record { text = h.text ∙ ap (λ ts. head ++ written form ts) same }
-
--- none of them
-pub begins_anew : (head : List ℕ) (form : Representation) (p : Tokens) (b : TextPrefix) → string_bytes b.text ≡ head → b.tokens ≡ 0 → BeginsWith head form p b
-begins_anew head form p b text none = record { text = text ∙ sym (append-nil head) ∙ ap (λ x. head ++ x) (nothing form ∙ ap (λ n. written form (take n p)) (sym none)) }
-  where
-    nothing : (f : Representation) → [] ≡ written f []
-    nothing Plain = refl
-    nothing Fragment = refl
 
 further : (head : List ℕ) (form : Representation) (p q : Tokens) → (head ++ written form p) ++ written form q ≡ head ++ written form (p ++ q)
 further head form p q = append_assoc head (written form p) (written form q) ∙ ap (λ x. head ++ x) (sym (written_append form p q))

@@ -37,7 +37,7 @@ pub(crate) struct Root<'a> {
 }
 
 impl<'a> Root<'a> {
-    pub(crate) fn at(document: usize, pointer: &'a Pointer) -> Root<'a>
+    pub(crate) fn new(document: usize, pointer: &'a Pointer) -> Root<'a>
         ensures document { result.document ≡ document }
         ensures pointer { result.pointer.now ≡ pointer.now }
     {
@@ -60,7 +60,7 @@ fn root_at<'s>(sites: &'s [Site<'_>], number: usize) -> Option<Root<'s>>
     ensures { option_map standing_of result ≡ option_map standing (slice_get (map site_of sites.now) number) }
 {
     match sites.get(number) {
-        Some(site) => Some(Root::at(site.document, &site.pointer)),
+        Some(site) => Some(Root::new(site.document, &site.pointer)),
         None => None,
     }
 }
