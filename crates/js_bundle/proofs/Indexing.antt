@@ -3,7 +3,7 @@ pub mod IndexFinds
 pub mod KnownRoots
 pub mod PositionsNext
 pub mod SharedTokens
-pub mod WaysWritten
+pub mod TokensWritten
 pub mod EdgesNext
 pub mod SparseLists
 pub mod PartsOfPlaces

@@ -1,6 +1,6 @@
 pub mod Rows
 pub mod OnLiterals
-pub mod MembersAsList
+pub mod MemberLoops
 pub mod NameTables
 pub mod Standing
 pub mod SchemaBelow

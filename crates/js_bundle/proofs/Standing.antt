@@ -8,11 +8,12 @@ use Rattle.js_doc.specs.Members.{NamesAscend, NamesAscendInItems, NamesAscendInM
 use Rattle.js_doc.specs.Pointer.{Tokens}
 use Rattle.js_doc.specs.Short.{item_count, IsShort, AreShortItems, AreShortMembers}
 use Rattle.js_doc.specs.Value.{Value, null, truth, whole, text, list, object, Items, no_items, item, Members, no_members, member}
+use Rattle.js_doc.specs.Parts.{member_list, members_of}
 use Rattle.js_doc.proofs.Named.{is_text-refl, is_text-sound}
 use Rattle.js_bundle.specs.declared.scan.holding.Holding.{Holding}
 use Rattle.js_bundle.specs.declared.scan.holding.Holding.TheVariants.{One, Listed, Named, Nothing}
 use Rattle.js_bundle.specs.Document.{Document, Documents}
-use Rattle.js_bundle.specs.Keyword.{Text, member_pairs, keywords}
+use Rattle.js_bundle.specs.Keyword.{Text}
 use Rattle.js_bundle.specs.Place.{holding, values, items_in, IsPlace, at_root, in_keyword, in_list, in_object, Located, Place, places_held, places_at, places_of_keywords, places_in_list, places_of_items, places_in_object, places_of_members, places_from}
 use Rattle.js_bundle.specs.Resource.{Site, site, sites}
 use Rattle.js_bundle.specs.Seen.{AreOrdered, AreShort}
@@ -26,7 +27,7 @@ other_text k l true e n = absurd (n (is_text-sound k l e))
 other_text k l false e n = e
 
 -- a name that ascends past another isn't it
-pub member_found : (k : Text) (u : Value) (ms : Members) → NamesAscendInMembers ms → Among (k, u) (member_pairs ms) → member_named k ms ≡ Some u
+pub member_found : (k : Text) (u : Value) (ms : Members) → NamesAscendInMembers ms → Among (k, u) (member_list ms) → member_named k ms ≡ Some u
 member_found k u no_members a h = absurd h
 member_found k u (member l v ms) a (inl e) =
     let same : is_text k l ≡ true = ap (is_text k) (sym (ap (λ m. m.0) e)) ∙ is_text-refl k in
@@ -61,17 +62,17 @@ pub record Below (k : Text) (v u : Value) : Type 0 where
   pub ascends : NamesAscend u
   pub short : IsShort u
 
-among_ascends : (k : Text) (u : Value) (ms : Members) → NamesAscendInMembers ms → Among (k, u) (member_pairs ms) → NamesAscend u
+among_ascends : (k : Text) (u : Value) (ms : Members) → NamesAscendInMembers ms → Among (k, u) (member_list ms) → NamesAscend u
 among_ascends k u no_members a h = absurd h
 among_ascends k u (member l v ms) a (inl e) = subst (λ w. NamesAscend w) (sym (ap (λ m. m.1) e)) a.1
 among_ascends k u (member l v ms) a (inr h) = among_ascends k u ms a.2 h
 
-among_short : (k : Text) (u : Value) (ms : Members) → AreShortMembers ms → Among (k, u) (member_pairs ms) → IsShort u
+among_short : (k : Text) (u : Value) (ms : Members) → AreShortMembers ms → Among (k, u) (member_list ms) → IsShort u
 among_short k u no_members a h = absurd h
 among_short k u (member l v ms) a (inl e) = subst (λ w. IsShort w) (sym (ap (λ m. m.1) e)) a.0
 among_short k u (member l v ms) a (inr h) = among_short k u ms a.1 h
 
-pub below_member : (k : Text) (v u : Value) → NamesAscend v → IsShort v → Among (k, u) (keywords v) → Below k v u
+pub below_member : (k : Text) (v u : Value) → NamesAscend v → IsShort v → Among (k, u) (members_of v) → Below k v u
 below_member k null u a s h = absurd h
 below_member k (truth b) u a s h = absurd h
 below_member k (whole z) u a s h = absurd h
@@ -141,15 +142,15 @@ pub place_stands : (root : Value) (p : Tokens) (v : Value) → NamesAscend root 
 place_stands root p v a s at_root = record { found = refl; ascends = a; short = s }
 place_stands root p v a s (in_keyword p' v' k u q h e m is) =
     let up = place_stands root p' v' a s h in
-    one_further root p' k v' u q up (below_member k v' u up.ascends up.short (is-among (k, u) (keywords v') m.0 m.1.0 m.1.1)) is
+    one_further root p' k v' u q up (below_member k v' u up.ascends up.short (is-among (k, u) (members_of v') m.0 m.1.0 m.1.1)) is
 place_stands root p v a s (in_list p' v' k l i u q h e m g is) =
     let up = place_stands root p' v' a s h in
-    let held = below_member k v' l up.ascends up.short (is-among (k, l) (keywords v') m.0 m.1.0 m.1.1) in
+    let held = below_member k v' l up.ascends up.short (is-among (k, l) (members_of v') m.0 m.1.0 m.1.1) in
     two_further root p' k (decimal i) v' l u q up held (below_item i l u held.ascends held.short g) is
 place_stands root p v a s (in_object p' v' k l n u q h e m b is) =
     let up = place_stands root p' v' a s h in
-    let held = below_member k v' l up.ascends up.short (is-among (k, l) (keywords v') m.0 m.1.0 m.1.1) in
-    two_further root p' k n v' l u q up held (below_member n l u held.ascends held.short (is-among (n, u) (keywords l) b.0 b.1.0 b.1.1)) is
+    let held = below_member k v' l up.ascends up.short (is-among (k, l) (members_of v') m.0 m.1.0 m.1.1) in
+    two_further root p' k n v' l u q up held (below_member n l u held.ascends held.short (is-among (n, u) (members_of l) b.0 b.1.0 b.1.1)) is
 
 -- ---- over all documents
 

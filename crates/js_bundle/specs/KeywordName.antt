@@ -2,10 +2,11 @@
 use Rattle.std.specs.Prelude.{List, [], ◌∷◌, Bool, Option, Some, None, is_some, codes, bytes_eq, map, if◌then◌else◌}
 use Rattle.std.specs.Ordering.{is_gt}
 use Rattle.js_doc.specs.Members.{name_cmp}
+use Rattle.js_doc.specs.Parts.{members_of}
 use Rattle.js_assert.specs.Keyword.{keyword_named}
 use Rattle.js_bundle.specs.declared.keyword_name.KeywordName.{KeywordName}
 use Rattle.js_bundle.specs.declared.keyword_name.KeywordName.TheVariants.{Ref, DynamicRef, AllOf, AnyOf, OneOf, Not, If, Then, Else, DependentSchemas, PrefixItems, Items, Contains, Properties, PatternProperties, AdditionalProperties, PropertyNames, UnevaluatedItems, UnevaluatedProperties, AssertionUpToIf, AssertionBehindIf, Schema, Id, Anchor, DynamicAnchor, Vocabulary, Comment, Defs, Definitions, OtherUpToIf, OtherBehindIf}
-use Rattle.js_bundle.specs.Keyword.{Text, keywords}
+use Rattle.js_bundle.specs.Keyword.{Text}
 use Rattle.js_bundle.specs.Resource.{Site}
 
 abbrev pub TableOfNames : Type 0
@@ -58,4 +59,4 @@ keyword_name name = name_in applying (not_applying name) name
 
 -- of each of a place's keywords, by name ascending
 abbrev pub keyword_names : Site → List KeywordName
-keyword_names place = map (λ m. keyword_name m.0) (keywords place.schema)
+keyword_names place = map (λ m. keyword_name m.0) (members_of place.schema)

@@ -5,10 +5,11 @@ use Rattle.std.specs.List.{list_any, IsAmong}
 use Rattle.url.specs.Parts.{Parts}
 use Rattle.js_doc.specs.Pointer.{Tokens}
 use Rattle.js_doc.specs.Value.{Value, list, object, Values, Items, no_items, item, Members, no_members, member}
+use Rattle.js_doc.specs.Parts.{members_of}
 use Rattle.js_bundle.specs.declared.scan.holding.Holding.{Holding}
 use Rattle.js_bundle.specs.declared.scan.holding.Holding.TheVariants.{One, Listed, Named, Nothing}
 use Rattle.js_bundle.specs.Document.{Documents}
-use Rattle.js_bundle.specs.Keyword.{Text, keywords}
+use Rattle.js_bundle.specs.Keyword.{Text}
 
 -- ---- which keywords hold schemas
 
@@ -46,11 +47,11 @@ items_in _ = []
 pub data IsPlace (root : Value) : Tokens → Value → Type 0 where
   at_root : IsPlace root [] root
   in_keyword : (p : Tokens) (v : Value) (k : Text) (u : Value) (q : Tokens)
-      → IsPlace root p v → holding k ≡ One → IsAmong (keywords v) (k, u) → q ≡ p ++ k ∷ [] → IsPlace root q u
+      → IsPlace root p v → holding k ≡ One → IsAmong (members_of v) (k, u) → q ≡ p ++ k ∷ [] → IsPlace root q u
   in_list : (p : Tokens) (v : Value) (k : Text) (l : Value) (i : ℕ) (u : Value) (q : Tokens)
-      → IsPlace root p v → holding k ≡ Listed → IsAmong (keywords v) (k, l) → slice_get (items_in l) i ≡ Some u → q ≡ p ++ k ∷ decimal i ∷ [] → IsPlace root q u
+      → IsPlace root p v → holding k ≡ Listed → IsAmong (members_of v) (k, l) → slice_get (items_in l) i ≡ Some u → q ≡ p ++ k ∷ decimal i ∷ [] → IsPlace root q u
   in_object : (p : Tokens) (v : Value) (k : Text) (l : Value) (n : Text) (u : Value) (q : Tokens)
-      → IsPlace root p v → holding k ≡ Named → IsAmong (keywords v) (k, l) → IsAmong (keywords l) (n, u) → q ≡ p ++ k ∷ n ∷ [] → IsPlace root q u
+      → IsPlace root p v → holding k ≡ Named → IsAmong (members_of v) (k, l) → IsAmong (members_of l) (n, u) → q ≡ p ++ k ∷ n ∷ [] → IsPlace root q u
 
 -- ---- the places in scan order
 

@@ -2,9 +2,10 @@
 -- and 11).
 use Rattle.std.specs.Prelude.{◌≡◌, ℕ, Bool, true, false, Some, slice_get}
 use Rattle.js_doc.specs.Value.{Value}
+use Rattle.js_doc.specs.Parts.{members_of}
 use Rattle.js_bundle.specs.declared.keyword_name.KeywordName.{KeywordName}
 use Rattle.js_bundle.specs.declared.keyword_name.KeywordName.TheVariants as name
-use Rattle.js_bundle.specs.Keyword.{Text, argument, keywords}
+use Rattle.js_bundle.specs.Keyword.{Text, argument}
 use Rattle.js_bundle.specs.KeywordName.{keyword_name}
 use Rattle.js_bundle.specs.Place.{items_in}
 use Rattle.js_bundle.specs.Schemas.{Step, Alone, Index, Name}
@@ -50,7 +51,7 @@ applies_at _ = is_none
 abbrev pub IsAtRank : Step → ℕ → Value → Value → Type 0
 IsAtRank Alone r l u = (l ≡ u) × (r ≡ 0)
 IsAtRank (Index i) r l u = (slice_get (items_in l) i ≡ Some u) × (r ≡ i)
-IsAtRank (Name n) r l u = slice_get (keywords l) r ≡ Some (n, u)
+IsAtRank (Name n) r l u = slice_get (members_of l) r ≡ Some (n, u)
 
 -- the keyword of this schema holds a schema at the step
 abbrev pub HoldsAtRank : Value → Text → Step → ℕ → Value → Type 0

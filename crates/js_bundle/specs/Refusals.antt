@@ -6,6 +6,7 @@ use Rattle.url.specs.Parts.{Parts}
 use Rattle.url.specs.Parser.{Parsed, parse_url}
 use Rattle.js_doc.specs.Pointer.{Tokens}
 use Rattle.js_doc.specs.Value.{Value, text}
+use Rattle.js_doc.specs.Parts.{members_of}
 use Rattle.js_assert.specs.Form as assertion
 use Rattle.js_assert.specs.Pattern.{is_in_grammar, nests_too_deep}
 use Rattle.js_bundle.specs.declared.refusal.Refusal.{Refusal}
@@ -15,7 +16,7 @@ use Rattle.js_bundle.specs.declared.check.fault.CheckFault.{CheckFault}
 use Rattle.js_bundle.specs.declared.check.fault.CheckFault.TheVariants as fault
 use Rattle.js_bundle.specs.Candidate.{Candidate, IsFirst, decided_in}
 use Rattle.js_bundle.specs.Document.{Documents}
-use Rattle.js_bundle.specs.Keyword.{Text, keywords, text_argument}
+use Rattle.js_bundle.specs.Keyword.{Text, text_argument}
 use Rattle.js_bundle.specs.Url.{longest_uri, without_fragment, printed, raw_fragment, decoded_fragment}
 use Rattle.js_bundle.specs.Resource.{Site, sites}
 use Rattle.js_bundle.specs.Names.{is_root, is_known_as, belongs_to, makes, is_read, named, is_anchor_name}
@@ -115,7 +116,7 @@ text_rules before place k t =
 -- of `patternProperties`: its names are patterns (section 10.3.2.2)
 abbrev pub name_rules : Site → Text → Value → List Candidate
 name_rules place k argument =
-    if is k (codes "patternProperties") then flat_map (λ n. at_pattern place (k ∷ n.0 ∷ []) n.0) (keywords argument) else []
+    if is k (codes "patternProperties") then flat_map (λ n. at_pattern place (k ∷ n.0 ∷ []) n.0) (members_of argument) else []
 
 -- of a keyword, its form first
 abbrev pub at_member : List Site → Site → Text × Value → List Candidate
@@ -125,7 +126,7 @@ at_member before place m =
 
 -- of a place and its keywords
 abbrev pub at_site : List Site → Site → List Candidate
-at_site before place = at_place before place ++ flat_map (at_member before place) (keywords place.schema)
+at_site before place = at_place before place ++ flat_map (at_member before place) (members_of place.schema)
 
 abbrev pub first_pass : List Site → List Site → List Candidate
 first_pass before [] = []

@@ -7,6 +7,7 @@ use Rattle.url.specs.Parts.{Parts}
 use Rattle.url.specs.Parser.{Parsed, parse_url}
 use Rattle.js_doc.specs.Pointer.{Tokens}
 use Rattle.js_doc.specs.Value.{Value}
+use Rattle.js_doc.specs.Parts.{members_of}
 use Rattle.js_assert.specs.Assertion.{Asserted, asserted}
 use Rattle.js_bundle.specs.declared.scan.holding.Holding.{Holding}
 use Rattle.js_bundle.specs.declared.scan.holding.Holding.TheVariants.{One, Listed, Named}
@@ -15,7 +16,7 @@ use Rattle.js_bundle.specs.declared.place.Step.TheVariants as rust_step
 use Rattle.js_bundle.specs.declared.refusal.EntryFault.{EntryFault}
 use Rattle.js_bundle.specs.declared.refusal.EntryFault.TheVariants as fault
 use Rattle.js_bundle.specs.Document.{Documents}
-use Rattle.js_bundle.specs.Keyword.{Text, keywords, argument, has_argument}
+use Rattle.js_bundle.specs.Keyword.{Text, argument, has_argument}
 use Rattle.js_bundle.specs.Names.{stands_at, known_as, named, is_read}
 use Rattle.js_bundle.specs.Place.{holding, items_in}
 use Rattle.js_bundle.specs.Resource.{Site, sites}
@@ -94,7 +95,7 @@ FindsSchema documents (Some n) u = (place : Site) × (place_at documents n ≡ S
 
 -- the assertion of a keyword of the place, if it has that keyword and it is one
 abbrev pub assertion : Text → Site → Option Asserted
-assertion keyword place = option_and_then (λ v. asserted keyword v (keywords place.schema)) (argument keyword place.schema)
+assertion keyword place = option_and_then (λ v. asserted keyword v (members_of place.schema)) (argument keyword place.schema)
 
 -- the pattern of this name among the `patternProperties` of the place; a pattern is seen as its text
 abbrev pub pattern : Text → Site → Option Text

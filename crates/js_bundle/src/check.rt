@@ -61,11 +61,13 @@ pub(crate) struct Checked {
 struct LookedUp {
     references: References,
     resources: Resources,
+    edges: Vec<Edges>,
 }
 
-// What references lead to, and the resources.
+// What references lead to, the resources, and what each place holds.
 fn look_up(
     alloc: Global,
+    documents: &[Document],
     positions: &Positions,
     sites: &[Site<'_>],
     keywords: &KeywordTable,
@@ -80,6 +82,7 @@ fn look_up(
     ensures plain { IfOk result (λ l. IsSparseList (under_number l.references.plain.items)
         (number_of_target (map site_of sites.now) (codes "$ref")) (map site_of sites.now)) }
     ensures resources { IfOk result (λ l. IsResourceTable l.resources (map site_of sites.now)) }
+    ensures edges { IfOk result (λ l. map edges_of l.edges.items ≡ edges_from 0 (map document_of documents.now)) }
     ensures err { IfErr result (IsStopped (second_pass (map site_of sites.now))) }
 {
     let references = resolve_all(alloc, &positions.index, sites, keywords)?;
@@ -87,6 +90,7 @@ fn look_up(
     Ok(LookedUp {
         references,
         resources,
+        edges: edges_in(alloc, documents)?,
     })
 }
 
@@ -117,8 +121,13 @@ pub(crate) fn check_whole(alloc: Global, documents: &[Document]) -> Result<Check
 {
     let sites = scan(alloc, documents)?;
     let passed = first_pass(alloc, sites.as_slice())?;
-    let found = look_up(alloc, &passed.positions, sites.as_slice(), &passed.keywords)?;
-    let edges = edges_in(alloc, documents)?;
+    let found = look_up(
+        alloc,
+        documents,
+        &passed.positions,
+        sites.as_slice(),
+        &passed.keywords,
+    )?;
     Ok(Checked {
         sites: kept_sites_of(alloc, sites)?,
         built: passed.built,
@@ -127,6 +136,6 @@ pub(crate) fn check_whole(alloc: Global, documents: &[Document]) -> Result<Check
         locations: passed.positions.locations,
         index: passed.positions.index,
         resources: found.resources,
-        edges,
+        edges: found.edges,
     })
 }

@@ -170,9 +170,9 @@ fn scan_items<'a>(
         ++ sites_of_items document above.now.value pointer.now 0
         (spec.items (map value_of schemas.now)))) }
 {
+    let mut digits = itoa::Buffer::new();
     for i in 0..schemas.len() {
-        let token = i.to_string(*out.allocator())?;
-        let at = shared_further(*out.allocator(), pointer, token.as_str())?;
+        let at = shared_further(*out.allocator(), pointer, digits.format(i))?;
         scan_schema(out, document, above, &at, 0, &schemas[i])?;
     }
     Ok(())

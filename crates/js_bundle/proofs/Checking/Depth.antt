@@ -3,6 +3,7 @@ use Rattle.std.proofs.Common.{◌≡◌, List, [], ◌∷◌, ◌++◌, Bool, tr
 use Rattle.std.specs.List.{AllByRecursion}
 use Rattle.js_doc.specs.Pointer.{Tokens}
 use Rattle.js_doc.specs.Value.{Value, null, truth, whole, text, list, object}
+use Rattle.js_doc.specs.Parts.{members_of}
 use Rattle.js_assert.specs.Form as assertion
 use Rattle.js_assert.specs.Pattern.{is_in_grammar, nests_too_deep}
 use Rattle.js_bundle.specs.declared.refusal.RefusalKind.TheVariants.{BadKeyword}
@@ -10,7 +11,7 @@ use Rattle.js_bundle.specs.Candidate.{IsClear}
 use Rattle.js_bundle.specs.Depth.{patterns_held, IsShallow, AreShallow, HasShallow, NoneTooDeep}
 use Rattle.js_bundle.specs.Document.{Documents}
 use Rattle.js_bundle.specs.Form.{is_formed}
-use Rattle.js_bundle.specs.Keyword.{Text, keywords, as_text}
+use Rattle.js_bundle.specs.Keyword.{Text, as_text}
 use Rattle.js_bundle.specs.Refusals.{when, decided, on_text, at_pattern, assertion_rules, text_rules, name_rules, at_place, at_member, at_site, first_pass, second_pass, candidates}
 use Rattle.js_bundle.specs.Resource.{Site, sites}
 use Rattle.js_bundle.proofs.Checking.AssertionRules.{at_bools, at_pattern-is}
@@ -50,10 +51,10 @@ shallow_each place k (n ∷ ms) h =
     let rest = flat_map (λ n. at_pattern place (k ∷ n.0 ∷ []) n.0) ms in
     (shallow place (k ∷ n.0 ∷ []) n.0 (clear_here here rest h), shallow_each place k ms (clear_there here rest h))
 
-shallow_names : (b : Bool) (place : Site) (k : Text) (v : Value) → IsClear (if b then flat_map (λ n. at_pattern place (k ∷ n.0 ∷ []) n.0) (keywords v) else [])
-    → AreShallow (if b then map (λ n. n.0) (keywords v) else [])
+shallow_names : (b : Bool) (place : Site) (k : Text) (v : Value) → IsClear (if b then flat_map (λ n. at_pattern place (k ∷ n.0 ∷ []) n.0) (members_of v) else [])
+    → AreShallow (if b then map (λ n. n.0) (members_of v) else [])
 shallow_names false place k v h = tt
-shallow_names true place k v h = shallow_each place k (keywords v) h
+shallow_names true place k v h = shallow_each place k (members_of v) h
 
 of_keyword : (before : List Site) (place : Site) (m : Text × Value) → IsClear (at_member before place m) → AreShallow (patterns_held m)
 of_keyword before place m h =
@@ -67,7 +68,7 @@ of_keyword before place m h =
     let past_form : IsClear (asserted ++ (texts ++ name_rules place k m.1)) = clear_there form (asserted ++ (texts ++ name_rules place k m.1)) h in
     let one = clear_there asserted_form (if pattern then on_text (at_pattern place (k ∷ [])) m.1 else []) (clear_here asserted (texts ++ name_rules place k m.1) past_form) in
     let all = clear_there texts (name_rules place k m.1) (clear_there asserted (texts ++ name_rules place k m.1) past_form) in
-    both_shallow (if pattern then option_to_list (as_text m.1) else []) (if named then map (λ n. n.0) (keywords m.1) else [])
+    both_shallow (if pattern then option_to_list (as_text m.1) else []) (if named then map (λ n. n.0) (members_of m.1) else [])
     (shallow_text pattern place (k ∷ []) m.1 one) (shallow_names named place k m.1 all)
 
 -- ---- those of all places
@@ -84,7 +85,7 @@ of_places before [] h = tt
 of_places before (place ∷ all) h =
     let here = at_site before place in
     let rest = first_pass (before ++ place ∷ []) all in (
-      of_keywords before place (keywords place.schema) (clear_there (at_place before place) (flat_map (at_member before place) (keywords place.schema)) (clear_here here rest h)),
+      of_keywords before place (members_of place.schema) (clear_there (at_place before place) (flat_map (at_member before place) (members_of place.schema)) (clear_here here rest h)),
       of_places (before ++ place ∷ []) all (clear_there here rest h),
     )
 

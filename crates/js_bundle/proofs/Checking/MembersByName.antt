@@ -4,7 +4,7 @@ use Rattle.js_doc.specs.Members.{get, IsAscending}
 use Rattle.js_doc.specs.Value.{Value, Named, object, members}
 use Rattle.js_doc.proofs.FiniteMaps.{get_past, get_here, get_below}
 use Rattle.js_bundle.specs.Keyword.{Text, argument}
-use Rattle.js_bundle.proofs.MembersAsList.{pairs-members}
+use Rattle.js_doc.proofs.PartLists.{member_list-members}
 
 -- each of these stands so in the whole
 abbrev pub StandIn : Named → Named → Type 0
@@ -21,4 +21,4 @@ each_stands [] h = tt
 each_stands (m ∷ ms) h = (get_here m.0 m.1 ms, one_more m ms ms (get_below m.0 ms h.0 h.1) (each_stands ms h.1))
 
 pub argument_stands : (schema v : Value) (whole : Named) (k : Text) → schema ≡ object (members whole) → get k whole ≡ Some v → argument k schema ≡ Some v
-argument_stands schema v whole k is stands = ap (argument k) is ∙ ap (get k) (pairs-members whole) ∙ stands
+argument_stands schema v whole k is stands = ap (argument k) is ∙ ap (get k) (member_list-members whole) ∙ stands

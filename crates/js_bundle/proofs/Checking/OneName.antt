@@ -9,12 +9,13 @@ use Rattle.url.specs.Parser.{Parsed, parse_url}
 use Rattle.js_doc.specs.Pointer.{Tokens}
 use Rattle.js_doc.specs.PointerReading.{pointer_of}
 use Rattle.js_doc.specs.Value.{Value, null, truth, whole, text, list, object}
+use Rattle.js_doc.specs.Parts.{members_of}
 use Rattle.js_doc.proofs.Named.{is_text-sound}
 use Rattle.js_bundle.specs.declared.refusal.RefusalKind.TheVariants.{BadAnchor, BadId, BadKeyword, DuplicateAnchor, DuplicateUri, NotASchema, TooManyPlaces, UriTooLong}
 use Rattle.js_bundle.specs.Candidate.{IsClear}
 use Rattle.js_bundle.specs.Document.{Documents}
 use Rattle.js_bundle.specs.Form.{is_formed, is_schema}
-use Rattle.js_bundle.specs.Keyword.{Text, keywords, argument, as_text}
+use Rattle.js_bundle.specs.Keyword.{Text, argument, as_text}
 use Rattle.js_bundle.specs.NameLaws.{AreOne}
 use Rattle.js_bundle.specs.Names.{same_tokens, is_root, is_known_as, root_named, stands_at, belongs_to, makes, by_pointer, by_anchor, by_dynamic_anchor, is_pointer, is_named_by, names, is_anchor_name}
 use Rattle.js_bundle.specs.Place.{Place, places_from}
@@ -78,7 +79,7 @@ one_of documents h Is never_both n m s t e f i j =
 
 keyword_clear : (before : List Site) (t : Site) (k : Text) (v : Value) → IsClear (at_site before t) → argument k t.schema ≡ Some v → IsClear (at_member before t (k, v))
 keyword_clear before t k v h e =
-    clear_among (at_member before t) (keywords t.schema) (k, v) (clear_there (at_place before t) (flat_map (at_member before t) (keywords t.schema)) h) (get_among k v (keywords t.schema) e)
+    clear_among (at_member before t) (members_of t.schema) (k, v) (clear_there (at_place before t) (flat_map (at_member before t) (members_of t.schema)) h) (get_among k v (members_of t.schema) e)
 
 text_clear : (before : List Site) (t : Site) (k u : Text) → IsClear (at_site before t) → argument k t.schema ≡ Some (text u) → IsClear (text_rules before t k u)
 text_clear before t k u h e =
@@ -152,7 +153,7 @@ new_root before t h e =
     let full = when (nat_le most_places (length before)) (decided t [] TooManyPlaces) in
     let shape = when (not (is_schema t.schema)) (decided t [] NotASchema) in
     let root = when (is_root t && is_taken before t.above.base) (decided t [] DuplicateUri) in
-    let clear = clear_there shape root (clear_there full (shape ++ root) (clear_here (at_place before t) (flat_map (at_member before t) (keywords t.schema)) h)) in
+    let clear = clear_there shape root (clear_there full (shape ++ root) (clear_here (at_place before t) (flat_map (at_member before t) (members_of t.schema)) h)) in
     let both = not_when (is_root t && is_taken before t.above.base) t [] DuplicateUri clear in
     sym (ap (λ b. b && is_taken before t.above.base) e) ∙ both
 

@@ -1,11 +1,14 @@
 -- What the text of a reference leads to.
-use Rattle.std.proofs.Common.{◌≡◌, ℕ, List, length, nat_lt, Some, None, Ok, false, option_map, option_and_then, slice_get, if◌then◌else◌, codes, sym, ap, ap₂, ◌∙◌}
+use Rattle.std.proofs.Common.{◌≡◌, ℕ, List, [], ◌∷◌, length, nat_lt, Some, None, Ok, false, option_map, option_and_then, slice_get, if◌then◌else◌, codes, sym, ap, ap₂, ◌∙◌, subst}
 use Rattle.std.specs.Option.{option_map_or}
 use Rattle.url.specs.Parts.{Parts}
 use Rattle.url.specs.Parser.{parse_url}
+use Rattle.js_bundle.specs.declared.check.fault.CheckFault.{CheckFault}
+use Rattle.js_bundle.specs.Candidate.{IsStopped}
 use Rattle.js_bundle.specs.Finding.{number_named, dynamic_as, dynamic_by}
 use Rattle.js_bundle.specs.Keyword.{Text, text_argument}
 use Rattle.js_bundle.specs.Names.{makes, names, named}
+use Rattle.js_bundle.specs.Refusals.{at_reference, at_reference_text}
 use Rattle.js_bundle.specs.Resource.{Site, joined}
 use Rattle.js_bundle.specs.Target.{reference}
 use Rattle.js_bundle.specs.Url.{longest_uri, decoded_fragment, parsed}
@@ -18,6 +21,11 @@ joined_is base t u short read = ap (λ b. if b then None else parsed (parse_url 
 pub reference_is : (keyword : Text) (place : Site) (t : Text) (u : Parts) → Some t ≡ text_argument keyword place.schema → nat_lt longest_uri (length t) ≡ false
     → parse_url (Some place.own.base) t ≡ Ok u → reference keyword place ≡ Some u
 reference_is keyword place t u is short read = ap (option_and_then (joined place.own.base)) (sym is) ∙ joined_is place.own.base t u short read
+
+-- a text that isn't joined stops the check
+pub stopped_by_text : (all : List Site) (place : Site) (keyword t : Text) (e : CheckFault) → Some t ≡ text_argument keyword place.schema
+    → ((every : List Site) → IsStopped (at_reference_text every place (keyword ∷ []) (Some t)) e) → IsStopped (at_reference all keyword place) e
+stopped_by_text all place keyword t e is h = subst (λ o. IsStopped (at_reference_text all place (keyword ∷ []) o) e) is (h all)
 
 -- ---- a `$dynamicRef`
 

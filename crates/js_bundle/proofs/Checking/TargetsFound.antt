@@ -6,13 +6,14 @@ use Rattle.url.specs.Parts.{Parts}
 use Rattle.url.specs.Parser.{Parsed, parse_url}
 use Rattle.js_doc.specs.Pointer.{Tokens}
 use Rattle.js_doc.specs.Value.{Value, null, truth, whole, text, list, object}
+use Rattle.js_doc.specs.Parts.{members_of}
 use Rattle.js_bundle.specs.declared.refusal.RefusalKind.{RefusalKind}
 use Rattle.js_bundle.specs.declared.refusal.RefusalKind.TheVariants.{BadKeyword, BadReference, Unresolved, UriTooLong}
 use Rattle.js_bundle.specs.Candidate.{Candidate, IsClear}
 use Rattle.js_bundle.specs.Document.{Documents}
 use Rattle.js_bundle.specs.Finding.{number_named, number_of_target}
 use Rattle.js_bundle.specs.Form.{is_text_value, text_keywords, is_formed}
-use Rattle.js_bundle.specs.Keyword.{Text, keywords, argument, has_argument, as_text, text_argument}
+use Rattle.js_bundle.specs.Keyword.{Text, argument, has_argument, as_text, text_argument}
 use Rattle.js_bundle.specs.Names.{names, named, is_read}
 use Rattle.js_bundle.specs.Refusals.{when, decided, assertion_rules, on_text, text_rules, name_rules, at_place, at_member, at_site, first_pass, at_joined_reference, at_reference_text, at_reference, at_references, second_pass, candidates}
 use Rattle.js_bundle.specs.Resource.{Site, sites, joined}
@@ -55,7 +56,7 @@ pub form_clear : (before all : List Site) (n : ℕ) (s : Site) → IsClear (firs
 form_clear before all n s h e k v g =
     let there = site_clear before all n s h e in
     let b = there.0 in
-    let keyword = clear_among (at_member b s) (keywords s.schema) (k, v) (clear_there (at_place b s) (flat_map (at_member b s) (keywords s.schema)) there.1) (get_among k v (keywords s.schema) g) in
+    let keyword = clear_among (at_member b s) (members_of s.schema) (k, v) (clear_there (at_place b s) (flat_map (at_member b s) (members_of s.schema)) there.1) (get_among k v (members_of s.schema) g) in
     formed (is_formed k v) (not_when (not (is_formed k v)) s (k ∷ []) BadKeyword
     (clear_here (when (not (is_formed k v)) (decided s (k ∷ []) BadKeyword)) (assertion_rules s k v ++ (on_text (text_rules b s k) v ++ name_rules s k v)) keyword))
   where
@@ -119,21 +120,29 @@ references_clear documents n s h e =
     let all = sites documents in
     clear_at (at_references all) all n s (clear_there (first_pass [] all) (second_pass all) h) e
 
+-- where the reference of a place is clear, it has a target
+reference_found : (documents : Documents) → IsClear (candidates documents) → (n : ℕ) (s : Site) (k : Text) → list_any (bytes_eq k) text_keywords ≡ true → slice_get (sites documents) n ≡ Some s
+    → IsClear (at_reference (sites documents) k s) → has_argument k s.schema ≡ true → is_some (number_of_target (sites documents) k s) ≡ true
+reference_found documents h n s k is e clear there =
+    resolved (sites documents) n s k is (clear_here (first_pass [] (sites documents)) (second_pass (sites documents)) h) clear e there
+
+both_clear : (documents : Documents) (n : ℕ) (s : Site) → IsClear (candidates documents) → slice_get (sites documents) n ≡ Some s
+    → IsClear (at_reference (sites documents) (codes "$dynamicRef") s) × IsClear (at_reference (sites documents) (codes "$ref") s)
+both_clear documents n s h e =
+    let dynamic = at_reference (sites documents) (codes "$dynamicRef") s in
+    let plain = at_reference (sites documents) (codes "$ref") s in
+    let clear = references_clear documents n s h e in
+    (clear_here dynamic plain clear, clear_there dynamic plain clear)
+
 -- each `$ref` of a place has a target
 pub target_there : (documents : Documents) → IsClear (candidates documents) → (n : ℕ) (s : Site) → slice_get (sites documents) n ≡ Some s → has_argument (codes "$ref") s.schema ≡ true
     → is_some (number_of_target (sites documents) (codes "$ref") s) ≡ true
-target_there documents h n s e there =
-    let all = sites documents in
-    resolved all n s (codes "$ref") refl (clear_here (first_pass [] all) (second_pass all) h)
-    (clear_there (at_reference all (codes "$dynamicRef") s) (at_reference all (codes "$ref") s) (references_clear documents n s h e)) e there
+target_there documents h n s e there = reference_found documents h n s (codes "$ref") refl e (both_clear documents n s h e).1 there
 
 -- each `$dynamicRef` of a place has a first target
 pub first_target_there : (documents : Documents) → IsClear (candidates documents) → (n : ℕ) (s : Site) → slice_get (sites documents) n ≡ Some s → has_argument (codes "$dynamicRef") s.schema ≡ true
     → is_some (number_of_target (sites documents) (codes "$dynamicRef") s) ≡ true
-first_target_there documents h n s e there =
-    let all = sites documents in
-    resolved all n s (codes "$dynamicRef") refl (clear_here (first_pass [] all) (second_pass all) h)
-    (clear_here (at_reference all (codes "$dynamicRef") s) (at_reference all (codes "$ref") s) (references_clear documents n s h e)) e there
+first_target_there documents h n s e there = reference_found documents h n s (codes "$dynamicRef") refl e (both_clear documents n s h e).0 there
 
 -- ---- the target of that number
 

@@ -21,7 +21,7 @@ use Rattle.js_bundle.specs.code.KeptSite.{KeptSite, kept_site}
 use Rattle.js_bundle.specs.Target as spec
 use Rattle.js_bundle.specs.Url.{decoded_fragment}
 use Rattle.js_bundle.proofs.Finding.NumbersStandForPlaces.{finds_place}
-use Rattle.js_bundle.proofs.Finding.KeptUnderNumber.{has_kept, has_target, kept_under}
+use Rattle.js_bundle.proofs.Finding.KeptUnderNumber.{has_kept, has_target, kept_under, not_missing}
 use Rattle.js_bundle.proofs.Checking.TargetsFound.{first_target_there, number_is_target}
 
 -- ---- a search by numbers, one number on
@@ -162,7 +162,4 @@ has_dynamic_ref_kept docs documents kept n place same number clear e =
 
 pub reference_missing : (docs documents : Documents) (kept : ℕ → Option DynamicReference) (n place : ℕ) → docs ≡ documents → n ≡ place → IsClear (candidates docs)
     → IsSparseList kept (dynamic_in docs) (sites docs) → has_keyword (codes "$dynamicRef") documents place ≡ true → ¬ (None ≡ kept n)
-reference_missing docs documents kept n place same number clear e there_is h =
-    let some : is_some (kept n) ≡ true = has_dynamic_ref_kept docs documents kept n place same number clear e ∙ there_is in
-    let none : is_some (kept n) ≡ false = ap is_some (sym h) in
-    absurd (cc)
+reference_missing docs documents kept n place same number clear e there = not_missing (kept n) (has_dynamic_ref_kept docs documents kept n place same number clear e ∙ there)

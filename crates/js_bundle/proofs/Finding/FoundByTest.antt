@@ -8,6 +8,7 @@ use Rattle.std.proofs.lemmas.List.{append-nil}
 use Rattle.std.proofs.lemmas.List.Folds.{find-append}
 use Rattle.js_doc.specs.Members.{get, NamesAscend, NamesAscendInMembers}
 use Rattle.js_doc.specs.Value.{Value, null, truth, whole, text, list, object, Members, no_members, member, Named}
+use Rattle.js_doc.specs.Parts.{member_list, members_of}
 use Rattle.js_doc.proofs.Named.{is_text-refl, is_text-sound, member_is}
 use Rattle.js_assert.specs.Argument.{has}
 use Rattle.js_assert.specs.Assertion.{Asserted}
@@ -15,7 +16,7 @@ use Rattle.js_assert.specs.Keyword.{keyword_named, name_of}
 use Rattle.js_assert.proofs.Named.{named-name_of}
 use Rattle.js_bundle.specs.declared.check.assertions_and_patterns.BuiltPattern.{BuiltPattern}
 use Rattle.js_bundle.specs.AssertionsAndPatterns.{assertions_at, pattern_at, patterns_of, patterns_at}
-use Rattle.js_bundle.specs.Keyword.{Text, member_pairs, keywords, argument}
+use Rattle.js_bundle.specs.Keyword.{Text, argument}
 use Rattle.js_bundle.specs.Resource.{Site}
 use Rattle.js_bundle.specs.Schemas.{assertion, pattern}
 use Rattle.js_bundle.proofs.Listing.LeastSetListed.{Among}
@@ -154,18 +155,18 @@ module _ {K : Type 0} (named : Text → Option K) (make : Value → K → Assert
 
 -- the assertion of a place's keyword is what is found under that name
 pub assertion_found : (k : Text) (s : Site) → find (λ a. bytes_eq k (name_of a.keyword)) (assertions_at s) ≡ assertion k s
-assertion_found k s = built_by keyword_named (λ v n. record { keyword = n; argument = v; beside_contains = has (codes "contains") (keywords s.schema) }) (λ a. name_of a.keyword) (λ l v n is. named-name_of l n is) k (keyword_named k) refl (keywords s.schema)
+assertion_found k s = built_by keyword_named (λ v n. record { keyword = n; argument = v; beside_contains = has (codes "contains") (members_of s.schema) }) (λ a. name_of a.keyword) (λ l v n is. named-name_of l n is) k (keyword_named k) refl (members_of s.schema)
 
 -- ---- patterns
 
 abbrev the_patterns : Text
 the_patterns = codes "patternProperties"
 
-no_patterns : (ms : Members) → ((l : Text) (w : Value) → Among (l, w) (member_pairs ms) → ¬ (the_patterns ≡ l)) → flat_map patterns_of (member_pairs ms) ≡ []
+no_patterns : (ms : Members) → ((l : Text) (w : Value) → Among (l, w) (member_list ms) → ¬ (the_patterns ≡ l)) → flat_map patterns_of (member_list ms) ≡ []
 no_patterns no_members h = refl
 no_patterns (member l v ms) h =
     let other : bytes_eq l the_patterns ≡ false = unlike l the_patterns (λ e. h l v (inl refl) (sym e)) in
-    ap (λ b. (if b then map pattern_at (keywords v) else []) ++ flat_map patterns_of (member_pairs ms)) other ∙ no_patterns ms (λ k w a. h k w (inr a))
+    ap (λ b. (if b then map pattern_at (members_of v) else []) ++ flat_map patterns_of (member_list ms)) other ∙ no_patterns ms (λ k w a. h k w (inr a))
 
 module _ (name : Text) where
   abbrev so_named : BuiltPattern → Bool
@@ -186,28 +187,28 @@ module _ (name : Text) where
   abbrev of_argument : Value → Option Text
   of_argument v = option_map (λ u. name) (argument name v)
 
-  by_keyword : (l : Text) (v : Value) (ms : Members) (b : Bool) → bytes_eq l the_patterns ≡ b → (l ≡ the_patterns → flat_map patterns_of (member_pairs ms) ≡ [])
-      → option_map (λ b. b.pattern) (find so_named (flat_map patterns_of (member_pairs ms))) ≡ option_and_then of_argument (get the_patterns (member_pairs ms))
-      → option_map (λ b. b.pattern) (find so_named ((if b then map pattern_at (keywords v) else []) ++ flat_map patterns_of (member_pairs ms))) ≡ option_and_then of_argument (get the_patterns ((l, v) ∷ member_pairs ms))
+  by_keyword : (l : Text) (v : Value) (ms : Members) (b : Bool) → bytes_eq l the_patterns ≡ b → (l ≡ the_patterns → flat_map patterns_of (member_list ms) ≡ [])
+      → option_map (λ b. b.pattern) (find so_named (flat_map patterns_of (member_list ms))) ≡ option_and_then of_argument (get the_patterns (member_list ms))
+      → option_map (λ b. b.pattern) (find so_named ((if b then map pattern_at (members_of v) else []) ++ flat_map patterns_of (member_list ms))) ≡ option_and_then of_argument (get the_patterns ((l, v) ∷ member_list ms))
   by_keyword l v ms true e none more =
       let same : l ≡ the_patterns = is_text-sound l the_patterns e in
       let here : bytes_eq the_patterns l ≡ true = ap (bytes_eq the_patterns) same ∙ is_text-refl the_patterns in
-      ap (λ r. option_map (λ b. b.pattern) (find so_named (map pattern_at (keywords v) ++ r))) (none same)
-      ∙ ap (λ r. option_map (λ b. b.pattern) (find so_named r)) (append-nil (map pattern_at (keywords v)))
-      ∙ patterns_found (keywords v)
-      ∙ ap (option_and_then of_argument) (sym (get_first the_patterns l v (member_pairs ms) ∙ ap (λ b. if b then Some v else get the_patterns (member_pairs ms)) here))
+      ap (λ r. option_map (λ b. b.pattern) (find so_named (map pattern_at (members_of v) ++ r))) (none same)
+      ∙ ap (λ r. option_map (λ b. b.pattern) (find so_named r)) (append-nil (map pattern_at (members_of v)))
+      ∙ patterns_found (members_of v)
+      ∙ ap (option_and_then of_argument) (sym (get_first the_patterns l v (member_list ms) ∙ ap (λ b. if b then Some v else get the_patterns (member_list ms)) here))
   by_keyword l v ms false e none more =
       let other : bytes_eq the_patterns l ≡ false = unlike the_patterns l (λ same. absurd (let yes : bytes_eq l the_patterns ≡ true = ap (λ x. bytes_eq x the_patterns) (sym same) ∙ is_text-refl the_patterns in cc)) in
-      more ∙ ap (option_and_then of_argument) (sym (get_first the_patterns l v (member_pairs ms) ∙ ap (λ b. if b then Some v else get the_patterns (member_pairs ms)) other))
+      more ∙ ap (option_and_then of_argument) (sym (get_first the_patterns l v (member_list ms) ∙ ap (λ b. if b then Some v else get the_patterns (member_list ms)) other))
 
-  pattern_in : (ms : Members) → NamesAscendInMembers ms → option_map (λ b. b.pattern) (find so_named (flat_map patterns_of (member_pairs ms))) ≡ option_and_then of_argument (get the_patterns (member_pairs ms))
+  pattern_in : (ms : Members) → NamesAscendInMembers ms → option_map (λ b. b.pattern) (find so_named (flat_map patterns_of (member_list ms))) ≡ option_and_then of_argument (get the_patterns (member_list ms))
   pattern_in no_members a = refl
   pattern_in (member l v ms) a =
       by_keyword l v ms (bytes_eq l the_patterns) refl
       (λ same. no_patterns ms (λ k w h e. less_apart l k (below_all l ms a.0 a.2 k w h) (same ∙ e)))
       (pattern_in ms a.2)
 
-  pattern_of : (v : Value) → NamesAscend v → option_map (λ b. b.pattern) (find so_named (flat_map patterns_of (keywords v))) ≡ option_and_then of_argument (argument the_patterns v)
+  pattern_of : (v : Value) → NamesAscend v → option_map (λ b. b.pattern) (find so_named (flat_map patterns_of (members_of v))) ≡ option_and_then of_argument (argument the_patterns v)
   pattern_of null a = refl
   pattern_of (truth b) a = refl
   pattern_of (whole z) a = refl

@@ -8,12 +8,13 @@ use Rattle.url.specs.Parts.{Parts}
 use Rattle.js_doc.specs.Members.{name_cmp, NamesAscend, NamesAscendInMembers}
 use Rattle.js_doc.specs.Pointer.{Tokens}
 use Rattle.js_doc.specs.Value.{Value, null, truth, whole, text, list, object, Members, no_members, member}
+use Rattle.js_doc.specs.Parts.{member_list}
 use Rattle.js_bundle.specs.declared.index.edges.Edges.{Edges}
 use Rattle.js_bundle.specs.declared.scan.holding.Holding.TheVariants.{One, Listed, Named, Nothing}
 use Rattle.js_bundle.specs.declared.keyword_name.KeywordName.{KeywordName}
 use Rattle.js_bundle.specs.declared.check.kept_site.KeptSite as rust
 use Rattle.js_bundle.specs.Document.{Documents}
-use Rattle.js_bundle.specs.Keyword.{Text, argument, member_pairs}
+use Rattle.js_bundle.specs.Keyword.{Text, argument}
 use Rattle.js_bundle.specs.KeywordName.{keyword_name}
 use Rattle.js_bundle.specs.Names.{stands_at}
 use Rattle.js_bundle.specs.Place.{holding, items_in, Located, Place, places_held, places_at, places_in_list, places_in_object, places_of_members, places_from, places_of_keywords}
@@ -56,10 +57,10 @@ by_name all kept_sites d p k n name m are s =
 
 -- a list of numbers, one for each member, each of the place with its name
 pub record AreNamed (all : List Place) (d : ℕ) (p : Tokens) (k : Text) (ms : Members) (numbers : List ℕ) : Type 0 where
-  pub many : length numbers ≡ length (member_pairs ms)
-  pub named : (r : ℕ) (name : Text) (u : Value) → slice_get (member_pairs ms) r ≡ Some (name, u) → (m : ℕ) × (slice_get numbers r ≡ Some m) × StandsAt all d (p ++ k ∷ name ∷ []) m
+  pub many : length numbers ≡ length (member_list ms)
+  pub named : (r : ℕ) (name : Text) (u : Value) → slice_get (member_list ms) r ≡ Some (name, u) → (m : ℕ) × (slice_get numbers r ≡ Some m) × StandsAt all d (p ++ k ∷ name ∷ []) m
 
-numbers_many : (n : ℕ) (ms : Members) → length (numbers_of_members n ms) ≡ length (member_pairs ms)
+numbers_many : (n : ℕ) (ms : Members) → length (numbers_of_members n ms) ≡ length (member_list ms)
 numbers_many n no_members = refl
 numbers_many n (member name v ms) = ap suc (numbers_many (n + count v) ms)
 
@@ -78,24 +79,24 @@ get_within (x ∷ xs) zero low = (x, refl)
 get_within (x ∷ xs) (suc i) low = get_within xs i (omega (arith, low))
 
 pub rank_of_name : (all : List Place) (kept_sites : List KeptSite) (d : ℕ) (p : Tokens) (k name : Text) (u : Value) (ms : Members) (numbers : List ℕ) (r : ℕ) → kept_sites ≡ map (λ t. kept_site (site t)) all
-    → NamesAscendInMembers ms → AreNamed all d p k ms numbers → slice_get (member_pairs ms) r ≡ Some (name, u) → IsRankOf kept_sites name numbers r
+    → NamesAscendInMembers ms → AreNamed all d p k ms numbers → slice_get (member_list ms) r ≡ Some (name, u) → IsRankOf kept_sites name numbers r
 rank_of_name all kept_sites d p k name u ms numbers r are up h here = (
-  omega (arith, h.many, slice_get_within (member_pairs ms) r (name, u) here),
+  omega (arith, h.many, slice_get_within (member_list ms) r (name, u) here),
   (
     λ i x low within.
-        let low_there : i < length (member_pairs ms) = omega (arith, within, slice_get_within (member_pairs ms) r (name, u) here) in
-        let one = get_within (member_pairs ms) i low_there in
+        let low_there : i < length (member_list ms) = omega (arith, within, slice_get_within (member_list ms) r (name, u) here) in
+        let one = get_within (member_list ms) i low_there in
         let m = h.named i one.0.0 one.0.1 one.1 in
         ap (stands_before kept_sites name) (get_or_from_slice_get numbers i m.0 x m.1) ∙ by_name all kept_sites d p k one.0.0 name m.0 are m.2 ∙ before_rank ms i r one.0.0 name one.0.1 u up within one.1 here,
     λ i x low within.
-        let low_there : i < length (member_pairs ms) = omega (arith, within, h.many) in
-        let one = get_within (member_pairs ms) i low_there in
+        let low_there : i < length (member_list ms) = omega (arith, within, h.many) in
+        let one = get_within (member_list ms) i low_there in
         let m = h.named i one.0.0 one.0.1 one.1 in
         ap (stands_before kept_sites name) (get_or_from_slice_get numbers i m.0 x m.1) ∙ by_name all kept_sites d p k one.0.0 name m.0 are m.2 ∙ from_rank ms i r one.0.0 name one.0.1 u up low one.1 here,
   ),
 )
 
-ascends_at : (ms : Members) (r : ℕ) (k : Text) (l : Value) → NamesAscendInMembers ms → slice_get (member_pairs ms) r ≡ Some (k, l) → NamesAscend l
+ascends_at : (ms : Members) (r : ℕ) (k : Text) (l : Value) → NamesAscendInMembers ms → slice_get (member_list ms) r ≡ Some (k, l) → NamesAscend l
 ascends_at no_members r k l a e = absurd (cc)
 ascends_at (member j w ms) zero k l a e =
     subst (λ x. NamesAscend x) (ap (λ m. m.1) (some_is (j, w) (k, l) e)) a.1

@@ -7,12 +7,13 @@ use Rattle.url.specs.Parts.{Parts}
 use Rattle.js_doc.specs.Members.{get}
 use Rattle.js_doc.specs.Pointer.{Tokens}
 use Rattle.js_doc.specs.Value.{Value, null, truth, whole, text, list, object, Items, no_items, item, Members, no_members, member}
+use Rattle.js_doc.specs.Parts.{member_list}
 use Rattle.js_doc.proofs.Named.{is_text-refl, is_text-sound}
 use Rattle.js_assert.specs.Keyword as assertion
 use Rattle.js_bundle.specs.contracts.keyword_name.KeywordNamePartialEq.TheImpl.{ghosts}
 use Rattle.js_bundle.specs.declared.scan.holding.Holding.{Holding}
 use Rattle.js_bundle.specs.declared.scan.holding.Holding.TheVariants.{One, Listed, Named, Nothing}
-use Rattle.js_bundle.specs.Keyword.{Text, member_pairs}
+use Rattle.js_bundle.specs.Keyword.{Text}
 use Rattle.js_bundle.specs.KeywordName.{keyword_name}
 use Rattle.js_bundle.specs.Place.{one_schema, list_of_schemas, object_of_schemas, holding, values, Located, Place, places_held, places_at, places_of_keywords, places_in_list, places_of_items, places_in_object, places_of_members}
 use Rattle.js_bundle.specs.code.Edges.{HeldNumbers, count, count_of_keyword, one_entry, numbers_held, numbers_of_items, numbers_of_members, held_by_keywords}
@@ -138,7 +139,7 @@ module _ (all : List Place) (d : ℕ) (uri : Parts) where
 
   -- and of a member
   pub member_there : (ms : Members) (above : List Located) (p : Tokens) (n r : ℕ) (name : Text) (u : Value) → StandsFrom (places_of_members d uri above p ms) n all
-      → slice_get (member_pairs ms) r ≡ Some (name, u) → (m : ℕ) × (slice_get (numbers_of_members n ms) r ≡ Some m) × StandsAt all d (p ++ name ∷ []) m
+      → slice_get (member_list ms) r ≡ Some (name, u) → (m : ℕ) × (slice_get (numbers_of_members n ms) r ≡ Some m) × StandsAt all d (p ++ name ∷ []) m
   member_there no_members above p n r name u s e = absurd (cc)
   member_there (member l v ms) above p n zero name u s e =
       let here = some_first (l, v) (name, u) e in
@@ -154,23 +155,23 @@ module _ (all : List Place) (d : ℕ) (uri : Parts) where
     pub places : StandsFrom (places_held (holding k) (places_at d uri above (p ++ k ∷ []) v) (places_in_list d uri above (p ++ k ∷ []) v) (places_in_object d uri above (p ++ k ∷ []) v)) first all
 
   pub keyword_there : (ms : Members) (above : List Located) (p : Tokens) (n : ℕ) (k : Text) (v : Value) → StandsFrom (places_of_keywords d uri above p ms) n all
-      → get k (member_pairs ms) ≡ Some v → ¬ (holding k ≡ Nothing) → KeywordThere above p k v (numbers_of_keyword (keyword_name k) (held_by_keywords n ms))
+      → get k (member_list ms) ≡ Some v → ¬ (holding k ≡ Nothing) → KeywordThere above p k v (numbers_of_keyword (keyword_name k) (held_by_keywords n ms))
   keyword_there no_members above p n k v s e h = absurd (cc)
   keyword_there (member l w ms) above p n k v s e h =
       let q = p ++ l ∷ [] in
       let c = count_of_keyword l w in
       let here = places_held (holding l) (places_at d uri above q w) (places_in_list d uri above q w) (places_in_object d uri above q w) in
       let more = places_of_keywords d uri above p ms in
-      by_name (bytes_eq k l) refl (sym (get_first k l w (member_pairs ms)) ∙ e) (front_there here more n all s)
+      by_name (bytes_eq k l) refl (sym (get_first k l w (member_list ms)) ∙ e) (front_there here more n all s)
       (λ g. keyword_there ms above p (n + c) k v (back_there here more n c all (keyword_count d uri (holding l) w above q) s) g h)
     where
-      by_name : (b : Bool) → bytes_eq k l ≡ b → (if bytes_eq k l then Some w else get k (member_pairs ms)) ≡ Some v
+      by_name : (b : Bool) → bytes_eq k l ≡ b → (if bytes_eq k l then Some w else get k (member_list ms)) ≡ Some v
           → StandsFrom (places_held (holding l) (places_at d uri above (p ++ l ∷ []) w) (places_in_list d uri above (p ++ l ∷ []) w) (places_in_object d uri above (p ++ l ∷ []) w)) n all
-          → (get k (member_pairs ms) ≡ Some v → KeywordThere above p k v (numbers_of_keyword (keyword_name k) (held_by_keywords (n + count_of_keyword l w) ms)))
+          → (get k (member_list ms) ≡ Some v → KeywordThere above p k v (numbers_of_keyword (keyword_name k) (held_by_keywords (n + count_of_keyword l w) ms)))
           → KeywordThere above p k v (numbers_of_keyword (keyword_name k) (held_by_keywords n (member l w ms)))
       by_name true is got stands next =
           let name : l ≡ k = sym (is_text-sound k l is) in
-          let value = some_is w v (sym (ap (λ b. if b then Some w else get k (member_pairs ms)) is) ∙ got) in
+          let value = some_is w v (sym (ap (λ b. if b then Some w else get k (member_list ms)) is) ∙ got) in
           let itself : ghosts.eq (keyword_name k) (keyword_name k) ≡ true = names_apart k k h h ∙ is_text-refl k in
           let rest = held_by_keywords (n + count_of_keyword l w) ms in
           record {
@@ -181,7 +182,7 @@ module _ (all : List Place) (d : ℕ) (uri : Parts) where
                 (subst (λ x. StandsFrom (places_held (holding x) (places_at d uri above (p ++ x ∷ []) w) (places_in_list d uri above (p ++ x ∷ []) w) (places_in_object d uri above (p ++ x ∷ []) w)) n all) name stands);
           }
       by_name false is got stands next =
-          let more = next (sym (ap (λ b. if b then Some w else get k (member_pairs ms)) is) ∙ got) in
+          let more = next (sym (ap (λ b. if b then Some w else get k (member_list ms)) is) ∙ got) in
           record {
             first = more.first;
             are = entry_other k l (numbers_held (holding l) n w) (held_by_keywords (n + count_of_keyword l w) ms) (holding l) refl h (other_way k l (bytes_eq l k) refl is) ∙ more.are;

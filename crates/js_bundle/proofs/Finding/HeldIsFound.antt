@@ -6,9 +6,10 @@ use Rattle.std.proofs.lemmas.Option.{slice_get-map}
 use Rattle.js_doc.specs.Members.{get}
 use Rattle.js_doc.specs.Pointer.{Tokens}
 use Rattle.js_doc.specs.Value.{Value}
+use Rattle.js_doc.specs.Parts.{members_of}
 use Rattle.js_doc.proofs.Named.{is_text-sound}
 use Rattle.js_bundle.specs.Document.{Document, Documents}
-use Rattle.js_bundle.specs.Keyword.{Text, keywords}
+use Rattle.js_bundle.specs.Keyword.{Text}
 use Rattle.js_bundle.specs.Names.{stands_at}
 use Rattle.js_bundle.specs.Place.{holding, IsPlace, in_keyword, in_list, in_object, Place, places_at, places_from}
 use Rattle.js_bundle.specs.PlaceLaws.{ListsPlace}
@@ -100,12 +101,12 @@ held_fits schema k (Index i) u h = ap (λ x. fits x (Index i)) h.0
 held_fits schema k (Name n) u h = ap (λ x. fits x (Name n)) h.0
 
 held_place : (root : Value) (p : Tokens) (schema : Value) (k : Text) (step : Step) (u : Value) → IsPlace root p schema → Holds schema k step u → IsPlace root (p ++ k ∷ step_tokens step) u
-held_place root p schema k Alone u is h = in_keyword p schema k u (p ++ k ∷ []) is h.0 (among-is (k, u) (keywords schema) (get_among k u (keywords schema) h.1)) refl
+held_place root p schema k Alone u is h = in_keyword p schema k u (p ++ k ∷ []) is h.0 (among-is (k, u) (members_of schema) (get_among k u (members_of schema) h.1)) refl
 held_place root p schema k (Index i) u is h =
-    in_list p schema k h.1.0 i u (p ++ k ∷ decimal i ∷ []) is h.0 (among-is (k, h.1.0) (keywords schema) (get_among k h.1.0 (keywords schema) h.1.1)) h.1.2 refl
+    in_list p schema k h.1.0 i u (p ++ k ∷ decimal i ∷ []) is h.0 (among-is (k, h.1.0) (members_of schema) (get_among k h.1.0 (members_of schema) h.1.1)) h.1.2 refl
 held_place root p schema k (Name n) u is h =
-    in_object p schema k h.1.0 n u (p ++ k ∷ n ∷ []) is h.0 (among-is (k, h.1.0) (keywords schema) (get_among k h.1.0 (keywords schema) h.1.1))
-    (among-is (n, u) (keywords h.1.0) (get_among n u (keywords h.1.0) h.1.2)) refl
+    in_object p schema k h.1.0 n u (p ++ k ∷ n ∷ []) is h.0 (among-is (k, h.1.0) (members_of schema) (get_among k h.1.0 (members_of schema) h.1.1))
+    (among-is (n, u) (members_of h.1.0) (get_among n u (members_of h.1.0) h.1.2)) refl
 
 -- a place is found below it, with the schema that is held
 pub record IsHeld (documents : Documents) (s : Site) (k : Text) (step : Step) (u : Value) : Type 0 where

@@ -99,9 +99,11 @@ has_ref_kept docs documents kept n place same number clear e =
     has_kept plain_at (codes "$ref") docs documents kept n place same number e
     (λ s is. has_target (sites documents) (codes "$ref") s (has_argument (codes "$ref") s.schema) refl (target_there documents (subst (λ ds. IsClear (candidates ds)) same clear) place s is))
 
+pub not_missing : {A : Type 0} (o : Option A) → is_some o ≡ true → ¬ (None ≡ o)
+not_missing o some h =
+    let none : is_some o ≡ false = ap is_some (sym h) in
+    absurd (cc)
+
 pub target_missing : (docs documents : Documents) (kept : ℕ → Option ℕ) (n place : ℕ) → docs ≡ documents → n ≡ place → IsClear (candidates docs)
     → IsSparseList kept (plain_at docs) (sites docs) → has_keyword (codes "$ref") documents place ≡ true → ¬ (None ≡ kept n)
-target_missing docs documents kept n place same number clear e there h =
-    let some : is_some (kept n) ≡ true = has_ref_kept docs documents kept n place same number clear e ∙ there in
-    let none : is_some (kept n) ≡ false = ap is_some (sym h) in
-    absurd (cc)
+target_missing docs documents kept n place same number clear e there = not_missing (kept n) (has_ref_kept docs documents kept n place same number clear e ∙ there)

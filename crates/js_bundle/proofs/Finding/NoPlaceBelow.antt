@@ -8,10 +8,11 @@ use Rattle.js_doc.specs.Members.{get, NamesAscend}
 use Rattle.js_doc.specs.Pointer.{Tokens}
 use Rattle.js_doc.specs.Short.{IsShort}
 use Rattle.js_doc.specs.Value.{Value, null, truth, whole, text, list, object, Members, no_members, member}
+use Rattle.js_doc.specs.Parts.{member_list, members_of}
 use Rattle.js_bundle.specs.declared.scan.holding.Holding.{Holding}
 use Rattle.js_bundle.specs.declared.scan.holding.Holding.TheVariants.{One, Listed, Named}
 use Rattle.js_bundle.specs.Document.{Documents}
-use Rattle.js_bundle.specs.Keyword.{Text, member_pairs, keywords, argument}
+use Rattle.js_bundle.specs.Keyword.{Text, argument}
 use Rattle.js_bundle.specs.Names.{stands_at}
 use Rattle.js_bundle.specs.Place.{holding, items_in, IsPlace, at_root, in_keyword, in_list, in_object}
 use Rattle.js_bundle.specs.Resource.{Site, sites}
@@ -45,11 +46,11 @@ last_alike (x ∷ p) (y ∷ q) k l e =
 
 -- ---- what is among members is an argument
 
-get_named : (k : Text) (ms : Members) → get k (member_pairs ms) ≡ member_named k ms
+get_named : (k : Text) (ms : Members) → get k (member_list ms) ≡ member_named k ms
 get_named k no_members = refl
-get_named k (member l v ms) = get_first k l v (member_pairs ms) ∙ ap (λ x. if bytes_eq k l then Some v else x) (get_named k ms)
+get_named k (member l v ms) = get_first k l v (member_list ms) ∙ ap (λ x. if bytes_eq k l then Some v else x) (get_named k ms)
 
-argument_of : (k : Text) (v u : Value) → NamesAscend v → IsShort v → Among (k, u) (keywords v) → argument k v ≡ Some u
+argument_of : (k : Text) (v u : Value) → NamesAscend v → IsShort v → Among (k, u) (members_of v) → argument k v ≡ Some u
 argument_of k null u a s h = absurd h
 argument_of k (truth b) u a s h = absurd h
 argument_of k (whole z) u a s h = absurd h
@@ -102,7 +103,7 @@ module _ (root : Value) (a : NamesAscend root) (s : IsShort root) where
       let same : Some v' ≡ Some v = sym (place_stands root p' v' a s h').found ∙ ap (λ r. at r root) e ∙ (place_stands root p v a s h).found in
       cc
 
-  argument_there : (p p' : Tokens) (v v' : Value) (k k' : Text) (l : Value) → IsPlace root p v → IsPlace root p' v' → p' ≡ p → k' ≡ k → Among (k', l) (keywords v') → argument k v ≡ Some l
+  argument_there : (p p' : Tokens) (v v' : Value) (k k' : Text) (l : Value) → IsPlace root p v → IsPlace root p' v' → p' ≡ p → k' ≡ k → Among (k', l) (members_of v') → argument k v ≡ Some l
   argument_there p p' v v' k k' l h h' e is m =
       let up = place_stands root p' v' a s h' in
       ap (λ x. argument x v) (sym is) ∙ ap (argument k') (sym (schema_alike p p' v v' h h' e)) ∙ argument_of k' v' l up.ascends up.short m
@@ -115,7 +116,7 @@ module _ (root : Value) (a : NamesAscend root) (s : IsShort root) where
   held_at p v k (Name n) q u here f small at_root is = absurd (no_end p k (n ∷ []) is)
   held_at p v k Alone q u here f small (in_keyword p' v' k' u' q' h e m there) is =
       let ends = last_alike p' p k' k (sym there ∙ is) in
-      ap (λ o. is_some (option_and_then (value_at_step Alone) o)) (argument_there p p' v v' k k' u' here h ends.0 ends.1 (is-among (k', u') (keywords v') m.0 m.1.0 m.1.1))
+      ap (λ o. is_some (option_and_then (value_at_step Alone) o)) (argument_there p p' v v' k k' u' here h ends.0 ends.1 (is-among (k', u') (members_of v') m.0 m.1.0 m.1.1))
   held_at p v k (Index j) q u here f small (in_keyword p' v' k' u' q' h e m there) is =
       let ends = last_alike p' (p ++ k ∷ []) k' (decimal j) (sym there ∙ is ∙ sym (two_tokens p k (decimal j))) in
       absurd (none_between root (length p) p v k p' v' refl here (λ o. let x : false ≡ true = sym (ap (λ h. fits h (Index j)) o) ∙ f in absurd (cc)) h ends.0)
@@ -128,7 +129,7 @@ module _ (root : Value) (a : NamesAscend root) (s : IsShort root) where
   held_at p v k (Index j) q u here f small (in_list p' v' k' l i u' q' h e m g there) is =
       let ends = last_alike (p' ++ k' ∷ []) (p ++ k ∷ []) (decimal i) (decimal j) (two_tokens p' k' (decimal i) ∙ sym there ∙ is ∙ sym (two_tokens p k (decimal j))) in
       let first = last_alike p' p k' k ends.0 in
-      let among = is-among (k', l) (keywords v') m.0 m.1.0 m.1.1 in
+      let among = is-among (k', l) (members_of v') m.0 m.1.0 m.1.1 in
       let up = place_stands root p' v' a s h in
       let low = index_small l i u' (below_member k' v' l up.ascends up.short among).short g in
       let same : i ≡ j = decimal_injective i j low small ends.1 in
@@ -150,10 +151,10 @@ module _ (root : Value) (a : NamesAscend root) (s : IsShort root) where
   held_at p v k (Name n) q u here f small (in_object p' v' k' l i u' q' h e m g there) is =
       let ends = last_alike (p' ++ k' ∷ []) (p ++ k ∷ []) i n (two_tokens p' k' i ∙ sym there ∙ is ∙ sym (two_tokens p k n)) in
       let first = last_alike p' p k' k ends.0 in
-      let among = is-among (k', l) (keywords v') m.0 m.1.0 m.1.1 in
+      let among = is-among (k', l) (members_of v') m.0 m.1.0 m.1.1 in
       let up = place_stands root p' v' a s h in
       let held = below_member k' v' l up.ascends up.short among in
-      let name : argument n l ≡ Some u' = ap (λ x. argument x l) (sym ends.1) ∙ argument_of i l u' held.ascends held.short (is-among (i, u') (keywords l) g.0 g.1.0 g.1.1) in
+      let name : argument n l ≡ Some u' = ap (λ x. argument x l) (sym ends.1) ∙ argument_of i l u' held.ascends held.short (is-among (i, u') (members_of l) g.0 g.1.0 g.1.1) in
       ap (λ o. is_some (option_and_then (value_at_step (Name n)) o)) (argument_there p p' v v' k k' l here h first.0 first.1 among) ∙ ap is_some name
 
 -- ---- over all documents

@@ -2,11 +2,12 @@
 use Rattle.std.proofs.Common.{◌≡◌, ℕ, zero, suc, List, [], ◌∷◌, ◌++◌, map, Bool, true, false, if◌then◌else◌, Option, Some, None, option_map, find, cond, slice_get, bytes_eq, codes, refl, sym, ap, ◌∙◌, subst}
 use Rattle.std.specs.List.{flat_map}
 use Rattle.js_doc.specs.Value.{Value, Named}
+use Rattle.js_doc.specs.Parts.{members_of}
 use Rattle.js_doc.proofs.Named.{is_text-sound}
 use Rattle.js_bundle.specs.declared.check.assertions_and_patterns.BuiltPattern.{BuiltPattern}
 use Rattle.js_bundle.specs.AssertionsAndPatterns.{pattern_at, patterns_at, patterns_of}
 use Rattle.js_bundle.specs.code.Patterns.{own, AreOwn}
-use Rattle.js_bundle.specs.Keyword.{Text, keywords}
+use Rattle.js_bundle.specs.Keyword.{Text}
 use Rattle.js_bundle.specs.Resource.{Site}
 
 -- ---- those of a place
@@ -16,8 +17,8 @@ map_own [] rest h n one e = h n one e
 map_own (m ∷ ms) rest h zero one e = let same : pattern_at m ≡ one = cc in subst (λ o. o ≡ own o.name) same refl
 map_own (m ∷ ms) rest h (suc n) one e = map_own ms rest h n one e
 
-by_name_own : (b : Bool) (v : Value) (rest : List BuiltPattern) → AreOwn rest → AreOwn ((if b then map pattern_at (keywords v) else []) ++ rest)
-by_name_own true v rest h n one e = map_own (keywords v) rest h n one e
+by_name_own : (b : Bool) (v : Value) (rest : List BuiltPattern) → AreOwn rest → AreOwn ((if b then map pattern_at (members_of v) else []) ++ rest)
+by_name_own true v rest h n one e = map_own (members_of v) rest h n one e
 by_name_own false v rest h n one e = h n one e
 
 all_own : (ms : Named) → AreOwn (flat_map patterns_of ms)
@@ -26,7 +27,7 @@ all_own (m ∷ ms) n one e = by_name_own (bytes_eq m.0 (codes "patternProperties
 
 pub own_at : (o : Option Site) (built : List BuiltPattern) → option_map patterns_at o ≡ Some built → AreOwn built
 own_at None built e n one h = absurd (cc)
-own_at (Some s) built e n one h = let same : patterns_at s ≡ built = cc in all_own (keywords s.schema) n one (ap (λ bs. slice_get bs n) same ∙ h)
+own_at (Some s) built e n one h = let same : patterns_at s ≡ built = cc in all_own (members_of s.schema) n one (ap (λ bs. slice_get bs n) same ∙ h)
 
 -- ---- one of a name
 

@@ -4,13 +4,14 @@ use Rattle.std.specs.Option.{option_map_or}
 use Rattle.js_doc.specs.Members.{get, NamesAscend, NamesAscendInMembers}
 use Rattle.js_doc.specs.Pointer.{Tokens}
 use Rattle.js_doc.specs.Value.{Value, null, truth, whole, text, list, object, Members, no_members, member}
+use Rattle.js_doc.specs.Parts.{member_list, members_of}
 use Rattle.js_doc.proofs.FiniteMaps.{get_here, get_past}
 use Rattle.url.specs.Parts.{Parts}
 use Rattle.js_bundle.specs.declared.index.edges.Edges.{Edges}
 use Rattle.js_bundle.specs.declared.scan.holding.Holding.TheVariants.{Named}
 use Rattle.js_bundle.specs.declared.keyword_name.KeywordName.{KeywordName}
 use Rattle.js_bundle.specs.Document.{Documents}
-use Rattle.js_bundle.specs.Keyword.{Text, argument, keywords, member_pairs}
+use Rattle.js_bundle.specs.Keyword.{Text, argument}
 use Rattle.js_bundle.specs.KeywordName.{keyword_name}
 use Rattle.js_bundle.specs.Place.{holding, Located, Place, places_held, places_at, places_in_list, places_in_object, places_from}
 use Rattle.js_bundle.specs.Ranked.{HoldsAtRank}
@@ -33,19 +34,19 @@ use Rattle.js_bundle.proofs.Standing.{standing, made_at}
 
 -- ---- a member with a rank is the one of its name
 
-among_at : (ms : Members) (r : ℕ) (n : Text) (u : Value) → slice_get (member_pairs ms) r ≡ Some (n, u) → Among (n, u) (member_pairs ms)
+among_at : (ms : Members) (r : ℕ) (n : Text) (u : Value) → slice_get (member_list ms) r ≡ Some (n, u) → Among (n, u) (member_list ms)
 among_at no_members r n u e = absurd (cc)
 among_at (member l v ms) zero n u e = inl (sym (some_is (l, v) (n, u) e))
 among_at (member l v ms) (suc r) n u e = inr (among_at ms r n u e)
 
-get_at : (ms : Members) (r : ℕ) (n : Text) (u : Value) → NamesAscendInMembers ms → slice_get (member_pairs ms) r ≡ Some (n, u) → get n (member_pairs ms) ≡ Some u
+get_at : (ms : Members) (r : ℕ) (n : Text) (u : Value) → NamesAscendInMembers ms → slice_get (member_list ms) r ≡ Some (n, u) → get n (member_list ms) ≡ Some u
 get_at no_members r n u a e = absurd (cc)
 get_at (member l v ms) zero n u a e =
-    subst (λ x. get x.0 ((l, v) ∷ member_pairs ms) ≡ Some x.1) (some_is (l, v) (n, u) e) (get_here l v (member_pairs ms))
+    subst (λ x. get x.0 ((l, v) ∷ member_list ms) ≡ Some x.1) (some_is (l, v) (n, u) e) (get_here l v (member_list ms))
 get_at (member l v ms) (suc r) n u a e =
-    get_past n (l, v) (member_pairs ms) (λ same. less_apart l n (below_all l ms a.0 a.2 n u (among_at ms r n u e)) (sym same)) ∙ get_at ms r n u a.2 e
+    get_past n (l, v) (member_list ms) (λ same. less_apart l n (below_all l ms a.0 a.2 n u (among_at ms r n u e)) (sym same)) ∙ get_at ms r n u a.2 e
 
-argument_at : (l : Value) (r : ℕ) (n : Text) (u : Value) → NamesAscend l → slice_get (keywords l) r ≡ Some (n, u) → argument n l ≡ Some u
+argument_at : (l : Value) (r : ℕ) (n : Text) (u : Value) → NamesAscend l → slice_get (members_of l) r ≡ Some (n, u) → argument n l ≡ Some u
 argument_at null r n u a e = absurd (cc)
 argument_at (truth b) r n u a e = absurd (cc)
 argument_at (whole z) r n u a e = absurd (cc)
@@ -70,7 +71,7 @@ two_tokens [] k n = refl
 two_tokens (x ∷ p) k n = ap (λ q. x ∷ q) (two_tokens p k n)
 
 module _ (all : List Place) (kept_sites : List KeptSite) (d : ℕ) (uri : Parts) (are : kept_sites ≡ map (λ t. kept_site (site t)) all) where
-  member_ranked : (above : List Located) (p : Tokens) (k name : Text) (l u : Value) (r : ℕ) (numbers : List ℕ) → holding k ≡ Named → slice_get (keywords l) r ≡ Some (name, u)
+  member_ranked : (above : List Located) (p : Tokens) (k name : Text) (l u : Value) (r : ℕ) (numbers : List ℕ) → holding k ≡ Named → slice_get (members_of l) r ≡ Some (name, u)
       → KeywordThere all d uri above p k l numbers → (m : ℕ) × (slice_get numbers r ≡ Some m) × StandsAt all d (p ++ k ∷ name ∷ []) m
   member_ranked above p k name null u r numbers e g h = absurd (cc)
   member_ranked above p k name (truth b) u r numbers e g h = absurd (cc)
@@ -84,7 +85,7 @@ module _ (all : List Place) (kept_sites : List KeptSite) (d : ℕ) (uri : Parts)
       (m.0, ap (λ xs. slice_get xs r) (h.are ∙ ap (λ x. numbers_held x h.first (object ms)) e) ∙ m.1, m.2)
 
   pub ranked_at : (n : ℕ) (above : List Located) (p : Tokens) (v : Value) (k name : Text) (l u : Value) (r : ℕ) → StandsFrom (places_at d uri above p v) n all → holding k ≡ Named
-      → argument k v ≡ Some l → slice_get (keywords l) r ≡ Some (name, u) → (m : ℕ) × (slice_get (numbers_of_keyword (keyword_name k) (held_by_place n v)) r ≡ Some m) × StandsAt all d (p ++ k ∷ name ∷ []) m
+      → argument k v ≡ Some l → slice_get (members_of l) r ≡ Some (name, u) → (m : ℕ) × (slice_get (numbers_of_keyword (keyword_name k) (held_by_place n v)) r ≡ Some m) × StandsAt all d (p ++ k ∷ name ∷ []) m
   ranked_at n above p v k name l u r s e f g =
       let there = keyword_at all kept_sites d uri are n above p v k l s f (holds_object k e) in
       member_ranked there.0 p k name l u r (numbers_of_keyword (keyword_name k) (held_by_place n v)) e g there.1

@@ -10,8 +10,9 @@ use Rattle.std.proofs.lemmas.List.{length-append}
 use Rattle.js_doc.specs.Members.{get, name_cmp, NamesAscendInMembers}
 use Rattle.js_doc.specs.Pointer.{Tokens}
 use Rattle.js_doc.specs.Value.{Value, Members, no_members, member}
+use Rattle.js_doc.specs.Parts.{member_list}
 use Rattle.js_doc.proofs.Named.{is_text-sound}
-use Rattle.js_bundle.specs.Keyword.{Text, member_pairs}
+use Rattle.js_bundle.specs.Keyword.{Text}
 use Rattle.js_bundle.specs.code.PlaceBelow.{ends_before}
 use Rattle.js_bundle.proofs.Listing.LeastSetListed.{Among}
 use Rattle.js_bundle.proofs.Finding.FoundByTest.{get_first}
@@ -27,32 +28,32 @@ some_first x y e = ap (λ p. p.0) (some_is x y e)
 
 -- ---- a member has a rank
 
-pub rank_there : (name : Text) (u : Value) (ms : Members) → get name (member_pairs ms) ≡ Some u → (r : ℕ) × (slice_get (member_pairs ms) r ≡ Some (name, u))
+pub rank_there : (name : Text) (u : Value) (ms : Members) → get name (member_list ms) ≡ Some u → (r : ℕ) × (slice_get (member_list ms) r ≡ Some (name, u))
 rank_there name u no_members e = absurd (cc)
 rank_there name u (member l v ms) e = by_name (bytes_eq name l) refl (rank_there name u ms)
   where
-    first_get : (if bytes_eq name l then Some v else get name (member_pairs ms)) ≡ Some u
-    first_get = sym (get_first name l v (member_pairs ms)) ∙ e
+    first_get : (if bytes_eq name l then Some v else get name (member_list ms)) ≡ Some u
+    first_get = sym (get_first name l v (member_list ms)) ∙ e
 
-    by_name : (b : Bool) → bytes_eq name l ≡ b → (get name (member_pairs ms) ≡ Some u → (r : ℕ) × (slice_get (member_pairs ms) r ≡ Some (name, u)))
-        → (r : ℕ) × (slice_get (member_pairs (member l v ms)) r ≡ Some (name, u))
+    by_name : (b : Bool) → bytes_eq name l ≡ b → (get name (member_list ms) ≡ Some u → (r : ℕ) × (slice_get (member_list ms) r ≡ Some (name, u)))
+        → (r : ℕ) × (slice_get (member_list (member l v ms)) r ≡ Some (name, u))
     by_name true is next =
         let same : l ≡ name = sym (is_text-sound name l is) in
-        let value = some_is v u (sym (ap (λ b. if b then Some v else get name (member_pairs ms)) is) ∙ first_get) in
+        let value = some_is v u (sym (ap (λ b. if b then Some v else get name (member_list ms)) is) ∙ first_get) in
         (0, λ i. Some (same i, value i))
     by_name false is next =
-        let more = next (sym (ap (λ b. if b then Some v else get name (member_pairs ms)) is) ∙ first_get) in
+        let more = next (sym (ap (λ b. if b then Some v else get name (member_list ms)) is) ∙ first_get) in
         (suc more.0, more.1)
 
 -- ---- names ascend with their ranks
 
-among_at : (ms : Members) (r : ℕ) (name : Text) (u : Value) → slice_get (member_pairs ms) r ≡ Some (name, u) → Among (name, u) (member_pairs ms)
+among_at : (ms : Members) (r : ℕ) (name : Text) (u : Value) → slice_get (member_list ms) r ≡ Some (name, u) → Among (name, u) (member_list ms)
 among_at no_members r name u e = absurd (cc)
 among_at (member l v ms) zero name u e =
     inl (sym (some_is (l, v) (name, u) e))
 among_at (member l v ms) (suc r) name u e = inr (among_at ms r name u e)
 
-pub ranks_ascend : (ms : Members) (i r : ℕ) (a b : Text) (u v : Value) → NamesAscendInMembers ms → i < r → slice_get (member_pairs ms) i ≡ Some (a, u) → slice_get (member_pairs ms) r ≡ Some (b, v)
+pub ranks_ascend : (ms : Members) (i r : ℕ) (a b : Text) (u v : Value) → NamesAscendInMembers ms → i < r → slice_get (member_list ms) i ≡ Some (a, u) → slice_get (member_list ms) r ≡ Some (b, v)
     → name_cmp a b ≡ Less
 ranks_ascend no_members i r a b u v h low e f = absurd (cc)
 ranks_ascend (member l w ms) zero zero a b u v h low e f = absurd (omega (arith, low))
@@ -72,18 +73,18 @@ split_at (suc i) (suc r) low = further (split_at i r (omega (arith, low)))
     further (inr e) = inr (ap suc e)
 
 -- so those before it come before it, and the others don't
-pub before_rank : (ms : Members) (i r : ℕ) (a b : Text) (u v : Value) → NamesAscendInMembers ms → i < r → slice_get (member_pairs ms) i ≡ Some (a, u) → slice_get (member_pairs ms) r ≡ Some (b, v)
+pub before_rank : (ms : Members) (i r : ℕ) (a b : Text) (u v : Value) → NamesAscendInMembers ms → i < r → slice_get (member_list ms) i ≡ Some (a, u) → slice_get (member_list ms) r ≡ Some (b, v)
     → is_lt (name_cmp a b) ≡ true
 before_rank ms i r a b u v h low e f = ap is_lt (ranks_ascend ms i r a b u v h low e f)
 
-pub from_rank : (ms : Members) (i r : ℕ) (a b : Text) (u v : Value) → NamesAscendInMembers ms → r ≤ i → slice_get (member_pairs ms) i ≡ Some (a, u) → slice_get (member_pairs ms) r ≡ Some (b, v)
+pub from_rank : (ms : Members) (i r : ℕ) (a b : Text) (u v : Value) → NamesAscendInMembers ms → r ≤ i → slice_get (member_list ms) i ≡ Some (a, u) → slice_get (member_list ms) r ≡ Some (b, v)
     → is_lt (name_cmp a b) ≡ false
 from_rank ms i r a b u v h low e f = by_side (split_at i r low)
   where
     by_side : (r < i) ⊎ (i ≡ r) → is_lt (name_cmp a b) ≡ false
     by_side (inl less) = ap is_lt (nat_list_cmp_total.antisymm a b ∙ ap ordering_reverse (ranks_ascend ms r i b a v u h less f e))
     by_side (inr same) =
-        ap (λ x. is_lt (name_cmp x b)) (some_first (a, u) (b, v) (sym e ∙ ap (slice_get (member_pairs ms)) same ∙ f)) ∙ ap is_lt (tied_itself nat_list_cmp_total b)
+        ap (λ x. is_lt (name_cmp x b)) (some_first (a, u) (b, v) (sym e ∙ ap (slice_get (member_list ms)) same ∙ f)) ∙ ap is_lt (tied_itself nat_list_cmp_total b)
 
 -- ---- the last token
 

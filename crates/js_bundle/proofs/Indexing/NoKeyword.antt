@@ -4,6 +4,7 @@ use Rattle.std.specs.List.{list_any}
 use Rattle.std.specs.Str.{bytes_eq}
 use Rattle.js_doc.specs.Members.{get}
 use Rattle.js_doc.specs.Value.{Value, Named}
+use Rattle.js_doc.specs.Parts.{members_of}
 use Rattle.js_doc.proofs.Named.{is_text-sound}
 use Rattle.js_assert.specs.Keyword as assertion
 use Rattle.js_bundle.specs.Candidate.{IsClear}
@@ -11,7 +12,7 @@ use Rattle.js_bundle.specs.Finding.{number_named, number_of_target, dynamic_by, 
 use Rattle.js_bundle.specs.declared.keyword_name.KeywordName.{KeywordName}
 use Rattle.js_bundle.specs.declared.keyword_name.KeywordName.TheVariants.{Ref, DynamicRef, DynamicAnchor}
 use Rattle.js_bundle.specs.contracts.keyword_name.KeywordNamePartialEq.TheImpl.{ghosts}
-use Rattle.js_bundle.specs.Keyword.{Text, keywords, text_argument, as_text}
+use Rattle.js_bundle.specs.Keyword.{Text, text_argument, as_text}
 use Rattle.js_bundle.specs.KeywordName.{keyword_name, keyword_names}
 use Rattle.js_bundle.specs.Refusals.{at_reference_text, at_references}
 use Rattle.js_bundle.specs.Resource.{Site, joined}
@@ -50,7 +51,7 @@ named_dynamic_anchor = refl
 no_text : (k : Text) (w : KeywordName) (place : Site) (names : List KeywordName) (found : Bool) → ghosts.eq (keyword_name k) w ≡ true → names ≡ keyword_names place
     → found ≡ list_any (λ y. ghosts.eq y w) names → found ≡ false → None ≡ text_argument k place.schema
 no_text k w place names found is same told h =
-    sym (ap (option_and_then as_text) (absent k w is (keywords place.schema) (ap (list_any (λ y. ghosts.eq y w)) (sym same) ∙ sym told ∙ h)))
+    sym (ap (option_and_then as_text) (absent k w is (members_of place.schema) (ap (list_any (λ y. ghosts.eq y w)) (sym same) ∙ sym told ∙ h)))
 
 -- ---- a place without references
 

@@ -64,6 +64,12 @@ cut_at part (x ∷ xs) k (suc n) place e =
       fits = omega (arith, many, fits);
     }
 
+pub part_lent : {A : Type 0} (listed lent : List A) (ending lent_ending : List ℕ) (n : ℕ) (found : List A) → lent ≡ listed → lent_ending ≡ ending
+    → IsPart lent (unwrap_or (slice_get (0 ∷ lent_ending) n) 0) (unwrap_or (slice_get lent_ending n) 0) found → IsPart listed (unwrap_or (slice_get (0 ∷ ending) n) 0) (unwrap_or (slice_get ending n) 0) found
+part_lent listed lent ending lent_ending n found same_list same_ending h =
+    subst (λ all. IsPart all (unwrap_or (slice_get (0 ∷ ending) n) 0) (unwrap_or (slice_get ending n) 0) found) same_list
+    (subst (λ es. IsPart lent (unwrap_or (slice_get (0 ∷ es) n) 0) (unwrap_or (slice_get es n) 0) found) same_ending h)
+
 pub part_there : {A : Type 0} (part : Site → List A) (places : List Site) (listed : List A) (ending : List ℕ) (n : ℕ) (place : Site) (found : List A) → ArePartsByPlace part places listed ending → slice_get places n ≡ Some place
     → IsPart listed (unwrap_or (slice_get (0 ∷ ending) n) 0) (unwrap_or (slice_get ending n) 0) found → part place ≡ found
 part_there part places listed ending n place found g e h =
@@ -81,11 +87,12 @@ part_there part places listed ending n place found g e h =
     let from : begin ≡ cut.before = omega arith in
     sym (cuts ∙ ap (λ l. slice_range l begin (begin + count)) g.all ∙ ap₂ (λ m b. take m (drop b (flat_map part places))) counted from ∙ cut.there)
 
-pub part_of : {A : Type 0} (part : Site → List A) (docs documents : Documents) (listed : List A) (ending : List ℕ) (n place : ℕ) (found : List A) → docs ≡ documents → n ≡ place
-    → ArePartsByPlace part (sites docs) listed ending → is_place documents place ≡ true → IsPart listed (unwrap_or (slice_get (0 ∷ ending) n) 0) (unwrap_or (slice_get ending n) 0) found
-    → option_map part (place_at documents place) ≡ Some found
-part_of part docs documents listed ending n place found same number g within h =
+-- what is lent of the two lists is the same
+pub part_of : {A : Type 0} (part : Site → List A) (docs documents : Documents) (listed lent : List A) (ending lent_ending : List ℕ) (n place : ℕ) (found : List A) → docs ≡ documents → n ≡ place
+    → ArePartsByPlace part (sites docs) listed ending → is_place documents place ≡ true → lent ≡ listed → lent_ending ≡ ending
+    → IsPart lent (unwrap_or (slice_get (0 ∷ lent_ending) n) 0) (unwrap_or (slice_get lent_ending n) 0) found → option_map part (place_at documents place) ≡ Some found
+part_of part docs documents listed lent ending lent_ending n place found same number g within same_list same_ending h =
     let s = there documents place within in
     let grouped : ArePartsByPlace part (sites documents) listed ending = subst (λ ds. ArePartsByPlace part (sites ds) listed ending) same g in
     ap (option_map part) s.1 ∙ ap Some (part_there part (sites documents) listed ending place s.0 found grouped s.1
-    (subst (λ m. IsPart listed (unwrap_or (slice_get (0 ∷ ending) m) 0) (unwrap_or (slice_get ending m) 0) found) number h))
+    (subst (λ m. IsPart listed (unwrap_or (slice_get (0 ∷ ending) m) 0) (unwrap_or (slice_get ending m) 0) found) number (part_lent listed lent ending lent_ending n found same_list same_ending h)))

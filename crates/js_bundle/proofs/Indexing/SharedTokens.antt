@@ -2,17 +2,17 @@
 use Rattle.std.proofs.Common.{◌≡◌, ℕ, zero, suc, ◌-◌, ◌≤◌, min, List, [], ◌∷◌, ◌++◌, Bool, true, false, ◌&&◌, ◌==◌, bytes_eq, codes, decimal, take, drop, length, string_bytes, if◌then◌else◌, refl, sym, ap, ap₂, ◌∙◌, append_assoc, arith}
 use Rattle.std.proofs.lemmas.Bool.{and_parts, eqb-true}
 use Rattle.std.proofs.lemmas.List.{length-drop, take-append-drop, take-take}
-use Rattle.js_doc.specs.Fragment.{fragment_text}
-use Rattle.js_doc.specs.Pointer.{Tokens, pointer_text, token_text}
+use Rattle.js_doc.specs.Pointer.{Tokens, token_text}
 use Rattle.js_doc.proofs.Named.{is_text-sound}
+use Rattle.js_bundle.specs.declared.index.text_prefix.Representation.{Representation}
+use Rattle.js_bundle.specs.declared.index.text_prefix.Representation.TheVariants.{Plain, Fragment}
 use Rattle.js_bundle.specs.declared.index.text_prefix.TextPrefix.{TextPrefix}
-use Rattle.js_bundle.specs.code.TextPrefix.{tokens_alike, BeginsKey, BeginsLocation}
-use Rattle.js_bundle.specs.code.Index.{place_key}
+use Rattle.js_bundle.specs.code.TextPrefix.{tokens_alike, written, BeginsWith, BeginsKey, BeginsLocation, IsExtended}
 use Rattle.js_bundle.specs.code.KeptLocation.{repeated}
 use Rattle.js_bundle.specs.Location.{canonical, way}
 use Rattle.js_bundle.specs.Resource.{Site}
 use Rattle.js_bundle.specs.Url.{printed}
-use Rattle.js_bundle.proofs.Indexing.WaysWritten.{fragment_append}
+use Rattle.js_bundle.proofs.Indexing.TokensWritten.{written_append}
 
 -- ---- pointers that begin alike
 
@@ -50,49 +50,45 @@ shared_ends q p i e = by_lists (drop i q) (drop i p) (length-drop i q) (length-d
     by_lists [] (k ∷ u) m n = refl
     by_lists (l ∷ t) (k ∷ u) m n = absurd (omega (arith, e, m, n))
 
--- ---- keys
+-- ---- the texts of one place
 
-text_append : (p q : Tokens) → pointer_text (p ++ q) ≡ pointer_text p ++ pointer_text q
-text_append [] q = refl
-text_append (t ∷ p) q = ap (λ x. token_text t ++ x) (text_append p q) ∙ sym (append_assoc (token_text t) (pointer_text p) (pointer_text q))
+-- the first n tokens are those of another text with the same head
+goes_on : (head : List ℕ) (form : Representation) (p q : Tokens) (b : TextPrefix) → BeginsWith head form p b → take b.tokens p ≡ take b.tokens q → BeginsWith head form q b
+goes_on head form p q b h same = record { text = h.text ∙ ap (λ ts. head ++ written form ts) same }
+
+further : (head : List ℕ) (form : Representation) (p q : Tokens) → (head ++ written form p) ++ written form q ≡ head ++ written form (p ++ q)
+further head form p q = append_assoc head (written form p) (written form q) ∙ ap (λ x. head ++ x) (sym (written_append form p q))
 
 front_and_rest : (n m : ℕ) (p : Tokens) → n ≤ m → take n p ++ drop n (take m p) ≡ take m p
 front_and_rest n m p h = ap (λ f. f ++ drop n (take m p)) (sym (take-take n m p h)) ∙ take-append-drop n (take m p)
 
--- with more of the first tokens
-pub key_on : (d n m : ℕ) (p : Tokens) → n ≤ m → place_key d (take n p) ++ pointer_text (drop n (take m p)) ≡ place_key d (take m p)
-key_on d n m p h = sym (text_append (decimal d ∷ take n p) (drop n (take m p))) ∙ ap (λ t. pointer_text (decimal d ∷ t)) (front_and_rest n m p h)
+pub extended_begins : (head : List ℕ) (form : Representation) (p q : Tokens) (count : ℕ) (old new : TextPrefix) (text : List ℕ) → q ≡ p → BeginsWith head form p old → old.tokens ≤ count
+    → IsExtended form q count old new text → BeginsWith head form p new
+extended_begins head form p q count old new text same h low e =
+    let more = drop old.tokens (take count p) in
+    record {
+      text = e.prefix ∙ ap (λ ts. string_bytes old.text ++ written form (drop old.tokens (take count ts))) same ∙ ap (λ t. t ++ written form more) h.text ∙ further head form (take old.tokens p) more
+          ∙ ap (λ ts. head ++ written form ts) (front_and_rest old.tokens count p low) ∙ ap (λ n. head ++ written form (take n p)) (sym e.reached);
+    }
 
--- with all of them
-pub key_whole : (d n : ℕ) (p : Tokens) → place_key d (take n p) ++ pointer_text (drop n p) ≡ place_key d p
-key_whole d n p = sym (text_append (decimal d ∷ take n p) (drop n p)) ∙ ap (λ t. pointer_text (decimal d ∷ t)) (take-append-drop n p)
+pub extended_whole : (head : List ℕ) (form : Representation) (p q : Tokens) (count : ℕ) (old new : TextPrefix) (text : List ℕ) → q ≡ p → BeginsWith head form p old → old.tokens ≤ count
+    → IsExtended form q count old new text → text ≡ head ++ written form p
+extended_whole head form p q count old new text same h low e =
+    let begun = extended_begins head form p q count old new text same h low e in
+    e.text ∙ ap (λ ts. string_bytes new.text ++ written form (drop count ts)) same
+    ∙ ap (λ t. t ++ written form (drop count p)) (begun.text ∙ ap (λ n. head ++ written form (take n p)) e.reached)
+    ∙ further head form (take count p) (drop count p) ∙ ap (λ ts. head ++ written form ts) (take-append-drop count p)
+
+-- ---- from the place before
 
 pub key_goes_on : (b : TextPrefix) (before place : Site) (most : ℕ) → BeginsKey b before → before.document ≡ place.document → b.tokens ≤ most → most ≤ tokens_alike place.pointer before.pointer → BeginsKey b place
-key_goes_on b before place most h same few low = record {
-  text = h.text ∙ ap (λ d. place_key d (take b.tokens before.pointer)) same ∙ ap (place_key place.document) (shared_front b.tokens place.pointer before.pointer (omega (arith, few, low)));
-}
+key_goes_on b before place most h same few low =
+    goes_on (token_text (decimal place.document)) Plain before.pointer place.pointer b
+    (record { text = h.text ∙ ap (λ d. token_text (decimal d) ++ written Plain (take b.tokens before.pointer)) same })
+    (shared_front b.tokens place.pointer before.pointer (omega (arith, few, low)))
 
-pub key_begins : (b new : TextPrefix) (place : Site) (told : ℕ) → BeginsKey b place → b.tokens ≤ told → string_bytes new.text ≡ string_bytes b.text ++ pointer_text (drop b.tokens (take told place.pointer)) → new.tokens ≡ told → BeginsKey new place
-key_begins b new place told h low pushed is = record {
-  text = pushed ∙ ap (λ t. t ++ pointer_text (drop b.tokens (take told place.pointer))) h.text ∙ key_on place.document b.tokens told place.pointer low ∙ ap (λ n. place_key place.document (take n place.pointer)) (sym is);
-}
-
-pub key_ends : (b : TextPrefix) (place : Site) (told : ℕ) (copied key : List ℕ) → BeginsKey b place → b.tokens ≡ told → copied ≡ string_bytes b.text → key ≡ copied ++ pointer_text (drop told place.pointer) → key ≡ place_key place.document place.pointer
-key_ends b place told copied key h is same pushed =
-    pushed ∙ ap (λ t. t ++ pointer_text (drop told place.pointer)) (same ∙ h.text ∙ ap (λ n. place_key place.document (take n place.pointer)) is) ∙ key_whole place.document told place.pointer
-
--- ---- locations
-
-located : (base mark : List ℕ) (w v : Tokens) → (base ++ (mark ++ fragment_text w)) ++ fragment_text v ≡ base ++ (mark ++ fragment_text (w ++ v))
-located base mark w v =
-    append_assoc base (mark ++ fragment_text w) (fragment_text v)
-    ∙ ap (λ x. base ++ x) (append_assoc mark (fragment_text w) (fragment_text v) ∙ ap (λ x. mark ++ x) (sym (fragment_append w v)))
-
-pub location_on : (base mark : List ℕ) (n m : ℕ) (w : Tokens) → n ≤ m → (base ++ (mark ++ fragment_text (take n w))) ++ fragment_text (drop n (take m w)) ≡ base ++ (mark ++ fragment_text (take m w))
-location_on base mark n m w h = located base mark (take n w) (drop n (take m w)) ∙ ap (λ x. base ++ (mark ++ fragment_text x)) (front_and_rest n m w h)
-
-pub location_whole : (base mark : List ℕ) (n : ℕ) (w : Tokens) → (base ++ (mark ++ fragment_text (take n w))) ++ fragment_text (drop n w) ≡ base ++ (mark ++ fragment_text w)
-location_whole base mark n w = located base mark (take n w) (drop n w) ∙ ap (λ x. base ++ (mark ++ fragment_text x)) (take-append-drop n w)
+pub way_is : (place : Site) (w tokens root : Tokens) → w ≡ drop (length root) tokens → tokens ≡ place.pointer → root ≡ place.own.resource → w ≡ way place
+way_is place w tokens root is whole above = is ∙ ap (λ ts. drop (length root) ts) whole ∙ ap (λ ts. drop (length ts) place.pointer) above
 
 pub location_goes_on : (b : TextPrefix) (before place : Site) (most : ℕ) → BeginsLocation b before
     → (bytes_eq (repeated (printed before.own.base)) (repeated (printed place.own.base)) && length before.own.resource == length place.own.resource) ≡ true
@@ -100,20 +96,6 @@ pub location_goes_on : (b : TextPrefix) (before place : Site) (most : ℕ) → B
 location_goes_on b before place most h alike few low =
     let parts = and_parts (bytes_eq (repeated (printed before.own.base)) (repeated (printed place.own.base))) (length before.own.resource == length place.own.resource) alike in
     let deep : length before.own.resource ≡ length place.own.resource = eqb-true (length before.own.resource) (length place.own.resource) parts.1 in
-    record {
-      text = h.text
-          ∙ ap (λ t. t ++ (codes "#" ++ fragment_text (take b.tokens (way before)))) (is_text-sound (repeated (printed before.own.base)) (repeated (printed place.own.base)) parts.0)
-          ∙ ap (λ n. repeated (canonical place) ++ (codes "#" ++ fragment_text (take b.tokens (drop n before.pointer)))) deep
-          ∙ ap (λ t. repeated (canonical place) ++ (codes "#" ++ fragment_text t)) (shared_way b.tokens (length place.own.resource) place.pointer before.pointer (omega (arith, few, low)));
-    }
-
-pub location_begins : (b new : TextPrefix) (place : Site) (told : ℕ) → BeginsLocation b place → b.tokens ≤ told → string_bytes new.text ≡ string_bytes b.text ++ fragment_text (drop b.tokens (take told (way place))) → new.tokens ≡ told → BeginsLocation new place
-location_begins b new place told h low pushed is = record {
-  text = pushed ∙ ap (λ t. t ++ fragment_text (drop b.tokens (take told (way place)))) h.text ∙ location_on (repeated (canonical place)) (codes "#") b.tokens told (way place) low
-      ∙ ap (λ n. repeated (canonical place) ++ (codes "#" ++ fragment_text (take n (way place)))) (sym is);
-}
-
-pub location_ends : (b : TextPrefix) (place : Site) (told : ℕ) (copied text : List ℕ) → BeginsLocation b place → b.tokens ≡ told → copied ≡ string_bytes b.text → text ≡ copied ++ fragment_text (drop told (way place)) → text ≡ repeated (canonical place) ++ (codes "#" ++ fragment_text (way place))
-location_ends b place told copied text h is same pushed =
-    pushed ∙ ap (λ t. t ++ fragment_text (drop told (way place))) (same ∙ h.text ∙ ap (λ n. repeated (canonical place) ++ (codes "#" ++ fragment_text (take n (way place)))) is)
-    ∙ location_whole (repeated (canonical place)) (codes "#") told (way place)
+    goes_on (repeated (canonical place) ++ codes "#") Fragment (way before) (way place) b
+    (record { text = h.text ∙ ap (λ t. (t ++ codes "#") ++ written Fragment (take b.tokens (way before))) (is_text-sound (repeated (printed before.own.base)) (repeated (printed place.own.base)) parts.0) })
+    (ap (λ n. take b.tokens (drop n before.pointer)) deep ∙ shared_way b.tokens (length place.own.resource) place.pointer before.pointer (omega (arith, few, low)))

@@ -4,9 +4,10 @@ use Rattle.std.specs.List.{AllByRecursion, IsAmong}
 use Rattle.url.specs.Parts.{Parts}
 use Rattle.js_doc.specs.Pointer.{Tokens}
 use Rattle.js_doc.specs.Value.{Value, null, truth, whole, text, list, object, Items, no_items, item, Members, no_members, member}
+use Rattle.js_doc.specs.Parts.{member_list, members_of}
 use Rattle.js_bundle.specs.declared.scan.holding.Holding.{Holding}
 use Rattle.js_bundle.specs.declared.scan.holding.Holding.TheVariants.{One, Listed, Named, Nothing}
-use Rattle.js_bundle.specs.Keyword.{Text, member_pairs, keywords}
+use Rattle.js_bundle.specs.Keyword.{Text}
 use Rattle.js_bundle.specs.Place.{holding, values, items_in, IsPlace, at_root, in_keyword, in_list, in_object, Located, Place, places_held, places_at, places_of_keywords, places_in_list, places_of_items, places_in_object, places_of_members}
 use Rattle.js_bundle.specs.PlaceLaws.{ListsPlace, IsListOf}
 
@@ -52,12 +53,12 @@ module _ (number : ℕ) (uri : Parts) (root : Value) where
     sound (list vs) above p h = (h, tt)
     sound (object ms) above p h = (h, sound_keywords ms (above ++ record { pointer = p; schema = object ms } ∷ []) p (object ms) h (λ m a. a))
 
-    sound_keywords : (ms : Members) (above : List Located) (p : Tokens) (v : Value) → IsPlace root p v → ((m : Text × Value) → Among m (member_pairs ms) → Among m (keywords v))
+    sound_keywords : (ms : Members) (above : List Located) (p : Tokens) (v : Value) → IsPlace root p v → ((m : Text × Value) → Among m (member_list ms) → Among m (members_of v))
         → AllByRecursion Is (places_of_keywords number uri above p ms)
     sound_keywords no_members above p v h f = tt
     sound_keywords (member k u ms) above p v h f =
         let q = p ++ k ∷ [] in
-        let here = among-is (k, u) (keywords v) (f (k, u) (inl refl)) in
+        let here = among-is (k, u) (members_of v) (f (k, u) (inl refl)) in
         all_append Is (places_held (holding k) (places_at number uri above q u) (places_in_list number uri above q u) (places_in_object number uri above q u)) (places_of_keywords number uri above p ms)
         (by_holding (holding k) (places_at number uri above q u) (places_in_list number uri above q u) (places_in_object number uri above q u)
         (λ e. sound u above q (in_keyword p v k u q h e here refl))
@@ -65,13 +66,13 @@ module _ (number : ℕ) (uri : Parts) (root : Value) where
         (λ e. sound_object u above p v k u h e here (λ m a. a)))
         (sound_keywords ms above p v h (λ m a. f m (inr a)))
 
-    sound_list : (l : Value) (above : List Located) (p : Tokens) (v : Value) (k : Text) (l' : Value) → IsPlace root p v → holding k ≡ Listed → IsAmong (keywords v) (k, l')
+    sound_list : (l : Value) (above : List Located) (p : Tokens) (v : Value) (k : Text) (l' : Value) → IsPlace root p v → holding k ≡ Listed → IsAmong (members_of v) (k, l')
         → ((i : ℕ) (x : Value) → slice_get (items_in l) i ≡ Some x → slice_get (items_in l') i ≡ Some x) → AllByRecursion Is (places_in_list number uri above (p ++ k ∷ []) l)
     sound_list (list vs) above p v k l' h e a f =
         sound_items vs 0 above p v k l' h e a (λ i x q. let g : slice_get (items_in l') i ≡ Some x = f i x q in subst (λ j. slice_get (items_in l') j ≡ Some x) (omega arith) g)
     sound_list _ above p v k l' h e a f = tt
 
-    sound_items : (vs : Items) (n : ℕ) (above : List Located) (p : Tokens) (v : Value) (k : Text) (l' : Value) → IsPlace root p v → holding k ≡ Listed → IsAmong (keywords v) (k, l')
+    sound_items : (vs : Items) (n : ℕ) (above : List Located) (p : Tokens) (v : Value) (k : Text) (l' : Value) → IsPlace root p v → holding k ≡ Listed → IsAmong (members_of v) (k, l')
         → ((i : ℕ) (x : Value) → slice_get (values vs) i ≡ Some x → slice_get (items_in l') (n + i) ≡ Some x) → AllByRecursion Is (places_of_items number uri above (p ++ k ∷ []) n vs)
     sound_items no_items n above p v k l' h e a f = tt
     sound_items (item x vs) n above p v k l' h e a f =
@@ -80,18 +81,18 @@ module _ (number : ℕ) (uri : Parts) (root : Value) where
         (sound x above q (in_list p v k l' n x q h e a (subst (λ j. slice_get (items_in l') j ≡ Some x) (omega arith) (f 0 x refl)) (two_tokens p k (decimal n))))
         (sound_items vs (suc n) above p v k l' h e a (λ i y g. subst (λ j. slice_get (items_in l') j ≡ Some y) (omega arith) (f (suc i) y g)))
 
-    sound_object : (l : Value) (above : List Located) (p : Tokens) (v : Value) (k : Text) (l' : Value) → IsPlace root p v → holding k ≡ Named → IsAmong (keywords v) (k, l')
-        → ((m : Text × Value) → Among m (keywords l) → Among m (keywords l')) → AllByRecursion Is (places_in_object number uri above (p ++ k ∷ []) l)
+    sound_object : (l : Value) (above : List Located) (p : Tokens) (v : Value) (k : Text) (l' : Value) → IsPlace root p v → holding k ≡ Named → IsAmong (members_of v) (k, l')
+        → ((m : Text × Value) → Among m (members_of l) → Among m (members_of l')) → AllByRecursion Is (places_in_object number uri above (p ++ k ∷ []) l)
     sound_object (object ms) above p v k l' h e a f = sound_members ms above p v k l' h e a f
     sound_object _ above p v k l' h e a f = tt
 
-    sound_members : (ms : Members) (above : List Located) (p : Tokens) (v : Value) (k : Text) (l' : Value) → IsPlace root p v → holding k ≡ Named → IsAmong (keywords v) (k, l')
-        → ((m : Text × Value) → Among m (member_pairs ms) → Among m (keywords l')) → AllByRecursion Is (places_of_members number uri above (p ++ k ∷ []) ms)
+    sound_members : (ms : Members) (above : List Located) (p : Tokens) (v : Value) (k : Text) (l' : Value) → IsPlace root p v → holding k ≡ Named → IsAmong (members_of v) (k, l')
+        → ((m : Text × Value) → Among m (member_list ms) → Among m (members_of l')) → AllByRecursion Is (places_of_members number uri above (p ++ k ∷ []) ms)
     sound_members no_members above p v k l' h e a f = tt
     sound_members (member n u ms) above p v k l' h e a f =
         let q = (p ++ k ∷ []) ++ n ∷ [] in
         all_append Is (places_at number uri above q u) (places_of_members number uri above (p ++ k ∷ []) ms)
-        (sound u above q (in_object p v k l' n u q h e a (among-is (n, u) (keywords l') (f (n, u) (inl refl))) (two_tokens p k n)))
+        (sound u above q (in_object p v k l' n u q h e a (among-is (n, u) (members_of l') (f (n, u) (inl refl))) (two_tokens p k n)))
         (sound_members ms above p v k l' h e a (λ m x. f m (inr x)))
 
 -- ---- what a place holds is listed with it
@@ -110,9 +111,9 @@ Within xs all = (q : Tokens) (w : Value) → ListsPlace q w xs → ListsPlace q 
 
 -- the list has what each keyword of the schema at p holds
 pub record HasBelow (all : List Place) (p : Tokens) (v : Value) : Type 0 where
-  pub one : (k : Text) (u : Value) → holding k ≡ One → Among (k, u) (keywords v) → ListsPlace (p ++ k ∷ []) u all
-  pub listed : (k : Text) (l : Value) (i : ℕ) (u : Value) → holding k ≡ Listed → Among (k, l) (keywords v) → slice_get (items_in l) i ≡ Some u → ListsPlace (p ++ k ∷ decimal i ∷ []) u all
-  pub named : (k : Text) (l : Value) (n : Text) (u : Value) → holding k ≡ Named → Among (k, l) (keywords v) → Among (n, u) (keywords l) → ListsPlace (p ++ k ∷ n ∷ []) u all
+  pub one : (k : Text) (u : Value) → holding k ≡ One → Among (k, u) (members_of v) → ListsPlace (p ++ k ∷ []) u all
+  pub listed : (k : Text) (l : Value) (i : ℕ) (u : Value) → holding k ≡ Listed → Among (k, l) (members_of v) → slice_get (items_in l) i ≡ Some u → ListsPlace (p ++ k ∷ decimal i ∷ []) u all
+  pub named : (k : Text) (l : Value) (n : Text) (u : Value) → holding k ≡ Named → Among (k, l) (members_of v) → Among (n, u) (members_of l) → ListsPlace (p ++ k ∷ n ∷ []) u all
 
 module _ (number : ℕ) (uri : Parts) where
   first_at : (v : Value) (above : List Located) (p : Tokens) → ListsPlace p v (places_at number uri above p v)
@@ -149,7 +150,7 @@ module _ (number : ℕ) (uri : Parts) where
   in_list_at (object ms) zero above p u e = absurd (cc)
   in_list_at (object ms) (suc i) above p u e = absurd (cc)
 
-  member_at : (ms : Members) (n : Text) (above : List Located) (p : Tokens) (u : Value) → Among (n, u) (member_pairs ms) → ListsPlace (p ++ n ∷ []) u (places_of_members number uri above p ms)
+  member_at : (ms : Members) (n : Text) (above : List Located) (p : Tokens) (u : Value) → Among (n, u) (member_list ms) → ListsPlace (p ++ n ∷ []) u (places_of_members number uri above p ms)
   member_at no_members n above p u h = absurd h
   member_at (member l w ms) n above p u (inl e) =
       let key : l ≡ n = ap (λ m. m.0) (sym e) in
@@ -158,7 +159,7 @@ module _ (number : ℕ) (uri : Parts) where
       (subst (λ x. ListsPlace (p ++ x ∷ []) u (places_at number uri above (p ++ l ∷ []) w)) key (subst (λ x. ListsPlace (p ++ l ∷ []) x (places_at number uri above (p ++ l ∷ []) w)) same (first_at w above (p ++ l ∷ []))))
   member_at (member l w ms) n above p u (inr h) = lists_right _ _ (places_at number uri above (p ++ l ∷ []) w) (places_of_members number uri above p ms) (member_at ms n above p u h)
 
-  in_object_at : (l : Value) (n : Text) (above : List Located) (p : Tokens) (u : Value) → Among (n, u) (keywords l) → ListsPlace (p ++ n ∷ []) u (places_in_object number uri above p l)
+  in_object_at : (l : Value) (n : Text) (above : List Located) (p : Tokens) (u : Value) → Among (n, u) (members_of l) → ListsPlace (p ++ n ∷ []) u (places_in_object number uri above p l)
   in_object_at (object ms) n above p u h = member_at ms n above p u h
   in_object_at null n above p u h = absurd h
   in_object_at (truth b) n above p u h = absurd h
@@ -170,7 +171,7 @@ module _ (number : ℕ) (uri : Parts) where
   chosen_lists h a b c xs q w e l = subst (λ ys. ListsPlace q w ys) (sym e) l
 
   -- what is listed of a keyword
-  keyword_at : (ms : Members) (k : Text) (l : Value) (above : List Located) (p q : Tokens) (u : Value) → Among (k, l) (member_pairs ms)
+  keyword_at : (ms : Members) (k : Text) (l : Value) (above : List Located) (p q : Tokens) (u : Value) → Among (k, l) (member_list ms)
       → ((at : Tokens) → at ≡ p ++ k ∷ [] → ListsPlace q u (places_held (holding k) (places_at number uri above at l) (places_in_list number uri above at l) (places_in_object number uri above at l)))
       → ListsPlace q u (places_of_keywords number uri above p ms)
   keyword_at no_members k l above p q u h f = absurd h
@@ -194,7 +195,7 @@ module _ (number : ℕ) (uri : Parts) where
             (subst (λ r. ListsPlace r u (places_in_object number uri above at l)) (ap (λ c. c ++ n ∷ []) is ∙ two_tokens p k n) (in_object_at l n above at u b))));
       }
 
-  nothing_below : (v : Value) (p : Tokens) (all : List Place) → keywords v ≡ [] → HasBelow all p v
+  nothing_below : (v : Value) (p : Tokens) (all : List Place) → members_of v ≡ [] → HasBelow all p v
   nothing_below v p all e =
       record {
         one = λ k u h a. absurd (subst (λ ms. Among (k, u) ms) e a);
@@ -269,11 +270,11 @@ module _ (number : ℕ) (uri : Parts) where
 
     pub complete : (p : Tokens) (v : Value) → IsPlace root p v → ListsPlace p v listed_of
     complete p v at_root = first_at root [] []
-    complete p v (in_keyword p' v' k u q h e a is) = subst (λ r. ListsPlace r u listed_of) (sym is) ((has_in p' v' (complete p' v' h)).one k u e (is-among (k, u) (keywords v') a.0 a.1.0 a.1.1))
+    complete p v (in_keyword p' v' k u q h e a is) = subst (λ r. ListsPlace r u listed_of) (sym is) ((has_in p' v' (complete p' v' h)).one k u e (is-among (k, u) (members_of v') a.0 a.1.0 a.1.1))
     complete p v (in_list p' v' k l i u q h e a g is) =
-        subst (λ r. ListsPlace r u listed_of) (sym is) ((has_in p' v' (complete p' v' h)).listed k l i u e (is-among (k, l) (keywords v') a.0 a.1.0 a.1.1) g)
+        subst (λ r. ListsPlace r u listed_of) (sym is) ((has_in p' v' (complete p' v' h)).listed k l i u e (is-among (k, l) (members_of v') a.0 a.1.0 a.1.1) g)
     complete p v (in_object p' v' k l n u q h e a b is) =
-        subst (λ r. ListsPlace r u listed_of) (sym is) ((has_in p' v' (complete p' v' h)).named k l n u e (is-among (k, l) (keywords v') a.0 a.1.0 a.1.1) (is-among (n, u) (keywords l) b.0 b.1.0 b.1.1))
+        subst (λ r. ListsPlace r u listed_of) (sym is) ((has_in p' v' (complete p' v' h)).named k l n u e (is-among (k, l) (members_of v') a.0 a.1.0 a.1.1) (is-among (n, u) (members_of l) b.0 b.1.0 b.1.1))
 
 pub listing : (number : ℕ) (uri : Parts) (root : Value) → IsListOf root (places_at number uri [] [] root)
 listing number uri root = record { sound = sound number uri root root [] [] at_root; complete = complete number uri root }

@@ -10,16 +10,17 @@ use Rattle.js_doc.specs.Members.{name_cmp, IsBelowFirst, NamesAscend, NamesAscen
 use Rattle.js_doc.specs.Pointer.{Tokens}
 use Rattle.js_doc.specs.Short.{item_count, IsShort, AreShortItems, AreShortMembers}
 use Rattle.js_doc.specs.Value.{Value, null, truth, whole, text, list, object, Items, no_items, item, Members, no_members, member}
+use Rattle.js_doc.specs.Parts.{member_list}
 use Rattle.js_bundle.specs.declared.scan.holding.Holding.{Holding}
 use Rattle.js_bundle.specs.declared.scan.holding.Holding.TheVariants.{One, Listed, Named, Nothing}
-use Rattle.js_bundle.specs.Keyword.{Text, member_pairs}
+use Rattle.js_bundle.specs.Keyword.{Text}
 use Rattle.js_bundle.specs.Place.{holding, Located, Place, places_held, places_at, places_of_keywords, places_in_list, places_of_items, places_in_object, places_of_members}
 use Rattle.js_bundle.specs.PlaceLaws.{AreApart}
 use Rattle.js_bundle.proofs.Listing.LeastSetListed.{Among, all_append}
 
 -- ---- names and pointers
 
-pub below_all : (k : Text) (ms : Members) → IsBelowFirst k ms → NamesAscendInMembers ms → (l : Text) (w : Value) → Among (l, w) (member_pairs ms) → name_cmp k l ≡ Less
+pub below_all : (k : Text) (ms : Members) → IsBelowFirst k ms → NamesAscendInMembers ms → (l : Text) (w : Value) → Among (l, w) (member_list ms) → name_cmp k l ≡ Less
 below_all k no_members b a l w h = absurd h
 below_all k (member l' w' ms) b a l w (inl e) = ap (name_cmp k) (ap (λ m. m.0) e) ∙ b
 below_all k (member l' w' ms) b a l w (inr h) = nat_list_cmp_total.trans k l' l b (below_all l' ms a.0 a.2 l w h)
@@ -46,7 +47,7 @@ pub record Starts (p q : Tokens) : Type 0 where
 pub record UnderName (ms : Members) (p q : Tokens) : Type 0 where
   pub name : Text
   pub value : Value
-  pub among : Among (name, value) (member_pairs ms)
+  pub among : Among (name, value) (member_list ms)
   pub starts : Starts (p ++ name ∷ []) q
 
 pub record UnderItem (least most : ℕ) (p q : Tokens) : Type 0 where

@@ -3,12 +3,12 @@ use Rattle.std.proofs.Common.{◌≡◌, ℕ, ◌+◌, ◌<◌, ◌≤◌, List,
 use Rattle.std.proofs.lemmas.Bool.{leb-false}
 use Rattle.std.proofs.lemmas.List.{append-nil, take-append-drop, take_all, length-append, length-take}
 use Rattle.std.specs.List.{flat_map}
+use Rattle.js_doc.specs.Parts.{members_of}
 use Rattle.js_bundle.specs.declared.check.fault.CheckFault.{CheckFault}
 use Rattle.js_bundle.specs.declared.refusal.RefusalKind.TheVariants.{TooManyPlaces, NotASchema, DuplicateUri}
 use Rattle.js_bundle.specs.Candidate.{IsClear, IsStopped}
 use Rattle.js_bundle.specs.Document.{Documents}
 use Rattle.js_bundle.specs.Form.{is_schema}
-use Rattle.js_bundle.specs.Keyword.{keywords}
 use Rattle.js_bundle.specs.Names.{is_root}
 use Rattle.js_bundle.specs.Refusals.{when, decided, is_taken, most_places, at_place, at_member, at_site, first_pass, second_pass, candidates}
 use Rattle.js_bundle.specs.Resource.{Site, sites}
@@ -33,7 +33,7 @@ room : (before : List Site) (place : Site) → IsClear (at_site before place) �
 room before place h =
     let full = when (nat_le most_places (length before)) (decided place [] TooManyPlaces) in
     let rest = when (not (is_schema place.schema)) (decided place [] NotASchema) ++ when (is_root place && is_taken before place.above.base) (decided place [] DuplicateUri) in
-    leb-false most_places (length before) (not_full place (nat_le most_places (length before)) (clear_here full rest (clear_here (at_place before place) (flat_map (at_member before place) (keywords place.schema)) h)))
+    leb-false most_places (length before) (not_full place (nat_le most_places (length before)) (clear_here full rest (clear_here (at_place before place) (flat_map (at_member before place) (members_of place.schema)) h)))
 
 few : (xs before : List Site) → IsClear (first_pass before xs) → length before ≤ most_places → length before + length xs ≤ most_places
 few [] before h low = omega (arith, low)

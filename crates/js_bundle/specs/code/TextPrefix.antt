@@ -1,11 +1,12 @@
 -- How the texts begin that tell where a place stands: with as many tokens of its pointer, or of its way from the
 -- resource's root. Those of the next place go on from there.
-use Rattle.std.specs.Prelude.{◌≡◌, ℕ, suc, [], ◌∷◌, ◌++◌, Option, bytes_eq, codes, take, string_bytes, if◌then◌else◌}
+use Rattle.std.specs.Prelude.{◌≡◌, ℕ, List, suc, [], ◌∷◌, ◌++◌, Option, bytes_eq, codes, decimal, drop, take, string_bytes, if◌then◌else◌}
 use Rattle.std.specs.Option.{option_map_or}
-use Rattle.js_doc.specs.Fragment.{fragment_text}
-use Rattle.js_doc.specs.Pointer.{Tokens}
+use Rattle.js_doc.specs.Fragment.{fragment_text, fragment_token}
+use Rattle.js_doc.specs.Pointer.{Tokens, pointer_text, token_text}
+use Rattle.js_bundle.specs.declared.index.text_prefix.Representation.{Representation}
+use Rattle.js_bundle.specs.declared.index.text_prefix.Representation.TheVariants.{Plain, Fragment}
 use Rattle.js_bundle.specs.declared.index.text_prefix.TextPrefix.{TextPrefix}
-use Rattle.js_bundle.specs.code.Index.{place_key}
 use Rattle.js_bundle.specs.code.KeptLocation.{repeated}
 use Rattle.js_bundle.specs.Location.{canonical, way}
 use Rattle.js_bundle.specs.Resource.{Site}
@@ -20,8 +21,30 @@ tokens_alike (l ∷ tokens) (k ∷ others) = if bytes_eq l k then suc (tokens_al
 abbrev pub shared_with : Option Site → Site → ℕ
 shared_with before place = option_map_or (λ b. tokens_alike place.pointer b.pointer) before 0
 
-pub record BeginsKey (prefix : TextPrefix) (place : Site) : Type 0 where
-  pub text : string_bytes prefix.text ≡ place_key place.document (take prefix.tokens place.pointer)
+-- ---- tokens as text
 
-pub record BeginsLocation (prefix : TextPrefix) (place : Site) : Type 0 where
-  pub text : string_bytes prefix.text ≡ repeated (canonical place) ++ (codes "#" ++ fragment_text (take prefix.tokens (way place)))
+abbrev pub token_written : Representation → List ℕ → List ℕ
+token_written Plain token = token_text token
+token_written Fragment token = fragment_token token
+
+abbrev pub written : Representation → Tokens → List ℕ
+written Plain tokens = pointer_text tokens
+written Fragment tokens = fragment_text tokens
+
+-- the prefix is a head and the first tokens
+pub record BeginsWith (head : List ℕ) (form : Representation) (tokens : Tokens) (prefix : TextPrefix) : Type 0 where
+  pub text : string_bytes prefix.text ≡ head ++ written form (take prefix.tokens tokens)
+
+-- the prefix goes on to the first tokens, so many of them, and the text to all
+pub record IsExtended (form : Representation) (tokens : Tokens) (count : ℕ) (old new : TextPrefix) (whole : List ℕ) : Type 0 where
+  pub reached : new.tokens ≡ count
+  pub prefix : string_bytes new.text ≡ string_bytes old.text ++ written form (drop old.tokens (take count tokens))
+  pub text : whole ≡ string_bytes new.text ++ written form (drop count tokens)
+
+-- of the key of a place
+abbrev pub BeginsKey : TextPrefix → Site → Type 0
+BeginsKey prefix place = BeginsWith (token_text (decimal place.document)) Plain place.pointer prefix
+
+-- of its location
+abbrev pub BeginsLocation : TextPrefix → Site → Type 0
+BeginsLocation prefix place = BeginsWith (repeated (canonical place) ++ codes "#") Fragment (way place) prefix

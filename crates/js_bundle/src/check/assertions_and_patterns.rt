@@ -1,9 +1,9 @@
 //! What is built from keywords: assertions, and the patterns of `patternProperties`.
 ghost use Rattle.std.specs.Prelude.{◌≡◌, [], ◌∷◌, ◌++◌, length, map, flat_map, option_to_list, OnOk, IfOk, IfErr};
 ghost use Rattle.js_doc.specs.Seen.{value_of};
+ghost use Rattle.js_doc.specs.Parts.{members_of};
 ghost use Rattle.js_bundle.specs.AssertionsAndPatterns.{pattern_at, patterns_of};
 ghost use Rattle.js_bundle.specs.Candidate.{IsClear, IsStopped};
-ghost use Rattle.js_bundle.specs.Keyword.{keywords};
 ghost use Rattle.js_bundle.specs.Refusals.{at_pattern, name_rules};
 ghost use Rattle.js_bundle.specs.code.Scan.{site_of};
 
@@ -170,12 +170,12 @@ fn read_names_of(
 ) -> Result<(), CheckFault>
     ensures clear { OnOk result (IsClear
         (flat_map (λ n. at_pattern (site_of site.now) (keyword.now ∷ n.0 ∷ []) n.0)
-        (keywords (value_of argument.now)))) }
+        (members_of (value_of argument.now)))) }
     ensures built { OnOk result (out.new.items
-        ≡ out.old.items ++ map pattern_at (keywords (value_of argument.now))) }
+        ≡ out.old.items ++ map pattern_at (members_of (value_of argument.now))) }
     ensures err { IfErr result (IsStopped
         (flat_map (λ n. at_pattern (site_of site.now) (keyword.now ∷ n.0 ∷ []) n.0)
-        (keywords (value_of argument.now)))) }
+        (members_of (value_of argument.now)))) }
 {
     match argument {
         Doc::Members(members) => read_patterns(alloc, out, site, keyword, members),

@@ -17,7 +17,6 @@ pub(crate) enum CheckFault {
 }
 
 impl From<AllocError> for CheckFault {
-    ghost use Rattle.std.specs.Prelude.{◌≡◌};
     ghost use Rattle.js_bundle.specs.declared.check.fault.CheckFault.TheVariants.{Memory};
 
     ghost from_gives = { λ _ e. e ≡ Memory };
@@ -28,7 +27,6 @@ impl From<AllocError> for CheckFault {
 }
 
 impl<T: Drop> From<AllocFailed<T>> for CheckFault {
-    ghost use Rattle.std.specs.Prelude.{◌≡◌};
     ghost use Rattle.js_bundle.specs.declared.check.fault.CheckFault.TheVariants.{Memory};
 
     ghost from_gives = { λ _ e. e ≡ Memory };
@@ -39,7 +37,6 @@ impl<T: Drop> From<AllocFailed<T>> for CheckFault {
 }
 
 impl From<NoMemory> for CheckFault {
-    ghost use Rattle.std.specs.Prelude.{◌≡◌};
     ghost use Rattle.js_bundle.specs.declared.check.fault.CheckFault.TheVariants.{Memory};
 
     ghost from_gives = { λ _ e. e ≡ Memory };

@@ -4,6 +4,7 @@ ghost use Rattle.std.specs.Prelude.{IfErr};
 ghost use Rattle.std.specs.List.{flat_map};
 ghost use Rattle.js_doc.specs.Seen.{value_of};
 ghost use Rattle.js_doc.specs.Value as spec;
+ghost use Rattle.js_doc.specs.Parts.{members_of};
 ghost use Rattle.js_bundle.specs.declared.refusal.RefusalKind.TheVariants.{BadKeyword};
 ghost use Rattle.js_bundle.specs.AssertionsAndPatterns.{assertion_at, assertions_at, patterns_of, patterns_at};
 ghost use Rattle.js_bundle.specs.Candidate.{IsClear, IsStopped};
@@ -95,7 +96,6 @@ fn check_argument(
 
 // The rules of a keyword, its form first.
 fn check_keyword(
-    alloc: Global,
     built: &mut Built,
     index: &Index,
     before: &[Site<'_>],
@@ -115,6 +115,7 @@ fn check_keyword(
     ensures err { IfErr result (IsStopped
         (at_member (map site_of before.now) (site_of site.now) (keyword.now, value_of argument.now))) }
 {
+    let alloc = *built.assertions.allocator();
     check_form(alloc, site, keyword, argument)?;
     let assertion = read_assertion(alloc, site, keyword, argument, siblings)?;
     keep_assertion(&mut built.assertions, assertion)?;
@@ -124,7 +125,6 @@ fn check_keyword(
 
 // The rules of all of a place's keywords, by name ascending.
 fn check_keywords(
-    alloc: Global,
     built: &mut Built,
     index: &Index,
     before: &[Site<'_>],
@@ -144,7 +144,6 @@ fn check_keywords(
 {
     for (keyword, argument) in members.pairs() {
         check_keyword(
-            alloc,
             built,
             index,
             before,
@@ -158,7 +157,6 @@ fn check_keywords(
 }
 
 fn check_schema(
-    alloc: Global,
     built: &mut Built,
     index: &Index,
     before: &[Site<'_>],
@@ -166,23 +164,22 @@ fn check_schema(
 ) -> Result<(), CheckFault>
     requires { IsIndexOf index.now (map site_of before.now) }
     ensures clear { OnOk result (IsClear (flat_map
-        (at_member (map site_of before.now) (site_of site.now)) (words.keywords (site_of site.now).schema))) }
+        (at_member (map site_of before.now) (site_of site.now)) (members_of (site_of site.now).schema))) }
     ensures assertions { OnOk result (built.new.assertions.items ≡ built.old.assertions.items
         ++ assertions_at (site_of site.now)) }
     ensures patterns { OnOk result (built.new.patterns.items ≡ built.old.patterns.items
         ++ patterns_at (site_of site.now)) }
     ensures err { IfErr result (IsStopped (flat_map
-        (at_member (map site_of before.now) (site_of site.now)) (words.keywords (site_of site.now).schema))) }
+        (at_member (map site_of before.now) (site_of site.now)) (members_of (site_of site.now).schema))) }
 {
     match site.schema {
-        Doc::Members(members) => check_keywords(alloc, built, index, before, site, members),
+        Doc::Members(members) => check_keywords(built, index, before, site, members),
         _ => Ok(()),
     }
 }
 
 // The rules of a place, and of its keywords.
 fn check_site(
-    alloc: Global,
     built: &mut Built,
     index: &Index,
     before: &[Site<'_>],
@@ -196,8 +193,8 @@ fn check_site(
         ++ patterns_at (site_of site.now)) }
     ensures err { IfErr result (IsStopped (at_site (map site_of before.now) (site_of site.now))) }
 {
-    check_place(alloc, index, before, site)?;
-    check_schema(alloc, built, index, before, site)
+    check_place(*built.assertions.allocator(), index, before, site)?;
+    check_schema(built, index, before, site)
 }
 
 /// What the first pass has of the places.
@@ -259,7 +256,7 @@ impl Passed {
     {
         self.keywords.add_names(site)?;
         let index = &self.positions.index;
-        check_site(alloc, &mut self.built.all, index, earlier, site)?;
+        check_site(&mut self.built.all, index, earlier, site)?;
         self.built.end_place()?;
         self.positions
             .add_position(alloc, prefixes, earlier, before, site)?;

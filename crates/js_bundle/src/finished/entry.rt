@@ -74,10 +74,7 @@ fn kept_root_at(sites: &[KeptSite], number: usize) -> Option<Root<'_>>
     ensures { option_map standing_of result ≡ option_map kept_standing (slice_get (map kept_site_of sites.now) number) }
 {
     match sites.get(number) {
-        Some(site) => Some(Root {
-            document: site.document,
-            pointer: &site.pointer,
-        }),
+        Some(site) => Some(Root::new(site.document, &site.pointer)),
         None => None,
     }
 }

@@ -1,14 +1,13 @@
 //! The keys under which places and names stand in the index: texts of pointers, which determine their tokens.
-ghost use Rattle.std.specs.Prelude.{◌≡◌, ◌≤◌, ◌++◌, [], decimal, drop, take, length, OnOk, IfOk, MatchOption};
-ghost use Rattle.std.specs.Prelude.{option_map, string_bytes};
-ghost use Rattle.js_doc.specs.Pointer.{pointer_text, token_text};
+ghost use Rattle.std.specs.Prelude.{◌≡◌, ◌≤◌, ◌++◌, decimal, option_map, string_bytes, OnOk, IfOk, MatchOption};
+ghost use Rattle.js_doc.specs.Pointer.{token_text};
 ghost use Rattle.js_bundle.specs.code.TextPrefix.{BeginsKey, shared_with};
 ghost use Rattle.js_bundle.specs.code.Index.{place_key, name_key};
 ghost use Rattle.js_bundle.specs.code.Scan.{site_of};
 
-use crate::index::text_prefix::{TextPrefix, room_for};
+use crate::index::text_prefix::{Representation, TextPrefix, push_tokens, room_for};
 use crate::scan::site::Site;
-use js_doc::{Memory, Pointer, Token, push_token};
+use js_doc::{Memory, Pointer, push_token};
 use std::alloc::Global;
 
 /// The key of where a place stands: the document's number and the pointer's tokens, as a pointer's text.
@@ -18,7 +17,7 @@ pub(crate) fn place_key(alloc: Global, document: usize, pointer: &Pointer) -> Re
     let room = room_for(pointer.tokens(), 0).saturating_add(2);
     let mut key = String::with_capacity(alloc, room)?;
     push_document(&mut key, document)?;
-    push_tokens(&mut key, pointer.tokens(), 0)?;
+    push_tokens(&mut key, Representation::Plain, pointer.tokens(), 0)?;
     Ok(key)
 }
 
@@ -34,7 +33,7 @@ pub(crate) fn name_key(
     let mut key = String::new(alloc);
     push_document(&mut key, document)?;
     push_token(&mut key, name)?;
-    push_tokens(&mut key, root.tokens(), 0)?;
+    push_tokens(&mut key, Representation::Plain, root.tokens(), 0)?;
     Ok(key)
 }
 
@@ -43,16 +42,6 @@ fn push_document(key: &mut String, document: usize) -> Result<(), Memory>
 {
     let mut digits = itoa::Buffer::new();
     push_token(key, digits.format(document))
-}
-
-// The tokens after the first ones.
-fn push_tokens(key: &mut String, tokens: &[Token], from: usize) -> Result<(), Memory>
-    ensures { OnOk result (string_bytes key.new ≡ string_bytes key.old ++ pointer_text (drop from tokens.now)) }
-{
-    for i in from..tokens.len() {
-        push_token(key, tokens[i].as_str())?;
-    }
-    Ok(())
 }
 
 /// Makes the key of a place, and its prefix, from the prefix of the key before it.
@@ -69,12 +58,9 @@ pub(crate) fn next_key(
     ensures key { IfOk result (λ t. string_bytes t ≡ place_key site.now.document site.now.pointer.value) }
 {
     let tokens = site.pointer.tokens();
-    let told = tokens.len().saturating_sub(1);
-    begin_key(prefix, before, site, shared.min(told))?;
-    extend_key(prefix, tokens, told)?;
-    let mut key = prefix.text_with_room(alloc, tokens)?;
-    push_tokens(&mut key, tokens, told)?;
-    Ok(key)
+    let count = tokens.len().saturating_sub(1);
+    begin_key(prefix, before, site, shared.min(count))?;
+    prefix.extend(alloc, Representation::Plain, tokens, count)
 }
 
 // Leaves the prefix as it is where it is one of the place's key too, with no more tokens than that. Else it begins
@@ -97,22 +83,10 @@ fn begin_key(
 }
 
 fn begin_key_anew(prefix: &mut TextPrefix, document: usize) -> Result<(), Memory>
-    ensures text { OnOk result (string_bytes prefix.new.text ≡ place_key document []) }
+    ensures text { OnOk result (string_bytes prefix.new.text ≡ token_text (decimal document)) }
     ensures none { OnOk result (prefix.new.tokens ≡ 0) }
 {
     prefix.tokens = 0;
     prefix.text.clear();
     push_document(&mut prefix.text, document)
-}
-
-// Adds the first tokens to it.
-fn extend_key(prefix: &mut TextPrefix, tokens: &[Token], told: usize) -> Result<(), Memory>
-    requires { told ≤ length tokens.now }
-    ensures text { OnOk result (string_bytes prefix.new.text
-        ≡ string_bytes prefix.old.text ++ pointer_text (drop prefix.old.tokens (take told tokens.now))) }
-    ensures tokens { OnOk result (prefix.new.tokens ≡ told) }
-{
-    push_tokens(&mut prefix.text, &tokens[..told], prefix.tokens)?;
-    prefix.tokens = told;
-    Ok(())
 }

@@ -1,5 +1,5 @@
 //! Absolute locations (JSON Schema Core, section 12.3.2).
-ghost use Rattle.std.specs.Prelude.{◌≡◌, ◌≤◌, ◌-◌, ◌++◌, ◌&&◌, ◌==◌, bytes_eq, codes, drop, take, length, option_map};
+ghost use Rattle.std.specs.Prelude.{◌≡◌, ◌≤◌, ◌-◌, ◌++◌, ◌&&◌, ◌==◌, bytes_eq, codes, drop, length, option_map};
 ghost use Rattle.std.specs.Prelude.{string_bytes, IfOk, OnOk, MatchOption};
 ghost use Rattle.js_doc.specs.Fragment.{fragment_text};
 ghost use Rattle.js_bundle.specs.Finding.{tokens_of};
@@ -9,7 +9,7 @@ ghost use Rattle.js_bundle.specs.code.Scan.{site_of};
 ghost use Rattle.js_bundle.specs.Url.{printed};
 
 use crate::index::kept_location::{KeptLocation, is_long, repeated};
-use crate::index::text_prefix::TextPrefix;
+use crate::index::text_prefix::{Representation, TextPrefix, push_tokens};
 use crate::scan::scope::Scope;
 use crate::scan::site::Site;
 use crate::uri;
@@ -28,7 +28,8 @@ pub(crate) fn absolute_location(
 {
     let mut text = String::new(alloc);
     push_resource_uri(&mut text, scope)?;
-    push_way(&mut text, pointer.tokens(), scope.resource.tokens().len())?;
+    let root = scope.resource.tokens().len();
+    push_tokens(&mut text, Representation::Fragment, pointer.tokens(), root)?;
     push_keyword(&mut text, keyword)?;
     Ok(text)
 }
@@ -39,16 +40,6 @@ fn push_resource_uri(text: &mut String, scope: &Scope) -> Result<(), Memory>
 {
     text.push_str(uri::printed(&scope.base))?;
     text.push('#')?;
-    Ok(())
-}
-
-// The tokens after the first ones, as a fragment.
-fn push_way(text: &mut String, tokens: &[Token], from: usize) -> Result<(), Memory>
-    ensures { OnOk result (string_bytes text.new ≡ string_bytes text.old ++ fragment_text (drop from tokens.now)) }
-{
-    for i in from..tokens.len() {
-        push_fragment_token(text, tokens[i].as_str())?;
-    }
     Ok(())
 }
 
@@ -76,11 +67,9 @@ pub(crate) fn next_location(
 {
     let root = site.own.resource.tokens().len();
     let way = way_from(site.pointer.tokens(), root);
-    let told = way.len().saturating_sub(1);
-    begin_location(prefix, before, site, shared.saturating_sub(root).min(told))?;
-    extend_location(prefix, way, told)?;
-    let mut text = prefix.text_with_room(alloc, way)?;
-    push_way(&mut text, way, told)?;
+    let count = way.len().saturating_sub(1);
+    begin_location(prefix, before, site, shared.saturating_sub(root).min(count))?;
+    let text = prefix.extend(alloc, Representation::Fragment, way, count)?;
     Ok(KeptLocation {
         text: Text::new(text),
         is_fragment: is_long(uri::printed(&site.own.base)),
@@ -120,7 +109,8 @@ fn begin_location(
 // Whether the two repeat the same of the URIs of their resources, whose roots are as deep.
 fn begins_as(before: &Site<'_>, site: &Site<'_>) -> bool
     ensures { result ≡ (bytes_eq (repeated (printed before.now.own.value.base))
-        (repeated (printed site.now.own.value.base)) && length before.now.own.value.resource == length site.now.own.value.resource) }
+        (repeated (printed site.now.own.value.base))
+        && length before.now.own.value.resource == length site.now.own.value.resource) }
 {
     repeated(uri::printed(&before.own.base)) == repeated(uri::printed(&site.own.base))
         && before.own.resource.tokens().len() == site.own.resource.tokens().len()
@@ -134,17 +124,5 @@ fn begin_location_anew(prefix: &mut TextPrefix, scope: &Scope) -> Result<(), Mem
     prefix.text.clear();
     prefix.text.push_str(repeated(uri::printed(&scope.base)))?;
     prefix.text.push('#')?;
-    Ok(())
-}
-
-// Adds the first tokens of the way to it.
-fn extend_location(prefix: &mut TextPrefix, way: &[Token], told: usize) -> Result<(), Memory>
-    requires { told ≤ length way.now }
-    ensures text { OnOk result (string_bytes prefix.new.text
-        ≡ string_bytes prefix.old.text ++ fragment_text (drop prefix.old.tokens (take told way.now))) }
-    ensures tokens { OnOk result (prefix.new.tokens ≡ told) }
-{
-    push_way(&mut prefix.text, &way[..told], prefix.tokens)?;
-    prefix.tokens = told;
     Ok(())
 }

@@ -36,6 +36,15 @@ pub(crate) struct Root<'a> {
     pub(crate) pointer: &'a Pointer,
 }
 
+impl<'a> Root<'a> {
+    pub(crate) fn new(document: usize, pointer: &'a Pointer) -> Root<'a>
+        ensures document { result.document ≡ document }
+        ensures pointer { result.pointer.now ≡ pointer.now }
+    {
+        Root { document, pointer }
+    }
+}
+
 /// The root of the resource that has the URI.
 fn root_named<'s>(index: &Index, sites: &'s [Site<'_>], uri: &str) -> Option<Root<'s>>
     requires { IsIndexOf index.now (map site_of sites.now) }
@@ -51,10 +60,7 @@ fn root_at<'s>(sites: &'s [Site<'_>], number: usize) -> Option<Root<'s>>
     ensures { option_map standing_of result ≡ option_map standing (slice_get (map site_of sites.now) number) }
 {
     match sites.get(number) {
-        Some(site) => Some(Root {
-            document: site.document,
-            pointer: &site.pointer,
-        }),
+        Some(site) => Some(Root::new(site.document, &site.pointer)),
         None => None,
     }
 }
@@ -130,7 +136,6 @@ pub(crate) enum NameFault {
 }
 
 impl From<Memory> for NameFault {
-    ghost use Rattle.std.specs.Prelude.{◌≡◌};
     ghost use Rattle.js_bundle.specs.declared.index.place_by_uri.NameFault.TheVariants as fault;
 
     ghost from_gives = { λ _ e. e ≡ fault.Memory };

@@ -43,6 +43,20 @@ struct Roots {
     anchors: Vec<Numbering>,
 }
 
+// Which places are roots of resources, and how many roots stand before each.
+#[derive(Clone, Copy)]
+struct CountedRoots<'s> {
+    begins: &'s [bool],
+    ranks: &'s [usize],
+}
+
+// A place with the number of its resource.
+#[derive(Clone, Copy)]
+struct Numbered<'s> {
+    site: &'s Site<'s>,
+    resource: usize,
+}
+
 /// Whether the place is the root of its own resource.
 pub(crate) fn begins_resource(site: &Site<'_>) -> bool
     ensures { result ≡ begins_resource (site_of site.now) }
@@ -120,27 +134,26 @@ fn number_after(
     alloc: Global,
     index: &Index,
     sites: &[Site<'_>],
-    begins: &[bool],
-    ranks: &[usize],
-    last: usize,
-    before: Option<&Site<'_>>,
+    roots: CountedRoots<'_>,
+    before: Option<Numbered<'_>>,
     site: &Site<'_>,
     number: usize,
 ) -> Result<usize, Memory>
     requires index { IsIndexOf index.now (map site_of sites.now) }
     requires apart { StandApart (map site_of sites.now) }
-    requires begins { begins.now ≡ map begins_resource (map site_of sites.now) }
-    requires ranks { ranks.now ≡ ranks_from 0 (map site_of sites.now) }
-    requires last { MatchOption before (Unit {0}) (λ b. last ≡ rank_of_root (map site_of sites.now) (site_of b.now)) }
+    requires begins { roots.begins.now ≡ map begins_resource (map site_of sites.now) }
+    requires ranks { roots.ranks.now ≡ ranks_from 0 (map site_of sites.now) }
+    requires before { MatchOption before (Unit {0})
+        (λ b. b.resource ≡ rank_of_root (map site_of sites.now) (site_of b.site.now)) }
     requires site { slice_get (map site_of sites.now) number ≡ Some (site_of site.now) }
     ensures { IfOk result (λ n. n ≡ rank_of_root (map site_of sites.now) (site_of site.now)) }
 {
-    if mark_at(begins, number) {
-        return Ok(rank_under(ranks, Some(number)));
+    if mark_at(roots.begins, number) {
+        return Ok(rank_under(roots.ranks, Some(number)));
     }
     match before {
-        Some(before) if is_of_one(before, site) => Ok(last),
-        _ => number_by_root(alloc, index, sites, ranks, site),
+        Some(before) if is_of_one(before.site, site) => Ok(before.resource),
+        _ => number_by_root(alloc, index, sites, roots.ranks, site),
     }
 }
 
@@ -165,23 +178,21 @@ fn numbers_of(
     alloc: Global,
     index: &Index,
     sites: &[Site<'_>],
-    begins: &[bool],
-    ranks: &[usize],
+    roots: CountedRoots<'_>,
 ) -> Result<Vec<usize>, Memory>
     requires index { IsIndexOf index.now (map site_of sites.now) }
     requires apart { StandApart (map site_of sites.now) }
-    requires begins { begins.now ≡ map begins_resource (map site_of sites.now) }
-    requires ranks { ranks.now ≡ ranks_from 0 (map site_of sites.now) }
+    requires begins { roots.begins.now ≡ map begins_resource (map site_of sites.now) }
+    requires ranks { roots.ranks.now ≡ ranks_from 0 (map site_of sites.now) }
     ensures { IfOk result (λ v. v.items ≡ map (rank_of_root (map site_of sites.now)) (map site_of sites.now)) }
 {
     let mut numbers = Vec::with_capacity(alloc, sites.len())?;
-    let mut last = 0;
     let mut before = None;
     for i in 0..sites.len() {
         let site = &sites[i];
-        last = number_after(alloc, index, sites, begins, ranks, last, before, site, i)?;
-        numbers.push(last)?;
-        before = Some(site);
+        let resource = number_after(alloc, index, sites, roots, before, site, i)?;
+        numbers.push(resource)?;
+        before = Some(Numbered { site, resource });
     }
     Ok(numbers)
 }
@@ -252,7 +263,11 @@ pub(crate) fn resources_of(
 {
     let begins = positions.roots.as_slice();
     let Roots { ranks, mut anchors } = roots_of(alloc, begins)?;
-    let numbers = numbers_of(alloc, &positions.index, sites, begins, ranks.as_slice())?;
+    let roots = CountedRoots {
+        begins,
+        ranks: ranks.as_slice(),
+    };
+    let numbers = numbers_of(alloc, &positions.index, sites, roots)?;
     name_all(alloc, &mut anchors, sites, keywords, numbers.as_slice())?;
     Ok(Resources { numbers, anchors })
 }

@@ -1,11 +1,20 @@
 //! How the texts of a place's position begin: those of the next place continue from there.
-ghost use Rattle.std.specs.Prelude.{◌≡◌, IfOk, option_map, string_bytes};
+ghost use Rattle.std.specs.Prelude.{◌≡◌, ◌≤◌, ◌++◌, drop, take, length, option_map, string_bytes, IfOk, OnOk};
 ghost use Rattle.js_bundle.specs.code.TextPrefix as spec;
 ghost use Rattle.js_bundle.specs.code.Scan.{site_of};
 
 use crate::scan::site::Site;
-use js_doc::{Memory, Token};
+use js_doc::{Memory, Token, push_fragment_token, push_token};
 use std::alloc::Global;
+
+/// How tokens are written (RFC 6901, sections 5 and 6).
+#[derive(Clone, Copy)]
+pub(crate) enum Representation {
+    /// As a pointer's text.
+    Plain,
+    /// As a URI's fragment.
+    Fragment,
+}
 
 /// The prefix of such a text: all of it but the last token, which is all that places side by side differ in.
 #[derive(Drop)]
@@ -23,8 +32,42 @@ impl TextPrefix {
         }
     }
 
-    /// Its text, with room for the tokens after it.
-    pub(crate) fn text_with_room(&self, alloc: Global, tokens: &[Token]) -> Result<String, Memory>
+    /// Continues it to so many of the tokens, and returns the text with all of them.
+    pub(crate) fn extend(
+        &mut self,
+        alloc: Global,
+        form: Representation,
+        tokens: &[Token],
+        count: usize,
+    ) -> Result<String, Memory>
+        requires { count ≤ length tokens.now }
+        ensures { IfOk result (λ t. spec.IsExtended form tokens.now count self.old self.new (string_bytes t)) }
+    {
+        self.continue_to(form, tokens, count)?;
+        let mut text = self.text_with_room(alloc, tokens)?;
+        push_tokens(&mut text, form, tokens, count)?;
+        Ok(text)
+    }
+
+    // Adds the first tokens to it.
+    fn continue_to(
+        &mut self,
+        form: Representation,
+        tokens: &[Token],
+        count: usize,
+    ) -> Result<(), Memory>
+        requires { count ≤ length tokens.now }
+        ensures text { OnOk result (string_bytes self.new.text
+            ≡ string_bytes self.old.text ++ spec.written form (drop self.old.tokens (take count tokens.now))) }
+        ensures tokens { OnOk result (self.new.tokens ≡ count) }
+    {
+        push_tokens(&mut self.text, form, &tokens[..count], self.tokens)?;
+        self.tokens = count;
+        Ok(())
+    }
+
+    // Its text, with room for the tokens after it.
+    fn text_with_room(&self, alloc: Global, tokens: &[Token]) -> Result<String, Memory>
         ensures { IfOk result (λ t. string_bytes t ≡ string_bytes self.now.text) }
     {
         let room = self
@@ -34,6 +77,30 @@ impl TextPrefix {
         let mut text = String::with_capacity(alloc, room)?;
         text.push_str(self.text.as_str())?;
         Ok(text)
+    }
+}
+
+/// Writes the tokens after the first ones.
+pub(crate) fn push_tokens(
+    text: &mut String,
+    form: Representation,
+    tokens: &[Token],
+    from: usize,
+) -> Result<(), Memory>
+    ensures { OnOk result (string_bytes text.new ≡ string_bytes text.old ++ spec.written form (drop from tokens.now)) }
+{
+    for i in from..tokens.len() {
+        push_one(text, form, tokens[i].as_str())?;
+    }
+    Ok(())
+}
+
+fn push_one(text: &mut String, form: Representation, token: &str) -> Result<(), Memory>
+    ensures { OnOk result (string_bytes text.new ≡ string_bytes text.old ++ spec.token_written form token.now) }
+{
+    match form {
+        Representation::Plain => push_token(text, token),
+        Representation::Fragment => push_fragment_token(text, token),
     }
 }
 

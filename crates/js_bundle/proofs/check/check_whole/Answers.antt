@@ -1,10 +1,14 @@
-use Rattle.std.proofs.Common.{◌≡◌, codes, map, nat_eq, sym, ap, subst, ◌∙◌}
+use Rattle.std.proofs.Common.{◌≡◌, List, [], codes, map, nat_eq, sym, ap, subst, ◌∙◌}
 use Rattle.std.proofs.lemmas.Result.{err_from_is_err_and}
 use Rattle.indexmap.specs.IndexMap.{get}
+use Rattle.js_bundle.specs.declared.document.Document.{Document}
+use Rattle.js_bundle.specs.declared.scan.site.Site.{Site}
 use Rattle.js_bundle.specs.AssertionsAndPatterns.{assertions_at, patterns_at}
+use Rattle.js_bundle.specs.Candidate.{IsClear}
 use Rattle.js_bundle.specs.Finding.{dynamic_at, number_of_target, under_number}
 use Rattle.js_bundle.specs.KeywordName.{keyword_names}
 use Rattle.js_bundle.specs.code.KeptLocation.{kept_location}
+use Rattle.js_bundle.specs.Refusals.{first_pass}
 use Rattle.js_bundle.specs.Resource.{sites}
 use Rattle.js_bundle.specs.ResourceTable.{AreRooted, IsResourceTable}
 use Rattle.js_bundle.specs.Seen.{document_of}
@@ -12,11 +16,21 @@ use Rattle.js_bundle.specs.code.SparseList.{IsSparseList}
 use Rattle.js_bundle.specs.code.PartsByPlace.{ArePartsByPlace}
 use Rattle.js_bundle.specs.code.Index.{IsIndexOf}
 use Rattle.js_bundle.specs.code.Positions.{ArePositionsOf}
-use Rattle.js_bundle.specs.code.Scan.{site_of}
+use Rattle.js_bundle.specs.code.Scan.{scanned, site_of}
 use Rattle.js_bundle.specs.code.KeptSite.{kept_site}
 use Rattle.js_bundle.proofs.Listing.RootsOfResources.{all_are_rooted}
 use Rattle.js_bundle.proofs.Listing.StoppedScan.{lists_all, first_stops, second_stops, whole_clear}
 use Rattle.js_bundle.proofs.check.check_whole.Goals as goal
+
+-- the places that are passed, and those that are looked up, are all places of the documents
+
+first : (documents : List Document) (listed passed : List Site) → passed ≡ listed → map site_of listed ≡ scanned (map document_of documents) → IsClear (first_pass [] (map site_of passed))
+    → map site_of passed ≡ sites (map document_of documents)
+first documents listed passed same scanned_is clear = lists_all (map document_of documents) (map site_of passed) (ap (map site_of) same ∙ scanned_is) clear
+
+second : (documents : List Document) (listed passed looked : List Site) → passed ≡ listed → looked ≡ listed → map site_of listed ≡ scanned (map document_of documents) → IsClear (first_pass [] (map site_of passed))
+    → map site_of looked ≡ sites (map document_of documents)
+second documents listed passed looked same same_looked scanned_is clear = ap (map site_of) (same_looked ∙ sym same) ∙ first documents listed passed same scanned_is clear
 
 pub returns-in_err-passed-clause-err : goal.returns-in_err-passed-clause-err
 returns-in_err-passed-clause-err c =
@@ -27,29 +41,19 @@ returns-in_err-passed-clause-err c =
 pub returns-in_err-found-clause-err : goal.returns-in_err-found-clause-err
 returns-in_err-found-clause-err c =
     let p = err_from_is_err_and c.from_residual-in_err-found.result c.from_residual-in_err-found.ensures.1 in
-    let ds = map document_of c.args.documents.now in
-    let first : map site_of c.as_slice.result.now ≡ sites ds =
-    lists_all ds (map site_of c.as_slice.result.now) (ap (map site_of) c.as_slice.ensures.value ∙ c.in_ok-sites.ensures) c.in_ok-passed.ensures.clear in
-    let second : map site_of c.as_slice-2.result.now ≡ sites ds = ap (map site_of) (c.as_slice-2.ensures.value ∙ sym c.as_slice.ensures.value) ∙ first in
-    rw (p.1, p.2) (second_stops ds (map site_of c.as_slice.result.now) (map site_of c.as_slice-2.result.now) c.in_err-found.field-0.0 first second c.in_ok-passed.ensures.clear c.in_err-found.ensures.err)
+    rw (p.1, p.2) (second_stops (map document_of c.args.documents.now) (map site_of c.as_slice.result.now) (map site_of c.as_slice-2.result.now) c.in_err-found.field-0.0
+    (first c.args.documents.now c.in_ok-sites.sites.items c.as_slice.result.now c.as_slice.ensures.value c.in_ok-sites.ensures c.in_ok-passed.ensures.clear)
+    (second c.args.documents.now c.in_ok-sites.sites.items c.as_slice.result.now c.as_slice-2.result.now c.as_slice.ensures.value c.as_slice-2.ensures.value c.in_ok-sites.ensures c.in_ok-passed.ensures.clear)
+    c.in_ok-passed.ensures.clear c.in_err-found.ensures.err)
 
 pub returns-in_err-kept_sites_of-clause-err : goal.returns-in_err-kept_sites_of-clause-err
 returns-in_err-kept_sites_of-clause-err c =
     let p = err_from_is_err_and c.from_residual-in_err-kept_sites_of.result c.from_residual-in_err-kept_sites_of.ensures.1 in
     rw (p.1, p.2) tt
 
-pub returns-in_err-edges-clause-err : goal.returns-in_err-edges-clause-err
-returns-in_err-edges-clause-err c =
-    let p = err_from_is_err_and c.from_residual-in_err-edges.result c.from_residual-in_err-edges.ensures.1 in
-    rw (p.1, p.2) tt
-
 pub look_up-requires-clause-positions : goal.look_up-requires-clause-positions
 look_up-requires-clause-positions c =
-    let ds = map document_of c.args.documents.now in
-    let first : map site_of c.as_slice.result.now ≡ sites ds =
-    lists_all ds (map site_of c.as_slice.result.now) (ap (map site_of) c.as_slice.ensures.value ∙ c.in_ok-sites.ensures) c.in_ok-passed.ensures.clear in
-    let second : map site_of c.as_slice-2.result.now ≡ sites ds = ap (map site_of) (c.as_slice-2.ensures.value ∙ sym c.as_slice.ensures.value) ∙ first in
-    subst (ArePositionsOf c.in_ok-passed.passed.positions) (first ∙ sym second) c.in_ok-passed.ensures.positions
+    subst (λ ss. ArePositionsOf c.in_ok-passed.passed.positions (map site_of ss)) (c.as_slice.ensures.value ∙ sym c.as_slice-2.ensures.value) c.in_ok-passed.ensures.positions
 
 pub look_up-requires-clause-keywords : goal.look_up-requires-clause-keywords
 look_up-requires-clause-keywords c =
@@ -57,86 +61,65 @@ look_up-requires-clause-keywords c =
 
 pub look_up-requires-clause-rooted : goal.look_up-requires-clause-rooted
 look_up-requires-clause-rooted c =
-    let ds = map document_of c.args.documents.now in
-    let first : map site_of c.as_slice.result.now ≡ sites ds =
-    lists_all ds (map site_of c.as_slice.result.now) (ap (map site_of) c.as_slice.ensures.value ∙ c.in_ok-sites.ensures) c.in_ok-passed.ensures.clear in
-    let second : map site_of c.as_slice-2.result.now ≡ sites ds = ap (map site_of) (c.as_slice-2.ensures.value ∙ sym c.as_slice.ensures.value) ∙ first in
-    subst AreRooted (sym second) (all_are_rooted ds c.requires)
+    subst AreRooted
+    (sym (second c.args.documents.now c.in_ok-sites.sites.items c.as_slice.result.now c.as_slice-2.result.now c.as_slice.ensures.value c.as_slice-2.ensures.value c.in_ok-sites.ensures c.in_ok-passed.ensures.clear))
+    (all_are_rooted (map document_of c.args.documents.now) c.requires)
 
 pub returns-clause-clear : goal.returns-clause-clear
 returns-clause-clear c =
-    let ds = map document_of c.args.documents.now in
-    let first : map site_of c.as_slice.result.now ≡ sites ds =
-    lists_all ds (map site_of c.as_slice.result.now) (ap (map site_of) c.as_slice.ensures.value ∙ c.in_ok-sites.ensures) c.in_ok-passed.ensures.clear in
-    let second : map site_of c.as_slice-2.result.now ≡ sites ds = ap (map site_of) (c.as_slice-2.ensures.value ∙ sym c.as_slice.ensures.value) ∙ first in
-    whole_clear ds (map site_of c.as_slice.result.now) (map site_of c.as_slice-2.result.now) first second c.in_ok-passed.ensures.clear c.in_ok-found.ensures.clear
+    whole_clear (map document_of c.args.documents.now) (map site_of c.as_slice.result.now) (map site_of c.as_slice-2.result.now)
+    (first c.args.documents.now c.in_ok-sites.sites.items c.as_slice.result.now c.as_slice.ensures.value c.in_ok-sites.ensures c.in_ok-passed.ensures.clear)
+    (second c.args.documents.now c.in_ok-sites.sites.items c.as_slice.result.now c.as_slice-2.result.now c.as_slice.ensures.value c.as_slice-2.ensures.value c.in_ok-sites.ensures c.in_ok-passed.ensures.clear)
+    c.in_ok-passed.ensures.clear c.in_ok-found.ensures.clear
 
 pub returns-clause-kept_sites : goal.returns-clause-kept_sites
 returns-clause-kept_sites c =
-    let ds = map document_of c.args.documents.now in
-    let first : map site_of c.as_slice.result.now ≡ sites ds =
-    lists_all ds (map site_of c.as_slice.result.now) (ap (map site_of) c.as_slice.ensures.value ∙ c.in_ok-sites.ensures) c.in_ok-passed.ensures.clear in
-    let all : map site_of c.in_ok-sites.sites.items ≡ sites ds = ap (map site_of) (sym c.as_slice.ensures.value) ∙ first in
+    let all : map site_of c.in_ok-sites.sites.items ≡ sites (map document_of c.args.documents.now) = ap (map site_of) (sym c.as_slice.ensures.value) ∙ first c.args.documents.now c.in_ok-sites.sites.items c.as_slice.result.now c.as_slice.ensures.value c.in_ok-sites.ensures c.in_ok-passed.ensures.clear in
     c.in_ok-kept_sites_of.ensures ∙ ap (map kept_site) all
 
 pub returns-clause-assertions : goal.returns-clause-assertions
 returns-clause-assertions c =
-    let ds = map document_of c.args.documents.now in
-    let first : map site_of c.as_slice.result.now ≡ sites ds =
-    lists_all ds (map site_of c.as_slice.result.now) (ap (map site_of) c.as_slice.ensures.value ∙ c.in_ok-sites.ensures) c.in_ok-passed.ensures.clear in
-    let built = c.in_ok-passed.passed.built in
-    subst (λ ss. ArePartsByPlace assertions_at ss built.all.assertions.items built.assertion_ends.items) first c.in_ok-passed.ensures.assertions
+    subst (λ ss. ArePartsByPlace assertions_at ss c.in_ok-passed.passed.built.all.assertions.items c.in_ok-passed.passed.built.assertion_ends.items)
+    (first c.args.documents.now c.in_ok-sites.sites.items c.as_slice.result.now c.as_slice.ensures.value c.in_ok-sites.ensures c.in_ok-passed.ensures.clear)
+    c.in_ok-passed.ensures.assertions
 
 pub returns-clause-patterns : goal.returns-clause-patterns
 returns-clause-patterns c =
-    let ds = map document_of c.args.documents.now in
-    let first : map site_of c.as_slice.result.now ≡ sites ds =
-    lists_all ds (map site_of c.as_slice.result.now) (ap (map site_of) c.as_slice.ensures.value ∙ c.in_ok-sites.ensures) c.in_ok-passed.ensures.clear in
-    let built = c.in_ok-passed.passed.built in
-    subst (λ ss. ArePartsByPlace patterns_at ss built.all.patterns.items built.pattern_ends.items) first c.in_ok-passed.ensures.patterns
+    subst (λ ss. ArePartsByPlace patterns_at ss c.in_ok-passed.passed.built.all.patterns.items c.in_ok-passed.passed.built.pattern_ends.items)
+    (first c.args.documents.now c.in_ok-sites.sites.items c.as_slice.result.now c.as_slice.ensures.value c.in_ok-sites.ensures c.in_ok-passed.ensures.clear)
+    c.in_ok-passed.ensures.patterns
 
 pub returns-clause-keywords : goal.returns-clause-keywords
 returns-clause-keywords c =
-    let ds = map document_of c.args.documents.now in
-    let first : map site_of c.as_slice.result.now ≡ sites ds =
-    lists_all ds (map site_of c.as_slice.result.now) (ap (map site_of) c.as_slice.ensures.value ∙ c.in_ok-sites.ensures) c.in_ok-passed.ensures.clear in
-    let keywords = c.in_ok-passed.passed.keywords in
-    subst (λ ss. ArePartsByPlace keyword_names ss keywords.names.items keywords.ends.items) first c.in_ok-passed.ensures.keywords
+    subst (λ ss. ArePartsByPlace keyword_names ss c.in_ok-passed.passed.keywords.names.items c.in_ok-passed.passed.keywords.ends.items)
+    (first c.args.documents.now c.in_ok-sites.sites.items c.as_slice.result.now c.as_slice.ensures.value c.in_ok-sites.ensures c.in_ok-passed.ensures.clear)
+    c.in_ok-passed.ensures.keywords
 
 pub returns-clause-dynamic : goal.returns-clause-dynamic
 returns-clause-dynamic c =
-    let ds = map document_of c.args.documents.now in
-    let first : map site_of c.as_slice.result.now ≡ sites ds =
-    lists_all ds (map site_of c.as_slice.result.now) (ap (map site_of) c.as_slice.ensures.value ∙ c.in_ok-sites.ensures) c.in_ok-passed.ensures.clear in
-    let second : map site_of c.as_slice-2.result.now ≡ sites ds = ap (map site_of) (c.as_slice-2.ensures.value ∙ sym c.as_slice.ensures.value) ∙ first in
-    subst (λ ss. IsSparseList (get nat_eq c.in_ok-found.found.references.dynamic) (dynamic_at ss) ss) second c.in_ok-found.ensures.dynamic
+    subst (λ ss. IsSparseList (get nat_eq c.in_ok-found.found.references.dynamic) (dynamic_at ss) ss)
+    (second c.args.documents.now c.in_ok-sites.sites.items c.as_slice.result.now c.as_slice-2.result.now c.as_slice.ensures.value c.as_slice-2.ensures.value c.in_ok-sites.ensures c.in_ok-passed.ensures.clear)
+    c.in_ok-found.ensures.dynamic
 
 pub returns-clause-plain : goal.returns-clause-plain
 returns-clause-plain c =
-    let ds = map document_of c.args.documents.now in
-    let first : map site_of c.as_slice.result.now ≡ sites ds =
-    lists_all ds (map site_of c.as_slice.result.now) (ap (map site_of) c.as_slice.ensures.value ∙ c.in_ok-sites.ensures) c.in_ok-passed.ensures.clear in
-    let second : map site_of c.as_slice-2.result.now ≡ sites ds = ap (map site_of) (c.as_slice-2.ensures.value ∙ sym c.as_slice.ensures.value) ∙ first in
-    subst (λ ss. IsSparseList (under_number c.in_ok-found.found.references.plain.items) (number_of_target ss (codes "$ref")) ss) second c.in_ok-found.ensures.plain
+    subst (λ ss. IsSparseList (under_number c.in_ok-found.found.references.plain.items) (number_of_target ss (codes "$ref")) ss)
+    (second c.args.documents.now c.in_ok-sites.sites.items c.as_slice.result.now c.as_slice-2.result.now c.as_slice.ensures.value c.as_slice-2.ensures.value c.in_ok-sites.ensures c.in_ok-passed.ensures.clear)
+    c.in_ok-found.ensures.plain
 
 pub returns-clause-locations : goal.returns-clause-locations
 returns-clause-locations c =
-    let ds = map document_of c.args.documents.now in
-    let first : map site_of c.as_slice.result.now ≡ sites ds =
-    lists_all ds (map site_of c.as_slice.result.now) (ap (map site_of) c.as_slice.ensures.value ∙ c.in_ok-sites.ensures) c.in_ok-passed.ensures.clear in
-    c.in_ok-passed.ensures.positions.locations ∙ ap (map kept_location) first
+    c.in_ok-passed.ensures.positions.locations ∙ ap (map kept_location)
+    (first c.args.documents.now c.in_ok-sites.sites.items c.as_slice.result.now c.as_slice.ensures.value c.in_ok-sites.ensures c.in_ok-passed.ensures.clear)
 
 pub returns-clause-index : goal.returns-clause-index
 returns-clause-index c =
-    let ds = map document_of c.args.documents.now in
-    let first : map site_of c.as_slice.result.now ≡ sites ds =
-    lists_all ds (map site_of c.as_slice.result.now) (ap (map site_of) c.as_slice.ensures.value ∙ c.in_ok-sites.ensures) c.in_ok-passed.ensures.clear in
-    subst (IsIndexOf c.in_ok-passed.passed.positions.index) first c.in_ok-passed.ensures.positions.index
+    subst (IsIndexOf c.in_ok-passed.passed.positions.index)
+    (first c.args.documents.now c.in_ok-sites.sites.items c.as_slice.result.now c.as_slice.ensures.value c.in_ok-sites.ensures c.in_ok-passed.ensures.clear)
+    c.in_ok-passed.ensures.positions.index
 
 pub returns-clause-resources : goal.returns-clause-resources
 returns-clause-resources c =
-    let ds = map document_of c.args.documents.now in
-    let first : map site_of c.as_slice.result.now ≡ sites ds =
-    lists_all ds (map site_of c.as_slice.result.now) (ap (map site_of) c.as_slice.ensures.value ∙ c.in_ok-sites.ensures) c.in_ok-passed.ensures.clear in
-    let second : map site_of c.as_slice-2.result.now ≡ sites ds = ap (map site_of) (c.as_slice-2.ensures.value ∙ sym c.as_slice.ensures.value) ∙ first in
-    subst (IsResourceTable c.in_ok-found.found.resources) second c.in_ok-found.ensures.resources
+    subst (IsResourceTable c.in_ok-found.found.resources)
+    (second c.args.documents.now c.in_ok-sites.sites.items c.as_slice.result.now c.as_slice-2.result.now c.as_slice.ensures.value c.as_slice-2.ensures.value c.in_ok-sites.ensures c.in_ok-passed.ensures.clear)
+    c.in_ok-found.ensures.resources

@@ -1,10 +1,11 @@
-use Rattle.std.proofs.Common.{◌<◌, ◌≤◌, [], ◌∷◌, ◌++◌, map, length, string_bytes, refl, sym, ap, ◌∙◌, append_assoc, subst, arith}
+use Rattle.std.proofs.Common.{◌<◌, ◌≤◌, [], ◌∷◌, ◌++◌, map, length, string_bytes, refl, sym, ap, ◌∙◌, subst, arith}
 use Rattle.std.proofs.lemmas.List.{length-map}
 use Rattle.js_doc.specs.Nesting.{depth}
-use Rattle.js_doc.specs.Value.{list, object, items, members}
+use Rattle.js_doc.specs.Value.{list, items, members}
 use Rattle.js_doc.specs.Seen.{value_of, pair_of}
-use Rattle.js_doc.proofs.Smaller.{item_smaller, member_smaller}
+use Rattle.js_doc.proofs.Smaller.{item_smaller}
 use Rattle.js_bundle.specs.code.Scan.{SameFront, site_of, most_sites, sites_of_keywords, sites_of_members}
+use Rattle.js_bundle.proofs.MemberLoops.{next_smaller, split_next}
 use Rattle.js_bundle.proofs.Listing.ScanNext.{front_full, item_next, keyword_next, member_next}
 use Rattle.js_bundle.proofs.scan.+scan.Goals as goal
 
@@ -17,33 +18,28 @@ scan_schema-returns-then-len-ge-MOST_SITES t c =
 pub scan_items-scan_schema-requires : goal.scan_items-scan_schema-requires
 scan_items-scan_schema-requires t c =
     let small : depth (value_of c.index-schemas-i.result) < depth (list (items (map value_of c.args.schemas.now))) =
-    item_smaller c.args.schemas.now (map value_of c.args.schemas.now) c.loop-i.i-counter c.index-schemas-i.result c.index-schemas-i.result refl (omega arith) (sym c.index-schemas-i.is) in
+    item_smaller c.args.schemas.now (map value_of c.args.schemas.now) c.loop-i.i c.index-schemas-i.result c.index-schemas-i.result refl (omega arith) (sym c.index-schemas-i.is) in
     (omega (arith, small, c.decreases), tt)
 
 pub scan_items-loop-i-preserved : goal.scan_items-loop-i-preserved
 scan_items-loop-i-preserved t c =
     let l = c.loop-i in
-    item_next c.args.document c.args.above.now.value c.args.pointer.now c.args.schemas.now l.i-counter c.index-schemas-i.result c.in_ok-at.at.value (map site_of l.out.items) (map site_of c.scan_schema.new.out.items) _
+    item_next c.args.document c.args.above.now.value c.args.pointer.now c.args.schemas.now l.i c.index-schemas-i.result c.in_ok-at.at.value (map site_of l.out.items) (map site_of c.scan_schema.new.out.items) _
     (omega arith) c.index-schemas-i.is
-    (c.in_ok-at.ensures ∙ ap (λ k. c.args.pointer.now ++ k ∷ []) (c.as_str.ensures.value ∙ c.in_ok-token.ensures.ok))
+    (c.in_ok-at.ensures ∙ ap (λ k. c.args.pointer.now ++ k ∷ []) c.format.ensures.text)
     c.in_ok-scan_schema.ensures l.invariant
 
 pub scan_keywords-scan_keyword-requires : goal.scan_keywords-scan_keyword-requires
 scan_keywords-scan_keyword-requires t c =
-    let l = c.loop-keyword in
-    let small : depth (value_of c.in-Some.argument.now) < depth (object (members c.args.members.now)) =
-    member_smaller c.pairs-keyword-items.result l.invariant.split.0 (c.in-Some.keyword.now, c.in-Some.argument.now) c.next.new.self c.args.members.now c.pairs-keyword-items.ensures.pairs
-    (sym c.into_iter-keyword-iterator.ensures.into_iter_gives ∙ l.invariant.split.1 ∙ ap (λ es. l.invariant.split.0 ++ es) c.in-Some.ensures.steps) in
+    let small = next_smaller c.pairs-keyword-items.result c.into_iter-keyword-iterator.result c.loop-keyword.keyword-iterator c.next.new.self c.in-Some.keyword.now c.in-Some.argument.now c.args.members.now c.pairs-keyword-items.ensures.pairs
+    c.into_iter-keyword-iterator.ensures.into_iter_gives c.loop-keyword.invariant.split c.in-Some.ensures.steps in
     (omega (arith, small, c.decreases), tt)
 
 pub scan_keywords-loop-keyword-preserved : goal.scan_keywords-loop-keyword-preserved
 scan_keywords-loop-keyword-preserved t c =
     let l = c.loop-keyword in
     record {
-      split = (
-        l.invariant.split.0 ++ (c.in-Some.keyword.now, c.in-Some.argument.now) ∷ [],
-        l.invariant.split.1 ∙ ap (λ es. l.invariant.split.0 ++ es) c.in-Some.ensures.steps ∙ sym (append_assoc l.invariant.split.0 ((c.in-Some.keyword.now, c.in-Some.argument.now) ∷ []) c.next.new.self),
-      );
+      split = split_next c.into_iter-keyword-iterator.result l.keyword-iterator c.next.new.self (c.in-Some.keyword.now, c.in-Some.argument.now) l.invariant.split c.in-Some.ensures.steps;
       told = keyword_next c.args.document c.args.above.now.value c.args.pointer.now (string_bytes c.in-Some.keyword.now) c.as_str.result.now (value_of c.in-Some.argument.now) (members (map pair_of c.next.new.self)) (map site_of l.out.items) (map site_of c.scan_keyword.new.out.items) _
           c.as_str.ensures.value c.in_ok-scan_keyword.ensures
           (subst (λ es. SameFront (map site_of l.out.items ++ sites_of_keywords c.args.document c.args.above.now.value c.args.pointer.now (members (map pair_of es))) (map site_of c.args.out.now.items ++ sites_of_keywords c.args.document c.args.above.now.value c.args.pointer.now (members (map pair_of c.into_iter-keyword-iterator.result)))) c.in-Some.ensures.steps l.invariant.told);
@@ -51,20 +47,15 @@ scan_keywords-loop-keyword-preserved t c =
 
 pub scan_members-scan_schema-requires : goal.scan_members-scan_schema-requires
 scan_members-scan_schema-requires t c =
-    let l = c.loop-name in
-    let small : depth (value_of c.in-Some.schema.now) < depth (object (members c.args.members.now)) =
-    member_smaller c.pairs-name-items.result l.invariant.split.0 (c.in-Some.name.now, c.in-Some.schema.now) c.next.new.self c.args.members.now c.pairs-name-items.ensures.pairs
-    (sym c.into_iter-name-iterator.ensures.into_iter_gives ∙ l.invariant.split.1 ∙ ap (λ es. l.invariant.split.0 ++ es) c.in-Some.ensures.steps) in
+    let small = next_smaller c.pairs-name-items.result c.into_iter-name-iterator.result c.loop-name.name-iterator c.next.new.self c.in-Some.name.now c.in-Some.schema.now c.args.members.now c.pairs-name-items.ensures.pairs
+    c.into_iter-name-iterator.ensures.into_iter_gives c.loop-name.invariant.split c.in-Some.ensures.steps in
     (omega (arith, small, c.decreases), tt)
 
 pub scan_members-loop-name-preserved : goal.scan_members-loop-name-preserved
 scan_members-loop-name-preserved t c =
     let l = c.loop-name in
     record {
-      split = (
-        l.invariant.split.0 ++ (c.in-Some.name.now, c.in-Some.schema.now) ∷ [],
-        l.invariant.split.1 ∙ ap (λ es. l.invariant.split.0 ++ es) c.in-Some.ensures.steps ∙ sym (append_assoc l.invariant.split.0 ((c.in-Some.name.now, c.in-Some.schema.now) ∷ []) c.next.new.self),
-      );
+      split = split_next c.into_iter-name-iterator.result l.name-iterator c.next.new.self (c.in-Some.name.now, c.in-Some.schema.now) l.invariant.split c.in-Some.ensures.steps;
       told = member_next c.args.document c.args.above.now.value c.args.pointer.now (string_bytes c.in-Some.name.now) (value_of c.in-Some.schema.now) (members (map pair_of c.next.new.self)) c.in_ok-at.at.value (map site_of l.out.items) (map site_of c.scan_schema.new.out.items) _
           (c.in_ok-at.ensures ∙ ap (λ k. c.args.pointer.now ++ k ∷ []) c.as_str.ensures.value) c.in_ok-scan_schema.ensures
           (subst (λ es. SameFront (map site_of l.out.items ++ sites_of_members c.args.document c.args.above.now.value c.args.pointer.now (members (map pair_of es))) (map site_of c.args.out.now.items ++ sites_of_members c.args.document c.args.above.now.value c.args.pointer.now (members (map pair_of c.into_iter-name-iterator.result)))) c.in-Some.ensures.steps l.invariant.told);

@@ -1,9 +1,9 @@
-use Rattle.std.proofs.Common.{◌≡◌, ◌+◌, ◌*◌, List, ◌++◌, map, drop, String, Global}
+use Rattle.std.proofs.Common.{◌+◌, ◌*◌, ◌++◌, map, drop}
 use Rattle.js_doc.specs.Nesting.{depth}
 use Rattle.js_doc.specs.Value.{list, object, items, members}
 use Rattle.js_doc.specs.Seen.{value_of, pair_of}
-use Rattle.js_doc.specs.declared.doc.Doc.{Doc}
 use Rattle.js_bundle.specs.code.Scan.{SameFront, site_of, sites_of_items, sites_of_keywords, sites_of_members}
+use Rattle.js_bundle.proofs.MemberLoops.{IsSplit}
 use Rattle.js_bundle.proofs.scan.+scan.Given as goal
 
 abbrev pub decreases-scan_schema : goal.decreases-scan_schema
@@ -26,19 +26,19 @@ decreases-scan_items l = 4 * depth (list (items (map value_of l.schemas.now))) +
 
 abbrev pub invariant-scan_items-loop-i : goal.invariant-scan_items-loop-i
 invariant-scan_items-loop-i l =
-    SameFront (map site_of l.out.items ++ sites_of_items l.document l.above.value l.pointer l.i-counter (items (map value_of (drop l.i-counter l.schemas))))
+    SameFront (map site_of l.out.items ++ sites_of_items l.document l.above.value l.pointer l.i (items (map value_of (drop l.i l.schemas))))
     (map site_of l.initial.out.items ++ sites_of_items l.document l.above.value l.pointer 0 (items (map value_of l.schemas)))
 
 abbrev pub invariant-scan_keywords-loop-keyword : goal.invariant-scan_keywords-loop-keyword
 invariant-scan_keywords-loop-keyword l = record {
-  split : (done : List (String Global × Doc)) × (l.initial.keyword-iterator ≡ done ++ l.keyword-iterator);
+  split : IsSplit l.initial.keyword-iterator l.keyword-iterator;
   told : SameFront (map site_of l.out.items ++ sites_of_keywords l.document l.above.value l.pointer (members (map pair_of l.keyword-iterator)))
       (map site_of l.initial.out.items ++ sites_of_keywords l.document l.above.value l.pointer (members (map pair_of l.initial.keyword-iterator)));
 }
 
 abbrev pub invariant-scan_members-loop-name : goal.invariant-scan_members-loop-name
 invariant-scan_members-loop-name l = record {
-  split : (done : List (String Global × Doc)) × (l.initial.name-iterator ≡ done ++ l.name-iterator);
+  split : IsSplit l.initial.name-iterator l.name-iterator;
   told : SameFront (map site_of l.out.items ++ sites_of_members l.document l.above.value l.pointer (members (map pair_of l.name-iterator)))
       (map site_of l.initial.out.items ++ sites_of_members l.document l.above.value l.pointer (members (map pair_of l.initial.name-iterator)));
 }

@@ -23,12 +23,8 @@ returns-in_err-targets-clause-err c =
 
 pub targets_of-requires-clause-names : goal.targets_of-requires-clause-names
 targets_of-requires-clause-names c =
-    let l = c.loop-i in
-    let ss = c.args.sites.now in
-    let x = c.index-sites-i.result in
-    let table = c.args.keywords.now in
-    names_are ss l.i x table.names.items table.ends.items c.part_of_place-names.result.now c.as_slice.result.now c.as_slice-in-loop-i.result.now c.requires.keywords (omega arith) c.index-sites-i.is
-    c.as_slice.ensures.value c.as_slice-in-loop-i.ensures.value c.part_of_place-names.ensures
+    names_are c.args.sites.now c.loop-i.i c.index-sites-i.result c.args.keywords.now c.part_of_place-names.result.now c.as_slice.result.now c.as_slice-in-loop-i.result.now c.requires.keywords (omega arith)
+    c.index-sites-i.is c.as_slice.ensures.value c.as_slice-in-loop-i.ensures.value c.part_of_place-names.ensures
 
 pub keep_dynamic-requires : goal.keep_dynamic-requires
 keep_dynamic-requires c =

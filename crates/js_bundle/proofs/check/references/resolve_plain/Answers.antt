@@ -1,13 +1,10 @@
-use Rattle.std.proofs.Common.{[], ◌∷◌, map, codes, subst}
+use Rattle.std.proofs.Common.{map, codes}
 use Rattle.std.proofs.lemmas.Result.{err_from_is_err_and}
-use Rattle.js_bundle.specs.Candidate.{IsStopped}
 use Rattle.js_bundle.specs.code.Scan.{site_of}
-use Rattle.js_bundle.specs.Refusals.{at_reference_text}
+use Rattle.js_bundle.proofs.Checking.ReferenceTexts.{stopped_by_text}
 use Rattle.js_bundle.proofs.check.references.resolve_plain.Goals as goal
 
 pub returns-in_err-url-clause-err : goal.returns-in_err-url-clause-err
 returns-in_err-url-clause-err c =
     let p = err_from_is_err_and c.from_residual.result c.from_residual.ensures.1 in
-    let all = map site_of c.args.sites.now in
-    let place = site_of c.args.site.now in
-    rw (p.1, p.2) (subst (λ t. IsStopped (at_reference_text all place (codes "$ref" ∷ []) t) c.in_err-url.field-0.0) c.in-Some.ensures (c.in_err-url.ensures.err all))
+    rw (p.1, p.2) (stopped_by_text (map site_of c.args.sites.now) (site_of c.args.site.now) (codes "$ref") c.in-Some.text.now c.in_err-url.field-0.0 c.in-Some.ensures c.in_err-url.ensures.err)

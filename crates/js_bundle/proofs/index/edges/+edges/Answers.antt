@@ -1,9 +1,10 @@
-use Rattle.std.proofs.Common.{◌<◌, [], ◌∷◌, ◌++◌, map, length, string_bytes, refl, sym, ap, ◌∙◌, append_assoc, arith}
+use Rattle.std.proofs.Common.{◌<◌, ◌++◌, map, length, string_bytes, refl, sym, ap, ◌∙◌, arith}
 use Rattle.js_doc.specs.Nesting.{depth}
-use Rattle.js_doc.specs.Value.{list, object, items, members}
+use Rattle.js_doc.specs.Value.{list, items, members}
 use Rattle.js_doc.specs.Seen.{value_of, pair_of}
-use Rattle.js_doc.proofs.Smaller.{item_smaller, member_smaller}
+use Rattle.js_doc.proofs.Smaller.{item_smaller}
 use Rattle.js_bundle.specs.code.Edges.{edges_of, edges_of_keywords, edges_of_members, held_by_keywords, held_of, numbers_of_members}
+use Rattle.js_bundle.proofs.MemberLoops.{next_smaller, split_next}
 use Rattle.js_bundle.proofs.Indexing.EdgesNext.{item_edges, item_numbers, keyword_edges_next, keyword_held_next, keywords_put, member_edges, member_numbers, put_within}
 use Rattle.js_bundle.proofs.index.edges.+edges.Goals as goal
 
@@ -25,10 +26,8 @@ link_items-loop-i-preserved t c =
 
 pub link_members-link_one-requires : goal.link_members-link_one-requires
 link_members-link_one-requires t c =
-    let l = c.loop-schema in
-    let small : depth (value_of c.in-Some.schema.now) < depth (object (members c.args.members.now)) =
-    member_smaller c.pairs-schema-items.result l.invariant.split.0 (c.in-Some.field-0-0.now, c.in-Some.schema.now) c.next.new.self c.args.members.now c.pairs-schema-items.ensures.pairs
-    (sym c.into_iter-schema-iterator.ensures.into_iter_gives ∙ l.invariant.split.1 ∙ ap (λ es. l.invariant.split.0 ++ es) c.in-Some.ensures.steps) in
+    let small = next_smaller c.pairs-schema-items.result c.into_iter-schema-iterator.result c.loop-schema.schema-iterator c.next.new.self c.in-Some.field-0-0.now c.in-Some.schema.now c.args.members.now c.pairs-schema-items.ensures.pairs
+    c.into_iter-schema-iterator.ensures.into_iter_gives c.loop-schema.invariant.split c.in-Some.ensures.steps in
     (omega (arith, small, c.decreases), tt)
 
 pub link_members-loop-schema-preserved : goal.link_members-loop-schema-preserved
@@ -38,10 +37,7 @@ link_members-loop-schema-preserved t c =
     let name = c.in-Some.field-0-0.now in
     let rest = members (map pair_of c.next.new.self) in
     record {
-      split = (
-        l.invariant.split.0 ++ (name, c.in-Some.schema.now) ∷ [],
-        l.invariant.split.1 ∙ ap (λ es. l.invariant.split.0 ++ es) c.in-Some.ensures.steps ∙ sym (append_assoc l.invariant.split.0 ((name, c.in-Some.schema.now) ∷ []) c.next.new.self),
-      );
+      split = split_next c.into_iter-schema-iterator.result l.schema-iterator c.next.new.self (c.in-Some.field-0-0.now, c.in-Some.schema.now) l.invariant.split c.in-Some.ensures.steps;
       edges = member_edges (string_bytes name) (value_of c.in-Some.schema.now) rest l.edges.items c.link_one.new.edges.items _ e.edges
           (ap (λ es. map edges_of l.edges.items ++ edges_of_members (length l.edges.items) (members (map pair_of es))) (sym c.in-Some.ensures.steps) ∙ l.invariant.edges);
       places = member_numbers (string_bytes name) (value_of c.in-Some.schema.now) rest l.edges.items c.link_one.new.edges.items l.places.items c.link_one.new.places.items _ e.edges e.places
@@ -50,10 +46,8 @@ link_members-loop-schema-preserved t c =
 
 pub keywords_of-link_keyword-requires : goal.keywords_of-link_keyword-requires
 keywords_of-link_keyword-requires t c =
-    let l = c.loop-keyword in
-    let small : depth (value_of c.in-Some.argument.now) < depth (object (members c.args.members.now)) =
-    member_smaller c.pairs-keyword-items.result l.invariant.split.0 (c.in-Some.keyword.now, c.in-Some.argument.now) c.next.new.self c.args.members.now c.pairs-keyword-items.ensures.pairs
-    (sym c.into_iter-keyword-iterator.ensures.into_iter_gives ∙ l.invariant.split.1 ∙ ap (λ es. l.invariant.split.0 ++ es) c.in-Some.ensures.steps) in
+    let small = next_smaller c.pairs-keyword-items.result c.into_iter-keyword-iterator.result c.loop-keyword.keyword-iterator c.next.new.self c.in-Some.keyword.now c.in-Some.argument.now c.args.members.now c.pairs-keyword-items.ensures.pairs
+    c.into_iter-keyword-iterator.ensures.into_iter_gives c.loop-keyword.invariant.split c.in-Some.ensures.steps in
     (omega (arith, small, c.decreases), tt)
 
 pub keywords_of-loop-keyword-preserved : goal.keywords_of-loop-keyword-preserved
@@ -63,10 +57,7 @@ keywords_of-loop-keyword-preserved t c =
     let name = c.in-Some.keyword.now in
     let rest = members (map pair_of c.next.new.self) in
     record {
-      split = (
-        l.invariant.split.0 ++ (name, c.in-Some.argument.now) ∷ [],
-        l.invariant.split.1 ∙ ap (λ es. l.invariant.split.0 ++ es) c.in-Some.ensures.steps ∙ sym (append_assoc l.invariant.split.0 ((name, c.in-Some.argument.now) ∷ []) c.next.new.self),
-      );
+      split = split_next c.into_iter-keyword-iterator.result l.keyword-iterator c.next.new.self (c.in-Some.keyword.now, c.in-Some.argument.now) l.invariant.split c.in-Some.ensures.steps;
       edges = keyword_edges_next c.as_str.result.now (string_bytes name) (value_of c.in-Some.argument.now) rest l.edges.items c.link_keyword.new.edges.items _ c.as_str.ensures.value e.edges
           (ap (λ es. map edges_of l.edges.items ++ edges_of_keywords (length l.edges.items) (members (map pair_of es))) (sym c.in-Some.ensures.steps) ∙ l.invariant.edges);
       held = keyword_held_next c.as_str.result.now (string_bytes name) (value_of c.in-Some.argument.now) rest l.edges.items c.link_keyword.new.edges.items (map held_of l.held.items) (map held_of c.link_keyword.new.held.items) _

@@ -12,12 +12,8 @@ name-requires-clause-resource c =
 
 pub name-requires-clause-names : goal.name-requires-clause-names
 name-requires-clause-names c =
-    let l = c.loop-i in
-    let ss = c.args.sites.now in
-    let x = c.index-sites-i.result in
-    let table = c.args.keywords.now in
-    names_are ss l.i x table.names.items table.ends.items c.part_of_place-names.result.now c.as_slice.result.now c.as_slice-in-loop-i.result.now c.requires.keywords (omega arith) c.index-sites-i.is
-    c.as_slice.ensures.value c.as_slice-in-loop-i.ensures.value c.part_of_place-names.ensures
+    names_are c.args.sites.now c.loop-i.i c.index-sites-i.result c.args.keywords.now c.part_of_place-names.result.now c.as_slice.result.now c.as_slice-in-loop-i.result.now c.requires.keywords (omega arith)
+    c.index-sites-i.is c.as_slice.ensures.value c.as_slice-in-loop-i.ensures.value c.part_of_place-names.ensures
 
 pub loop-i-preserved : goal.loop-i-preserved
 loop-i-preserved c =

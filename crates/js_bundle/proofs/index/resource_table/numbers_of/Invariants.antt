@@ -8,5 +8,5 @@ invariant-loop-i l =
     let all = map site_of l.sites in
     record {
       written : l.numbers.items ++ map (rank_of_root all) (map site_of (drop l.i l.sites)) ≡ map (rank_of_root all) all;
-      last : MatchOption l.before (Unit {0}) (λ b. l.last ≡ rank_of_root all (site_of b.now));
+      before : MatchOption l.before (Unit {0}) (λ b. b.resource ≡ rank_of_root all (site_of b.site.now));
     }

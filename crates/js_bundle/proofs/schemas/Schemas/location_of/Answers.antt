@@ -1,4 +1,4 @@
-use Rattle.std.proofs.Common.{◌≡◌, ◌++◌, [], map, Some, option_map, ap, ◌∙◌, sym}
+use Rattle.std.proofs.Common.{◌++◌, [], map, Some, ap, ◌∙◌, sym}
 use Rattle.js_bundle.specs.code.KeptLocation.{kept_location}
 use Rattle.js_bundle.specs.Schemas.{place_at}
 use Rattle.js_bundle.specs.Seen.{document_of}
