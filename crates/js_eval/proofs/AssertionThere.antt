@@ -8,7 +8,7 @@ use Rattle.js_doc.specs.Value.{Value, null, truth, whole, text, list, object, Me
 use Rattle.js_assert.specs.Argument.{entries}
 use Rattle.js_assert.specs.Assertion.{Asserted, asserted}
 use Rattle.js_bundle.specs.Document.{Documents}
-use Rattle.js_bundle.specs.Keyword.{keywords}
+use Rattle.js_doc.specs.Parts.{members_of}
 use Rattle.js_bundle.specs.Resource.{Site, sites}
 use Rattle.js_bundle.specs.Schemas.{is_place, place_at, assertion}
 use Rattle.js_eval.specs.Bundle.{schemas_of}
@@ -16,11 +16,11 @@ use Rattle.js_eval.specs.Keywords.{Keyword}
 use Rattle.js_eval.specs.Sited.{numbered_site, nowhere}
 use Rattle.js_eval.specs.Walk.Told.{IsKeywordAt}
 
-of_object : (ms : Members) → keywords (object ms) ≡ entries (object ms)
+of_object : (ms : Members) → members_of (object ms) ≡ entries (object ms)
 of_object no_members = refl
 of_object (member name v ms) = ap (λ more. (name, v) ∷ more) (of_object ms)
 
-pub same_members : (v : Value) → keywords v ≡ entries v
+pub same_members : (v : Value) → members_of v ≡ entries v
 same_members null = refl
 same_members (truth b) = refl
 same_members (whole z) = refl
@@ -38,8 +38,8 @@ place_is documents n h = some_is (place_at documents n) _ (slice_get-get_or (sit
 at_site : (s : Site) (k : Keyword) → get k.0 (entries s.schema) ≡ Some k.1 → assertion k.0 s ≡ asserted k.0 k.1 (entries s.schema)
 at_site s k e =
     let same = same_members s.schema in
-    let found : get k.0 (keywords s.schema) ≡ Some k.1 = ap (get k.0) same ∙ e in
-    ap (λ o. option_and_then (λ v. asserted k.0 v (keywords s.schema)) o) found ∙ ap (λ ms. asserted k.0 k.1 ms) same
+    let found : get k.0 (members_of s.schema) ≡ Some k.1 = ap (get k.0) same ∙ e in
+    ap (λ o. option_and_then (λ v. asserted k.0 v (members_of s.schema)) o) found ∙ ap (λ ms. asserted k.0 k.1 ms) same
 
 pub assertion_is : (documents : Documents) (n : ℕ) (k : Keyword) (o : Option Asserted) → is_place documents n ≡ true → IsKeywordAt (schemas_of documents) (numbered_site documents n) k
     → o ≡ option_and_then (assertion k.0) (place_at documents n) → o ≡ asserted k.0 k.1 (entries (numbered_site documents n).schema)

@@ -4,14 +4,13 @@ use Rattle.std.proofs.Common.{sym, ◌∙◌, ap}
 use Rattle.js_assert.specs.Argument.{entries, values}
 use Rattle.js_bundle.specs.declared.keyword_name.KeywordName.{KeywordName}
 use Rattle.js_bundle.specs.declared.keyword_name.KeywordName.TheVariants as name
-use Rattle.js_bundle.specs.Keyword.{keywords}
 use Rattle.js_bundle.specs.KeywordName.{keyword_name}
 use Rattle.js_bundle.specs.Place.{items_in}
 use Rattle.js_bundle.specs.Place as bundle
 use Rattle.js_bundle.specs.Ranked.{HoldsAtRank, applies_at, is_alone, is_index, is_name}
 use Rattle.js_bundle.specs.Schemas.{Step, Alone, Index, Name}
 use Rattle.js_doc.specs.Members.{get}
-use Rattle.js_doc.specs.Parts.{item_list}
+use Rattle.js_doc.specs.Parts.{item_list, members_of}
 use Rattle.js_doc.specs.Value.{Value, null, truth, whole, text, list, object, Items, no_items, item}
 use Rattle.js_eval.specs.Keywords.{Keyword}
 use Rattle.js_eval.specs.Kind.{kind}
@@ -61,7 +60,7 @@ applies_is w κ name step e f h = ap (λ t. t step) (applies_by (keyword_name na
 
 -- ---- its argument
 
-pub argument_is : (v : Value) (k : Keyword) → IsIn v k → get k.0 (keywords v) ≡ Some k.1
+pub argument_is : (v : Value) (k : Keyword) → IsIn v k → get k.0 (members_of v) ≡ Some k.1
 argument_is v k e = ap (get k.0) (same_members v) ∙ e
 
 values_are : (vs : Items) → bundle.values vs ≡ item_list vs
