@@ -4,6 +4,7 @@ A check costs more than what it has to prove anew: reading the crate, and loadin
 don't touch each other's functions are made in one copy, and one `rt check` goes over the modules that they are in. A
 contract binds one function, so the prover tells of each function by itself whether its body meets it.
 """
+import os
 import re
 import shutil
 import subprocess
@@ -22,6 +23,14 @@ OF_NAMES = re.compile(r"has no field|is not in scope|has no `|was not admitted")
 OF_CALLEES = "it calls `"
 # Their functions are in no module.
 ROOTS = ("src/lib.rt", "src/main.rt")
+
+
+def link_or_copy(source, target):
+    """Links a file, or copies it where the folders are on different disks."""
+    try:
+        os.link(source, target)
+    except OSError:
+        shutil.copy2(source, target)
 
 
 @dataclass(frozen=True)
@@ -125,13 +134,20 @@ def apart(edits):
 class Quick:
     """Tries edits of one crate in a copy of the repository."""
 
-    def __init__(self, rt, crate, room):
-        self.rt, self.crate, self.folder = rt, crate, room / "crates" / crate
+    def __init__(self, rt, crate, room, kept=None):
+        """`kept`: a folder with what `rt check` kept of the crate without edits. Each check begins with that."""
+        self.rt, self.crate, self.folder, self.kept = rt, crate, room / "crates" / crate, kept
         self.printed, self.blocked = "", set()
 
     def forget(self):
         """Forgets what a check made: the next one would begin with that, where it was of other edits."""
         shutil.rmtree(self.folder / "out" / "incremental", ignore_errors=True)
+
+    def begin(self):
+        """Puts back what is kept of the crate without edits. rattle writes new files, so links to the old ones do."""
+        self.forget()
+        if self.kept and self.kept.is_dir():
+            shutil.copytree(self.kept, self.folder / "out" / "incremental", copy_function=link_or_copy)
 
     def check(self, edits, modules):
         """What the prover says of each function of the modules with these edits, or None where it comes to no end."""
@@ -141,7 +157,7 @@ class Quick:
             texts = it.applied(texts)
             if texts is None:
                 return None
-        self.forget()
+        self.begin()
         try:
             for path, text in texts.items():
                 (self.folder / path).write_text(text)
