@@ -45,7 +45,7 @@ fn convert_owned_items(alloc: Global, values: Vec<Value>) -> Result<Vec<Doc>, Re
         (λ v. items_in 0 (items_view values.items) ≡ Ok (items_seen v.items)) }
     ensures err { IfErr result (λ e. IsConversionFault (items_in 0 (items_view values.items)) e) }
 {
-    let mut docs = room(alloc, values.len())?;
+    let mut docs = values_with_room(alloc, values.len())?;
     for value in values {
         match convert_owned(alloc, value) {
             Ok(doc) => docs.push_reserved(doc),
@@ -75,7 +75,7 @@ fn convert_owned_members(alloc: Global, map: Map<String, Value>) -> Result<Membe
 }
 
 // No values, with room for so many.
-pub(crate) fn room(alloc: Global, len: usize) -> Result<Vec<Doc>, Memory>
+pub(crate) fn values_with_room(alloc: Global, len: usize) -> Result<Vec<Doc>, Memory>
     ensures items { IfOk result (λ v. v.items ≡ []) }
     ensures room { IfOk result (λ v. len ≤ vec_capacity v) }
 {

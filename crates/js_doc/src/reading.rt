@@ -8,7 +8,7 @@ ghost use Rattle.js_doc.specs.Seen.{value_of, items_seen};
 ghost use Rattle.js_doc.specs.WholeNumbers.{whole_number, value_in, items_in, members_in};
 ghost use Rattle.js_doc.specs.Reading.{IsReadAs, IsReadFault, IsConversionFault, Lifts};
 
-use crate::conversion::{convert_owned, room};
+use crate::conversion::{convert_owned, values_with_room};
 use crate::doc::Doc;
 use crate::items::Items;
 use crate::members::Members;
@@ -136,7 +136,7 @@ fn convert_items(alloc: Global, values: &Vec<Value>) -> Result<Vec<Doc>, ReadFau
         (λ v. items_in 0 (items_view values.now.items) ≡ Ok (items_seen v.items)) }
     ensures err { IfErr result (λ e. IsConversionFault (items_in 0 (items_view values.now.items)) e) }
 {
-    let mut docs = room(alloc, values.len())?;
+    let mut docs = values_with_room(alloc, values.len())?;
     for value in values {
         match convert(alloc, value) {
             Ok(doc) => docs.push_reserved(doc),

@@ -35,7 +35,7 @@ pub(crate) fn names_at(schemas: &Schemas, place: Place) -> &[KeywordName]
     requires { is_place schemas.now place ≡ true }
     ensures { result.now ≡ keyword_names_of (entries (numbered_site schemas.now place).schema) }
 {
-    schemas.keywords(place)
+    schemas.keyword_names(place)
 }
 
 /// The subschema that a step through a keyword leads to, and its place. `schema`: the schema at `place`, where the

@@ -7,7 +7,7 @@ use Rattle.js_doc.proofs.Named.{is_text-sound}
 use Rattle.js_bundle.specs.declared.index.text_prefix.Representation.{Representation}
 use Rattle.js_bundle.specs.declared.index.text_prefix.Representation.TheVariants.{Plain, Fragment}
 use Rattle.js_bundle.specs.declared.index.text_prefix.TextPrefix.{TextPrefix}
-use Rattle.js_bundle.specs.code.TextPrefix.{tokens_alike, written, BeginsWith, BeginsKey, BeginsLocation, IsExtended}
+use Rattle.js_bundle.specs.code.TextPrefix.{tokens_alike, text_of_tokens, BeginsWithTokens, BeginsKey, BeginsLocation, IsExtended}
 use Rattle.js_bundle.specs.code.KeptLocation.{repeated}
 use Rattle.js_bundle.specs.Location.{canonical, way}
 use Rattle.js_bundle.specs.Resource.{Site}
@@ -53,38 +53,38 @@ shared_ends q p i e = by_lists (drop i q) (drop i p) (length-drop i q) (length-d
 -- ---- the texts of one place
 
 -- the first n tokens are those of another text with the same head
-goes_on : (head : List ℕ) (form : Representation) (p q : Tokens) (b : TextPrefix) → BeginsWith head form p b → take b.tokens p ≡ take b.tokens q → BeginsWith head form q b
-goes_on head form p q b h same = record { text = h.text ∙ ap (λ ts. head ++ written form ts) same }
+goes_on : (head : List ℕ) (form : Representation) (p q : Tokens) (b : TextPrefix) → BeginsWithTokens head form p b → take b.tokens p ≡ take b.tokens q → BeginsWithTokens head form q b
+goes_on head form p q b h same = record { text = h.text ∙ ap (λ ts. head ++ text_of_tokens form ts) same }
 
-further : (head : List ℕ) (form : Representation) (p q : Tokens) → (head ++ written form p) ++ written form q ≡ head ++ written form (p ++ q)
-further head form p q = append_assoc head (written form p) (written form q) ∙ ap (λ x. head ++ x) (sym (written_append form p q))
+further : (head : List ℕ) (form : Representation) (p q : Tokens) → (head ++ text_of_tokens form p) ++ text_of_tokens form q ≡ head ++ text_of_tokens form (p ++ q)
+further head form p q = append_assoc head (text_of_tokens form p) (text_of_tokens form q) ∙ ap (λ x. head ++ x) (sym (written_append form p q))
 
 front_and_rest : (n m : ℕ) (p : Tokens) → n ≤ m → take n p ++ drop n (take m p) ≡ take m p
 front_and_rest n m p h = ap (λ f. f ++ drop n (take m p)) (sym (take-take n m p h)) ∙ take-append-drop n (take m p)
 
-pub extended_begins : (head : List ℕ) (form : Representation) (p q : Tokens) (count : ℕ) (old new : TextPrefix) (text : List ℕ) → q ≡ p → BeginsWith head form p old → old.tokens ≤ count
-    → IsExtended form q count old new text → BeginsWith head form p new
+pub extended_begins : (head : List ℕ) (form : Representation) (p q : Tokens) (count : ℕ) (old new : TextPrefix) (text : List ℕ) → q ≡ p → BeginsWithTokens head form p old → old.tokens ≤ count
+    → IsExtended form q count old new text → BeginsWithTokens head form p new
 extended_begins head form p q count old new text same h low e =
     let more = drop old.tokens (take count p) in
     record {
-      text = e.prefix ∙ ap (λ ts. string_bytes old.text ++ written form (drop old.tokens (take count ts))) same ∙ ap (λ t. t ++ written form more) h.text ∙ further head form (take old.tokens p) more
-          ∙ ap (λ ts. head ++ written form ts) (front_and_rest old.tokens count p low) ∙ ap (λ n. head ++ written form (take n p)) (sym e.reached);
+      text = e.prefix ∙ ap (λ ts. string_bytes old.text ++ text_of_tokens form (drop old.tokens (take count ts))) same ∙ ap (λ t. t ++ text_of_tokens form more) h.text ∙ further head form (take old.tokens p) more
+          ∙ ap (λ ts. head ++ text_of_tokens form ts) (front_and_rest old.tokens count p low) ∙ ap (λ n. head ++ text_of_tokens form (take n p)) (sym e.reached);
     }
 
-pub extended_whole : (head : List ℕ) (form : Representation) (p q : Tokens) (count : ℕ) (old new : TextPrefix) (text : List ℕ) → q ≡ p → BeginsWith head form p old → old.tokens ≤ count
-    → IsExtended form q count old new text → text ≡ head ++ written form p
+pub extended_whole : (head : List ℕ) (form : Representation) (p q : Tokens) (count : ℕ) (old new : TextPrefix) (text : List ℕ) → q ≡ p → BeginsWithTokens head form p old → old.tokens ≤ count
+    → IsExtended form q count old new text → text ≡ head ++ text_of_tokens form p
 extended_whole head form p q count old new text same h low e =
     let begun = extended_begins head form p q count old new text same h low e in
-    e.text ∙ ap (λ ts. string_bytes new.text ++ written form (drop count ts)) same
-    ∙ ap (λ t. t ++ written form (drop count p)) (begun.text ∙ ap (λ n. head ++ written form (take n p)) e.reached)
-    ∙ further head form (take count p) (drop count p) ∙ ap (λ ts. head ++ written form ts) (take-append-drop count p)
+    e.text ∙ ap (λ ts. string_bytes new.text ++ text_of_tokens form (drop count ts)) same
+    ∙ ap (λ t. t ++ text_of_tokens form (drop count p)) (begun.text ∙ ap (λ n. head ++ text_of_tokens form (take n p)) e.reached)
+    ∙ further head form (take count p) (drop count p) ∙ ap (λ ts. head ++ text_of_tokens form ts) (take-append-drop count p)
 
 -- ---- from the place before
 
 pub key_goes_on : (b : TextPrefix) (before place : Site) (most : ℕ) → BeginsKey b before → before.document ≡ place.document → b.tokens ≤ most → most ≤ tokens_alike place.pointer before.pointer → BeginsKey b place
 key_goes_on b before place most h same few low =
     goes_on (token_text (decimal place.document)) Plain before.pointer place.pointer b
-    (record { text = h.text ∙ ap (λ d. token_text (decimal d) ++ written Plain (take b.tokens before.pointer)) same })
+    (record { text = h.text ∙ ap (λ d. token_text (decimal d) ++ text_of_tokens Plain (take b.tokens before.pointer)) same })
     (shared_front b.tokens place.pointer before.pointer (omega (arith, few, low)))
 
 pub way_is : (place : Site) (w tokens root : Tokens) → w ≡ drop (length root) tokens → tokens ≡ place.pointer → root ≡ place.own.resource → w ≡ way place
@@ -97,5 +97,5 @@ location_goes_on b before place most h alike few low =
     let parts = and_parts (bytes_eq (repeated (printed before.own.base)) (repeated (printed place.own.base))) (length before.own.resource == length place.own.resource) alike in
     let deep : length before.own.resource ≡ length place.own.resource = eqb-true (length before.own.resource) (length place.own.resource) parts.1 in
     goes_on (repeated (canonical place) ++ codes "#") Fragment (way before) (way place) b
-    (record { text = h.text ∙ ap (λ t. (t ++ codes "#") ++ written Fragment (take b.tokens (way before))) (is_text-sound (repeated (printed before.own.base)) (repeated (printed place.own.base)) parts.0) })
+    (record { text = h.text ∙ ap (λ t. (t ++ codes "#") ++ text_of_tokens Fragment (take b.tokens (way before))) (is_text-sound (repeated (printed before.own.base)) (repeated (printed place.own.base)) parts.0) })
     (ap (λ n. take b.tokens (drop n before.pointer)) deep ∙ shared_way b.tokens (length place.own.resource) place.pointer before.pointer (omega (arith, few, low)))

@@ -6,27 +6,27 @@ use Rattle.js_doc.specs.Fragment.{fragment_byte, fragment_text}
 use Rattle.js_doc.specs.Pointer.{Tokens, pointer_text, token_text}
 use Rattle.js_bundle.specs.declared.index.text_prefix.Representation.{Representation}
 use Rattle.js_bundle.specs.declared.index.text_prefix.Representation.TheVariants.{Plain, Fragment}
-use Rattle.js_bundle.specs.code.TextPrefix.{token_written, written}
+use Rattle.js_bundle.specs.code.TextPrefix.{token_written, text_of_tokens}
 
-written_first : (form : Representation) (t : List ℕ) (p : Tokens) → written form (t ∷ p) ≡ token_written form t ++ written form p
+written_first : (form : Representation) (t : List ℕ) (p : Tokens) → text_of_tokens form (t ∷ p) ≡ token_written form t ++ text_of_tokens form p
 written_first Plain t p = refl
 written_first Fragment t p = flat_map-append fragment_byte (token_text t) (pointer_text p)
 
-pub written_append : (form : Representation) (p q : Tokens) → written form (p ++ q) ≡ written form p ++ written form q
+pub written_append : (form : Representation) (p q : Tokens) → text_of_tokens form (p ++ q) ≡ text_of_tokens form p ++ text_of_tokens form q
 written_append Plain [] q = refl
 written_append Fragment [] q = refl
 written_append form (t ∷ p) q =
-    written_first form t (p ++ q) ∙ ap (λ x. token_written form t ++ x) (written_append form p q) ∙ sym (append_assoc (token_written form t) (written form p) (written form q))
-    ∙ ap (λ x. x ++ written form q) (sym (written_first form t p))
+    written_first form t (p ++ q) ∙ ap (λ x. token_written form t ++ x) (written_append form p q) ∙ sym (append_assoc (token_written form t) (text_of_tokens form p) (text_of_tokens form q))
+    ∙ ap (λ x. x ++ text_of_tokens form q) (sym (written_first form t p))
 
 -- a token more is written
 pub written_next : (form : Representation) (tokens : Tokens) (i : ℕ) (token k : List ℕ) (before after whole : List ℕ) → i < length tokens → token ≡ get_or tokens i token → k ≡ token
-    → after ≡ before ++ token_written form k → before ++ written form (drop i tokens) ≡ whole → after ++ written form (drop (i + 1) tokens) ≡ whole
+    → after ≡ before ++ token_written form k → before ++ text_of_tokens form (drop i tokens) ≡ whole → after ++ text_of_tokens form (drop (i + 1) tokens) ≡ whole
 written_next form tokens i token k before after whole low is same pushed h =
-    ap (λ x. x ++ written form (drop (i + 1) tokens)) (pushed ∙ ap (λ x. before ++ token_written form x) same)
-    ∙ append_assoc before (token_written form token) (written form (drop (i + 1) tokens))
+    ap (λ x. x ++ text_of_tokens form (drop (i + 1) tokens)) (pushed ∙ ap (λ x. before ++ token_written form x) same)
+    ∙ append_assoc before (token_written form token) (text_of_tokens form (drop (i + 1) tokens))
     ∙ ap (λ x. before ++ x) (sym (written_first form token (drop (i + 1) tokens)))
-    ∙ ap (λ x. before ++ written form x) (ap (λ t. t ∷ drop (i + 1) tokens) is ∙ sym (drop_more tokens i token low)) ∙ h
+    ∙ ap (λ x. before ++ text_of_tokens form x) (ap (λ t. t ∷ drop (i + 1) tokens) is ∙ sym (drop_more tokens i token low)) ∙ h
 
 -- the parts of an absolute location
 pub parts_of : (base mark way keyword : List ℕ) (w k : Tokens) → way ≡ (base ++ mark) ++ fragment_text w → keyword ≡ way ++ fragment_text k → keyword ≡ base ++ (mark ++ fragment_text (w ++ k))

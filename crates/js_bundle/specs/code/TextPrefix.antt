@@ -27,24 +27,24 @@ abbrev pub token_written : Representation → List ℕ → List ℕ
 token_written Plain token = token_text token
 token_written Fragment token = fragment_token token
 
-abbrev pub written : Representation → Tokens → List ℕ
-written Plain tokens = pointer_text tokens
-written Fragment tokens = fragment_text tokens
+abbrev pub text_of_tokens : Representation → Tokens → List ℕ
+text_of_tokens Plain tokens = pointer_text tokens
+text_of_tokens Fragment tokens = fragment_text tokens
 
 -- the prefix is a head and the first tokens
-pub record BeginsWith (head : List ℕ) (form : Representation) (tokens : Tokens) (prefix : TextPrefix) : Type 0 where
-  pub text : string_bytes prefix.text ≡ head ++ written form (take prefix.tokens tokens)
+pub record BeginsWithTokens (head : List ℕ) (form : Representation) (tokens : Tokens) (prefix : TextPrefix) : Type 0 where
+  pub text : string_bytes prefix.text ≡ head ++ text_of_tokens form (take prefix.tokens tokens)
 
 -- the prefix goes on to the first tokens, so many of them, and the text to all
 pub record IsExtended (form : Representation) (tokens : Tokens) (count : ℕ) (old new : TextPrefix) (whole : List ℕ) : Type 0 where
   pub reached : new.tokens ≡ count
-  pub prefix : string_bytes new.text ≡ string_bytes old.text ++ written form (drop old.tokens (take count tokens))
-  pub text : whole ≡ string_bytes new.text ++ written form (drop count tokens)
+  pub prefix : string_bytes new.text ≡ string_bytes old.text ++ text_of_tokens form (drop old.tokens (take count tokens))
+  pub text : whole ≡ string_bytes new.text ++ text_of_tokens form (drop count tokens)
 
 -- of the key of a place
 abbrev pub BeginsKey : TextPrefix → Site → Type 0
-BeginsKey prefix place = BeginsWith (token_text (decimal place.document)) Plain place.pointer prefix
+BeginsKey prefix place = BeginsWithTokens (token_text (decimal place.document)) Plain place.pointer prefix
 
 -- of its location
 abbrev pub BeginsLocation : TextPrefix → Site → Type 0
-BeginsLocation prefix place = BeginsWith (repeated (canonical place) ++ codes "#") Fragment (way place) prefix
+BeginsLocation prefix place = BeginsWithTokens (repeated (canonical place) ++ codes "#") Fragment (way place) prefix

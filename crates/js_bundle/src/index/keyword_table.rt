@@ -23,7 +23,7 @@ pub(crate) struct KeywordTable {
 impl Schemas {
     /// Which keyword of the standard each of the place's keywords is, in the order of the schema's members: by name
     /// ascending. A schema that is `true` or `false` has none.
-    pub fn keywords(&self, place: Place) -> &[KeywordName]
+    pub fn keyword_names(&self, place: Place) -> &[KeywordName]
         requires { is_place self.now place ≡ true }
         ensures { option_map keyword_names (place_at self.now place) ≡ Some result.now }
     {

@@ -58,7 +58,7 @@ impl TextPrefix {
     ) -> Result<(), Memory>
         requires { count ≤ length tokens.now }
         ensures text { OnOk result (string_bytes self.new.text
-            ≡ string_bytes self.old.text ++ spec.written form (drop self.old.tokens (take count tokens.now))) }
+            ≡ string_bytes self.old.text ++ spec.text_of_tokens form (drop self.old.tokens (take count tokens.now))) }
         ensures tokens { OnOk result (self.new.tokens ≡ count) }
     {
         push_tokens(&mut self.text, form, &tokens[..count], self.tokens)?;
@@ -87,7 +87,7 @@ pub(crate) fn push_tokens(
     tokens: &[Token],
     from: usize,
 ) -> Result<(), Memory>
-    ensures { OnOk result (string_bytes text.new ≡ string_bytes text.old ++ spec.written form (drop from tokens.now)) }
+    ensures { OnOk result (string_bytes text.new ≡ string_bytes text.old ++ spec.text_of_tokens form (drop from tokens.now)) }
 {
     for i in from..tokens.len() {
         push_one(text, form, tokens[i].as_str())?;

@@ -82,21 +82,21 @@ fn standing(rt: &HostRuntime, schemas: &Schemas, place: Place) -> Result<String,
     requires { is_place schemas.now place ≡ true }
 {
     mark_begin(rt);
-    let is_place = schemas.has(place);
-    let (location, rest) = schemas.location_of(place);
-    let document = schemas.document(place);
+    let has = schemas.has(place);
+    let (start, rest) = schemas.location_of(place);
+    let number = schemas.document(place);
     let pointer = schemas.pointer(place);
     let schema = schemas.schema(place);
-    let keywords = schemas.keywords(place);
-    let resource = schemas.resource(place);
-    let number = schemas.resource_number(place);
+    let names = schemas.keyword_names(place);
+    let uri = schemas.resource(place);
+    let rank = schemas.resource_number(place);
     let count = schemas.resource_count();
     mark_end(rt);
     let alloc = rt.alloc();
     let pointer = pointer.text(alloc)?;
     let schema = text(alloc, schema)?;
     Ok(format!(in alloc;
-        "{is_place} {location}{rest}, document {document} at {pointer}, resource {number} of {count}, {resource}: {schema} {keywords:?}"
+        "{has} {start}{rest}, document {number} at {pointer}, resource {rank} of {count}, {uri}: {schema} {names:?}"
     )?)
 }
 

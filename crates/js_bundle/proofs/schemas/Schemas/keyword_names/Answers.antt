@@ -2,7 +2,7 @@ use Rattle.std.proofs.Common.{map}
 use Rattle.js_bundle.specs.KeywordName.{keyword_names}
 use Rattle.js_bundle.specs.Seen.{document_of}
 use Rattle.js_bundle.proofs.Indexing.PartsOfPlaces.{part_of}
-use Rattle.js_bundle.proofs.schemas.Schemas.keywords.Goals as goal
+use Rattle.js_bundle.proofs.schemas.Schemas.keyword_names.Goals as goal
 
 pub returns : goal.returns
 returns c =
