@@ -87,7 +87,8 @@ pub(crate) fn push_tokens(
     tokens: &[Token],
     from: usize,
 ) -> Result<(), Memory>
-    ensures { OnOk result (string_bytes text.new ≡ string_bytes text.old ++ spec.text_of_tokens form (drop from tokens.now)) }
+    ensures { OnOk result (string_bytes text.new
+        ≡ string_bytes text.old ++ spec.text_of_tokens form (drop from tokens.now)) }
 {
     for i in from..tokens.len() {
         push_one(text, form, tokens[i].as_str())?;
