@@ -93,7 +93,7 @@ impl Locations {
         ensures { IsDown self.old row.now self.new }
     {
         add_part(&mut self.keyword, row.keyword_slash, row.keyword);
-        let _ = self.instance.extend_from_slice(row.instance);
+        add_text(&mut self.instance, row.instance);
     }
 
     /// Goes back from the node of the row to the node above.
@@ -122,6 +122,7 @@ impl Locations {
     }
 
     // Writes the instance location, given with what stands before it, and what follows.
+    #[inline(always)]
     fn put_from<O: Out>(&self, instance: &[u8], valid: bool, out: &mut O) -> Result<(), Stopped>
         ensures { (keyword there : List ℕ) → AreAt self.now keyword there
             → Puts (O.progress out.old) (O.progress out.new)
@@ -165,6 +166,19 @@ fn add_part(location: &mut Vec<u8>, slash: bool, text: &[u8])
 {
     if slash {
         let _ = location.push(b'/');
+    }
+    let _ = location.extend_from_slice(text);
+}
+
+// Adds text to a location, which has the memory for it. Most rows add none to instance locations.
+#[inline(always)]
+fn add_text(location: &mut Vec<u8>, text: &[u8])
+    requires { length location.old.items + length text.now ≤ vec_capacity location.old }
+    ensures items { location.new.items ≡ location.old.items ++ text.now }
+    ensures capacity { vec_capacity location.old ≤ vec_capacity location.new }
+{
+    if text.is_empty() {
+        return;
     }
     let _ = location.extend_from_slice(text);
 }

@@ -303,13 +303,25 @@ pub(crate) fn behind(text: &[u8], length: usize) -> &[u8]
     }
 }
 
-// The bytes with their escapes, in the arena.
+// The bytes with their escapes, in the arena. Mostly there are none.
+#[inline(always)]
 fn in_arena<'a>(arena: &'a Bump, scratch: &mut Vec<u8>, bytes: &[u8]) -> Result<&'a [u8], Memory>
     ensures { IfOk result (λ b. b.now ≡ escape bytes.now) }
 {
     if bytes.is_empty() {
         return Ok(&[]);
     }
+    some_in_arena(arena, scratch, bytes)
+}
+
+#[inline(never)]
+fn some_in_arena<'a>(
+    arena: &'a Bump,
+    scratch: &mut Vec<u8>,
+    bytes: &[u8],
+) -> Result<&'a [u8], Memory>
+    ensures { IfOk result (λ b. b.now ≡ escape bytes.now) }
+{
     if !stand_as_they_are(bytes) {
         return escaped_in_arena(arena, scratch, bytes);
     }
