@@ -88,6 +88,7 @@ impl Locations {
     }
 
     /// Goes from the node above to the node of the row. It allocates nothing.
+    #[inline(always)]
     pub(crate) fn go_to_node(&mut self, row: &RelativeRow)
         requires { HasRoom self.old (row.now ∷ []) }
         ensures { IsDown self.old row.now self.new }
@@ -152,10 +153,7 @@ fn with_part(count: usize, slash: bool, text: &[u8]) -> Result<usize, Memory>
     ensures { IfOk result (λ n. n ≡ count + length (part slash text.now)) }
 {
     let more = count.checked_add(text.len()).ok_or(Memory)?;
-    if slash {
-        return more.checked_add(1).ok_or(Memory);
-    }
-    Ok(more)
+    more.checked_add(usize::from(slash)).ok_or(Memory)
 }
 
 // Adds a part to a location, which has the memory for it.

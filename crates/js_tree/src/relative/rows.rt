@@ -16,6 +16,7 @@ use crate::note::Note;
 use bumpalo::Bump;
 use js_doc::{Memory, put_escaped, stand_as_they_are};
 use std::alloc::Global;
+use std::mem::{forget, replace};
 
 /// A row of `RelativeRows`: a node, without what the rows above it say of its locations.
 #[derive(Drop)]
@@ -186,7 +187,8 @@ impl<'a> RelativeRows<'a> {
                 } else {
                     let row = &mut self.rows[number];
                     row.valid = valid;
-                    row.note = note;
+                    // The note of an open node is silent: there is nothing to drop.
+                    forget(replace(&mut row.note, note));
                     row.size = size;
                 }
             }
