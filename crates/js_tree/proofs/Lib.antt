@@ -43,6 +43,7 @@ pub mod Searching
 pub mod Siblings
 pub mod SiblingsDiffer
 pub mod SilentLeaves
+pub mod SilentNodes
 pub mod Steps
 pub mod Telling
 pub mod TrimmedTold

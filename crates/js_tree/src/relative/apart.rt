@@ -84,6 +84,7 @@ fn last_bytes(text: &[u8], length: usize) -> &[u8]
 }
 
 // Whether texts that end with these differ, because the shorter of them isn't the end of the longer.
+#[inline(always)]
 fn ends_differ(first: &[u8], second: &[u8]) -> bool
     ensures { IsTrue result → (s t : List ℕ) → s ++ first.now ≢ t ++ second.now }
 {

@@ -47,7 +47,18 @@ fn roots_differ(rows: &[RelativeRow]) -> bool
     ensures { (f : Forest OutputUnit) → map relative_row rows.now ≡ flat_of f → IsTrue result
         → roots_differ f ≡ true }
 {
-    roots_ascend(rows) || pairs_differ(rows)
+    (may_ascend(rows) && roots_ascend(rows)) || pairs_differ(rows)
+}
+
+// Whether the second root adds to the instance location. If it doesn't, it doesn't come after the first.
+fn may_ascend(rows: &[RelativeRow]) -> bool {
+    let Some(first) = rows.first() else {
+        return true;
+    };
+    let Some(second) = rows.get(first.size) else {
+        return true;
+    };
+    !second.instance.is_empty()
 }
 
 // Whether what each root adds to the instance location comes after what the one before adds.

@@ -6,13 +6,13 @@ use js_doc::{Memory, Out, Stopped};
 use std::alloc::Global;
 
 /// Text in memory that the pieces of nodes are put into. They go out together, since each call of another output costs
-/// as much as some hundred bytes. It has a limit, so nothing is allocated while it is used.
+/// as much as some hundred bytes. Its memory is its limit, so nothing is allocated while it is used.
 #[derive(Drop)]
 pub(crate) struct Gathered {
     pub(crate) text: Vec<u8>,
 }
 
-// Longer text doesn't fit.
+// How much memory it has. Longer text doesn't fit.
 const LONGEST: usize = 8192;
 
 impl Gathered {
@@ -76,7 +76,7 @@ impl Out for Gathered {
 
     #[inline(always)]
     fn put(&mut self, bytes: &[u8]) -> Result<(), Stopped> {
-        let room = LONGEST.saturating_sub(self.text.len());
+        let room = self.text.capacity() - self.text.len();
         if room < bytes.len() {
             return Err(Stopped);
         }

@@ -63,20 +63,12 @@ fn keep_marked<'a>(
     };
     let start = between.end();
     let marks = marks.marks.as_slice();
-    let mut kept = Vec::with_capacity(alloc, staying(marks))?;
+    // No more rows stay. Reserved memory that is never used costs nothing.
+    let mut kept = Vec::with_capacity(alloc, marks.len())?;
     let arena = rows.arena;
     keep_node(arena, &mut rows.rows, marks, start, &mut between, &mut kept)?;
     rows.rows = kept;
     Ok(rows)
-}
-
-// So many nodes stay: the root does whatever its mark says.
-fn staying(marks: &[Mark]) -> usize {
-    marks
-        .iter()
-        .filter(|mark| mark.stays)
-        .count()
-        .saturating_add(1)
 }
 
 impl Between {
@@ -95,8 +87,7 @@ impl Between {
         ensures { OnOk result (AreLonger self.old row.now self.new) }
     {
         add_part(&mut self.keyword, row.keyword_slash, row.keyword)?;
-        self.instance.extend_from_slice(row.instance)?;
-        Ok(())
+        add_text(&mut self.instance, row.instance)
     }
 
     // Takes away what was added behind this.
@@ -174,7 +165,8 @@ fn move_row<'a>(
         ≡ map relative_row kept.old.items ++ ((relative_row row.old).0, size) ∷ []) }
     ensures count { OnOk result (length kept.new.items ≡ length kept.old.items + 1) }
 {
-    kept.push(RelativeRow {
+    kept.reserve(1)?;
+    kept.push_reserved(RelativeRow {
         valid: row.valid,
         keyword_slash: row.keyword_slash,
         absolute_slash: row.absolute_slash,
@@ -184,7 +176,7 @@ fn move_row<'a>(
         absolute: row.absolute,
         note: replace(&mut row.note, Note::Silent),
         size,
-    })?;
+    });
     Ok(())
 }
 
@@ -315,6 +307,18 @@ fn add_part(location: &mut Vec<u8>, slash: bool, text: &[u8]) -> Result<(), Memo
 {
     if slash {
         location.push(b'/')?;
+    }
+    location.extend_from_slice(text)?;
+    Ok(())
+}
+
+// Adds text to what is there. Most rows add none to instance locations.
+#[inline(always)]
+fn add_text(location: &mut Vec<u8>, text: &[u8]) -> Result<(), Memory>
+    ensures { OnOk result (location.new.items ≡ location.old.items ++ text.now) }
+{
+    if text.is_empty() {
+        return Ok(());
     }
     location.extend_from_slice(text)?;
     Ok(())

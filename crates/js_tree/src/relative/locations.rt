@@ -88,12 +88,13 @@ impl Locations {
     }
 
     /// Goes from the node above to the node of the row. It allocates nothing.
+    #[inline(always)]
     pub(crate) fn go_to_node(&mut self, row: &RelativeRow)
         requires { HasRoom self.old (row.now ∷ []) }
         ensures { IsDown self.old row.now self.new }
     {
         add_part(&mut self.keyword, row.keyword_slash, row.keyword);
-        let _ = self.instance.extend_from_slice(row.instance);
+        add_text(&mut self.instance, row.instance);
     }
 
     /// Goes back from the node of the row to the node above.
@@ -122,6 +123,7 @@ impl Locations {
     }
 
     // Writes the instance location, given with what stands before it, and what follows.
+    #[inline(always)]
     fn put_from<O: Out>(&self, instance: &[u8], valid: bool, out: &mut O) -> Result<(), Stopped>
         ensures { (keyword there : List ℕ) → AreAt self.now keyword there
             → Puts (O.progress out.old) (O.progress out.new)
@@ -151,10 +153,7 @@ fn with_part(count: usize, slash: bool, text: &[u8]) -> Result<usize, Memory>
     ensures { IfOk result (λ n. n ≡ count + length (part slash text.now)) }
 {
     let more = count.checked_add(text.len()).ok_or(Memory)?;
-    if slash {
-        return more.checked_add(1).ok_or(Memory);
-    }
-    Ok(more)
+    more.checked_add(usize::from(slash)).ok_or(Memory)
 }
 
 // Adds a part to a location, which has the memory for it.
@@ -165,6 +164,19 @@ fn add_part(location: &mut Vec<u8>, slash: bool, text: &[u8])
 {
     if slash {
         let _ = location.push(b'/');
+    }
+    let _ = location.extend_from_slice(text);
+}
+
+// Adds text to a location, which has the memory for it. Most rows add none to instance locations.
+#[inline(always)]
+fn add_text(location: &mut Vec<u8>, text: &[u8])
+    requires { length location.old.items + length text.now ≤ vec_capacity location.old }
+    ensures items { location.new.items ≡ location.old.items ++ text.now }
+    ensures capacity { vec_capacity location.old ≤ vec_capacity location.new }
+{
+    if text.is_empty() {
+        return;
     }
     let _ = location.extend_from_slice(text);
 }

@@ -41,6 +41,7 @@ impl Opening {
     }
 
     /// Whether this location is kept now. It isn't if it has escapes or is very long.
+    #[inline(always)]
     pub fn keeps_schema(&mut self, schema: &[u8]) -> bool
         ensures { result ≡ true → (schema_kept self.new.text.items ≡ schema.now) × (escape schema.now ≡ schema.now) }
     {
@@ -69,6 +70,7 @@ impl Opening {
     }
 
     // Keeps this location, unless it has escapes or is very long.
+    #[inline(never)]
     fn keep(&mut self, schema: &[u8]) -> bool
         ensures { result ≡ true → (schema_kept self.new.text.items ≡ schema.now) × (escape schema.now ≡ schema.now) }
     {

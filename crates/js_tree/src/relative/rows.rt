@@ -16,6 +16,7 @@ use crate::note::Note;
 use bumpalo::Bump;
 use js_doc::{Memory, put_escaped, stand_as_they_are};
 use std::alloc::Global;
+use std::mem::{forget, replace};
 
 /// A row of `RelativeRows`: a node, without what the rows above it say of its locations.
 #[derive(Drop)]
@@ -186,7 +187,8 @@ impl<'a> RelativeRows<'a> {
                 } else {
                     let row = &mut self.rows[number];
                     row.valid = valid;
-                    row.note = note;
+                    // The note of an open node is silent: there is nothing to drop.
+                    forget(replace(&mut row.note, note));
                     row.size = size;
                 }
             }
@@ -303,13 +305,25 @@ pub(crate) fn behind(text: &[u8], length: usize) -> &[u8]
     }
 }
 
-// The bytes with their escapes, in the arena.
+// The bytes with their escapes, in the arena. Mostly there are none.
+#[inline(always)]
 fn in_arena<'a>(arena: &'a Bump, scratch: &mut Vec<u8>, bytes: &[u8]) -> Result<&'a [u8], Memory>
     ensures { IfOk result (λ b. b.now ≡ escape bytes.now) }
 {
     if bytes.is_empty() {
         return Ok(&[]);
     }
+    some_in_arena(arena, scratch, bytes)
+}
+
+#[inline(never)]
+fn some_in_arena<'a>(
+    arena: &'a Bump,
+    scratch: &mut Vec<u8>,
+    bytes: &[u8],
+) -> Result<&'a [u8], Memory>
+    ensures { IfOk result (λ b. b.now ≡ escape bytes.now) }
+{
     if !stand_as_they_are(bytes) {
         return escaped_in_arena(arena, scratch, bytes);
     }

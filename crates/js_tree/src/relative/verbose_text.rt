@@ -1,5 +1,5 @@
 //! The text of the verbose format, from relative rows.
-ghost use Rattle.std.specs.Prelude.{◌≡◌, ◌++◌, List, ℕ, codes, false, OnOk};
+ghost use Rattle.std.specs.Prelude.{◌≡◌, ◌++◌, ◌∷◌, List, ℕ, codes, false, OnOk};
 ghost use Rattle.js_doc.specs.BytesOut.{Puts};
 ghost use Rattle.js_doc.specs.Compact.{comma_if, compact};
 ghost use Rattle.js_tree.specs.Forest.{Forest};
@@ -12,6 +12,7 @@ ghost use Rattle.js_tree.specs.Result.{ResultTree};
 ghost use Rattle.js_tree.specs.Seen.{note_of};
 ghost use Rattle.js_tree.specs.code.Gathering.{Passed};
 ghost use Rattle.js_tree.specs.code.Listing.{values_text};
+ghost use Rattle.js_tree.specs.code.NodeText.{annotation_part};
 ghost use Rattle.js_tree.specs.code.RelativeText.{AreRowsOfTree, AreRowsOfTrees, IsAbsolute, after_children};
 ghost use Rattle.js_tree.specs.code.RelativeText.{before_children, children_start, error_behind, opening_text};
 ghost use Rattle.js_tree.specs.code.RelativeText.{unit_there};
@@ -163,8 +164,23 @@ fn put_front<O: Out>(
     ensures back { IsBack locations.old locations.new }
 {
     put_opening(later, row, locations, out)?;
-    put_closed_annotation(&row.note, out)?;
-    put_list_start(&row.note, row.valid, out)
+    put_before_list(&row.note, row.valid, out)
+}
+
+/// Writes the closing quotation mark of the absolute location and what stands between that and the children.
+fn put_before_list<O: Out>(note: &Note, valid: bool, out: &mut O) -> Result<(), Stopped>
+    ensures { Puts (O.progress out.old) (O.progress out.new)
+        ((34 ∷ annotation_part (note_of note.now)) ++ children_start (note_of note.now) valid) result }
+{
+    if note.is_some() {
+        put_closed_annotation(note, out)?;
+        return put_list_start(note, valid, out);
+    }
+    if valid {
+        out.put(b"\",\"annotations\":[")
+    } else {
+        out.put(b"\",\"errors\":[")
+    }
 }
 
 /// Writes the beginning of the list of children, and the error if it stands before them.
@@ -221,6 +237,7 @@ fn put_error_behind<O: Out>(note: &Note, valid: bool, out: &mut O) -> Result<(),
 
 /// Writes the beginning of a node, up to the end of its absolute location, without the closing quotation mark. What
 /// stands before its token is kept for the next node.
+#[inline(always)]
 pub(crate) fn put_opening<O: Out>(
     later: bool,
     row: &RelativeRow,

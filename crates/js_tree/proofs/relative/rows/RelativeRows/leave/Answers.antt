@@ -1,4 +1,6 @@
-use Rattle.std.proofs.Common.{arith, refl}
+use Rattle.std.proofs.Common.{◌-◌, ap, arith}
+use Rattle.js_tree.specs.FlatState.{closed_row}
+use Rattle.js_tree.specs.RelativeState.{relative_row}
 use Rattle.js_tree.specs.Seen.{note_of}
 use Rattle.js_tree.proofs.RelativeTold.{closes, closes_beyond, drops}
 use Rattle.js_tree.proofs.relative.rows.RelativeRows.leave.Goals as goal
@@ -14,7 +16,8 @@ pub returns-else-goes : goal.returns-else-goes
 returns-else-goes c =
     let l = c.len-count.ensures in
     let rows_len = c.args.self.now.rows.ok in
-    closes c.args.self.now.rows.items c.args.self.now.nodes.items c.pop.new.self.items c.in-Some.node c.index_mut-row.result.now _ c.args.valid (note_of c.args.note) _ c.in-Some.ensures.items (omega (arith, l, rows_len, c.if-number-count.true)) (omega (arith, l, rows_len)) c.if-goes.ensures c.index_mut-row.ensures.value refl
+    closes c.args.self.now.rows.items c.args.self.now.nodes.items c.pop.new.self.items c.in-Some.node c.index_mut-row.result.now _ c.args.valid (note_of c.args.note) _ c.in-Some.ensures.items (omega (arith, l, rows_len, c.if-number-count.true)) (omega (arith, l, rows_len)) c.if-goes.ensures c.index_mut-row.ensures.value
+    (ap (λ n. closed_row (relative_row c.index_mut-row.result.now) c.args.valid (note_of n) (c.len-count.result - c.in-Some.node.number)) c.replace.ensures.after)
 
 pub returns-else-number-count : goal.returns-else-number-count
 returns-else-number-count c =
