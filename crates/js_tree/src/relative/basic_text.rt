@@ -12,7 +12,7 @@ ghost use Rattle.js_tree.specs.Seen.{note_of};
 ghost use Rattle.js_tree.specs.RelativeState.{AreRowsOf, AreWhole, relative_row};
 ghost use Rattle.js_tree.specs.Result.{ResultTree, pruned};
 ghost use Rattle.js_tree.specs.code.NodeText.{annotation_part, end_text, error_part, list_start, valid_text};
-ghost use Rattle.js_tree.specs.code.Gathering.{Passed};
+ghost use Rattle.js_tree.specs.code.Gathering.{GathersOrStops};
 ghost use Rattle.js_tree.specs.code.Listing.{AreListed, if_noted, listed, listed_tree, may_list};
 ghost use Rattle.js_tree.specs.code.RelativeText.{AreRowsOfTree, AreRowsOfTrees, IsAbsolute, unit_there};
 
@@ -168,7 +168,7 @@ pub(crate) fn add_unit<O: Out>(
 ) -> Result<(), Stopped>
     ensures text { (keyword absolute instance : List ℕ) → AreAt locations.old keyword instance
         → IsAbsolute row.now absolute
-        → Passed (O.progress out.old) (O.progress out.new) gathered.old.text.items gathered.new.text.items
+        → GathersOrStops (O.progress out.old) (O.progress out.new) gathered.old.text.items gathered.new.text.items
         (comma_if later ++ compact (node_value (unit_there row.now keyword absolute instance) [])) result }
     ensures back { IsBack locations.old locations.new }
 {

@@ -13,7 +13,7 @@ pub(crate) struct Gathered {
 }
 
 // How much memory it has. Longer text doesn't fit.
-const LONGEST: usize = 8192;
+const CAPACITY: usize = 8192;
 
 impl Gathered {
     /// No text, and all the memory that it will need.
@@ -21,7 +21,7 @@ impl Gathered {
     /// # Errors
     /// `Memory` if an allocation fails.
     pub fn new(alloc: Global) -> Result<Gathered, Memory> {
-        let text = Vec::with_capacity(alloc, LONGEST)?;
+        let text = Vec::with_capacity(alloc, CAPACITY)?;
         Ok(Gathered { text })
     }
 

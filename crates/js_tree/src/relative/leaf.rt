@@ -10,8 +10,8 @@ use crate::relative::rows::{MOST, OpenNode, RelativeRow, RelativeRows, goes};
 use js_doc::Memory;
 
 impl<'a> RelativeRows<'a> {
-    /// Whether a keyword's leaf may be added below a schema's node at these locations (`add_leaf`). True where that node
-    /// is the innermost open one, unless rows or open nodes are as many as a vector can hold.
+    /// Whether a keyword's leaf may be added below a schema's node at these locations (`add_leaf`). True where that
+    /// node is the innermost open one, unless rows or open nodes are as many as a vector can hold.
     pub fn takes_leaf(&self, keyword: &str, instance: &str) -> bool
         ensures { result ≡ true → TakesLeafAt self.now keyword.now instance.now }
     {

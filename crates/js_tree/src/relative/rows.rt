@@ -359,8 +359,8 @@ fn is_token(added: &[u8], name: &[u8]) -> bool
 }
 
 // The bytes with their escapes: what is kept of those that are added to the keyword location, if they are the same, and
-// otherwise in the arena. Most keywords' names add the same to both keyword locations, and most schemas that are applied
-// to members add the same to the keyword location and the instance location.
+// otherwise in the arena. Most keywords' names add the same to both keyword locations, and most schemas that are
+// applied to members add the same to the keyword location and the instance location.
 fn shared_or_in_arena<'a>(
     arena: &'a Bump,
     scratch: &mut Vec<u8>,

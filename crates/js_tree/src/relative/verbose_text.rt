@@ -10,7 +10,7 @@ ghost use Rattle.js_tree.specs.Relative.{placed, placed_tree};
 ghost use Rattle.js_tree.specs.RelativeState.{AreRowsOf, AreWhole, part};
 ghost use Rattle.js_tree.specs.Result.{ResultTree};
 ghost use Rattle.js_tree.specs.Seen.{note_of};
-ghost use Rattle.js_tree.specs.code.Gathering.{Passed};
+ghost use Rattle.js_tree.specs.code.Gathering.{GathersOrStops};
 ghost use Rattle.js_tree.specs.code.Listing.{values_text};
 ghost use Rattle.js_tree.specs.code.NodeText.{annotation_part};
 ghost use Rattle.js_tree.specs.code.RelativeText.{AreRowsOfTree, AreRowsOfTrees, IsAbsolute, after_children};
@@ -48,7 +48,8 @@ pub fn put_verbose<O: Out>(
     out.put(gathered.as_slice())
 }
 
-/// Gathers and writes the tree of the rows, below a node with these locations; after a comma, if it isn't the first in its list.
+/// Gathers and writes the tree of the rows, below a node with these locations; after a comma, if it isn't the first in
+/// its list.
 #[cycle(put_tree)]
 #[inline(always)]
 fn put_tree<O: Out>(
@@ -61,7 +62,7 @@ fn put_tree<O: Out>(
     requires { (r : ResultTree) × AreRowsOfTree rows.now r × HasRoom locations.old rows.now }
     ensures text { (r : ResultTree) (keyword instance : List ℕ) → AreAt locations.old keyword instance
         → AreRowsOfTree rows.now r
-        → Passed (O.progress out.old) (O.progress out.new) gathered.old.text.items gathered.new.text.items
+        → GathersOrStops (O.progress out.old) (O.progress out.new) gathered.old.text.items gathered.new.text.items
         (comma_if later ++ compact (verbose (placed_tree keyword instance r))) result }
     ensures back { OnOk result (IsBack locations.old locations.new) }
 {
@@ -86,7 +87,7 @@ fn put_node<O: Out>(
     requires { (f : Forest OutputUnit) × AreRowsOfTrees below.now f × HasRoom locations.old below.now }
     ensures text { (f : Forest OutputUnit) (keyword absolute instance : List ℕ) → AreAt locations.old keyword instance
         → IsAbsolute row.now absolute → AreRowsOfTrees below.now f
-        → Passed (O.progress out.old) (O.progress out.new) gathered.old.text.items gathered.new.text.items
+        → GathersOrStops (O.progress out.old) (O.progress out.new) gathered.old.text.items gathered.new.text.items
         (comma_if later ++ compact (node_value (unit_there row.now keyword absolute instance)
         (node_values (placed keyword instance f)))) result }
     ensures back { OnOk result (IsBack locations.old locations.new) }
@@ -110,7 +111,7 @@ fn put_trees<O: Out>(
     requires { (f : Forest OutputUnit) × AreRowsOfTrees rows.now f × HasRoom locations.old rows.now }
     ensures text { (f : Forest OutputUnit) (keyword instance : List ℕ) → AreAt locations.old keyword instance
         → AreRowsOfTrees rows.now f
-        → Passed (O.progress out.old) (O.progress out.new) gathered.old.text.items gathered.new.text.items
+        → GathersOrStops (O.progress out.old) (O.progress out.new) gathered.old.text.items gathered.new.text.items
         (values_text false (node_values (placed keyword instance f))) result }
     ensures back { OnOk result (IsBack locations.old locations.new) }
 {
@@ -137,7 +138,7 @@ fn add_front<O: Out>(
     out: &mut O,
 ) -> Result<(), Stopped>
     ensures text { (absolute : List ℕ) → IsAbsolute row.now absolute
-        → Passed (O.progress out.old) (O.progress out.new) gathered.old.text.items gathered.new.text.items
+        → GathersOrStops (O.progress out.old) (O.progress out.new) gathered.old.text.items gathered.new.text.items
         (before_children later absolute (note_of row.now.note) row.now.valid) result }
     ensures back { IsBack locations.old locations.new }
 {
@@ -203,7 +204,7 @@ fn add_back<O: Out>(
     out: &mut O,
 ) -> Result<(), Stopped>
     ensures { (keyword instance : List ℕ) → AreAt locations.now keyword instance
-        → Passed (O.progress out.old) (O.progress out.new) gathered.old.text.items gathered.new.text.items
+        → GathersOrStops (O.progress out.old) (O.progress out.new) gathered.old.text.items gathered.new.text.items
         (after_children instance keyword (note_of row.now.note) row.now.valid) result }
 {
     let before = gathered.len();

@@ -4,7 +4,7 @@ use Rattle.js_tree.specs.Form.{node_values, verbose}
 use Rattle.js_tree.specs.Relative.{escaped_tree, placed, placed_tree}
 use Rattle.js_tree.specs.RelativeState.{relative_row}
 use Rattle.js_tree.specs.Result.{ResultTree}
-use Rattle.js_tree.specs.code.Gathering.{Passed, Passes}
+use Rattle.js_tree.specs.code.Gathering.{GathersOrStops, Gathers}
 use Rattle.js_tree.specs.code.Listing.{values_text}
 use Rattle.js_tree.specs.code.RelativeText.{after_children, before_children, unit_there}
 use Rattle.js_tree.proofs.ChildTexts.{rest_of}
@@ -28,7 +28,7 @@ put_tree-returns-in_err-put_node-clause-text g t c =
     let down = at_below c.args.locations.now c.go_to_node.new.self x t'.root k i at c.go_to_node.ensures root in
     let is = root_there c.args.later k i x t' root in
     let r = c.from_residual.result in
-    subst (λ l. Passed (o c.args.out.now) (o c.put_node.new.out) p q l r) is
+    subst (λ l. GathersOrStops (o c.args.out.now) (o c.put_node.new.out) p q l r) is
     (stopped_last (o c.args.out.now) (o c.put_node.new.out) p q _ r c.from_residual.ensures.0 (c.in_err-put_node.ensures.text t'.below (k ++ t'.root.keyword) t'.root.absolute (i ++ t'.root.instance) down (is_absolute x t'.root root) below))
 
 pub put_tree-returns-clause-text : goal.put_tree-returns-clause-text
@@ -43,7 +43,7 @@ put_tree-returns-clause-text g t c =
     let root = root_row relative_row rows (escaped_tree t') x e c.index-rows-0.is in
     let down = at_below c.args.locations.now c.go_to_node.new.self x t'.root k i at c.go_to_node.ensures root in
     let is = root_there c.args.later k i x t' root in
-    subst (Passes (o c.args.out.now) (o c.put_node.new.out) p q) is (c.in_ok-put_node.ensures.text t'.below (k ++ t'.root.keyword) t'.root.absolute (i ++ t'.root.instance) down (is_absolute x t'.root root) below)
+    subst (Gathers (o c.args.out.now) (o c.put_node.new.out) p q) is (c.in_ok-put_node.ensures.text t'.below (k ++ t'.root.keyword) t'.root.absolute (i ++ t'.root.instance) down (is_absolute x t'.root root) below)
 
 pub put_node-returns-then-is_empty-clause-text : goal.put_node-returns-then-is_empty-clause-text
 put_node-returns-then-is_empty-clause-text g t c =
@@ -53,7 +53,7 @@ put_node-returns-then-is_empty-clause-text g t c =
     let q = c.add_unit.new.gathered.text.items in
     let below = c.args.below.now in
     let none : length below ≡ 0 = is_none (length below) c.if-is_empty.ensures in
-    subst (λ l. Passed (o c.args.out.now) (o c.add_unit.new.out) p q l c.add_unit.result) (without_trees c.args.later (unit_there c.args.row.now k a i) k i below f none e) (c.add_unit.ensures.text k a i at abs)
+    subst (λ l. GathersOrStops (o c.args.out.now) (o c.add_unit.new.out) p q l c.add_unit.result) (without_trees c.args.later (unit_there c.args.row.now k a i) k i below f none e) (c.add_unit.ensures.text k a i at abs)
 
 pub put_node-returns-in_err-add_front-clause-text : goal.put_node-returns-in_err-add_front-clause-text
 put_node-returns-in_err-add_front-clause-text g t c =
@@ -68,7 +68,7 @@ put_node-returns-in_err-add_front-clause-text g t c =
     let p2 = values_text false (node_values (placed k i f)) in
     let p3 = after_children i k u.note u.valid in
     let r = c.from_residual.result in
-    subst (λ l. Passed (o c.args.out.now) (o c.add_front.new.out) p q l r) (parent_pieces c.args.later x k a i f some)
+    subst (λ l. GathersOrStops (o c.args.out.now) (o c.add_front.new.out) p q l r) (parent_pieces c.args.later x k a i f some)
     (stopped_in (o c.args.out.now) (o c.add_front.new.out) p q p1 (p2 ++ p3) r c.from_residual.ensures.0 (c.in_err-add_front.ensures.text a abs))
 
 pub put_node-returns-in_err-put_trees-clause-text : goal.put_node-returns-in_err-put_trees-clause-text
@@ -86,7 +86,7 @@ put_node-returns-in_err-put_trees-clause-text g t c =
     let p3 = after_children i k u.note u.valid in
     let there = still_at c.args.locations.now c.add_front.new.locations k i at c.in_ok-add_front.ensures.back in
     let r = c.from_residual-in_err-put_trees.result in
-    subst (λ l. Passed (o c.args.out.now) (o c.put_trees.new.out) p s l r) (parent_pieces c.args.later x k a i f some)
+    subst (λ l. GathersOrStops (o c.args.out.now) (o c.put_trees.new.out) p s l r) (parent_pieces c.args.later x k a i f some)
     (then_passed (o c.args.out.now) (o c.add_front.new.out) (o c.put_trees.new.out) p q s p1 (p2 ++ p3) r (c.in_ok-add_front.ensures.text a abs)
     (stopped_in (o c.add_front.new.out) (o c.put_trees.new.out) q s p2 p3 r c.from_residual-in_err-put_trees.ensures.0 (c.in_err-put_trees.ensures.text f k i there e)))
 
@@ -107,7 +107,7 @@ put_node-returns-clause-text g t c =
     let there = still_at c.args.locations.now c.add_front.new.locations k i at c.in_ok-add_front.ensures.back in
     let last = still_at c.add_front.new.locations c.put_trees.new.locations k i there c.in_ok-put_trees.ensures.back in
     let r = c.add_back.result in
-    subst (λ l. Passed (o c.args.out.now) (o c.add_back.new.out) p z l r) (parent_pieces c.args.later x k a i f some)
+    subst (λ l. GathersOrStops (o c.args.out.now) (o c.add_back.new.out) p z l r) (parent_pieces c.args.later x k a i f some)
     (then_passed (o c.args.out.now) (o c.add_front.new.out) (o c.add_back.new.out) p q z p1 (p2 ++ p3) r (c.in_ok-add_front.ensures.text a abs)
     (then_passed (o c.add_front.new.out) (o c.put_trees.new.out) (o c.add_back.new.out) q s z p2 p3 r (c.in_ok-put_trees.ensures.text f k i there e)
     (c.add_back.ensures k i last)))
