@@ -326,6 +326,7 @@ fn add_text(location: &mut Vec<u8>, text: &[u8]) -> Result<(), Memory>
 
 // What is behind the start, and then this part. If nothing is behind it, that is the part itself; otherwise both go
 // into the arena, with the slash.
+#[inline(always)]
 fn joined<'a>(
     arena: &'a Bump,
     location: &mut Vec<u8>,
@@ -338,12 +339,28 @@ fn joined<'a>(
     ensures plain { IfOk result (λ p. slash ≡ false → p.0 ≡ false) }
     ensures same { OnOk result (location.new.items ≡ location.old.items) }
 {
-    let end = location.len();
-    if end <= start {
+    if location.len() <= start {
         return Ok((slash, text));
     }
+    let kept = joined_in_arena(arena, location, start, slash, text)?;
+    Ok((false, kept))
+}
+
+#[inline(never)]
+fn joined_in_arena<'a>(
+    arena: &'a Bump,
+    location: &mut Vec<u8>,
+    start: usize,
+    slash: bool,
+    text: &[u8],
+) -> Result<&'a [u8], Memory>
+    ensures joined { start ≤ length location.old.items
+        → IfOk result (λ kept. kept.now ≡ drop start location.old.items ++ part slash text.now) }
+    ensures same { OnOk result (location.new.items ≡ location.old.items) }
+{
+    let end = location.len();
     add_part(location, slash, text)?;
     let kept = arena.try_alloc_slice_copy(behind(location.as_slice(), start))?;
     location.truncate(end);
-    Ok((false, kept))
+    Ok(kept)
 }

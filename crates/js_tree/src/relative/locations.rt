@@ -195,6 +195,7 @@ fn take_part(location: &mut Vec<u8>, slash: bool, text: &[u8])
 }
 
 // Writes the closing quotation mark of the keyword location, and the last member.
+#[inline(always)]
 fn put_last<O: Out>(valid: bool, out: &mut O) -> Result<(), Stopped>
     ensures { Puts (O.progress out.old) (O.progress out.new) (34 ∷ valid_text valid) result }
 {

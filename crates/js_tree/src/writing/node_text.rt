@@ -99,6 +99,7 @@ pub(crate) fn put_annotation<O: Out>(note: &Note, out: &mut O) -> Result<(), Sto
 }
 
 /// Writes the closing quotation mark of the text before it, and the annotation, if the note is one.
+#[inline(always)]
 pub(crate) fn put_closed_annotation<O: Out>(note: &Note, out: &mut O) -> Result<(), Stopped>
     ensures { Puts (O.progress out.old) (O.progress out.new) (34 ∷ annotation_part (note_of note.now)) result }
 {
