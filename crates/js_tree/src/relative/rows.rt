@@ -173,6 +173,7 @@ impl<'a> RelativeRows<'a> {
     }
 
     /// The innermost open node closes, with its verdict and its note. It allocates nothing.
+    #[inline(always)]
     pub fn leave(&mut self, valid: bool, note: Note<'a>)
         ensures { relative_state self.new ≡ relative_after (relative_state self.old) (closing valid
             (note_of note.entry)) }
