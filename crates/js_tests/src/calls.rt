@@ -9,6 +9,7 @@
 //! Standard error gets `<` right before a call, and `>` right after it. A call that finds no memory answers `Memory`,
 //! and what is left if something must be left as it was. The word after the test's name says which calls on the
 //! bundle itself are between these marks: `add`, `add_doc` or `finish`, otherwise none.
+mod assertions;
 mod bundles;
 mod commands;
 mod devices;
@@ -21,6 +22,7 @@ mod telling;
 mod trees;
 mod values;
 
+use crate::word_at;
 use js_bundle::Schemas;
 use std::alloc::Global;
 use std::io::Write;
@@ -31,42 +33,46 @@ use std::{env, io};
 #[test]
 fn by_itself(rt: HostRuntime) -> Result<(), Fail> {
     // (the program's name, and the test's)
+    let mut answers = String::new(rt.alloc());
     match env::args(&rt)?.nth(2) {
         Some(marked) => {
             let input = io::read_to_string(rt.alloc(), rt.stdin())?;
-            let answers = answers(&rt, marked.as_str(), input.as_str())?;
+            answer_input(&rt, marked.as_str(), input.as_str(), &mut answers)?;
             rt.stdout().write_all(answers.as_bytes())?;
         }
         None => {
-            let answers = answers(&rt, "", "\u{1d}value\u{1f}fragment\u{1f}/a~1b c")?;
+            let input = "\u{1d}pointer\u{1f}fragment\u{1f}/a~1b c";
+            answer_input(&rt, "", input, &mut answers)?;
             assert_eq!(rt; answers.as_str(), "/a~1b%20c\u{1e}");
         }
     }
     Ok(())
 }
 
-fn answers(rt: &HostRuntime, marked: &str, input: &str) -> Result<String, Fail> {
-    let mut groups = input.split('\u{1d}');
-    let documents = groups.next().unwrap_or("");
-    let mut answers = String::new(rt.alloc());
-    let schemas = bundles::finished_schemas(rt, marked, documents, &mut answers)?;
-    for question in groups.next().unwrap_or("").split('\u{1e}') {
-        answer_one(rt, documents, &schemas, question, &mut answers)?;
-    }
-    Ok(answers)
+fn answer_input(
+    rt: &HostRuntime,
+    marked: &str,
+    input: &str,
+    answers: &mut String,
+) -> Result<(), Fail> {
+    let (documents, questions) = input.split_once('\u{1d}').unwrap_or((input, ""));
+    let schemas = bundles::finished_schemas(rt, marked, documents, answers)?;
+    answer_all(rt, documents, &schemas, questions, answers)
 }
 
-fn answer_one(
+fn answer_all(
     rt: &HostRuntime,
     documents: &str,
     schemas: &Schemas,
-    question: &str,
+    questions: &str,
     answers: &mut String,
 ) -> Result<(), Fail> {
-    let words = words_of(rt.alloc(), question)?;
-    let answer = answer(rt, documents, schemas, words.as_slice())?;
-    answers.push_str(answer.as_str())?;
-    answers.push('\u{1e}')?;
+    for question in questions.split('\u{1e}') {
+        let words = words_of(rt.alloc(), question)?;
+        let answer = answer(rt, documents, schemas, words.as_slice());
+        answers.push_str(answer?.as_str())?;
+        answers.push('\u{1e}')?;
+    }
     Ok(())
 }
 
@@ -85,13 +91,19 @@ fn answer(
     schemas: &Schemas,
     words: &[&str],
 ) -> Result<String, Fail> {
-    match words {
-        ["value", words @ ..] => values::answer_on_value(rt, words),
-        ["place", words @ ..] => places::answer_at_place(rt, schemas, words),
-        ["result", words @ ..] => results::answer_on_result(rt, schemas, words),
-        ["hand-made", words @ ..] => hand_made::answer_on_hand_made(rt, words),
-        ["devices", words @ ..] => devices::answer_over_devices(rt, documents, words),
-        ["command", words @ ..] => commands::answer_of_command(rt, words),
+    let rest = words.get(1..).unwrap_or(&[]);
+    match word_at(words, 0) {
+        "value" => values::answer_on_value(rt, rest),
+        "members" => values::answer_on_members(rt, rest),
+        "pointer" => values::answer_on_pointer(rt, rest),
+        "token" => values::answer_on_token(rt, rest),
+        "pattern" => assertions::answer_on_pattern(rt, rest),
+        "assertion" => assertions::answer_on_assertion(rt, rest),
+        "place" => places::answer_at_place(rt, schemas, rest),
+        "result" => results::answer_on_result(rt, schemas, rest),
+        "hand-made" => hand_made::answer_on_hand_made(rt, rest),
+        "devices" => devices::answer_over_devices(rt, documents, rest),
+        "command" => commands::answer_of_command(rt, rest),
         _ => Err(Fail::from("it is no question")),
     }
 }

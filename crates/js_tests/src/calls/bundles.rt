@@ -1,9 +1,8 @@
 //! A bundle made of documents. After an allocation is refused, the call is made once more.
 use super::telling::{mark_begin, mark_begin_if, mark_end};
-use super::words_of;
-use crate::word_at;
 use js_bundle::{Bundle, Refusal, RefusalKind, Schemas};
 use js_doc::{Doc, read};
+use std::alloc::Global;
 use std::test::Fail;
 
 /// The schemas of the documents. If a marked call finds no memory, `Memory` is written first, and the call is made
@@ -22,11 +21,15 @@ pub fn finished_schemas(
         Ok(schemas) => Ok(schemas),
         Err((refusal, bundle)) => {
             tell_memory(told, refusal)?;
-            match bundle.finish(rt.alloc()) {
-                Ok(schemas) => Ok(schemas),
-                Err((refusal, _bundle)) => Err(Fail::from(refusal)),
-            }
+            finished_again(rt.alloc(), bundle)
         }
+    }
+}
+
+fn finished_again(alloc: Global, bundle: Bundle) -> Result<Schemas, Fail> {
+    match bundle.finish(alloc) {
+        Ok(schemas) => Ok(schemas),
+        Err((refusal, _bundle)) => Err(Fail::from(refusal)),
     }
 }
 
@@ -53,9 +56,7 @@ fn add_document(
     if document.is_empty() {
         return Ok(());
     }
-    let words = words_of(rt.alloc(), document)?;
-    let uri = word_at(words.as_slice(), 0);
-    let text = word_at(words.as_slice(), 1);
+    let (uri, text) = document.split_once('\u{1f}').unwrap_or((document, ""));
     if marked == "add_doc" {
         let value = read(rt.alloc(), text.as_bytes())?;
         return add_value(rt, bundle, uri, value, told);

@@ -5,9 +5,7 @@ ghost use Rattle.js_tree.specs.FlatState.{IsWholeTree, flat_state};
 use super::telling::{mark_begin, mark_end, told_value};
 use super::trees::{format_named, told_units};
 use super::values::ROOM;
-use js_doc::text;
 use js_tree::{Flat, Format, flat_condense, flat_doc, flat_prune, flat_units, put_flat};
-use std::alloc::Global;
 use std::test::Fail;
 
 /// What the call answers on the rows; if it takes a format, on what that format shows of them.
@@ -19,15 +17,12 @@ pub fn answer_on_flat_list(
 ) -> Result<String, Fail> {
     let flat = whole(flat)?;
     match call {
-        "flat_units" => {
-            mark_begin(rt);
-            let found = flat_units(rt.alloc(), &flat);
-            mark_end(rt);
-            told_units(rt.alloc(), found)
+        "flat_doc" | "put_flat" => {
+            let format = format_named(format);
+            formatted(rt, call, format, &trimmed(flat, format)?)
         }
-        "flat_doc" | "put_flat" => formatted(rt, call, format_named(format), flat),
         "flat_prune" | "flat_condense" => changed(rt, call, flat),
-        _ => shown(rt.alloc(), &flat),
+        _ => looked_at(rt, call, &flat),
     }
 }
 
@@ -41,11 +36,17 @@ fn whole<'a>(rows: Flat<'a>) -> Result<Flat<'a>, Fail>
     Err(Fail::from("the rows are a whole tree's"))
 }
 
-// The text of the rows' tree.
-fn shown(alloc: Global, flat: &Flat) -> Result<String, Fail>
+// The rows' units, or the text of their tree.
+fn looked_at(rt: &HostRuntime, call: &str, flat: &Flat) -> Result<String, Fail>
     requires { IsWholeTree (flat_state flat.now) }
 {
-    Ok(text(alloc, &flat_doc(alloc, flat, Format::Verbose)?)?)
+    if call != "flat_units" {
+        return told_value(rt.alloc(), flat_doc(rt.alloc(), flat, Format::Verbose));
+    }
+    mark_begin(rt);
+    let found = flat_units(rt.alloc(), flat);
+    mark_end(rt);
+    told_units(rt.alloc(), found)
 }
 
 // The rows of what the format shows.
@@ -61,20 +62,19 @@ fn trimmed<'a>(rows: Flat<'a>, format: Format) -> Result<Flat<'a>, Fail>
 }
 
 // (the text's memory is reserved before it is written)
-fn formatted(rt: &HostRuntime, call: &str, format: Format, flat: Flat) -> Result<String, Fail>
-    requires { IsWholeTree (flat_state flat) }
+fn formatted(rt: &HostRuntime, call: &str, format: Format, flat: &Flat) -> Result<String, Fail>
+    requires { IsWholeTree (flat_state flat.now) }
 {
-    let flat = trimmed(flat, format)?;
     if call == "put_flat" {
         let mut out = String::with_capacity(rt.alloc(), ROOM)?;
         mark_begin(rt);
-        let put = put_flat(&flat, format, &mut out);
+        let put = put_flat(flat, format, &mut out);
         mark_end(rt);
         put?;
         return Ok(out);
     }
     mark_begin(rt);
-    let made = flat_doc(rt.alloc(), &flat, format);
+    let made = flat_doc(rt.alloc(), flat, format);
     mark_end(rt);
     told_value(rt.alloc(), made)
 }
@@ -87,10 +87,7 @@ fn changed(rt: &HostRuntime, call: &str, flat: Flat) -> Result<String, Fail>
         "flat_prune" => flat_prune(flat),
         _ => flat_condense(flat),
     };
-    let is_whole = made.whole();
+    let made = whole(made);
     mark_end(rt);
-    if !is_whole {
-        return Err(Fail::from("the rows are a whole tree's"));
-    }
-    shown(rt.alloc(), &made)
+    looked_at(rt, call, &made?)
 }

@@ -1,45 +1,52 @@
 //! Result trees made by hand. The words of a question: the value of a note, the events of a tree, the call, and its
 //! argument.
-use super::telling::{mark_begin, mark_end};
+use super::telling::{mark_begin, mark_end, told};
 use super::{flat_lists, trees};
 use crate::word_at;
 use js_doc::{Doc, Text, read};
-use js_tree::{Boxed, Collector, Flat, Head, Indexes, Names, Note, Verdict};
+use js_tree::{Boxed, Collector, Flat, Head, Indexes, Names, Note, Tree, Verdict};
 use std::alloc::Global;
 use std::test::Fail;
 
 pub fn answer_on_hand_made(rt: &HostRuntime, words: &[&str]) -> Result<String, Fail> {
-    let alloc = rt.alloc();
-    let value = read(alloc, word_at(words, 0).as_bytes())?;
-    let events = word_at(words, 1);
-    let call = word_at(words, 2);
-    let more = word_at(words, 3);
-    if call == "enter_and_leave" {
+    if word_at(words, 2) == "enter_and_leave" {
         return told_by_events(rt);
     }
-    if call == "verdict" {
-        let mut verdict = Verdict::new();
-        tell(alloc, events, &value, &mut verdict)?;
-        let valid = verdict.valid();
-        return Ok(format!(in alloc; "{valid:?}")?);
+    let value = read(rt.alloc(), word_at(words, 0).as_bytes())?;
+    answer_on_events(rt, &value, words)
+}
+
+fn answer_on_events(rt: &HostRuntime, value: &Doc, words: &[&str]) -> Result<String, Fail> {
+    let alloc = rt.alloc();
+    let events = word_at(words, 1);
+    let more = word_at(words, 3);
+    match word_at(words, 2) {
+        "verdict" => {
+            let mut verdict = Verdict::new();
+            tell(alloc, events, value, &mut verdict)?;
+            told(alloc, verdict.valid())
+        }
+        call if call.contains("flat") => {
+            let mut flat = Flat::new(alloc);
+            tell(alloc, events, value, &mut flat)?;
+            flat_lists::answer_on_flat_list(rt, call, more, flat)
+        }
+        call => trees::answer_on_tree(rt, call, more, boxed_tree(rt, events, value)?),
     }
-    if call.contains("flat") {
-        let mut flat = Flat::new(alloc);
-        tell(alloc, events, &value, &mut flat)?;
-        return flat_lists::answer_on_flat_list(rt, call, more, flat);
-    }
-    let mut boxed = Boxed::new(alloc);
-    tell(alloc, events, &value, &mut boxed)?;
+}
+
+fn boxed_tree<'a>(rt: &HostRuntime, events: &str, value: &'a Doc) -> Result<Tree<'a>, Fail> {
+    let mut boxed = Boxed::new(rt.alloc());
+    tell(rt.alloc(), events, value, &mut boxed)?;
     mark_begin(rt);
     let tree = boxed.tree();
     mark_end(rt);
     match tree {
-        Some(tree) => trees::answer_on_tree(rt, call, more, tree),
+        Some(tree) => Ok(tree),
         None => Err(Fail::from("the root has closed")),
     }
 }
 
-// A letter opens a node of that name, and another sign closes one, `-` and `!` one that fails.
 fn tell<'a, C: Collector<'a>>(
     alloc: Global,
     events: &str,
@@ -47,13 +54,26 @@ fn tell<'a, C: Collector<'a>>(
     into: &mut C,
 ) -> Result<(), Fail> {
     for sign in events.chars() {
-        match sign {
-            'a'..='z' => into.enter(head(alloc, sign)?)?,
-            '-' | '!' => into.leave(false, note_of(alloc, sign, value)?)?,
-            _ => into.leave(true, note_of(alloc, sign, value)?)?,
-        }
+        tell_one(alloc, sign, value, into)?;
     }
     Ok(())
+}
+
+// A letter opens a node of that name, and another sign closes one, `-` and `!` one that fails.
+fn tell_one<'a, C: Collector<'a>>(
+    alloc: Global,
+    sign: char,
+    value: &'a Doc,
+    into: &mut C,
+) -> Result<(), Fail> {
+    match sign {
+        'a'..='z' => into.enter(head(alloc, sign)?).map_err(Fail::from),
+        _ => {
+            let note = note_of(alloc, sign, value)?;
+            into.leave(sign != '-' && sign != '!', note)
+                .map_err(Fail::from)
+        }
+    }
 }
 
 fn head(alloc: Global, name: char) -> Result<Head, Fail> {
@@ -93,7 +113,6 @@ fn told_by_events(rt: &HostRuntime) -> Result<String, Fail> {
         .and(verdict.leave(false, Note::Silent));
     let valid = verdict.valid();
     mark_end(rt);
-    entered?;
-    left?;
-    Ok(format!(in rt.alloc(); "{valid:?}")?)
+    entered.and(left)?;
+    told(rt.alloc(), valid)
 }

@@ -3,10 +3,10 @@
 ghost use Rattle.std.specs.Prelude.{◌≡◌, true};
 ghost use Rattle.js_bundle.specs.Schemas.{is_place};
 
-use super::telling::{mark_begin, mark_begin_if, mark_end, told_text};
+use super::telling::{mark_begin, mark_begin_if, mark_end, push_line, told, told_text, told_word};
 use crate::word_at;
 use js_bundle::{Place, Schemas, Step};
-use js_doc::{read, text};
+use js_doc::{Doc, read, text};
 use std::alloc::Global;
 use std::test::Fail;
 
@@ -22,7 +22,7 @@ pub fn answer_at_place(
     match found {
         Ok(place) if schemas.has(place) => asked(rt, schemas, place, question, words),
         Ok(_) => Err(Fail::from("an entry is a place")),
-        Err(fault) => Ok(format!(in rt.alloc(); "{fault:?}")?),
+        Err(fault) => told(rt.alloc(), fault),
     }
 }
 
@@ -47,18 +47,21 @@ fn asked(
         }
         "standing" => standing(rt, schemas, place),
         "alone" => below(rt, schemas, place, first, Step::Alone),
-        "index" => below(
-            rt,
-            schemas,
-            place,
-            first,
-            Step::Index(second.parse::<usize>()?),
-        ),
+        "index" => {
+            let step = Step::Index(second.parse::<usize>()?);
+            below(rt, schemas, place, first, step)
+        }
         "name" => below(rt, schemas, place, first, Step::Name(second)),
-        "assertion" => said(rt, schemas, place, first, second),
+        "assertion" => {
+            let value = read(rt.alloc(), second.as_bytes())?;
+            said(rt, schemas, place, first, &value)
+        }
         "pattern" => matched(rt, schemas, place, first, second),
         "target" => target(rt, schemas, place),
-        "dynamic target" => dynamic_target(rt, schemas, place, words),
+        "dynamic target" => {
+            let path = path_of(rt.alloc(), schemas, words.get(2..).unwrap_or(&[]))?;
+            dynamic_target(rt, schemas, place, path.as_slice())
+        }
         "places" => places(rt, schemas),
         "resources" => resources(rt, schemas),
         _ => Err(Fail::from("it is no question")),
@@ -70,10 +73,10 @@ fn location(alloc: Global, schemas: &Schemas, place: Option<Place>) -> Result<St
     match place {
         Some(place) if schemas.has(place) => {
             let (location, rest) = schemas.location_of(place);
-            Ok(format!(in alloc; "{location}{rest}")?)
+            format!(in alloc; "{location}{rest}").map_err(Fail::from)
         }
         Some(_) => Err(Fail::from("it is no place")),
-        None => Ok(String::from_str(alloc, "none")?),
+        None => told_word(alloc, "none"),
     }
 }
 
@@ -95,9 +98,11 @@ fn standing(rt: &HostRuntime, schemas: &Schemas, place: Place) -> Result<String,
     let alloc = rt.alloc();
     let pointer = pointer.text(alloc)?;
     let schema = text(alloc, schema)?;
-    Ok(format!(in alloc;
-        "{is_place} {location}{rest}, document {document} at {pointer}, resource {number} of {count}, {resource}: {schema} {keywords:?}"
-    )?)
+    format!(in alloc;
+        "{is_place} {location}{rest}, document {document} at {pointer}, \
+        resource {number} of {count}, {resource}: {schema} {keywords:?}"
+    )
+    .map_err(Fail::from)
 }
 
 // The place at a step, by both calls that find it, and its schema.
@@ -119,7 +124,7 @@ fn below(
         Some((next_again, schema)) => {
             let next_again = location(rt.alloc(), schemas, Some(next_again))?;
             let schema = text(rt.alloc(), schema)?;
-            Ok(format!(in rt.alloc(); "{next} {next_again}: {schema}")?)
+            format!(in rt.alloc(); "{next} {next_again}: {schema}").map_err(Fail::from)
         }
         None => Ok(next),
     }
@@ -131,20 +136,19 @@ fn said(
     schemas: &Schemas,
     place: Place,
     keyword: &str,
-    value: &str,
+    value: &Doc,
 ) -> Result<String, Fail>
     requires { is_place schemas.now place ≡ true }
 {
-    let value = read(rt.alloc(), value.as_bytes())?;
     mark_begin(rt);
     let assertion = schemas.assertion(place, keyword);
     mark_end(rt);
     match assertion {
-        Some(assertion) => match assertion.check(rt.alloc(), &value, 1)? {
+        Some(assertion) => match assertion.check(rt.alloc(), value, 1)? {
             Some(error) => Ok(error),
-            None => Ok(String::from_str(rt.alloc(), "holds")?),
+            None => told_word(rt.alloc(), "holds"),
         },
-        None => Ok(String::from_str(rt.alloc(), "no assertion")?),
+        None => told_word(rt.alloc(), "no assertion"),
     }
 }
 
@@ -166,7 +170,7 @@ fn matched(
         Some(_) => "fails",
         None => "no pattern",
     };
-    Ok(String::from_str(rt.alloc(), answer)?)
+    told_word(rt.alloc(), answer)
 }
 
 // Where `$ref` leads; without one, whether there is a `$dynamicRef`.
@@ -182,45 +186,53 @@ fn target(rt: &HostRuntime, schemas: &Schemas, place: Place) -> Result<String, F
     };
     mark_end(rt);
     if is_dynamic && led_to.is_none() {
-        return Ok(String::from_str(rt.alloc(), "dynamic")?);
+        return told_word(rt.alloc(), "dynamic");
     }
     location(rt.alloc(), schemas, led_to)
 }
 
-// Where `$dynamicRef` leads at the end of a path of places, whose URIs are the words from the third on: by the path,
-// and by the numbers of its resources.
-fn dynamic_target(
-    rt: &HostRuntime,
-    schemas: &Schemas,
-    place: Place,
-    words: &[&str],
-) -> Result<String, Fail>
-    requires { is_place schemas.now place ≡ true }
-{
-    let alloc = rt.alloc();
+fn path_of(alloc: Global, schemas: &Schemas, uris: &[&str]) -> Result<Vec<Place>, Fail> {
     let mut path = Vec::new(alloc);
+    for uri in uris.iter() {
+        path.push(schemas.entry(alloc, uri)?)?;
+    }
+    Ok(path)
+}
+
+// The numbers of the resources on a path; of equal neighbours one.
+fn numbers_of(alloc: Global, schemas: &Schemas, path: &[Place]) -> Result<Vec<usize>, Fail> {
     let mut numbers = Vec::new(alloc);
-    for uri in words.iter().skip(2) {
-        let next = schemas.entry(alloc, uri)?;
-        path.push(next)?;
-        // (of equal neighbours one)
-        if schemas.has(next) {
-            let number = schemas.resource_number(next);
+    for place in path.iter() {
+        if schemas.has(*place) {
+            let number = schemas.resource_number(*place);
             if numbers.last() != Some(&number) {
                 numbers.push(number)?;
             }
         }
     }
+    Ok(numbers)
+}
+
+// Where `$dynamicRef` leads at the end of a path of places, by the path, and by the numbers of its resources.
+fn dynamic_target(
+    rt: &HostRuntime,
+    schemas: &Schemas,
+    place: Place,
+    path: &[Place],
+) -> Result<String, Fail>
+    requires { is_place schemas.now place ≡ true }
+{
     if !schemas.has_dynamic_ref(place) {
         return Err(Fail::from("it has no dynamic reference"));
     }
+    let numbers = numbers_of(rt.alloc(), schemas, path)?;
     mark_begin(rt);
-    let by_path = schemas.dynamic_target(place, path.as_slice());
+    let by_path = schemas.dynamic_target(place, path);
     let by_numbers = schemas.dynamic_target_in(place, numbers.as_slice());
     mark_end(rt);
-    let by_path = location(alloc, schemas, Some(by_path))?;
-    let by_numbers = location(alloc, schemas, Some(by_numbers))?;
-    Ok(format!(in alloc; "{by_path} {by_numbers}")?)
+    let by_path = location(rt.alloc(), schemas, Some(by_path))?;
+    let by_numbers = location(rt.alloc(), schemas, Some(by_numbers))?;
+    format!(in rt.alloc(); "{by_path} {by_numbers}").map_err(Fail::from)
 }
 
 // The absolute locations of all places, a line each.
@@ -228,15 +240,17 @@ fn places(rt: &HostRuntime, schemas: &Schemas) -> Result<String, Fail> {
     mark_begin(rt);
     let made = schemas.places(rt.alloc());
     mark_end(rt);
-    let mut lines = String::new(rt.alloc());
     match made {
-        Ok(places) => {
-            for place in places.iter() {
-                lines.push_str(location(rt.alloc(), schemas, Some(*place))?.as_str())?;
-                lines.push('\n')?;
-            }
-        }
-        Err(_) => lines.push_str("Memory")?,
+        Ok(places) => locations(rt.alloc(), schemas, places.as_slice()),
+        Err(fault) => told(rt.alloc(), fault),
+    }
+}
+
+fn locations(alloc: Global, schemas: &Schemas, places: &[Place]) -> Result<String, Fail> {
+    let mut lines = String::new(alloc);
+    for place in places.iter() {
+        let location = location(alloc, schemas, Some(*place))?;
+        push_line(&mut lines, location.as_str())?;
     }
     Ok(lines)
 }
@@ -246,15 +260,19 @@ fn resources(rt: &HostRuntime, schemas: &Schemas) -> Result<String, Fail> {
     mark_begin(rt);
     let made = schemas.resources(rt.alloc());
     mark_end(rt);
-    let mut lines = String::new(rt.alloc());
     match made {
-        Ok(resources) => {
-            for (uri, root) in resources.iter() {
-                let root = location(rt.alloc(), schemas, Some(*root))?;
-                lines.push_str(format!(in rt.alloc(); "{uri}: {root}\n")?.as_str())?;
-            }
-        }
-        Err(_) => lines.push_str("Memory")?,
+        Ok(resources) => roots(rt.alloc(), schemas, resources.as_slice()),
+        Err(fault) => told(rt.alloc(), fault),
+    }
+}
+
+fn roots(alloc: Global, schemas: &Schemas, resources: &[(&str, Place)]) -> Result<String, Fail> {
+    let mut lines = String::new(alloc);
+    for (uri, root) in resources.iter() {
+        let root = location(alloc, schemas, Some(*root))?;
+        lines.push_str(uri)?;
+        lines.push_str(": ")?;
+        push_line(&mut lines, root.as_str())?;
     }
     Ok(lines)
 }

@@ -3,13 +3,14 @@
 ghost use Rattle.std.specs.Prelude.{◌≡◌, true};
 ghost use Rattle.js_bundle.specs.Schemas.{is_place};
 
-use super::telling::{mark_begin, mark_begin_if, mark_end};
+use super::telling::{mark_begin, mark_begin_if, mark_end, told};
 use super::{flat_lists, trees};
 use crate::word_at;
 use js_bundle::{Place, Schemas};
 use js_doc::{Doc, Memory, read};
-use js_eval::{verdict, walk, walk_into};
+use js_eval::{WalkFault, verdict, walk, walk_into};
 use js_tree::{Boxed, Collector, Flat, Head, Note, Verdict};
+use std::alloc::Global;
 use std::test::Fail;
 
 pub fn answer_on_result(
@@ -18,16 +19,40 @@ pub fn answer_on_result(
     words: &[&str],
 ) -> Result<String, Fail> {
     let place = schemas.entry(rt.alloc(), word_at(words, 0))?;
-    let value = read(rt.alloc(), word_at(words, 1).as_bytes())?;
-    let call = word_at(words, 2);
     if !schemas.has(place) {
         return Err(Fail::from("an entry is a place"));
     }
-    match call {
-        "verdict" | "walk_into_verdict" => judged(rt, schemas, place, &value, call),
-        "refusing" => refused(rt, schemas, place, &value, word_at(words, 3)),
-        _ if call.contains("flat") => on_rows(rt, schemas, place, &value, words),
-        _ => on_tree(rt, schemas, place, &value, words),
+    let value = read(rt.alloc(), word_at(words, 1).as_bytes())?;
+    walked(rt, schemas, place, &value, words)
+}
+
+fn walked<'a>(
+    rt: &HostRuntime,
+    schemas: &'a Schemas,
+    place: Place,
+    value: &'a Doc,
+    words: &[&str],
+) -> Result<String, Fail>
+    requires { is_place schemas.now place ≡ true }
+{
+    match word_at(words, 2) {
+        "verdict" => {
+            mark_begin(rt);
+            let made = verdict(rt.alloc(), schemas, place, value);
+            mark_end(rt);
+            told_verdict(rt.alloc(), made)
+        }
+        "walk_into_verdict" => judged(rt, schemas, place, value),
+        "refusing" => refused(rt, schemas, place, value, word_at(words, 3)),
+        call if call.contains("flat") => on_rows(rt, schemas, place, value, words),
+        _ => on_tree(rt, schemas, place, value, words),
+    }
+}
+
+fn told_verdict(alloc: Global, made: Result<bool, WalkFault>) -> Result<String, Fail> {
+    match made {
+        Ok(valid) => told(alloc, valid),
+        Err(fault) => told(alloc, fault),
     }
 }
 
@@ -36,24 +61,16 @@ fn judged<'a>(
     schemas: &'a Schemas,
     place: Place,
     value: &'a Doc,
-    call: &str,
 ) -> Result<String, Fail>
     requires { is_place schemas.now place ≡ true }
 {
-    let alloc = rt.alloc();
     mark_begin(rt);
-    let made = match call {
-        "verdict" => verdict(alloc, schemas, place, value),
-        _ => match walk_into(alloc, schemas, place, value, Verdict::new()) {
-            Ok(verdict) => Ok(verdict.valid() == Some(true)),
-            Err((fault, _verdict)) => Err(fault),
-        },
+    let made = match walk_into(rt.alloc(), schemas, place, value, Verdict::new()) {
+        Ok(verdict) => Ok(verdict.valid() == Some(true)),
+        Err((fault, _verdict)) => Err(fault),
     };
     mark_end(rt);
-    match made {
-        Ok(valid) => Ok(format!(in alloc; "{valid}")?),
-        Err(fault) => Ok(format!(in alloc; "{fault:?}")?),
-    }
+    told_verdict(rt.alloc(), made)
 }
 
 // `walk` and `walk_into_boxed` test the walk itself.
@@ -83,7 +100,7 @@ fn on_tree<'a>(
     match made {
         Ok(Some(tree)) => trees::answer_on_tree(rt, call, word_at(words, 3), tree),
         Ok(None) => Err(Fail::from("the root has closed")),
-        Err(fault) => Ok(format!(in alloc; "{fault:?}")?),
+        Err(fault) => told(alloc, fault),
     }
 }
 
@@ -104,7 +121,7 @@ fn on_rows<'a>(
     mark_end(rt);
     match made {
         Ok(flat) => flat_lists::answer_on_flat_list(rt, call, word_at(words, 3), flat),
-        Err((fault, _flat)) => Ok(format!(in alloc; "{fault:?}")?),
+        Err((fault, _flat)) => told(alloc, fault),
     }
 }
 
@@ -141,12 +158,11 @@ fn refused<'a>(
     requires { is_place schemas.now place ≡ true }
 {
     let left = calls.parse::<usize>()?;
-    let answer = match walk_into(rt.alloc(), schemas, place, value, Refusing { left }) {
+    match walk_into(rt.alloc(), schemas, place, value, Refusing { left }) {
         Ok(refusing) => {
             let left = refusing.left;
-            format!(in rt.alloc(); "{left} left")?
+            format!(in rt.alloc(); "{left} left").map_err(Fail::from)
         }
-        Err((fault, _refusing)) => format!(in rt.alloc(); "{fault:?}")?,
-    };
-    Ok(answer)
+        Err((fault, _refusing)) => told(rt.alloc(), fault),
+    }
 }
