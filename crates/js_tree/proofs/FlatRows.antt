@@ -1,5 +1,5 @@
 -- Rows of trees side by side, gone through tree by tree.
-use Rattle.std.proofs.Common.{◌≡◌, ℕ, zero, suc, ◌+◌, ◌-◌, ◌≤◌, ◌<◌, List, [], ◌∷◌, ◌++◌, length, take, drop, map, get_or, refl, ap, sym, subst, ◌∙◌, arith}
+use Rattle.std.proofs.Common.{◌≡◌, ℕ, zero, suc, ◌+◌, ◌-◌, ◌≤◌, ◌<◌, List, [], ◌∷◌, ◌++◌, length, take, drop, map, get_or, refl, ap, sym, ◌∙◌, arith}
 use Rattle.std.proofs.lemmas.List.{append_assoc, append-nil, length-append, length-map, length-drop, length-take, drop_more}
 use Rattle.js_tree.specs.Flat.{flat_form, flat_of}
 use Rattle.js_tree.specs.FlatState.{FlatRow}
@@ -96,31 +96,6 @@ first_tree row_of rows n (tree u below after) x e h is =
       more =
           ap (map row_of) (drop-drop n (row_of x).1 rows)
           ∙ back row_of (drop n rows) ((u, suc (node_count below)) ∷ flat_of below) (flat_of after) (row_of x).1 both (omega (arith, s, below_size));
-    }
-
--- the same, by a size that was asked for
-pub record SizedTree {R : Type 0} (row_of : R → FlatRow) (rows : List R) (n : ℕ) (f : Forest OutputUnit) (k : ℕ) : Type 0 where
-  pub unit : OutputUnit
-  pub below : Forest OutputUnit
-  pub after : Forest OutputUnit
-  pub is : f ≡ tree unit below after
-  pub size : k ≡ suc (node_count below)
-  pub fits : n + k ≤ length rows
-  pub all : map row_of (take k (drop n rows)) ≡ flat_of (tree unit below empty)
-  pub more : map row_of (drop (n + k) rows) ≡ flat_of after
-
-pub sized_tree : {R : Type 0} (row_of : R → FlatRow) (rows : List R) (n : ℕ) (f : Forest OutputUnit) (x : R) (k : ℕ) → map row_of (drop n rows) ≡ flat_of f → n < length rows → x ≡ get_or rows n x → k ≡ (row_of x).1 → SizedTree row_of rows n f k
-sized_tree row_of rows n f x k e h is s =
-    let t = first_tree row_of rows n f x e h is in
-    record {
-      unit = t.unit;
-      below = t.below;
-      after = t.after;
-      is = t.is;
-      size = s ∙ t.size;
-      fits = subst (λ m. n + m ≤ length rows) (sym s) t.fits;
-      all = subst (λ m. map row_of (take m (drop n rows)) ≡ flat_of (tree t.unit t.below empty)) (sym s) t.all;
-      more = subst (λ m. map row_of (drop (n + m) rows) ≡ flat_of t.after) (sym s) t.more;
     }
 
 -- no row is left of no tree, and no tree of no row

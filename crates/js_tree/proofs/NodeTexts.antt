@@ -1,15 +1,12 @@
 -- The text of a node is that of its document.
-use Rattle.std.proofs.Common.{◌≡◌, ℕ, Bool, true, false, not, List, [], ◌∷◌, ◌++◌, Option, Some, None, Result, codes, refl, ap, sym, subst, ◌∙◌, append_assoc, map}
-use Rattle.std.specs.Result.{IsErr}
+use Rattle.std.proofs.Common.{◌≡◌, ℕ, Bool, true, false, not, List, [], ◌∷◌, ◌++◌, Option, Some, None, codes, refl, ap, sym, ◌∙◌, append_assoc, map}
 use Rattle.json.specs.Print.{escape_byte}
-use Rattle.js_doc.specs.BytesOut.{Progress, Goes, Stops, Puts}
-use Rattle.js_doc.specs.Compact.{compact, compact_members, quoted}
+use Rattle.js_doc.specs.Compact.{compact, compact_items, compact_members, quoted}
 use Rattle.js_doc.specs.Value.{Value, items, list, members, object, text, truth}
 use Rattle.js_tree.specs.Form.{annotation_value, array_of_some, error_value, member_of_some, list_name, node_value, value_if}
-use Rattle.js_tree.specs.code.NodeText.{given_text, annotation_part, error_part, head_text, list_start, tail_text, valid_text, node_text}
+use Rattle.js_tree.specs.code.NodeText.{given_text, annotation_part, back_text, children_start, error_behind, error_part, front_text, head_text, list_start, tail_text, valid_text, node_text}
 use Rattle.js_tree.specs.Note.{Note}
 use Rattle.js_tree.specs.OutputUnit.{OutputUnit}
-use Rattle.js_tree.proofs.Pieces.{stops_in, then_puts}
 
 abbrev Members : Type 0
 Members = List (List ℕ × Value)
@@ -76,42 +73,18 @@ leaf_text_is u n f =
     let nothing = no_children (codes ",\"errors\":") (not u.valid) in
     rw f (ap (λ l. head_text u ++ (l ++ (error_part u.note ++ tail_text u))) (sym none) ∙ (ap (λ l. head_text u ++ (annotations u.valid [] ++ (error_part u.note ++ (l ++ tail_text u)))) (sym nothing) ∙ node_text_is u []))
 
--- ---- a node that goes out in its pieces, or stops in one of them
+children_then : (note : Note) (valid : Bool) (v : Value) (vs : List Value) (end : List ℕ) →
+    children_start note valid ++ (compact_items false (items (v ∷ vs)) ++ (error_behind note valid ++ end))
+    ≡ annotations valid (v ∷ vs) ++ (error_part note ++ (errors valid (v ∷ vs) ++ end))
+children_then note true v vs end = refl
+children_then note false v vs end =
+    append_assoc (error_part note) (codes ",\"errors\":[") (compact_items false (items (v ∷ vs)) ++ end)
 
-module _ {T E : Type 0} (u : OutputUnit) (children : List Value) (v : Bool) (n : Note) (valid_is : v ≡ u.valid) (note_is : n ≡ u.note) (r : Result T E) where
-  pub stops_in_head : (a b : Progress) → IsErr r → Stops a b (head_text u) → Puts a b (compact (node_value u children)) r
-  stops_in_head a b h s =
-      subst (λ l. Puts a b l r) (pieces_are u children v n valid_is note_is)
-      (stops_in a b (head_text u) (annotations v children ++ (error_part n ++ (errors v children ++ tail_text u))) r h s)
-
-  pub stops_in_annotations : (a b c : Progress) → IsErr r → Goes a b (head_text u) → Stops b c (annotations v children) → Puts a c (compact (node_value u children)) r
-  stops_in_annotations a b c h g s =
-      subst (λ l. Puts a c l r) (pieces_are u children v n valid_is note_is)
-      (then_puts a b c (head_text u) (annotations v children ++ (error_part n ++ (errors v children ++ tail_text u))) r g
-      (stops_in b c (annotations v children) (error_part n ++ (errors v children ++ tail_text u)) r h s))
-
-  pub stops_in_error : (a b c d : Progress) → IsErr r → Goes a b (head_text u) → Goes b c (annotations v children) → Stops c d (error_part n) → Puts a d (compact (node_value u children)) r
-  stops_in_error a b c d h g1 g2 s =
-      subst (λ l. Puts a d l r) (pieces_are u children v n valid_is note_is)
-      (then_puts a b d (head_text u) (annotations v children ++ (error_part n ++ (errors v children ++ tail_text u))) r g1
-      (then_puts b c d (annotations v children) (error_part n ++ (errors v children ++ tail_text u)) r g2
-      (stops_in c d (error_part n) (errors v children ++ tail_text u) r h s)))
-
-  pub stops_in_errors : (a b c d e : Progress) → IsErr r → Goes a b (head_text u) → Goes b c (annotations v children) → Goes c d (error_part n) → Stops d e (errors v children) → Puts a e (compact (node_value u children)) r
-  stops_in_errors a b c d e h g1 g2 g3 s =
-      subst (λ l. Puts a e l r) (pieces_are u children v n valid_is note_is)
-      (then_puts a b e (head_text u) (annotations v children ++ (error_part n ++ (errors v children ++ tail_text u))) r g1
-      (then_puts b c e (annotations v children) (error_part n ++ (errors v children ++ tail_text u)) r g2
-      (then_puts c d e (error_part n) (errors v children ++ tail_text u) r g3
-      (stops_in d e (errors v children) (tail_text u) r h s))))
-
-  pub puts_node : (a b c d e f : Progress) → Goes a b (head_text u) → Goes b c (annotations v children) → Goes c d (error_part n) → Goes d e (errors v children) → Puts e f (tail_text u) r → Puts a f (compact (node_value u children)) r
-  puts_node a b c d e f g1 g2 g3 g4 p =
-      subst (λ l. Puts a f l r) (pieces_are u children v n valid_is note_is)
-      (then_puts a b f (head_text u) (annotations v children ++ (error_part n ++ (errors v children ++ tail_text u))) r g1
-      (then_puts b c f (annotations v children) (error_part n ++ (errors v children ++ tail_text u)) r g2
-      (then_puts c d f (error_part n) (errors v children ++ tail_text u) r g3
-      (then_puts d e f (errors v children) (tail_text u) r g4 p))))
+-- a node with children
+pub parent_text_is : (u : OutputUnit) (v : Value) (vs : List Value) → front_text u ++ (compact_items false (items (v ∷ vs)) ++ back_text u) ≡ compact (node_value u (v ∷ vs))
+parent_text_is u v vs =
+    append_assoc (head_text u) (children_start u.note u.valid) (compact_items false (items (v ∷ vs)) ++ back_text u)
+    ∙ (ap (λ l. head_text u ++ l) (children_then u.note u.valid v vs (tail_text u)) ∙ node_text_is u (v ∷ vs))
 
 -- ---- the list of units
 

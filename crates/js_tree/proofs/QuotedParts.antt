@@ -8,7 +8,7 @@ use Rattle.js_tree.specs.code.NodeText.{annotation_part, beginning_text, end_tex
 use Rattle.js_tree.specs.code.RelativeText.{opening_text}
 
 -- a quoted text, and what follows it
-quoted_then : (t rest : List ℕ) → 34 ∷ (escape t ++ 34 ∷ rest) ≡ quoted t ++ rest
+pub quoted_then : (t rest : List ℕ) → 34 ∷ (escape t ++ 34 ∷ rest) ≡ quoted t ++ rest
 quoted_then t rest = ap (λ l. 34 ∷ l) (sym (append_assoc (escape t) (34 ∷ []) rest))
 
 abbrev closing_text : List ℕ → List ℕ → Bool → List ℕ

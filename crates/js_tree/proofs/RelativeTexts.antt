@@ -15,7 +15,8 @@ use Rattle.js_tree.specs.RelativeState.{keyword_part, relative_row}
 use Rattle.js_tree.specs.Result.{ResultTree}
 use Rattle.js_tree.specs.code.Listing.{values_text}
 use Rattle.js_tree.specs.code.NodeText.{annotation_part, beginning_text, end_text, error_part}
-use Rattle.js_tree.specs.code.RelativeText.{AreRowsOfTrees, after_children, before_children, children_start, error_behind, opening_text, unit_there}
+use Rattle.js_tree.specs.code.RelativeText.{AreRowsOfTrees, after_children, before_children, opening_text, unit_there}
+use Rattle.js_tree.specs.code.NodeText.{children_start, error_behind}
 use Rattle.js_tree.specs.declared.relative.locations.Locations.{Locations}
 use Rattle.js_tree.specs.declared.relative.rows.RelativeRow.{RelativeRow}
 use Rattle.js_tree.proofs.EscapedRows.{no_trees}

@@ -3,7 +3,7 @@ use Rattle.std.proofs.Common.{◌≡◌, Bool, false, ◌∷◌, ◌++◌, Resul
 use Rattle.js_doc.specs.BytesOut.{Progress, Puts}
 use Rattle.js_tree.specs.Note.{Note, silent, error, value, names, index, indexes, truly, speaks}
 use Rattle.js_tree.specs.code.NodeText.{annotation_part}
-use Rattle.js_tree.specs.code.RelativeText.{children_start}
+use Rattle.js_tree.specs.code.NodeText.{children_start}
 
 pub silent_before_list : {T E : Type 0} (a b : Progress) (note : Note) (valid : Bool) (r : Result T E) → speaks note ≡ false
     → Puts a b (34 ∷ children_start silent valid) r → Puts a b ((34 ∷ annotation_part note) ++ children_start note valid) r

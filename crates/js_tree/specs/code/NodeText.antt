@@ -43,6 +43,24 @@ node_text u children =
     ++ (given_text (codes ",\"errors\":") (value_if (not u.valid) (array_of_some children))
     ++ tail_text u)))
 
+-- the beginning of the list of children; the error of a node that fails stands before it
+abbrev pub children_start : Note → Bool → List ℕ
+children_start note true = codes ",\"annotations\":["
+children_start note false = error_part note ++ codes ",\"errors\":["
+
+-- the error of a node that passes stands after the list
+abbrev pub error_behind : Note → Bool → List ℕ
+error_behind note true = error_part note
+error_behind note false = []
+
+-- what stands before the items of the list of children of a node that has some
+abbrev pub front_text : OutputUnit → List ℕ
+front_text u = head_text u ++ children_start u.note u.valid
+
+-- and what stands after that list
+abbrev pub back_text : OutputUnit → List ℕ
+back_text u = error_behind u.note u.valid ++ tail_text u
+
 -- the text before the array of units
 abbrev pub list_start : Bool → List ℕ
 list_start true = codes "{\"annotations\":"

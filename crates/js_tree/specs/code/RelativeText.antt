@@ -1,5 +1,5 @@
 -- The text of a node whose row has only what its locations add, in pieces (of private functions).
-use Rattle.std.specs.Prelude.{◌≡◌, ℕ, Bool, true, false, List, [], ◌∷◌, ◌++◌, codes, map}
+use Rattle.std.specs.Prelude.{◌≡◌, ℕ, Bool, List, ◌∷◌, ◌++◌, codes, map}
 use Rattle.json.specs.Print.{escape}
 use Rattle.js_doc.specs.Compact.{comma_if}
 use Rattle.js_tree.specs.Flat.{flat_form, flat_of}
@@ -10,7 +10,7 @@ use Rattle.js_tree.specs.Relative.{escaped, escaped_tree}
 use Rattle.js_tree.specs.RelativeState.{absolute_part, relative_row}
 use Rattle.js_tree.specs.Result.{ResultTree}
 use Rattle.js_tree.specs.Seen.{note_of}
-use Rattle.js_tree.specs.code.NodeText.{annotation_part, end_text, error_part}
+use Rattle.js_tree.specs.code.NodeText.{annotation_part, children_start, end_text, error_behind}
 use Rattle.js_tree.specs.declared.relative.rows.RelativeRow.{RelativeRow}
 
 -- the rows are those of the trees, whose locations have no escapes
@@ -32,16 +32,6 @@ unit_there r keyword absolute instance =
 -- up to the absolute location, whose closing quotation mark comes with what follows
 abbrev pub opening_text : Bool → List ℕ → List ℕ
 opening_text later absolute = comma_if later ++ (codes "{\"absoluteKeywordLocation\":\"" ++ escape absolute)
-
--- the beginning of the list of children; the error of a node that fails stands before it
-abbrev pub children_start : Note → Bool → List ℕ
-children_start note true = codes ",\"annotations\":["
-children_start note false = error_part note ++ codes ",\"errors\":["
-
--- the error of a node that passes stands after the list
-abbrev pub error_behind : Note → Bool → List ℕ
-error_behind note true = error_part note
-error_behind note false = []
 
 -- what stands before the children of a node that has some
 abbrev pub before_children : Bool → List ℕ → Note → Bool → List ℕ

@@ -14,7 +14,8 @@ ghost use Rattle.js_tree.specs.code.Gathering.{GathersOrStops};
 ghost use Rattle.js_tree.specs.code.Listing.{values_text};
 ghost use Rattle.js_tree.specs.code.NodeText.{annotation_part};
 ghost use Rattle.js_tree.specs.code.RelativeText.{AreRowsOfTree, AreRowsOfTrees, IsAbsolute, after_children};
-ghost use Rattle.js_tree.specs.code.RelativeText.{before_children, children_start, error_behind, opening_text};
+ghost use Rattle.js_tree.specs.code.RelativeText.{before_children, opening_text};
+ghost use Rattle.js_tree.specs.code.NodeText.{children_start, error_behind};
 ghost use Rattle.js_tree.specs.code.RelativeText.{unit_there};
 
 use crate::note::Note;
@@ -22,7 +23,7 @@ use crate::relative::basic_text::add_unit;
 use crate::relative::gathered::Gathered;
 use crate::relative::locations::Locations;
 use crate::relative::rows::{RelativeRow, RelativeRows};
-use crate::writing::node_text::{put_closed_annotation, put_error};
+use crate::writing::node_text::{put_closed_annotation, put_error_behind, put_list_start};
 use js_doc::{Out, Stopped, put_escaped};
 
 /// Writes the rows' tree as compact text in the verbose format (JSON Schema Core, section 12.4.4), with whole
@@ -184,17 +185,6 @@ fn put_before_list<O: Out>(note: &Note, valid: bool, out: &mut O) -> Result<(), 
     }
 }
 
-/// Writes the beginning of the list of children, and the error if it stands before them.
-fn put_list_start<O: Out>(note: &Note, valid: bool, out: &mut O) -> Result<(), Stopped>
-    ensures { Puts (O.progress out.old) (O.progress out.new) (children_start (note_of note.now) valid) result }
-{
-    if valid {
-        return out.put(b",\"annotations\":[");
-    }
-    put_error(note, out)?;
-    out.put(b",\"errors\":[")
-}
-
 /// Gathers what stands after the children, or writes it behind what was gathered if there is no room for it.
 #[inline(never)]
 fn add_back<O: Out>(
@@ -227,13 +217,6 @@ fn put_back<O: Out>(row: &RelativeRow, locations: &Locations, out: &mut O) -> Re
     out.put(b"]")?;
     put_error_behind(&row.note, valid, out)?;
     locations.put_end(valid, out)
-}
-
-/// Writes the error if it stands after the children.
-fn put_error_behind<O: Out>(note: &Note, valid: bool, out: &mut O) -> Result<(), Stopped>
-    ensures { Puts (O.progress out.old) (O.progress out.new) (error_behind (note_of note.now) valid) result }
-{
-    if valid { put_error(note, out) } else { Ok(()) }
 }
 
 /// Writes the beginning of a node, up to the end of its absolute location, without the closing quotation mark. What

@@ -3,13 +3,12 @@ ghost use Rattle.std.specs.Prelude.{◌≡◌, map};
 ghost use Rattle.js_doc.specs.BytesOut.{Puts};
 ghost use Rattle.js_doc.specs.Compact.{compact};
 ghost use Rattle.js_tree.specs.Flat.{flat_form};
-ghost use Rattle.js_tree.specs.FlatState.{IsWholeTree, flat_state, whole_tree};
+ghost use Rattle.js_tree.specs.FlatState.{IsWholeTree, flat_state, row_of, whole_tree};
 ghost use Rattle.js_tree.specs.Form.{flag, shown};
 ghost use Rattle.js_tree.specs.Result.{ResultTree};
 
-use crate::collecting::flat::Flat;
+use crate::collecting::flat::{Flat, Row};
 use crate::forms::Format;
-use crate::writing::any_row::Line;
 use crate::writing::row_text::{put_root, put_units};
 use js_doc::{Out, Stopped};
 
@@ -27,14 +26,15 @@ pub fn put_flat<O: Out>(flat: &Flat, format: Format, out: &mut O) -> Result<(), 
     put_rows(flat.rows(), format, out)
 }
 
-fn put_rows<L: Line, O: Out>(rows: &[L], format: Format, out: &mut O) -> Result<(), Stopped>
-    requires { (t : ResultTree) × (map L.flat_row rows.now ≡ flat_form t) }
-    ensures { (t : ResultTree) → map L.flat_row rows.now ≡ flat_form t
+fn put_rows<O: Out>(rows: &[Row], format: Format, out: &mut O) -> Result<(), Stopped>
+    requires { (t : ResultTree) × (map row_of rows.now ≡ flat_form t) }
+    ensures { (t : ResultTree) → map row_of rows.now ≡ flat_form t
         → Puts (O.progress out.old) (O.progress out.new) (compact (shown format t)) result }
 {
-    let root = &rows[0];
+    let row = &rows[0];
+    let root = &row.unit;
     match format {
-        Format::Flag => put_flag(root.is_valid(), out),
+        Format::Flag => put_flag(root.valid, out),
         Format::Basic => put_units(rows, out),
         Format::Detailed => put_root(rows, out),
         Format::Merged => put_root(rows, out),

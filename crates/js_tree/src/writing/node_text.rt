@@ -1,60 +1,77 @@
 //! The JSON text of a node, written piece by piece. Its members ascend by name (Core, section 12.3).
-ghost use Rattle.std.specs.Prelude.{◌++◌, ◌∷◌, codes, false, map, pos, true};
+ghost use Rattle.std.specs.Prelude.{◌++◌, ◌∷◌, [], codes, false, map, pos, true};
 ghost use Rattle.js_doc.specs.BytesOut.{Puts};
 ghost use Rattle.js_doc.specs.Compact.{comma_if, compact, compact_items, quoted};
 ghost use Rattle.js_doc.specs.Seen.{value_of};
 ghost use Rattle.js_doc.specs.Value.{items, list, text, whole};
-ghost use Rattle.js_tree.specs.code.NodeText.{annotation_part, beginning_text, end_text, error_part, head_text};
-ghost use Rattle.js_tree.specs.code.NodeText.{tail_text, valid_text};
+ghost use Rattle.js_tree.specs.Form.{node_value};
+ghost use Rattle.js_tree.specs.code.NodeText.{annotation_part, back_text, children_start, error_behind, error_part};
+ghost use Rattle.js_tree.specs.code.NodeText.{front_text, head_text, tail_text, valid_text};
 ghost use Rattle.js_tree.specs.Seen.{note_of};
 
 use crate::note::Note;
 use crate::unit::Unit;
-use js_doc::{Doc, Out, Stopped, Whole, put_number, put_string, put_text};
+use js_doc::{Doc, Out, Stopped, Whole, put_escaped, put_number, put_string, put_text};
 
-/// Writes the members before `annotations`.
-pub(crate) fn put_head<O: Out>(unit: &Unit, out: &mut O) -> Result<(), Stopped>
-    ensures { Puts (O.progress out.old) (O.progress out.new) (head_text unit.now) result }
+/// Writes a node without children.
+pub(crate) fn put_leaf<O: Out>(unit: &Unit, out: &mut O) -> Result<(), Stopped>
+    ensures { Puts (O.progress out.old) (O.progress out.new) (compact (node_value unit.now [])) result }
 {
-    put_opening_members(unit.absolute.as_str(), &unit.note, out)
+    put_head(unit, out)?;
+    put_error(&unit.note, out)?;
+    put_tail(unit, out)
+}
+
+/// Writes what stands before the children of a node that has some, with the opening bracket of their list.
+pub(crate) fn put_front<O: Out>(unit: &Unit, out: &mut O) -> Result<(), Stopped>
+    ensures { Puts (O.progress out.old) (O.progress out.new) (front_text unit.now) result }
+{
+    put_head(unit, out)?;
+    put_list_start(&unit.note, unit.valid, out)
+}
+
+/// Writes what stands after the list of children.
+pub(crate) fn put_back<O: Out>(unit: &Unit, out: &mut O) -> Result<(), Stopped>
+    ensures { Puts (O.progress out.old) (O.progress out.new) (back_text unit.now) result }
+{
+    put_error_behind(&unit.note, unit.valid, out)?;
+    put_tail(unit, out)
 }
 
 /// Writes the members before `annotations`: the absolute keyword location, and the annotation if the note is one.
-pub(crate) fn put_opening_members<O: Out>(
-    absolute: &str,
-    note: &Note,
-    out: &mut O,
-) -> Result<(), Stopped>
-    ensures { Puts (O.progress out.old) (O.progress out.new) (beginning_text absolute.now (note_of note.now)) result }
+fn put_head<O: Out>(unit: &Unit, out: &mut O) -> Result<(), Stopped>
+    ensures { Puts (O.progress out.old) (O.progress out.new) (head_text unit.now) result }
 {
-    put_member(b"{\"absoluteKeywordLocation\":", absolute, out)?;
-    put_annotation(note, out)
+    out.put(b"{\"absoluteKeywordLocation\":\"")?;
+    put_escaped(unit.absolute.as_str().as_bytes(), out)?;
+    put_closed_annotation(&unit.note, out)
 }
 
-/// Writes the members after `errors`.
-pub(crate) fn put_tail<O: Out>(unit: &Unit, out: &mut O) -> Result<(), Stopped>
-    ensures { Puts (O.progress out.old) (O.progress out.new) (tail_text unit.now) result }
+/// Writes the beginning of the list of children, and the error if it stands before them.
+pub(crate) fn put_list_start<O: Out>(note: &Note, valid: bool, out: &mut O) -> Result<(), Stopped>
+    ensures { Puts (O.progress out.old) (O.progress out.new) (children_start (note_of note.now) valid) result }
 {
-    put_closing_members(
-        unit.instance.as_str(),
-        unit.keyword.as_str(),
-        unit.valid,
-        out,
-    )
+    if valid {
+        return out.put(b",\"annotations\":[");
+    }
+    put_error(note, out)?;
+    out.put(b",\"errors\":[")
+}
+
+/// Writes the error if it stands after the children.
+pub(crate) fn put_error_behind<O: Out>(note: &Note, valid: bool, out: &mut O) -> Result<(), Stopped>
+    ensures { Puts (O.progress out.old) (O.progress out.new) (error_behind (note_of note.now) valid) result }
+{
+    if valid { put_error(note, out) } else { Ok(()) }
 }
 
 /// Writes the members after `errors`: the instance location, the keyword location and the verdict.
-pub(crate) fn put_closing_members<O: Out>(
-    instance: &str,
-    keyword: &str,
-    valid: bool,
-    out: &mut O,
-) -> Result<(), Stopped>
-    ensures { Puts (O.progress out.old) (O.progress out.new) (end_text instance.now keyword.now valid) result }
+fn put_tail<O: Out>(unit: &Unit, out: &mut O) -> Result<(), Stopped>
+    ensures { Puts (O.progress out.old) (O.progress out.new) (tail_text unit.now) result }
 {
-    put_member(b",\"instanceLocation\":", instance, out)?;
-    put_member(b",\"keywordLocation\":", keyword, out)?;
-    put_valid(valid, out)
+    put_member(b",\"instanceLocation\":", unit.instance.as_str(), out)?;
+    put_member(b",\"keywordLocation\":", unit.keyword.as_str(), out)?;
+    put_valid(unit.valid, out)
 }
 
 /// Writes the verdict, which is the last member, and the closing brace.
@@ -80,21 +97,6 @@ pub(crate) fn put_error<O: Out>(note: &Note, out: &mut O) -> Result<(), Stopped>
         Note::Index(_) => Ok(()),
         Note::Indexes(_) => Ok(()),
         Note::Truth => Ok(()),
-    }
-}
-
-/// Writes the annotation, if the note is one.
-pub(crate) fn put_annotation<O: Out>(note: &Note, out: &mut O) -> Result<(), Stopped>
-    ensures { Puts (O.progress out.old) (O.progress out.new) (annotation_part (note_of note.now)) result }
-{
-    match note {
-        Note::Silent => Ok(()),
-        Note::Error(_) => Ok(()),
-        Note::Value(value) => put_value(b",\"annotation\":", value, out),
-        Note::Names(names) => put_names(b",\"annotation\":[", names.as_slice(), out),
-        Note::Index(index) => put_index(b",\"annotation\":", *index, out),
-        Note::Indexes(indexes) => put_indexes(b",\"annotation\":[", indexes.as_slice(), out),
-        Note::Truth => out.put(b",\"annotation\":true"),
     }
 }
 

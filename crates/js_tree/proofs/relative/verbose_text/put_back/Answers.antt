@@ -1,7 +1,7 @@
 use Rattle.std.proofs.Common.{◌∷◌, [], ◌++◌}
 use Rattle.js_tree.specs.Seen.{note_of}
 use Rattle.js_tree.specs.code.NodeText.{end_text}
-use Rattle.js_tree.specs.code.RelativeText.{error_behind}
+use Rattle.js_tree.specs.code.NodeText.{error_behind}
 use Rattle.js_tree.proofs.Pieces.{stops_in, then_puts}
 use Rattle.js_tree.proofs.relative.verbose_text.put_back.Goals as goal
 

@@ -1,7 +1,8 @@
 use Rattle.std.proofs.Common.{◌∷◌, ◌++◌}
 use Rattle.js_tree.specs.Seen.{note_of}
 use Rattle.js_tree.specs.code.NodeText.{annotation_part}
-use Rattle.js_tree.specs.code.RelativeText.{children_start, opening_text}
+use Rattle.js_tree.specs.code.RelativeText.{opening_text}
+use Rattle.js_tree.specs.code.NodeText.{children_start}
 use Rattle.js_tree.proofs.Pieces.{stops_in, then_puts}
 use Rattle.js_tree.proofs.relative.verbose_text.put_front.Goals as goal
 

@@ -2,7 +2,7 @@ use Rattle.std.proofs.Common.{[], ◌++◌, map, ap, subst, ◌∙◌}
 use Rattle.js_doc.specs.BytesOut.{Puts}
 use Rattle.js_doc.specs.Compact.{compact}
 use Rattle.js_doc.specs.Value.{items, list}
-use Rattle.js_tree.specs.FlatState.{noted_of}
+use Rattle.js_tree.specs.FlatState.{noted_of, row_of}
 use Rattle.js_tree.specs.Form.{node_value}
 use Rattle.js_tree.specs.code.NodeText.{list_start, valid_text}
 use Rattle.js_tree.specs.Result.{units}
@@ -17,9 +17,9 @@ returns-in_err-put_list_name g c =
     λ t e.
     let o = g.O.Out.progress in
     let rows = c.args.rows.now in
-    let v = c.is_valid-valid.result in
-    let valid_is = c.is_valid-valid.ensures ∙ ap (λ u. u.valid) (root_row g.L.Line.flat_row rows t c.index-rows-0.result e c.index-rows-0.is) in
-    let us = list (items (map (λ u. node_value u []) (noted_of (map g.L.Line.flat_row rows)))) in
+    let v = c.root.inside.valid in
+    let valid_is = ap (λ u. u.valid) (c.root.view_is ∙ root_row row_of rows t c.index-rows-0.result e c.index-rows-0.is) in
+    let us = list (items (map (λ u. node_value u []) (noted_of (map row_of rows)))) in
     let r = c.from_residual.result in
     subst (λ b. Puts (o c.args.out.now) (o c.put_list_name.new.out) (compact (units_value b (units t))) r) valid_is
     (subst (λ xs. Puts (o c.args.out.now) (o c.put_list_name.new.out) (compact (units_value v xs)) r) (ap noted_of e ∙ noted_of-flat_form t)
@@ -31,9 +31,9 @@ returns-in_err-put_noted g c =
     λ t e.
     let o = g.O.Out.progress in
     let rows = c.args.rows.now in
-    let v = c.is_valid-valid.result in
-    let valid_is = c.is_valid-valid.ensures ∙ ap (λ u. u.valid) (root_row g.L.Line.flat_row rows t c.index-rows-0.result e c.index-rows-0.is) in
-    let us = list (items (map (λ u. node_value u []) (noted_of (map g.L.Line.flat_row rows)))) in
+    let v = c.root.inside.valid in
+    let valid_is = ap (λ u. u.valid) (c.root.view_is ∙ root_row row_of rows t c.index-rows-0.result e c.index-rows-0.is) in
+    let us = list (items (map (λ u. node_value u []) (noted_of (map row_of rows)))) in
     let r = c.from_residual-in_err-put_noted.result in
     subst (λ b. Puts (o c.args.out.now) (o c.put_noted.new.out) (compact (units_value b (units t))) r) valid_is
     (subst (λ xs. Puts (o c.args.out.now) (o c.put_noted.new.out) (compact (units_value v xs)) r) (ap noted_of e ∙ noted_of-flat_form t)
@@ -45,9 +45,9 @@ returns g c =
     λ t e.
     let o = g.O.Out.progress in
     let rows = c.args.rows.now in
-    let v = c.is_valid-valid.result in
-    let valid_is = c.is_valid-valid.ensures ∙ ap (λ u. u.valid) (root_row g.L.Line.flat_row rows t c.index-rows-0.result e c.index-rows-0.is) in
-    let us = list (items (map (λ u. node_value u []) (noted_of (map g.L.Line.flat_row rows)))) in
+    let v = c.root.inside.valid in
+    let valid_is = ap (λ u. u.valid) (c.root.view_is ∙ root_row row_of rows t c.index-rows-0.result e c.index-rows-0.is) in
+    let us = list (items (map (λ u. node_value u []) (noted_of (map row_of rows)))) in
     let r = c.put_valid.result in
     subst (λ b. Puts (o c.args.out.now) (o c.put_valid.new.out) (compact (units_value b (units t))) r) valid_is
     (subst (λ xs. Puts (o c.args.out.now) (o c.put_valid.new.out) (compact (units_value v xs)) r) (ap noted_of e ∙ noted_of-flat_form t)

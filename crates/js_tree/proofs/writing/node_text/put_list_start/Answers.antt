@@ -2,7 +2,7 @@ use Rattle.std.proofs.Common.{codes}
 use Rattle.js_tree.specs.Seen.{note_of}
 use Rattle.js_tree.specs.code.NodeText.{error_part}
 use Rattle.js_tree.proofs.Pieces.{stops_in, then_puts}
-use Rattle.js_tree.proofs.relative.verbose_text.put_list_start.Goals as goal
+use Rattle.js_tree.proofs.writing.node_text.put_list_start.Goals as goal
 
 pub returns-in_err-put_error : goal.returns-in_err-put_error
 returns-in_err-put_error g c =
