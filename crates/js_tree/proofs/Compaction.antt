@@ -87,6 +87,14 @@ module _ {A : Type 0} (noted : A → Bool) where
   one_goes a f g e s =
       let k : is_kept_node noted a f ≡ false = sym (kept_stands a f) ∙ ap (node_stands noted a) (sym e) ∙ s in rw (k, ← e) (append-empty g)
 
+  one_left_by : (v : Bool) (a : A) (f g : Forest A) → g ≡ kept_below noted f → node_stands noted a g ≡ v → kept_below noted (tree a f empty) ≡ (if v then tree a g empty else g)
+  one_left_by true a f g e s = one_stays a f g e s
+  one_left_by false a f g e s = one_goes a f g e s
+
+  -- what is left of a node, once it is known what is left below it
+  pub one_lifted : (a : A) (f g : Forest A) → g ≡ kept_below noted f → kept_below noted (tree a f empty) ≡ (if node_stands noted a g then tree a g empty else g)
+  one_lifted a f g e = one_left_by (node_stands noted a g) a f g e refl
+
   -- a node that doesn't stand has at most one child
   at_most_one : (n : ℕ) → at_least_two n ≡ false → n < 2
   at_most_one zero e = omega arith
@@ -104,3 +112,11 @@ module _ {A : Type 0} where
   only_last ts (r ∷ []) last e h = let l : length ts ≡ 2 = ap length e in absurd (omega arith)
   only_last ts (r ∷ s ∷ rest) last e h =
       let l : length ts ≡ suc (suc (length (rest ++ (last ∷ [])))) = ap length e in absurd (omega arith)
+
+module _ {A : Type 0} (noted : A → Bool) where
+  -- the last child of a node that doesn't stand is what is left of it
+  pub lifted_to : (t new : Rose A) (a : A) (ts rest : List (Rose A)) (last : Rose A) → record { root = a; below = forest_of ts } ≡ t → node_stands noted t.root t.below ≡ false → ts ≡ rest ++ (last ∷ []) → last ≡ new
+      → (if node_stands noted t.root t.below then tree t.root t.below empty else t.below) ≡ tree new.root new.below empty
+  lifted_to t new a ts rest last e s l n =
+      let few = few_children noted a ts (ap (λ u. node_stands noted u.root u.below) e ∙ s) in
+      rw s (ap (λ u. u.below) (sym e) ∙ (ap forest_of (only_last ts rest last l few) ∙ ap (λ u. tree u.root u.below empty) n))

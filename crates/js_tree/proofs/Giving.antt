@@ -94,5 +94,8 @@ module _ {A : Type 0} (noted : A → Bool) (same : A → A → Bool) where
   pub one_given : (a : A) (f g : Forest A) → g ≡ merged_below noted same f → node_stands noted a g ≡ true → given_trees noted same (tree a f empty) ≡ tree a g empty
   one_given a f g e s = rw (← e, s) refl
 
+  pub given_over : (a : A) (f g : Forest A) → g ≡ merged_below noted same f → given_trees noted same (tree a f empty) ≡ (if node_stands noted a g then tree a g empty else g)
+  given_over a f g e = rw (← e) (append-empty (if node_stands noted a g then tree a g empty else g))
+
   pub one_passed : (a : A) (f g : Forest A) → g ≡ merged_below noted same f → node_stands noted a g ≡ false → given_trees noted same (tree a f empty) ≡ g
   one_passed a f g e s = rw (← e, s) (append-empty g)

@@ -38,10 +38,10 @@ first_again [] these n x y h = absurd (omega (arith, h))
 first_again (r ∷ rows) these n x y h = refl
 
 -- the node of a row whose note has been moved
-pub with_note : (x : RelativeRow) (k a i : List ℕ) (g : Forest OutputUnit) (note : Note) → note ≡ note_of x.note
-    → ◌≡◌ {A = ResultTree} (record { root = record { valid = x.valid; keyword = k; absolute = a; instance = i; note = note }; below = g })
+pub with_head : (x : RelativeRow) (k a i k' a' i' : List ℕ) (g : Forest OutputUnit) (note : Note) → k' ≡ k → a' ≡ a → i' ≡ i → note ≡ note_of x.note
+    → ◌≡◌ {A = ResultTree} (record { root = record { valid = x.valid; keyword = k'; absolute = a'; instance = i'; note = note }; below = g })
     (record { root = unit_there x k a i; below = g })
-with_note x k a i g note e = ap (λ n. record { root = record { valid = x.valid; keyword = k; absolute = a; instance = i; note = n }; below = g }) e
+with_head x k a i k' a' i' g note e1 e2 e3 e = rw (e1, e2, e3, e) refl
 
 pub node_placed : (k i : List ℕ) (x : RelativeRow) (u : OutputUnit) (g below : Forest OutputUnit) → (relative_row x).0 ≡ escaped_unit u
     → g ≡ placed (k ++ u.keyword) (i ++ u.instance) below

@@ -1,8 +1,9 @@
 -- A move at a node of one of several trees that stand side by side.
-use Rattle.std.proofs.Common.{◌≡◌, ◌≢◌, ℕ, suc, ◌+◌, ◌≤◌, ◌<◌, ◌-◌, Bool, true, false, ◌⊎◌, inl, inr, List, [], ◌∷◌, ◌++◌, length, take, drop, get_or, set, Option, Some, None, refl, ap, sym, ◌∙◌, arith}
+use Rattle.std.proofs.Common.{◌≡◌, ◌≢◌, ℕ, suc, ◌+◌, ◌≤◌, ◌<◌, ◌-◌, Bool, true, false, ◌⊎◌, inl, inr, List, [], ◌∷◌, ◌++◌, length, take, drop, get_or, set, Option, Some, None, if◌then◌else◌, refl, ap, sym, subst, ◌∙◌, arith}
 use Rattle.std.proofs.lemmas.Bool.{lt-ltb, le-ltb}
 use Rattle.js_tree.specs.Forest.{Forest, empty, tree, Rose, forest_of, ◌⊹◌, node_count}
 use Rattle.js_tree.specs.Merged.{has_alike}
+use Rattle.js_tree.specs.Step.{node_stands}
 use Rattle.js_tree.specs.Moves.{mapped, without_leaf, with_only_child, moved_first, moved_at}
 use Rattle.js_tree.specs.declared.reducing.moves.Rule.{Rule}
 use Rattle.js_tree.specs.declared.reducing.moves.Rule.TheVariants.{Drop, Lift, Merge}
@@ -34,6 +35,22 @@ module _ {A : Type 0} (noted : A → Bool) where
 
   pub no_only_child : (t : Rose A) (a : A) (us : List (Rose A)) → record { root = a; below = forest_of us } ≡ t → (noted a ≡ true) ⊎ (length us ≢ 1) → with_only_child noted t.root t.below empty ≡ None
   no_only_child t a us e n = rw (← e) (with_only_child_none a us n)
+
+  only_child_lifted : (a : A) (us : List (Rose A)) (new : Rose A) (b : Bool) → noted a ≡ false → length us ≡ 1
+      → (if node_stands noted a (forest_of us) then tree a (forest_of us) empty else forest_of us) ≡ (if b then tree new.root new.below empty else empty)
+      → (with_only_child noted a (forest_of us) empty ≡ (if b then Some (tree new.root new.below empty) else None)) × (b ≡ true)
+  only_child_lifted a [] new b n l h = absurd cc
+  only_child_lifted a (u ∷ []) new true n l h = let k = rw n at h in (rw n (ap Some k), refl)
+  only_child_lifted a (u ∷ []) new false n l h = let k = rw n at h in absurd cc
+  only_child_lifted a (u ∷ v ∷ us) new b n l h = absurd cc
+
+  -- a node without a note doesn't stand over its only child
+  pub only_child_lifts : (t new : Rose A) (a : A) (us : List (Rose A)) (b : Bool) → record { root = a; below = forest_of us } ≡ t → noted a ≡ false → length us ≡ 1
+      → (if node_stands noted t.root t.below then tree t.root t.below empty else t.below) ≡ (if b then tree new.root new.below empty else empty)
+      → (with_only_child noted t.root t.below empty ≡ (if b then Some (tree new.root new.below empty) else None)) × (b ≡ true)
+  only_child_lifts t new a us b e n l h =
+      subst (λ s. (with_only_child noted s.root s.below empty ≡ (if b then Some (tree new.root new.below empty) else None)) × (b ≡ true)) e
+      (only_child_lifted a us new b n l (subst (λ s. (if node_stands noted s.root s.below then tree s.root s.below empty else s.below) ≡ (if b then tree new.root new.below empty else empty)) (sym e) h))
 
   with_only_child_some : (v : Bool) (a : A) (f g after : Forest A) → noted a ≡ v → with_only_child noted a f empty ≡ Some g → with_only_child noted a f after ≡ Some (g ⊹ after)
   with_only_child_some v a empty g after n e = absurd cc

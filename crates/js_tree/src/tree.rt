@@ -1,8 +1,12 @@
 //! Result trees.
-ghost use Rattle.std.specs.Prelude.{◌≡◌, ◌∷◌, ◌++◌, ◌↔◌, IsTrue, MatchOption, [], length};
+ghost use Rattle.std.specs.Prelude.{◌≡◌, ◌∷◌, ◌++◌, ◌↔◌, IsTrue, MatchOption, [], if◌then◌else◌, length};
+ghost use Rattle.js_tree.specs.Forest.{empty, tree as node};
 ghost use Rattle.js_tree.specs.OutputUnit.{noted};
+ghost use Rattle.js_tree.specs.Seen.{note_of};
 ghost use Rattle.js_tree.specs.Step.{node_stands};
 
+use crate::collecting::collector::Head;
+use crate::note::Note;
 use crate::unit::Unit;
 use std::cell::Cell;
 use std::marker::Model;
@@ -114,12 +118,64 @@ impl<'a> Trees<'a> {
 }
 
 impl<'a> Tree<'a> {
+    ghost use Rattle.js_tree.specs.Forest.{forest_of};
+
+    /// The tree of a node with these locations, this verdict and this note, over these children.
+    pub(crate) fn of_node(
+        head: Head,
+        valid: bool,
+        note: Note<'a>,
+        children: Vec<Tree<'a>>,
+    ) -> Tree<'a>
+        ensures { result ≡ record {
+          root = record {
+            valid = valid;
+            keyword = head.keyword;
+            absolute = head.absolute;
+            instance = head.instance;
+            note = note_of note.entry;
+          };
+          below = forest_of children.entry.items;
+        } }
+    {
+        Tree {
+            unit: Unit {
+                valid,
+                keyword: head.keyword,
+                absolute: head.absolute,
+                instance: head.instance,
+                note,
+            },
+            children: Trees::new(children),
+        }
+    }
+
     /// Whether condensing leaves the node in place: it has a note, or at least two children.
     pub(crate) fn node_stands(&self) -> bool
         ensures { result ≡ node_stands noted self.now.root self.now.below }
     {
         self.unit.is_noted() || self.children.len() >= 2
     }
+
+    /// Replaces the tree by its root's only child, unless condensing leaves the root in place. Returns whether a tree is
+    /// left.
+    pub(crate) fn lift(&mut self) -> bool
+        ensures { (if node_stands noted self.old.root self.old.below
+            then node self.old.root self.old.below empty else self.old.below)
+            ≡ (if result then node self.new.root self.new.below empty else empty) }
+    {
+        if self.node_stands() {
+            return true;
+        }
+        match self.children.pop() {
+            Some(child) => {
+                *self = child;
+                true
+            }
+            None => false,
+        }
+    }
+
     /// The mark that was set last.
     pub(crate) fn last_mark(&self) -> usize {
         self.children.mark.get()

@@ -11,7 +11,7 @@ use js_doc::Memory;
 use std::alloc::Global;
 
 // A node that has opened and not closed yet, with the finished subtrees below it.
-#[derive(Debug, Drop)]
+#[derive(Drop)]
 struct OpenTree<'a> {
     head: Head,
     children: Vec<Tree<'a>>,

@@ -61,18 +61,8 @@ fn condense_one(tree: &mut Tree) -> bool
         ≡ (if result then node tree.new.root tree.new.below empty else empty) }
 {
     condense_children(&mut tree.children);
-    // Checked after the children are condensed, because some may be gone.
-    let stays = tree.node_stands();
-    if stays {
-        return true;
-    }
-    match tree.children.pop() {
-        Some(child) => {
-            *tree = child;
-            true
-        }
-        None => false,
-    }
+    // After the children are condensed, because some may be gone.
+    tree.lift()
 }
 
 /// Whether neither rule of `condense` is possible anywhere below the root.

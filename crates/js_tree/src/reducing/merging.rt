@@ -69,18 +69,8 @@ fn merge_one(tree: &mut Tree) -> bool
         ≡ (if result then node tree.new.root tree.new.below empty else empty) }
 {
     merge_children(&mut tree.children);
-    // Checked after the children are merged, because some may be gone.
-    let stays = tree.node_stands();
-    if stays {
-        return true;
-    }
-    match tree.children.pop() {
-        Some(child) => {
-            *tree = child;
-            true
-        }
-        None => false,
-    }
+    // After the children are merged, because some may be gone.
+    tree.lift()
 }
 
 /// Drops each tree that is alike to an earlier one.

@@ -177,11 +177,5 @@ fn lift_child(tree: &mut Tree) -> bool
     if tree.unit.is_noted() || tree.children.len() != 1 {
         return false;
     }
-    match tree.children.pop() {
-        Some(child) => {
-            *tree = child;
-            true
-        }
-        None => false,
-    }
+    tree.lift()
 }

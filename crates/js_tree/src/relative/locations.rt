@@ -6,12 +6,14 @@ ghost use Rattle.js_tree.specs.Locations.{AreAt, HasRoom, HasRoomFor, IsBack, Is
 ghost use Rattle.js_tree.specs.Locations.{keyword_start, keywords_added};
 ghost use Rattle.js_tree.specs.RelativeState.{part};
 ghost use Rattle.js_tree.specs.code.NodeText.{end_text, valid_text};
+ghost use Rattle.js_tree.specs.code.RelativeText.{IsAbsolute};
 
+use crate::collecting::collector::Head;
 use crate::relative::gathered::Gathered;
 use crate::relative::opening::Opening;
 use crate::relative::rows::{RelativeRow, RelativeRows, behind};
 use crate::relative::unescaping::text_of;
-use js_doc::{Memory, Out, Stopped, Text};
+use js_doc::{Memory, Out, Stopped};
 use std::alloc::Global;
 use std::mem::replace;
 
@@ -65,26 +67,22 @@ impl Locations {
         replace(&mut self.gathered, Gathered::without_memory(alloc))
     }
 
-    /// The keyword location, as a text of its own.
+    /// The locations of the row's node, as texts of their own.
     ///
     /// # Errors
     /// `Memory` if an allocation fails.
-    pub(crate) fn keyword_text(&self, alloc: Global) -> Result<Text, Memory>
-        ensures { (keyword instance : List ℕ) → AreAt self.now keyword instance → IfOk result (λ t. t ≡ keyword) }
+    pub(crate) fn head(&self, alloc: Global, row: &RelativeRow) -> Result<Head, Memory>
+        ensures { (keyword absolute instance : List ℕ) → AreAt self.now keyword instance → IsAbsolute row.now absolute
+            → IfOk result (λ head. (head.keyword ≡ keyword) × (head.absolute ≡ absolute)
+            × (head.instance ≡ instance)) }
     {
-        let escaped = behind(self.keyword.as_slice(), KEYWORD_START.len());
-        text_of(alloc, "", false, escaped)
-    }
-
-    /// The instance location, as a text of its own.
-    ///
-    /// # Errors
-    /// `Memory` if an allocation fails.
-    pub(crate) fn instance_text(&self, alloc: Global) -> Result<Text, Memory>
-        ensures { (keyword instance : List ℕ) → AreAt self.now keyword instance → IfOk result (λ t. t ≡ instance) }
-    {
-        let escaped = behind(self.instance.as_slice(), INSTANCE_START.len());
-        text_of(alloc, "", false, escaped)
+        let keyword = behind(self.keyword.as_slice(), KEYWORD_START.len());
+        let instance = behind(self.instance.as_slice(), INSTANCE_START.len());
+        Ok(Head {
+            keyword: text_of(alloc, "", false, keyword)?,
+            absolute: text_of(alloc, row.schema, row.absolute_slash, row.absolute)?,
+            instance: text_of(alloc, "", false, instance)?,
+        })
     }
 
     /// Goes from the node above to the node of the row. It allocates nothing.

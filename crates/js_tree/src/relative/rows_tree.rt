@@ -12,9 +12,7 @@ ghost use Rattle.js_tree.specs.code.RelativeText.{AreRowsOfTree, AreRowsOfTrees,
 use crate::note::Note;
 use crate::relative::locations::Locations;
 use crate::relative::rows::{RelativeRow, RelativeRows};
-use crate::relative::unescaping::text_of;
-use crate::tree::{Tree, Trees};
-use crate::unit::Unit;
+use crate::tree::Tree;
 use js_doc::Memory;
 use std::alloc::Global;
 use std::mem::replace;
@@ -46,8 +44,9 @@ fn take_root<'a>(
     locations.go_to_node(&rows[0]);
     take_trees(alloc, &mut rows[1..], locations, &mut below)?;
     let root = &mut rows[0];
+    let head = locations.head(alloc, root)?;
     let note = replace(&mut root.note, Note::Silent);
-    node_at(alloc, root, note, locations, below)
+    Ok(Tree::of_node(head, root.valid, note, below))
 }
 
 // Adds the trees of the rows.
@@ -110,62 +109,9 @@ fn add_node<'a>(
         ⊹ tree (unit_there row.old keyword absolute instance) (forest_of below.entry.items) empty)) }
     ensures up { OnOk result (IsUp locations.old row.old locations.new) }
 {
+    let head = locations.head(alloc, row)?;
     let note = replace(&mut row.note, Note::Silent);
-    let node = node_at(alloc, row, note, locations, below)?;
-    trees.push(node)?;
+    trees.push(Tree::of_node(head, row.valid, note, below))?;
     locations.go_back(row);
     Ok(())
-}
-
-// The node of the row, which has this note and these locations, over the trees.
-#[inline(never)]
-fn node_at<'a>(
-    alloc: Global,
-    row: &RelativeRow<'a>,
-    note: Note<'a>,
-    locations: &Locations,
-    trees: Vec<Tree<'a>>,
-) -> Result<Tree<'a>, Memory>
-    ensures { (keyword absolute instance : List ℕ) → AreAt locations.now keyword instance
-        → IsAbsolute row.now absolute → IfOk result (λ t. t ≡ record {
-          root = record {
-            valid = row.now.valid;
-            keyword = keyword;
-            absolute = absolute;
-            instance = instance;
-            note = note_of note.entry;
-          };
-          below = forest_of trees.entry.items;
-        }) }
-{
-    let unit = unit_at(alloc, row, note, locations)?;
-    Ok(Tree {
-        unit,
-        children: Trees::new(trees),
-    })
-}
-
-// The unit of the row, whose node has this note and these locations.
-fn unit_at<'a>(
-    alloc: Global,
-    row: &RelativeRow<'a>,
-    note: Note<'a>,
-    locations: &Locations,
-) -> Result<Unit<'a>, Memory>
-    ensures { (keyword absolute instance : List ℕ) → AreAt locations.now keyword instance
-        → IsAbsolute row.now absolute → IfOk result (λ u. u ≡ record {
-          valid = row.now.valid;
-          keyword = keyword;
-          absolute = absolute;
-          instance = instance;
-          note = note_of note.entry;
-        }) }
-{
-    Ok(Unit {
-        valid: row.valid,
-        keyword: locations.keyword_text(alloc)?,
-        absolute: text_of(alloc, row.schema, row.absolute_slash, row.absolute)?,
-        instance: locations.instance_text(alloc)?,
-        note,
-    })
 }

@@ -1,11 +1,10 @@
 use Rattle.std.proofs.Common.{◌≡◌, ◌∙◌, sym, ap, length, arith, take, drop, get_or, set, ◌+◌, ◌<◌, length-set}
 use Rattle.std.proofs.lemmas.List.{take-set-le, drop-set-lt, get_or-set_same}
-use Rattle.js_tree.specs.Forest.{Rose, empty, tree as node, node_count, forest_of}
-use Rattle.js_tree.specs.declared.unit.Unit.{Unit}
+use Rattle.js_tree.specs.Forest.{empty, tree as node, node_count, forest_of}
 use Rattle.js_tree.specs.OutputUnit.{noted}
 use Rattle.js_tree.specs.Kept.{kept_below}
 use Rattle.js_tree.proofs.Forests.{fewer_nodes, same_at, same_after}
-use Rattle.js_tree.proofs.Compaction.{take-swap, drop-swap, one_left, none_left, kept_below-append, one_stays, one_goes, few_children, only_last}
+use Rattle.js_tree.proofs.Compaction.{take-swap, drop-swap, one_left, none_left, kept_below-append, one_lifted}
 use Rattle.js_tree.proofs.reducing.condensing.+condense.Goals as goal
 use Rattle.js_tree.proofs.reducing.condensing.+condense.Goals.{condense_all-then-condense_one, condense_all-else-condense_one}
 
@@ -46,27 +45,8 @@ condense_all-loop-i-preserved t c =
           }
     ]
 
--- the node as it was opened
-opened : (t : Rose Unit) (u : Rose Unit) → t ≡ u → kept_below noted (node u.root u.below empty) ≡ kept_below noted (node t.root t.below empty)
-opened t u e = ap (λ v. kept_below noted (node v.root v.below empty)) (sym e)
-
-pub condense_one-returns-then-stays : goal.condense_one-returns-then-stays
-condense_one-returns-then-stays t c =
-    opened (record { root = c.tree.inside.unit; below = forest_of c.tree.inside.children }) c.args.tree.now c.tree.view_is
-    ∙ one_stays noted c.tree.inside.unit (forest_of c.tree.inside.children) (forest_of c.condense_children.new.children) c.condense_children.ensures (sym c.node_stands-stays.ensures ∙ c.if-stays.true)
-
-pub condense_one-returns-in-Some : goal.condense_one-returns-in-Some
-condense_one-returns-in-Some t c =
-    let s = sym c.node_stands-stays.ensures ∙ c.if-stays.false in
-    let few = few_children noted c.tree.inside.unit c.condense_children.new.children s in
-    opened (record { root = c.tree.inside.unit; below = forest_of c.tree.inside.children }) c.args.tree.now c.tree.view_is
-    ∙ one_goes noted c.tree.inside.unit (forest_of c.tree.inside.children) (forest_of c.condense_children.new.children) c.condense_children.ensures s
-    ∙ ap forest_of (only_last c.condense_children.new.children c.pop.new.self c.in-Some.child c.in-Some.ensures few)
-    ∙ ap (λ v. node v.root v.below empty) (sym c.drop.view_is)
-
-pub condense_one-returns-in-None : goal.condense_one-returns-in-None
-condense_one-returns-in-None t c =
-    let s = sym c.node_stands-stays.ensures ∙ c.if-stays.false in
-    opened (record { root = c.tree.inside.unit; below = forest_of c.tree.inside.children }) c.args.tree.now c.tree.view_is
-    ∙ one_goes noted c.tree.inside.unit (forest_of c.tree.inside.children) (forest_of c.condense_children.new.children) c.condense_children.ensures s
-    ∙ ap forest_of c.in-None.ensures
+pub condense_one-returns : goal.condense_one-returns
+condense_one-returns t c =
+    ap (λ v. kept_below noted (node v.root v.below empty)) (sym c.tree.view_is)
+    ∙ (one_lifted noted c.tree.inside.unit (forest_of c.tree.inside.children) (forest_of c.condense_children.new.children) c.condense_children.ensures
+    ∙ c.lift.ensures)

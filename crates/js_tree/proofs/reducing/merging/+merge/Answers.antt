@@ -5,8 +5,8 @@ use Rattle.js_tree.specs.Forest.{empty, tree as node, node_count, forest_of}
 use Rattle.js_tree.specs.Merged.{given_trees}
 use Rattle.js_tree.specs.OutputUnit.{noted}
 use Rattle.js_tree.proofs.Forests.{fewer_nodes, same_at, same_after}
-use Rattle.js_tree.proofs.Compaction.{take-swap, drop-swap, one_left, none_left, few_children, only_last}
-use Rattle.js_tree.proofs.Giving.{given_trees-append, one_passed}
+use Rattle.js_tree.proofs.Compaction.{take-swap, drop-swap, one_left, none_left}
+use Rattle.js_tree.proofs.Giving.{given_trees-append, given_over}
 use Rattle.js_tree.proofs.reducing.merging.+merge.Goals as goal
 use Rattle.js_tree.proofs.reducing.merging.+merge.Goals.{merge_all-then-merge_one, merge_all-else-merge_one}
 
@@ -47,11 +47,8 @@ merge_all-loop-i-preserved t c =
           }
     ]
 
-pub merge_one-returns-in-Some : goal.merge_one-returns-in-Some
-merge_one-returns-in-Some t c =
-    let s = sym c.node_stands-stays.ensures ∙ c.if-stays.false in
-    let few = few_children noted c.tree.inside.unit c.merge_children.new.children s in
+pub merge_one-returns : goal.merge_one-returns
+merge_one-returns t c =
     ap (λ v. given_trees noted same_but_keyword (node v.root v.below empty)) (sym c.tree.view_is)
-    ∙ one_passed noted same_but_keyword c.tree.inside.unit (forest_of c.tree.inside.children) (forest_of c.merge_children.new.children) c.merge_children.ensures s
-    ∙ ap forest_of (only_last c.merge_children.new.children c.pop.new.self c.in-Some.child c.in-Some.ensures few)
-    ∙ ap (λ v. node v.root v.below empty) (sym c.drop.view_is)
+    ∙ (given_over noted same_but_keyword c.tree.inside.unit (forest_of c.tree.inside.children) (forest_of c.merge_children.new.children) c.merge_children.ensures
+    ∙ c.lift.ensures)

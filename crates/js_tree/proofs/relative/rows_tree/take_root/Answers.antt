@@ -1,4 +1,4 @@
-use Rattle.std.proofs.Common.{◌≡◌, ◌-◌, ◌++◌, IfOk, length, slice_index_or, ap, ap₂, sym, subst, ◌∙◌}
+use Rattle.std.proofs.Common.{◌≡◌, ◌-◌, ◌++◌, length, slice_index_or, ap, ap₂, sym, subst, ◌∙◌}
 use borrow.Rule.Slice.PartMut.{put_mid}
 use Rattle.js_tree.specs.Forest.{forest_of, ◌⊹◌}
 use Rattle.js_tree.specs.Locations.{HasRoom}
@@ -8,7 +8,7 @@ use Rattle.js_tree.specs.Seen.{note_of}
 use Rattle.js_tree.proofs.ChildTexts.{rest_of}
 use Rattle.js_tree.proofs.EscapedRows.{at_below, is_absolute, still_at}
 use Rattle.js_tree.proofs.FlatRows.{root_row}
-use Rattle.js_tree.proofs.PlacedRows.{first_again, rows_under, with_note}
+use Rattle.js_tree.proofs.PlacedRows.{first_again, rows_under, with_head}
 use Rattle.js_tree.proofs.RelativeTexts.{unit_is_there}
 use Rattle.js_tree.proofs.RoomLeft.{room_below, some_row}
 use Rattle.js_tree.proofs.relative.rows_tree.take_root.Goals as goal
@@ -40,6 +40,6 @@ returns c =
     let down = at_below c.args.locations.now c.go_to_node.new.self x u k i at c.go_to_node.ensures first in
     let still = still_at c.go_to_node.new.self c.take_trees.new.locations k1 i1 down c.in_ok-take_trees.ensures.back in
     let told = c.in_ok-take_trees.ensures.trees r.below k1 i1 down (rows_under rows u r.below h) ∙ ap (λ ts. forest_of ts ⊹ placed k1 i1 r.below) c.new-below.ensures.items in
-    let moved = with_note y k1 u.absolute i1 (forest_of c.take_trees.new.trees.items) _ (ap note_of c.replace-note.ensures.value) in
-    subst (λ s. IfOk c.node_at.result (λ t. t ≡ s)) (moved ∙ ap₂ (λ v g. record { root = v; below = g }) (unit_is_there k i y u root) told)
-    (c.node_at.ensures k1 u.absolute i1 still (is_absolute y u root))
+    let h = c.in_ok-head.ensures k1 u.absolute i1 still (is_absolute y u root) in
+    let moved = with_head y k1 u.absolute i1 _ _ _ (forest_of c.take_trees.new.trees.items) _ h.0 h.1 h.2 (ap note_of c.replace-note.ensures.value) in
+    c.of_node.ensures ∙ (moved ∙ ap₂ (λ v g. record { root = v; below = g }) (unit_is_there k i y u root) told)
