@@ -5,10 +5,10 @@ ghost use Rattle.js_tree.specs.Seen.{note_of};
 
 use crate::collecting::collector::{Collector, Head};
 use crate::note::Note;
-use crate::tree::{Tree, Trees};
-use crate::unit::Unit;
+use crate::tree::Tree;
 use js_doc::Memory;
 use std::alloc::Global;
+use std::mem::{forget, replace};
 
 // A node that has opened and not closed yet, with the finished subtrees below it.
 #[derive(Drop)]
@@ -88,19 +88,19 @@ impl<'a> Collector<'a> for Boxed<'a> {
             None => Ok(()),
             Some(node) => match self.nodes.pop() {
                 None => {
-                    self.found = Some(closed(node, valid, note));
+                    // No tree was found while nodes are open: there is nothing to drop.
+                    forget(replace(&mut self.found, Some(closed(node, valid, note))));
                     Ok(())
                 }
                 Some(mut parent) => match parent.children.reserve(1) {
                     Ok(()) => {
-                        // Both pushes succeed, because there is room.
-                        let _ = parent.children.push(closed(node, valid, note));
-                        let _ = self.nodes.push(parent);
+                        parent.children.push_reserved(closed(node, valid, note));
+                        self.nodes.push_reserved(parent);
                         Ok(())
                     }
                     Err(refused) => {
-                        let _ = self.nodes.push(parent);
-                        let _ = self.nodes.push(node);
+                        self.nodes.push_reserved(parent);
+                        self.nodes.push_reserved(node);
                         Err(Memory::from(refused))
                     }
                 },
@@ -117,14 +117,5 @@ fn closed<'a>(node: OpenTree<'a>, valid: bool, note: Note<'a>) -> Tree<'a>
     } }
 {
     let OpenTree { head, children } = node;
-    Tree {
-        unit: Unit {
-            valid,
-            keyword: head.keyword,
-            absolute: head.absolute,
-            instance: head.instance,
-            note,
-        },
-        children: Trees::new(children),
-    }
+    Tree::of_node(head, valid, note, children)
 }

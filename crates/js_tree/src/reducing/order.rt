@@ -30,27 +30,11 @@ impl<'a> Note<'a> {
     fn compare(&self, other: &Note) -> Ordering
         ensures { result ≡ note_order (note_of self.now) (note_of other.now) }
     {
-        match self {
-            Note::Error(a) => if let Note::Error(b) = other {
-                a.as_str().cmp(b.as_str())
-            } else {
-                self.note_rank().cmp(&other.note_rank())
-            },
-            Note::Names(a) => if let Note::Names(b) = other {
-                a.as_slice().cmp(b.as_slice())
-            } else {
-                self.note_rank().cmp(&other.note_rank())
-            },
-            Note::Index(a) => if let Note::Index(b) = other {
-                a.cmp(b)
-            } else {
-                self.note_rank().cmp(&other.note_rank())
-            },
-            Note::Indexes(a) => if let Note::Indexes(b) = other {
-                a.as_slice().cmp(b.as_slice())
-            } else {
-                self.note_rank().cmp(&other.note_rank())
-            },
+        match (self, other) {
+            (Note::Error(a), Note::Error(b)) => a.as_str().cmp(b.as_str()),
+            (Note::Names(a), Note::Names(b)) => a.as_slice().cmp(b.as_slice()),
+            (Note::Index(a), Note::Index(b)) => a.cmp(b),
+            (Note::Indexes(a), Note::Indexes(b)) => a.as_slice().cmp(b.as_slice()),
             _ => self.note_rank().cmp(&other.note_rank()),
         }
     }

@@ -325,10 +325,13 @@ fn some_in_arena<'a>(
 ) -> Result<&'a [u8], Memory>
     ensures { IfOk result (λ b. b.now ≡ escape bytes.now) }
 {
-    if !stand_as_they_are(bytes) {
-        return escaped_in_arena(arena, scratch, bytes);
+    if stand_as_they_are(bytes) {
+        let kept = arena.try_alloc_slice_copy(bytes)?;
+        return Ok(kept);
     }
-    let kept = arena.try_alloc_slice_copy(bytes)?;
+    scratch.clear();
+    put_escaped(bytes, scratch)?;
+    let kept = arena.try_alloc_slice_copy(scratch.as_slice())?;
     Ok(kept)
 }
 
@@ -375,17 +378,4 @@ fn shared_or_in_arena<'a>(
         return Ok(kept);
     }
     in_arena(arena, scratch, bytes)
-}
-
-fn escaped_in_arena<'a>(
-    arena: &'a Bump,
-    scratch: &mut Vec<u8>,
-    bytes: &[u8],
-) -> Result<&'a [u8], Memory>
-    ensures { IfOk result (λ b. b.now ≡ escape bytes.now) }
-{
-    scratch.clear();
-    put_escaped(bytes, scratch)?;
-    let kept = arena.try_alloc_slice_copy(scratch.as_slice())?;
-    Ok(kept)
 }

@@ -6,9 +6,9 @@ use Rattle.js_tree.specs.Seen.{note_of}
 use Rattle.js_tree.specs.code.Order.{note_order}
 use Rattle.js_tree.proofs.note.Note.compare.Goals as goal
 
-pub returns-in-Names-other : goal.returns-in-Names-other
-returns-in-Names-other c =
-    c.cmp-in-Names-other.ensures
-    ∙ sym (lex_map (λ name. name.now) (slice_cmp nat_cmp) c.as_slice.result.now c.as_slice-in-Names-other.result.now)
-    ∙ ap₂ (slice_cmp (slice_cmp nat_cmp)) c.as_slice.ensures c.as_slice-in-Names-other.ensures
-    ∙ ap₂ (λ a b. note_order (note_of a) (note_of b)) (sym c.in-Names.is) (sym c.in-Names-other.is)
+pub returns-in-Names-Names : goal.returns-in-Names-Names
+returns-in-Names-Names c =
+    c.cmp-in-Names-Names.ensures
+    ∙ sym (lex_map (λ name. name.now) (slice_cmp nat_cmp) c.as_slice.result.now c.as_slice-in-Names-Names.result.now)
+    ∙ ap₂ (slice_cmp (slice_cmp nat_cmp)) c.as_slice.ensures c.as_slice-in-Names-Names.ensures
+    ∙ ap₂ (λ a b. note_order (note_of a) (note_of b)) (sym c.in-Names-Names.is-0) (sym c.in-Names-Names.is-1)
