@@ -15,10 +15,9 @@ impl<'a> RelativeRows<'a> {
     pub fn takes_leaf(&self, keyword: &str, instance: &str) -> bool
         ensures { result ≡ true → TakesLeafAt self.now keyword.now instance.now }
     {
-        if !self.may_grow() {
-            return false;
-        }
-        is_innermost(self.nodes.as_slice(), keyword.len(), instance.len())
+        self.rows.len() < MOST
+            && self.nodes.len() < MOST
+            && is_innermost(self.nodes.as_slice(), keyword.len(), instance.len())
     }
 
     /// The node of a keyword opens and closes at once, with its verdict and its note: below the node of its schema and
@@ -57,15 +56,6 @@ impl<'a> RelativeRows<'a> {
         };
         self.rows.push(row)?;
         Ok(())
-    }
-
-    // Whether there is room for one more row and one more open node.
-    #[inline(always)]
-    fn may_grow(&self) -> bool
-        ensures { IsTrue result → (length self.now.rows.items + 1 < 2 ^ 63)
-            × (length self.now.nodes.items + 1 < 2 ^ 63) }
-    {
-        self.rows.len() < MOST && self.nodes.len() < MOST
     }
 }
 
