@@ -1,5 +1,5 @@
 //! A keyword's leaf, added to relative rows without being an open node in between.
-ghost use Rattle.std.specs.Prelude.{◌≡◌, ◌<◌, ◌≤◌, ◌+◌, ◌^◌, ◌∷◌, [], IfOk, IsTrue, List, ℕ, length, true};
+ghost use Rattle.std.specs.Prelude.{◌≡◌, ◌≤◌, ◌∷◌, [], IfOk, IsTrue, List, ℕ, length, true};
 ghost use Rattle.std.specs.List.{list_all};
 ghost use Rattle.js_doc.specs.Escapes.{stands};
 ghost use Rattle.js_tree.specs.RelativeState.{HasLeaf, OpenNode as Open, TakesLeafAt, open_nodes};
