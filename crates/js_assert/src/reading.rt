@@ -18,7 +18,7 @@ pub(crate) fn test_of(alloc: Global, keyword: Keyword, argument: &Doc) -> Result
     match keyword {
         Keyword::Type => form::types(alloc, argument).map(Test::Type),
         Keyword::Enum => form::choices(alloc, argument).map(Test::Enum),
-        Keyword::Const => Ok(Test::Const(Box::new(alloc, form::constant(alloc, argument)?)?)),
+        Keyword::Const => form::constant(alloc, argument).map(Test::Const),
         Keyword::MultipleOf => form::divisor(argument).map(Test::MultipleOf),
         Keyword::Maximum => form::limit(alloc, argument).map(Test::Maximum),
         Keyword::ExclusiveMaximum => form::limit(alloc, argument).map(Test::ExclusiveMaximum),
