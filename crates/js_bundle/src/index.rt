@@ -63,8 +63,8 @@ impl Index {
     {
         // read, so that it is known to be small: keys of different documents then differ
         let _document = site.document;
-        insert_uris(alloc, &mut self.known, site, number)?;
         self.places.insert_first(key, number)?;
+        insert_uris(alloc, &mut self.known, site, number)?;
         insert_names(alloc, &mut self.names, site, number)
     }
 }

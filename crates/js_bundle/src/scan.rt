@@ -39,6 +39,8 @@ fn add_site<'a>(
     ensures below { IfOk result
         (λ s. s.value ≡ handed_down above.now.value pointer.now.value (value_of schema.now)) }
 {
+    let shared_pointer = pointer.clone()?;
+    let shared_above = above.clone()?;
     let Scopes {
         own,
         below,
@@ -47,8 +49,8 @@ fn add_site<'a>(
     } = scopes_at(*out.allocator(), above, pointer, schema)?;
     out.push(Site {
         document,
-        pointer: pointer.clone()?,
-        above: above.clone()?,
+        pointer: shared_pointer,
+        above: shared_above,
         own,
         identifies,
         bare,
