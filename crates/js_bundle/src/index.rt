@@ -73,7 +73,7 @@ impl Index {
 fn root_uri<'s>(site: &'s Site<'_>) -> Option<&'s str>
     ensures { option_to_list (option_copied result) ≡ root_uris (site_of site.now) }
 {
-    if is_root(site) {
+    if is_root(&site.pointer) {
         Some(uri::printed(&site.above.base))
     } else {
         None

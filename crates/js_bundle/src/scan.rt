@@ -209,7 +209,7 @@ fn scan_document<'a>(
     ensures { OnOk result (SameFront (map site_of out.new.items) (map site_of out.old.items
         ++ sites_at number (root_scope document.now.uri) [] (value_of document.now.root))) }
 {
-    let above = Scope::of_document(alloc, &document.uri)?;
+    let above = Scope::new(Pointer::new(alloc), document.uri.clone()?, alloc)?;
     let at = Arc::new(alloc, Pointer::new(alloc))?;
     scan_schema(out, number, &above, &at, 0, &document.root)
 }
