@@ -11,11 +11,12 @@ use crate::reading::test_of;
 use crate::{any_type, arrays, numbers, objects, strings};
 use js_doc::{Doc, Members, Memory, Text, Whole};
 use std::alloc::Global;
+use std::fmt::{self, Debug, Formatter};
 use std::marker::Model;
 use std::num::NonZeroU64;
 
 /// What a keyword tests, with its argument read.
-#[derive(Debug, Drop)]
+#[derive(Drop)]
 pub(crate) enum Test {
     Type(Types),
     // What is larger than a list's head, or aligned as a number of 128 bits, is boxed: most keywords hold less.
@@ -42,7 +43,7 @@ pub(crate) enum Test {
 
 /// A keyword that judges a value by itself, with its argument (JSON Schema Validation, section 6). Contracts see it
 /// as the keyword, the argument's value, and whether `contains` stands beside it.
-#[derive(Debug, Drop)]
+#[derive(Drop)]
 pub struct Assertion {
     test: Test,
     // Only the two keywords that count an array's matching items look at it.
@@ -203,5 +204,13 @@ impl Assertion {
             return Ok(None);
         }
         Ok(Some(self.error(alloc, value, matching)?))
+    }
+}
+
+impl Debug for Assertion {
+    fn fmt<W: fmt::Write>(&self, f: &mut Formatter<W>) -> fmt::Result {
+        f.debug_struct("Assertion")
+            .field("keyword", &self.keyword())
+            .finish_non_exhaustive()
     }
 }

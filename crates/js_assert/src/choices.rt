@@ -10,7 +10,7 @@ use std::cmp::Ordering;
 use std::marker::Model;
 
 /// Values as they were given, with their places in ascending order of the values.
-#[derive(Debug, Drop)]
+#[derive(Drop)]
 pub(crate) struct Choices {
     docs: Vec<Doc>,
     places: Vec<usize>,

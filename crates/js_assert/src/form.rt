@@ -98,11 +98,11 @@ fn copies(alloc: Global, docs: &[Doc]) -> Result<Vec<Doc>, Memory>
     Ok(copies)
 }
 
-pub(crate) fn constant(alloc: Global, argument: &Doc) -> Result<Doc, KeywordFault>
-    ensures ok { IfOk result (λ d. value_of argument.now ≡ value_of d) }
+pub(crate) fn constant(alloc: Global, argument: &Doc) -> Result<Box<Doc>, KeywordFault>
+    ensures ok { IfOk result (λ d. value_of argument.now ≡ value_of d.value) }
     ensures refused { IfErr result (λ e. e ≡ KeywordFault.Memory) }
 {
-    Ok(argument.copy(alloc)?)
+    Ok(Box::new(alloc, argument.copy(alloc)?)?)
 }
 
 pub(crate) fn pattern_argument(alloc: Global, argument: &Doc) -> Result<Pattern, KeywordFault>

@@ -9,7 +9,7 @@ ghost use Rattle.js_assert.specs.Types.{type_name, types_value};
 
 use js_doc::Doc;
 
-#[derive(Clone, Copy, Debug, PartialEq, Eq)]
+#[derive(Clone, Copy, PartialEq, Eq)]
 pub(crate) enum InstanceType {
     Null,
     Boolean,
@@ -21,7 +21,7 @@ pub(crate) enum InstanceType {
 }
 
 /// What `type` names: one type, or several of them.
-#[derive(Debug, Drop)]
+#[derive(Drop)]
 pub(crate) enum Types {
     One(InstanceType),
     Several(Vec<InstanceType>),

@@ -13,7 +13,7 @@ use crate::keyword::Keyword;
 use js_doc::{Doc, Members, Text};
 
 /// A member's name, and the names that must be there if it is.
-#[derive(Debug, Drop)]
+#[derive(Drop)]
 pub(crate) struct Dependence {
     pub(crate) name: Text,
     pub(crate) needs: Vec<Text>,

@@ -16,27 +16,27 @@ pub(crate) fn test_of(alloc: Global, keyword: Keyword, argument: &Doc) -> Result
     ensures refused { IfErr result (IsFaultOf keyword (value_of argument.now)) }
 {
     match keyword {
-        Keyword::Type => form::types(alloc, argument).map(Test::Type),
-        Keyword::Enum => form::choices(alloc, argument).map(Test::Enum),
-        Keyword::Const => Ok(Test::Const(Box::new(alloc, form::constant(alloc, argument)?)?)),
-        Keyword::MultipleOf => form::divisor(argument).map(Test::MultipleOf),
-        Keyword::Maximum => form::limit(alloc, argument).map(Test::Maximum),
-        Keyword::ExclusiveMaximum => form::limit(alloc, argument).map(Test::ExclusiveMaximum),
-        Keyword::Minimum => form::limit(alloc, argument).map(Test::Minimum),
-        Keyword::ExclusiveMinimum => form::limit(alloc, argument).map(Test::ExclusiveMinimum),
-        Keyword::MaxLength => form::count(argument).map(Test::MaxLength),
-        Keyword::MinLength => form::count(argument).map(Test::MinLength),
-        Keyword::Pattern => form::pattern_argument(alloc, argument).map(Test::Pattern),
-        Keyword::MaxItems => form::count(argument).map(Test::MaxItems),
-        Keyword::MinItems => form::count(argument).map(Test::MinItems),
-        Keyword::UniqueItems => form::boolean(argument).map(Test::UniqueItems),
-        Keyword::MaxContains => form::count(argument).map(Test::MaxContains),
-        Keyword::MinContains => form::count(argument).map(Test::MinContains),
-        Keyword::MaxProperties => form::count(argument).map(Test::MaxProperties),
-        Keyword::MinProperties => form::count(argument).map(Test::MinProperties),
-        Keyword::Required => form::name_list(alloc, argument).map(Test::Required),
-        Keyword::DependentRequired => {
-            form::dependences(alloc, argument).map(Test::DependentRequired)
-        }
+        Keyword::Type => Ok(Test::Type(form::types(alloc, argument)?)),
+        Keyword::Enum => Ok(Test::Enum(form::choices(alloc, argument)?)),
+        Keyword::Const => Ok(Test::Const(form::constant(alloc, argument)?)),
+        Keyword::MultipleOf => Ok(Test::MultipleOf(form::divisor(argument)?)),
+        Keyword::Maximum => Ok(Test::Maximum(form::limit(alloc, argument)?)),
+        Keyword::ExclusiveMaximum => Ok(Test::ExclusiveMaximum(form::limit(alloc, argument)?)),
+        Keyword::Minimum => Ok(Test::Minimum(form::limit(alloc, argument)?)),
+        Keyword::ExclusiveMinimum => Ok(Test::ExclusiveMinimum(form::limit(alloc, argument)?)),
+        Keyword::MaxLength => Ok(Test::MaxLength(form::count(argument)?)),
+        Keyword::MinLength => Ok(Test::MinLength(form::count(argument)?)),
+        Keyword::Pattern => Ok(Test::Pattern(form::pattern_argument(alloc, argument)?)),
+        Keyword::MaxItems => Ok(Test::MaxItems(form::count(argument)?)),
+        Keyword::MinItems => Ok(Test::MinItems(form::count(argument)?)),
+        Keyword::UniqueItems => Ok(Test::UniqueItems(form::boolean(argument)?)),
+        Keyword::MaxContains => Ok(Test::MaxContains(form::count(argument)?)),
+        Keyword::MinContains => Ok(Test::MinContains(form::count(argument)?)),
+        Keyword::MaxProperties => Ok(Test::MaxProperties(form::count(argument)?)),
+        Keyword::MinProperties => Ok(Test::MinProperties(form::count(argument)?)),
+        Keyword::Required => Ok(Test::Required(form::name_list(alloc, argument)?)),
+        Keyword::DependentRequired => Ok(Test::DependentRequired(form::dependences(
+            alloc, argument,
+        )?)),
     }
 }

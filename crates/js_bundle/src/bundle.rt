@@ -75,7 +75,9 @@ impl Bundle {
     {
         let alloc = *self.documents.allocator();
         let document = read_document(alloc, self.documents.len(), uri, bytes)?;
-        append_document(&mut self.documents, document)?;
+        if let Err((refusal, _)) = append(&mut self.documents, document) {
+            return Err(refusal);
+        }
         Ok(())
     }
 
@@ -96,7 +98,9 @@ impl Bundle {
             Ok(uri) => uri,
             Err(refusal) => return Err((refusal, root)),
         };
-        append_value(&mut self.documents, uri, root)?;
+        if let Err((refusal, document)) = append(&mut self.documents, Document { uri, root }) {
+            return Err((refusal, document.root));
+        }
         Ok(())
     }
 }
@@ -169,36 +173,19 @@ fn refusal_of(alloc: Global, fault: CheckFault) -> Refusal
     }
 }
 
-fn append_document(documents: &mut Vec<Document>, document: Document) -> Result<(), Refusal>
+// A refused document is returned.
+fn append(documents: &mut Vec<Document>, document: Document) -> Result<(), (Refusal, Document)>
     ensures ok { OnOk result (documents.new.items ≡ documents.old.items ++ document ∷ []) }
     ensures err { OnErr result (documents.new.items ≡ documents.old.items) }
     ensures refused { IfErr result
-        (λ r. r ≡ record { document = length documents.old.items; place = []; kind = Memory }) }
+        (λ p. p.0 ≡ record { document = length documents.old.items; place = []; kind = Memory }) }
+    ensures back { IfErr result (λ p. p.1 ≡ document) }
 {
     let held = documents.len();
     let alloc = *documents.allocator();
     match documents.push(document) {
         Ok(()) => Ok(()),
-        Err(_) => Err(refusal_with(alloc, held, RefusalKind::Memory)),
-    }
-}
-
-// The same; a refused value is returned.
-fn append_value(documents: &mut Vec<Document>, uri: Url, root: Doc) -> Result<(), (Refusal, Doc)>
-    ensures ok { OnOk result (documents.new.items ≡ documents.old.items ++ record { uri = uri; root = root } ∷ []) }
-    ensures err { OnErr result (documents.new.items ≡ documents.old.items) }
-    ensures refused { IfErr result
-        (λ p. p.0 ≡ record { document = length documents.old.items; place = []; kind = Memory }) }
-    ensures back { IfErr result (λ p. p.1 ≡ root) }
-{
-    let held = documents.len();
-    let alloc = *documents.allocator();
-    match documents.push(Document { uri, root }) {
-        Ok(()) => Ok(()),
-        Err(failed) => Err((
-            refusal_with(alloc, held, RefusalKind::Memory),
-            failed.value.root,
-        )),
+        Err(failed) => Err((refusal_with(alloc, held, RefusalKind::Memory), failed.value)),
     }
 }
 

@@ -63,8 +63,8 @@ impl Index {
     {
         // read, so that it is known to be small: keys of different documents then differ
         let _document = site.document;
-        insert_uris(alloc, &mut self.known, site, number)?;
         self.places.insert_first(key, number)?;
+        insert_uris(alloc, &mut self.known, site, number)?;
         insert_names(alloc, &mut self.names, site, number)
     }
 }
@@ -73,7 +73,7 @@ impl Index {
 fn root_uri<'s>(site: &'s Site<'_>) -> Option<&'s str>
     ensures { option_to_list (option_copied result) ≡ root_uris (site_of site.now) }
 {
-    if is_root(site) {
+    if is_root(&site.pointer) {
         Some(uri::printed(&site.above.base))
     } else {
         None

@@ -1,25 +1,18 @@
 //! A schema's keywords and their arguments.
 ghost use Rattle.std.specs.Prelude.{◌≡◌, option_map, option_copied};
-ghost use Rattle.js_doc.specs.Members.{get};
 ghost use Rattle.js_doc.specs.Seen.{value_of};
 ghost use Rattle.js_bundle.specs.Keyword.{argument, as_text, text_argument};
 
-use js_doc::{Doc, Members};
+use js_doc::Doc;
 
 /// The argument of a keyword, where the schema has it.
 pub(crate) fn argument<'a>(schema: &'a Doc, keyword: &str) -> Option<&'a Doc>
     ensures { option_map (λ d. value_of d.now) result ≡ argument keyword.now (value_of schema.now) }
 {
     match schema {
-        Doc::Members(members) => member_value(members, keyword),
+        Doc::Members(members) => members.get(keyword),
         _ => None,
     }
-}
-
-fn member_value<'a>(members: &'a Members, name: &str) -> Option<&'a Doc>
-    ensures { option_map (λ d. value_of d.now) result ≡ get name.now members.now }
-{
-    members.get(name)
 }
 
 /// The text that a value is.

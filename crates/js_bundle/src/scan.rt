@@ -39,6 +39,8 @@ fn add_site<'a>(
     ensures below { IfOk result
         (λ s. s.value ≡ handed_down above.now.value pointer.now.value (value_of schema.now)) }
 {
+    let shared_pointer = pointer.clone()?;
+    let shared_above = above.clone()?;
     let Scopes {
         own,
         below,
@@ -47,8 +49,8 @@ fn add_site<'a>(
     } = scopes_at(*out.allocator(), above, pointer, schema)?;
     out.push(Site {
         document,
-        pointer: pointer.clone()?,
-        above: above.clone()?,
+        pointer: shared_pointer,
+        above: shared_above,
         own,
         identifies,
         bare,
@@ -207,7 +209,7 @@ fn scan_document<'a>(
     ensures { OnOk result (SameFront (map site_of out.new.items) (map site_of out.old.items
         ++ sites_at number (root_scope document.now.uri) [] (value_of document.now.root))) }
 {
-    let above = Scope::of_document(alloc, &document.uri)?;
+    let above = Scope::new(Pointer::new(alloc), document.uri.clone()?, alloc)?;
     let at = Arc::new(alloc, Pointer::new(alloc))?;
     scan_schema(out, number, &above, &at, 0, &document.root)
 }

@@ -52,9 +52,9 @@ impl BuiltTable {
         ensures pattern_ends { IfOk result (λ t. t.pattern_ends.items ≡ []) }
     {
         Ok(BuiltTable {
-            all: Built::new(alloc),
             assertion_ends: Vec::with_capacity(alloc, places)?,
             pattern_ends: Vec::with_capacity(alloc, places)?,
+            all: Built::new(alloc),
         })
     }
 
@@ -131,9 +131,10 @@ pub(crate) fn read_patterns(
         (flat_map (λ n. at_pattern (site_of site.now) (keyword.now ∷ n.0 ∷ []) n.0) members.now)) }
 {
     for (name, _) in members.pairs() {
+        let copied = Text::new(name.clone()?);
         let pattern = read_pattern(alloc, site, keyword, name.as_str())?;
         out.push(BuiltPattern {
-            name: Text::new(name.clone()?),
+            name: copied,
             pattern,
         })?;
     }

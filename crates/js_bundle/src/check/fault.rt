@@ -1,12 +1,12 @@
 //! Why a check stops.
-ghost use Rattle.std.specs.Prelude.{◌≡◌, [], ◌∷◌, IfOk};
+ghost use Rattle.std.specs.Prelude.{◌≡◌, [], ◌∷◌, ◌++◌, IfOk};
 ghost use Rattle.js_bundle.specs.Finding.{IsRefusalOrMemory, tokens_of};
 ghost use Rattle.js_bundle.specs.Refusals.{refusal_at};
 ghost use Rattle.js_bundle.specs.code.Scan.{site_of};
 
 use crate::refusal::{Refusal, RefusalKind};
 use crate::scan::site::Site;
-use js_doc::Memory as NoMemory;
+use js_doc::{Memory as NoMemory, Pointer};
 use std::alloc::{AllocError, AllocFailed, Global};
 
 /// Why a check stops.
@@ -55,29 +55,23 @@ pub(crate) fn refuse(
 ) -> CheckFault
     ensures { IsRefusalOrMemory (refusal_at (site_of site.now) (tokens_of keyword.entry) kind) result }
 {
-    match refusal(alloc, site, keyword, kind) {
-        Ok(refusal) => CheckFault::Refused(refusal),
+    match pointer_at(alloc, &site.pointer, keyword) {
+        Ok(place) => CheckFault::Refused(Refusal {
+            document: site.document,
+            place,
+            kind,
+        }),
         Err(_) => CheckFault::Memory,
     }
 }
 
-fn refusal(
-    alloc: Global,
-    site: &Site<'_>,
-    keyword: Option<&str>,
-    kind: RefusalKind,
-) -> Result<Refusal, NoMemory>
-    ensures { IfOk result (λ r. r ≡ refusal_at (site_of site.now) (tokens_of keyword.entry) kind) }
+fn pointer_at(alloc: Global, place: &Pointer, keyword: Option<&str>) -> Result<Pointer, NoMemory>
+    ensures { IfOk result (λ p. p ≡ place.now ++ tokens_of keyword.entry) }
 {
-    let mut place = site.pointer.copy(alloc)?;
-    if let Some(name) = keyword {
-        place.push(name)?;
+    match keyword {
+        Some(name) => place.further(alloc, name),
+        None => place.copy(alloc),
     }
-    Ok(Refusal {
-        document: site.document,
-        place,
-        kind,
-    })
 }
 
 /// The refusal at a member of a keyword's argument.
@@ -90,27 +84,25 @@ pub(crate) fn refuse_member(
 ) -> CheckFault
     ensures { IsRefusalOrMemory (refusal_at (site_of site.now) (keyword.now ∷ name.now ∷ []) kind) result }
 {
-    match member_refusal(alloc, site, keyword, name, kind) {
-        Ok(refusal) => CheckFault::Refused(refusal),
+    match pointer_to_member(alloc, &site.pointer, keyword, name) {
+        Ok(place) => CheckFault::Refused(Refusal {
+            document: site.document,
+            place,
+            kind,
+        }),
         Err(_) => CheckFault::Memory,
     }
 }
 
-fn member_refusal(
+fn pointer_to_member(
     alloc: Global,
-    site: &Site<'_>,
+    place: &Pointer,
     keyword: &str,
     name: &str,
-    kind: RefusalKind,
-) -> Result<Refusal, NoMemory>
-    ensures { IfOk result
-        (λ r. r ≡ refusal_at (site_of site.now) (keyword.now ∷ name.now ∷ []) kind) }
+) -> Result<Pointer, NoMemory>
+    ensures { IfOk result (λ p. p ≡ place.now ++ keyword.now ∷ name.now ∷ []) }
 {
-    let mut place = site.pointer.further(alloc, keyword)?;
-    place.push(name)?;
-    Ok(Refusal {
-        document: site.document,
-        place,
-        kind,
-    })
+    let mut pointer = place.further(alloc, keyword)?;
+    pointer.push(name)?;
+    Ok(pointer)
 }

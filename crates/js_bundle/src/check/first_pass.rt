@@ -216,11 +216,10 @@ impl Passed {
         ensures names { IfOk result (λ p. p.keywords.names.items ≡ []) }
         ensures ends { IfOk result (λ p. p.keywords.ends.items ≡ []) }
     {
-        let positions = Positions::with_capacity(alloc, places)?;
         Ok(Passed {
-            built: BuiltTable::with_capacity(alloc, places)?,
-            positions,
             keywords: KeywordTable::with_capacity(alloc, places)?,
+            built: BuiltTable::with_capacity(alloc, places)?,
+            positions: Positions::with_capacity(alloc, places)?,
         })
     }
 

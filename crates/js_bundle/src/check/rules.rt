@@ -236,7 +236,7 @@ fn check_root(
         (when (is_root (site_of site.now) && is_taken (map site_of before.now) site.now.above.value.base)
         (decided (site_of site.now) [] DuplicateUri))) }
 {
-    if is_root(site) && is_taken(index, before, &site.above.base) {
+    if is_root(&site.pointer) && is_taken(index, before, &site.above.base) {
         return Err(refuse(alloc, site, None, RefusalKind::DuplicateUri));
     }
     Ok(())

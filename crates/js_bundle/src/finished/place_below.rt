@@ -4,7 +4,7 @@ ghost use Rattle.std.specs.Prelude.{Some};
 ghost use Rattle.std.specs.Option.{option_map_or};
 ghost use Rattle.js_doc.specs.Seen.{value_of};
 ghost use Rattle.js_bundle.specs.code.Edges.{edges_of, held_of};
-ghost use Rattle.js_bundle.specs.code.PlaceBelow.{ends_before, held_in, holds_at_step, value_at_step};
+ghost use Rattle.js_bundle.specs.code.PlaceBelow.{held_in, holds_at_step, value_at_step};
 ghost use Rattle.js_bundle.specs.code.PlaceBelow.{numbers_of_keyword, stands_before, IsNumberAt, IsRankOf, IsSmall};
 ghost use Rattle.js_bundle.specs.KeywordName.{keyword_name};
 ghost use Rattle.js_bundle.specs.Place.{holding, items_in};
@@ -18,7 +18,7 @@ use crate::keyword_name::KeywordName;
 use crate::place::{Place, Step};
 use crate::scan::holding::{Holding, holding_of};
 use crate::schemas::Schemas;
-use js_doc::{Doc, Token};
+use js_doc::Doc;
 
 impl Schemas {
     ghost use Rattle.js_doc.specs.Value.{Value};
@@ -190,17 +190,10 @@ fn rank_by_name(sites: &[KeptSite], places: &[usize], name: &str) -> usize
 fn stands_before(sites: &[KeptSite], number: usize, name: &str) -> bool
     ensures { result ≡ stands_before (map kept_site_of sites.now) name.now number }
 {
-    match sites.get(number) {
-        Some(site) => ends_before(site.pointer.tokens(), name),
-        None => false,
-    }
-}
-
-// Whether the last token comes before the name.
-fn ends_before(tokens: &[Token], name: &str) -> bool
-    ensures { result ≡ ends_before name.now tokens.now }
-{
-    match tokens.last() {
+    let Some(site) = sites.get(number) else {
+        return false;
+    };
+    match site.pointer.tokens().last() {
         Some(token) => token.as_str() < name,
         None => false,
     }

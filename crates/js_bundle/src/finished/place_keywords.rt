@@ -91,21 +91,16 @@ fn find_assertion<'b>(built: &'b [Assertion], keyword: &str) -> Option<&'b Asser
     None
 }
 
-// The pattern of this name. They stand in the order of their names, so a binary search finds it. Where it doesn't, each
-// is looked at.
+// The pattern of this name. They stand in the order of their names, so a binary search for the first whose name doesn't
+// come before this one finds it. Where it doesn't, each is looked at.
 fn find_pattern<'b>(built: &'b [BuiltPattern], name: &str) -> Option<&'b BuiltPattern>
     requires { AreOwn built.now }
     ensures { option_map (λ b. b.now) result ≡ find (λ b. bytes_eq name.now b.name) built.now }
 {
-    match built.get(first_from(built, name)) {
+    match built.get(built.partition_point(|one| one.name.as_str() < name)) {
         Some(one) if name == one.name.as_str() => Some(one),
         _ => search_pattern(built, name),
     }
-}
-
-// Where the first stands whose name doesn't come before this one.
-fn first_from(built: &[BuiltPattern], name: &str) -> usize {
-    built.partition_point(|one| one.name.as_str() < name)
 }
 
 fn search_pattern<'b>(built: &'b [BuiltPattern], name: &str) -> Option<&'b BuiltPattern>

@@ -1,7 +1,6 @@
 //! The resources of finished schemas (JSON Schema Core, sections 4.3.5 and 8.2.1).
 ghost use Rattle.std.specs.Prelude.{◌≡◌, ◌++◌, ◌&&◌, [], ◌∷◌, Some, true, map, bytes_eq, option_copied};
 ghost use Rattle.std.specs.Prelude.{option_and_then, IfOk, OnOk};
-ghost use Rattle.js_bundle.specs.Names.{same_tokens};
 ghost use Rattle.js_bundle.specs.Resource.{sites};
 ghost use Rattle.js_bundle.specs.ResourceNumber.{resource_count, resource_number};
 ghost use Rattle.js_bundle.specs.Schemas.{is_place, place_at, resources, lent};
@@ -9,6 +8,7 @@ ghost use Rattle.js_bundle.specs.code.KeptSite.{kept_site_of, document_uri, base
 ghost use Rattle.js_bundle.specs.Url as spec;
 
 use crate::check::kept_site::KeptSite;
+use crate::index::place_by_uri::is_root;
 use crate::place::Place;
 use crate::schemas::Schemas;
 use crate::uri;
@@ -77,7 +77,7 @@ fn push_pair<T: Drop>(out: &mut Vec<T>, one: T) -> Result<(), Memory>
 fn document_uri(site: &KeptSite) -> Option<&str>
     ensures { option_copied result ≡ document_uri (kept_site_of site.now) }
 {
-    if is_document_root(site) {
+    if is_root(&site.pointer) {
         Some(uri::printed(&site.above.base))
     } else {
         None
@@ -88,18 +88,12 @@ fn document_uri(site: &KeptSite) -> Option<&str>
 fn base_made(site: &KeptSite) -> Option<&str>
     ensures { option_copied result ≡ base_made (kept_site_of site.now) }
 {
-    let told = is_document_root(site) && keeps_base(site);
+    let told = is_root(&site.pointer) && keeps_base(site);
     if site.identifies && !told {
         Some(uri::printed(&site.own.base))
     } else {
         None
     }
-}
-
-fn is_document_root(site: &KeptSite) -> bool
-    ensures { result ≡ same_tokens site.now.pointer.value [] }
-{
-    site.pointer.tokens().is_empty()
 }
 
 // Whether the place's base is that of the scope it is in.

@@ -5,10 +5,10 @@ ghost use Rattle.js_doc.specs.Value as spec;
 ghost use Rattle.js_bundle.specs.KeywordName.{keyword_name};
 ghost use Rattle.js_bundle.specs.Place.{holding};
 ghost use Rattle.js_bundle.specs.Seen.{document_of};
-ghost use Rattle.js_bundle.specs.code.Edges.{edges_at, edges_from, edges_held, edges_in_list, edges_in_object};
+ghost use Rattle.js_bundle.specs.code.Edges.{edges_at, edges_from, edges_held};
 ghost use Rattle.js_bundle.specs.code.Edges.{edges_of, edges_of_items, edges_of_keywords, edges_of_members};
-ghost use Rattle.js_bundle.specs.code.Edges.{held_by_keywords, held_of, numbers_held, numbers_in_list};
-ghost use Rattle.js_bundle.specs.code.Edges.{numbers_in_object, numbers_of_items, numbers_of_members, one_entry};
+ghost use Rattle.js_bundle.specs.code.Edges.{held_by_keywords, held_of, numbers_held, numbers_of_items};
+ghost use Rattle.js_bundle.specs.code.Edges.{numbers_of_members, one_entry};
 
 use crate::document::Document;
 use crate::keyword_name::KeywordName;
@@ -122,7 +122,8 @@ fn link_keyword(
     if matches!(holding, Holding::Nothing) {
         return Ok(());
     }
-    let places = link_held(alloc, edges, holding, argument)?;
+    let mut places = Vec::new(alloc);
+    link_held(alloc, edges, &mut places, holding, argument)?;
     held.push(HeldPlaces {
         keyword: KeywordName::of(keyword),
         places,
@@ -134,39 +135,26 @@ fn link_keyword(
 fn link_held(
     alloc: Global,
     edges: &mut Vec<Edges>,
-    holding: Holding,
-    argument: &Doc,
-) -> Result<Vec<usize>, Memory>
-    ensures edges { OnOk result (map edges_of edges.new.items ≡ map edges_of edges.old.items
-        ++ edges_held holding (length edges.old.items) (value_of argument.now)) }
-    ensures places { IfOk result
-        (λ v. v.items ≡ numbers_held holding (length edges.old.items) (value_of argument.now)) }
-{
-    let mut places = Vec::new(alloc);
-    match holding {
-        Holding::One => link_one(alloc, edges, &mut places, argument)?,
-        Holding::Listed => link_list(alloc, edges, &mut places, argument)?,
-        Holding::Named => link_object(alloc, edges, &mut places, argument)?,
-        Holding::Nothing => {}
-    }
-    Ok(places)
-}
-
-#[cycle(edges)]
-fn link_list(
-    alloc: Global,
-    edges: &mut Vec<Edges>,
     places: &mut Vec<usize>,
+    holding: Holding,
     argument: &Doc,
 ) -> Result<(), Memory>
     ensures edges { OnOk result (map edges_of edges.new.items ≡ map edges_of edges.old.items
-        ++ edges_in_list (length edges.old.items) (value_of argument.now)) }
+        ++ edges_held holding (length edges.old.items) (value_of argument.now)) }
     ensures places { OnOk result (places.new.items ≡ places.old.items
-        ++ numbers_in_list (length edges.old.items) (value_of argument.now)) }
+        ++ numbers_held holding (length edges.old.items) (value_of argument.now)) }
 {
-    match argument {
-        Doc::List(items) => link_items(alloc, edges, places, items.as_slice()),
-        _ => Ok(()),
+    match holding {
+        Holding::One => link_one(alloc, edges, places, argument),
+        Holding::Listed => match argument {
+            Doc::List(items) => link_items(alloc, edges, places, items.as_slice()),
+            _ => Ok(()),
+        },
+        Holding::Named => match argument {
+            Doc::Members(members) => link_members(alloc, edges, places, members),
+            _ => Ok(()),
+        },
+        Holding::Nothing => Ok(()),
     }
 }
 
@@ -186,24 +174,6 @@ fn link_items(
         link_one(alloc, edges, places, &schemas[i])?;
     }
     Ok(())
-}
-
-#[cycle(edges)]
-fn link_object(
-    alloc: Global,
-    edges: &mut Vec<Edges>,
-    places: &mut Vec<usize>,
-    argument: &Doc,
-) -> Result<(), Memory>
-    ensures edges { OnOk result (map edges_of edges.new.items ≡ map edges_of edges.old.items
-        ++ edges_in_object (length edges.old.items) (value_of argument.now)) }
-    ensures places { OnOk result (places.new.items ≡ places.old.items
-        ++ numbers_in_object (length edges.old.items) (value_of argument.now)) }
-{
-    match argument {
-        Doc::Members(members) => link_members(alloc, edges, places, members),
-        _ => Ok(()),
-    }
 }
 
 #[cycle(edges)]

@@ -57,8 +57,8 @@ impl KeywordTable {
         ensures ends { IfOk result (λ t. t.ends.items ≡ []) }
     {
         Ok(KeywordTable {
-            names: Vec::new(alloc),
             ends: Vec::with_capacity(alloc, places)?,
+            names: Vec::new(alloc),
         })
     }
 

@@ -1,13 +1,13 @@
 //! Which place a URI names.
 ghost use Rattle.std.specs.Prelude.{◌≡◌, ◌++◌, true, false, map, find, slice_get, option_map, IfOk, IfErr, OnOk};
-ghost use Rattle.std.specs.Prelude.{MatchOption};
+ghost use Rattle.std.specs.Prelude.{MatchOption, []};
 ghost use Rattle.std.specs.Str.{is_utf8};
 ghost use Rattle.js_doc.specs.PointerReading.{pointer_of};
 ghost use Rattle.js_bundle.specs.Finding.{number_named, is_pointer_read, IfNotRead};
 ghost use Rattle.js_bundle.specs.code.Index.{IsIndexOf, number_standing, number_making, number_under, standing};
 ghost use Rattle.js_bundle.specs.code.Index.{standing_of};
 ghost use Rattle.js_bundle.specs.code.Scan.{site_of};
-ghost use Rattle.js_bundle.specs.Names.{is_root, is_known_as, is_pointer, is_read};
+ghost use Rattle.js_bundle.specs.Names.{is_known_as, is_pointer, is_read, same_tokens};
 ghost use Rattle.js_bundle.specs.Url as spec;
 
 use crate::index::Index;
@@ -19,14 +19,11 @@ use js_doc::{Memory, Pointer, PointerFault};
 use std::alloc::Global;
 use url::Url;
 
-/// Whether the place is a document's root.
-pub(crate) fn is_root(site: &Site<'_>) -> bool
-    ensures { result ≡ is_root (site_of site.now) }
+/// Whether a document's root stands at the pointer.
+pub(crate) fn is_root(pointer: &Pointer) -> bool
+    ensures { result ≡ same_tokens pointer.now [] }
 {
-    match site.pointer.tokens().first() {
-        Some(_) => false,
-        None => true,
-    }
+    pointer.tokens().is_empty()
 }
 
 /// Where the root of a resource stands.

@@ -46,9 +46,9 @@ impl Positions {
         ensures { IfOk result (λ l. ArePositionsOf l []) }
     {
         Ok(Positions {
-            index: Index::new(alloc),
             roots: Vec::with_capacity(alloc, places)?,
             locations: Vec::with_capacity(alloc, places)?,
+            index: Index::new(alloc),
         })
     }
 

@@ -1,13 +1,12 @@
 //! What is kept of resources, by their numbers (JSON Schema Core, sections 4.3.5 and 8.2.1).
 ghost use Rattle.std.specs.Prelude.{◌≡◌, ◌<◌, Some, map, length, codes, slice_get, unwrap_or, option_and_then};
 ghost use Rattle.std.specs.Prelude.{option_copied, option_to_list, OnOk, IfOk, MatchOption};
-ghost use Rattle.std.specs.List.{position_from};
 ghost use Rattle.js_bundle.specs.code.PartsByPlace.{ArePartsByPlace};
 ghost use Rattle.js_bundle.specs.code.Index.{IsIndexOf};
 ghost use Rattle.js_bundle.specs.code.Positions.{ArePositionsOf};
 ghost use Rattle.js_bundle.specs.Keyword.{text_argument};
 ghost use Rattle.js_bundle.specs.KeywordName.{keyword_names};
-ghost use Rattle.js_bundle.specs.Names.{belongs_to, same_tokens, stands_at};
+ghost use Rattle.js_bundle.specs.Names.{belongs_to, same_tokens};
 ghost use Rattle.js_bundle.specs.ResourceNumber.{begins_resource, roots, resource_number};
 ghost use Rattle.js_bundle.specs.ResourceTable.{AreAnchors, AreEmpty, AreNamed, AreRooted, IsOpened, IsResourceTable};
 ghost use Rattle.js_bundle.specs.ResourceTable.{StandApart, count_begun, rank_of_root, ranks_by, ranks_from};
@@ -68,20 +67,6 @@ fn is_same_pointer(first: &Pointer, second: &Pointer) -> bool
     ensures { result ≡ same_tokens first.now second.now }
 {
     *first == *second
-}
-
-// The number of the root of a place's resource.
-fn root_of(
-    alloc: Global,
-    index: &Index,
-    sites: &[Site<'_>],
-    site: &Site<'_>,
-) -> Result<Option<usize>, Memory>
-    requires { IsIndexOf index.now (map site_of sites.now) }
-    ensures { IfOk result (λ n. n
-        ≡ position_from (stands_at site.now.document site.now.own.value.resource) 0 (map site_of sites.now)) }
-{
-    number_at(alloc, index, site.document, &site.own.resource)
 }
 
 // Opens the resource of a root.
@@ -169,7 +154,7 @@ fn number_by_root(
     requires ranks { ranks.now ≡ ranks_from 0 (map site_of sites.now) }
     ensures { IfOk result (λ n. n ≡ rank_of_root (map site_of sites.now) (site_of site.now)) }
 {
-    let root = root_of(alloc, index, sites, site)?;
+    let root = number_at(alloc, index, site.document, &site.own.resource)?;
     Ok(rank_under(ranks, root))
 }
 

@@ -7,10 +7,10 @@ use js_doc::Memory;
 
 /// Adds the entry of the place with this number, after those of the places before it. A list ends with the last place
 /// that has an entry.
-pub(crate) fn add_entry<T: Copy + Drop>(
-    entries: &mut Vec<Option<T>>,
+pub(crate) fn add_entry(
+    entries: &mut Vec<Option<usize>>,
     number: usize,
-    entry: Option<T>,
+    entry: Option<usize>,
 ) -> Result<(), Memory>
     requires { length entries.old.items ≤ number }
     ensures told { OnOk result
@@ -26,7 +26,7 @@ pub(crate) fn add_entry<T: Copy + Drop>(
 }
 
 // Fills the list up to this length, with places that have no entry.
-fn fill<T: Copy + Drop>(entries: &mut Vec<Option<T>>, number: usize) -> Result<(), Memory>
+fn fill(entries: &mut Vec<Option<usize>>, number: usize) -> Result<(), Memory>
     requires { length entries.old.items ≤ number }
     ensures alike { OnOk result (HaveSameEntries entries.old.items entries.new.items) }
     ensures long { OnOk result (length entries.new.items ≡ number) }

@@ -1,7 +1,7 @@
 //! Scopes: the resource that a schema stands in, and its base.
 ghost use Rattle.std.specs.Prelude.{◌≡◌, IfOk, unwrap_or, is_some, option_copied, option_and_then};
 ghost use Rattle.js_doc.specs.Seen.{value_of};
-ghost use Rattle.js_bundle.specs.Resource.{joined, identified, identified_by, root_scope, scope_or};
+ghost use Rattle.js_bundle.specs.Resource.{joined, identified, identified_by, scope_or};
 ghost use Rattle.js_bundle.specs.code.Scan.{handed_down, own_scope};
 ghost use Rattle.js_bundle.specs.code.Identity.{is_bare, is_bare_by};
 
@@ -37,14 +37,7 @@ struct Identity {
 }
 
 impl Scope {
-    /// The scope of a document's root.
-    pub(crate) fn of_document(alloc: Global, uri: &Url) -> Result<Arc<Scope>, Memory>
-        ensures { IfOk result (λ s. s.value ≡ root_scope uri.now) }
-    {
-        Scope::new(Pointer::new(alloc), uri.clone()?, alloc)
-    }
-
-    fn new(resource: Pointer, base: Url, alloc: Global) -> Result<Arc<Scope>, Memory>
+    pub(crate) fn new(resource: Pointer, base: Url, alloc: Global) -> Result<Arc<Scope>, Memory>
         ensures { IfOk result (λ s. s.value ≡ record { resource = resource; base = base }) }
     {
         Ok(Arc::new(alloc, Scope { resource, base })?)

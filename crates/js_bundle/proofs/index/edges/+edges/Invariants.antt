@@ -12,12 +12,6 @@ decreases-link_schema l = 6 * depth (value_of l.schema.now) + 2
 abbrev pub decreases-link_one : goal.decreases-link_one
 decreases-link_one l = 6 * depth (value_of l.schema.now) + 3
 
-abbrev pub decreases-link_list : goal.decreases-link_list
-decreases-link_list l = 6 * depth (value_of l.argument.now) + 3
-
-abbrev pub decreases-link_object : goal.decreases-link_object
-decreases-link_object l = 6 * depth (value_of l.argument.now) + 3
-
 abbrev pub decreases-link_held : goal.decreases-link_held
 decreases-link_held l = 6 * depth (value_of l.argument.now) + 4
 
