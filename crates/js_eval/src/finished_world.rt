@@ -1,6 +1,5 @@
 //! Finished schemas and their patterns, as a walk uses them.
 ghost use Rattle.std.specs.Prelude.{◌≡◌, ◌++◌, IfOk, None, OnOk, Some, map, option_to_list, string_bytes, true};
-ghost use Rattle.js_doc.specs.Fragment.{fragment_token};
 ghost use Rattle.js_doc.specs.Seen.{value_of as schema_value};
 ghost use Rattle.js_eval.specs.Evaluated.{index_in_step, name_in_step};
 ghost use Rattle.js_eval.specs.Walk.Told.{at_step, schema_says};
@@ -326,8 +325,9 @@ impl Here<'_> {
             (numbered_site self.now.schemas.now place) (Some keyword.now)) }
     {
         let (location, rest) = self.schemas.location_of(place);
-        let further = one_further(alloc, location, rest, keyword)?;
-        Ok(Text::new(further))
+        let mut text = joined(alloc, location, rest)?;
+        push_fragment_token(&mut text, keyword)?;
+        Ok(Text::new(text))
     }
 
     /// The note of a schema's node.
@@ -355,14 +355,5 @@ fn joined(alloc: Global, location: &str, rest: &str) -> Result<String, Memory>
 {
     let mut text = String::from_str(alloc, location)?;
     text.push_str(rest)?;
-    Ok(text)
-}
-
-// The same with one more token at its end.
-fn one_further(alloc: Global, location: &str, rest: &str, token: &str) -> Result<String, Memory>
-    ensures { IfOk result (λ t. string_bytes t ≡ (location.now ++ rest.now) ++ fragment_token token.now) }
-{
-    let mut text = joined(alloc, location, rest)?;
-    push_fragment_token(&mut text, token)?;
     Ok(text)
 }

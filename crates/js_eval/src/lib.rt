@@ -20,7 +20,5 @@ mod schema_lookup;
 mod searching;
 mod walking;
 
-pub use keywords::kind::Kind;
-pub use keywords::kind_by_name::kind_of;
 pub use public_walks::{verdict, walk, walk_into, walk_noted_rows, walk_rows};
 pub use walking::WalkFault;

@@ -6,6 +6,7 @@ ghost use Rattle.js_bundle.specs.Location.{location};
 ghost use Rattle.js_bundle.specs.Schemas.{is_place, place_at};
 ghost use Rattle.js_eval.specs.Bundle.{schemas_of};
 ghost use Rattle.js_eval.specs.Sited.{numbered_site};
+ghost use Rattle.js_eval.specs.code.Recorded.{AddsRow};
 ghost use Rattle.js_eval.specs.Walk.Reported.{Reported};
 ghost use Rattle.js_eval.specs.Walked.{AreNotedRows, AreResultRows, IsResultWithin, IsVerdict, LeadsTo, NoneStands};
 ghost use Rattle.js_eval.specs.Walked.{OnTooLarge};
@@ -108,14 +109,14 @@ pub fn walk_rows<'a>(
     ensures ok { IfOk result (AreResultRows schemas.now place (value_of value.now)) }
     ensures too_large { IfErr result (λ e. OnTooLarge e (NoneStands schemas.now place (value_of value.now))) }
 {
-    let mut recording = Recording {
-        rows: RelativeRows::new(alloc, arena),
-        token: String::new(alloc),
-    };
-    let done = walk_to::<HeldText, Recording<'a>>(alloc, schemas, place, value, &mut recording);
-    let Recording { rows, token: _ } = recording;
-    match done {
-        Ok(_) => Ok(rows),
+    match recorded(
+        alloc,
+        schemas,
+        place,
+        value,
+        RelativeRows::new(alloc, arena),
+    ) {
+        Ok((_valid, rows)) => Ok(rows),
         Err(fault) => Err(fault),
     }
 }
@@ -137,19 +138,44 @@ pub fn walk_noted_rows<'a>(
     ensures ok { IfOk result (AreNotedRows schemas.now place (value_of value.now)) }
     ensures too_large { IfErr result (λ e. OnTooLarge e (NoneStands schemas.now place (value_of value.now))) }
 {
-    let mut recording = Recording {
-        rows: RelativeRows::trimming(alloc, arena),
-        token: String::new(alloc),
-    };
-    let done = walk_to::<HeldText, Recording<'a>>(alloc, schemas, place, value, &mut recording);
-    let Recording { rows, token: _ } = recording;
-    let mut rows = rows;
-    match done {
-        Ok(valid) => {
+    match recorded(
+        alloc,
+        schemas,
+        place,
+        value,
+        RelativeRows::trimming(alloc, arena),
+    ) {
+        Ok((valid, mut rows)) => {
             let absolute = location_at(alloc, arena, schemas, place)?;
             rows.put_root_back(absolute, valid)?;
             Ok(rows)
         }
+        Err(fault) => Err(fault),
+    }
+}
+
+// Evaluates the schema at the place on the value, and adds the rows of the result to these. Returns the verdict too.
+fn recorded<'a>(
+    alloc: Global,
+    schemas: &'a Schemas,
+    place: Place,
+    value: &'a Doc,
+    rows: RelativeRows<'a>,
+) -> Result<(bool, RelativeRows<'a>), WalkFault>
+    requires { is_place schemas.now place ≡ true }
+    ensures { MatchResult result
+        (λ r. Reported (schemas_of schemas.now) (numbered_site schemas.now place) (value_of value.now)
+        AddsRow r.0 rows.entry r.1)
+        (λ e. OnTooLarge e (NoneStands schemas.now place (value_of value.now))) }
+{
+    let mut recording = Recording {
+        rows,
+        token: String::new(alloc),
+    };
+    let done = walk_to::<HeldText, Recording<'a>>(alloc, schemas, place, value, &mut recording);
+    let Recording { rows, token: _ } = recording;
+    match done {
+        Ok(valid) => Ok((valid, rows)),
         Err(fault) => Err(fault),
     }
 }

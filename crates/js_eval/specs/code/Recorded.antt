@@ -2,8 +2,13 @@
 use Rattle.std.specs.Prelude.{◌≡◌}
 use Rattle.js_tree.specs.Events.{Event}
 use Rattle.js_tree.specs.RelativeState.{relative_after, relative_state}
+use Rattle.js_tree.specs.declared.relative.rows.RelativeRows.{RelativeRows}
 use Rattle.js_eval.specs.declared.reporters.recording.Recording.{Recording}
 
--- the event leads from the rows of one to those of the other
+-- the event leads from these rows to those
+abbrev pub AddsRow : RelativeRows → Event → RelativeRows → Type 0
+AddsRow c e d = relative_state d ≡ relative_after (relative_state c) e
+
+-- from the rows of one to those of the other
 abbrev pub TakesEvent : Recording → Event → Recording → Type 0
-TakesEvent c e d = relative_state d.rows ≡ relative_after (relative_state c.rows) e
+TakesEvent c e d = AddsRow c.rows e d.rows

@@ -1,11 +1,11 @@
 -- What the applications of a keyword start from, and what they are (of private functions).
-use Rattle.std.specs.Prelude.{◌≡◌, ℕ, Bool, List, map}
+use Rattle.std.specs.Prelude.{◌≡◌, ℕ, Bool, true, false, List, Option, map}
 use Rattle.js_doc.specs.Seen.{value_of}
 use Rattle.js_doc.specs.Value.{Named, Value}
 use Rattle.js_bundle.specs.Document.{Documents}
 use Rattle.js_bundle.specs.Ranked.{is_alone}
 use Rattle.js_bundle.specs.Resource.{Site}
-use Rattle.js_eval.specs.Applications.{Application, application}
+use Rattle.js_eval.specs.Applications.{Application, application, if_fails, if_holds}
 use Rattle.js_eval.specs.Bundle.{schemas_of}
 use Rattle.js_eval.specs.SchemaSet.{Alone, Index, Name, Step}
 use Rattle.js_eval.specs.Seen.{keyword_of}
@@ -41,3 +41,8 @@ on_members documents k members = map (λ m. by_keyword documents k Alone (Name m
 -- the schema that the keyword has for a name, on the member of that name
 abbrev pub on_namesakes : Documents → KeywordAt → Named → List (Application Site)
 on_namesakes documents k members = map (λ m. by_keyword documents k (Name m.0) (Name m.0) m.1) members
+
+-- those that are asked for if the adjacent `if` has the wanted verdict
+abbrev pub applied_if : Bool → Option Bool → List (Application Site) → List (Application Site)
+applied_if true condition apps = if_holds condition apps
+applied_if false condition apps = if_fails condition apps

@@ -3,7 +3,6 @@ ghost use Rattle.std.specs.Prelude.{◌≡◌};
 ghost use Rattle.js_eval.specs.code.Applied.{IsHeld, applied, applied_of, at_in, site_in, step_in, applied_value};
 ghost use Rattle.js_eval.specs.code.Asked.{IsApplied};
 ghost use Rattle.js_eval.specs.code.Terms.{IsSchemaAt, instance_of, numbered_site, step_of, value_of};
-ghost use Rattle.js_eval.specs.declared.cursors.application.To.TheVariants as to;
 
 use crate::instance::{Applied, Instance};
 use crate::schema_lookup::subschema_at;
@@ -32,60 +31,38 @@ pub(crate) enum To<'a> {
 }
 
 impl<'a> Held<'a> {
-    // The schema for the part at this step, with its place.
-    fn schema(&self, schemas: &'a Schemas, step: Step<'_>) -> (Place, &'a Doc)
+    // The schema for the part at this step, after its place, and the step from the keyword to it.
+    fn schema(&self, schemas: &'a Schemas, step: Step<'a>) -> (Place, &'a Doc, Step<'a>)
         requires { IsHeld schemas.now self.now }
         ensures is { IsSchemaAt schemas.now result.0 (value_of result.1.now) }
         ensures site { numbered_site schemas.now result.0 ≡ site_in schemas.now self.now (step_of step.entry) }
+        ensures step { step_of result.2 ≡ step_in self.now (step_of step.entry) }
     {
         match self {
-            Held::One(place, schema) => (*place, schema),
-            Held::Each(place, schema, keyword) => subschema_at(
-                schemas, *place, schema, keyword, step,
-            ),
-        }
-    }
-
-    fn step(&self, step: Step<'a>) -> Step<'a>
-        ensures { step_of result ≡ step_in self.now (step_of step.entry) }
-    {
-        match self {
-            Held::One(_, _) => Step::Alone,
-            Held::Each(_, _, _) => step,
+            Held::One(place, schema) => (*place, schema, Step::Alone),
+            Held::Each(place, schema, keyword) => {
+                let (below, held) = subschema_at(schemas, *place, schema, keyword, step);
+                (below, held, step)
+            }
         }
     }
 }
 
 impl<'a> To<'a> {
-    fn step(&self, step: Step<'a>) -> Step<'a>
-        ensures { step_of result ≡ at_in self.now (step_of step.entry) }
+    // The value, after the step to it.
+    fn value(&self, step: Step<'a>, part: &'a Doc) -> (Step<'a>, Instance<'a>)
+        ensures step { step_of result.0 ≡ at_in self.now (step_of step.entry) }
+        ensures value { instance_of result.1 ≡ applied_value self.now (step_of step.entry) (value_of part.now) }
     {
         match self {
-            To::Part => step,
-            To::Name => step,
-            To::Whole(_) => Step::Alone,
+            To::Part => (step, Instance::Doc(part)),
+            To::Name => match step {
+                Step::Name(name) => (step, Instance::Name(name)),
+                Step::Alone => (step, Instance::Doc(part)),
+                Step::Index(_) => (step, Instance::Doc(part)),
+            },
+            To::Whole(value) => (Step::Alone, *value),
         }
-    }
-
-    fn value(&self, step: Step<'a>, part: &'a Doc) -> Instance<'a>
-        ensures { instance_of result ≡ applied_value self.now (step_of step.entry) (value_of part.now) }
-    {
-        match self {
-            To::Part => Instance::Doc(part),
-            To::Name => named(step, part),
-            To::Whole(value) => *value,
-        }
-    }
-}
-
-// The name of a member, as a string.
-fn named<'a>(step: Step<'a>, part: &'a Doc) -> Instance<'a>
-    ensures { instance_of result ≡ applied_value to.Name (step_of step.entry) (value_of part.now) }
-{
-    match step {
-        Step::Name(name) => Instance::Name(name),
-        Step::Alone => Instance::Doc(part),
-        Step::Index(_) => Instance::Doc(part),
     }
 }
 
@@ -102,12 +79,13 @@ pub(crate) fn apply_to_part<'a>(
         ≡ applied schemas.now held.now to.now (step_of step.entry) (value_of part.now) }
     ensures is { IsApplied schemas.now result }
 {
-    let (place, schema) = held.schema(schemas, step);
+    let (place, schema, via) = held.schema(schemas, step);
+    let (at, value) = to.value(step, part);
     Applied {
         place,
         schema,
-        step: held.step(step),
-        at: to.step(step),
-        value: to.value(step, part),
+        step: via,
+        at,
+        value,
     }
 }

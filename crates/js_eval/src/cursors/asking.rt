@@ -51,6 +51,17 @@ pub(crate) fn alone<'a>(place: Place, schema: &'a Doc, value: Instance<'a>) -> A
     }))
 }
 
+/// The value, in a box.
+///
+/// # Errors
+/// `Memory` if an allocation fails.
+#[inline(always)]
+pub(crate) fn boxed<T: Drop>(alloc: Global, value: T) -> Result<Box<T>, Memory>
+    ensures { IfOk result (λ b. b.value ≡ value) }
+{
+    Ok(Box::new(alloc, value)?)
+}
+
 /// The next application, or None after the last.
 ///
 /// # Errors

@@ -1,23 +1,19 @@
 //! Applications member by member (Core, sections 10.2.2.4, 10.3.2 and 11.3): a schema on each member that the keyword
 //! chooses by name, or on the value itself for each of the keyword's names that a member has.
-ghost use Rattle.std.specs.Prelude.{◌≡◌, ◌||◌, ◌∷◌, [], IfOk, MatchOption, filter, map, not};
+ghost use Rattle.std.specs.Prelude.{◌≡◌, ◌||◌, ◌∷◌, [], IfOk, MatchOption};
 ghost use Rattle.std.specs.List.{list_any};
 ghost use Rattle.std.specs.Option.{option_map_or};
 ghost use Rattle.js_assert.specs.Pattern.{matches};
 ghost use Rattle.js_doc.specs.Members.{get};
-ghost use Rattle.js_doc.specs.Value.{text};
-ghost use Rattle.js_eval.specs.Applications.{among_names, application};
 ghost use Rattle.js_eval.specs.code.Applied.{IsHeld, applied_of};
 ghost use Rattle.js_eval.specs.code.Asked.{IsApplied};
 ghost use Rattle.js_eval.specs.code.Cursors.{is_chosen, is_matched, is_named, members_asked, chosen_members, named_in};
-ghost use Rattle.js_eval.specs.code.Terms.{Documents, IsSchemaAt, entries, has};
-ghost use Rattle.js_eval.specs.code.Terms.{instance_of, numbered_site, schemas_of, texts_of, value_of};
-ghost use Rattle.js_eval.specs.SchemaSet as spec;
+ghost use Rattle.js_eval.specs.code.Terms.{entries, value_of};
 
 use crate::cursors::application::{Held, To, apply_to_part};
-use crate::instance::{Applied, Instance, object_in};
+use crate::instance::{Applied, object_in};
 use crate::schema::argument_in;
-use crate::searching::name_set::{is_in, set_of};
+use crate::searching::name_set::is_in;
 use crate::searching::searchers::{NamedPattern, Searchers};
 use js_bundle::{Place, Schemas, Step};
 use js_doc::{Doc, Members, Memory, Pairs};
@@ -51,126 +47,6 @@ pub(crate) struct MemberCursor<'a> {
     pub to: To<'a>,
     pub members: Pairs<'a>,
     pub choice: Choice<'a>,
-}
-
-/// The schema of each name that a member has, applied to the member. It goes through the members.
-pub(crate) fn each_named<'a>(
-    place: Place,
-    schema: &'a Doc,
-    keyword: &'a str,
-    named: &'a Members,
-    members: &'a Members,
-) -> MemberCursor<'a>
-    ensures asked { (documents : Documents) → members_asked documents result
-        ≡ map (λ m. application (schemas_of documents) (numbered_site documents place) keyword.now (spec.Name m.0)
-        (spec.Name m.0) m.1)
-        (filter (λ m. has m.0 named.now) members.now) }
-    ensures held { (documents : Documents) → IsSchemaAt documents place (value_of schema.now)
-        → IsHeld documents result.held }
-{
-    MemberCursor {
-        held: Held::Each(place, schema, keyword),
-        to: To::Part,
-        members: members.pairs(),
-        choice: Choice::Named(named),
-    }
-}
-
-/// The schema of each name that a member has, applied to the value itself.
-pub(crate) fn each_in_place<'a>(
-    place: Place,
-    schema: &'a Doc,
-    keyword: &'a str,
-    named: &'a Members,
-    members: &'a Members,
-    value: Instance<'a>,
-) -> MemberCursor<'a>
-    ensures asked { (documents : Documents) → members_asked documents result
-        ≡ map (λ m. application (schemas_of documents) (numbered_site documents place) keyword.now
-        (spec.Name m.0) spec.Alone (instance_of value.entry))
-        (filter (λ m. has m.0 members.now) named.now) }
-    ensures held { (documents : Documents) → IsSchemaAt documents place (value_of schema.now)
-        → IsHeld documents result.held }
-{
-    MemberCursor {
-        held: Held::Each(place, schema, keyword),
-        to: To::Whole(value),
-        members: named.pairs(),
-        choice: Choice::Named(members),
-    }
-}
-
-/// The schema at a place, applied to each member's name, as a string.
-#[tactic(auto, using(crate::proofs::MembersLeft::all_chosen))]
-pub(crate) fn each_name<'a>(below: Place, schema: &'a Doc, members: &'a Members) -> MemberCursor<'a>
-    ensures asked { (documents : Documents) → members_asked documents result
-        ≡ map (λ m.
-        record { place = numbered_site documents below; step = spec.Alone; at = spec.Name m.0; value = text m.0 })
-        members.now }
-    ensures held { (documents : Documents) → IsSchemaAt documents below (value_of schema.now)
-        → IsHeld documents result.held }
-{
-    MemberCursor {
-        held: Held::One(below, schema),
-        to: To::Name,
-        members: members.pairs(),
-        choice: Choice::All,
-    }
-}
-
-/// The schema at a place, applied to each member that the adjacent keywords don't cover.
-pub(crate) fn each_additional<'a>(
-    below: Place,
-    schema: &'a Doc,
-    place: Place,
-    properties: Option<&'a Members>,
-    patterns: Option<&'a Members>,
-    members: &'a Members,
-) -> MemberCursor<'a>
-    ensures asked { (documents : Documents) → members_asked documents result
-        ≡ map (λ m.
-        record { place = numbered_site documents below; step = spec.Alone; at = spec.Name m.0; value = m.1 })
-        (filter (λ m. not (is_named properties.entry m.0 || is_matched patterns.entry m.0)) members.now) }
-    ensures held { (documents : Documents) → IsSchemaAt documents below (value_of schema.now)
-        → IsHeld documents result.held }
-{
-    MemberCursor {
-        held: Held::One(below, schema),
-        to: To::Part,
-        members: members.pairs(),
-        choice: Choice::Additional(Adjacent {
-            place,
-            properties,
-            patterns,
-        }),
-    }
-}
-
-/// The schema at a place, applied to each member whose name isn't one of these.
-///
-/// # Errors
-/// `Memory` if an allocation fails.
-pub(crate) fn each_other<'a>(
-    alloc: Global,
-    below: Place,
-    schema: &'a Doc,
-    names: &[&'a str],
-    members: &'a Members,
-) -> Result<MemberCursor<'a>, Memory>
-    ensures asked { IfOk result (λ c. (documents : Documents) → members_asked documents c
-        ≡ map (λ m.
-        record { place = numbered_site documents below; step = spec.Alone; at = spec.Name m.0; value = m.1 })
-        (filter (λ m. not (among_names m.0 (texts_of names.now))) members.now)) }
-    ensures held { IfOk result (λ c. (documents : Documents) → IsSchemaAt documents below (value_of schema.now)
-        → IsHeld documents c.held) }
-{
-    let set = set_of(alloc, names)?;
-    Ok(MemberCursor {
-        held: Held::One(below, schema),
-        to: To::Part,
-        members: members.pairs(),
-        choice: Choice::Except(set),
-    })
 }
 
 /// The argument of the keyword with this name, if it is an object.
@@ -301,43 +177,30 @@ fn matches_any<'a>(
     ensures { IfOk result (λ b. b ≡ list_any (λ p. matches p.0 name.now) patterns.now) }
 {
     for (pattern, _) in patterns.pairs() {
-        if matches(alloc, schemas, searchers, place, pattern.as_str(), name)? {
+        let built = pattern_of(schemas, place, pattern.as_str())?;
+        if searchers.matches_name(alloc, built, name)? {
             return Ok(true);
         }
     }
     Ok(false)
 }
 
-// Whether a pattern of the place's `patternProperties` matches somewhere in the name.
-fn matches<'a>(
-    alloc: Global,
-    schemas: &'a Schemas,
-    searchers: &Searchers<'a>,
-    place: Place,
-    pattern: &'a str,
-    name: &str,
-) -> Result<bool, Memory>
-    ensures { IfOk result (λ b. b ≡ matches pattern.now name.now) }
-{
-    match pattern_of(schemas, place, pattern) {
-        Some(built) => searchers.matches_name(alloc, built, name),
-        None => Err(Memory), // never: finished schemas have all their patterns
-    }
-}
-
-/// The pattern with this text in the `patternProperties` of the place.
+/// The pattern with this text in the `patternProperties` of the place. Finished schemas have all their patterns.
+///
+/// # Errors
+/// `Memory` if it isn't found.
 pub(crate) fn pattern_of<'a>(
     schemas: &'a Schemas,
     place: Place,
     text: &'a str,
-) -> Option<NamedPattern<'a>>
-    ensures { MatchOption result (Unit {0}) (λ p. p.text.now ≡ text.now) }
+) -> Result<NamedPattern<'a>, Memory>
+    ensures { IfOk result (λ p. p.text.now ≡ text.now) }
 {
     if !schemas.has(place) {
-        return None;
+        return Err(Memory);
     }
     match schemas.pattern(place, text) {
-        Some(pattern) => Some(NamedPattern::new(pattern, text)),
-        None => None,
+        Some(pattern) => Ok(NamedPattern { pattern, text }),
+        None => Err(Memory),
     }
 }

@@ -1,12 +1,11 @@
 //! The applications of `patternProperties` (Core, section 10.3.2.2): for each pattern, its schema on each member whose
 //! name it matches.
 ghost use Rattle.std.specs.Prelude.{◌≡◌, ◌∷◌, [], IfOk, MatchOption, filter, map};
-ghost use Rattle.std.specs.List.{flat_map};
 ghost use Rattle.js_assert.specs.Pattern.{matches};
 ghost use Rattle.js_eval.specs.code.Applied.{applied_of};
 ghost use Rattle.js_eval.specs.code.Asked.{ArePatterns, IsApplied};
-ghost use Rattle.js_eval.specs.code.Cursors.{IsBegun, matching_asked, on_matched_member, patterns_asked};
-ghost use Rattle.js_eval.specs.code.Terms.{Documents, IsSchemaAt, numbered_site, pair_of, value_of};
+ghost use Rattle.js_eval.specs.code.Cursors.{IsBegun, on_matched_member, patterns_asked};
+ghost use Rattle.js_eval.specs.code.Terms.{IsSchemaAt, pair_of, value_of};
 
 use crate::cursors::member_cursor::pattern_of;
 use crate::instance::{Applied, Instance};
@@ -33,36 +32,6 @@ pub(crate) struct PatternCursor<'a> {
     /// Whether the matches of the patterns are stored, because `additionalProperties` of the same schema has needed
     /// them.
     pub is_kept: bool,
-}
-
-/// The applications of `patternProperties` to these members. `is_kept`: see the field.
-pub(crate) fn each_matching<'a>(
-    place: Place,
-    schema: &'a Doc,
-    keyword: &'a str,
-    patterns: &'a Members,
-    members: &'a Members,
-    is_kept: bool,
-) -> PatternCursor<'a>
-    ensures asked { (documents : Documents) → patterns_asked documents result
-        ≡ flat_map (λ p. matching_asked documents
-        (numbered_site documents place) keyword.now p.0 members.now) patterns.now }
-    ensures are { (documents : Documents) → IsSchemaAt documents place (value_of schema.now)
-        → ArePatterns documents result }
-{
-    PatternCursor {
-        place,
-        schema,
-        keyword,
-        patterns: patterns.pairs(),
-        members,
-        present: None,
-        name: keyword,
-        below: place,
-        schema_below: schema,
-        left: members.pairs(),
-        is_kept,
-    }
 }
 
 /// The next application, or None after the last.
@@ -139,28 +108,18 @@ fn begin<'a>(
     requires { IsSchemaAt schemas.now cursor.old.place (value_of cursor.old.schema.now) }
     ensures { IfOk result (λ p. IsBegun schemas.now name.now p cursor.old cursor.new) }
 {
-    match pattern_of(schemas, cursor.place, name) {
-        Some(pattern) => {
-            cursor.present = Some(pattern);
-            cursor.name = name;
-            let step = Step::Name(name);
-            let (place, schema) = subschema_at(
-                schemas,
-                cursor.place,
-                cursor.schema,
-                cursor.keyword,
-                step,
-            );
-            cursor.below = place;
-            cursor.schema_below = schema;
-            cursor.left = cursor.members.pairs();
-            if cursor.is_kept {
-                searchers.begin_kept(name);
-            }
-            Ok(pattern)
-        }
-        None => Err(Memory), // never: finished schemas have all their patterns
+    let pattern = pattern_of(schemas, cursor.place, name)?;
+    cursor.present = Some(pattern);
+    cursor.name = name;
+    let step = Step::Name(name);
+    let (place, schema) = subschema_at(schemas, cursor.place, cursor.schema, cursor.keyword, step);
+    cursor.below = place;
+    cursor.schema_below = schema;
+    cursor.left = cursor.members.pairs();
+    if cursor.is_kept {
+        searchers.begin_kept();
     }
+    Ok(pattern)
 }
 
 // The next member whose name the pattern matches.

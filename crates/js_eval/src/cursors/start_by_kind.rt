@@ -1,10 +1,10 @@
 //! The applications that a keyword asks for, by its kind (Core, sections 8.2.3, 10 and 11).
 ghost use Rattle.std.specs.Prelude.{◌≡◌, ◌∷◌, [], IfOk, map, nat_eq, true};
 ghost use Rattle.std.specs.List.{dedup, list_all};
-ghost use Rattle.js_eval.specs.Applications.{asks_of, if_fails, if_holds};
+ghost use Rattle.js_eval.specs.Applications.{asks_of};
 ghost use Rattle.js_eval.specs.code.Asked.{IsAsking, asked};
 ghost use Rattle.js_eval.specs.code.Holding.{IsIn};
-ghost use Rattle.js_eval.specs.code.Starting.{HoldsOne, IsAtPlace, by_keyword};
+ghost use Rattle.js_eval.specs.code.Starting.{HoldsOne, IsAtPlace, applied_if, by_keyword};
 ghost use Rattle.js_eval.specs.code.Terms.{IsSchemaAt, entries, instance_of, is_place, keyword_of};
 ghost use Rattle.js_eval.specs.code.Terms.{numbered_site, resource_of, schemas_of, texts_of, value_of};
 ghost use Rattle.js_eval.specs.SchemaSet as spec;
@@ -76,8 +76,8 @@ pub(crate) fn asking_of_keyword<'a>(
         Kind::OneOf => Ok(start_items::each_in_list(at, value)),
         Kind::Not => Ok(held(schemas, at, value)),
         Kind::If => Ok(held(schemas, at, value)),
-        Kind::Then => Ok(held_then(schemas, at, condition, value)),
-        Kind::Else => Ok(held_else(schemas, at, condition, value)),
+        Kind::Then => Ok(held_if(schemas, at, condition, true, value)),
+        Kind::Else => Ok(held_if(schemas, at, condition, false, value)),
         Kind::DependentSchemas => start_members::dependent(alloc, schemas, at, value),
         Kind::PrefixItems => Ok(start_items::prefix(alloc, schemas, at, value)),
         Kind::Items => Ok(start_items::following(alloc, schemas, at, value)),
@@ -154,40 +154,23 @@ fn held<'a>(schemas: &'a Schemas, at: &KeywordAt<'a>, value: Instance<'a>) -> As
     alone(place, schema, value)
 }
 
-// The schema of `then`, applied if the adjacent `if` succeeds. `condition`: whether it does, or None without an `if`.
-fn held_then<'a>(
+// The keyword's schema, applied to the value itself if the adjacent `if` has the wanted verdict. `condition`: its
+// verdict, or None without an `if`.
+fn held_if<'a>(
     schemas: &'a Schemas,
     at: &KeywordAt<'a>,
     condition: Option<bool>,
+    wanted: bool,
     value: Instance<'a>,
 ) -> Asking<'a>
     requires { HoldsOne schemas.now at.now }
-    ensures asked { asked schemas.now result ≡ if_holds condition
+    ensures asked { asked schemas.now result ≡ applied_if wanted condition
         (by_keyword schemas.now at.now spec.Alone spec.Alone (instance_of value.entry) ∷ []) }
     ensures is { IsAsking schemas.now result }
 {
-    match condition {
-        Some(true) => held(schemas, at, value),
-        Some(false) => Asking::One(None),
-        None => Asking::One(None),
-    }
-}
-
-// The schema of `else`, applied if the adjacent `if` fails. `condition`: whether it succeeds, or None without an `if`.
-fn held_else<'a>(
-    schemas: &'a Schemas,
-    at: &KeywordAt<'a>,
-    condition: Option<bool>,
-    value: Instance<'a>,
-) -> Asking<'a>
-    requires { HoldsOne schemas.now at.now }
-    ensures asked { asked schemas.now result ≡ if_fails condition
-        (by_keyword schemas.now at.now spec.Alone spec.Alone (instance_of value.entry) ∷ []) }
-    ensures is { IsAsking schemas.now result }
-{
-    match condition {
-        Some(false) => held(schemas, at, value),
-        Some(true) => Asking::One(None),
-        None => Asking::One(None),
+    match (condition, wanted) {
+        (Some(true), true) => held(schemas, at, value),
+        (Some(false), false) => held(schemas, at, value),
+        _ => Asking::One(None),
     }
 }

@@ -1,15 +1,17 @@
 //! The applications of keywords for arrays, and of those with a list of schemas (Core, sections 10.2.1, 10.3.1 and
 //! 11.2).
-ghost use Rattle.std.specs.Prelude.{◌≡◌, IfOk, filter, length, map, nat_le, nat_lt, not};
+ghost use Rattle.std.specs.Prelude.{◌≡◌, IfOk, filter, length, map, nat_le, nat_lt, not, take};
 ghost use Rattle.js_bundle.specs.Ranked.{is_index};
 ghost use Rattle.js_eval.specs.Applications.{among_indexes, indexed, prefix_length};
 ghost use Rattle.js_eval.specs.SchemaSet as spec;
 ghost use Rattle.js_eval.specs.code.Asked.{IsAsking, asked};
+ghost use Rattle.js_eval.specs.code.Cursors.{AreMarked};
 ghost use Rattle.js_eval.specs.code.Starting.{HoldsBy, HoldsOne, IsAtPlace, by_keyword, on_items};
 ghost use Rattle.js_eval.specs.code.Terms.{Documents, entries, instance_of, value_of, values};
 
+use crate::cursors::application::{Held, To};
 use crate::cursors::asking::Asking;
-use crate::cursors::item_cursor::{each_at_index, each_except, each_from};
+use crate::cursors::item_cursor::ItemCursor;
 use crate::cursors::list_cursor::ListCursor;
 use crate::instance::{Instance, array_in};
 use crate::keywords::keyword::KeywordAt;
@@ -54,14 +56,25 @@ pub(crate) fn prefix<'a>(
 {
     let schema = at.schema;
     let keyword = at.keyword;
-    Asking::Items(each_at_index(
-        alloc,
-        at.place,
-        schema,
-        keyword.name,
-        array_in(keyword.argument),
-        value.array(),
-    ))
+    let list = array_in(keyword.argument);
+    Asking::Items(ItemCursor {
+        held: Held::Each(at.place, schema, keyword.name),
+        to: To::Part,
+        items: first_of(value.array(), list.len()),
+        next: 0,
+        passed_over: Vec::new(alloc),
+    })
+}
+
+// The first `count` items, or all if there are fewer.
+fn first_of(items: &[Doc], count: usize) -> &[Doc]
+    ensures { result.now ≡ take count items.now }
+{
+    if count < items.len() {
+        &items[..count]
+    } else {
+        items
+    }
 }
 
 /// The schema of `items`, applied to each item after those that the adjacent `prefixItems` has schemas for.
@@ -108,7 +121,13 @@ fn from_index<'a>(
     ensures is { IsAsking schemas.now result }
 {
     let (below, held) = held_below(schemas, at);
-    Asking::Items(each_from(alloc, below, held, value.array(), first))
+    Asking::Items(ItemCursor {
+        held: Held::One(below, held),
+        to: To::Part,
+        items: value.array(),
+        next: first,
+        passed_over: Vec::new(alloc),
+    })
 }
 
 // The number of schemas in the adjacent `prefixItems`, or 0 without it.
@@ -137,7 +156,27 @@ pub(crate) fn unevaluated_items<'a>(
         (filter (λ e. not (among_indexes e.0 indexes.now)) (indexed (instance_of value.entry)))) }
     ensures is { IfOk result (λ a. IsAsking schemas.now a) }
 {
+    let items = value.array();
+    let passed_over = marks_at(alloc, items.len(), indexes)?;
     let (below, held) = held_below(schemas, at);
-    let items = each_except(alloc, below, held, value.array(), indexes)?;
-    Ok(Asking::Items(items))
+    Ok(Asking::Items(ItemCursor {
+        held: Held::One(below, held),
+        to: To::Part,
+        items,
+        next: 0,
+        passed_over,
+    }))
+}
+
+// A list of `count` marks, set at these indexes.
+fn marks_at(alloc: Global, count: usize, indexes: &[usize]) -> Result<Vec<bool>, Memory>
+    ensures { IfOk result (λ marks. AreMarked marks.items count indexes.now) }
+{
+    let mut marks = vec![in alloc; false; count]?;
+    for index in indexes {
+        if *index < count {
+            marks[*index] = true;
+        }
+    }
+    Ok(marks)
 }

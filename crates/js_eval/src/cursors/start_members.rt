@@ -13,16 +13,16 @@ ghost use Rattle.js_eval.specs.code.NamesLeft.{members_among};
 ghost use Rattle.js_eval.specs.code.Starting.{HoldsBy, HoldsOne, IsAtPlace, by_keyword, on_members, on_namesakes};
 ghost use Rattle.js_eval.specs.code.Terms.{Documents, entries, has, instance_of, texts_of, value_of};
 
-use crate::cursors::asking::Asking;
-use crate::cursors::member_cursor::{
-    each_additional, each_in_place, each_name, each_named, each_other, object_at,
-};
+use crate::cursors::application::{Held, To};
+use crate::cursors::asking::{Asking, boxed};
+use crate::cursors::member_cursor::{Adjacent, Choice, MemberCursor, object_at};
 use crate::cursors::name_cursor::{Among, each_of_names, names_ascend};
-use crate::cursors::pattern_cursor::each_matching;
+use crate::cursors::pattern_cursor::PatternCursor;
 use crate::instance::{Instance, object_in};
 use crate::keywords::keyword::KeywordAt;
 use crate::schema::argument_in;
 use crate::schema_lookup::held_below;
+use crate::searching::name_set::set_of;
 use js_bundle::Schemas;
 use js_doc::{Members, Memory};
 use std::alloc::Global;
@@ -61,8 +61,13 @@ pub(crate) fn dependent<'a>(
     };
     match value.object() {
         Some(members) => {
-            let cursor = each_in_place(at.place, schema, keyword.name, named, members, value);
-            Ok(Asking::Members(Box::new(alloc, cursor)?))
+            let cursor = MemberCursor {
+                held: Held::Each(at.place, schema, keyword.name),
+                to: To::Whole(value),
+                members: named.pairs(),
+                choice: Choice::Named(members),
+            };
+            Ok(Asking::Members(boxed(alloc, cursor)?))
         }
         None => Ok(Asking::One(None)),
     }
@@ -108,8 +113,13 @@ fn named_members<'a>(
     if named.len() / MANY_MORE > members.len() {
         let schema = at.schema;
         let keyword = at.keyword;
-        let cursor = each_named(at.place, schema, keyword.name, named, members);
-        return Ok(Asking::Members(Box::new(alloc, cursor)?));
+        let cursor = MemberCursor {
+            held: Held::Each(at.place, schema, keyword.name),
+            to: To::Part,
+            members: members.pairs(),
+            choice: Choice::Named(named),
+        };
+        return Ok(Asking::Members(boxed(alloc, cursor)?));
     }
     let among = among_members(named, members);
     Ok(Asking::Names(each_of_names(at, named, among)))
@@ -152,15 +162,20 @@ pub(crate) fn patterns<'a>(
     };
     match value.object() {
         Some(members) => {
-            let cursor = each_matching(
-                at.place,
+            let cursor = PatternCursor {
+                place: at.place,
                 schema,
-                keyword.name,
-                patterns,
+                keyword: keyword.name,
+                patterns: patterns.pairs(),
                 members,
-                argument_in(schema, "additionalProperties").is_some(),
-            );
-            Ok(Asking::Patterns(Box::new(alloc, cursor)?))
+                present: None,
+                name: keyword.name,
+                below: at.place,
+                schema_below: schema,
+                left: members.pairs(),
+                is_kept: argument_in(schema, "additionalProperties").is_some(),
+            };
+            Ok(Asking::Patterns(boxed(alloc, cursor)?))
         }
         None => Ok(Asking::One(None)),
     }
@@ -188,8 +203,17 @@ pub(crate) fn additional<'a>(
     let patterns = object_at(schema, "patternProperties");
     match value.object() {
         Some(members) => {
-            let cursor = each_additional(below, held, at.place, properties, patterns, members);
-            Ok(Asking::Members(Box::new(alloc, cursor)?))
+            let cursor = MemberCursor {
+                held: Held::One(below, held),
+                to: To::Part,
+                members: members.pairs(),
+                choice: Choice::Additional(Adjacent {
+                    place: at.place,
+                    properties,
+                    patterns,
+                }),
+            };
+            Ok(Asking::Members(boxed(alloc, cursor)?))
         }
         None => Ok(Asking::One(None)),
     }
@@ -214,8 +238,13 @@ pub(crate) fn property_names<'a>(
     let (below, held) = held_below(schemas, at);
     match value.object() {
         Some(members) => {
-            let cursor = each_name(below, held, members);
-            Ok(Asking::Members(Box::new(alloc, cursor)?))
+            let cursor = MemberCursor {
+                held: Held::One(below, held),
+                to: To::Name,
+                members: members.pairs(),
+                choice: Choice::All,
+            };
+            Ok(Asking::Members(boxed(alloc, cursor)?))
         }
         None => Ok(Asking::One(None)),
     }
@@ -240,7 +269,13 @@ pub(crate) fn unevaluated_properties<'a>(
     let Some(members) = value.object() else {
         return Ok(Asking::One(None));
     };
+    let set = set_of(alloc, evaluated)?;
     let (below, held) = held_below(schemas, at);
-    let cursor = each_other(alloc, below, held, evaluated, members)?;
-    Ok(Asking::Members(Box::new(alloc, cursor)?))
+    let cursor = MemberCursor {
+        held: Held::One(below, held),
+        to: To::Part,
+        members: members.pairs(),
+        choice: Choice::Except(set),
+    };
+    Ok(Asking::Members(boxed(alloc, cursor)?))
 }

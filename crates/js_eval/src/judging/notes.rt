@@ -213,18 +213,10 @@ fn matching_items<'a>(
 {
     let are_all = are_all_items(value, indexes);
     match value {
-        Instance::Doc(Doc::List(_)) => true_or_indexes(alloc, are_all, indexes),
+        Instance::Doc(Doc::List(_)) if are_all => Ok(Note::Truth),
+        Instance::Doc(Doc::List(_)) => Ok(Note::Indexes(Indexes::new(as_numbers(alloc, indexes)?))),
         _ => Ok(Note::Silent),
     }
-}
-
-fn true_or_indexes<'a>(alloc: Global, are_all: bool, indexes: &[usize]) -> Result<Note<'a>, Memory>
-    ensures { IfOk result (λ n. note_of n ≡ spec.true_or are_all (spec.indexes indexes.now)) }
-{
-    if are_all {
-        return Ok(Note::Truth);
-    }
-    Ok(Note::Indexes(Indexes::new(as_numbers(alloc, indexes)?)))
 }
 
 fn as_numbers(alloc: Global, indexes: &[usize]) -> Result<Vec<u64>, Memory>
@@ -324,18 +316,11 @@ fn names_in<'a>(
     let mut names = Vec::new(alloc);
     for (name, _) in members.pairs() {
         let name = name.as_str();
-        add_name_if(&mut names, is_in(set, name), name)?;
+        if is_in(set, name) {
+            names.push(name)?;
+        }
     }
     Ok(names)
-}
-
-fn add_name_if<'a>(names: &mut Vec<&'a str>, wanted: bool, name: &'a str) -> Result<(), Memory>
-    ensures { OnOk result (texts_of names.new.items ≡ texts_of names.old.items ++ cond wanted (name.now ∷ []) []) }
-{
-    if wanted {
-        names.push(name)?;
-    }
-    Ok(())
 }
 
 // The error of the keyword's assertion, if it makes one and the value doesn't satisfy it.
@@ -364,7 +349,8 @@ fn error_at(
     )
 }
 
-// The error of an assertion, if there is one and the value doesn't satisfy it.
+// The error of an assertion, if there is one and the value doesn't satisfy it. This repeats the check that gave the
+// verdict; with a kept searcher that costs little.
 fn error_of<'a>(
     alloc: Global,
     searchers: &Searchers<'a>,
@@ -376,24 +362,9 @@ fn error_of<'a>(
         ≡ option_map_or (λ a. texts.error a (instance_of value.entry) matching)
         (option_map (λ a. a.now) assertion.entry) None) }
 {
-    match assertion {
-        Some(assertion) => checked(alloc, searchers, assertion, value, matching),
-        None => Ok(None),
-    }
-}
-
-// The error of an assertion, if the value doesn't satisfy it. This repeats the check that gave the verdict; with a kept
-// searcher that costs little.
-fn checked<'a>(
-    alloc: Global,
-    searchers: &Searchers<'a>,
-    assertion: &'a Assertion,
-    value: Instance<'_>,
-    matching: u64,
-) -> Result<Option<String>, Memory>
-    ensures { IfOk result (λ e. option_map string_bytes e
-        ≡ texts.error assertion.now (instance_of value.entry) matching) }
-{
+    let Some(assertion) = assertion else {
+        return Ok(None);
+    };
     if holds(alloc, searchers, assertion, value, matching)? {
         return Ok(None);
     }

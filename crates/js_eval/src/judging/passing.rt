@@ -186,7 +186,10 @@ fn has_match<'a>(
 ) -> Result<bool, Memory>
     ensures { IfOk result (λ b. b ≡ on_string (instance_of value.entry) (λ s. matches pattern.now s)) }
 {
-    let named = NamedPattern::new(pattern, pattern.as_str());
+    let named = NamedPattern {
+        pattern,
+        text: pattern.as_str(),
+    };
     match value {
         Instance::Doc(Doc::Text(text)) => searchers.matches_name(alloc, named, text.as_str()),
         Instance::Doc(_) => Ok(true),

@@ -8,8 +8,8 @@ ghost use Rattle.js_bundle.specs.Resource.{Site};
 
 /// What a keyword does (Core, sections 8, 10 and 11; Validation, section 6): a kind for each keyword that applies
 /// schemas, one for all assertions, and one for all other keywords. The numbers below are sections of Core.
-#[derive(Clone, Copy, Debug, PartialEq, Eq)]
-pub enum Kind {
+#[derive(Clone, Copy)]
+pub(crate) enum Kind {
     /// `$ref` (8.2.3.1)
     Reference,
     /// `$dynamicRef` (8.2.3.2)

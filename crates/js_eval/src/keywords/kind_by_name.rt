@@ -7,15 +7,8 @@ ghost use Rattle.js_eval.specs.code.Standard.{kind_by};
 use crate::keywords::kind::Kind;
 use js_bundle::KeywordName;
 
-/// The kind of the keyword with this name. A keyword that the standard doesn't define is an annotation (Core, section
-/// 4.3.1).
-pub fn kind_of(name: &str) -> Kind
-    ensures { result ≡ kind name.now }
-{
-    kind_of_named(KeywordName::of(name), name)
-}
-
-/// The same, if the caller knows which keyword of the standard it is.
+/// The kind of the keyword with this name, given which keyword of the standard it is. A keyword that the standard
+/// doesn't define is an annotation (Core, section 4.3.1).
 #[tactic(auto, using(crate::proofs::Standard::kind_if_named))]
 pub(crate) fn kind_of_named(which: KeywordName, _name: &str) -> Kind
     requires { which ≡ keyword_name _name.now }

@@ -1,5 +1,6 @@
 //! The reporter that passes the result of a walk to a collector.
-ghost use Rattle.std.specs.Prelude.{◌≡◌, IfOk};
+ghost use Rattle.std.specs.Prelude.{OnOk};
+ghost use Rattle.js_tree.specs.Events.{opening};
 
 use crate::finished_world::Here;
 use crate::instance::Instance;
@@ -42,8 +43,7 @@ impl<'a, C: Collector<'a>> Reporter<Here<'a>, HeldText> for Collecting<'a, C> {
         instance_location: &Trail<HeldText>,
     ) -> Result<(), Memory> {
         let absolute = world.absolute_schema(alloc, place)?;
-        self.collector
-            .enter(head(keyword_location, absolute, instance_location)?)
+        self.open(keyword_location, absolute, instance_location)
     }
 
     #[inline(never)]
@@ -57,8 +57,7 @@ impl<'a, C: Collector<'a>> Reporter<Here<'a>, HeldText> for Collecting<'a, C> {
         instance_location: &Trail<HeldText>,
     ) -> Result<(), Memory> {
         let absolute = world.absolute_keyword(alloc, place, keyword.name)?;
-        self.collector
-            .enter(head(keyword_location, absolute, instance_location)?)
+        self.open(keyword_location, absolute, instance_location)
     }
 
     #[inline(never)]
@@ -132,17 +131,22 @@ impl<'a, C: Collector<'a>> Reporter<Here<'a>, HeldText> for Collecting<'a, C> {
     }
 }
 
-// The three locations of a node (JSON Schema Core, sections 12.3.1 to 12.3.3).
-fn head(
-    keyword: &Trail<HeldText>,
-    absolute: Text,
-    instance: &Trail<HeldText>,
-) -> Result<Head, Memory>
-    ensures { IfOk result (λ h. h ≡ record { keyword = keyword.now; absolute = absolute; instance = instance.now }) }
-{
-    Ok(Head {
-        keyword: keyword.copy()?,
-        absolute,
-        instance: instance.copy()?,
-    })
+impl<'a, C: Collector<'a>> Collecting<'a, C> {
+    // Passes on the three locations of a node that opens (JSON Schema Core, sections 12.3.1 to 12.3.3).
+    fn open(
+        &mut self,
+        keyword: &Trail<HeldText>,
+        absolute: Text,
+        instance: &Trail<HeldText>,
+    ) -> Result<(), Memory>
+        ensures { OnOk result (C.takes self.old.collector (opening keyword.now absolute instance.now)
+            self.new.collector) }
+    {
+        let head = Head {
+            keyword: keyword.copy()?,
+            absolute,
+            instance: instance.copy()?,
+        };
+        self.collector.enter(head)
+    }
 }

@@ -1,10 +1,11 @@
 //! Which names of an object the patterns of `patternProperties` match. `additionalProperties` needs this first, and
 //! `patternProperties` of the same schema reuses it.
-ghost use Rattle.std.specs.Prelude.{◌≡◌, IfOk, MatchOption, drop, get_or, map, false};
+ghost use Rattle.std.specs.Prelude.{◌≡◌, IfOk, MatchOption, drop, map};
 ghost use Rattle.std.specs.List.{list_any};
 ghost use Rattle.js_assert.specs.Pattern.{matches};
 ghost use Rattle.js_doc.specs.Seen.{pair_of};
 
+use crate::cursors::item_cursor::is_marked;
 use crate::cursors::member_cursor::{object_at, pattern_of};
 use crate::instance::Instance;
 use crate::searching::searchers::{NamedPattern, Searchers};
@@ -64,24 +65,13 @@ impl<'p> PatternAnswers<'p> {
         ensures same { self.new.pattern ≡ self.old.pattern }
     {
         while let Some((own, _)) = self.left.next() {
-            let is_match = answer_at(self.all.as_slice(), self.next);
+            let is_match = is_marked(self.all.as_slice(), self.next);
             self.next += 1;
             if own.as_str() == name {
                 return Some(is_match);
             }
         }
         None
-    }
-
-    /// The same if `pattern` is the text of this pattern, else None.
-    pub fn find_of(&mut self, pattern: &str, name: &str) -> Option<bool>
-        ensures { MatchOption result (Unit {0}) (λ b. b ≡ matches pattern.now name.now) }
-    {
-        if self.pattern == pattern {
-            self.find_name(name)
-        } else {
-            None
-        }
     }
 }
 
@@ -91,6 +81,8 @@ pub(crate) struct AllAnswers<'p> {
     each: Vec<PatternAnswers<'p>>,
     /// The index of the pattern that `find` asks.
     present: usize,
+    /// The index of the pattern that `find` asks next.
+    next: usize,
 }
 
 impl<'p> AllAnswers<'p> {
@@ -107,9 +99,10 @@ impl<'p> AllAnswers<'p> {
         Some(false)
     }
 
-    /// Selects the pattern that `find` asks, and goes back to the first name.
-    pub fn begin(&mut self, pattern: &str) {
-        self.present = place_of(self.each.as_slice(), pattern);
+    /// Makes `find` ask the next pattern, the first at first, and goes back to the first name.
+    pub fn begin_next(&mut self) {
+        self.present = self.next;
+        self.next = self.present.saturating_add(1);
         if let Some(answers) = self.each.get_mut(self.present) {
             answers.rewind();
         }
@@ -125,16 +118,13 @@ impl<'p> AllAnswers<'p> {
     fn find_at(&mut self, index: usize, pattern: &str, name: &str) -> Option<bool>
         ensures { MatchOption result (Unit {0}) (λ b. b ≡ matches pattern.now name.now) }
     {
-        match self.each.get_mut(index) {
-            Some(answers) => answers.find_of(pattern, name),
-            None => None,
+        let answers = self.each.get_mut(index)?;
+        if answers.pattern == pattern {
+            answers.find_name(name)
+        } else {
+            None
         }
     }
-}
-
-// The index of the pattern's answers, if there are any. They are sorted by pattern.
-fn place_of(each: &[PatternAnswers<'_>], pattern: &str) -> usize {
-    each.partition_point(|answers| answers.pattern < pattern)
 }
 
 /// Tries each pattern of a schema's `patternProperties` on each name of the value, if it is an object, and stores the
@@ -159,11 +149,14 @@ pub(crate) fn keep_all<'p>(
     };
     let mut each = Vec::with_capacity(alloc, patterns.len())?;
     for (text, _) in patterns.pairs() {
-        if let Some(pattern) = pattern_of(schemas, place, text.as_str()) {
-            each.push(PatternAnswers::new(alloc, searchers, pattern, members)?)?;
-        }
+        let pattern = pattern_of(schemas, place, text.as_str())?;
+        each.push(PatternAnswers::new(alloc, searchers, pattern, members)?)?;
     }
-    searchers.keep_answers(AllAnswers { each, present: 0 })
+    searchers.keep_answers(AllAnswers {
+        each,
+        present: 0,
+        next: 0,
+    })
 }
 
 // Whether the pattern matches each of the names.
@@ -180,13 +173,4 @@ fn asked_of_each<'p>(
         all.push(searchers.matches_name(alloc, pattern, name.as_str())?)?;
     }
     Ok(all)
-}
-
-fn answer_at(all: &[bool], next: usize) -> bool
-    ensures { result ≡ get_or all.now next false }
-{
-    match all.get(next) {
-        Some(answer) => *answer,
-        None => false,
-    }
 }

@@ -19,7 +19,7 @@ const MOST_SEARCHED: usize = 1 << 20;
 /// A pattern of finished schemas, and its text.
 #[derive(Clone, Copy)]
 pub(crate) struct NamedPattern<'p> {
-    pattern: &'p Pattern,
+    pub pattern: &'p Pattern,
     pub text: &'p str,
     ghost named: { pattern.now ≡ text.now },
 }
@@ -49,16 +49,6 @@ struct Marked<'p> {
     text: &'p str,
     searcher: Searcher<'p>,
     ghost searches: { searcher ≡ text.now },
-}
-
-impl<'p> NamedPattern<'p> {
-    /// The pattern with its text.
-    pub fn new(pattern: &'p Pattern, text: &'p str) -> NamedPattern<'p>
-        requires { pattern.now ≡ text.now }
-        ensures { result.text.now ≡ text.now }
-    {
-        NamedPattern { pattern, text }
-    }
 }
 
 impl<'p> Searchers<'p> {
@@ -123,11 +113,11 @@ impl<'p> Searchers<'p> {
         }
     }
 
-    /// Selects this pattern in the entry stored last.
-    pub fn begin_kept(&self, pattern: &str) {
+    /// Goes on to the next pattern in the entry stored last.
+    pub fn begin_kept(&self) {
         if let Ok(mut kept) = self.answers.try_borrow_mut() {
             if let Some(answers) = kept.last_mut() {
-                answers.begin(pattern);
+                answers.begin_next();
             }
         }
     }

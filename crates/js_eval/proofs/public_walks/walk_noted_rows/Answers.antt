@@ -1,27 +1,20 @@
-use Rattle.std.specs.Prelude.{◌≡◌, []}
+use Rattle.std.specs.Prelude.{[]}
 use Rattle.js_doc.specs.Seen.{value_of}
-use Rattle.js_tree.proofs.Telling.{passes-inside}
 use Rattle.js_tree.proofs.TrimmedTold.{trimmed_held}
-use Rattle.js_tree.specs.Events.{events}
-use Rattle.js_tree.specs.RelativeState.{AreTrimmedOf, relative_after, relative_state}
-use Rattle.js_tree.specs.declared.relative.rows.RelativeRows.{RelativeRows}
+use Rattle.js_tree.specs.RelativeState.{AreTrimmedOf}
 use Rattle.js_eval.specs.Bundle.{schemas_of}
 use Rattle.js_eval.specs.Location.{at_root}
 use Rattle.js_eval.specs.Sited.{numbered_site}
-use Rattle.js_eval.specs.declared.reporters.recording.Recording.{Recording}
 use Rattle.js_eval.proofs.Located.{result_is_located, root_is_at}
 use Rattle.js_eval.proofs.Paths.{location_is}
 use Rattle.js_eval.proofs.public_walks.walk_noted_rows.Goals as goal
 
-pub returns-in-Ok-clause-ok : goal.returns-in-Ok-clause-ok
-returns-in-Ok-clause-ok c =
+pub returns-in_ok-put_root_back-in-Ok-clause-ok : goal.returns-in_ok-put_root_back-in-Ok-clause-ok
+returns-in_ok-put_root_back-in-Ok-clause-ok c =
     let h = c.in-Ok.ensures in
     let schemas = c.args.schemas.now in
-    let rows_of : Recording → RelativeRows = λ r. r.rows in
-    let start : Recording = record { rows = c.trimming.result; token = c.new.result } in
-    let passes = passes-inside rows_of (λ a e b. relative_state b ≡ relative_after (relative_state a) e) (events h.result) start c.walk_to-done.new.reporter h.passes in
-    let trimmed : AreTrimmedOf (rows_of c.walk_to-done.new.reporter) h.result = record {
-      trimmed_are = trimmed_held h.result c.trimming.result (rows_of c.walk_to-done.new.reporter) c.trimming.ensures passes;
+    let trimmed : AreTrimmedOf c.in-Ok.rows h.result = record {
+      trimmed_are = trimmed_held h.result c.trimming.result c.in-Ok.rows c.trimming.ensures h.passes;
       located = result_is_located (schemas_of schemas) [] (numbered_site schemas c.args.place) (value_of c.args.value.now) at_root h.result h.is;
     } in
     let absolute = location_is schemas c.args.place c.in_ok-absolute-in-Ok.absolute.now c.in_ok-absolute-in-Ok.ensures in

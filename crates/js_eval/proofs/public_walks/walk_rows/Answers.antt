@@ -1,28 +1,20 @@
-use Rattle.std.specs.Prelude.{◌≡◌, []}
+use Rattle.std.specs.Prelude.{[]}
 use Rattle.js_doc.specs.Seen.{value_of}
 use Rattle.js_tree.proofs.RelativeTold.{relative_held}
-use Rattle.js_tree.proofs.Telling.{passes-inside}
-use Rattle.js_tree.specs.Events.{events}
-use Rattle.js_tree.specs.RelativeState.{relative_after, relative_state}
-use Rattle.js_tree.specs.declared.relative.rows.RelativeRows.{RelativeRows}
 use Rattle.js_eval.specs.Bundle.{schemas_of}
 use Rattle.js_eval.specs.Location.{at_root}
 use Rattle.js_eval.specs.Sited.{numbered_site}
-use Rattle.js_eval.specs.declared.reporters.recording.Recording.{Recording}
 use Rattle.js_eval.proofs.Located.{result_is_located}
 use Rattle.js_eval.proofs.public_walks.walk_rows.Goals as goal
 
 pub returns-in-Ok-clause-ok : goal.returns-in-Ok-clause-ok
 returns-in-Ok-clause-ok c =
     let h = c.in-Ok.ensures in
-    let schemas = c.args.schemas.now in
-    let rows_of : Recording → RelativeRows = λ r. r.rows in
-    let start : Recording = record { rows = c.new.result; token = c.new-2.result } in
-    let passes = passes-inside rows_of (λ a e b. relative_state b ≡ relative_after (relative_state a) e) (events h.result) start c.walk_to-done.new.reporter h.passes in (
+    let schemas = c.args.schemas.now in (
       h.result,
       record { is = h.is; stands = h.stands },
       record {
-        rows_are = relative_held h.result c.new.result (rows_of c.walk_to-done.new.reporter) c.new.ensures passes;
+        rows_are = relative_held h.result c.new.result c.in-Ok.rows c.new.ensures h.passes;
         located = result_is_located (schemas_of schemas) [] (numbered_site schemas c.args.place) (value_of c.args.value.now) at_root h.result h.is;
       },
     )

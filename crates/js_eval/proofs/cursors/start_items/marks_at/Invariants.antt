@@ -1,6 +1,6 @@
 use Rattle.std.proofs.Common.{◌≡◌, length, take}
 use Rattle.js_eval.specs.code.Cursors.{AreMarked}
-use Rattle.js_eval.proofs.cursors.item_cursor.marks_at.Given as goal
+use Rattle.js_eval.proofs.cursors.start_items.marks_at.Given as goal
 
 abbrev pub invariant-loop-index : goal.invariant-loop-index
 invariant-loop-index l = record {
