@@ -67,11 +67,11 @@ def of_values():
     yield quiet("value", "equal", cases.POLYGON, polygon, answer="true")
     yield quiet("value", "equal", cases.POLYGON, cases.POINTS, answer="false")
     yield quiet("value", "equal", "1", "true", answer="false")
-    yield in_turn("value", "put", "{}", "b", answer='Ok(()) {"b":true}', refused="Err(Memory) {}")
-    yield Question(("value", "put", '{"a":1,"c":2}', "b"), 'Ok(()) {"a":1,"b":true,"c":2}')
-    yield Question(("value", "put", '{"a":1,"c":2}', "c"), 'Ok(()) {"a":1,"c":true}')
+    yield in_turn("members", "put", "{}", "b", answer='Ok(()) {"b":true}', refused="Err(Memory) {}")
+    yield Question(("members", "put", '{"a":1,"c":2}', "b"), 'Ok(()) {"a":1,"b":true,"c":2}')
+    yield Question(("members", "put", '{"a":1,"c":2}', "c"), 'Ok(()) {"a":1,"c":true}')
     for name, found in (("a", "1 a"), ("b", "none"), ("c", "2 a")):
-        yield quiet("value", "get", '{"c":2,"a":1}', name, answer=found)
+        yield quiet("members", "get", '{"c":2,"a":1}', name, answer=found)
     for pointer, found in (("", polygon), ("/$defs/point/required/1", '"y"'), ("/$defs/point/required/01", "none"),
                            ("/minItems/0", "none")):
         yield quiet("value", "at", cases.POLYGON, pointer, answer=found)
@@ -83,41 +83,41 @@ def of_pointers():
     """Pointers, fragments and tokens."""
     for pointer, escaped in POINTERS:
         for call, given, answer in (
-                ("parse", pointer, pointer), ("from_fragment", escaped, pointer), ("pointer", pointer, pointer),
-                ("fragment", pointer, escaped), ("copy_pointer", pointer, pointer)):
-            yield Question(("value", call, given), answer)
+                ("parse", pointer, pointer), ("from_fragment", escaped, pointer), ("text", pointer, pointer),
+                ("fragment", pointer, escaped), ("copy", pointer, pointer)):
+            yield Question(("pointer", call, given), answer)
     for given in ("a", "a/b", "/~", "/~2", "/a~", "~0"):
         for call in ("parse", "from_fragment"):
-            yield Question(("value", call, given), "BadPointer")
+            yield Question(("pointer", call, given), "BadPointer")
     for call, given, answer in (
             ("parse", "/a~1b/c d/~0/0", "/a~1b/c d/~0/0"), ("from_fragment", "/a~1b/c%20d", "/a~1b/c d"),
-            ("pointer", "/a~1b/c d", "/a~1b/c d"), ("fragment", "/a~1b/c d", "/a~1b/c%20d"),
-            ("copy_pointer", "/a~1b", "/a~1b")):
-        yield in_turn("value", call, given, answer=answer)
-    yield in_turn("value", "further", "/a~1b", "c d", answer="/a~1b/c d")
-    yield in_turn("value", "push", "/a~1b/0/1/2", "c d",
+            ("text", "/a~1b/c d", "/a~1b/c d"), ("fragment", "/a~1b/c d", "/a~1b/c%20d"),
+            ("copy", "/a~1b", "/a~1b")):
+        yield in_turn("pointer", call, given, answer=answer)
+    yield in_turn("pointer", "further", "/a~1b", "c d", answer="/a~1b/c d")
+    yield in_turn("pointer", "push", "/a~1b/0/1/2", "c d",
                   answer="Ok(()) /a~1b/0/1/2/c d", refused="Err(Memory) /a~1b/0/1/2")
     for token, *told in TOKENS:
         for call, answer in zip(("push_token", "push_fragment_token", "push_string"), told):
-            yield in_turn("value", call, token, answer=answer)
+            yield in_turn("token", call, token, answer=answer)
 
 
 def of_assertions():
     """Patterns and assertions."""
-    yield in_turn("value", "pattern", "a+b", "xaaby", answer="Ok(true) true")
-    yield in_turn("value", "matches", "a+b", "xaaby", answer="Ok(true) true", refused="Err(Memory) true")
-    yield in_turn("value", "searcher", "a+b", "xaaby", answer="Ok(true) true")
+    yield in_turn("pattern", "pattern", "a+b", "xaaby", answer="Ok(true) true")
+    yield in_turn("pattern", "matches", "a+b", "xaaby", answer="Ok(true) true", refused="Err(Memory) true")
+    yield in_turn("pattern", "searcher", "a+b", "xaaby", answer="Ok(true) true")
     # where a searcher may match it asks for memory, and answers without it too
-    yield in_turn("value", "search", "a+b", "xaaby", answer="Ok(true) true", refused="Ok(true) true")
-    yield quiet("value", "search", "a+b", "ba", answer="Ok(false) false")
-    yield Question(("value", "pattern", "(", ""), "NotAPattern")
+    yield in_turn("pattern", "search", "a+b", "xaaby", answer="Ok(true) true", refused="Ok(true) true")
+    yield quiet("pattern", "search", "a+b", "ba", answer="Ok(false) false")
+    yield Question(("pattern", "pattern", "(", ""), "NotAPattern")
     missing = 'missing: ["y","z"]'
     for call in ("assertion", "check", "error"):
-        yield in_turn("value", call, "required", '["y","z"]', "{}", answer=missing)
-    yield in_turn("value", "holds", "pattern", '"a+b"', '"xaaby"', answer="Ok(true)", refused="Err(Memory)")
+        yield in_turn("assertion", call, "required", '["y","z"]', "{}", answer=missing)
+    yield in_turn("assertion", "holds", "pattern", '"a+b"', '"xaaby"', answer="Ok(true)", refused="Err(Memory)")
     # (a short array takes none)
     items = text([[it] for it in range(1_000)] + [[7]])
-    yield in_turn("value", "holds", "uniqueItems", "true", items, answer="Ok(false)", refused="Err(Memory)")
+    yield in_turn("assertion", "holds", "uniqueItems", "true", items, answer="Ok(false)", refused="Err(Memory)")
 
 
 def of_bundles():
@@ -159,12 +159,13 @@ def of_result(row):
     whole = text(forms.tree(node))
     for call in ("walk", "walk_into_boxed", "walk_into_flat"):
         yield in_turn("result", entry, instance, call, answer=whole)
-    for call in ("verdict", "walk_into_verdict"):
-        yield in_turn("result", entry, instance, call, answer="true" if node.valid else "false")
+    verdict = "true" if node.valid else "false"
+    yield in_turn("result", entry, instance, "verdict", answer=f"Ok({verdict})", refused="Err(Memory)")
+    yield in_turn("result", entry, instance, "walk_into_verdict", answer=f"Some({verdict})")
     # (a node is two calls of a collector)
     calls = 2 * moves.size(node)
     for given in range(calls + 2):
-        answer = "Memory" if given < calls else f"{given - calls} left"
+        answer = "Memory" if given < calls else str(given - calls)
         yield Question(("result", entry, instance, "refusing", str(given)), answer)
 
 

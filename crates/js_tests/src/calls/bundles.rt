@@ -1,46 +1,37 @@
 //! A bundle made of documents. After an allocation is refused, the call is made once more.
-use super::telling::{mark_begin, mark_begin_if, mark_end};
-use super::words_of;
-use crate::word_at;
-use js_bundle::{Bundle, Refusal, RefusalKind, Schemas};
+use super::telling::{mark_begin, mark_begin_if, mark_end, say, tell};
+use js_bundle::{Bundle, Refusal, Schemas};
 use js_doc::{Doc, read};
-use std::test::Fail;
 
-/// The schemas of the documents. If a marked call finds no memory, `Memory` is written first, and the call is made
-/// again.
+/// The schemas of the documents, if they are accepted. If a marked call finds no memory, `Memory` is written first,
+/// and the call is made again.
 pub fn finished_schemas(
     rt: &HostRuntime,
     marked: &str,
     documents: &str,
-    told: &mut String,
-) -> Result<Schemas, Fail> {
-    let bundle = bundle_of(rt, marked, documents, told)?;
+    answers: &mut String,
+) -> Option<Schemas> {
+    let bundle = bundle_of(rt, marked, documents, answers);
     mark_begin_if(rt, marked == "finish");
     let made = bundle.finish(rt.alloc());
     mark_end(rt);
     match made {
-        Ok(schemas) => Ok(schemas),
+        Ok(schemas) => Some(schemas),
         Err((refusal, bundle)) => {
-            tell_memory(told, refusal)?;
-            match bundle.finish(rt.alloc()) {
-                Ok(schemas) => Ok(schemas),
-                Err((refusal, _bundle)) => Err(Fail::from(refusal)),
-            }
+            tell_refusal(answers, refusal);
+            bundle.finish(rt.alloc()).ok()
         }
     }
 }
 
-fn bundle_of(
-    rt: &HostRuntime,
-    marked: &str,
-    documents: &str,
-    told: &mut String,
-) -> Result<Bundle, Fail> {
+fn bundle_of(rt: &HostRuntime, marked: &str, documents: &str, answers: &mut String) -> Bundle {
     let mut bundle = Bundle::new(rt.alloc());
     for document in documents.split('\u{1e}') {
-        add_document(rt, marked, &mut bundle, document, told)?;
+        if !document.is_empty() {
+            add_document(rt, marked, &mut bundle, document, answers);
+        }
     }
-    Ok(bundle)
+    bundle
 }
 
 fn add_document(
@@ -48,67 +39,34 @@ fn add_document(
     marked: &str,
     bundle: &mut Bundle,
     document: &str,
-    told: &mut String,
-) -> Result<(), Fail> {
-    if document.is_empty() {
-        return Ok(());
+    answers: &mut String,
+) {
+    let (uri, text) = document.split_once('\u{1f}').unwrap_or((document, ""));
+    if marked != "add_doc" {
+        mark_begin_if(rt, marked == "add");
+        let made = bundle.add(uri, text.as_bytes());
+        mark_end(rt);
+        if let Err(refusal) = made {
+            tell_refusal(answers, refusal);
+            let _ = bundle.add(uri, text.as_bytes());
+        }
+    } else if let Ok(value) = read(rt.alloc(), text.as_bytes()) {
+        add_value(rt, bundle, uri, value, answers);
     }
-    let words = words_of(rt.alloc(), document)?;
-    let uri = word_at(words.as_slice(), 0);
-    let text = word_at(words.as_slice(), 1);
-    if marked == "add_doc" {
-        let value = read(rt.alloc(), text.as_bytes())?;
-        return add_value(rt, bundle, uri, value, told);
-    }
-    add_bytes(rt, marked, bundle, uri, text, told)
-}
-
-fn add_bytes(
-    rt: &HostRuntime,
-    marked: &str,
-    bundle: &mut Bundle,
-    uri: &str,
-    text: &str,
-    told: &mut String,
-) -> Result<(), Fail> {
-    mark_begin_if(rt, marked == "add");
-    let made = bundle.add(uri, text.as_bytes());
-    mark_end(rt);
-    if let Err(refusal) = made {
-        tell_memory(told, refusal)?;
-        bundle.add(uri, text.as_bytes())?;
-    }
-    Ok(())
 }
 
 // The same with a value: the one that comes back is passed in again.
-fn add_value(
-    rt: &HostRuntime,
-    bundle: &mut Bundle,
-    uri: &str,
-    value: Doc,
-    told: &mut String,
-) -> Result<(), Fail> {
+fn add_value(rt: &HostRuntime, bundle: &mut Bundle, uri: &str, value: Doc, answers: &mut String) {
     mark_begin(rt);
     let made = bundle.add_doc(uri, value);
     mark_end(rt);
-    match made {
-        Ok(()) => Ok(()),
-        Err((refusal, value)) => {
-            tell_memory(told, refusal)?;
-            match bundle.add_doc(uri, value) {
-                Ok(()) => Ok(()),
-                Err((refusal, _value)) => Err(Fail::from(refusal)),
-            }
-        }
+    if let Err((refusal, value)) = made {
+        tell_refusal(answers, refusal);
+        let _ = bundle.add_doc(uri, value);
     }
 }
 
-// Another refusal ends the test.
-fn tell_memory(told: &mut String, refusal: Refusal) -> Result<(), Fail> {
-    if refusal.kind != RefusalKind::Memory {
-        return Err(Fail::from(refusal));
-    }
-    told.push_str("Memory\u{1e}")?;
-    Ok(())
+fn tell_refusal(answers: &mut String, refusal: Refusal) {
+    tell(answers, refusal.kind);
+    say(answers, "\u{1e}");
 }

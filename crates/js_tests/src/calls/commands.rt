@@ -1,34 +1,36 @@
 //! The program's work over files and devices in memory. The words of a question: standard input, and the read that
 //! fails; how many bytes the output takes a call, and the write or flush that fails; then the program's words.
 use super::fakes::{SlowReader, SlowWriter};
+use super::number;
+use super::telling::{say, say_bytes, tell};
 use crate::word_at;
 use js_command::{Files, command};
 use js_output::{Fault, Sink, Source, read_all};
 use std::alloc::Global;
 use std::io::ErrorKind;
-use std::test::Fail;
 
 /// The exit status, how often the output was called, what it took, and what went to standard error.
-pub fn answer_of_command(rt: &HostRuntime, words: &[&str]) -> Result<String, Fail> {
-    let alloc = rt.alloc();
-    let input = word_at(words, 0).as_bytes();
-    let read_fails = word_at(words, 1).parse::<u64>()?;
-    let step = word_at(words, 2).parse::<usize>()?;
-    let write_fails = word_at(words, 3).parse::<u64>()?;
-    let mut output = SlowWriter::new(alloc, step, write_fails);
-    let mut line = Vec::new(alloc);
+pub fn answer_of_command(rt: &HostRuntime, words: &[&str], answers: &mut String) {
+    let read_fails = number(word_at(words, 1)) as u64;
+    let reader = SlowReader::new(word_at(words, 0).as_bytes(), read_fails, ErrorKind::Other);
+    let write_fails = number(word_at(words, 3)) as u64;
+    let mut output = SlowWriter::new(rt.alloc(), number(word_at(words, 2)), write_fails);
+    let mut line = Vec::new(rt.alloc());
     let status = command(
-        alloc,
+        rt.alloc(),
         words.get(4..).unwrap_or(&[]),
         &mut InMemory {},
-        &mut Source::new(SlowReader::new(input, read_fails, ErrorKind::Other)),
+        &mut Source::new(reader),
         &mut Sink::new(&mut output),
         &mut Sink::new(&mut line),
     );
-    let calls = output.calls;
-    let written = String::from_utf8(output.got)?;
-    let line = String::from_utf8(line)?;
-    Ok(format!(in alloc; "{status}, {calls}; {written}; {line}")?)
+    tell(answers, status);
+    say(answers, ", ");
+    tell(answers, output.calls);
+    say(answers, "; ");
+    say_bytes(answers, output.got.as_slice());
+    say(answers, "; ");
+    say_bytes(answers, line.as_slice());
 }
 
 /// Four files: one of them is too large, and no other can be read.

@@ -2,16 +2,16 @@
 //! fails, and `interrupted` if it fails that way; how many bytes the writer takes a call, and the write or flush that
 //! fails.
 use super::fakes::{SlowReader, SlowWriter};
-use super::telling::{mark_begin, mark_end};
+use super::number;
+use super::telling::{mark_begin, mark_end, say, say_bytes, tell, tell_text};
 use super::trees::format_named;
-use super::words_of;
 use crate::word_at;
 use js_output::{
     Fault, Sink, Source, read_all, refusal_line, run, run_pair, run_places, run_suite,
 };
 use std::alloc::Global;
+use std::fmt::Debug;
 use std::io::{ErrorKind, Read, Write};
-use std::test::Fail;
 
 /// What the run answers, and how often its reader and its writer were called; what one more `read_all` and a flush
 /// answer, how often they were called then, and whether the source and the sink have failed; and what was written.
@@ -19,77 +19,87 @@ pub fn answer_over_devices(
     rt: &HostRuntime,
     documents: &str,
     words: &[&str],
-) -> Result<String, Fail> {
-    let alloc = rt.alloc();
+    answers: &mut String,
+) {
     let kind = match word_at(words, 4) {
         "interrupted" => ErrorKind::Interrupted,
         _ => ErrorKind::Other,
     };
-    let fails_at = word_at(words, 3).parse::<u64>()?;
-    let input = word_at(words, 2).as_bytes();
-    let step = word_at(words, 5).parse::<usize>()?;
-    let write_fails_at = word_at(words, 6).parse::<u64>()?;
-    let documents = documents_of(alloc, documents)?;
-    let mut source = Source::new(SlowReader::new(input, fails_at, kind));
-    let mut writer = SlowWriter::new(alloc, step, write_fails_at);
+    let read_fails = number(word_at(words, 3)) as u64;
+    let reader = SlowReader::new(word_at(words, 2).as_bytes(), read_fails, kind);
+    let write_fails = number(word_at(words, 6)) as u64;
+    let mut writer = SlowWriter::new(rt.alloc(), number(word_at(words, 5)), write_fails);
+    let documents = documents_of(rt.alloc(), documents);
+    let mut source = Source::new(reader);
     let mut out = Sink::new(&mut writer);
-    let made = performed(alloc, documents.as_slice(), words, &mut source, &mut out);
-    let made = match made {
-        Ok(answer) => answer,
-        Err(fault) => refusal_line(alloc, &fault)?,
-    };
+    performed(
+        rt,
+        documents.as_slice(),
+        words,
+        &mut source,
+        &mut out,
+        answers,
+    );
+    look_again(rt, &mut source, &mut out, answers);
+    say_bytes(answers, writer.got.as_slice());
+}
+
+fn documents_of<'d>(alloc: Global, documents: &'d str) -> Vec<(&'d str, &'d [u8])> {
+    let mut pairs = Vec::new(alloc);
+    for document in documents.split('\u{1e}') {
+        if let Some((uri, text)) = document.split_once('\u{1f}') {
+            let _ = pairs.push((uri, text.as_bytes()));
+        }
+    }
+    pairs
+}
+
+fn performed<R: Read, W: Write>(
+    rt: &HostRuntime,
+    documents: &[(&str, &[u8])],
+    words: &[&str],
+    source: &mut Source<R>,
+    out: &mut Sink<W>,
+    answers: &mut String,
+) {
+    let alloc = rt.alloc();
+    match word_at(words, 0) {
+        "pair" => tell_run(answers, run_pair(alloc, source, out)),
+        "suite" => tell_run(answers, run_suite(alloc, documents, source, out)),
+        "places" => tell_run(answers, run_places(alloc, documents, out)),
+        format => {
+            let format = format_named(format);
+            let made = run(alloc, documents, word_at(words, 1), source, format, out);
+            tell_run(answers, made);
+        }
+    }
+}
+
+fn tell_run<A: Debug + Drop>(answers: &mut String, made: Result<A, Fault>) {
+    match made {
+        Ok(answer) => tell(answers, answer),
+        Err(fault) => {
+            let line = refusal_line(*answers.allocator(), &fault);
+            tell_text(answers, line);
+        }
+    }
+}
+
+fn look_again<R: Read, W: Write>(
+    rt: &HostRuntime,
+    source: &mut Source<R>,
+    out: &mut Sink<W>,
+    answers: &mut String,
+) {
     let (reads, writes) = (source.calls(), out.calls());
-    let read_again = read_all(alloc, &mut source);
+    let read_again = read_all(rt.alloc(), source);
     mark_begin(rt);
     let flushed = out.flush();
     let calls = (source.calls(), out.calls());
     let failed = (source.failed(), out.failed());
     mark_end(rt);
-    drop(out);
-    let written = String::from_utf8(writer.got)?;
-    Ok(format!(in alloc;
-        "{made}, {reads}, {writes}; {read_again:?}, {flushed:?}, {calls:?}, {failed:?}; {written}"
-    )?)
-}
-
-fn documents_of<'d>(alloc: Global, documents: &'d str) -> Result<Vec<(&'d str, &'d [u8])>, Fail> {
-    let mut pairs = Vec::new(alloc);
-    for document in documents.split('\u{1e}') {
-        if !document.is_empty() {
-            let words = words_of(alloc, document)?;
-            pairs.push((
-                word_at(words.as_slice(), 0),
-                word_at(words.as_slice(), 1).as_bytes(),
-            ))?;
-        }
-    }
-    Ok(pairs)
-}
-
-fn performed<R: Read, W: Write>(
-    alloc: Global,
-    documents: &[(&str, &[u8])],
-    words: &[&str],
-    source: &mut Source<R>,
-    out: &mut Sink<W>,
-) -> Result<String, Fault> {
-    match word_at(words, 0) {
-        "pair" => {
-            let valid = run_pair(alloc, source, out)?;
-            Ok(format!(in alloc; "{valid}")?)
-        }
-        "suite" => {
-            let counts = run_suite(alloc, documents, source, out)?;
-            Ok(format!(in alloc; "{counts:?}")?)
-        }
-        "places" => {
-            let count = run_places(alloc, documents, out)?;
-            Ok(format!(in alloc; "{count}")?)
-        }
-        format => {
-            let format = format_named(format);
-            let valid = run(alloc, documents, word_at(words, 1), source, format, out)?;
-            Ok(format!(in alloc; "{valid}")?)
-        }
-    }
+    let _ = write!(
+        answers,
+        ", {reads}, {writes}; {read_again:?}, {flushed:?}, {calls:?}, {failed:?}; "
+    );
 }

@@ -1,85 +1,47 @@
 //! Calls on a result's flat list.
-ghost use Rattle.std.specs.Prelude.{IfOk};
+ghost use Rattle.std.specs.Prelude.{IfSome};
 ghost use Rattle.js_tree.specs.FlatState.{IsWholeTree, flat_state};
 
-use super::telling::{mark_begin, mark_end, told_value};
-use super::trees::{format_named, told_units};
-use super::values::ROOM;
-use js_doc::text;
+use super::telling::{make_room, mark_begin, mark_end, tell_value};
+use super::trees::{format_named, tell_units};
 use js_tree::{Flat, Format, flat_condense, flat_doc, flat_prune, flat_units, put_flat};
-use std::alloc::Global;
-use std::test::Fail;
 
-/// What the call answers on the rows; if it takes a format, on what that format shows of them.
+/// What the call answers on the rows; if it takes a format, on what that format shows of them. There is no answer if
+/// they aren't a whole tree's.
 pub fn answer_on_flat_list(
     rt: &HostRuntime,
     call: &str,
     format: &str,
     flat: Flat,
-) -> Result<String, Fail> {
-    let flat = whole(flat)?;
-    match call {
-        "flat_units" => {
-            mark_begin(rt);
-            let found = flat_units(rt.alloc(), &flat);
-            mark_end(rt);
-            told_units(rt.alloc(), found)
+    answers: &mut String,
+) {
+    if let Some(flat) = whole(flat) {
+        match call {
+            "flat_units" => noted(rt, &flat, answers),
+            "flat_prune" | "flat_condense" => changed(rt, call, flat, answers),
+            "flat_doc" | "put_flat" => formatted(rt, call, format_named(format), flat, answers),
+            _ => show_rows(answers, &flat, Format::Verbose),
         }
-        "flat_doc" | "put_flat" => formatted(rt, call, format_named(format), flat),
-        "flat_prune" | "flat_condense" => changed(rt, call, flat),
-        _ => shown(rt.alloc(), &flat),
     }
 }
 
 // The rows, if they are a whole tree's.
-fn whole<'a>(rows: Flat<'a>) -> Result<Flat<'a>, Fail>
-    ensures { IfOk result (λ found. IsWholeTree (flat_state found)) }
+fn whole<'a>(rows: Flat<'a>) -> Option<Flat<'a>>
+    ensures { IfSome result (λ found. IsWholeTree (flat_state found)) }
 {
-    if rows.whole() {
-        return Ok(rows);
-    }
-    Err(Fail::from("the rows are a whole tree's"))
+    if rows.whole() { Some(rows) } else { None }
 }
 
-// The text of the rows' tree.
-fn shown(alloc: Global, flat: &Flat) -> Result<String, Fail>
+fn noted(rt: &HostRuntime, flat: &Flat, answers: &mut String)
     requires { IsWholeTree (flat_state flat.now) }
 {
-    Ok(text(alloc, &flat_doc(alloc, flat, Format::Verbose)?)?)
-}
-
-// The rows of what the format shows.
-fn trimmed<'a>(rows: Flat<'a>, format: Format) -> Result<Flat<'a>, Fail>
-    requires { IsWholeTree (flat_state rows) }
-    ensures { IfOk result (λ found. IsWholeTree (flat_state found)) }
-{
-    match format {
-        Format::Basic => whole(flat_prune(rows)),
-        Format::Detailed => whole(flat_condense(whole(flat_prune(rows))?)),
-        _ => Ok(rows),
-    }
-}
-
-// (the text's memory is reserved before it is written)
-fn formatted(rt: &HostRuntime, call: &str, format: Format, flat: Flat) -> Result<String, Fail>
-    requires { IsWholeTree (flat_state flat) }
-{
-    let flat = trimmed(flat, format)?;
-    if call == "put_flat" {
-        let mut out = String::with_capacity(rt.alloc(), ROOM)?;
-        mark_begin(rt);
-        let put = put_flat(&flat, format, &mut out);
-        mark_end(rt);
-        put?;
-        return Ok(out);
-    }
     mark_begin(rt);
-    let made = flat_doc(rt.alloc(), &flat, format);
+    let found = flat_units(rt.alloc(), flat);
     mark_end(rt);
-    told_value(rt.alloc(), made)
+    tell_units(answers, found);
 }
 
-fn changed(rt: &HostRuntime, call: &str, flat: Flat) -> Result<String, Fail>
+fn changed(rt: &HostRuntime, call: &str, flat: Flat, answers: &mut String)
     requires { IsWholeTree (flat_state flat) }
 {
     mark_begin(rt);
@@ -87,10 +49,51 @@ fn changed(rt: &HostRuntime, call: &str, flat: Flat) -> Result<String, Fail>
         "flat_prune" => flat_prune(flat),
         _ => flat_condense(flat),
     };
-    let is_whole = made.whole();
+    let made = whole(made);
     mark_end(rt);
-    if !is_whole {
-        return Err(Fail::from("the rows are a whole tree's"));
+    if let Some(made) = made {
+        show_rows(answers, &made, Format::Verbose);
     }
-    shown(rt.alloc(), &made)
+}
+
+// The rows of what the format shows.
+fn trimmed<'a>(rows: Flat<'a>, format: Format) -> Option<Flat<'a>>
+    requires { IsWholeTree (flat_state rows) }
+    ensures { IfSome result (λ found. IsWholeTree (flat_state found)) }
+{
+    match format {
+        Format::Basic => whole(flat_prune(rows)),
+        Format::Detailed => whole(flat_condense(whole(flat_prune(rows))?)),
+        _ => Some(rows),
+    }
+}
+
+fn formatted(rt: &HostRuntime, call: &str, format: Format, flat: Flat, answers: &mut String)
+    requires { IsWholeTree (flat_state flat) }
+{
+    if let Some(flat) = trimmed(flat, format) {
+        made_of(rt, call, format, &flat, answers);
+    }
+}
+
+fn made_of(rt: &HostRuntime, call: &str, format: Format, flat: &Flat, answers: &mut String)
+    requires { IsWholeTree (flat_state flat.now) }
+{
+    if call == "put_flat" {
+        make_room(answers);
+        mark_begin(rt);
+        show_rows(answers, flat, format);
+        mark_end(rt);
+        return;
+    }
+    mark_begin(rt);
+    let made = flat_doc(rt.alloc(), flat, format);
+    mark_end(rt);
+    tell_value(answers, made);
+}
+
+fn show_rows(answers: &mut String, flat: &Flat, format: Format)
+    requires { IsWholeTree (flat_state flat.now) }
+{
+    let _ = put_flat(flat, format, answers);
 }

@@ -1,99 +1,132 @@
 //! Result trees made by hand. The words of a question: the value of a note, the events of a tree, the call, and its
 //! argument.
-use super::telling::{mark_begin, mark_end};
+use super::telling::{mark_begin, mark_end, say, tell};
 use super::{flat_lists, trees};
 use crate::word_at;
-use js_doc::{Doc, Text, read};
+use js_doc::{Doc, Memory, Text, read};
 use js_tree::{Boxed, Collector, Flat, Head, Indexes, Names, Note, Verdict};
 use std::alloc::Global;
-use std::test::Fail;
 
-pub fn answer_on_hand_made(rt: &HostRuntime, words: &[&str]) -> Result<String, Fail> {
-    let alloc = rt.alloc();
-    let value = read(alloc, word_at(words, 0).as_bytes())?;
+pub fn answer_on_hand_made(rt: &HostRuntime, words: &[&str], answers: &mut String) {
+    if let Ok(value) = read(rt.alloc(), word_at(words, 0).as_bytes()) {
+        answer_on_events(rt, &value, words, answers);
+    }
+}
+
+fn answer_on_events(rt: &HostRuntime, value: &Doc, words: &[&str], answers: &mut String) {
     let events = word_at(words, 1);
-    let call = word_at(words, 2);
-    let more = word_at(words, 3);
-    if call == "enter_and_leave" {
-        return told_by_events(rt);
+    match word_at(words, 2) {
+        "enter_and_leave" => told_by_events(rt, answers),
+        "verdict" => {
+            let mut verdict = Verdict::new();
+            let _ = tell_all(rt.alloc(), events, value, &mut verdict);
+            tell(answers, verdict.valid());
+        }
+        call if call.contains("flat") => {
+            let mut flat = Flat::new(rt.alloc());
+            let _ = tell_all(rt.alloc(), events, value, &mut flat);
+            flat_lists::answer_on_flat_list(rt, call, word_at(words, 3), flat, answers);
+        }
+        call => {
+            let mut boxed = Boxed::new(rt.alloc());
+            let _ = tell_all(rt.alloc(), events, value, &mut boxed);
+            answer_on_boxed(rt, call, word_at(words, 3), boxed, answers);
+        }
     }
-    if call == "verdict" {
-        let mut verdict = Verdict::new();
-        tell(alloc, events, &value, &mut verdict)?;
-        let valid = verdict.valid();
-        return Ok(format!(in alloc; "{valid:?}")?);
-    }
-    if call.contains("flat") {
-        let mut flat = Flat::new(alloc);
-        tell(alloc, events, &value, &mut flat)?;
-        return flat_lists::answer_on_flat_list(rt, call, more, flat);
-    }
-    let mut boxed = Boxed::new(alloc);
-    tell(alloc, events, &value, &mut boxed)?;
+}
+
+/// What the call answers on the tree that was collected.
+pub fn answer_on_boxed(
+    rt: &HostRuntime,
+    call: &str,
+    more: &str,
+    boxed: Boxed,
+    answers: &mut String,
+) {
     mark_begin(rt);
     let tree = boxed.tree();
     mark_end(rt);
     match tree {
-        Some(tree) => trees::answer_on_tree(rt, call, more, tree),
-        None => Err(Fail::from("the root has closed")),
+        Some(tree) => trees::answer_on_tree(rt, call, more, tree, answers),
+        None => say(answers, "the root hasn't closed"),
     }
 }
 
-// A letter opens a node of that name, and another sign closes one, `-` and `!` one that fails.
-fn tell<'a, C: Collector<'a>>(
+// Without memory the events end.
+fn tell_all<'a, C: Collector<'a>>(
     alloc: Global,
     events: &str,
     value: &'a Doc,
     into: &mut C,
-) -> Result<(), Fail> {
+) -> Result<(), Memory> {
     for sign in events.chars() {
-        match sign {
-            'a'..='z' => into.enter(head(alloc, sign)?)?,
-            '-' | '!' => into.leave(false, note_of(alloc, sign, value)?)?,
-            _ => into.leave(true, note_of(alloc, sign, value)?)?,
-        }
+        tell_one(alloc, sign, value, into)?;
     }
     Ok(())
 }
 
-fn head(alloc: Global, name: char) -> Result<Head, Fail> {
+// A letter opens a node of that name, and another sign closes one, `-` and `!` one that fails.
+fn tell_one<'a, C: Collector<'a>>(
+    alloc: Global,
+    sign: char,
+    value: &'a Doc,
+    into: &mut C,
+) -> Result<(), Memory> {
+    match sign {
+        'a'..='z' => into.enter(head(alloc, sign)),
+        _ => into.leave(sign != '-' && sign != '!', note_of(alloc, sign, value)),
+    }
+}
+
+fn head(alloc: Global, name: char) -> Head {
     let mut keyword = String::new(alloc);
-    keyword.push(name)?;
-    Ok(Head {
+    let _ = keyword.push(name);
+    Head {
         keyword: Text::new(keyword),
-        absolute: Text::new(String::from_str(alloc, "s#")?),
-        instance: Text::new(String::new(alloc)),
-    })
+        absolute: text(alloc, "s#"),
+        instance: text(alloc, ""),
+    }
+}
+
+fn text(alloc: Global, text: &str) -> Text {
+    let mut out = String::new(alloc);
+    say(&mut out, text);
+    Text::new(out)
 }
 
 // The note of a node that closes by this sign, `)` and `-` for none.
-fn note_of<'a>(alloc: Global, sign: char, value: &'a Doc) -> Result<Note<'a>, Fail> {
-    Ok(match sign {
-        '!' => Note::Error(Text::new(String::from_str(alloc, "no \"x\"\u{1}")?)),
+fn note_of<'a>(alloc: Global, sign: char, value: &'a Doc) -> Note<'a> {
+    match sign {
+        '!' => Note::Error(text(alloc, "no \"x\"\u{1}")),
         '+' => Note::Truth,
         '=' => Note::Value(value),
-        '@' => Note::Names(Names::new(vec![in alloc; "b", "a\n\u{1f333}"]?)),
+        '@' => Note::Names(Names::new(names(alloc))),
         '0' => Note::Names(Names::new(Vec::new(alloc))),
         '#' => Note::Index(18446744073709551615),
-        '*' => Note::Indexes(Indexes::new(vec![in alloc; 0, 2]?)),
+        '*' => Note::Indexes(Indexes::new(vec![in alloc; 0, 2].unwrap_or(Vec::new(alloc)))),
         '1' => Note::Indexes(Indexes::new(Vec::new(alloc))),
         _ => Note::Silent,
-    })
+    }
+}
+
+fn names<'a>(alloc: Global) -> Vec<&'a str> {
+    let mut names = Vec::new(alloc);
+    let _ = names.push("b");
+    let _ = names.push("a\n\u{1f333}");
+    names
 }
 
 // The verdict on a failing root over a passing node. Their texts are made before the marked call.
-fn told_by_events(rt: &HostRuntime) -> Result<String, Fail> {
-    let root = head(rt.alloc(), 'r')?;
-    let node = head(rt.alloc(), 'a')?;
+fn told_by_events(rt: &HostRuntime, answers: &mut String) {
+    let root = head(rt.alloc(), 'r');
+    let node = head(rt.alloc(), 'a');
     let mut verdict = Verdict::new();
     mark_begin(rt);
-    let entered = verdict.enter(root).and(verdict.enter(node));
-    let left = verdict
-        .leave(true, Note::Truth)
-        .and(verdict.leave(false, Note::Silent));
+    let _ = verdict.enter(root);
+    let _ = verdict.enter(node);
+    let _ = verdict.leave(true, Note::Truth);
+    let _ = verdict.leave(false, Note::Silent);
     let valid = verdict.valid();
     mark_end(rt);
-    entered?;
-    left?;
-    Ok(format!(in rt.alloc(); "{valid:?}")?)
+    tell(answers, valid);
 }

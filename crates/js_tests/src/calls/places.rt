@@ -3,82 +3,79 @@
 ghost use Rattle.std.specs.Prelude.{◌≡◌, true};
 ghost use Rattle.js_bundle.specs.Schemas.{is_place};
 
-use super::telling::{mark_begin, mark_begin_if, mark_end, told_text};
+use super::number;
+use super::telling::{mark_begin, mark_begin_if, mark_end, say, show, tell, tell_error, tell_text};
 use crate::word_at;
 use js_bundle::{Place, Schemas, Step};
-use js_doc::{read, text};
+use js_doc::{Doc, read};
 use std::alloc::Global;
-use std::test::Fail;
 
-pub fn answer_at_place(
-    rt: &HostRuntime,
-    schemas: &Schemas,
-    words: &[&str],
-) -> Result<String, Fail> {
-    let question = word_at(words, 1);
-    mark_begin_if(rt, question == "entry");
+pub fn answer_at_place(rt: &HostRuntime, schemas: &Schemas, words: &[&str], answers: &mut String) {
+    mark_begin_if(rt, word_at(words, 1) == "entry");
     let found = schemas.entry(rt.alloc(), word_at(words, 0));
     mark_end(rt);
     match found {
-        Ok(place) if schemas.has(place) => asked(rt, schemas, place, question, words),
-        Ok(_) => Err(Fail::from("an entry is a place")),
-        Err(fault) => Ok(format!(in rt.alloc(); "{fault:?}")?),
+        Ok(place) if schemas.has(place) => asked(rt, schemas, place, words, answers),
+        Ok(_) => say(answers, "an entry is a place"),
+        Err(fault) => tell(answers, fault),
     }
 }
 
-fn asked(
-    rt: &HostRuntime,
-    schemas: &Schemas,
-    place: Place,
-    question: &str,
-    words: &[&str],
-) -> Result<String, Fail>
+fn asked(rt: &HostRuntime, schemas: &Schemas, place: Place, words: &[&str], answers: &mut String)
     requires { is_place schemas.now place ≡ true }
 {
     let first = word_at(words, 2);
     let second = word_at(words, 3);
-    match question {
-        "entry" => location(rt.alloc(), schemas, Some(place)),
+    match word_at(words, 1) {
+        "entry" => tell_location(answers, schemas, Some(place)),
         "absolute" => {
             mark_begin(rt);
             let made = schemas.absolute(rt.alloc(), place, Some(first));
             mark_end(rt);
-            told_text(rt.alloc(), made)
+            tell_text(answers, made);
         }
-        "standing" => standing(rt, schemas, place),
-        "alone" => below(rt, schemas, place, first, Step::Alone),
+        "standing" => standing(rt, schemas, place, answers),
+        "alone" => below(rt, schemas, place, first, Step::Alone, answers),
         "index" => below(
             rt,
             schemas,
             place,
             first,
-            Step::Index(second.parse::<usize>()?),
+            Step::Index(number(second)),
+            answers,
         ),
-        "name" => below(rt, schemas, place, first, Step::Name(second)),
-        "assertion" => said(rt, schemas, place, first, second),
-        "pattern" => matched(rt, schemas, place, first, second),
-        "target" => target(rt, schemas, place),
-        "dynamic target" => dynamic_target(rt, schemas, place, words),
-        "places" => places(rt, schemas),
-        "resources" => resources(rt, schemas),
-        _ => Err(Fail::from("it is no question")),
+        "name" => below(rt, schemas, place, first, Step::Name(second), answers),
+        "assertion" => {
+            if let Ok(value) = read(rt.alloc(), second.as_bytes()) {
+                said(rt, schemas, place, first, &value, answers);
+            }
+        }
+        "pattern" => matched(rt, schemas, place, first, second, answers),
+        "target" => target(rt, schemas, place, answers),
+        "dynamic target" => {
+            let path = path_of(rt.alloc(), schemas, words.get(2..).unwrap_or(&[]));
+            dynamic_target(rt, schemas, place, path.as_slice(), answers);
+        }
+        "places" => places(rt, schemas, answers),
+        _ => resources(rt, schemas, answers),
     }
 }
 
 // The absolute location of a place, or `none`.
-fn location(alloc: Global, schemas: &Schemas, place: Option<Place>) -> Result<String, Fail> {
+fn tell_location(answers: &mut String, schemas: &Schemas, place: Option<Place>) {
     match place {
         Some(place) if schemas.has(place) => {
             let (location, rest) = schemas.location_of(place);
-            Ok(format!(in alloc; "{location}{rest}")?)
+            say(answers, location);
+            say(answers, rest);
         }
-        Some(_) => Err(Fail::from("it is no place")),
-        None => Ok(String::from_str(alloc, "none")?),
+        Some(_) => say(answers, "it is no place"),
+        None => say(answers, "none"),
     }
 }
 
 // The location of a place, its schema and its keywords.
-fn standing(rt: &HostRuntime, schemas: &Schemas, place: Place) -> Result<String, Fail>
+fn standing(rt: &HostRuntime, schemas: &Schemas, place: Place, answers: &mut String)
     requires { is_place schemas.now place ≡ true }
 {
     mark_begin(rt);
@@ -92,12 +89,11 @@ fn standing(rt: &HostRuntime, schemas: &Schemas, place: Place) -> Result<String,
     let rank = schemas.resource_number(place);
     let count = schemas.resource_count();
     mark_end(rt);
-    let alloc = rt.alloc();
-    let pointer = pointer.text(alloc)?;
-    let schema = text(alloc, schema)?;
-    Ok(format!(in alloc;
-        "{has} {start}{rest}, document {number} at {pointer}, resource {rank} of {count}, {uri}: {schema} {names:?}"
-    )?)
+    let _ = write!(answers, "{has} {start}{rest}, document {number} at ");
+    tell_text(answers, pointer.text(rt.alloc()));
+    let _ = write!(answers, ", resource {rank} of {count}, {uri}: ");
+    show(answers, schema);
+    let _ = write!(answers, " {names:?}");
 }
 
 // The place at a step, by both calls that find it, and its schema.
@@ -107,21 +103,20 @@ fn below(
     place: Place,
     keyword: &str,
     step: Step<'_>,
-) -> Result<String, Fail>
+    answers: &mut String,
+)
     requires { is_place schemas.now place ≡ true }
 {
     mark_begin(rt);
     let next = schemas.below(place, keyword, step);
     let with_schema = schemas.schema_below(place, schemas.schema(place), keyword, step);
     mark_end(rt);
-    let next = location(rt.alloc(), schemas, next)?;
-    match with_schema {
-        Some((next_again, schema)) => {
-            let next_again = location(rt.alloc(), schemas, Some(next_again))?;
-            let schema = text(rt.alloc(), schema)?;
-            Ok(format!(in rt.alloc(); "{next} {next_again}: {schema}")?)
-        }
-        None => Ok(next),
+    tell_location(answers, schemas, next);
+    if let Some((next_again, schema)) = with_schema {
+        say(answers, " ");
+        tell_location(answers, schemas, Some(next_again));
+        say(answers, ": ");
+        show(answers, schema);
     }
 }
 
@@ -131,20 +126,17 @@ fn said(
     schemas: &Schemas,
     place: Place,
     keyword: &str,
-    value: &str,
-) -> Result<String, Fail>
+    value: &Doc,
+    answers: &mut String,
+)
     requires { is_place schemas.now place ≡ true }
 {
-    let value = read(rt.alloc(), value.as_bytes())?;
     mark_begin(rt);
     let assertion = schemas.assertion(place, keyword);
     mark_end(rt);
     match assertion {
-        Some(assertion) => match assertion.check(rt.alloc(), &value, 1)? {
-            Some(error) => Ok(error),
-            None => Ok(String::from_str(rt.alloc(), "holds")?),
-        },
-        None => Ok(String::from_str(rt.alloc(), "no assertion")?),
+        Some(assertion) => tell_error(answers, assertion.check(rt.alloc(), value, 1)),
+        None => say(answers, "no assertion"),
     }
 }
 
@@ -155,22 +147,21 @@ fn matched(
     place: Place,
     name: &str,
     text: &str,
-) -> Result<String, Fail>
+    answers: &mut String,
+)
     requires { is_place schemas.now place ≡ true }
 {
     mark_begin(rt);
     let pattern = schemas.pattern(place, name);
     mark_end(rt);
-    let answer = match pattern {
-        Some(pattern) if pattern.holds(rt.alloc(), text)? => "holds",
-        Some(_) => "fails",
-        None => "no pattern",
-    };
-    Ok(String::from_str(rt.alloc(), answer)?)
+    match pattern {
+        Some(pattern) => tell(answers, pattern.holds(rt.alloc(), text)),
+        None => say(answers, "no pattern"),
+    }
 }
 
 // Where `$ref` leads; without one, whether there is a `$dynamicRef`.
-fn target(rt: &HostRuntime, schemas: &Schemas, place: Place) -> Result<String, Fail>
+fn target(rt: &HostRuntime, schemas: &Schemas, place: Place, answers: &mut String)
     requires { is_place schemas.now place ≡ true }
 {
     mark_begin(rt);
@@ -182,79 +173,88 @@ fn target(rt: &HostRuntime, schemas: &Schemas, place: Place) -> Result<String, F
     };
     mark_end(rt);
     if is_dynamic && led_to.is_none() {
-        return Ok(String::from_str(rt.alloc(), "dynamic")?);
+        say(answers, "dynamic");
+    } else {
+        tell_location(answers, schemas, led_to);
     }
-    location(rt.alloc(), schemas, led_to)
 }
 
-// Where `$dynamicRef` leads at the end of a path of places, whose URIs are the words from the third on: by the path,
-// and by the numbers of its resources.
+fn path_of(alloc: Global, schemas: &Schemas, uris: &[&str]) -> Vec<Place> {
+    let mut path = Vec::new(alloc);
+    for uri in uris.iter() {
+        if let Ok(place) = schemas.entry(alloc, uri) {
+            let _ = path.push(place);
+        }
+    }
+    path
+}
+
+// The numbers of the resources on a path; of equal neighbours one.
+fn numbers_of(alloc: Global, schemas: &Schemas, path: &[Place]) -> Vec<usize> {
+    let mut numbers = Vec::new(alloc);
+    for place in path.iter() {
+        if schemas.has(*place) {
+            let number = schemas.resource_number(*place);
+            if numbers.last() != Some(&number) {
+                let _ = numbers.push(number);
+            }
+        }
+    }
+    numbers
+}
+
+// Where `$dynamicRef` leads at the end of a path of places: by the path, and by the numbers of its resources.
 fn dynamic_target(
     rt: &HostRuntime,
     schemas: &Schemas,
     place: Place,
-    words: &[&str],
-) -> Result<String, Fail>
+    path: &[Place],
+    answers: &mut String,
+)
     requires { is_place schemas.now place ≡ true }
 {
-    let alloc = rt.alloc();
-    let mut path = Vec::new(alloc);
-    let mut numbers = Vec::new(alloc);
-    for uri in words.iter().skip(2) {
-        let next = schemas.entry(alloc, uri)?;
-        path.push(next)?;
-        // (of equal neighbours one)
-        if schemas.has(next) {
-            let number = schemas.resource_number(next);
-            if numbers.last() != Some(&number) {
-                numbers.push(number)?;
-            }
-        }
+    let numbers = numbers_of(rt.alloc(), schemas, path);
+    if schemas.has_dynamic_ref(place) {
+        mark_begin(rt);
+        let by_path = schemas.dynamic_target(place, path);
+        let by_numbers = schemas.dynamic_target_in(place, numbers.as_slice());
+        mark_end(rt);
+        tell_location(answers, schemas, Some(by_path));
+        say(answers, " ");
+        tell_location(answers, schemas, Some(by_numbers));
     }
-    if !schemas.has_dynamic_ref(place) {
-        return Err(Fail::from("it has no dynamic reference"));
-    }
-    mark_begin(rt);
-    let by_path = schemas.dynamic_target(place, path.as_slice());
-    let by_numbers = schemas.dynamic_target_in(place, numbers.as_slice());
-    mark_end(rt);
-    let by_path = location(alloc, schemas, Some(by_path))?;
-    let by_numbers = location(alloc, schemas, Some(by_numbers))?;
-    Ok(format!(in alloc; "{by_path} {by_numbers}")?)
 }
 
 // The absolute locations of all places, a line each.
-fn places(rt: &HostRuntime, schemas: &Schemas) -> Result<String, Fail> {
+fn places(rt: &HostRuntime, schemas: &Schemas, answers: &mut String) {
     mark_begin(rt);
     let made = schemas.places(rt.alloc());
     mark_end(rt);
-    let mut lines = String::new(rt.alloc());
     match made {
         Ok(places) => {
             for place in places.iter() {
-                lines.push_str(location(rt.alloc(), schemas, Some(*place))?.as_str())?;
-                lines.push('\n')?;
+                tell_location(answers, schemas, Some(*place));
+                say(answers, "\n");
             }
         }
-        Err(_) => lines.push_str("Memory")?,
+        Err(fault) => tell(answers, fault),
     }
-    Ok(lines)
 }
 
 // The URI of each resource and the location of its root, a line each.
-fn resources(rt: &HostRuntime, schemas: &Schemas) -> Result<String, Fail> {
+fn resources(rt: &HostRuntime, schemas: &Schemas, answers: &mut String) {
     mark_begin(rt);
     let made = schemas.resources(rt.alloc());
     mark_end(rt);
-    let mut lines = String::new(rt.alloc());
     match made {
         Ok(resources) => {
             for (uri, root) in resources.iter() {
-                let root = location(rt.alloc(), schemas, Some(*root))?;
-                lines.push_str(format!(in rt.alloc(); "{uri}: {root}\n")?.as_str())?;
+                say(answers, uri);
+                say(answers, ": ");
+                tell_location(answers, schemas, Some(*root));
+                say(answers, "\n");
             }
         }
-        Err(_) => lines.push_str("Memory")?,
+        Err(fault) => tell(answers, fault),
     }
-    Ok(lines)
 }

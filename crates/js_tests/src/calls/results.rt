@@ -3,31 +3,55 @@
 ghost use Rattle.std.specs.Prelude.{◌≡◌, true};
 ghost use Rattle.js_bundle.specs.Schemas.{is_place};
 
-use super::telling::{mark_begin, mark_begin_if, mark_end};
-use super::{flat_lists, trees};
+use super::telling::{mark_begin, mark_begin_if, mark_end, say, tell};
+use super::{flat_lists, hand_made, number, trees};
 use crate::word_at;
 use js_bundle::{Place, Schemas};
 use js_doc::{Doc, Memory, read};
 use js_eval::{verdict, walk, walk_into};
 use js_tree::{Boxed, Collector, Flat, Head, Note, Verdict};
-use std::test::Fail;
 
-pub fn answer_on_result(
-    rt: &HostRuntime,
-    schemas: &Schemas,
-    words: &[&str],
-) -> Result<String, Fail> {
-    let place = schemas.entry(rt.alloc(), word_at(words, 0))?;
-    let value = read(rt.alloc(), word_at(words, 1).as_bytes())?;
-    let call = word_at(words, 2);
-    if !schemas.has(place) {
-        return Err(Fail::from("an entry is a place"));
+pub fn answer_on_result(rt: &HostRuntime, schemas: &Schemas, words: &[&str], answers: &mut String) {
+    match schemas.entry(rt.alloc(), word_at(words, 0)) {
+        Ok(place) if schemas.has(place) => {
+            if let Ok(value) = read(rt.alloc(), word_at(words, 1).as_bytes()) {
+                walked(rt, schemas, place, &value, words, answers);
+            }
+        }
+        _ => say(answers, "an entry is a place"),
     }
-    match call {
-        "verdict" | "walk_into_verdict" => judged(rt, schemas, place, &value, call),
-        "refusing" => refused(rt, schemas, place, &value, word_at(words, 3)),
-        _ if call.contains("flat") => on_rows(rt, schemas, place, &value, words),
-        _ => on_tree(rt, schemas, place, &value, words),
+}
+
+// `verdict`, and the calls that begin with `walk`, test the walk itself.
+fn walked<'a>(
+    rt: &HostRuntime,
+    schemas: &'a Schemas,
+    place: Place,
+    value: &'a Doc,
+    words: &[&str],
+    answers: &mut String,
+)
+    requires { is_place schemas.now place ≡ true }
+{
+    match word_at(words, 2) {
+        "verdict" => {
+            mark_begin(rt);
+            let made = verdict(rt.alloc(), schemas, place, value);
+            mark_end(rt);
+            tell(answers, made);
+        }
+        "walk_into_verdict" => judged(rt, schemas, place, value, answers),
+        "walk_into_boxed" => boxed(rt, schemas, place, value, answers),
+        "refusing" => refused(
+            rt,
+            schemas,
+            place,
+            value,
+            number(word_at(words, 3)),
+            answers,
+        ),
+        call if call.contains("flat") => on_rows(rt, schemas, place, value, words, answers),
+        _ => on_tree(rt, schemas, place, value, words, answers),
     }
 }
 
@@ -36,75 +60,74 @@ fn judged<'a>(
     schemas: &'a Schemas,
     place: Place,
     value: &'a Doc,
-    call: &str,
-) -> Result<String, Fail>
+    answers: &mut String,
+)
     requires { is_place schemas.now place ≡ true }
 {
-    let alloc = rt.alloc();
     mark_begin(rt);
-    let made = match call {
-        "verdict" => verdict(alloc, schemas, place, value),
-        _ => match walk_into(alloc, schemas, place, value, Verdict::new()) {
-            Ok(verdict) => Ok(verdict.valid() == Some(true)),
-            Err((fault, _verdict)) => Err(fault),
-        },
-    };
+    let made = walk_into(rt.alloc(), schemas, place, value, Verdict::new());
     mark_end(rt);
     match made {
-        Ok(valid) => Ok(format!(in alloc; "{valid}")?),
-        Err(fault) => Ok(format!(in alloc; "{fault:?}")?),
+        Ok(verdict) => tell(answers, verdict.valid()),
+        Err((fault, _verdict)) => tell(answers, fault),
     }
 }
 
-// `walk` and `walk_into_boxed` test the walk itself.
+fn boxed<'a>(
+    rt: &HostRuntime,
+    schemas: &'a Schemas,
+    place: Place,
+    value: &'a Doc,
+    answers: &mut String,
+)
+    requires { is_place schemas.now place ≡ true }
+{
+    mark_begin(rt);
+    let made = walk_into(rt.alloc(), schemas, place, value, Boxed::new(rt.alloc()));
+    mark_end(rt);
+    match made {
+        Ok(boxed) => hand_made::answer_on_boxed(rt, "", "", boxed, answers),
+        Err((fault, _boxed)) => tell(answers, fault),
+    }
+}
+
 fn on_tree<'a>(
     rt: &HostRuntime,
     schemas: &'a Schemas,
     place: Place,
     value: &'a Doc,
     words: &[&str],
-) -> Result<String, Fail>
+    answers: &mut String,
+)
     requires { is_place schemas.now place ≡ true }
 {
-    let alloc = rt.alloc();
     let call = word_at(words, 2);
-    mark_begin_if(rt, call.starts_with("walk"));
-    let made = match call {
-        "walk_into_boxed" => match walk_into(alloc, schemas, place, value, Boxed::new(alloc)) {
-            Ok(boxed) => Ok(boxed.tree()),
-            Err((fault, _boxed)) => Err(fault),
-        },
-        _ => match walk(alloc, schemas, place, value) {
-            Ok(tree) => Ok(Some(tree)),
-            Err(fault) => Err(fault),
-        },
-    };
+    mark_begin_if(rt, call == "walk");
+    let made = walk(rt.alloc(), schemas, place, value);
     mark_end(rt);
     match made {
-        Ok(Some(tree)) => trees::answer_on_tree(rt, call, word_at(words, 3), tree),
-        Ok(None) => Err(Fail::from("the root has closed")),
-        Err(fault) => Ok(format!(in alloc; "{fault:?}")?),
+        Ok(tree) => trees::answer_on_tree(rt, call, word_at(words, 3), tree, answers),
+        Err(fault) => tell(answers, fault),
     }
 }
 
-// `walk_into_flat` tests the walk itself.
 fn on_rows<'a>(
     rt: &HostRuntime,
     schemas: &'a Schemas,
     place: Place,
     value: &'a Doc,
     words: &[&str],
-) -> Result<String, Fail>
+    answers: &mut String,
+)
     requires { is_place schemas.now place ≡ true }
 {
-    let alloc = rt.alloc();
     let call = word_at(words, 2);
     mark_begin_if(rt, call == "walk_into_flat");
-    let made = walk_into(alloc, schemas, place, value, Flat::new(alloc));
+    let made = walk_into(rt.alloc(), schemas, place, value, Flat::new(rt.alloc()));
     mark_end(rt);
     match made {
-        Ok(flat) => flat_lists::answer_on_flat_list(rt, call, word_at(words, 3), flat),
-        Err((fault, _flat)) => Ok(format!(in alloc; "{fault:?}")?),
+        Ok(flat) => flat_lists::answer_on_flat_list(rt, call, word_at(words, 3), flat, answers),
+        Err((fault, _flat)) => tell(answers, fault),
     }
 }
 
@@ -130,23 +153,19 @@ impl<'a> Collector<'a> for Refusing {
     }
 }
 
-// How many of `calls` are left after the walk, or the fault.
+// How many calls are left after the walk, or the fault.
 fn refused<'a>(
     rt: &HostRuntime,
     schemas: &'a Schemas,
     place: Place,
     value: &'a Doc,
-    calls: &str,
-) -> Result<String, Fail>
+    left: usize,
+    answers: &mut String,
+)
     requires { is_place schemas.now place ≡ true }
 {
-    let left = calls.parse::<usize>()?;
-    let answer = match walk_into(rt.alloc(), schemas, place, value, Refusing { left }) {
-        Ok(refusing) => {
-            let left = refusing.left;
-            format!(in rt.alloc(); "{left} left")?
-        }
-        Err((fault, _refusing)) => format!(in rt.alloc(); "{fault:?}")?,
-    };
-    Ok(answer)
+    match walk_into(rt.alloc(), schemas, place, value, Refusing { left }) {
+        Ok(refusing) => tell(answers, refusing.left),
+        Err((fault, _refusing)) => tell(answers, fault),
+    }
 }
