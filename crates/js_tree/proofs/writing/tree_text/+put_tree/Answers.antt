@@ -1,7 +1,6 @@
-use Rattle.std.proofs.Common.{◌≡◌, ◌+◌, ◌<◌, length, drop, get_or, false, ap, subst, arith}
+use Rattle.std.proofs.Common.{◌≡◌, ◌<◌, length, get_or, ap, subst, arith}
 use Rattle.js_doc.specs.BytesOut.{Puts}
-use Rattle.js_doc.specs.Compact.{compact, compact_items}
-use Rattle.js_doc.specs.Value.{items}
+use Rattle.js_doc.specs.Compact.{compact}
 use Rattle.js_tree.specs.Forest.{forest_of, node_count}
 use Rattle.js_tree.specs.Form.{node_value, node_values, verbose}
 use Rattle.js_tree.proofs.Pieces.{then_puts, stops_in, stops_at_comma, stops_at_item, item_goes, array_ends}
@@ -54,13 +53,9 @@ put_tree-returns g t c =
 
 pub put_trees-returns-in_err-put_comma : goal.put_trees-returns-in_err-put_comma
 put_trees-returns-in_err-put_comma g t c =
-    let o = g.O.Out.progress in
     let l = c.loop-tree in
-    let ts = c.args.trees.now in
-    let all = compact_items false (items (node_values (forest_of ts))) in
-    let x = c.tree-item.result in
-    let next = tree_next ts l.tree-index x c.loop-tree-test.true c.tree-item.is in
-    stops_at_comma (o c.args.out.now) (o l.out) (o c.put_comma.new.out) l.later (node_values (forest_of (drop l.tree-index ts))) (node_values (forest_of (drop (l.tree-index + 1) ts))) (verbose x) all c.from_residual.result l.invariant next c.from_residual.ensures.0 c.in_err-put_comma.ensures
+    let next = tree_next c.args.trees.now l.tree-index _ c.loop-tree-test.true c.tree-item.is in
+    stops_at_comma _ _ _ _ _ _ _ _ _ l.invariant next c.from_residual.ensures.0 c.in_err-put_comma.ensures
 
 pub put_trees-put_tree-requires : goal.put_trees-put_tree-requires
 put_trees-put_tree-requires g t c κs within =
@@ -72,28 +67,19 @@ put_trees-put_tree-requires g t c κs within =
 
 pub put_trees-returns-in_err-put_tree : goal.put_trees-returns-in_err-put_tree
 put_trees-returns-in_err-put_tree g t c =
-    let o = g.O.Out.progress in
     let l = c.loop-tree in
-    let ts = c.args.trees.now in
-    let all = compact_items false (items (node_values (forest_of ts))) in
-    let x = c.tree-item.result in
-    let next = tree_next ts l.tree-index x c.loop-tree-test.true c.tree-item.is in
-    stops_at_item (o c.args.out.now) (o l.out) (o c.put_comma.new.out) (o c.put_tree.new.out) l.later (node_values (forest_of (drop l.tree-index ts))) (node_values (forest_of (drop (l.tree-index + 1) ts))) (verbose x) all c.from_residual-in_err-put_tree.result l.invariant next c.in_ok-put_comma.ensures c.from_residual-in_err-put_tree.ensures.0 c.in_err-put_tree.ensures
+    let next = tree_next c.args.trees.now l.tree-index _ c.loop-tree-test.true c.tree-item.is in
+    stops_at_item _ _ _ _ _ _ _ _ _ _ l.invariant next c.in_ok-put_comma.ensures
+    c.from_residual-in_err-put_tree.ensures.0 c.in_err-put_tree.ensures
 
 pub put_trees-loop-tree-preserved : goal.put_trees-loop-tree-preserved
 put_trees-loop-tree-preserved g t c =
-    let o = g.O.Out.progress in
     let l = c.loop-tree in
-    let ts = c.args.trees.now in
-    let all = compact_items false (items (node_values (forest_of ts))) in
-    let x = c.tree-item.result in
-    let next = tree_next ts l.tree-index x c.loop-tree-test.true c.tree-item.is in
-    item_goes (o c.args.out.now) (o l.out) (o c.put_comma.new.out) (o c.put_tree.new.out) l.later (node_values (forest_of (drop l.tree-index ts))) (node_values (forest_of (drop (l.tree-index + 1) ts))) (verbose x) all l.invariant next c.in_ok-put_comma.ensures c.in_ok-put_tree.ensures
+    let next = tree_next c.args.trees.now l.tree-index _ c.loop-tree-test.true c.tree-item.is in
+    item_goes _ _ _ _ _ _ _ _ _ l.invariant next c.in_ok-put_comma.ensures c.in_ok-put_tree.ensures
 
 pub put_trees-returns : goal.put_trees-returns
 put_trees-returns g t c =
-    let o = g.O.Out.progress in
     let l = c.loop-tree in
-    let ts = c.args.trees.now in
-    let all = compact_items false (items (node_values (forest_of ts))) in
-    array_ends (o c.args.out.now) (o l.out) (o c.put.new.self) l.later (node_values (forest_of (drop l.tree-index ts))) all c.put.result l.invariant (ap (λ ts. node_values (forest_of ts)) (drop_all l.tree-index ts c.loop-tree-test.false)) c.put.ensures
+    let none = drop_all l.tree-index c.args.trees.now c.loop-tree-test.false in
+    array_ends _ _ _ _ _ _ _ l.invariant (ap (λ ts. node_values (forest_of ts)) none) c.put.ensures
