@@ -14,9 +14,17 @@ use Rattle.js_tree.proofs.FlatRows.{root_row, rows_below}
 use Rattle.js_tree.proofs.Marks.{take_all}
 use Rattle.js_tree.proofs.NodeTexts.{parent_text_is}
 
-pub parent_text : (u : OutputUnit) (ts : List ResultTree) → 0 < length ts → front_text u ++ (compact_items false (items (node_values (forest_of ts))) ++ back_text u) ≡ compact (node_value u (node_values (forest_of ts)))
+parent_text : (u : OutputUnit) (ts : List ResultTree) → 0 < length ts → front_text u ++ (compact_items false (items (node_values (forest_of ts))) ++ back_text u) ≡ compact (node_value u (node_values (forest_of ts)))
 parent_text u [] h = absurd (omega (arith, h))
 parent_text u (t ∷ ts) h = parent_text_is u _ _
+
+-- the text of a tree, in the pieces in which it is written from its children
+pub tree_parent_text : (u : OutputUnit) (ts children : List ResultTree) (t : ResultTree) → 0 < length ts → ts ≡ children
+    → record { root = u; below = forest_of children } ≡ t
+    → front_text u ++ (compact_items false (items (node_values (forest_of ts))) ++ back_text u) ≡ compact (verbose t)
+tree_parent_text u ts children t h e is =
+    parent_text u ts h
+    ∙ (ap (λ us. compact (node_value u (node_values (forest_of us)))) e ∙ ap (λ t. compact (verbose t)) is)
 
 pub leaf_text : (u : OutputUnit) (ts : List ResultTree) → length ts ≡ 0 → compact (node_value u []) ≡ compact (node_value u (node_values (forest_of ts)))
 leaf_text u [] h = refl

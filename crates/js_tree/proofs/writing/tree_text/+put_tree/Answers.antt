@@ -7,7 +7,7 @@ use Rattle.js_tree.proofs.Pieces.{then_puts, stops_in, stops_at_comma, stops_at_
 use Rattle.js_tree.proofs.Forests.{fewer_nodes}
 use Rattle.std.proofs.lemmas.List.{drop_all}
 use Rattle.js_tree.proofs.Nested.{is_none, not_none}
-use Rattle.js_tree.proofs.ChildTexts.{leaf_text, parent_text, tree_next}
+use Rattle.js_tree.proofs.ChildTexts.{leaf_text, tree_next, tree_parent_text}
 use Rattle.js_tree.proofs.writing.tree_text.+put_tree.Goals as goal
 
 pub put_tree-returns-then-is_empty : goal.put_tree-returns-then-is_empty
@@ -22,34 +22,28 @@ put_tree-returns-then-is_empty g t c =
 pub put_tree-returns-in_err-put_front : goal.put_tree-returns-in_err-put_front
 put_tree-returns-in_err-put_front g t c =
     let o = g.O.Out.progress in
-    let ts = c.as_slice-children.result.now in
-    let r = c.from_residual.result in
-    subst (λ t. Puts (o c.args.out.now) (o c.put_front.new.out) (compact (verbose t)) r) c.tree.view_is
-    (subst (λ us. Puts (o c.args.out.now) (o c.put_front.new.out) (compact (node_value c.tree.inside.unit (node_values (forest_of us)))) r) c.as_slice-children.ensures
-    (subst (λ l. Puts (o c.args.out.now) (o c.put_front.new.out) l r) (parent_text c.tree.inside.unit ts (not_none (length ts) c.if-is_empty.ensures))
-    (stops_in _ _ _ _ r c.from_residual.ensures.0 c.in_err-put_front.ensures)))
+    let some = not_none (length c.as_slice-children.result.now) c.if-is_empty.ensures in
+    let is = tree_parent_text c.tree.inside.unit _ _ _ some c.as_slice-children.ensures c.tree.view_is in
+    subst (λ l. Puts (o c.args.out.now) (o c.put_front.new.out) l c.from_residual.result) is
+    (stops_in _ _ _ _ _ c.from_residual.ensures.0 c.in_err-put_front.ensures)
 
 pub put_tree-returns-in_err-put_trees : goal.put_tree-returns-in_err-put_trees
 put_tree-returns-in_err-put_trees g t c =
     let o = g.O.Out.progress in
-    let ts = c.as_slice-children.result.now in
-    let r = c.from_residual-in_err-put_trees.result in
-    subst (λ t. Puts (o c.args.out.now) (o c.put_trees.new.out) (compact (verbose t)) r) c.tree.view_is
-    (subst (λ us. Puts (o c.args.out.now) (o c.put_trees.new.out) (compact (node_value c.tree.inside.unit (node_values (forest_of us)))) r) c.as_slice-children.ensures
-    (subst (λ l. Puts (o c.args.out.now) (o c.put_trees.new.out) l r) (parent_text c.tree.inside.unit ts (not_none (length ts) c.if-is_empty.ensures))
-    (then_puts _ _ _ _ _ r c.in_ok-put_front.ensures
-    (stops_in _ _ _ _ r c.from_residual-in_err-put_trees.ensures.0 c.in_err-put_trees.ensures))))
+    let some = not_none (length c.as_slice-children.result.now) c.if-is_empty.ensures in
+    let is = tree_parent_text c.tree.inside.unit _ _ _ some c.as_slice-children.ensures c.tree.view_is in
+    subst (λ l. Puts (o c.args.out.now) (o c.put_trees.new.out) l c.from_residual-in_err-put_trees.result) is
+    (then_puts _ _ _ _ _ _ c.in_ok-put_front.ensures
+    (stops_in _ _ _ _ _ c.from_residual-in_err-put_trees.ensures.0 c.in_err-put_trees.ensures))
 
 pub put_tree-returns : goal.put_tree-returns
 put_tree-returns g t c =
     let o = g.O.Out.progress in
-    let ts = c.as_slice-children.result.now in
-    let r = c.put_back.result in
-    subst (λ t. Puts (o c.args.out.now) (o c.put_back.new.out) (compact (verbose t)) r) c.tree.view_is
-    (subst (λ us. Puts (o c.args.out.now) (o c.put_back.new.out) (compact (node_value c.tree.inside.unit (node_values (forest_of us)))) r) c.as_slice-children.ensures
-    (subst (λ l. Puts (o c.args.out.now) (o c.put_back.new.out) l r) (parent_text c.tree.inside.unit ts (not_none (length ts) c.if-is_empty.ensures))
-    (then_puts _ _ _ _ _ r c.in_ok-put_front.ensures
-    (then_puts _ _ _ _ _ r c.in_ok-put_trees.ensures c.put_back.ensures))))
+    let some = not_none (length c.as_slice-children.result.now) c.if-is_empty.ensures in
+    let is = tree_parent_text c.tree.inside.unit _ _ _ some c.as_slice-children.ensures c.tree.view_is in
+    subst (λ l. Puts (o c.args.out.now) (o c.put_back.new.out) l c.put_back.result) is
+    (then_puts _ _ _ _ _ _ c.in_ok-put_front.ensures
+    (then_puts _ _ _ _ _ _ c.in_ok-put_trees.ensures c.put_back.ensures))
 
 pub put_trees-returns-in_err-put_comma : goal.put_trees-returns-in_err-put_comma
 put_trees-returns-in_err-put_comma g t c =
