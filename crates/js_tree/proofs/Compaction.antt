@@ -53,16 +53,41 @@ module _ {A : Type 0} (F : Forest A → Forest A) (over : (f g : Forest A) → F
   none_left done ts i d h k e =
       rw (add-one, take-suc ts i d h, forest_of-append (take i ts) (get_or ts i d ∷ []), over (forest_of (take i ts)) (forest_of (get_or ts i d ∷ [])), e, ← k) (sym (append-empty (forest_of done)))
 
--- ---- trees that are reduced one after another, those that are left moved to the front
+-- ---- trees that are gone through one after another, those that are left moved to the front
 
-module _ {A : Type 0} (F : Forest A → Forest A) where
-  -- how the trees stand after i of them
-  abbrev pub Reduced : List (Rose A) → List (Rose A) → ℕ → ℕ → Type 0
-  Reduced all ts count i = record {
+module _ {A : Type 0} where
+  -- how the trees stand after i of them, where P holds of those that are left and those that were there
+  abbrev pub MovedToFront : (List (Rose A) → List (Rose A) → Type 0) → List (Rose A) → List (Rose A) → ℕ → ℕ → Type 0
+  MovedToFront P all ts count i = record {
     at_most : count ≤ i;
-    front : forest_of (take count ts) ≡ F (forest_of (take i all));
+    front : P (take count ts) (take i all);
     rest : drop i ts ≡ drop i all;
   }
+
+  pub moved_next : (P : List (Rose A) → List (Rose A) → Type 0) (all ts : List (Rose A)) (count i : ℕ) (d : Rose A)
+      → MovedToFront P all ts count i → i < length ts → i < length all
+      → P (take count ts ++ (get_or all i d ∷ [])) (take (i + 1) all)
+      → MovedToFront P all (swap ts count i) (count + 1) (i + 1)
+  moved_next P all ts count i d r m h p =
+      let le = r.at_most in
+      record {
+        at_most = omega arith;
+        front = rw (take-swap ts count i d le m, same_at ts all i d r.rest) p;
+        rest = drop-swap ts count i d le m ∙ same_after ts all i d m h r.rest;
+      }
+
+  pub passed_next : (P : List (Rose A) → List (Rose A) → Type 0) (all ts : List (Rose A)) (count i : ℕ) (d : Rose A)
+      → MovedToFront P all ts count i → i < length ts → i < length all → P (take count ts) (take (i + 1) all)
+      → MovedToFront P all ts count (i + 1)
+  passed_next P all ts count i d r m h p =
+      let le = r.at_most in
+      record { at_most = omega arith; front = p; rest = same_after ts all i d m h r.rest }
+
+-- ---- trees that are reduced one after another
+
+module _ {A : Type 0} (F : Forest A → Forest A) where
+  abbrev pub Reduced : List (Rose A) → List (Rose A) → ℕ → ℕ → Type 0
+  Reduced = MovedToFront (λ done seen. forest_of done ≡ F (forest_of seen))
 
 module _ {A : Type 0} where
   -- the next tree has fewer nodes below its root than all of them
