@@ -33,24 +33,26 @@ returns-in_err-put_trees g c =
     λ t h.
     let o = g.O.Out.progress in
     let root = still_at _ _ [] [] (at_root c.args.locations c.args.rows.now c.requires.room) c.take_gathered-gathered.ensures in
-    let rows_are = whole_rows_of c.args.rows.now t _ c.as_slice-rows.ensures.value h in
     let rows = whole_rows c.args.rows.now t _ c.as_slice-rows.ensures.value h in
     let v_is = ap (λ u. u.valid) (root_row relative_row _ (escaped_tree (relative_tree t)) _ rows c.index-rows-0.is) in
     subst (λ l. Puts (o c.args.out.now) (o c.put_trees.new.out) l c.from_residual-in_err-put_trees.result)
     (basic_in_parts c.args.rows.now t c.index-rows-0.result.valid h v_is)
     (then_puts _ _ _ _ _ _ c.in_ok-put_list_start.ensures
     (stops_in _ _ _ _ _ c.from_residual-in_err-put_trees.ensures.0
-    (c.in_err-put_trees.ensures.listed (whole_of t) [] [] root rows_are)))
+    (c.in_err-put_trees.ensures.listed (whole_of t) [] [] root
+    (whole_rows_of c.args.rows.now t _ c.as_slice-rows.ensures.value h))))
 
 pub returns : goal.returns
 returns g c =
     λ t h.
     let o = g.O.Out.progress in
     let root = still_at _ _ [] [] (at_root c.args.locations c.args.rows.now c.requires.room) c.take_gathered-gathered.ensures in
-    let rows_are = whole_rows_of c.args.rows.now t _ c.as_slice-rows.ensures.value h in
     let rows = whole_rows c.args.rows.now t _ c.as_slice-rows.ensures.value h in
     let v_is = ap (λ u. u.valid) (root_row relative_row _ (escaped_tree (relative_tree t)) _ rows c.index-rows-0.is) in
     subst (λ l. Puts (o c.args.out.now) (o c.put_list_end.new.out) l c.put_list_end.result)
     (basic_in_parts c.args.rows.now t c.index-rows-0.result.valid h v_is)
     (then_puts _ _ _ _ _ _ c.in_ok-put_list_start.ensures
-    (then_puts _ _ _ _ _ _ (c.in_ok-put_trees.ensures.listed (whole_of t) [] [] root rows_are).goes c.put_list_end.ensures))
+    (then_puts _ _ _ _ _ _
+    (c.in_ok-put_trees.ensures.listed (whole_of t) [] [] root
+    (whole_rows_of c.args.rows.now t _ c.as_slice-rows.ensures.value h)).goes
+    c.put_list_end.ensures))

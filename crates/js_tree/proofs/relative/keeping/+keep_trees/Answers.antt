@@ -26,22 +26,16 @@ keep_node-keep_trees-requires t c =
 
 pub keep_node-overflow_sub-size : goal.keep_node-overflow_sub-size
 keep_node-overflow_sub-size t c =
-    let v = c.requires.0 in
-    let u = c.requires.1 in
-    let below = c.requires.2 in
-    let marked = below_set c.args.rows.now c.add_row-2.new.row c.args.marks.now v u below c.requires.3 in
-    let told = c.in_ok-keep_trees.ensures.rows v below [] [] (none_pending c.add_row-2.new.self c.end-end.result c.end-end.ensures) marked in
-    let count = so_many c.add_row-2.new.kept.items c.keep_trees.new.kept.items (kept_between v [] [] below) told in
+    let marked = below_set _ c.add_row-2.new.row _ _ _ _ c.requires.3 in
+    let told = c.in_ok-keep_trees.ensures.rows _ _ [] [] (none_pending _ _ c.end-end.ensures) marked in
+    let count = so_many _ c.keep_trees.new.kept.items (kept_between c.requires.0 [] [] c.requires.2) told in
     omega (arith, count, c.in_ok-add_row.ensures.count, c.len-number.ensures, c.len.ensures, c.args.kept.now.ok.0, c.keep_trees.new.kept.ok.0)
 
 pub keep_node-index_mut-row-requires : goal.keep_node-index_mut-row-requires
 keep_node-index_mut-row-requires t c =
-    let v = c.requires.0 in
-    let u = c.requires.1 in
-    let below = c.requires.2 in
-    let marked = below_set c.args.rows.now c.add_row-2.new.row c.args.marks.now v u below c.requires.3 in
-    let told = c.in_ok-keep_trees.ensures.rows v below [] [] (none_pending c.add_row-2.new.self c.end-end.result c.end-end.ensures) marked in
-    let count = so_many c.add_row-2.new.kept.items c.keep_trees.new.kept.items (kept_between v [] [] below) told in
+    let marked = below_set _ c.add_row-2.new.row _ _ _ _ c.requires.3 in
+    let told = c.in_ok-keep_trees.ensures.rows _ _ [] [] (none_pending _ _ c.end-end.ensures) marked in
+    let count = so_many _ c.keep_trees.new.kept.items (kept_between c.requires.0 [] [] c.requires.2) told in
     omega (arith, count, c.in_ok-add_row.ensures.count, c.len-number.ensures, c.args.kept.now.ok.0, c.keep_trees.new.kept.ok.0)
 
 pub keep_node-returns-then-count-eq1-clause-rows : goal.keep_node-returns-then-count-eq1-clause-rows
