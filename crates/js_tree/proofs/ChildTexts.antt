@@ -14,7 +14,9 @@ use Rattle.js_tree.proofs.FlatRows.{root_row, rows_below}
 use Rattle.js_tree.proofs.Marks.{take_all}
 use Rattle.js_tree.proofs.NodeTexts.{parent_text_is}
 
-parent_text : (u : OutputUnit) (ts : List ResultTree) → 0 < length ts → front_text u ++ (compact_items false (items (node_values (forest_of ts))) ++ back_text u) ≡ compact (node_value u (node_values (forest_of ts)))
+parent_text : (u : OutputUnit) (ts : List ResultTree) → 0 < length ts
+    → front_text u ++ (compact_items false (items (node_values (forest_of ts))) ++ back_text u)
+    ≡ compact (node_value u (node_values (forest_of ts)))
 parent_text u [] h = absurd (omega (arith, h))
 parent_text u (t ∷ ts) h = parent_text_is u _ _
 

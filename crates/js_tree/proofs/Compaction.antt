@@ -41,13 +41,15 @@ module _ {A : Type 0} where
 -- ---- one tree more, of a function that goes over trees one after another
 
 module _ {A : Type 0} (F : Forest A → Forest A) (over : (f g : Forest A) → F (f ⊹ g) ≡ (F f ⊹ F g)) where
-  one_left : (done ts : List (Rose A)) (i : ℕ) (d left : Rose A) → i < length ts → forest_of done ≡ F (forest_of (take i ts))
+  one_left : (done ts : List (Rose A)) (i : ℕ) (d left : Rose A) → i < length ts
+      → forest_of done ≡ F (forest_of (take i ts))
       → F (tree (get_or ts i d).root (get_or ts i d).below empty) ≡ tree left.root left.below empty
       → forest_of (done ++ (left ∷ [])) ≡ F (forest_of (take (i + 1) ts))
   one_left done ts i d left h k e =
       rw (add-one, take-suc ts i d h, forest_of-append (take i ts) (get_or ts i d ∷ []), over (forest_of (take i ts)) (forest_of (get_or ts i d ∷ [])), e, ← k, forest_of-append done (left ∷ [])) refl
 
-  none_left : (done ts : List (Rose A)) (i : ℕ) (d : Rose A) → i < length ts → forest_of done ≡ F (forest_of (take i ts))
+  none_left : (done ts : List (Rose A)) (i : ℕ) (d : Rose A) → i < length ts
+      → forest_of done ≡ F (forest_of (take i ts))
       → F (tree (get_or ts i d).root (get_or ts i d).below empty) ≡ empty
       → forest_of done ≡ F (forest_of (take (i + 1) ts))
   none_left done ts i d h k e =

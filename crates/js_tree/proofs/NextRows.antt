@@ -21,6 +21,7 @@ slice_of_first row_of rows n f x t =
     ap (map row_of) (slice_size rows n (row_of x).1)
     ∙ (t.all ∙ sym (flat_form-flat_of (record { root = t.unit; below = t.below })))
 
-pub slice_of_next : (rows : List RelativeRow) (n : ℕ) (f : Forest OutputUnit) (x : RelativeRow) (t : NextTree rows n f x)
+pub slice_of_next : (rows : List RelativeRow) (n : ℕ) (f : Forest OutputUnit) (x : RelativeRow)
+    (t : NextTree rows n f x)
     → AreRowsOfTree (take (n + x.size - n) (drop n rows)) (record { root = t.unit; below = t.below })
 slice_of_next rows n f x t = ap (map relative_row) (slice_size rows n x.size) ∙ t.all

@@ -21,10 +21,12 @@ merge_all-loop-i-preserved t c =
     elim c.if-merge_one.branch [
       | merge_all-then-merge_one w ↦
           rw (w.trees-is, w.swap.ensures.after, w.count-is)
-          (next_left (given_trees noted same_but_keyword) (given_trees-append noted same_but_keyword) _ _ _ _ _ _ l.invariant m h w.if-merge_one.ensures)
+          (next_left (given_trees noted same_but_keyword) (given_trees-append noted same_but_keyword)
+          _ _ _ _ _ _ l.invariant m h w.if-merge_one.ensures)
       | merge_all-else-merge_one w ↦
           rw (w.trees-is, w.count-is)
-          (next_gone (given_trees noted same_but_keyword) (given_trees-append noted same_but_keyword) _ _ _ _ _ _ l.invariant m h w.if-merge_one.ensures)
+          (next_gone (given_trees noted same_but_keyword) (given_trees-append noted same_but_keyword)
+          _ _ _ _ _ _ l.invariant m h w.if-merge_one.ensures)
     ]
 
 pub merge_one-returns : goal.merge_one-returns

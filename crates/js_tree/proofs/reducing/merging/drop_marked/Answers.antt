@@ -17,6 +17,7 @@ loop-i-preserved c =
     let d : ResultTree = some_tree in
     let m : l.i < length l.trees = omega arith in
     let h : l.i < length ts = omega arith in
+    let next = get_or ts l.i d in
     let same = same_at l.trees ts l.i d l.invariant.rest in
     elim c.if-not-comes_again_at_mark.branch [
       | then-not-comes_again_at_mark w ↦
@@ -25,10 +26,11 @@ loop-i-preserved c =
           ts l.trees l.count l.i d l.invariant m h
           (one_stays same_but_keyword same_but_keyword_equiv _ ts l.i d h l.invariant.front))
       | else-not-comes_again_at_mark w ↦
-          let n : has_alike same_but_keyword (forest_of (take l.count l.trees)) (get_or ts l.i d).root (get_or ts l.i d).below ≡ true =
+          let n : has_alike same_but_keyword (forest_of (take l.count l.trees)) next.root next.below ≡ true =
           rw (← same) (c.comes_again_at_mark.ensures d w.if-not-comes_again_at_mark.false) in
           rw (w.trees-is, w.count-is)
-          (passed_next (λ done seen. firsts same_but_keyword (forest_of done) ≡ firsts same_but_keyword (forest_of seen))
+          (passed_next
+          (λ done seen. firsts same_but_keyword (forest_of done) ≡ firsts same_but_keyword (forest_of seen))
           ts l.trees l.count l.i d l.invariant m h
           (some_gone same_but_keyword same_but_keyword_equiv _ ts l.i d h l.invariant.front n))
     ]

@@ -7,4 +7,5 @@ use Rattle.js_tree.proofs.reducing.merging.drop_marked.Given as goal
 
 abbrev pub invariant-loop-i : goal.invariant-loop-i
 invariant-loop-i l =
-    MovedToFront (λ done seen. firsts same_but_keyword (forest_of done) ≡ firsts same_but_keyword (forest_of seen)) l.initial.trees l.trees l.count l.i
+    MovedToFront (λ done seen. firsts same_but_keyword (forest_of done) ≡ firsts same_but_keyword (forest_of seen))
+    l.initial.trees l.trees l.count l.i

@@ -18,8 +18,10 @@ prune_all-loop-i-preserved t c =
     elim c.if-prune_one.branch [
       | prune_all-then-prune_one w ↦
           rw (w.trees-is, w.swap.ensures.after, w.count-is)
-          (next_left (pruned_below (has_verdict c.args.verdict)) (pruned_below-append (has_verdict c.args.verdict)) _ _ _ _ _ _ l.invariant m h w.if-prune_one.ensures)
+          (next_left (pruned_below (has_verdict c.args.verdict)) (pruned_below-append (has_verdict c.args.verdict))
+          _ _ _ _ _ _ l.invariant m h w.if-prune_one.ensures)
       | prune_all-else-prune_one w ↦
           rw (w.trees-is, w.count-is)
-          (next_gone (pruned_below (has_verdict c.args.verdict)) (pruned_below-append (has_verdict c.args.verdict)) _ _ _ _ _ _ l.invariant m h w.if-prune_one.ensures)
+          (next_gone (pruned_below (has_verdict c.args.verdict)) (pruned_below-append (has_verdict c.args.verdict))
+          _ _ _ _ _ _ l.invariant m h w.if-prune_one.ensures)
     ]

@@ -56,7 +56,8 @@ put_tree-returns-in_err-later-2-clause-listed g t c =
     let below = ap (map relative_row) (rest_of rows) ∙ rows_below relative_row rows (escaped_tree r) e in
     let noted = c.in_ok-later.ensures.listed _ r.root.absolute _ down (is_absolute x r.root root) in
     let res = c.from_residual-in_err-later-2.result in
-    subst (λ us. AreListed (o c.args.out.now) (o c.put_trees.new.out) c.args.later us res) (tree_listed c.args.verdict k i x r root)
+    subst (λ us. AreListed (o c.args.out.now) (o c.put_trees.new.out) c.args.later us res)
+    (tree_listed c.args.verdict k i x r root)
     (listed_err _ _ _ _ _ c.from_residual-in_err-later-2.ensures.0
     (stops_rest _ _ _ _ _ _ _ noted (c.in_err-later-2.ensures.listed r.below _ _ there below)))
 
@@ -72,7 +73,8 @@ put_tree-returns-clause-listed g t c =
     let below = ap (map relative_row) (rest_of rows) ∙ rows_below relative_row rows (escaped_tree r) e in
     let noted = c.in_ok-later.ensures.listed _ r.root.absolute _ down (is_absolute x r.root root) in
     let later = c.in_ok-later-2.later in
-    subst (λ us. AllListed (o c.args.out.now) (o c.put_trees.new.out) c.args.later us later) (tree_listed c.args.verdict k i x r root)
+    subst (λ us. AllListed (o c.args.out.now) (o c.put_trees.new.out) c.args.later us later)
+    (tree_listed c.args.verdict k i x r root)
     (both_listed _ _ _ _ _ _ _ _ noted (c.in_ok-later-2.ensures.listed r.below _ _ there below))
 
 pub put_trees-loop-next-init : goal.put_trees-loop-next-init

@@ -32,7 +32,8 @@ pub returns-in_err-put_trees : goal.returns-in_err-put_trees
 returns-in_err-put_trees g c =
     λ t h.
     let o = g.O.Out.progress in
-    let root = still_at _ _ [] [] (at_root c.args.locations c.args.rows.now c.requires.room) c.take_gathered-gathered.ensures in
+    let root =
+    still_at _ _ [] [] (at_root c.args.locations c.args.rows.now c.requires.room) c.take_gathered-gathered.ensures in
     let rows = whole_rows c.args.rows.now t _ c.as_slice-rows.ensures.value h in
     let v_is = ap (λ u. u.valid) (root_row relative_row _ (escaped_tree (relative_tree t)) _ rows c.index-rows-0.is) in
     subst (λ l. Puts (o c.args.out.now) (o c.put_trees.new.out) l c.from_residual-in_err-put_trees.result)
@@ -46,7 +47,8 @@ pub returns : goal.returns
 returns g c =
     λ t h.
     let o = g.O.Out.progress in
-    let root = still_at _ _ [] [] (at_root c.args.locations c.args.rows.now c.requires.room) c.take_gathered-gathered.ensures in
+    let root =
+    still_at _ _ [] [] (at_root c.args.locations c.args.rows.now c.requires.room) c.take_gathered-gathered.ensures in
     let rows = whole_rows c.args.rows.now t _ c.as_slice-rows.ensures.value h in
     let v_is = ap (λ u. u.valid) (root_row relative_row _ (escaped_tree (relative_tree t)) _ rows c.index-rows-0.is) in
     subst (λ l. Puts (o c.args.out.now) (o c.put_list_end.new.out) l c.put_list_end.result)

@@ -11,7 +11,8 @@ returns-in_err-put_kept-clause-text g c =
     let has = c.keeps_schema.ensures c.if-not-keeps_schema.false in
     let row = c.args.row.now in
     let front =
-    front_then c.args.later row.absolute_slash _ _ _ row.absolute.now absolute has.0 has.1 c.as_bytes.ensures.value is in
+    front_then c.args.later row.absolute_slash _ _ _ row.absolute.now absolute has.0 has.1
+    c.as_bytes.ensures.value is in
     subst (λ l. Puts (o c.args.out.now) (o c.put_kept.new.out) l c.from_residual.result) front
     (stops_in _ _ _ _ _ c.from_residual.ensures.0 c.in_err-put_kept.ensures)
 
@@ -22,6 +23,7 @@ returns-clause-text g c =
     let has = c.keeps_schema.ensures c.if-not-keeps_schema.false in
     let row = c.args.row.now in
     let front =
-    front_then c.args.later row.absolute_slash _ _ _ row.absolute.now absolute has.0 has.1 c.as_bytes.ensures.value is in
+    front_then c.args.later row.absolute_slash _ _ _ row.absolute.now absolute has.0 has.1
+    c.as_bytes.ensures.value is in
     subst (λ l. Puts (o c.args.out.now) (o c.put.new.self) l c.put.result) front
     (then_puts _ _ _ _ _ _ c.in_ok-put_kept.ensures c.put.ensures)

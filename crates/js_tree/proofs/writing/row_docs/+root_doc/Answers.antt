@@ -70,4 +70,6 @@ root_docs-returns t' c =
     let l = c.loop-next in
     λ f e.
     let w = l.invariant.1 f e in
-    sym (append-nil (map value_of l.docs.items)) ∙ (ap (λ vs. map value_of l.docs.items ++ vs) (sym (ap node_values (all_gone row_of c.args.rows.now l.next _ w.1 (omega (arith, c.loop-next-test.false))))) ∙ w.2)
+    let none = all_gone row_of c.args.rows.now l.next _ w.1 (omega (arith, c.loop-next-test.false)) in
+    sym (append-nil (map value_of l.docs.items))
+    ∙ (ap (λ vs. map value_of l.docs.items ++ vs) (sym (ap node_values none)) ∙ w.2)

@@ -58,7 +58,8 @@ put_roots-returns-in_err-put_comma g t c =
     λ f e.
     let w = c.loop-next.invariant.1 f e in
     let s = some_tree row_of _ _ _ w.1 c.loop-next-test.true in
-    stops_at_comma _ _ _ _ _ (node_values s.after) (node_value s.unit (node_values s.below)) _ _ w.2 (ap node_values s.is) c.from_residual.ensures.0 c.in_err-put_comma.ensures
+    stops_at_comma _ _ _ _ _ (node_values s.after) (node_value s.unit (node_values s.below)) _ _ w.2
+    (ap node_values s.is) c.from_residual.ensures.0 c.in_err-put_comma.ensures
 
 pub put_roots-overflow_add-end : goal.put_roots-overflow_add-end
 put_roots-overflow_add-end g t c =
