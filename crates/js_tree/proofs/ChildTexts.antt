@@ -3,19 +3,30 @@ use Rattle.std.proofs.Common.{◌≡◌, ℕ, false, suc, ◌+◌, ◌-◌, ◌<
 use Rattle.std.proofs.lemmas.List.{drop_more}
 use Rattle.js_doc.specs.Compact.{compact, compact_items}
 use Rattle.js_doc.specs.Value.{items}
-use Rattle.js_tree.specs.Flat.{flat_of}
+use Rattle.js_tree.specs.Flat.{flat_form, flat_of}
 use Rattle.js_tree.specs.FlatState.{FlatRow}
 use Rattle.js_tree.specs.Forest.{Forest, empty, tree, forest_of}
 use Rattle.js_tree.specs.Form.{node_value, node_values, verbose}
 use Rattle.js_tree.specs.code.NodeText.{back_text, front_text}
 use Rattle.js_tree.specs.OutputUnit.{OutputUnit}
 use Rattle.js_tree.specs.Result.{ResultTree}
+use Rattle.js_tree.proofs.FlatRows.{root_row, rows_below}
 use Rattle.js_tree.proofs.Marks.{take_all}
 use Rattle.js_tree.proofs.NodeTexts.{parent_text_is}
 
-pub parent_text : (u : OutputUnit) (ts : List ResultTree) → 0 < length ts → front_text u ++ (compact_items false (items (node_values (forest_of ts))) ++ back_text u) ≡ compact (node_value u (node_values (forest_of ts)))
+parent_text : (u : OutputUnit) (ts : List ResultTree) → 0 < length ts
+    → front_text u ++ (compact_items false (items (node_values (forest_of ts))) ++ back_text u)
+    ≡ compact (node_value u (node_values (forest_of ts)))
 parent_text u [] h = absurd (omega (arith, h))
 parent_text u (t ∷ ts) h = parent_text_is u _ _
+
+-- the text of a tree, in the pieces in which it is written from its children
+pub tree_parent_text : (u : OutputUnit) (ts children : List ResultTree) (t : ResultTree) → 0 < length ts → ts ≡ children
+    → record { root = u; below = forest_of children } ≡ t
+    → front_text u ++ (compact_items false (items (node_values (forest_of ts))) ++ back_text u) ≡ compact (verbose t)
+tree_parent_text u ts children t h e is =
+    parent_text u ts h
+    ∙ (ap (λ us. compact (node_value u (node_values (forest_of us)))) e ∙ ap (λ t. compact (verbose t)) is)
 
 pub leaf_text : (u : OutputUnit) (ts : List ResultTree) → length ts ≡ 0 → compact (node_value u []) ≡ compact (node_value u (node_values (forest_of ts)))
 leaf_text u [] h = refl
@@ -39,3 +50,17 @@ row_leaf_text row_of u (r ∷ rows) f h e = absurd (omega (arith, h))
 pub rest_of : {R : Type 0} (rows : List R) → take (length rows - 1) (drop 1 rows) ≡ drop 1 rows
 rest_of [] = refl
 rest_of (r ∷ rows) = take_all (suc (length rows) - 1) rows (omega arith)
+
+module _ {R : Type 0} (row_of : R → FlatRow) where
+  pub rest_below : (rows : List R) (t : ResultTree) → map row_of rows ≡ flat_form t
+      → map row_of (take (length rows - 1) (drop 1 rows)) ≡ flat_of t.below
+  rest_below rows t e = ap (map row_of) (rest_of rows) ∙ rows_below row_of rows t e
+
+  -- the text of a tree, in the pieces in which it is written from its rows
+  pub rows_parent_text : (rows : List R) (t : ResultTree) (x : R) → map row_of rows ≡ flat_form t → x ≡ get_or rows 0 x
+      → 0 < length (take (length rows - 1) (drop 1 rows))
+      → front_text (row_of x).0 ++ (compact_items false (items (node_values t.below)) ++ back_text (row_of x).0)
+      ≡ compact (verbose t)
+  rows_parent_text rows t x e is h =
+      row_parent_text row_of (row_of x).0 _ t.below h (rest_below rows t e)
+      ∙ ap (λ u. compact (node_value u (node_values t.below))) (root_row row_of rows t x e is)

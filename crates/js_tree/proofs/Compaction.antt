@@ -2,14 +2,15 @@
 use Rattle.std.proofs.Common.{◌≡◌, ℕ, zero, suc, ◌+◌, ◌≤◌, ◌<◌, Bool, true, false, if◌then◌else◌, ◌⊎◌, inl, inr, List, [], ◌∷◌, ◌++◌, length, take, drop, get_or, set, refl, ap, sym, ◌∙◌, arith, add-one}
 use Rattle.std.proofs.Math.Nat.{eq-or-lt_of_le}
 use Rattle.std.proofs.Math.Seq.{take-suc-set, take-suc}
-use Rattle.std.proofs.lemmas.List.{take-set, take-set-le, drop-set-lt, length-set}
+use Rattle.std.proofs.lemmas.List.{take-set, take-set-le, drop-set-lt, get_or-set_same, length-set}
 use Rattle.std.proofs.lemmas.List.Edits.{swap_is}
 use Rattle.std.specs.List.{swap}
-use Rattle.js_tree.specs.Forest.{Forest, empty, tree, Rose, forest_of, ◌⊹◌, tree_count}
+use Rattle.js_tree.specs.Forest.{Forest, empty, tree, Rose, forest_of, ◌⊹◌, node_count, tree_count}
 use Rattle.js_tree.specs.Step.{at_least_two, node_stands}
 use Rattle.js_tree.specs.Kept.{is_kept_node, kept_below}
 use Rattle.js_tree.specs.Pruned.{pruned_below}
-use Rattle.js_tree.proofs.Forests.{append-empty, append-append, forest_of-append, tree_count-forest_of}
+use Rattle.js_tree.proofs.Forests.{append-empty, append-append, fewer_nodes, forest_of-append, same_after, same_at}
+use Rattle.js_tree.proofs.Forests.{tree_count-forest_of}
 use Rattle.js_tree.proofs.Steps.{or_right}
 use Rattle.js_tree.proofs.KeptTree.{tree_count-kept_below}
 
@@ -40,17 +41,95 @@ module _ {A : Type 0} where
 -- ---- one tree more, of a function that goes over trees one after another
 
 module _ {A : Type 0} (F : Forest A → Forest A) (over : (f g : Forest A) → F (f ⊹ g) ≡ (F f ⊹ F g)) where
-  pub one_left : (done ts : List (Rose A)) (i : ℕ) (d left : Rose A) → i < length ts → forest_of done ≡ F (forest_of (take i ts))
+  one_left : (done ts : List (Rose A)) (i : ℕ) (d left : Rose A) → i < length ts
+      → forest_of done ≡ F (forest_of (take i ts))
       → F (tree (get_or ts i d).root (get_or ts i d).below empty) ≡ tree left.root left.below empty
       → forest_of (done ++ (left ∷ [])) ≡ F (forest_of (take (i + 1) ts))
   one_left done ts i d left h k e =
       rw (add-one, take-suc ts i d h, forest_of-append (take i ts) (get_or ts i d ∷ []), over (forest_of (take i ts)) (forest_of (get_or ts i d ∷ [])), e, ← k, forest_of-append done (left ∷ [])) refl
 
-  pub none_left : (done ts : List (Rose A)) (i : ℕ) (d : Rose A) → i < length ts → forest_of done ≡ F (forest_of (take i ts))
+  none_left : (done ts : List (Rose A)) (i : ℕ) (d : Rose A) → i < length ts
+      → forest_of done ≡ F (forest_of (take i ts))
       → F (tree (get_or ts i d).root (get_or ts i d).below empty) ≡ empty
       → forest_of done ≡ F (forest_of (take (i + 1) ts))
   none_left done ts i d h k e =
       rw (add-one, take-suc ts i d h, forest_of-append (take i ts) (get_or ts i d ∷ []), over (forest_of (take i ts)) (forest_of (get_or ts i d ∷ [])), e, ← k) (sym (append-empty (forest_of done)))
+
+-- ---- trees that are gone through one after another, those that are left moved to the front
+
+module _ {A : Type 0} where
+  -- how the trees stand after i of them, where P holds of those that are left and those that were there
+  abbrev pub MovedToFront : (List (Rose A) → List (Rose A) → Type 0) → List (Rose A) → List (Rose A) → ℕ → ℕ → Type 0
+  MovedToFront P all ts count i = record {
+    at_most : count ≤ i;
+    front : P (take count ts) (take i all);
+    rest : drop i ts ≡ drop i all;
+  }
+
+  pub moved_next : (P : List (Rose A) → List (Rose A) → Type 0) (all ts : List (Rose A)) (count i : ℕ) (d : Rose A)
+      → MovedToFront P all ts count i → i < length ts → i < length all
+      → P (take count ts ++ (get_or all i d ∷ [])) (take (i + 1) all)
+      → MovedToFront P all (swap ts count i) (count + 1) (i + 1)
+  moved_next P all ts count i d r m h p =
+      let le = r.at_most in
+      record {
+        at_most = omega arith;
+        front = rw (take-swap ts count i d le m, same_at ts all i d r.rest) p;
+        rest = drop-swap ts count i d le m ∙ same_after ts all i d m h r.rest;
+      }
+
+  pub passed_next : (P : List (Rose A) → List (Rose A) → Type 0) (all ts : List (Rose A)) (count i : ℕ) (d : Rose A)
+      → MovedToFront P all ts count i → i < length ts → i < length all → P (take count ts) (take (i + 1) all)
+      → MovedToFront P all ts count (i + 1)
+  passed_next P all ts count i d r m h p =
+      let le = r.at_most in
+      record { at_most = omega arith; front = p; rest = same_after ts all i d m h r.rest }
+
+-- ---- trees that are reduced one after another
+
+module _ {A : Type 0} (F : Forest A → Forest A) where
+  abbrev pub Reduced : List (Rose A) → List (Rose A) → ℕ → ℕ → Type 0
+  Reduced = MovedToFront (λ done seen. forest_of done ≡ F (forest_of seen))
+
+module _ {A : Type 0} where
+  -- the next tree has fewer nodes below its root than all of them
+  pub fewer_in_next : (all ts : List (Rose A)) (i : ℕ) (d : Rose A) → drop i ts ≡ drop i all → i < length all
+      → node_count (get_or ts i d).below < node_count (forest_of all)
+  fewer_in_next all ts i d e h = rw (same_at ts all i d e) (fewer_nodes all i d h)
+
+  rest-set : (all ts : List (Rose A)) (i : ℕ) (d new : Rose A) → i < length ts → i < length all
+      → drop i ts ≡ drop i all → drop (i + 1) (set ts i new) ≡ drop (i + 1) all
+  rest-set all ts i d new m h e =
+      let past : i < i + 1 = omega arith in
+      drop-set-lt (i + 1) ts i new past ∙ same_after ts all i d m h e
+
+module _ {A : Type 0} (F : Forest A → Forest A) (over : (f g : Forest A) → F (f ⊹ g) ≡ (F f ⊹ F g)) where
+  pub next_left : (all ts : List (Rose A)) (count i : ℕ) (d new : Rose A) → Reduced F all ts count i
+      → i < length ts → i < length all
+      → F (tree (get_or ts i d).root (get_or ts i d).below empty) ≡ tree new.root new.below empty
+      → Reduced F all (swap (set ts i new) count i) (count + 1) (i + 1)
+  next_left all ts count i d new r m h e =
+      let one = set ts i new in
+      let k : i < length one = simp length-set m in
+      let le = r.at_most in
+      record {
+        at_most = omega arith;
+        front = rw (take-swap one count i d le k, take-set-le count ts i new le, get_or-set_same ts i new d m)
+            (one_left F over (take count ts) all i d new h r.front (rw (← same_at ts all i d r.rest) e));
+        rest = drop-swap one count i d le k ∙ rest-set all ts i d new m h r.rest;
+      }
+
+  pub next_gone : (all ts : List (Rose A)) (count i : ℕ) (d new : Rose A) → Reduced F all ts count i
+      → i < length ts → i < length all → F (tree (get_or ts i d).root (get_or ts i d).below empty) ≡ empty
+      → Reduced F all (set ts i new) count (i + 1)
+  next_gone all ts count i d new r m h e =
+      let le = r.at_most in
+      record {
+        at_most = omega arith;
+        front = rw (take-set-le count ts i new le)
+            (none_left F over (take count ts) all i d h r.front (rw (← same_at ts all i d r.rest) e));
+        rest = rest-set all ts i d new m h r.rest;
+      }
 
 -- ---- pruning
 

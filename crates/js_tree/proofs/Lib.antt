@@ -28,6 +28,7 @@ pub mod MergedTree
 pub mod MergedUnits
 pub mod MovesAreSteps
 pub mod Nested
+pub mod NextRows
 pub mod NodeTexts
 pub mod NotedRows
 pub mod OpeningKept

@@ -1,5 +1,7 @@
 -- The units with a note, of a tree and of its rows.
 use Rattle.std.proofs.Common.{◌≡◌, Bool, true, false, if◌then◌else◌, List, [], ◌∷◌, ◌++◌, ℕ, ◌+◌, ◌<◌, ◌≤◌, length, drop, get_or, map, refl, ap, sym, ◌∙◌}
+use Rattle.js_doc.specs.Compact.{compact}
+use Rattle.js_doc.specs.Value.{items, list}
 use Rattle.js_tree.specs.Flat.{flat_form, flat_of}
 use Rattle.js_tree.specs.FlatState.{FlatRow, noted_of}
 use Rattle.js_tree.specs.Form.{node_value}
@@ -7,7 +9,9 @@ use Rattle.js_tree.specs.Forest.{Forest, empty, tree}
 use Rattle.js_tree.specs.OutputUnit.{OutputUnit, noted}
 use Rattle.js_tree.specs.Result.{ResultTree, kept, units}
 use Rattle.js_tree.specs.Units.{units_below}
+use Rattle.js_tree.specs.code.NodeText.{list_start, valid_text}
 use Rattle.js_tree.proofs.KeptTree.{units-kept}
+use Rattle.js_tree.proofs.NodeTexts.{list_text_is, units_value}
 use Rattle.js_tree.proofs.Pieces.{seen_next, seen_all}
 
 first : (b : Bool) (u : OutputUnit) (us vs : List OutputUnit) → (if b then u ∷ (us ++ vs) else (us ++ vs)) ≡ (if b then u ∷ us else us) ++ vs
@@ -25,6 +29,15 @@ noted_of-flat_of (tree u below after) =
 
 pub noted_of-flat_form : (t : ResultTree) → noted_of (flat_form t) ≡ units t
 noted_of-flat_form t = rw (noted_of-flat_of t.below) refl
+
+-- the text of the list of units, in the pieces in which it is written from rows
+pub units_in_parts : (rows : List FlatRow) (t : ResultTree) (valid : Bool) → rows ≡ flat_form t → valid ≡ t.root.valid
+    → list_start valid ++ (compact (list (items (map (λ u. node_value u []) (noted_of rows)))) ++ valid_text valid)
+    ≡ compact (units_value t.root.valid (units t))
+units_in_parts rows t valid e v =
+    list_text_is valid (list (items (map (λ u. node_value u []) (noted_of rows))))
+    ∙ (ap (λ us. compact (units_value valid us)) (ap noted_of e ∙ noted_of-flat_form t)
+    ∙ ap (λ b. compact (units_value b (units t))) v)
 
 -- condensing leaves the units
 pub noted_of-condensed : (old new : List FlatRow) (t : ResultTree) → old ≡ flat_form t → new ≡ flat_form (kept t) → noted_of new ≡ noted_of old

@@ -6,16 +6,14 @@ use Rattle.js_tree.proofs.collecting.nesting.ends_after.Goals as goal
 
 pub overflow_add-next : goal.overflow_add-next
 overflow_add-next c =
-    let l = c.loop-left in
-    let g = l.invariant.1 c.requires.trees.0 c.requires.trees.1 in
-    let t = first_tree row_of c.args.rows.now l.next g.0 c.index-rows-next.result g.1 (omega arith) c.index-rows-next.is in
+    let g = c.loop-left.invariant.1 c.requires.trees.0 c.requires.trees.1 in
+    let t = first_tree row_of c.args.rows.now c.loop-left.next _ _ g.1 (omega arith) c.index-rows-next.is in
     omega (arith, t.fits)
 
 pub loop-left-smaller : goal.loop-left-smaller
 loop-left-smaller c =
-    let l = c.loop-left in
-    let g = l.invariant.1 c.requires.trees.0 c.requires.trees.1 in
-    let t = first_tree row_of c.args.rows.now l.next g.0 c.index-rows-next.result g.1 (omega arith) c.index-rows-next.is in
+    let g = c.loop-left.invariant.1 c.requires.trees.0 c.requires.trees.1 in
+    let t = first_tree row_of c.args.rows.now c.loop-left.next _ _ g.1 (omega arith) c.index-rows-next.is in
     omega (arith, t.size)
 
 pub loop-left-preserved : goal.loop-left-preserved

@@ -1,7 +1,8 @@
-use Rattle.std.proofs.Common.{◌≡◌, ◌≤◌, ◌+◌, ◌*◌, take, drop}
+use Rattle.std.proofs.Common.{◌+◌, ◌*◌}
 use Rattle.js_tree.specs.Forest.{forest_of, node_count}
 use Rattle.js_tree.specs.Kept.{kept_below}
 use Rattle.js_tree.specs.OutputUnit.{noted}
+use Rattle.js_tree.proofs.Compaction.{Reduced}
 use Rattle.js_tree.proofs.reducing.condensing.+condense.Given as goal
 
 abbrev pub decreases-condense_one : goal.decreases-condense_one
@@ -14,8 +15,4 @@ abbrev pub decreases-condense_all : goal.decreases-condense_all
 decreases-condense_all l = 3 * node_count (forest_of l.trees.now)
 
 abbrev pub invariant-condense_all-loop-i : goal.invariant-condense_all-loop-i
-invariant-condense_all-loop-i l = record {
-  at_most : l.count ≤ l.i;
-  kept : forest_of (take l.count l.trees) ≡ kept_below noted (forest_of (take l.i l.initial.trees));
-  rest : drop l.i l.trees ≡ drop l.i l.initial.trees;
-}
+invariant-condense_all-loop-i l = Reduced (kept_below noted) l.initial.trees l.trees l.count l.i

@@ -1,46 +1,27 @@
-use Rattle.std.proofs.Common.{◌≡◌, ◌∙◌, length, arith, take, drop, get_or, set, ◌+◌, ◌<◌, length-set}
-use Rattle.std.proofs.lemmas.List.{take-set-le, drop-set-lt, get_or-set_same}
-use Rattle.js_tree.specs.Forest.{node_count, forest_of}
+use Rattle.std.proofs.Common.{length, arith, ◌<◌}
 use Rattle.js_tree.specs.Pruned.{pruned_below}
 use Rattle.js_tree.specs.Result.{has_verdict}
-use Rattle.js_tree.proofs.Forests.{fewer_nodes, same_at, same_after}
-use Rattle.js_tree.proofs.Compaction.{take-swap, drop-swap, one_left, none_left, pruned_below-append}
+use Rattle.js_tree.proofs.Compaction.{fewer_in_next, next_left, next_gone, pruned_below-append}
 use Rattle.js_tree.proofs.reducing.pruning.+prune.Goals as goal
 use Rattle.js_tree.proofs.reducing.pruning.+prune.Goals.{prune_all-then-prune_one, prune_all-else-prune_one}
 
 pub prune_all-prune_one-requires : goal.prune_all-prune_one-requires
 prune_all-prune_one-requires t c =
-    let e = same_at c.loop-i.trees c.args.trees.now c.loop-i.i c.index-trees-i.result c.loop-i.invariant.rest in
     let h : c.loop-i.i < length c.args.trees.now = omega arith in
-    let b : node_count (get_or c.loop-i.trees c.loop-i.i c.index-trees-i.result).below < node_count (forest_of c.args.trees.now) = rw e (fewer_nodes c.args.trees.now c.loop-i.i c.index-trees-i.result h) in
-    (omega (arith, b, c.decreases), tt)
+    (omega (arith, fewer_in_next _ _ _ c.index-trees-i.result c.loop-i.invariant.rest h, c.decreases), tt)
 
 pub prune_all-loop-i-preserved : goal.prune_all-loop-i-preserved
 prune_all-loop-i-preserved t c =
-    let d = c.index-trees-i.result in
-    let new = c.prune_one.new.tree in
-    let one = set c.loop-i.trees c.loop-i.i new in
-    let same = same_at c.loop-i.trees c.args.trees.now c.loop-i.i d c.loop-i.invariant.rest in
-    let h : c.loop-i.i < length c.args.trees.now = omega arith in
-    let m : c.loop-i.i < length c.loop-i.trees = omega arith in
-    let k : c.loop-i.i < length one = simp length-set m in
-    let le = c.loop-i.invariant.at_most in
-    let past : c.loop-i.i < c.loop-i.i + 1 = omega arith in
-    let rest : drop (c.loop-i.i + 1) one ≡ drop (c.loop-i.i + 1) c.args.trees.now =
-    drop-set-lt (c.loop-i.i + 1) c.loop-i.trees c.loop-i.i new past ∙ same_after c.loop-i.trees c.args.trees.now c.loop-i.i d m h c.loop-i.invariant.rest in
-    let front : take c.loop-i.count one ≡ take c.loop-i.count c.loop-i.trees = take-set-le c.loop-i.count c.loop-i.trees c.loop-i.i new le in
+    let l = c.loop-i in
+    let m : l.i < length l.trees = omega arith in
+    let h : l.i < length c.args.trees.now = omega arith in
     elim c.if-prune_one.branch [
       | prune_all-then-prune_one w ↦
-          record {
-            at_most = omega arith;
-            pruned = rw (w.trees-is, w.swap.ensures.after, w.count-is, take-swap one c.loop-i.count c.loop-i.i d le k, front, get_or-set_same c.loop-i.trees c.loop-i.i new d m)
-                (one_left (pruned_below (has_verdict c.args.verdict)) (pruned_below-append (has_verdict c.args.verdict)) (take c.loop-i.count c.loop-i.trees) c.args.trees.now c.loop-i.i d new h c.loop-i.invariant.pruned (rw (← same) w.if-prune_one.ensures));
-            rest = rw (w.trees-is, w.swap.ensures.after) (drop-swap one c.loop-i.count c.loop-i.i d le k ∙ rest);
-          }
+          rw (w.trees-is, w.swap.ensures.after, w.count-is)
+          (next_left (pruned_below (has_verdict c.args.verdict)) (pruned_below-append (has_verdict c.args.verdict))
+          _ _ _ _ _ _ l.invariant m h w.if-prune_one.ensures)
       | prune_all-else-prune_one w ↦
-          record {
-            at_most = omega arith;
-            pruned = rw (w.trees-is, w.count-is, front) (none_left (pruned_below (has_verdict c.args.verdict)) (pruned_below-append (has_verdict c.args.verdict)) (take c.loop-i.count c.loop-i.trees) c.args.trees.now c.loop-i.i d h c.loop-i.invariant.pruned (rw (← same) w.if-prune_one.ensures));
-            rest = rw w.trees-is rest;
-          }
+          rw (w.trees-is, w.count-is)
+          (next_gone (pruned_below (has_verdict c.args.verdict)) (pruned_below-append (has_verdict c.args.verdict))
+          _ _ _ _ _ _ l.invariant m h w.if-prune_one.ensures)
     ]

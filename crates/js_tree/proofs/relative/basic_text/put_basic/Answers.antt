@@ -1,10 +1,8 @@
-use Rattle.std.proofs.Common.{◌++◌, [], codes, false, ap, sym, subst}
+use Rattle.std.proofs.Common.{[], ap, sym, subst}
 use Rattle.js_doc.specs.BytesOut.{Puts}
 use Rattle.js_tree.specs.Locations.{HasRoom}
 use Rattle.js_tree.specs.Marks.{whole_of}
 use Rattle.js_tree.specs.Relative.{escaped_tree, relative_tree}
-use Rattle.js_tree.specs.code.NodeText.{list_start, valid_text}
-use Rattle.js_tree.specs.code.Listing.{listed, values_text}
 use Rattle.js_tree.proofs.EscapedRows.{at_root, still_at}
 use Rattle.js_tree.proofs.FlatRows.{root_row}
 use Rattle.js_tree.proofs.ListedRows.{basic_in_parts, whole_rows, whole_rows_of}
@@ -17,15 +15,11 @@ pub returns-in_err-put_list_start : goal.returns-in_err-put_list_start
 returns-in_err-put_list_start g c =
     λ t h.
     let o = g.O.Out.progress in
-    let v = c.index-rows-0.result.valid in
-    let is = c.as_slice-rows.ensures.value in
-    let v_is = ap (λ u. u.valid) (root_row relative_row c.as_slice-rows.result.now (escaped_tree (relative_tree t)) c.index-rows-0.result (whole_rows c.args.rows.now t c.as_slice-rows.result.now is h) c.index-rows-0.is) in
-    let p1 = list_start v ++ codes "[" in
-    let p2 = values_text false (listed v [] [] (whole_of t)) in
-    let p3 = codes "]" ++ valid_text v in
-    let r = c.from_residual.result in
-    subst (λ l. Puts (o c.args.out.now) (o c.put_list_start.new.out) l r) (basic_in_parts c.args.rows.now t v h v_is)
-    (stops_in (o c.args.out.now) (o c.put_list_start.new.out) p1 (p2 ++ p3) r c.from_residual.ensures.0 c.in_err-put_list_start.ensures)
+    let rows = whole_rows c.args.rows.now t _ c.as_slice-rows.ensures.value h in
+    let v_is = ap (λ u. u.valid) (root_row relative_row _ (escaped_tree (relative_tree t)) _ rows c.index-rows-0.is) in
+    subst (λ l. Puts (o c.args.out.now) (o c.put_list_start.new.out) l c.from_residual.result)
+    (basic_in_parts c.args.rows.now t c.index-rows-0.result.valid h v_is)
+    (stops_in _ _ _ _ _ c.from_residual.ensures.0 c.in_err-put_list_start.ensures)
 
 pub put_trees-requires : goal.put_trees-requires
 put_trees-requires g c =
@@ -38,33 +32,29 @@ pub returns-in_err-put_trees : goal.returns-in_err-put_trees
 returns-in_err-put_trees g c =
     λ t h.
     let o = g.O.Out.progress in
-    let root = still_at c.args.locations c.take_gathered-gathered.new.self [] [] (at_root c.args.locations c.args.rows.now c.requires.room) c.take_gathered-gathered.ensures in
-    let v = c.index-rows-0.result.valid in
-    let is = c.as_slice-rows.ensures.value in
-    let v_is = ap (λ u. u.valid) (root_row relative_row c.as_slice-rows.result.now (escaped_tree (relative_tree t)) c.index-rows-0.result (whole_rows c.args.rows.now t c.as_slice-rows.result.now is h) c.index-rows-0.is) in
-    let p1 = list_start v ++ codes "[" in
-    let p2 = values_text false (listed v [] [] (whole_of t)) in
-    let p3 = codes "]" ++ valid_text v in
-    let r = c.from_residual-in_err-put_trees.result in
-    let rows_are = whole_rows_of c.args.rows.now t c.as_slice-rows.result.now is h in
-    subst (λ l. Puts (o c.args.out.now) (o c.put_trees.new.out) l r) (basic_in_parts c.args.rows.now t v h v_is)
-    (then_puts (o c.args.out.now) (o c.put_list_start.new.out) (o c.put_trees.new.out) p1 (p2 ++ p3) r c.in_ok-put_list_start.ensures
-    (stops_in (o c.put_list_start.new.out) (o c.put_trees.new.out) p2 p3 r c.from_residual-in_err-put_trees.ensures.0 (c.in_err-put_trees.ensures.listed (whole_of t) [] [] root rows_are)))
+    let root =
+    still_at _ _ [] [] (at_root c.args.locations c.args.rows.now c.requires.room) c.take_gathered-gathered.ensures in
+    let rows = whole_rows c.args.rows.now t _ c.as_slice-rows.ensures.value h in
+    let v_is = ap (λ u. u.valid) (root_row relative_row _ (escaped_tree (relative_tree t)) _ rows c.index-rows-0.is) in
+    subst (λ l. Puts (o c.args.out.now) (o c.put_trees.new.out) l c.from_residual-in_err-put_trees.result)
+    (basic_in_parts c.args.rows.now t c.index-rows-0.result.valid h v_is)
+    (then_puts _ _ _ _ _ _ c.in_ok-put_list_start.ensures
+    (stops_in _ _ _ _ _ c.from_residual-in_err-put_trees.ensures.0
+    (c.in_err-put_trees.ensures.listed (whole_of t) [] [] root
+    (whole_rows_of c.args.rows.now t _ c.as_slice-rows.ensures.value h))))
 
 pub returns : goal.returns
 returns g c =
     λ t h.
     let o = g.O.Out.progress in
-    let root = still_at c.args.locations c.take_gathered-gathered.new.self [] [] (at_root c.args.locations c.args.rows.now c.requires.room) c.take_gathered-gathered.ensures in
-    let v = c.index-rows-0.result.valid in
-    let is = c.as_slice-rows.ensures.value in
-    let v_is = ap (λ u. u.valid) (root_row relative_row c.as_slice-rows.result.now (escaped_tree (relative_tree t)) c.index-rows-0.result (whole_rows c.args.rows.now t c.as_slice-rows.result.now is h) c.index-rows-0.is) in
-    let p1 = list_start v ++ codes "[" in
-    let p2 = values_text false (listed v [] [] (whole_of t)) in
-    let p3 = codes "]" ++ valid_text v in
-    let r = c.put_list_end.result in
-    let rows_are = whole_rows_of c.args.rows.now t c.as_slice-rows.result.now is h in
-    let all = c.in_ok-put_trees.ensures.listed (whole_of t) [] [] root rows_are in
-    subst (λ l. Puts (o c.args.out.now) (o c.put_list_end.new.out) l r) (basic_in_parts c.args.rows.now t v h v_is)
-    (then_puts (o c.args.out.now) (o c.put_list_start.new.out) (o c.put_list_end.new.out) p1 (p2 ++ p3) r c.in_ok-put_list_start.ensures
-    (then_puts (o c.put_list_start.new.out) (o c.put_trees.new.out) (o c.put_list_end.new.out) p2 p3 r all.goes c.put_list_end.ensures))
+    let root =
+    still_at _ _ [] [] (at_root c.args.locations c.args.rows.now c.requires.room) c.take_gathered-gathered.ensures in
+    let rows = whole_rows c.args.rows.now t _ c.as_slice-rows.ensures.value h in
+    let v_is = ap (λ u. u.valid) (root_row relative_row _ (escaped_tree (relative_tree t)) _ rows c.index-rows-0.is) in
+    subst (λ l. Puts (o c.args.out.now) (o c.put_list_end.new.out) l c.put_list_end.result)
+    (basic_in_parts c.args.rows.now t c.index-rows-0.result.valid h v_is)
+    (then_puts _ _ _ _ _ _ c.in_ok-put_list_start.ensures
+    (then_puts _ _ _ _ _ _
+    (c.in_ok-put_trees.ensures.listed (whole_of t) [] [] root
+    (whole_rows_of c.args.rows.now t _ c.as_slice-rows.ensures.value h)).goes
+    c.put_list_end.ensures))

@@ -5,26 +5,19 @@ use Rattle.js_tree.proofs.relative.differing.pairs_differ.Goals as goal
 
 pub overflow_add-next : goal.overflow_add-next
 overflow_add-next c =
-    let l = c.loop-next in
-    let x = c.index-rows-first.result in
-    let w = l.invariant c.requires.0 c.requires.1 in
-    let t = tree_there c.args.rows.now l.next x w c.loop-next-test.true c.index-rows-first.is in
-    omega (arith, t.fits)
+    let w = c.loop-next.invariant c.requires.0 c.requires.1 in
+    omega (arith, (tree_there _ _ _ w c.loop-next-test.true c.index-rows-first.is).fits)
 
 pub loop-next-smaller : goal.loop-next-smaller
 loop-next-smaller c =
-    let l = c.loop-next in
-    let x = c.index-rows-first.result in
-    let w = l.invariant c.requires.0 c.requires.1 in
-    let t = tree_there c.args.rows.now l.next x w c.loop-next-test.true c.index-rows-first.is in
+    let w = c.loop-next.invariant c.requires.0 c.requires.1 in
+    let t = tree_there _ _ _ w c.loop-next-test.true c.index-rows-first.is in
     omega (arith, t.size, t.fits)
 
 pub stands_alone-requires : goal.stands_alone-requires
 stands_alone-requires c =
-    let l = c.loop-next in
-    let x = c.index-rows-first.result in
-    let w = l.invariant c.requires.0 c.requires.1 in
-    let t = tree_there c.args.rows.now l.next x w c.loop-next-test.true c.index-rows-first.is in
+    let w = c.loop-next.invariant c.requires.0 c.requires.1 in
+    let t = tree_there _ _ _ w c.loop-next-test.true c.index-rows-first.is in
     (t.after, t.more)
 
 pub loop-next-preserved : goal.loop-next-preserved
@@ -33,13 +26,11 @@ loop-next-preserved c =
     let l = c.loop-next in
     let x = c.index-rows-first.result in
     let w = l.invariant f e in
-    let t = tree_there c.args.rows.now l.next x w c.loop-next-test.true c.index-rows-first.is in
+    let t = tree_there _ _ _ w c.loop-next-test.true c.index-rows-first.is in
     let alone = c.stands_alone.ensures t.after t.more c.if-not-stands_alone.false in
-    see_next c.args.rows.now l.next x w t
-    (pairs_step (relative_row x).0 t.unit t.below t.after t.unit_is alone)
+    see_next _ _ _ w t (pairs_step (relative_row x).0 t.unit t.below t.after t.unit_is alone)
 
 pub returns : goal.returns
 returns c =
     λ f e i.
-    let l = c.loop-next in
-    see_end c.args.rows.now l.next (l.invariant f e) (omega (arith, c.loop-next-test.false)) refl
+    see_end _ _ (c.loop-next.invariant f e) (omega (arith, c.loop-next-test.false)) refl

@@ -13,45 +13,29 @@ use Rattle.js_tree.proofs.relative.keeping.+keep_trees.Goals as goal
 
 pub keep_below-keep_trees-requires : goal.keep_below-keep_trees-requires
 keep_below-keep_trees-requires t c =
-    let rows = c.args.rows.now in
-    let marks = c.args.marks.now in
-    let v = c.requires.0 in
-    let u = c.requires.1 in
-    let below = c.requires.2 in
     let h = c.requires.3 in
-    let some = some_row rows (escaped_tree (record { root = u; below = below })) (flat_rows rows marks v u below h) in
-    (omega (arith, fewer_below rows some, c.decreases), (v, below, marked_below rows marks v u below h))
+    let some = some_row c.args.rows.now (escaped_tree _) (flat_rows _ _ _ _ _ h) in
+    (omega (arith, fewer_below _ some, c.decreases), (c.requires.0, c.requires.2, marked_below _ _ _ _ _ h))
 
 pub keep_node-keep_trees-requires : goal.keep_node-keep_trees-requires
 keep_node-keep_trees-requires t c =
-    let rows = c.args.rows.now in
-    let marks = c.args.marks.now in
-    let v = c.requires.0 in
-    let u = c.requires.1 in
-    let below = c.requires.2 in
     let h = c.requires.3 in
-    let some = some_row rows (escaped_tree (record { root = u; below = below })) (flat_rows rows marks v u below h) in
+    let some = some_row c.args.rows.now (escaped_tree _) (flat_rows _ _ _ _ _ h) in
     let x = c.add_row-2.new.row in
-    (omega (arith, fewer_set rows x some, c.decreases), (v, below, below_set rows x marks v u below h))
+    (omega (arith, fewer_set _ x some, c.decreases), (c.requires.0, c.requires.2, below_set _ x _ _ _ _ h))
 
 pub keep_node-overflow_sub-size : goal.keep_node-overflow_sub-size
 keep_node-overflow_sub-size t c =
-    let v = c.requires.0 in
-    let u = c.requires.1 in
-    let below = c.requires.2 in
-    let marked = below_set c.args.rows.now c.add_row-2.new.row c.args.marks.now v u below c.requires.3 in
-    let told = c.in_ok-keep_trees.ensures.rows v below [] [] (none_pending c.add_row-2.new.self c.end-end.result c.end-end.ensures) marked in
-    let count = so_many c.add_row-2.new.kept.items c.keep_trees.new.kept.items (kept_between v [] [] below) told in
+    let marked = below_set _ c.add_row-2.new.row _ _ _ _ c.requires.3 in
+    let told = c.in_ok-keep_trees.ensures.rows _ _ [] [] (none_pending _ _ c.end-end.ensures) marked in
+    let count = so_many _ c.keep_trees.new.kept.items (kept_between c.requires.0 [] [] c.requires.2) told in
     omega (arith, count, c.in_ok-add_row.ensures.count, c.len-number.ensures, c.len.ensures, c.args.kept.now.ok.0, c.keep_trees.new.kept.ok.0)
 
 pub keep_node-index_mut-row-requires : goal.keep_node-index_mut-row-requires
 keep_node-index_mut-row-requires t c =
-    let v = c.requires.0 in
-    let u = c.requires.1 in
-    let below = c.requires.2 in
-    let marked = below_set c.args.rows.now c.add_row-2.new.row c.args.marks.now v u below c.requires.3 in
-    let told = c.in_ok-keep_trees.ensures.rows v below [] [] (none_pending c.add_row-2.new.self c.end-end.result c.end-end.ensures) marked in
-    let count = so_many c.add_row-2.new.kept.items c.keep_trees.new.kept.items (kept_between v [] [] below) told in
+    let marked = below_set _ c.add_row-2.new.row _ _ _ _ c.requires.3 in
+    let told = c.in_ok-keep_trees.ensures.rows _ _ [] [] (none_pending _ _ c.end-end.ensures) marked in
+    let count = so_many _ c.keep_trees.new.kept.items (kept_between c.requires.0 [] [] c.requires.2) told in
     omega (arith, count, c.in_ok-add_row.ensures.count, c.len-number.ensures, c.args.kept.now.ok.0, c.keep_trees.new.kept.ok.0)
 
 pub keep_node-returns-then-count-eq1-clause-rows : goal.keep_node-returns-then-count-eq1-clause-rows
@@ -109,18 +93,16 @@ keep_trees-loop-next-init t c = (
 pub keep_trees-overflow_add-next : goal.keep_trees-overflow_add-next
 keep_trees-overflow_add-next t' c =
     let l = c.loop-next in
-    let x = slice_index_or l.rows l.next c.index-rows-first.result in
     let w = l.invariant.2 c.requires.0 c.requires.1 c.requires.2 in
-    let t = next_tree l.rows l.next w.0 x w.1 c.loop-next-test.true (ap (slice_index_or l.rows l.next) c.index-rows-first.is) in
-    omega (arith, t.fits)
+    let is = ap (slice_index_or l.rows l.next) c.index-rows-first.is in
+    omega (arith, (next_tree _ _ _ _ w.1 c.loop-next-test.true is).fits)
 
 pub keep_trees-slice_bounds-keep_tree-end : goal.keep_trees-slice_bounds-keep_tree-end
 keep_trees-slice_bounds-keep_tree-end t' c =
     let l = c.loop-next in
-    let x = slice_index_or l.rows l.next c.index-rows-first.result in
     let w = l.invariant.2 c.requires.0 c.requires.1 c.requires.2 in
-    let t = next_tree l.rows l.next w.0 x w.1 c.loop-next-test.true (ap (slice_index_or l.rows l.next) c.index-rows-first.is) in
-    t.fits
+    let is = ap (slice_index_or l.rows l.next) c.index-rows-first.is in
+    (next_tree _ _ _ _ w.1 c.loop-next-test.true is).fits
 
 pub keep_trees-slice_bounds-keep_tree-end-in-loop-next : goal.keep_trees-slice_bounds-keep_tree-end-in-loop-next
 keep_trees-slice_bounds-keep_tree-end-in-loop-next t' c =
@@ -141,11 +123,11 @@ keep_trees-keep_tree-requires t' c =
 pub keep_trees-loop-next-smaller : goal.keep_trees-loop-next-smaller
 keep_trees-loop-next-smaller t' c =
     let l = c.loop-next in
-    let x = slice_index_or l.rows l.next c.index-rows-first.result in
     let w = l.invariant.2 c.requires.0 c.requires.1 c.requires.2 in
-    let t = next_tree l.rows l.next w.0 x w.1 c.loop-next-test.true (ap (slice_index_or l.rows l.next) c.index-rows-first.is) in
-    let s = still_there l.rows l.next w.0 x c.keep_tree.new.rows t c.keep_tree.auto.rows in
-    omega (arith, s.count, t.size, t.fits)
+    let is = ap (slice_index_or l.rows l.next) c.index-rows-first.is in
+    let t = next_tree _ _ _ _ w.1 c.loop-next-test.true is in
+    let there = still_there _ _ _ _ c.keep_tree.new.rows t c.keep_tree.auto.rows in
+    omega (arith, there.count, t.size, t.fits)
 
 pub keep_trees-loop-next-preserved : goal.keep_trees-loop-next-preserved
 keep_trees-loop-next-preserved t' c =

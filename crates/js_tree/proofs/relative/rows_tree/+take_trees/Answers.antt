@@ -76,18 +76,16 @@ take_trees-loop-next-init t c = (
 pub take_trees-overflow_add-next : goal.take_trees-overflow_add-next
 take_trees-overflow_add-next t' c =
     let l = c.loop-next in
-    let x = slice_index_or l.rows l.next c.index-rows-first.result in
     let w = l.invariant.3 c.requires.0 c.requires.1 in
-    let t = next_tree l.rows l.next w.0 x w.1 c.loop-next-test.true (ap (slice_index_or l.rows l.next) c.index-rows-first.is) in
-    omega (arith, t.fits)
+    let is = ap (slice_index_or l.rows l.next) c.index-rows-first.is in
+    omega (arith, (next_tree _ _ _ _ w.1 c.loop-next-test.true is).fits)
 
 pub take_trees-slice_bounds-take_tree-end : goal.take_trees-slice_bounds-take_tree-end
 take_trees-slice_bounds-take_tree-end t' c =
     let l = c.loop-next in
-    let x = slice_index_or l.rows l.next c.index-rows-first.result in
     let w = l.invariant.3 c.requires.0 c.requires.1 in
-    let t = next_tree l.rows l.next w.0 x w.1 c.loop-next-test.true (ap (slice_index_or l.rows l.next) c.index-rows-first.is) in
-    t.fits
+    let is = ap (slice_index_or l.rows l.next) c.index-rows-first.is in
+    (next_tree _ _ _ _ w.1 c.loop-next-test.true is).fits
 
 pub take_trees-take_tree-requires : goal.take_trees-take_tree-requires
 take_trees-take_tree-requires t' c =
@@ -103,11 +101,11 @@ take_trees-take_tree-requires t' c =
 pub take_trees-loop-next-smaller : goal.take_trees-loop-next-smaller
 take_trees-loop-next-smaller t' c =
     let l = c.loop-next in
-    let x = slice_index_or l.rows l.next c.index-rows-first.result in
     let w = l.invariant.3 c.requires.0 c.requires.1 in
-    let t = next_tree l.rows l.next w.0 x w.1 c.loop-next-test.true (ap (slice_index_or l.rows l.next) c.index-rows-first.is) in
-    let s = still_there l.rows l.next w.0 x c.take_tree.new.rows t c.take_tree.auto.rows in
-    omega (arith, s.count, t.size, t.fits)
+    let is = ap (slice_index_or l.rows l.next) c.index-rows-first.is in
+    let t = next_tree _ _ _ _ w.1 c.loop-next-test.true is in
+    let there = still_there _ _ _ _ c.take_tree.new.rows t c.take_tree.auto.rows in
+    omega (arith, there.count, t.size, t.fits)
 
 pub take_trees-loop-next-preserved : goal.take_trees-loop-next-preserved
 take_trees-loop-next-preserved t' c =

@@ -1,9 +1,7 @@
-use Rattle.std.proofs.Common.{◌≡◌, ◌+◌, ◌-◌, ◌≤◌, ◌++◌, [], length, drop, take, map, true, false, ap, subst, ◌∙◌, arith}
-use Rattle.js_doc.specs.Compact.{comma_if, compact}
-use Rattle.js_tree.specs.Form.{node_values, verbose}
-use Rattle.js_tree.specs.Relative.{escaped_tree, placed, placed_tree}
+use Rattle.std.proofs.Common.{◌≡◌, ◌+◌, ◌-◌, ◌++◌, false, length, map, ap, subst, ◌∙◌, arith}
+use Rattle.js_tree.specs.Form.{node_values}
+use Rattle.js_tree.specs.Relative.{escaped_tree, placed}
 use Rattle.js_tree.specs.RelativeState.{relative_row}
-use Rattle.js_tree.specs.Result.{ResultTree}
 use Rattle.js_tree.specs.code.Gathering.{GathersOrStops, Gathers}
 use Rattle.js_tree.specs.code.Listing.{values_text}
 use Rattle.js_tree.specs.code.RelativeText.{after_children, before_children, unit_there}
@@ -12,6 +10,7 @@ use Rattle.js_tree.proofs.EscapedRows.{at_below, is_absolute, next_tree, no_tree
 use Rattle.js_tree.proofs.FlatRows.{root_row, rows_below, shorter}
 use Rattle.js_tree.proofs.Gathering.{all_passed, none_passed, one_passed, pass_stops, same_to_pass, stopped_in, stopped_last, then_passed}
 use Rattle.js_tree.proofs.Nested.{is_none, not_none}
+use Rattle.js_tree.proofs.NextRows.{slice_of_next}
 use Rattle.js_tree.proofs.RelativeTexts.{back_again, parent_pieces, root_there, room_for_part, stays_there, tree_next, without_trees}
 use Rattle.js_tree.proofs.relative.verbose_text.+put_tree.Goals as goal
 
@@ -117,105 +116,63 @@ put_trees-loop-next-init g t c = (omega arith, stays_there c.args.locations.now,
 
 pub put_trees-overflow_add-next : goal.put_trees-overflow_add-next
 put_trees-overflow_add-next g t c =
-    let l = c.loop-next in
-    let rows = c.args.rows.now in
-    let x = c.index-rows-first.result in
-    let w = l.invariant.2 c.requires.0 c.requires.1 in
-    let t = next_tree rows l.next w.0 x w.1 c.loop-next-test.true c.index-rows-first.is in
-    omega (arith, t.fits)
+    let w = c.loop-next.invariant.2 c.requires.0 c.requires.1 in
+    omega (arith, (next_tree _ _ _ _ w.1 c.loop-next-test.true c.index-rows-first.is).fits)
 
 pub put_trees-slice_bounds-put_tree-end : goal.put_trees-slice_bounds-put_tree-end
 put_trees-slice_bounds-put_tree-end g t c =
-    let l = c.loop-next in
-    let rows = c.args.rows.now in
-    let x = c.index-rows-first.result in
-    let w = l.invariant.2 c.requires.0 c.requires.1 in
-    let t = next_tree rows l.next w.0 x w.1 c.loop-next-test.true c.index-rows-first.is in
-    t.fits
+    let w = c.loop-next.invariant.2 c.requires.0 c.requires.1 in
+    (next_tree _ _ _ _ w.1 c.loop-next-test.true c.index-rows-first.is).fits
 
 pub put_trees-put_tree-requires : goal.put_trees-put_tree-requires
 put_trees-put_tree-requires g t c κs within =
     let l = c.loop-next in
-    let rows = c.args.rows.now in
-    let x = c.index-rows-first.result in
     let w = l.invariant.2 c.requires.0 c.requires.1 in
-    let t = next_tree rows l.next w.0 x w.1 c.loop-next-test.true c.index-rows-first.is in
-    let one : ResultTree = record { root = t.unit; below = t.below } in
-    let size : l.next + x.size - l.next ≡ x.size = omega arith in
-    let all_is = ap (λ n. map relative_row (take n (drop l.next rows))) size ∙ t.all in
-    let few : length (take (l.next + x.size - l.next) (drop l.next rows)) ≤ length rows = shorter (l.next + x.size - l.next) l.next rows in
-    let room = room_for_part c.args.locations.now l.locations rows l.next (l.next + x.size - l.next) c.requires.2 l.invariant.1 in
-    (omega (arith, few, c.decreases), (within, (one, all_is, room)))
+    let t = next_tree _ _ _ _ w.1 c.loop-next-test.true c.index-rows-first.is in
+    let room = room_for_part _ l.locations c.args.rows.now l.next _ c.requires.2 l.invariant.1 in
+    let few = shorter (l.next + c.index-rows-first.result.size - l.next) l.next c.args.rows.now in
+    (omega (arith, few, c.decreases), (within, (_, slice_of_next _ _ _ _ t, room)))
 
 pub put_trees-loop-next-smaller : goal.put_trees-loop-next-smaller
 put_trees-loop-next-smaller g t c =
-    let l = c.loop-next in
-    let rows = c.args.rows.now in
-    let x = c.index-rows-first.result in
-    let w = l.invariant.2 c.requires.0 c.requires.1 in
-    let t = next_tree rows l.next w.0 x w.1 c.loop-next-test.true c.index-rows-first.is in
+    let w = c.loop-next.invariant.2 c.requires.0 c.requires.1 in
+    let t = next_tree _ _ _ _ w.1 c.loop-next-test.true c.index-rows-first.is in
     omega (arith, t.size, t.fits)
 
 pub put_trees-returns-in_err-put_tree-clause-text : goal.put_trees-returns-in_err-put_tree-clause-text
 put_trees-returns-in_err-put_tree-clause-text g t c =
     λ f k i at e.
     let l = c.loop-next in
-    let rows = c.args.rows.now in
-    let x = c.index-rows-first.result in
-    let o = g.O.Out.progress in
-    let all = values_text false (node_values (placed k i f)) in
     let w = l.invariant.2 f e in
-    let t = next_tree rows l.next w.0 x w.1 c.loop-next-test.true c.index-rows-first.is in
-    let one : ResultTree = record { root = t.unit; below = t.below } in
-    let size : l.next + x.size - l.next ≡ x.size = omega arith in
-    let all_is = ap (λ n. map relative_row (take n (drop l.next rows))) size ∙ t.all in
-    let text = comma_if l.later ++ compact (verbose (placed_tree k i one)) in
-    let there = still_at c.args.locations.now l.locations k i at l.invariant.1 in
-    let left = values_text true (node_values (placed k i t.after)) in
-    let p = c.args.gathered.now.text.items in
-    let q = l.gathered.text.items in
-    let next = tree_next (o c.args.out.now) (o l.out) p q l.later k i w.0 t.unit t.below t.after all (w.2 k i at) t.is in
-    pass_stops (o c.args.out.now) (o l.out) (o c.put_tree.new.out) p q c.put_tree.new.gathered.text.items text left all c.from_residual.result c.from_residual.ensures.0 next (c.in_err-put_tree.ensures.text one k i there all_is)
+    let t = next_tree _ _ _ _ w.1 c.loop-next-test.true c.index-rows-first.is in
+    let there = still_at _ _ k i at l.invariant.1 in
+    let next = tree_next _ _ _ _ l.later k i _ t.unit t.below t.after _ (w.2 k i at) t.is in
+    pass_stops _ _ _ _ _ _ _ _ _ _ c.from_residual.ensures.0 next
+    (c.in_err-put_tree.ensures.text _ k i there (slice_of_next _ _ _ _ t))
 
 pub put_trees-loop-next-preserved : goal.put_trees-loop-next-preserved
 put_trees-loop-next-preserved g t c =
     let l = c.loop-next in
-    let rows = c.args.rows.now in
-    let x = c.index-rows-first.result in
-    let w = l.invariant.2 c.requires.0 c.requires.1 in
-    let t0 = next_tree rows l.next w.0 x w.1 c.loop-next-test.true c.index-rows-first.is in (
-      omega (arith, t0.fits),
+    let w = l.invariant.2 c.requires.0 c.requires.1 in (
+      omega (arith, (next_tree _ _ _ _ w.1 c.loop-next-test.true c.index-rows-first.is).fits),
       back_again c.args.locations.now l.locations c.put_tree.new.locations l.invariant.1 c.in_ok-put_tree.ensures.back,
       λ f e.
           let w = l.invariant.2 f e in
-          let t = next_tree rows l.next w.0 x w.1 c.loop-next-test.true c.index-rows-first.is in
-          let one : ResultTree = record { root = t.unit; below = t.below } in
-          let size : l.next + x.size - l.next ≡ x.size = omega arith in
-          let all_is = ap (λ n. map relative_row (take n (drop l.next rows))) size ∙ t.all in (
+          let t = next_tree _ _ _ _ w.1 c.loop-next-test.true c.index-rows-first.is in (
             t.after,
             t.more,
             λ k i at.
-                let o = g.O.Out.progress in
-                let all = values_text false (node_values (placed k i f)) in
-                let text = comma_if l.later ++ compact (verbose (placed_tree k i one)) in
-                let there = still_at c.args.locations.now l.locations k i at l.invariant.1 in
-                let left = values_text true (node_values (placed k i t.after)) in
-                let p = c.args.gathered.now.text.items in
-                let q = l.gathered.text.items in
-                let next = tree_next (o c.args.out.now) (o l.out) p q l.later k i w.0 t.unit t.below t.after all (w.2 k i at) t.is in
-                one_passed (o c.args.out.now) (o l.out) (o c.put_tree.new.out) p q c.put_tree.new.gathered.text.items text left all next (c.in_ok-put_tree.ensures.text one k i there all_is),
+                let there = still_at _ _ k i at l.invariant.1 in
+                let next = tree_next _ _ _ _ l.later k i _ t.unit t.below t.after _ (w.2 k i at) t.is in
+                one_passed _ _ _ _ _ _ _ _ _ next (c.in_ok-put_tree.ensures.text _ k i there (slice_of_next _ _ _ _ t)),
           ),
     )
 
 pub put_trees-returns-clause-text : goal.put_trees-returns-clause-text
 put_trees-returns-clause-text g t c =
     λ f k i at e.
-    let o = g.O.Out.progress in
     let l = c.loop-next in
-    let rows = c.args.rows.now in
-    let all = values_text false (node_values (placed k i f)) in
     let w = l.invariant.2 f e in
-    let none = no_trees rows l.next w.0 w.1 (omega (arith, c.loop-next-test.false)) in
-    let p = c.args.gathered.now.text.items in
-    let q = l.gathered.text.items in
-    all_passed (o c.args.out.now) (o l.out) p q all (same_to_pass (o c.args.out.now) (o l.out) p q (values_text l.later (node_values (placed k i w.0))) [] all (w.2 k i at) (ap (λ f. values_text l.later (node_values (placed k i f))) none))
+    let none = no_trees c.args.rows.now l.next _ w.1 (omega (arith, c.loop-next-test.false)) in
+    all_passed _ _ _ _ _
+    (same_to_pass _ _ _ _ _ _ _ (w.2 k i at) (ap (λ f. values_text l.later (node_values (placed k i f))) none))

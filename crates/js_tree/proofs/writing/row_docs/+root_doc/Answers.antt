@@ -1,13 +1,12 @@
-use Rattle.std.proofs.Common.{◌≡◌, ◌+◌, ◌-◌, ◌≤◌, [], ◌∷◌, ◌++◌, length, drop, take, map, sym, ap, ◌∙◌, arith, append_assoc, append-nil}
+use Rattle.std.proofs.Common.{◌-◌, ◌+◌, [], ◌∷◌, ◌++◌, map, sym, ap, ◌∙◌, arith, append_assoc, append-nil}
 use Rattle.std.proofs.lemmas.List.{map-append}
 use Rattle.std.proofs.lemmas.Result.{IfOk-weaker}
 use Rattle.js_doc.specs.Seen.{value_of}
 use Rattle.js_tree.specs.FlatState.{row_of}
 use Rattle.js_tree.specs.Form.{node_value, node_values}
-use Rattle.js_tree.specs.Result.{ResultTree}
 use Rattle.js_tree.proofs.ChildTexts.{rest_of}
 use Rattle.js_tree.proofs.FlatRows.{first_tree, root_row, rows_below, all_gone, shorter}
-use Rattle.js_tree.proofs.Marks.{flat_form-flat_of}
+use Rattle.js_tree.proofs.NextRows.{slice_of_first}
 use Rattle.js_tree.proofs.writing.row_docs.+root_doc.Goals as goal
 
 pub root_doc-returns : goal.root_doc-returns
@@ -22,65 +21,46 @@ root_doc-returns t c =
 
 pub root_docs-overflow_add-end : goal.root_docs-overflow_add-end
 root_docs-overflow_add-end t' c =
-    let l = c.loop-next in
-    let rows = c.args.rows.now in
-    let x = c.index-rows-next.result in
-    let w = l.invariant.1 c.requires.0 c.requires.1 in
-    let t = first_tree row_of rows l.next w.0 x w.1 c.loop-next-test.true c.index-rows-next.is in
-    omega (arith, t.fits)
+    let w = c.loop-next.invariant.1 c.requires.0 c.requires.1 in
+    omega (arith, (first_tree row_of _ _ _ _ w.1 c.loop-next-test.true c.index-rows-next.is).fits)
 
 pub root_docs-slice_bounds-root_doc-end : goal.root_docs-slice_bounds-root_doc-end
 root_docs-slice_bounds-root_doc-end t' c =
-    let l = c.loop-next in
-    let rows = c.args.rows.now in
-    let x = c.index-rows-next.result in
-    let w = l.invariant.1 c.requires.0 c.requires.1 in
-    let t = first_tree row_of rows l.next w.0 x w.1 c.loop-next-test.true c.index-rows-next.is in
-    t.fits
+    let w = c.loop-next.invariant.1 c.requires.0 c.requires.1 in
+    (first_tree row_of _ _ _ _ w.1 c.loop-next-test.true c.index-rows-next.is).fits
 
 pub root_docs-root_doc-requires : goal.root_docs-root_doc-requires
 root_docs-root_doc-requires t' c =
+    let w = c.loop-next.invariant.1 c.requires.0 c.requires.1 in
+    let t = first_tree row_of _ _ _ _ w.1 c.loop-next-test.true c.index-rows-next.is in
+    let all_is = slice_of_first row_of _ _ _ _ t in
     let l = c.loop-next in
-    let rows = c.args.rows.now in
-    let x = c.index-rows-next.result in
-    let w = l.invariant.1 c.requires.0 c.requires.1 in
-    let t = first_tree row_of rows l.next w.0 x w.1 c.loop-next-test.true c.index-rows-next.is in
-    let one : ResultTree = record { root = t.unit; below = t.below } in
-    let size : l.next + x.size - l.next ≡ x.size = omega arith in
-    let all_is = ap (λ n. map row_of (take n (drop l.next rows))) size ∙ (t.all ∙ sym (flat_form-flat_of one)) in
-    let few : length (take (l.next + x.size - l.next) (drop l.next rows)) ≤ length rows = shorter (l.next + x.size - l.next) l.next rows in
-    (omega (arith, few, c.decreases), (one, all_is))
+    let few = shorter (l.next + c.index-rows-next.result.size - l.next) l.next c.args.rows.now in
+    (omega (arith, few, c.decreases), (_, all_is))
 
 pub root_docs-loop-next-smaller : goal.root_docs-loop-next-smaller
 root_docs-loop-next-smaller t' c =
-    let l = c.loop-next in
-    let rows = c.args.rows.now in
-    let x = c.index-rows-next.result in
-    let w = l.invariant.1 c.requires.0 c.requires.1 in
-    let t = first_tree row_of rows l.next w.0 x w.1 c.loop-next-test.true c.index-rows-next.is in
+    let w = c.loop-next.invariant.1 c.requires.0 c.requires.1 in
+    let t = first_tree row_of _ _ _ _ w.1 c.loop-next-test.true c.index-rows-next.is in
     omega (arith, t.size, t.fits)
 
 pub root_docs-loop-next-preserved : goal.root_docs-loop-next-preserved
 root_docs-loop-next-preserved t' c =
     let l = c.loop-next in
-    let rows = c.args.rows.now in
-    let x = c.index-rows-next.result in
     let w = l.invariant.1 c.requires.0 c.requires.1 in
-    let t = first_tree row_of rows l.next w.0 x w.1 c.loop-next-test.true c.index-rows-next.is in (
+    let t = first_tree row_of _ _ _ _ w.1 c.loop-next-test.true c.index-rows-next.is in (
       omega (arith, t.fits),
       λ f e.
           let w = l.invariant.1 f e in
-          let t = first_tree row_of rows l.next w.0 x w.1 c.loop-next-test.true c.index-rows-next.is in
-          let one : ResultTree = record { root = t.unit; below = t.below } in
-          let size : l.next + x.size - l.next ≡ x.size = omega arith in
-          let all_is = ap (λ n. map row_of (take n (drop l.next rows))) size ∙ (t.all ∙ sym (flat_form-flat_of one)) in
+          let t = first_tree row_of _ _ _ _ w.1 c.loop-next-test.true c.index-rows-next.is in
+          let all_is = slice_of_first row_of _ _ _ _ t in
           let doc = c.in_ok-root_doc.field-0 in (
             t.after,
             t.more,
             ap (λ ds. map value_of ds ++ node_values t.after) c.in_ok-push.ensures.items
                 ∙ (ap (λ vs. vs ++ node_values t.after) (map-append value_of l.docs.items (doc ∷ []))
                 ∙ (append_assoc (map value_of l.docs.items) (value_of doc ∷ []) (node_values t.after)
-                ∙ (ap (λ v. map value_of l.docs.items ++ v ∷ node_values t.after) (c.in_ok-root_doc.ensures one all_is)
+                ∙ (ap (λ v. map value_of l.docs.items ++ v ∷ node_values t.after) (c.in_ok-root_doc.ensures _ all_is)
                 ∙ (ap (λ vs. map value_of l.docs.items ++ vs) (sym (ap node_values t.is)) ∙ w.2)))),
           ),
     )
@@ -88,7 +68,8 @@ root_docs-loop-next-preserved t' c =
 pub root_docs-returns : goal.root_docs-returns
 root_docs-returns t' c =
     let l = c.loop-next in
-    let rows = c.args.rows.now in
     λ f e.
     let w = l.invariant.1 f e in
-    sym (append-nil (map value_of l.docs.items)) ∙ (ap (λ vs. map value_of l.docs.items ++ vs) (sym (ap node_values (all_gone row_of rows l.next w.0 w.1 (omega (arith, c.loop-next-test.false))))) ∙ w.2)
+    let none = all_gone row_of c.args.rows.now l.next _ w.1 (omega (arith, c.loop-next-test.false)) in
+    sym (append-nil (map value_of l.docs.items))
+    ∙ (ap (λ vs. map value_of l.docs.items ++ vs) (sym (ap node_values none)) ∙ w.2)

@@ -1,14 +1,13 @@
-use Rattle.std.proofs.Common.{◌≡◌, ◌+◌, ◌<◌, length, drop, get_or, false, ap, subst, arith}
+use Rattle.std.proofs.Common.{◌≡◌, ◌<◌, length, get_or, ap, subst, arith}
 use Rattle.js_doc.specs.BytesOut.{Puts}
-use Rattle.js_doc.specs.Compact.{compact, compact_items}
-use Rattle.js_doc.specs.Value.{items}
+use Rattle.js_doc.specs.Compact.{compact}
 use Rattle.js_tree.specs.Forest.{forest_of, node_count}
 use Rattle.js_tree.specs.Form.{node_value, node_values, verbose}
 use Rattle.js_tree.proofs.Pieces.{then_puts, stops_in, stops_at_comma, stops_at_item, item_goes, array_ends}
 use Rattle.js_tree.proofs.Forests.{fewer_nodes}
 use Rattle.std.proofs.lemmas.List.{drop_all}
 use Rattle.js_tree.proofs.Nested.{is_none, not_none}
-use Rattle.js_tree.proofs.ChildTexts.{leaf_text, parent_text, tree_next}
+use Rattle.js_tree.proofs.ChildTexts.{leaf_text, tree_next, tree_parent_text}
 use Rattle.js_tree.proofs.writing.tree_text.+put_tree.Goals as goal
 
 pub put_tree-returns-then-is_empty : goal.put_tree-returns-then-is_empty
@@ -23,44 +22,34 @@ put_tree-returns-then-is_empty g t c =
 pub put_tree-returns-in_err-put_front : goal.put_tree-returns-in_err-put_front
 put_tree-returns-in_err-put_front g t c =
     let o = g.O.Out.progress in
-    let ts = c.as_slice-children.result.now in
-    let r = c.from_residual.result in
-    subst (λ t. Puts (o c.args.out.now) (o c.put_front.new.out) (compact (verbose t)) r) c.tree.view_is
-    (subst (λ us. Puts (o c.args.out.now) (o c.put_front.new.out) (compact (node_value c.tree.inside.unit (node_values (forest_of us)))) r) c.as_slice-children.ensures
-    (subst (λ l. Puts (o c.args.out.now) (o c.put_front.new.out) l r) (parent_text c.tree.inside.unit ts (not_none (length ts) c.if-is_empty.ensures))
-    (stops_in _ _ _ _ r c.from_residual.ensures.0 c.in_err-put_front.ensures)))
+    let some = not_none (length c.as_slice-children.result.now) c.if-is_empty.ensures in
+    let is = tree_parent_text c.tree.inside.unit _ _ _ some c.as_slice-children.ensures c.tree.view_is in
+    subst (λ l. Puts (o c.args.out.now) (o c.put_front.new.out) l c.from_residual.result) is
+    (stops_in _ _ _ _ _ c.from_residual.ensures.0 c.in_err-put_front.ensures)
 
 pub put_tree-returns-in_err-put_trees : goal.put_tree-returns-in_err-put_trees
 put_tree-returns-in_err-put_trees g t c =
     let o = g.O.Out.progress in
-    let ts = c.as_slice-children.result.now in
-    let r = c.from_residual-in_err-put_trees.result in
-    subst (λ t. Puts (o c.args.out.now) (o c.put_trees.new.out) (compact (verbose t)) r) c.tree.view_is
-    (subst (λ us. Puts (o c.args.out.now) (o c.put_trees.new.out) (compact (node_value c.tree.inside.unit (node_values (forest_of us)))) r) c.as_slice-children.ensures
-    (subst (λ l. Puts (o c.args.out.now) (o c.put_trees.new.out) l r) (parent_text c.tree.inside.unit ts (not_none (length ts) c.if-is_empty.ensures))
-    (then_puts _ _ _ _ _ r c.in_ok-put_front.ensures
-    (stops_in _ _ _ _ r c.from_residual-in_err-put_trees.ensures.0 c.in_err-put_trees.ensures))))
+    let some = not_none (length c.as_slice-children.result.now) c.if-is_empty.ensures in
+    let is = tree_parent_text c.tree.inside.unit _ _ _ some c.as_slice-children.ensures c.tree.view_is in
+    subst (λ l. Puts (o c.args.out.now) (o c.put_trees.new.out) l c.from_residual-in_err-put_trees.result) is
+    (then_puts _ _ _ _ _ _ c.in_ok-put_front.ensures
+    (stops_in _ _ _ _ _ c.from_residual-in_err-put_trees.ensures.0 c.in_err-put_trees.ensures))
 
 pub put_tree-returns : goal.put_tree-returns
 put_tree-returns g t c =
     let o = g.O.Out.progress in
-    let ts = c.as_slice-children.result.now in
-    let r = c.put_back.result in
-    subst (λ t. Puts (o c.args.out.now) (o c.put_back.new.out) (compact (verbose t)) r) c.tree.view_is
-    (subst (λ us. Puts (o c.args.out.now) (o c.put_back.new.out) (compact (node_value c.tree.inside.unit (node_values (forest_of us)))) r) c.as_slice-children.ensures
-    (subst (λ l. Puts (o c.args.out.now) (o c.put_back.new.out) l r) (parent_text c.tree.inside.unit ts (not_none (length ts) c.if-is_empty.ensures))
-    (then_puts _ _ _ _ _ r c.in_ok-put_front.ensures
-    (then_puts _ _ _ _ _ r c.in_ok-put_trees.ensures c.put_back.ensures))))
+    let some = not_none (length c.as_slice-children.result.now) c.if-is_empty.ensures in
+    let is = tree_parent_text c.tree.inside.unit _ _ _ some c.as_slice-children.ensures c.tree.view_is in
+    subst (λ l. Puts (o c.args.out.now) (o c.put_back.new.out) l c.put_back.result) is
+    (then_puts _ _ _ _ _ _ c.in_ok-put_front.ensures
+    (then_puts _ _ _ _ _ _ c.in_ok-put_trees.ensures c.put_back.ensures))
 
 pub put_trees-returns-in_err-put_comma : goal.put_trees-returns-in_err-put_comma
 put_trees-returns-in_err-put_comma g t c =
-    let o = g.O.Out.progress in
     let l = c.loop-tree in
-    let ts = c.args.trees.now in
-    let all = compact_items false (items (node_values (forest_of ts))) in
-    let x = c.tree-item.result in
-    let next = tree_next ts l.tree-index x c.loop-tree-test.true c.tree-item.is in
-    stops_at_comma (o c.args.out.now) (o l.out) (o c.put_comma.new.out) l.later (node_values (forest_of (drop l.tree-index ts))) (node_values (forest_of (drop (l.tree-index + 1) ts))) (verbose x) all c.from_residual.result l.invariant next c.from_residual.ensures.0 c.in_err-put_comma.ensures
+    let next = tree_next c.args.trees.now l.tree-index _ c.loop-tree-test.true c.tree-item.is in
+    stops_at_comma _ _ _ _ _ _ _ _ _ l.invariant next c.from_residual.ensures.0 c.in_err-put_comma.ensures
 
 pub put_trees-put_tree-requires : goal.put_trees-put_tree-requires
 put_trees-put_tree-requires g t c κs within =
@@ -72,28 +61,19 @@ put_trees-put_tree-requires g t c κs within =
 
 pub put_trees-returns-in_err-put_tree : goal.put_trees-returns-in_err-put_tree
 put_trees-returns-in_err-put_tree g t c =
-    let o = g.O.Out.progress in
     let l = c.loop-tree in
-    let ts = c.args.trees.now in
-    let all = compact_items false (items (node_values (forest_of ts))) in
-    let x = c.tree-item.result in
-    let next = tree_next ts l.tree-index x c.loop-tree-test.true c.tree-item.is in
-    stops_at_item (o c.args.out.now) (o l.out) (o c.put_comma.new.out) (o c.put_tree.new.out) l.later (node_values (forest_of (drop l.tree-index ts))) (node_values (forest_of (drop (l.tree-index + 1) ts))) (verbose x) all c.from_residual-in_err-put_tree.result l.invariant next c.in_ok-put_comma.ensures c.from_residual-in_err-put_tree.ensures.0 c.in_err-put_tree.ensures
+    let next = tree_next c.args.trees.now l.tree-index _ c.loop-tree-test.true c.tree-item.is in
+    stops_at_item _ _ _ _ _ _ _ _ _ _ l.invariant next c.in_ok-put_comma.ensures
+    c.from_residual-in_err-put_tree.ensures.0 c.in_err-put_tree.ensures
 
 pub put_trees-loop-tree-preserved : goal.put_trees-loop-tree-preserved
 put_trees-loop-tree-preserved g t c =
-    let o = g.O.Out.progress in
     let l = c.loop-tree in
-    let ts = c.args.trees.now in
-    let all = compact_items false (items (node_values (forest_of ts))) in
-    let x = c.tree-item.result in
-    let next = tree_next ts l.tree-index x c.loop-tree-test.true c.tree-item.is in
-    item_goes (o c.args.out.now) (o l.out) (o c.put_comma.new.out) (o c.put_tree.new.out) l.later (node_values (forest_of (drop l.tree-index ts))) (node_values (forest_of (drop (l.tree-index + 1) ts))) (verbose x) all l.invariant next c.in_ok-put_comma.ensures c.in_ok-put_tree.ensures
+    let next = tree_next c.args.trees.now l.tree-index _ c.loop-tree-test.true c.tree-item.is in
+    item_goes _ _ _ _ _ _ _ _ _ l.invariant next c.in_ok-put_comma.ensures c.in_ok-put_tree.ensures
 
 pub put_trees-returns : goal.put_trees-returns
 put_trees-returns g t c =
-    let o = g.O.Out.progress in
     let l = c.loop-tree in
-    let ts = c.args.trees.now in
-    let all = compact_items false (items (node_values (forest_of ts))) in
-    array_ends (o c.args.out.now) (o l.out) (o c.put.new.self) l.later (node_values (forest_of (drop l.tree-index ts))) all c.put.result l.invariant (ap (λ ts. node_values (forest_of ts)) (drop_all l.tree-index ts c.loop-tree-test.false)) c.put.ensures
+    let none = drop_all l.tree-index c.args.trees.now c.loop-tree-test.false in
+    array_ends _ _ _ _ _ _ _ l.invariant (ap (λ ts. node_values (forest_of ts)) none) c.put.ensures
