@@ -72,7 +72,7 @@ impl<'a> Prepared<'a> {
         match self {
             Prepared::Verdict(valid) => *valid,
             Prepared::Rows(_, rows, _) => rows.is_valid(),
-            Prepared::Tree(tree) => root_is_valid(tree),
+            Prepared::Tree(tree) => tree.unit.valid,
         }
     }
 
@@ -151,12 +151,4 @@ pub(crate) fn verdict_of(
         (place_at schemas.now place) (value_of instance.now)) }
 {
     Ok(verdict(alloc, schemas, place, instance)?)
-}
-
-// The verdict of the tree's root.
-fn root_is_valid(tree: &Tree) -> bool
-    ensures { result ≡ tree.now.root.valid }
-{
-    let root = &tree.unit;
-    root.valid
 }
