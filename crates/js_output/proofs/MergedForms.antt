@@ -1,8 +1,8 @@
 -- What is shown of rows: the form that the format has of the result.
-use Rattle.std.proofs.Common.{◌≡◌, refl, sym, ◌∙◌, ap, subst}
+use Rattle.std.proofs.Common.{◌≡◌, sym, ◌∙◌, ap}
 use Rattle.js_tree.specs.Form.{form, verbose}
 use Rattle.js_tree.specs.MergedResult.{merged}
-use Rattle.js_tree.specs.Result.{ResultTree, kept, pruned}
+use Rattle.js_tree.specs.Result.{ResultTree, pruned}
 use Rattle.js_tree.specs.declared.forms.Format.TheVariants.{Merged}
 use Rattle.js_tree.proofs.MergedLaws.{merged-kept}
 use Rattle.js_output.specs.code.Prepared.{reduced}

@@ -12,7 +12,6 @@ use crate::documents::finished;
 use crate::fault::Fault;
 use crate::sink::Sink;
 use js_bundle::Schemas;
-use js_doc::Memory;
 use std::alloc::Global;
 use std::io::Write;
 
@@ -60,10 +59,7 @@ pub fn list_places(alloc: Global, schemas: &Schemas) -> Result<String, Fault>
     ensures text { IfOk result (λ text. string_bytes text ≡ lines_of (sites schemas.now)) }
     ensures memory { IfErr result (λ e. e ≡ Fault.Memory) }
 {
-    match told_of(alloc, schemas) {
-        Ok(told) => Ok(told.text),
-        Err(Memory) => Err(Fault::Memory),
-    }
+    Ok(told_of(alloc, schemas)?.text)
 }
 
 // The list of places, and how many they are.
@@ -82,12 +78,13 @@ fn told_places(alloc: Global, docs: &[(&str, &[u8])]) -> Result<Told, Fault>
     ensures early { IfErr result IsEarlyOrMemory }
 {
     let schemas = finished(alloc, docs)?;
-    Ok(told_of(alloc, &schemas)?)
+    told_of(alloc, &schemas)
 }
 
-fn told_of(alloc: Global, schemas: &Schemas) -> Result<Told, Memory>
+fn told_of(alloc: Global, schemas: &Schemas) -> Result<Told, Fault>
     ensures text { IfOk result (λ t. string_bytes t.text ≡ lines_of (sites schemas.now)) }
     ensures count { IfOk result (λ t. t.count ≡ length (sites schemas.now)) }
+    ensures memory { IfErr result (λ e. e ≡ Fault.Memory) }
 {
     let places = schemas.places(alloc)?;
     let mut text = String::new(alloc);

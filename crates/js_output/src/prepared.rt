@@ -10,12 +10,12 @@ ghost use Rattle.js_tree.specs.Result.{ResultTree};
 ghost use Rattle.js_tree.specs.declared.forms.Format.TheVariants.{Merged};
 ghost use Rattle.js_output.specs.Device.{SendsOrFails, Unflushed};
 ghost use Rattle.js_output.specs.Outcome.{IsVerdictOf, IsWalkFault};
-ghost use Rattle.js_output.specs.code.Prepared.{ArePrepared, IsPrepared, IsOfAllRows, IsOfRows, IsPreparedFor, reduced};
+ghost use Rattle.js_output.specs.code.Prepared.{ArePrepared, IsPrepared, IsOfRows, IsPreparedFor, reduced, rows_form};
 
 use crate::fault::Fault;
 use crate::rows::rows_of;
 use crate::sink::Sink;
-use crate::writing::{write_flag, write_rows, write_tree};
+use crate::writing::put_line;
 use bumpalo::Bump;
 use js_bundle::{Place, Schemas};
 use js_doc::{Doc, Memory};
@@ -72,7 +72,7 @@ impl<'a> Prepared<'a> {
         match self {
             Prepared::Verdict(valid) => *valid,
             Prepared::Rows(_, rows, _) => rows.is_valid(),
-            Prepared::Tree(tree) => root_is_valid(tree),
+            Prepared::Tree(tree) => tree.unit.valid,
         }
     }
 
@@ -84,11 +84,11 @@ impl<'a> Prepared<'a> {
         ensures unflushed { Unflushed out.old out.new }
         ensures stays { out.old.failed ≡ true → out.new ≡ out.old }
     {
-        match self {
-            Prepared::Verdict(valid) => write_flag(valid, out),
-            Prepared::Rows(format, rows, locations) => write_rows(&rows, locations, format, out),
-            Prepared::Tree(tree) => write_tree(&tree, out),
+        if out.failed() {
+            return Err(Fault::Write);
         }
+        put_line(self, &mut out.writing)?;
+        Ok(())
     }
 }
 
@@ -117,10 +117,8 @@ fn with_room<'a>(
     format: Format,
     rows: RelativeRows<'a>,
 ) -> Result<Prepared<'a>, Memory>
-    requires format { IsOfAllRows format }
-    requires rows { (t : ResultTree) × AreRowsOf rows (reduced format t) }
-    ensures { (t : ResultTree) → AreRowsOf rows.entry (reduced format t)
-        → IfOk result (λ s. IsPrepared s t.root.valid (form format t)) }
+    ensures { (t : ResultTree) → AreRowsOf rows.entry t
+        → IfOk result (λ s. IsPrepared s t.root.valid (rows_form format t)) }
 {
     let locations = Locations::new(alloc, &rows)?;
     Ok(Prepared::Rows(format, rows, locations))
@@ -133,8 +131,7 @@ fn prepared_merged<'a>(alloc: Global, rows: RelativeRows<'a>) -> Result<Prepared
         → IfOk result (λ s. IsPrepared s t.root.valid (form Merged t)) }
 {
     if is_surely_merged(&rows) {
-        let locations = Locations::new(alloc, &rows)?;
-        return Ok(Prepared::Rows(Format::Merged, rows, locations));
+        return with_room(alloc, Format::Merged, rows);
     }
     let tree = merged_tree(alloc, rows)?;
     Ok(Prepared::Tree(tree))
@@ -154,12 +151,4 @@ pub(crate) fn verdict_of(
         (place_at schemas.now place) (value_of instance.now)) }
 {
     Ok(verdict(alloc, schemas, place, instance)?)
-}
-
-// The verdict of the tree's root.
-fn root_is_valid(tree: &Tree) -> bool
-    ensures { result ≡ tree.now.root.valid }
-{
-    let root = &tree.unit;
-    root.valid
 }

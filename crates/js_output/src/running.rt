@@ -1,10 +1,9 @@
 //! From documents and an instance to the output's text.
-ghost use Rattle.std.specs.Prelude.{◌≡◌, ◌≢◌, ◌≤◌, ◌+◌, [], true, ◌-◌, IfErr, IsErrOf};
-ghost use Rattle.js_bundle.specs.Schemas.{is_place, place_at};
+ghost use Rattle.std.specs.Prelude.{◌≡◌, ◌≢◌, ◌≤◌, ◌+◌, true, ◌-◌, IfErr, IsErrOf};
 ghost use Rattle.js_output.specs.Device.{input_limit, Unflushed};
 ghost use Rattle.js_output.specs.Documents.{documents_of};
 ghost use Rattle.js_output.specs.Entry.{entry_causes};
-ghost use Rattle.js_output.specs.Outcome.{beginning_causes, Outcome, FinishedOutcome, InstanceOutcome, telling_output};
+ghost use Rattle.js_output.specs.Outcome.{beginning_causes, Outcome, FinishedOutcome, telling_output};
 ghost use Rattle.js_output.specs.Outcome.{IsEarly, IsReadOrEarly};
 ghost use Rattle.js_output.specs.Telling.{Answers};
 
@@ -15,7 +14,7 @@ use crate::finished::judge;
 use crate::input::read_all;
 use crate::sink::Sink;
 use crate::source::Source;
-use js_bundle::{Place, Schemas};
+use js_bundle::Schemas;
 use js_tree::Format;
 use std::alloc::Global;
 use std::io::{Read, Write};
@@ -60,7 +59,7 @@ pub fn run<R: Read, W: Write>(
     run_read(alloc, &schemas, entry, instance, format, out)
 }
 
-// Looks the entry up in finished schemas, then reads and judges the instance.
+// Looks the entry up in finished schemas, then reads the instance and judges it.
 fn run_read<R: Read, W: Write>(
     alloc: Global,
     schemas: &Schemas,
@@ -82,31 +81,6 @@ fn run_read<R: Read, W: Write>(
     ensures sink_stays { out.old.failed ≡ true → out.new ≡ out.old }
 {
     let place = entry_place(alloc, schemas, entry)?;
-    judge_read(alloc, schemas, place, instance, format, out)
-}
-
-// Reads the instance and judges it at the place.
-fn judge_read<R: Read, W: Write>(
-    alloc: Global,
-    schemas: &Schemas,
-    place: Place,
-    instance: &mut Source<R>,
-    format: Format,
-    out: &mut Sink<W>,
-) -> Result<bool, Fault>
-    requires { is_place schemas.now place ≡ true }
-    ensures answer { Answers telling_output
-        (InstanceOutcome schemas.now (place_at schemas.now place) format) []
-        (R.remaining instance.old.device) W.contents out.old out.new result }
-    ensures late { IfErr result (λ e. IsEarly e → ⊥) }
-    ensures read { IsErrOf result Fault.Read → instance.new.failed ≡ true }
-    ensures failed { instance.new.failed ≡ true → IsReadOrEarly result }
-    ensures reads { instance.new.calls ≤ instance.old.calls + (input_limit + 1) }
-    ensures source_stays { instance.old.failed ≡ true → instance.new ≡ instance.old }
-    ensures nothing { IfErr result (λ e. e ≢ Fault.Write → out.new ≡ out.old) }
-    ensures unflushed { Unflushed out.old out.new }
-    ensures sink_stays { out.old.failed ≡ true → out.new ≡ out.old }
-{
     let bytes = read_all(alloc, instance)?;
     judge(alloc, schemas, place, bytes.as_slice(), format, out)
 }

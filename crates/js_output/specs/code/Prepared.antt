@@ -39,12 +39,6 @@ abbrev pub IsOfRows : Format → Type 0
 IsOfRows Flag = ⊥
 IsOfRows _ = ⊤
 
--- one of which the rows show each node, or each unit with a note
-abbrev pub IsOfAllRows : Format → Type 0
-IsOfAllRows Flag = ⊥
-IsOfAllRows Merged = ⊥
-IsOfAllRows _ = ⊤
-
 -- what is written of a tree's rows: basic lists the noted units, the others show all nodes
 abbrev pub rows_form : Format → ResultTree → Value
 rows_form Basic t = form Basic t

@@ -1,6 +1,4 @@
-use Rattle.std.proofs.Common.{sym, ◌∙◌, subst}
-use Rattle.js_tree.specs.RelativeState.{AreRowsOf}
-use Rattle.js_output.specs.code.Prepared.{recorded, reduced}
+use Rattle.js_output.specs.code.Prepared.{recorded}
 use Rattle.js_output.proofs.RowsThere.{condensed_there}
 use Rattle.js_output.proofs.rows.rows_of.Goals as goal
 
