@@ -177,6 +177,49 @@ def of_times(room):
     yield Times("tools/gate-times", os.path.join(room.folder, "gate with times"))
 
 
+# What a check keeps: file and bytes. Functions, a cycle of calls, and a lemma file.
+KEPT = {
+    "Rattle-js_doc-proofs.token.escape.Lts.oantt": 3_000_000,
+    "Rattle-js_doc-proofs.token.escape.Code.Mir.oantt": 1_000_000,
+    "Rattle-js_doc-specs.contracts.token.escape.Key.oantt": 200_000,
+    "Rattle-js_doc-proofs.reading.+convert.Lts-convert_items.oantt": 5_000_000,
+    "Rattle-js_doc-proofs.Alike.oantt": 800_000,
+}
+WANTED_SIZES = """js_doc: 10 MB, of which 8 MB are the tables of paths of 2 functions and cycles
+    5.0    5.0  reading.+convert
+    4.2    3.0  token.escape
+"""
+
+
+@dataclass
+class Sizes:
+    """tools/kept-sizes over what a check would keep."""
+
+    name: str
+    home: str
+    words: tuple = ("tools/kept-sizes",)
+
+    def fault(self):
+        folder = os.path.join(self.home, "crates", "js_doc", "out", "incremental", "antt-checked")
+        os.makedirs(folder)
+        for name, size in KEPT.items():
+            with open(os.path.join(folder, name), "w") as file:
+                file.truncate(size)
+        try:
+            out, errors, _ = answer_of([os.path.join(self.home, "tools", "kept-sizes"), "js_doc"], SECONDS)
+        except TimeoutExpired as error:
+            return no_end(error)
+        return None if out.decode() == WANTED_SIZES else f"{out.decode()} {errors.decode()}"
+
+
+def of_sizes(room):
+    """What is kept of functions, and a crate of which nothing is kept."""
+    home = room.copy("kept sizes")
+    yield Sizes("tools/kept-sizes", home)
+    yield Check("tools/kept-sizes, nothing kept", ["tools/kept-sizes", "js_tree"],
+                "nothing is kept of js_tree: run rt check", home, has_count=False)
+
+
 def of_gate(room):
     """./test over a fake rt: where the proofs fail, or come to no count, it fails and runs nothing more."""
     home = room.copy("gate")
