@@ -5,11 +5,14 @@ import shutil
 import signal
 import subprocess
 import sys
+import tempfile
 import threading
 
 HOME = os.path.dirname(os.path.dirname(os.path.abspath(__file__)))
 sys.path.insert(0, os.path.join(HOME, "tools"))
 from programs import TimeoutExpired, answer_of, no_end  # noqa: E402
+
+GNU_TIME = shutil.which("time")
 
 
 def add_options(parser):
@@ -23,6 +26,17 @@ def measured(words, given, seconds):
 
     Ends the script where the process fails, or takes longer than `seconds`.
     """
+    with tempfile.NamedTemporaryFile() as peak:
+        # The memory of a process counts that of the one that started it, which GNU time keeps small.
+        small = [GNU_TIME, "-q", "-f", "%M", "-o", peak.name] if GNU_TIME else []
+        out, status, used = ended([*small, *words], given, seconds, " ".join(words))
+        if status:
+            sys.exit(f"{' '.join(words)}: status {status}")
+        return out, int(peak.read() or used) * 1024
+
+
+def ended(words, given, seconds, name):
+    """What a process writes, its status, and its greatest memory in KB."""
     job = subprocess.Popen(words, stdin=given, stdout=subprocess.PIPE, start_new_session=True)
     has_ended = threading.Event()
     was_killed = threading.Event()
@@ -40,10 +54,8 @@ def measured(words, given, seconds):
     has_ended.set()
     job.returncode = os.waitstatus_to_exitcode(status)
     if was_killed.is_set():
-        sys.exit(f"{' '.join(words)}: no end after {seconds:g} s")
-    if job.returncode:
-        sys.exit(f"{' '.join(words)}: status {job.returncode}")
-    return out, used.ru_maxrss * 1024
+        sys.exit(f"{name}: no end after {seconds:g} s")
+    return out, job.returncode, used.ru_maxrss
 
 
 def build(folder, name, crates, used, begin, seconds, answer=None):
