@@ -30,6 +30,8 @@ def measured(words, given, seconds):
         # The memory of a process counts that of the one that started it, which GNU time keeps small.
         small = [GNU_TIME, "-q", "-f", "%M", "-o", peak.name] if GNU_TIME else []
         out, status, used = ended([*small, *words], given, seconds, " ".join(words))
+        if small and status > 128:
+            status = 128 - status  # a signal
         if status:
             sys.exit(f"{' '.join(words)}: status {status}")
         return out, int(peak.read() or used) * 1024
