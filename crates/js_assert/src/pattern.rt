@@ -22,10 +22,17 @@ pub enum PatternFault {
 }
 
 /// A compiled pattern (JSON Schema Validation, section 6.3.3). Contracts see it as its text.
-#[derive(Debug, Drop)]
+#[derive(Debug)]
 pub struct Pattern {
     // A regex is large, and most keywords hold something small.
     regex: Box<Regex>,
+}
+
+// By hand, so that it is proved here alone, and crates that own patterns call it.
+impl Drop for Pattern {
+    fn drop(self) {
+        let Pattern { regex: _ } = self;
+    }
 }
 
 impl Model for Pattern {
