@@ -1,5 +1,5 @@
 //! Bundles: schema documents, each under its URI.
-ghost use Rattle.std.specs.Prelude.{◌≡◌, ◌++◌, [], ◌∷◌, None, Ok, OnOk, OnErr, IfOk, IfErr, length};
+ghost use Rattle.std.specs.Prelude.{◌≡◌, ◌++◌, [], ◌∷◌, None, Ok, OnOk, OnErr, IfOk, IfErr, length, map};
 ghost use Rattle.url.specs.Parser.{parse_url};
 ghost use Rattle.js_doc.specs.Members.{NamesAscend};
 ghost use Rattle.js_doc.specs.Seen.{value_of};
@@ -30,9 +30,15 @@ const MOST_DOCUMENTS: usize = 1_000;
 
 /// Schema documents, each under the URI that it was added with (JSON Schema Core, section 9.1.1). Contracts see
 /// it as the list of its documents.
-#[derive(Drop)]
 pub struct Bundle {
     documents: Vec<Document>,
+}
+
+// By hand, so that it is proved here alone, and crates that own bundles call it.
+impl Drop for Bundle {
+    fn drop(self) {
+        let Bundle { documents: _ } = self;
+    }
 }
 
 impl Model for Bundle {
@@ -128,7 +134,7 @@ impl Bundle {
     {
         match check_whole(alloc, self.documents.as_slice()) {
             Ok(kept) => Ok(Schemas {
-                documents: self.documents,
+                documents: self.into_documents(),
                 kept,
             }),
             Err(fault) => Err((refusal_of(alloc, fault), self)),
@@ -155,13 +161,22 @@ impl Bundle {
             )),
         }
     }
+
+    fn into_documents(self) -> Vec<Document>
+        ensures { map document_of result.items ≡ self }
+    {
+        let Bundle { documents } = self;
+        documents
+    }
 }
 
+// What was finished.
 fn unfinished(schemas: Schemas) -> Bundle
     ensures { result ≡ schemas }
 {
-    let Schemas { documents, kept: _ } = schemas;
-    Bundle { documents }
+    Bundle {
+        documents: schemas.into_documents(),
+    }
 }
 
 fn refusal_of(alloc: Global, fault: CheckFault) -> Refusal

@@ -42,7 +42,6 @@ use crate::scan::site::Site;
 use std::alloc::Global;
 
 /// What is kept of checked documents, place by place.
-#[derive(Drop)]
 pub(crate) struct Checked {
     pub(crate) sites: Vec<KeptSite>,
     pub(crate) built: BuiltTable,
@@ -54,6 +53,22 @@ pub(crate) struct Checked {
     pub(crate) resources: Resources,
     /// What each place holds.
     pub(crate) edges: Vec<Edges>,
+}
+
+// By hand, so that what owns it proves one call.
+impl Drop for Checked {
+    fn drop(self) {
+        let Checked {
+            sites: _,
+            built: _,
+            keywords: _,
+            references: _,
+            locations: _,
+            index: _,
+            resources: _,
+            edges: _,
+        } = self;
+    }
 }
 
 /// What is looked up once all places are in the index.

@@ -4,6 +4,7 @@ ghost use Rattle.js_doc.specs.Seen.{value_of};
 ghost use Rattle.js_bundle.specs.Finding.{tokens_of};
 ghost use Rattle.js_bundle.specs.Location.{absolute, canonical, location};
 ghost use Rattle.js_bundle.specs.Schemas.{is_place, place_at, place_numbers};
+ghost use Rattle.js_bundle.specs.Seen.{document_of};
 ghost use Rattle.js_bundle.specs.code.KeptSite.{kept_site, kept_site_of};
 
 use crate::check::Checked;
@@ -18,10 +19,19 @@ use std::marker::Model;
 
 /// Schema documents that are checked: every keyword has its form, and every reference its target. Contracts see them as
 /// their documents, and a place as its number in scan order.
-#[derive(Drop)]
 pub struct Schemas {
     pub(crate) documents: Vec<Document>,
     pub(crate) kept: Checked,
+}
+
+// By hand, so that it is proved here alone, and crates that own schemas call it.
+impl Drop for Schemas {
+    fn drop(self) {
+        let Schemas {
+            documents: _,
+            kept: _,
+        } = self;
+    }
 }
 
 impl Model for Schemas {
@@ -46,6 +56,14 @@ impl Schemas {
         ensures { result ≡ is_place self.now place }
     {
         place.number < self.kept.sites.len()
+    }
+
+    // The documents alone.
+    pub(crate) fn into_documents(self) -> Vec<Document>
+        ensures { map document_of result.items ≡ self }
+    {
+        let Schemas { documents, kept: _ } = self;
+        documents
     }
 
     // What is kept of a place.
