@@ -4,9 +4,16 @@ use crate::memory::Memory;
 use std::marker::Model;
 
 /// A text. Contracts see it as the bytes of its UTF-8, which determine its code points.
-#[derive(Debug, Drop)]
+#[derive(Debug)]
 pub struct Text {
     text: String,
+}
+
+// By hand, so that it is proved here alone, and crates that own texts call it.
+impl Drop for Text {
+    fn drop(self) {
+        let Text { text: _ } = self;
+    }
 }
 
 impl Model for Text {
@@ -47,7 +54,8 @@ impl Text {
     pub fn into_string(self) -> String
         ensures { string_bytes result ≡ self }
     {
-        self.text
+        let Text { text: string } = self;
+        string
     }
 }
 
