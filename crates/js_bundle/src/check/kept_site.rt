@@ -40,14 +40,14 @@ pub(crate) fn kept_sites_of(alloc: Global, sites: Vec<Site<'_>>) -> Result<Vec<K
             rank,
             schema: _,
         } = site;
-        kept.push(KeptSite {
+        kept.push_reserved(KeptSite {
             document,
             pointer,
             above,
             own,
             identifies,
             rank,
-        })?;
+        });
     }
     Ok(kept)
 }

@@ -88,7 +88,7 @@ fn roots_of(alloc: Global, begins: &[bool]) -> Result<Roots, Memory>
     let mut ranks = Vec::with_capacity(alloc, begins.len())?;
     let mut anchors = Vec::new(alloc);
     for i in 0..begins.len() {
-        ranks.push(anchors.len())?;
+        ranks.push_reserved(anchors.len());
         open_resource(alloc, &mut anchors, begins[i])?;
     }
     Ok(Roots { ranks, anchors })
@@ -176,7 +176,7 @@ fn numbers_of(
     for i in 0..sites.len() {
         let site = &sites[i];
         let resource = number_after(alloc, index, sites, roots, before, site, i)?;
-        numbers.push(resource)?;
+        numbers.push_reserved(resource);
         before = Some(Numbered { site, resource });
     }
     Ok(numbers)
