@@ -61,7 +61,7 @@ fn places_in_order(alloc: Global, docs: &[Doc]) -> Result<Vec<usize>, Memory>
 {
     let mut places = Vec::with_capacity(alloc, docs.len())?;
     for i in 0..docs.len() {
-        places.push(i)?;
+        places.push_reserved(i);
     }
     places.sort_unstable_by(|i, j| compare_places(docs, *i, *j));
     Ok(places)

@@ -93,7 +93,7 @@ fn copies(alloc: Global, docs: &[Doc]) -> Result<Vec<Doc>, Memory>
 {
     let mut copies = Vec::with_capacity(alloc, docs.len())?;
     for doc in docs {
-        copies.push(doc.copy(alloc)?)?;
+        copies.push_reserved(doc.copy(alloc)?);
     }
     Ok(copies)
 }
@@ -147,7 +147,7 @@ fn distinct_strings(alloc: Global, docs: &[Doc]) -> Result<Vec<Text>, KeywordFau
         if !seen.insert(name.as_str())? {
             return Err(KeywordFault::BadKeyword);
         }
-        names.push(name.copy()?)?;
+        names.push_reserved(name.copy()?);
     }
     Ok(names)
 }
@@ -189,7 +189,7 @@ fn distinct_types(alloc: Global, docs: &[Doc]) -> Result<Vec<InstanceType>, Keyw
         if types.as_slice().contains(&one) {
             return Err(KeywordFault::BadKeyword);
         }
-        types.push(one)?;
+        types.push_reserved(one);
     }
     Ok(types)
 }

@@ -1,5 +1,5 @@
-use Rattle.std.proofs.Common.{◌≡◌, ◌+◌, ◌++◌, [], ◌∷◌, true, false, map, drop, refl, sym, ap, ◌∙◌}
-use Rattle.std.proofs.lemmas.List.{map-append}
+use Rattle.std.proofs.Common.{◌≡◌, ◌+◌, ◌++◌, [], ◌∷◌, true, false, map, drop, length, refl, sym, ap, ◌∙◌, arith}
+use Rattle.std.proofs.lemmas.List.{map-append, length_push}
 use Rattle.std.specs.List.{list_any}
 use Rattle.std.specs.Str.{bytes_eq}
 use Rattle.js_doc.specs.Seen.{value_of}
@@ -52,9 +52,11 @@ loop-doc-preserved c =
     let among : list_any (bytes_eq name) names ≡ c.contains.result =
     named_among (λ t. ghosts.eq t one) one name l.types.items (λ t. same_type t one) named ∙ ap (list_any (λ t. ghosts.eq t one)) (sym c.as_slice.ensures.value) ∙ sym c.contains.ensures.value in
     let fresh : list_any (bytes_eq name) names ≡ false = among ∙ c.if-contains.false in
-    let pushed : map type_name c.push.new.self.items ≡ names ++ name ∷ [] =
-    ap (map type_name) c.in_ok-push.ensures.items ∙ map-append type_name l.types.items (one ∷ []) ∙ ap (λ n. names ++ n ∷ []) named in
+    let pushed : map type_name c.push_reserved.new.self.items ≡ names ++ name ∷ [] =
+    ap (map type_name) c.push_reserved.ensures.items ∙ map-append type_name l.types.items (one ∷ []) ∙ ap (λ n. names ++ n ∷ []) named in
     record {
       read = read_more names ds l.doc-index c.doc-item.result name c.loop-doc-test.true c.doc-item.is (ap value_of c.in-Text.is) l.invariant.read ∙ ap (map text) (sym pushed);
       rest = l.invariant.rest ∙ types_more names ds l.doc-index c.doc-item.result name c.loop-doc-test.true c.doc-item.is (ap value_of c.in-Text.is) known fresh ∙ ap (λ ns. are_new_types ns (map value_of (drop (l.doc-index + 1) ds))) (sym pushed);
+      count = ap length c.push_reserved.ensures.items ∙ length_push l.types.items one ∙ ap (λ n. n + 1) l.invariant.count;
+      room = omega (arith, l.invariant.room, c.push_reserved.ensures.capacity);
     }
