@@ -157,8 +157,8 @@ impl<'a> Tree<'a> {
         self.unit.is_noted() || self.children.len() >= 2
     }
 
-    /// Replaces the tree by its root's only child, unless condensing leaves the root in place. Returns whether a tree is
-    /// left.
+    /// Replaces the tree by its root's only child, unless condensing leaves the root in place. Returns whether a tree
+    /// is left.
     pub(crate) fn lift(&mut self) -> bool
         ensures { (if node_stands noted self.old.root self.old.below
             then node self.old.root self.old.below empty else self.old.below)

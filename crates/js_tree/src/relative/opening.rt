@@ -4,7 +4,7 @@ ghost use Rattle.json.specs.Print.{escape};
 ghost use Rattle.js_doc.specs.BytesOut.{Puts};
 ghost use Rattle.js_doc.specs.Compact.{comma_if};
 ghost use Rattle.js_tree.specs.RelativeState.{part};
-ghost use Rattle.js_tree.specs.code.Opening.{front_text, schema_kept, schema_start};
+ghost use Rattle.js_tree.specs.code.Opening.{opening_front, schema_kept, schema_start};
 
 use crate::relative::rows::behind;
 use js_doc::{Memory, Out, Stopped, stand_as_they_are};
@@ -55,7 +55,7 @@ impl Opening {
     /// there is one.
     pub fn put_kept<O: Out>(&self, later: bool, slash: bool, out: &mut O) -> Result<(), Stopped>
         ensures { Puts (O.progress out.old) (O.progress out.new)
-            (front_text later (schema_kept self.now.text.items) slash) result }
+            (opening_front later (schema_kept self.now.text.items) slash) result }
     {
         let text = from_comma(later, self.text.as_slice());
         out.put(to_slash(slash, text))
