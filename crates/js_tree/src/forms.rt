@@ -238,7 +238,13 @@ fn put_text_member(
 fn put_member(alloc: Global, members: &mut Members, name: &str, doc: Doc) -> Result<(), Memory>
     ensures { OnOk result (members.new ≡ put name.now (value_of doc) members.old) }
 {
-    members.put(String::from_str(alloc, name)?, doc)
+    match String::from_str(alloc, name) {
+        Ok(name) => members.put(name, doc),
+        Err(refused) => {
+            drop(doc);
+            Err(Memory::from(refused))
+        }
+    }
 }
 
 fn texts(alloc: Global, names: &[&str]) -> Result<Doc, Memory>

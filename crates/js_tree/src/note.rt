@@ -105,6 +105,9 @@ impl<'a> Note<'a> {
     pub fn is_some(&self) -> bool
         ensures { result ≡ speaks (note_of self.now) }
     {
-        !matches!(self, Note::Silent)
+        match self {
+            Note::Silent => false,
+            _ => true,
+        }
     }
 }

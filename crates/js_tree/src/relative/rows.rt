@@ -194,7 +194,11 @@ impl<'a> RelativeRows<'a> {
                     forget(replace(&mut row.note, note));
                     row.size = size;
                 }
+            } else {
+                drop(note);
             }
+        } else {
+            drop(note);
         }
     }
 
