@@ -107,7 +107,12 @@ impl<'a> Note<'a> {
     {
         match self {
             Note::Silent => false,
-            _ => true,
+            Note::Error(_) => true,
+            Note::Value(_) => true,
+            Note::Names(_) => true,
+            Note::Index(_) => true,
+            Note::Indexes(_) => true,
+            Note::Truth => true,
         }
     }
 }

@@ -1,18 +1,7 @@
-use Rattle.std.proofs.Common.{◌≡◌, true, refl}
+use Rattle.std.proofs.Common.{ap, sym}
 use Rattle.js_tree.specs.Note.{speaks}
 use Rattle.js_tree.specs.Seen.{note_of}
-use Rattle.js_tree.specs.declared.note.Note.{Note}
-use Rattle.js_tree.specs.declared.note.Note.TheVariants as note
 use Rattle.js_tree.proofs.note.Note.is_some.Goals as goal
 
-other_note : (n : Note) → (n ≡ note.Silent → ⊥) → true ≡ speaks (note_of n)
-other_note note.Silent h = absurd (h refl)
-other_note (note.Error reason) h = refl
-other_note (note.Value value) h = refl
-other_note (note.Names names) h = refl
-other_note (note.Index index) h = refl
-other_note (note.Indexes indexes) h = refl
-other_note note.Truth h = refl
-
-pub returns-in_default : goal.returns-in_default
-returns-in_default c = other_note c.args.self.now c.in_default.not-Silent
+pub returns-in-Names : goal.returns-in-Names
+returns-in-Names c = ap (λ n. speaks (note_of n)) (sym c.in-Names.is)
