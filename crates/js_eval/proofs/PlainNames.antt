@@ -1,15 +1,13 @@
 -- The names of the standard's applicators and assertions are written as they are in a pointer, in a fragment and in a JSON
 -- string, and indexes in a pointer.
-use Rattle.std.proofs.Common.{◌≡◌, ℕ, ◌<◌, ◌^◌, Bool, true, false, not, cond, ◌==◌, List, [], ◌∷◌, Some, is_some, decimal, ltb, refl, sym, ap, subst, arith}
+use Rattle.std.proofs.Common.{◌≡◌, ℕ, ◌<◌, ◌^◌, Bool, true, false, cond, ◌==◌, List, [], ◌∷◌, Some, is_some, decimal, refl, sym, ap, subst, arith}
 use Rattle.std.specs.List.{AllByRecursion, list_all}
 use Rattle.std.specs.Str.{bytes_eq}
 use Rattle.std.specs.Str.Parse.{AllDigits}
-use Rattle.std.proofs.lemmas.Bool.{agree_below, agree_below_at, and_parts}
 use Rattle.std.proofs.lemmas.Bool.Decides.{nat_tests}
 use Rattle.std.proofs.lemmas.Fmt.{decimal_is_IsNumeral}
 use Rattle.std.proofs.lemmas.Slice.Eq.{bytes_eq-Decides}
 use Rattle.std.proofs.lemmas.Str.Parse.{digit_from_value}
-use Rattle.js_doc.specs.Escapes.{stands}
 use Rattle.js_doc.specs.Pointer.{escape}
 use Rattle.js_doc.specs.Plain.{is_kept, is_plain}
 use Rattle.js_doc.proofs.PlainTokens.{all_kept, all_plain, all_stand, kept_too}

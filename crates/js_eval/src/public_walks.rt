@@ -240,8 +240,5 @@ fn walk_to<'a, H: PointerText + Drop, R: Reporter<Here<'a>, H>>(
     };
     let schema = schema_at(schemas, place);
     let value = Instance::Doc(value);
-    match walk_from::<Here<'a>, H, R>(alloc, &here, reporter, place, schema, value) {
-        Ok(valid) => Ok(valid),
-        Err(fault) => Err(fault),
-    }
+    walk_from::<Here<'a>, H, R>(alloc, &here, reporter, place, schema, value)
 }

@@ -1,11 +1,11 @@
 -- The units with a note, of a tree and of its rows.
-use Rattle.std.proofs.Common.{◌≡◌, Bool, true, false, if◌then◌else◌, List, [], ◌∷◌, ◌++◌, ℕ, ◌+◌, ◌<◌, ◌≤◌, length, drop, get_or, map, refl, ap, sym, ◌∙◌}
-use Rattle.js_doc.specs.Compact.{compact}
+use Rattle.std.proofs.Common.{◌≡◌, Bool, true, false, if◌then◌else◌, List, [], ◌∷◌, ◌++◌, ℕ, ◌+◌, ◌<◌, ◌≤◌, length, drop, get_or, map, codes, refl, ap, sym, ◌∙◌, append_assoc, append-nil}
+use Rattle.js_doc.specs.Compact.{compact, compact_items}
 use Rattle.js_doc.specs.Value.{items, list}
 use Rattle.js_tree.specs.Flat.{flat_form, flat_of}
 use Rattle.js_tree.specs.FlatState.{FlatRow, noted_of}
 use Rattle.js_tree.specs.Form.{node_value}
-use Rattle.js_tree.specs.Forest.{Forest, empty, tree}
+use Rattle.js_tree.specs.Forest.{Forest, empty, forest_of, tree}
 use Rattle.js_tree.specs.OutputUnit.{OutputUnit, noted}
 use Rattle.js_tree.specs.Result.{ResultTree, kept, units}
 use Rattle.js_tree.specs.Units.{units_below}
@@ -30,14 +30,19 @@ noted_of-flat_of (tree u below after) =
 pub noted_of-flat_form : (t : ResultTree) → noted_of (flat_form t) ≡ units t
 noted_of-flat_form t = rw (noted_of-flat_of t.below) refl
 
+-- the units of the only tree
+pub units_of_one : (t : ResultTree) (ts : List ResultTree) (before : List OutputUnit) → ts ≡ t ∷ [] → before ≡ [] → before ++ units_below noted (forest_of ts) ≡ units t
+units_of_one t ts before e f = ap (λ us. us ++ units_below noted (forest_of ts)) f ∙ (ap (λ xs. units_below noted (forest_of xs)) e ∙ append-nil (units t))
+
 -- the text of the list of units, in the pieces in which it is written from rows
 pub units_in_parts : (rows : List FlatRow) (t : ResultTree) (valid : Bool) → rows ≡ flat_form t → valid ≡ t.root.valid
-    → list_start valid ++ (compact (list (items (map (λ u. node_value u []) (noted_of rows)))) ++ valid_text valid)
+    → (list_start valid ++ codes "[") ++ (compact_items false (items (map (λ u. node_value u []) (noted_of rows))) ++ valid_text valid)
     ≡ compact (units_value t.root.valid (units t))
 units_in_parts rows t valid e v =
-    list_text_is valid (list (items (map (λ u. node_value u []) (noted_of rows))))
+    append_assoc (list_start valid) (codes "[") (compact_items false (items (map (λ u. node_value u []) (noted_of rows))) ++ valid_text valid)
+    ∙ (list_text_is valid (list (items (map (λ u. node_value u []) (noted_of rows))))
     ∙ (ap (λ us. compact (units_value valid us)) (ap noted_of e ∙ noted_of-flat_form t)
-    ∙ ap (λ b. compact (units_value b (units t))) v)
+    ∙ ap (λ b. compact (units_value b (units t))) v))
 
 -- condensing leaves the units
 pub noted_of-condensed : (old new : List FlatRow) (t : ResultTree) → old ≡ flat_form t → new ≡ flat_form (kept t) → noted_of new ≡ noted_of old

@@ -4,7 +4,7 @@ use Rattle.std.proofs.lemmas.List.{length-append}
 use Rattle.json.specs.Print.{escape}
 use Rattle.js_doc.specs.Compact.{comma_if}
 use Rattle.js_tree.specs.RelativeState.{part}
-use Rattle.js_tree.specs.code.Opening.{front_text, schema_kept, schema_start}
+use Rattle.js_tree.specs.code.Opening.{opening_front, schema_kept, schema_start}
 use Rattle.js_tree.specs.code.RelativeText.{opening_text}
 
 before_slash : (s : List ℕ) → take (length s) (s ++ 47 ∷ []) ≡ s
@@ -41,7 +41,7 @@ behind_start text e = ap (drop 29) e
 pub written : (later slash : Bool) (text cut put : List ℕ) → text ≡ schema_start ++ (schema_kept text ++ 47 ∷ [])
     → ((rest : List ℕ) → text ≡ 44 ∷ rest → cut ≡ comma_if later ++ rest)
     → ((front : List ℕ) → cut ≡ front ++ 47 ∷ [] → put ≡ front ++ part slash [])
-    → put ≡ front_text later (schema_kept text) slash
+    → put ≡ opening_front later (schema_kept text) slash
 written later slash text cut put shape from to =
     let start = codes "{\"absoluteKeywordLocation\":\"" in
     let s = schema_kept text in
@@ -54,7 +54,7 @@ part_is true token = refl
 part_is false token = refl
 
 -- with the token behind it
-pub front_then : (later slash : Bool) (kept bytes schema token absolute : List ℕ) → kept ≡ bytes → escape bytes ≡ bytes → bytes ≡ schema → escape schema ++ part slash token ≡ escape absolute → front_text later kept slash ++ token ≡ opening_text later absolute
+pub front_then : (later slash : Bool) (kept bytes schema token absolute : List ℕ) → kept ≡ bytes → escape bytes ≡ bytes → bytes ≡ schema → escape schema ++ part slash token ≡ escape absolute → opening_front later kept slash ++ token ≡ opening_text later absolute
 front_then later slash kept bytes schema token absolute k p b e =
     let start = codes "{\"absoluteKeywordLocation\":\"" in
     append_assoc (comma_if later) (start ++ (kept ++ part slash [])) token

@@ -6,16 +6,15 @@ ghost use Rattle.js_doc.specs.Value.{text, list, members, object, truth, whole, 
 ghost use Rattle.js_tree.specs.Forest.{forest_of};
 ghost use Rattle.js_tree.specs.Form.{annotation_value, array_of_some, error_value, flag, form, list_name, node_value};
 ghost use Rattle.js_tree.specs.Form.{node_values, shown, tree_of_format, unit_list, verbose, value_if};
-ghost use Rattle.js_tree.specs.OutputUnit.{noted};
 ghost use Rattle.js_tree.specs.code.Put.{put_some};
 ghost use Rattle.js_tree.specs.Result.{ResultTree, Normal, Run, pruned};
 ghost use Rattle.js_tree.specs.Seen.{note_of};
-ghost use Rattle.js_tree.specs.Units.{units_below};
 ghost use Rattle.js_tree.specs.declared.forms.Format.TheVariants.{Detailed};
 
 use crate::note::Note;
 use crate::reducing::condensing::condense;
 use crate::reducing::merging::merge_condense;
+use crate::reducing::noted_units::units;
 use crate::reducing::pruning::prune;
 use crate::tree::Tree;
 use crate::unit::Unit;
@@ -112,16 +111,27 @@ pub(crate) fn flag(alloc: Global, valid: bool) -> Result<Doc, Memory>
 fn unit_list(alloc: Global, tree: &Tree) -> Result<Doc, Memory>
     ensures { IfOk result (λ doc. value_of doc ≡ unit_list tree.now) }
 {
-    let mut docs = Vec::new(alloc);
-    if tree.unit.is_noted() {
-        docs.push(node_doc(alloc, &tree.unit, Vec::new(alloc))?)?;
+    let noted = units(alloc, tree)?;
+    units_doc(alloc, tree.unit.valid, noted.as_slice())
+}
+
+/// The document of these units: the verdict, and a node without children for each.
+pub(crate) fn units_doc(alloc: Global, valid: bool, units: &[&Unit]) -> Result<Doc, Memory>
+    ensures { IfOk result (λ doc. value_of doc ≡ object (members ((
+      list_name valid,
+      list (items (map (λ u. node_value u []) (map (λ unit. unit.now) units.now))),
+    ) ∷
+        (codes "valid", truth valid) ∷ []))) }
+{
+    let mut docs = Vec::with_capacity(alloc, units.len())?;
+    for unit in units {
+        docs.push(node_doc(alloc, unit, Vec::new(alloc))?)?;
     }
-    add_unit_docs(alloc, tree.children.as_slice(), &mut docs)?;
-    list_doc(alloc, tree.unit.valid, docs)
+    list_doc(alloc, valid, docs)
 }
 
 /// The document of a list of units: the verdict, and the documents of the units.
-pub(crate) fn list_doc(alloc: Global, valid: bool, docs: Vec<Doc>) -> Result<Doc, Memory>
+fn list_doc(alloc: Global, valid: bool, docs: Vec<Doc>) -> Result<Doc, Memory>
     ensures { IfOk result (λ doc. value_of doc
         ≡ object (members ((list_name valid, list (items (map value_of docs.items))) ∷
         (codes "valid", truth valid) ∷ []))) }
@@ -135,20 +145,6 @@ pub(crate) fn list_doc(alloc: Global, valid: bool, docs: Vec<Doc>) -> Result<Doc
     )?;
     put_member(alloc, &mut members, "valid", Doc::Truth(valid))?;
     Ok(Doc::Members(members))
-}
-
-/// Adds the documents of the noted units, in preorder, without children.
-fn add_unit_docs(alloc: Global, trees: &[Tree], docs: &mut Vec<Doc>) -> Result<(), Memory>
-    ensures { IfOk result (λ _. map value_of docs.new.items
-        ≡ map value_of docs.old.items ++ map (λ u. node_value u []) (units_below noted (forest_of trees.now))) }
-{
-    for tree in trees {
-        if tree.unit.is_noted() {
-            docs.push(node_doc(alloc, &tree.unit, Vec::new(alloc))?)?;
-        }
-        add_unit_docs(alloc, tree.children.as_slice(), docs)?;
-    }
-    Ok(())
 }
 
 /// The document of a node, with those of its children inside.
@@ -242,7 +238,13 @@ fn put_text_member(
 fn put_member(alloc: Global, members: &mut Members, name: &str, doc: Doc) -> Result<(), Memory>
     ensures { OnOk result (members.new ≡ put name.now (value_of doc) members.old) }
 {
-    members.put(String::from_str(alloc, name)?, doc)
+    match String::from_str(alloc, name) {
+        Ok(name) => members.put(name, doc),
+        Err(refused) => {
+            drop(doc);
+            Err(Memory::from(refused))
+        }
+    }
 }
 
 fn texts(alloc: Global, names: &[&str]) -> Result<Doc, Memory>

@@ -105,6 +105,14 @@ impl<'a> Note<'a> {
     pub fn is_some(&self) -> bool
         ensures { result ≡ speaks (note_of self.now) }
     {
-        !matches!(self, Note::Silent)
+        match self {
+            Note::Silent => false,
+            Note::Error(_) => true,
+            Note::Value(_) => true,
+            Note::Names(_) => true,
+            Note::Index(_) => true,
+            Note::Indexes(_) => true,
+            Note::Truth => true,
+        }
     }
 }

@@ -1,5 +1,5 @@
 //! Result trees.
-ghost use Rattle.std.specs.Prelude.{◌≡◌, ◌∷◌, ◌++◌, ◌↔◌, IsTrue, MatchOption, [], if◌then◌else◌, length};
+ghost use Rattle.std.specs.Prelude.{◌≡◌, ◌↔◌, IsTrue, [], if◌then◌else◌, length};
 ghost use Rattle.js_tree.specs.Forest.{empty, tree as node};
 ghost use Rattle.js_tree.specs.OutputUnit.{noted};
 ghost use Rattle.js_tree.specs.Seen.{note_of};
@@ -10,6 +10,7 @@ use crate::note::Note;
 use crate::unit::Unit;
 use std::cell::Cell;
 use std::marker::Model;
+use std::mem::replace;
 
 /// A node of a result tree, with its subtree (Core, section 12.4.4). Contracts see a rose tree of units: the root's
 /// unit, and the forest of the children.
@@ -102,13 +103,6 @@ impl<'a> Trees<'a> {
         self.trees.is_empty()
     }
 
-    /// Removes and returns the last tree.
-    pub(crate) fn pop(&mut self) -> Option<Tree<'a>>
-        ensures { MatchOption result (self.old ≡ []) (λ last. self.old ≡ self.new ++ last ∷ []) }
-    {
-        self.trees.pop()
-    }
-
     /// The vector that the trees were made from.
     pub fn into_vec(self) -> Vec<Tree<'a>>
         ensures { result.items ≡ self.entry }
@@ -157,8 +151,8 @@ impl<'a> Tree<'a> {
         self.unit.is_noted() || self.children.len() >= 2
     }
 
-    /// Replaces the tree by its root's only child, unless condensing leaves the root in place. Returns whether a tree is
-    /// left.
+    /// Replaces the tree by its root's only child, unless condensing leaves the root in place. Returns whether a tree
+    /// is left.
     pub(crate) fn lift(&mut self) -> bool
         ensures { (if node_stands noted self.old.root self.old.below
             then node self.old.root self.old.below empty else self.old.below)
@@ -167,9 +161,9 @@ impl<'a> Tree<'a> {
         if self.node_stands() {
             return true;
         }
-        match self.children.pop() {
+        match self.children.trees.pop() {
             Some(child) => {
-                *self = child;
+                drop(replace(self, child));
                 true
             }
             None => false,

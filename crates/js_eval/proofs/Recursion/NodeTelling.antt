@@ -9,7 +9,7 @@ use Rattle.std.proofs.lemmas.List.Folds.{list_all-append}
 use Rattle.std.proofs.lemmas.List.Sums.{sum_by-append, sum_by-cons}
 use Rattle.js_doc.specs.Pointer.{pointer_text}
 use Rattle.js_doc.specs.Value.{Value}
-use Rattle.js_doc.specs.Members.{get, IsAscending}
+use Rattle.js_doc.specs.Members.{IsAscending}
 use Rattle.js_assert.specs.Argument.{entries}
 use Rattle.js_tree.specs.Forest.{Forest, empty, tree, ◌⊹◌}
 use Rattle.js_eval.specs.Applications.{Application}
@@ -32,7 +32,7 @@ use Rattle.js_eval.proofs.Recursion.Order.{condition_in, matching_in, matches, n
 use Rattle.js_eval.proofs.Recursion.Sources.{flat_more}
 use Rattle.js_tree.proofs.Telling.{passes-append}
 use Rattle.js_eval.proofs.Recursion.Telling.{events_beside, keywords_more}
-use Rattle.js_eval.specs.Walk.Visited.{is_visited, AreJudged, AreJudgedIf, others_at}
+use Rattle.js_eval.specs.Walk.Visited.{is_visited, AreJudged, AreJudgedIf}
 use Rattle.js_eval.specs.declared.walking.tally.Others.{Others}
 use Rattle.js_eval.proofs.Recursion.Visited.{all_visited, condition_kept, matching_kept, asks_none, gives_no_names, gives_no_indexes, more_visited, none_visited, every_visited, all_apart, sum_apart, all_same, ones, others_pass, others_alone, any_events}
 

@@ -1,25 +1,22 @@
 -- The keywords that a quiet walk doesn't visit ask for nothing and give nothing.
-use Rattle.std.specs.Prelude.{◌≡◌, ℕ, ◌+◌, ◌-◌, ◌≤◌, Bool, true, false, not, ◌||◌, ◌&&◌, cond, List, [], ◌∷◌, ◌++◌, Option, Some, None, filter, length, sum_by, map, codes, refl}
+use Rattle.std.specs.Prelude.{◌≡◌, ℕ, ◌+◌, ◌-◌, ◌≤◌, Bool, true, false, not, ◌&&◌, cond, List, [], ◌∷◌, ◌++◌, Option, filter, length, sum_by, refl}
 use Rattle.std.specs.List.{list_all, flat_map}
-use Rattle.std.specs.Option.{option_map_or}
 use Rattle.std.proofs.Common.{sym, ◌∙◌, ap, arith, append-nil}
 use Rattle.std.proofs.lemmas.List.Elements.{filter-append}
 use Rattle.std.proofs.lemmas.List.Filters.{sum_by-filter_both}
 use Rattle.std.proofs.lemmas.List.Sums.{sum_by-cons}
 use Rattle.js_doc.specs.Value.{Value, Named}
-use Rattle.js_doc.specs.Members.{get, IsAscending}
 use Rattle.js_assert.specs.Argument.{entries}
 use Rattle.js_tree.specs.Events.{Event, Passes}
-use Rattle.js_eval.specs.Applications.{Application, asks_of}
-use Rattle.js_eval.specs.Keywords.{Keyword, keywords, comes_before_else}
+use Rattle.js_eval.specs.Applications.{asks_of}
+use Rattle.js_eval.specs.Keywords.{Keyword}
 use Rattle.js_eval.specs.Kind.{kind}
 use Rattle.js_eval.specs.SchemaSet.{Text, SchemaSet}
 use Rattle.js_eval.specs.Size.{nodes_of_keyword}
-use Rattle.js_eval.specs.Verdict.{Known, asks, passes, gives_names, gives_indexes, names_by, passes_by}
+use Rattle.js_eval.specs.Verdict.{Known, asks, passes, gives_names, gives_indexes, passes_by}
 use Rattle.js_eval.specs.declared.keywords.kind.Kind.{Kind}
 use Rattle.js_eval.specs.declared.keywords.kind.Kind.TheVariants.{Assertion, Annotation}
 use Rattle.js_eval.specs.Walk.Keeping.{condition_step, matching_step, names_origin, indexes_origin}
-use Rattle.js_eval.specs.declared.walking.keeping.Origin.{Origin}
 use Rattle.js_eval.specs.declared.walking.keeping.Origin.TheVariants.{Nowhere}
 use Rattle.js_eval.specs.Walk.Told.{passes_at}
 use Rattle.js_eval.specs.Walk.Visited.{may_apply, is_visited}

@@ -56,7 +56,7 @@ pub(crate) fn alone<'a>(place: Place, schema: &'a Doc, value: Instance<'a>) -> A
 /// # Errors
 /// `Memory` if an allocation fails.
 #[inline(always)]
-pub(crate) fn boxed<T: Drop>(alloc: Global, value: T) -> Result<Box<T>, Memory>
+pub(crate) fn in_box<T: Drop>(alloc: Global, value: T) -> Result<Box<T>, Memory>
     ensures { IfOk result (λ b. b.value ≡ value) }
 {
     Ok(Box::new(alloc, value)?)

@@ -14,7 +14,7 @@ ghost use Rattle.js_eval.specs.code.Starting.{HoldsBy, HoldsOne, IsAtPlace, by_k
 ghost use Rattle.js_eval.specs.code.Terms.{Documents, entries, has, instance_of, texts_of, value_of};
 
 use crate::cursors::application::{Held, To};
-use crate::cursors::asking::{Asking, boxed};
+use crate::cursors::asking::{Asking, in_box};
 use crate::cursors::member_cursor::{Adjacent, Choice, MemberCursor, object_at};
 use crate::cursors::name_cursor::{Among, each_of_names, names_ascend};
 use crate::cursors::pattern_cursor::PatternCursor;
@@ -67,7 +67,7 @@ pub(crate) fn dependent<'a>(
                 members: named.pairs(),
                 choice: Choice::Named(members),
             };
-            Ok(Asking::Members(boxed(alloc, cursor)?))
+            Ok(Asking::Members(in_box(alloc, cursor)?))
         }
         None => Ok(Asking::One(None)),
     }
@@ -119,7 +119,7 @@ fn named_members<'a>(
             members: members.pairs(),
             choice: Choice::Named(named),
         };
-        return Ok(Asking::Members(boxed(alloc, cursor)?));
+        return Ok(Asking::Members(in_box(alloc, cursor)?));
     }
     let among = among_members(named, members);
     Ok(Asking::Names(each_of_names(at, named, among)))
@@ -175,7 +175,7 @@ pub(crate) fn patterns<'a>(
                 left: members.pairs(),
                 is_kept: argument_in(schema, "additionalProperties").is_some(),
             };
-            Ok(Asking::Patterns(boxed(alloc, cursor)?))
+            Ok(Asking::Patterns(in_box(alloc, cursor)?))
         }
         None => Ok(Asking::One(None)),
     }
@@ -213,7 +213,7 @@ pub(crate) fn additional<'a>(
                     patterns,
                 }),
             };
-            Ok(Asking::Members(boxed(alloc, cursor)?))
+            Ok(Asking::Members(in_box(alloc, cursor)?))
         }
         None => Ok(Asking::One(None)),
     }
@@ -244,7 +244,7 @@ pub(crate) fn property_names<'a>(
                 members: members.pairs(),
                 choice: Choice::All,
             };
-            Ok(Asking::Members(boxed(alloc, cursor)?))
+            Ok(Asking::Members(in_box(alloc, cursor)?))
         }
         None => Ok(Asking::One(None)),
     }
@@ -277,5 +277,5 @@ pub(crate) fn unevaluated_properties<'a>(
         members: members.pairs(),
         choice: Choice::Except(set),
     };
-    Ok(Asking::Members(boxed(alloc, cursor)?))
+    Ok(Asking::Members(in_box(alloc, cursor)?))
 }

@@ -84,6 +84,7 @@ pub(crate) fn names_origin(kind: Kind) -> Origin
         Kind::Then => Origin::Below,
         Kind::Else => Origin::Below,
         Kind::DependentSchemas => Origin::Below,
+        Kind::Not => Origin::Nowhere,
         _ => Origin::Nowhere,
     }
 }

@@ -14,8 +14,8 @@ use crate::walking::fault::WalkFault;
 use crate::walking::pointer_text::PointerText;
 use crate::walking::reporter::Reporter;
 use crate::walking::steps::{
-    asked, close_keyword, close_schema, come_back, go_down, leaf_node, next_keyword, open_keyword,
-    open_schema, others_of,
+    asked, close_keyword, close_schema, come_back, go_down, leaf_node, next_application,
+    next_keyword, open_keyword, open_schema, others_of,
 };
 use crate::walking::tally::{Case, Judged, Judging, Known, Tally, Together};
 use crate::walking::way::{Start, Way};
@@ -64,35 +64,38 @@ pub(crate) fn node<W: World, H: PointerText + Drop, R: Reporter<W, H>>(
     };
     let quiet = into.is_quiet();
     let keywords = world.keywords(place, schema, quiet);
-    let mut judging = Judging { keywords, known };
-    let mut together = Together::unknown();
-    'keywords: while let Some(keyword) = next_keyword(world, &mut judging) {
-        let case = Case {
-            place,
-            schema,
-            value,
-            keyword,
-        };
-        let judged = keyword_node(
-            alloc,
-            world,
-            way,
-            into,
-            depth - 1,
-            case,
-            start,
-            judging.known,
-            &mut together,
-        )?;
-        let known = judging.known;
-        judging.known = known.with_keyword(world.kind(keyword), judged.passes, judged.held);
-    }
-    let others = others_of(alloc, world, quiet, place, value, judging.known.matching)?;
+    let known = {
+        let mut judging = Judging { keywords, known };
+        let mut together = Together::unknown();
+        'keywords: while let Some(keyword) = next_keyword(world, &mut judging) {
+            let case = Case {
+                place,
+                schema,
+                value,
+                keyword,
+            };
+            let judged = keyword_node(
+                alloc,
+                world,
+                way,
+                into,
+                depth - 1,
+                case,
+                start,
+                judging.known,
+                &mut together,
+            )?;
+            let known = judging.known;
+            judging.known = known.with_keyword(world.kind(keyword), judged.passes, judged.held);
+        }
+        judging.known
+    };
+    let others = others_of(alloc, world, quiet, place, value, known.matching)?;
     if way.left < others.count {
         return Err(WalkFault::TooLarge);
     }
     way.left -= others.count;
-    let valid = judging.known.valid & others.pass;
+    let valid = known.valid & others.pass;
     close_schema(alloc, world, way, into, place, schema, start, valid)?;
     Ok(valid)
 }
@@ -168,8 +171,8 @@ fn applicator_node<W: World, H: PointerText + Drop, R: Reporter<W, H>>(
         (W.site world.now case.place) (W.value_of case.value) (W.keyword_of case.keyword) known start result
         way.old way.new into.old into.new }
 {
-    let here = way.current_marks();
     let mut asking = asked(alloc, world, way, case, start, known.condition)?;
+    let here = way.current_marks();
     open_keyword(alloc, world, way, into, case.place, case.keyword)?;
     let tally = applications(
         alloc,
@@ -213,7 +216,7 @@ pub(crate) fn applications<W: World, H: PointerText + Drop, R: Reporter<W, H>>(
 {
     let _left = way.left;
     let mut tally = Tally { asked: 0, held: 0 };
-    'each: while let Some(application) = world.next(alloc, asking)? {
+    'each: while let Some(application) = next_application(alloc, world, asking, tally)? {
         let here = way.current_marks();
         go_down(world, way, application)?;
         let holds = node(

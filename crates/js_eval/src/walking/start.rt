@@ -1,7 +1,7 @@
 //! The start of a walk.
 ghost use Rattle.std.specs.Prelude.{◌≡◌, [], true, MatchResult};
 ghost use Rattle.js_eval.specs.Location.{at_root};
-ghost use Rattle.js_eval.specs.Result.{ResultTree, IsResult, IsWithinLimits};
+ghost use Rattle.js_eval.specs.Result.{ResultTree, IsResult, IsWithinLimits, most_levels, most_nodes};
 ghost use Rattle.js_eval.specs.Walked.{OnTooLarge};
 ghost use Rattle.js_eval.specs.Walk.Reported.{Reported};
 
@@ -18,10 +18,20 @@ use js_bundle::Place;
 use std::alloc::Global;
 
 /// The maximal number of nested schema applications, the root's schema included.
-const MOST_LEVELS: usize = 512;
+#[inline(always)]
+fn most_levels() -> usize
+    ensures { result ≡ most_levels }
+{
+    512
+}
 
 /// The maximal number of nodes of a result.
-const MOST_NODES: usize = 1_000_000;
+#[inline(always)]
+fn most_nodes() -> usize
+    ensures { result ≡ most_nodes }
+{
+    1_000_000
+}
 
 /// Evaluates a value against the schema at a place, and reports the result node by node. Returns the verdict.
 ///
@@ -48,22 +58,19 @@ pub(crate) fn walk_from<W: World, H: PointerText + Drop, R: Reporter<W, H>>(
         path: Path::new(),
         keyword: Trail::new(alloc),
         instance: Trail::new(alloc),
-        left: MOST_NODES,
+        left: most_nodes(),
         names: Vec::new(alloc),
         indexes: Vec::new(alloc),
         scope: DynamicScope::new(alloc),
     };
-    match node(
+    node(
         alloc,
         world,
         &mut way,
         into,
-        MOST_LEVELS,
+        most_levels(),
         place,
         schema,
         value,
-    ) {
-        Ok(valid) => Ok(valid),
-        Err(fault) => Err(fault),
-    }
+    )
 }

@@ -12,5 +12,5 @@ abbrev pub schema_kept : List ℕ → List ℕ
 schema_kept text = take (length text - 30) (drop 29 text)
 
 -- what is written before the token of an absolute location
-abbrev pub front_text : Bool → List ℕ → Bool → List ℕ
-front_text later schema slash = comma_if later ++ (codes "{\"absoluteKeywordLocation\":\"" ++ (schema ++ part slash []))
+abbrev pub opening_front : Bool → List ℕ → Bool → List ℕ
+opening_front later schema slash = comma_if later ++ (codes "{\"absoluteKeywordLocation\":\"" ++ (schema ++ part slash []))

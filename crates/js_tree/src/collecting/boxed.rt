@@ -74,6 +74,8 @@ impl<'a> Collector<'a> for Boxed<'a> {
                 children: Vec::new(self.alloc),
             };
             self.nodes.push(node)?;
+        } else {
+            drop(head);
         }
         Ok(())
     }
@@ -85,7 +87,7 @@ impl<'a> Collector<'a> for Boxed<'a> {
         ensures ok { (boxed_state self.old).frames ≡ [] → IsOk result }
     {
         match self.nodes.pop() {
-            None => Ok(()),
+            None => Ok(drop(note)),
             Some(node) => match self.nodes.pop() {
                 None => {
                     // No tree was found while nodes are open: there is nothing to drop.
@@ -101,6 +103,7 @@ impl<'a> Collector<'a> for Boxed<'a> {
                     Err(refused) => {
                         self.nodes.push_reserved(parent);
                         self.nodes.push_reserved(node);
+                        drop(note);
                         Err(Memory::from(refused))
                     }
                 },

@@ -90,6 +90,8 @@ impl<'a> Collector<'a> for Flat<'a> {
             };
             self.rows.push(row)?;
             let _ = self.numbers.push(number);
+        } else {
+            drop(head);
         }
         Ok(())
     }
@@ -106,7 +108,11 @@ impl<'a> Collector<'a> for Flat<'a> {
                 let row = &mut self.rows[number];
                 row.unit.close(valid, note);
                 row.size = count - number;
+            } else {
+                drop(note);
             }
+        } else {
+            drop(note);
         }
         Ok(())
     }

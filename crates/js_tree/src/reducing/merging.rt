@@ -77,19 +77,9 @@ fn merge_one(tree: &mut Tree) -> bool
 fn keep_firsts(trees: &mut Vec<Tree>)
     ensures { forest_of trees.new.items ≡ firsts same_but_keyword (forest_of trees.old.items) }
 {
-    if trees.len() < MANY {
-        keep_few(trees);
+    if trees.len() >= MANY && keep_firsts_by_list(trees) {
         return;
     }
-    if keep_firsts_by_list(trees) {
-        return;
-    }
-    keep_few(trees);
-}
-
-fn keep_few(trees: &mut Vec<Tree>)
-    ensures { forest_of trees.new.items ≡ firsts same_but_keyword (forest_of trees.old.items) }
-{
     let count = keep_firsts_of_few(trees);
     trees.truncate(count);
 }

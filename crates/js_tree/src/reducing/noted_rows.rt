@@ -20,7 +20,11 @@ pub fn flat_units<'t, 'a>(alloc: Global, flat: &'t Flat<'a>) -> Result<Vec<&'t U
     noted_units(alloc, flat.rows())
 }
 
-fn noted_units<'t, 'a>(alloc: Global, rows: &'t [Row<'a>]) -> Result<Vec<&'t Unit<'a>>, Memory>
+/// The same of the rows.
+pub(crate) fn noted_units<'t, 'a>(
+    alloc: Global,
+    rows: &'t [Row<'a>],
+) -> Result<Vec<&'t Unit<'a>>, Memory>
     ensures { IfOk result (λ found. map (λ unit. unit.now) found.items ≡ noted_of (map row_of rows.now)) }
 {
     let mut found = Vec::new(alloc);

@@ -9,6 +9,7 @@ use crate::tree::Tree;
 use crate::unit::Unit;
 use js_doc::Memory;
 use std::alloc::Global;
+use std::slice::from_ref;
 
 /// The units that have a note, in preorder and including the root's: what the basic format lists (Core, section
 /// 12.4.2).
@@ -19,10 +20,7 @@ pub fn units<'t, 'a>(alloc: Global, tree: &'t Tree<'a>) -> Result<Vec<&'t Unit<'
     ensures { IfOk result (λ found. map (λ unit. unit.now) found.items ≡ units tree.now) }
 {
     let mut found = Vec::new(alloc);
-    if tree.unit.is_noted() {
-        found.push(&tree.unit)?;
-    }
-    add_units(tree.children.as_slice(), &mut found)?;
+    add_units(from_ref(tree), &mut found)?;
     Ok(found)
 }
 

@@ -22,6 +22,7 @@ use crate::relative::locations::Locations;
 use crate::relative::rows::{RelativeRow, RelativeRows};
 use crate::relative::verbose_text::put_opening;
 use crate::writing::node_text::put_closed_annotation;
+use crate::writing::row_text::put_list_start;
 use js_doc::{Out, Stopped, put_escaped};
 
 /// Writes the rows' tree as compact text in the basic format (JSON Schema Core, section 12.4.2). It prunes while it
@@ -41,11 +42,11 @@ pub fn put_basic<O: Out>(
         → Puts (O.progress out.old) (O.progress out.new) (compact (unit_list (pruned t))) result }
 {
     let mut locations = locations;
-    let mut gathered = locations.take_gathered();
     let rows = rows.rows.as_slice();
     let root = &rows[0];
     let verdict = root.valid;
     put_list_start(verdict, out)?;
+    let mut gathered = locations.take_gathered();
     put_trees(verdict, false, rows, &mut locations, &mut gathered, out)?;
     put_list_end(verdict, out)
 }
@@ -261,17 +262,6 @@ fn reason_of<'n>(note: &'n Note<'_>) -> Option<&'n str>
         Note::Index(_) => None,
         Note::Indexes(_) => None,
         Note::Truth => None,
-    }
-}
-
-/// Writes what is before the first unit.
-fn put_list_start<O: Out>(valid: bool, out: &mut O) -> Result<(), Stopped>
-    ensures { Puts (O.progress out.old) (O.progress out.new) (list_start valid ++ codes "[") result }
-{
-    if valid {
-        out.put(b"{\"annotations\":[")
-    } else {
-        out.put(b"{\"errors\":[")
     }
 }
 

@@ -1,5 +1,5 @@
 //! Text that is put together in memory before it goes out.
-ghost use Rattle.std.specs.Prelude.{◌≡◌, [], OnOk, length, take};
+ghost use Rattle.std.specs.Prelude.{◌≡◌, ◌+◌, ◌≤◌, [], IfOk, OnOk, length, take, vec_capacity};
 ghost use Rattle.js_doc.specs.BytesOut.{Puts};
 
 use js_doc::{Memory, Out, Stopped};
@@ -66,6 +66,17 @@ impl Gathered {
         self.text.clear();
         Ok(())
     }
+}
+
+/// The text, with memory for so many bytes behind it.
+pub(crate) fn with_room(alloc: Global, text: &[u8], more: usize) -> Result<Vec<u8>, Memory>
+    ensures items { IfOk result (λ v. v.items ≡ text.now) }
+    ensures room { IfOk result (λ v. length text.now + more ≤ vec_capacity v) }
+{
+    let room = more.checked_add(text.len()).ok_or(Memory)?;
+    let mut with_room = Vec::with_capacity(alloc, room)?;
+    with_room.extend_from_slice(text)?;
+    Ok(with_room)
 }
 
 /// It stops where the text would be too long; then it is as it was.

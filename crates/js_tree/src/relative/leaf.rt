@@ -8,6 +8,7 @@ ghost use Rattle.js_tree.specs.Seen.{note_of};
 use crate::note::Note;
 use crate::relative::rows::{MOST, OpenNode, RelativeRow, RelativeRows, goes};
 use js_doc::Memory;
+use std::mem::forget;
 
 impl<'a> RelativeRows<'a> {
     /// Whether a keyword's leaf may be added below a schema's node at these locations (`add_leaf`). True where that
@@ -40,6 +41,8 @@ impl<'a> RelativeRows<'a> {
             self.old self.new) }
     {
         if goes(self.trims, &note, 1) {
+            // Such a note is silent: there is nothing to drop.
+            forget(note);
             return Ok(());
         }
         let name = name.as_bytes();

@@ -9,7 +9,7 @@ ghost use Rattle.js_tree.specs.code.NodeText.{end_text, valid_text};
 ghost use Rattle.js_tree.specs.code.RelativeText.{IsAbsolute};
 
 use crate::collecting::collector::Head;
-use crate::relative::gathered::Gathered;
+use crate::relative::gathered::{Gathered, with_room};
 use crate::relative::opening::Opening;
 use crate::relative::rows::{RelativeRow, RelativeRows, behind};
 use crate::relative::unescaping::text_of;
@@ -45,15 +45,9 @@ impl Locations {
         ensures { IfOk result (λ at. HasRoomFor at rows.now) }
     {
         let (keyword, instance) = added(rows.rows.as_slice())?;
-        let room = keyword.checked_add(KEYWORD_START.len()).ok_or(Memory)?;
-        let mut keyword = Vec::with_capacity(alloc, room)?;
-        keyword.extend_from_slice(KEYWORD_START)?;
-        let room = instance.checked_add(INSTANCE_START.len()).ok_or(Memory)?;
-        let mut instance = Vec::with_capacity(alloc, room)?;
-        instance.extend_from_slice(INSTANCE_START)?;
         Ok(Locations {
-            keyword,
-            instance,
+            keyword: with_room(alloc, KEYWORD_START, keyword)?,
+            instance: with_room(alloc, INSTANCE_START, instance)?,
             opening: Opening::new(alloc)?,
             gathered: Gathered::new(alloc)?,
         })

@@ -4,8 +4,9 @@ ghost use Rattle.json.specs.Print.{escape};
 ghost use Rattle.js_doc.specs.BytesOut.{Puts};
 ghost use Rattle.js_doc.specs.Compact.{comma_if};
 ghost use Rattle.js_tree.specs.RelativeState.{part};
-ghost use Rattle.js_tree.specs.code.Opening.{front_text, schema_kept, schema_start};
+ghost use Rattle.js_tree.specs.code.Opening.{opening_front, schema_kept, schema_start};
 
+use crate::relative::gathered::with_room;
 use crate::relative::rows::behind;
 use js_doc::{Memory, Out, Stopped, stand_as_they_are};
 use std::alloc::Global;
@@ -21,9 +22,9 @@ pub(crate) struct Opening {
     ghost room: { 286 ≤ vec_capacity text },
 }
 
-// What stands before the location, and how long that is.
-const START: &[u8] = b",{\"absoluteKeywordLocation\":\"";
-
+// What is kept of the empty location.
+const START: &[u8] = b",{\"absoluteKeywordLocation\":\"/";
+// How long that is which stands before the location.
 const START_LENGTH: usize = 29;
 // Longer locations aren't kept, so that nothing is allocated while rows are written.
 const LONGEST_KEPT: usize = 256;
@@ -34,9 +35,7 @@ impl Opening {
     /// # Errors
     /// `Memory` if an allocation fails.
     pub fn new(alloc: Global) -> Result<Opening, Memory> {
-        let mut text = Vec::with_capacity(alloc, START_LENGTH + LONGEST_KEPT + 1)?;
-        text.extend_from_slice(START)?;
-        text.push(b'/')?;
+        let text = with_room(alloc, START, LONGEST_KEPT)?;
         Ok(Opening { text })
     }
 
@@ -55,7 +54,7 @@ impl Opening {
     /// there is one.
     pub fn put_kept<O: Out>(&self, later: bool, slash: bool, out: &mut O) -> Result<(), Stopped>
         ensures { Puts (O.progress out.old) (O.progress out.new)
-            (front_text later (schema_kept self.now.text.items) slash) result }
+            (opening_front later (schema_kept self.now.text.items) slash) result }
     {
         let text = from_comma(later, self.text.as_slice());
         out.put(to_slash(slash, text))
@@ -97,7 +96,7 @@ fn add_location(text: &mut Vec<u8>, schema: &[u8])
 }
 
 // The text, without the comma at its beginning if there should be none.
-fn from_comma(later: bool, text: &[u8]) -> &[u8]
+pub(crate) fn from_comma(later: bool, text: &[u8]) -> &[u8]
     ensures { (rest : List ℕ) → text.now ≡ 44 ∷ rest → result.now ≡ comma_if later ++ rest }
 {
     if later { text } else { behind(text, 1) }

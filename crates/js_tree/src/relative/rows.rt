@@ -185,6 +185,8 @@ impl<'a> RelativeRows<'a> {
                 let size = count - number;
                 if goes(self.trims, &note, size) {
                     self.rows.truncate(number);
+                    // Such a note is silent too.
+                    forget(note);
                 } else {
                     let row = &mut self.rows[number];
                     row.valid = valid;
@@ -192,7 +194,11 @@ impl<'a> RelativeRows<'a> {
                     forget(replace(&mut row.note, note));
                     row.size = size;
                 }
+            } else {
+                drop(note);
             }
+        } else {
+            drop(note);
         }
     }
 

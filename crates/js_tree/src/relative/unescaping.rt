@@ -56,7 +56,5 @@ fn read_string(alloc: Global, json: &str) -> Result<Text, Memory>
     let Some(Token::String(text)) = reader.next() else {
         return Err(Memory);
     };
-    let mut copy = String::with_capacity(alloc, text.len())?;
-    copy.push_str(text)?;
-    Ok(Text::new(copy))
+    Ok(Text::new(String::from_str(alloc, text)?))
 }

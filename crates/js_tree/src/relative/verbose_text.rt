@@ -1,5 +1,5 @@
 //! The text of the verbose format, from relative rows.
-ghost use Rattle.std.specs.Prelude.{◌≡◌, ◌++◌, ◌∷◌, List, ℕ, codes, false, OnOk};
+ghost use Rattle.std.specs.Prelude.{◌≡◌, ◌++◌, ◌∷◌, List, ℕ, false, OnOk};
 ghost use Rattle.js_doc.specs.BytesOut.{Puts};
 ghost use Rattle.js_doc.specs.Compact.{comma_if, compact};
 ghost use Rattle.js_tree.specs.Forest.{Forest};
@@ -22,6 +22,7 @@ use crate::note::Note;
 use crate::relative::basic_text::add_unit;
 use crate::relative::gathered::Gathered;
 use crate::relative::locations::Locations;
+use crate::relative::opening::from_comma;
 use crate::relative::rows::{RelativeRow, RelativeRows};
 use crate::writing::node_text::{put_closed_annotation, put_error_behind, put_list_start};
 use js_doc::{Out, Stopped, put_escaped};
@@ -245,7 +246,7 @@ fn put_whole_opening<O: Out>(later: bool, row: &RelativeRow, out: &mut O) -> Res
     ensures { (absolute : List ℕ) → IsAbsolute row.now absolute
         → Puts (O.progress out.old) (O.progress out.new) (opening_text later absolute) result }
 {
-    put_start(later, out)?;
+    out.put(from_comma(later, b",{\"absoluteKeywordLocation\":\""))?;
     put_escaped(row.schema.as_bytes(), out)?;
     put_part(row.absolute_slash, row.absolute, out)
 }
@@ -259,16 +260,4 @@ pub(crate) fn put_part<O: Out>(slash: bool, text: &[u8], out: &mut O) -> Result<
     }
     out.put(b"/")?;
     out.put(text)
-}
-
-/// Writes what is before the absolute location; after a comma, if the node isn't the first in its list.
-fn put_start<O: Out>(later: bool, out: &mut O) -> Result<(), Stopped>
-    ensures { Puts (O.progress out.old) (O.progress out.new)
-        (comma_if later ++ codes "{\"absoluteKeywordLocation\":\"") result }
-{
-    if later {
-        out.put(b",{\"absoluteKeywordLocation\":\"")
-    } else {
-        out.put(b"{\"absoluteKeywordLocation\":\"")
-    }
 }

@@ -2,14 +2,15 @@
 ghost use Rattle.std.specs.Prelude.{◌≡◌, [], IfOk, map};
 ghost use Rattle.js_doc.specs.Seen.{value_of};
 ghost use Rattle.js_tree.specs.Flat.{flat_form, flat_of};
-ghost use Rattle.js_tree.specs.FlatState.{IsWholeTree, noted_of, row_of, flat_state, whole_tree};
+ghost use Rattle.js_tree.specs.FlatState.{IsWholeTree, row_of, flat_state, whole_tree};
 ghost use Rattle.js_tree.specs.Forest.{Forest};
-ghost use Rattle.js_tree.specs.Form.{flag, node_value, node_values, shown, unit_list, verbose};
+ghost use Rattle.js_tree.specs.Form.{flag, node_values, shown, unit_list, verbose};
 ghost use Rattle.js_tree.specs.OutputUnit.{OutputUnit};
 ghost use Rattle.js_tree.specs.Result.{ResultTree};
 
 use crate::collecting::flat::{Flat, Row};
-use crate::forms::{Format, flag, list_doc, node_doc};
+use crate::forms::{Format, flag, node_doc, units_doc};
+use crate::reducing::noted_rows::noted_units;
 use js_doc::{Doc, Memory};
 use std::alloc::Global;
 
@@ -48,24 +49,10 @@ fn unit_list_doc(alloc: Global, rows: &[Row]) -> Result<Doc, Memory>
     requires { (t : ResultTree) × (map row_of rows.now ≡ flat_form t) }
     ensures { IfOk result (λ doc. (t : ResultTree) → map row_of rows.now ≡ flat_form t → value_of doc ≡ unit_list t) }
 {
-    let docs = noted_docs(alloc, rows)?;
+    let noted = noted_units(alloc, rows)?;
     let row = &rows[0];
     let root = &row.unit;
-    list_doc(alloc, root.valid, docs)
-}
-
-/// The documents of the noted units, without children.
-fn noted_docs(alloc: Global, rows: &[Row]) -> Result<Vec<Doc>, Memory>
-    ensures { IfOk result (λ docs. map value_of docs.items
-        ≡ map (λ u. node_value u []) (noted_of (map row_of rows.now))) }
-{
-    let mut docs = Vec::new(alloc);
-    for row in rows {
-        if row.unit.is_noted() {
-            docs.push(node_doc(alloc, &row.unit, Vec::new(alloc))?)?;
-        }
-    }
-    Ok(docs)
+    units_doc(alloc, root.valid, noted.as_slice())
 }
 
 /// The document of the tree with these rows.

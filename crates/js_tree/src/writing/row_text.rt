@@ -1,8 +1,8 @@
 //! The JSON text of a flat form, written piece by piece.
-ghost use Rattle.std.specs.Prelude.{◌≡◌, [], false, map, true};
+ghost use Rattle.std.specs.Prelude.{◌≡◌, ◌++◌, [], codes, false, map};
 ghost use Rattle.js_doc.specs.BytesOut.{Puts};
 ghost use Rattle.js_doc.specs.Compact.{compact, compact_items};
-ghost use Rattle.js_doc.specs.Value.{items, list};
+ghost use Rattle.js_doc.specs.Value.{items};
 ghost use Rattle.js_tree.specs.Flat.{flat_form, flat_of};
 ghost use Rattle.js_tree.specs.FlatState.{noted_of, row_of};
 ghost use Rattle.js_tree.specs.Forest.{Forest};
@@ -62,27 +62,27 @@ pub(crate) fn put_units<O: Out>(rows: &[Row], out: &mut O) -> Result<(), Stopped
     let row = &rows[0];
     let root = &row.unit;
     let valid = root.valid;
-    put_list_name(valid, out)?;
+    put_list_start(valid, out)?;
     put_noted(rows, out)?;
     put_valid(valid, out)
 }
 
-fn put_list_name<O: Out>(valid: bool, out: &mut O) -> Result<(), Stopped>
-    ensures { Puts (O.progress out.old) (O.progress out.new) (list_start valid) result }
+/// Writes the beginning of such an object, up to the bracket before the units.
+pub(crate) fn put_list_start<O: Out>(valid: bool, out: &mut O) -> Result<(), Stopped>
+    ensures { Puts (O.progress out.old) (O.progress out.new) (list_start valid ++ codes "[") result }
 {
     if valid {
-        out.put(b"{\"annotations\":")
+        out.put(b"{\"annotations\":[")
     } else {
-        out.put(b"{\"errors\":")
+        out.put(b"{\"errors\":[")
     }
 }
 
-/// Writes the noted units as an array, each without children.
+/// Writes the noted units as the items of an array, each without children, and its closing bracket.
 fn put_noted<O: Out>(rows: &[Row], out: &mut O) -> Result<(), Stopped>
     ensures { Puts (O.progress out.old) (O.progress out.new)
-        (compact (list (items (map (λ u. node_value u []) (noted_of (map row_of rows.now)))))) result }
+        (compact_items false (items (map (λ u. node_value u []) (noted_of (map row_of rows.now))))) result }
 {
-    out.put(b"[")?;
     let mut later = false;
     for row in rows {
         if !row.unit.is_noted() {

@@ -9,10 +9,10 @@ use Rattle.js_eval.specs.Sited.{numbered_site}
 use Rattle.js_eval.proofs.Started.{additional_by, on_members}
 use Rattle.js_eval.proofs.cursors.start_members.additional.Goals as goal
 
-pub returns-in_ok-boxed-in-Some-clause-asked : goal.returns-in_ok-boxed-in-Some-clause-asked
-returns-in_ok-boxed-in-Some-clause-asked c =
+pub returns-in_ok-in_box-in-Some-clause-asked : goal.returns-in_ok-in_box-in-Some-clause-asked
+returns-in_ok-in_box-in-Some-clause-asked c =
     let documents = c.args.schemas.now in
-    ap (members_asked documents) c.in_ok-boxed-in-Some.ensures
+    ap (members_asked documents) c.in_ok-in_box-in-Some.ensures
     ∙ ap₂ (on_members (λ n. not (is_named c.object_at-properties.result n || is_matched c.object_at-patterns.result n)))
     c.held_below-below.ensures.site (c.pairs.ensures.pairs ∙ c.in-Some.ensures)
     ∙ ap (map (λ m. record { place = (schemas_of documents).below (numbered_site documents c.args.at.now.place) c.args.at.now.keyword.name.now spec.Alone; step = spec.Alone; at = spec.Name m.0; value = m.1 }))

@@ -1,4 +1,4 @@
-use Rattle.std.proofs.Common.{◌∷◌, ◌++◌, ap, sym, ◌∙◌}
+use Rattle.std.proofs.Common.{◌∷◌, ap, sym, ◌∙◌}
 use Rattle.json.specs.Reads.{token_of}
 use Rattle.js_tree.proofs.UndoneEscapes.{read_back}
 use Rattle.js_tree.proofs.relative.unescaping.read_string.Goals as goal
@@ -8,6 +8,5 @@ returns c =
     λ text e.
     let read = c.in-Some-String.text.now in
     c.new-2.ensures
-    ∙ (c.in_ok-push_str.ensures.bytes
-    ∙ (ap (λ l. l ++ read) c.in_ok-copy.ensures.bytes
-    ∙ read_back c.args.json.now read text c.next.new.self (sym c.in_ok-reader.ensures.ok ∙ (c.in-Some-String.ensures.value ∙ ap (λ t. token_of t ∷ c.next.new.self) c.in-Some-String.field-0-is)) e))
+    ∙ (c.in_ok-from_str.ensures.ok
+    ∙ read_back c.args.json.now read text c.next.new.self (sym c.in_ok-reader.ensures.ok ∙ (c.in-Some-String.ensures.value ∙ ap (λ t. token_of t ∷ c.next.new.self) c.in-Some-String.field-0-is)) e)

@@ -1,4 +1,4 @@
-use Rattle.std.proofs.Common.{subst}
+use Rattle.std.proofs.Common.{codes, refl, subst}
 use Rattle.json.specs.Print.{escape}
 use Rattle.js_doc.specs.BytesOut.{Goes, Stops, Puts}
 use Rattle.js_tree.specs.RelativeState.{absolute_part}
@@ -6,14 +6,14 @@ use Rattle.js_tree.proofs.Pieces.{then_puts, stops_in}
 use Rattle.js_tree.proofs.QuotedParts.{opening_in_parts}
 use Rattle.js_tree.proofs.relative.verbose_text.put_whole_opening.Goals as goal
 
-pub returns-in_err-put_start : goal.returns-in_err-put_start
-returns-in_err-put_start g c =
+pub returns-in_err-put : goal.returns-in_err-put
+returns-in_err-put g c =
     λ absolute is.
     let o = g.O.Out.progress in
     let row = c.args.row.now in
-    subst (λ l. Puts (o c.args.out.now) (o c.put_start.new.out) l c.from_residual.result)
+    subst (λ l. Puts (o c.args.out.now) (o c.put.new.self) l c.from_residual.result)
     (opening_in_parts c.args.later row.schema.now (absolute_part row) absolute is)
-    (stops_in _ _ _ _ _ c.from_residual.ensures.0 c.in_err-put_start.ensures)
+    (stops_in _ _ _ _ _ c.from_residual.ensures.0 (subst (λ l. Stops (o c.args.out.now) (o c.put.new.self) l) (c.from_comma.ensures (codes "{\"absoluteKeywordLocation\":\"") refl) c.in_err-put.ensures))
 
 pub returns-in_err-put_escaped : goal.returns-in_err-put_escaped
 returns-in_err-put_escaped g c =
@@ -21,11 +21,11 @@ returns-in_err-put_escaped g c =
     let o = g.O.Out.progress in
     let row = c.args.row.now in
     let escaped =
-    subst (λ t. Stops (o c.put_start.new.out) (o c.put_escaped.new.out) (escape t)) c.as_bytes.ensures.value
+    subst (λ t. Stops (o c.put.new.self) (o c.put_escaped.new.out) (escape t)) c.as_bytes.ensures.value
     c.in_err-put_escaped.ensures in
     subst (λ l. Puts (o c.args.out.now) (o c.put_escaped.new.out) l c.from_residual-in_err-put_escaped.result)
     (opening_in_parts c.args.later row.schema.now (absolute_part row) absolute is)
-    (then_puts _ _ _ _ _ _ c.in_ok-put_start.ensures
+    (then_puts _ _ _ _ _ _ (subst (λ l. Goes (o c.args.out.now) (o c.put.new.self) l) (c.from_comma.ensures (codes "{\"absoluteKeywordLocation\":\"") refl) c.in_ok-put.ensures)
     (stops_in _ _ _ _ _ c.from_residual-in_err-put_escaped.ensures.0 escaped))
 
 pub returns : goal.returns
@@ -34,8 +34,8 @@ returns g c =
     let o = g.O.Out.progress in
     let row = c.args.row.now in
     let escaped =
-    subst (λ t. Goes (o c.put_start.new.out) (o c.put_escaped.new.out) (escape t)) c.as_bytes.ensures.value
+    subst (λ t. Goes (o c.put.new.self) (o c.put_escaped.new.out) (escape t)) c.as_bytes.ensures.value
     c.in_ok-put_escaped.ensures in
     subst (λ l. Puts (o c.args.out.now) (o c.put_part.new.out) l c.put_part.result)
     (opening_in_parts c.args.later row.schema.now (absolute_part row) absolute is)
-    (then_puts _ _ _ _ _ _ c.in_ok-put_start.ensures (then_puts _ _ _ _ _ _ escaped c.put_part.ensures))
+    (then_puts _ _ _ _ _ _ (subst (λ l. Goes (o c.args.out.now) (o c.put.new.self) l) (c.from_comma.ensures (codes "{\"absoluteKeywordLocation\":\"") refl) c.in_ok-put.ensures) (then_puts _ _ _ _ _ _ escaped c.put_part.ensures))

@@ -13,8 +13,8 @@ pub returns : goal.returns
 returns c =
     let rows = c.args.rows.now in
     let v = c.root.inside.valid in
-    IfOk-weaker c.list_doc.result _ _
+    IfOk-weaker c.units_doc.result _ _
     (λ doc p t e.
-    p ∙ (ap (list_value v) (c.in_ok-docs.ensures ∙ ap (λ rs. map (λ u. node_value u []) (noted_of rs)) e ∙ ap (map (λ u. node_value u [])) (noted_of-flat_form t))
+    p ∙ (ap (λ us. list_value v (map (λ u. node_value u []) us)) (ap (map (λ unit. unit.now)) c.as_slice.ensures.value ∙ (c.in_ok-noted.ensures ∙ (ap noted_of e ∙ noted_of-flat_form t)))
     ∙ ap (λ u. list_value u.valid (map (λ u. node_value u []) (units t))) (c.root.view_is ∙ root_row row_of rows t c.index-rows-0.result e c.index-rows-0.is)))
-    c.list_doc.ensures
+    c.units_doc.ensures

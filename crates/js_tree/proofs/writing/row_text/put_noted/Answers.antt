@@ -2,13 +2,10 @@ use Rattle.std.proofs.Common.{sym, ap, ◌∙◌}
 use Rattle.js_doc.specs.Compact.{compact_items}
 use Rattle.js_doc.specs.Value.{items}
 use Rattle.js_tree.specs.FlatState.{row_of}
-use Rattle.js_tree.proofs.Pieces.{stops_in, stops_at_comma, stops_at_item, item_goes, array_ends}
+use Rattle.js_tree.proofs.Pieces.{stops_at_comma, stops_at_item, item_goes, array_ends}
 use Rattle.js_tree.proofs.NotedRows.{leaf_next, leaf_skipped, no_leaf}
 use Rattle.js_doc.proofs.BytesGone.{same_left}
 use Rattle.js_tree.proofs.writing.row_text.put_noted.Goals as goal
-
-pub returns-in_err-put : goal.returns-in_err-put
-returns-in_err-put g c = stops_in _ _ _ _ _ c.from_residual.ensures.0 c.in_err-put.ensures
 
 pub loop-row-preserved-then-not-is_noted : goal.loop-row-preserved-then-not-is_noted
 loop-row-preserved-then-not-is_noted g c =
@@ -22,7 +19,7 @@ returns-in_err-put_comma g c =
     let speaks = sym c.is_noted.ensures ∙ c.if-not-is_noted.false in
     let next = leaf_next row_of c.args.rows.now _ _ c.loop-row-test.true c.row-item.is speaks in
     stops_at_comma _ _ _ _ _ _ _ _ _ c.loop-row.invariant next
-    c.from_residual-in_err-put_comma.ensures.0 c.in_err-put_comma.ensures
+    c.from_residual.ensures.0 c.in_err-put_comma.ensures
 
 pub returns-in_err-put_leaf : goal.returns-in_err-put_leaf
 returns-in_err-put_leaf g c =
@@ -41,4 +38,4 @@ pub returns : goal.returns
 returns g c =
     let l = c.loop-row in
     let none = no_leaf row_of c.args.rows.now l.row-index c.loop-row-test.false in
-    array_ends _ _ _ _ _ _ _ l.invariant none c.put-2.ensures
+    array_ends _ _ _ _ _ _ _ l.invariant none c.put.ensures
