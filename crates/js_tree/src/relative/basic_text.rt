@@ -22,7 +22,7 @@ use crate::relative::locations::Locations;
 use crate::relative::rows::{RelativeRow, RelativeRows};
 use crate::relative::verbose_text::put_opening;
 use crate::writing::node_text::put_closed_annotation;
-use crate::writing::row_text::put_list_start;
+use crate::writing::row_text::put_units_start;
 use js_doc::{Out, Stopped, put_escaped};
 
 /// Writes the rows' tree as compact text in the basic format (JSON Schema Core, section 12.4.2). It prunes while it
@@ -45,7 +45,7 @@ pub fn put_basic<O: Out>(
     let rows = rows.rows.as_slice();
     let root = &rows[0];
     let verdict = root.valid;
-    put_list_start(verdict, out)?;
+    put_units_start(verdict, out)?;
     let mut gathered = locations.take_gathered();
     put_trees(verdict, false, rows, &mut locations, &mut gathered, out)?;
     put_list_end(verdict, out)

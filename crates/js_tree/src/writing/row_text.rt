@@ -62,13 +62,13 @@ pub(crate) fn put_units<O: Out>(rows: &[Row], out: &mut O) -> Result<(), Stopped
     let row = &rows[0];
     let root = &row.unit;
     let valid = root.valid;
-    put_list_start(valid, out)?;
+    put_units_start(valid, out)?;
     put_noted(rows, out)?;
     put_valid(valid, out)
 }
 
 /// Writes the beginning of such an object, up to the bracket before the units.
-pub(crate) fn put_list_start<O: Out>(valid: bool, out: &mut O) -> Result<(), Stopped>
+pub(crate) fn put_units_start<O: Out>(valid: bool, out: &mut O) -> Result<(), Stopped>
     ensures { Puts (O.progress out.old) (O.progress out.new) (list_start valid ++ codes "[") result }
 {
     if valid {

@@ -11,15 +11,15 @@ use Rattle.js_tree.proofs.RelativeTexts.{room_still}
 use Rattle.js_tree.specs.RelativeState.{relative_row}
 use Rattle.js_tree.proofs.relative.basic_text.put_basic.Goals as goal
 
-pub returns-in_err-put_list_start : goal.returns-in_err-put_list_start
-returns-in_err-put_list_start g c =
+pub returns-in_err-put_units_start : goal.returns-in_err-put_units_start
+returns-in_err-put_units_start g c =
     λ t h.
     let o = g.O.Out.progress in
     let rows = whole_rows c.args.rows.now t _ c.as_slice-rows.ensures.value h in
     let v_is = ap (λ u. u.valid) (root_row relative_row _ (escaped_tree (relative_tree t)) _ rows c.index-rows-0.is) in
-    subst (λ l. Puts (o c.args.out.now) (o c.put_list_start.new.out) l c.from_residual.result)
+    subst (λ l. Puts (o c.args.out.now) (o c.put_units_start.new.out) l c.from_residual.result)
     (basic_in_parts c.args.rows.now t c.index-rows-0.result.valid h v_is)
-    (stops_in _ _ _ _ _ c.from_residual.ensures.0 c.in_err-put_list_start.ensures)
+    (stops_in _ _ _ _ _ c.from_residual.ensures.0 c.in_err-put_units_start.ensures)
 
 pub put_trees-requires : goal.put_trees-requires
 put_trees-requires g c =
@@ -38,7 +38,7 @@ returns-in_err-put_trees g c =
     let v_is = ap (λ u. u.valid) (root_row relative_row _ (escaped_tree (relative_tree t)) _ rows c.index-rows-0.is) in
     subst (λ l. Puts (o c.args.out.now) (o c.put_trees.new.out) l c.from_residual-in_err-put_trees.result)
     (basic_in_parts c.args.rows.now t c.index-rows-0.result.valid h v_is)
-    (then_puts _ _ _ _ _ _ c.in_ok-put_list_start.ensures
+    (then_puts _ _ _ _ _ _ c.in_ok-put_units_start.ensures
     (stops_in _ _ _ _ _ c.from_residual-in_err-put_trees.ensures.0
     (c.in_err-put_trees.ensures.listed (whole_of t) [] [] root
     (whole_rows_of c.args.rows.now t _ c.as_slice-rows.ensures.value h))))
@@ -53,7 +53,7 @@ returns g c =
     let v_is = ap (λ u. u.valid) (root_row relative_row _ (escaped_tree (relative_tree t)) _ rows c.index-rows-0.is) in
     subst (λ l. Puts (o c.args.out.now) (o c.put_list_end.new.out) l c.put_list_end.result)
     (basic_in_parts c.args.rows.now t c.index-rows-0.result.valid h v_is)
-    (then_puts _ _ _ _ _ _ c.in_ok-put_list_start.ensures
+    (then_puts _ _ _ _ _ _ c.in_ok-put_units_start.ensures
     (then_puts _ _ _ _ _ _
     (c.in_ok-put_trees.ensures.listed (whole_of t) [] [] root
     (whole_rows_of c.args.rows.now t _ c.as_slice-rows.ensures.value h)).goes
