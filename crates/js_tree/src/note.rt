@@ -105,14 +105,6 @@ impl<'a> Note<'a> {
     pub fn is_some(&self) -> bool
         ensures { result ≡ speaks (note_of self.now) }
     {
-        match self {
-            Note::Silent => false,
-            Note::Error(_) => true,
-            Note::Value(_) => true,
-            Note::Names(_) => true,
-            Note::Index(_) => true,
-            Note::Indexes(_) => true,
-            Note::Truth => true,
-        }
+        !matches!(self, Note::Silent)
     }
 }
