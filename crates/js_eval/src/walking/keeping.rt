@@ -84,7 +84,6 @@ pub(crate) fn names_origin(kind: Kind) -> Origin
         Kind::Then => Origin::Below,
         Kind::Else => Origin::Below,
         Kind::DependentSchemas => Origin::Below,
-        Kind::Not => Origin::Nowhere,
         _ => Origin::Nowhere,
     }
 }

@@ -14,8 +14,8 @@ use crate::walking::fault::WalkFault;
 use crate::walking::pointer_text::PointerText;
 use crate::walking::reporter::Reporter;
 use crate::walking::steps::{
-    asked, close_keyword, close_schema, come_back, go_down, leaf_node, next_application,
-    next_keyword, open_keyword, open_schema, others_of,
+    asked, close_keyword, close_schema, come_back, go_down, leaf_node, next_keyword, open_keyword,
+    open_schema, others_of,
 };
 use crate::walking::tally::{Case, Judged, Judging, Known, Tally, Together};
 use crate::walking::way::{Start, Way};
@@ -216,7 +216,7 @@ pub(crate) fn applications<W: World, H: PointerText + Drop, R: Reporter<W, H>>(
 {
     let _left = way.left;
     let mut tally = Tally { asked: 0, held: 0 };
-    'each: while let Some(application) = next_application(alloc, world, asking, tally)? {
+    'each: while let Some(application) = world.next(alloc, asking)? {
         let here = way.current_marks();
         go_down(world, way, application)?;
         let holds = node(

@@ -81,26 +81,6 @@ pub(crate) fn next_keyword<W: World>(
     world.next_keyword(&mut judging.keywords)
 }
 
-/// The next application of a keyword. All that it asks for are made, whatever those before have shown: `_tally` has no
-/// say.
-#[inline(always)]
-pub(crate) fn next_application<W: World>(
-    alloc: Global,
-    world: &W,
-    asking: &mut W::Asking,
-    _tally: Tally,
-) -> Result<Option<W::Application>, Memory>
-    requires { W.is_asking world.now asking.old }
-    ensures next { IfOk result (λ o. MatchOption o (W.asked world.now asking.old ≡ [])
-        (λ a. W.asked world.now asking.old ≡ W.application_of world.now a ∷ W.asked world.now asking.new)) }
-    ensures is { IfOk result (λ o. MatchOption o (Unit {0}) (λ a. W.is_place world.now (W.place_of a) ≡ true)) }
-    ensures schema { IfOk result (λ o. MatchOption o (Unit {0})
-        (λ a. W.stands_at world.now (W.place_of a) (W.schema_of a))) }
-    ensures asking { IfOk result (λ _. W.is_asking world.now asking.new) }
-{
-    world.next(alloc, asking)
-}
-
 /// Opens the node of a keyword. The limit must allow one more node.
 #[inline(always)]
 pub(crate) fn open_keyword<W: World, H: PointerText + Drop, R: Reporter<W, H>>(

@@ -47,7 +47,7 @@ applications-with_application-tally-requires-clause-few g t c =
 pub applications-each-preserved : goal.applications-each-preserved
 applications-each-preserved g t c =
     let S = g.W.World.schemas c.args.world.now in let path = map (g.W.World.site c.args.world.now) c.args.way.now.path in
-    let a = g.W.World.application_of c.args.world.now c.in-Some.application in let rest = g.W.World.asked c.args.world.now c.next_application.new.asking in
+    let a = g.W.World.application_of c.args.world.now c.in-Some.application in let rest = g.W.World.asked c.args.world.now c.next.new.asking in
     let x : g.W.World.asked c.args.world.now c.each.asking ≡ a ∷ rest =
     subst (λ o. MatchOption o (g.W.World.asked c.args.world.now c.each.asking ≡ []) (λ b. g.W.World.asked c.args.world.now c.each.asking ≡ g.W.World.application_of c.args.world.now b ∷ rest)) c.in-Some.is c.in_ok-application.ensures.next in
     let so = rw x at c.each.invariant.so in let down = c.in_ok-go_down.ensures in let done = c.in_ok-holds.ensures in let back = c.in_ok-come_back.ensures in
