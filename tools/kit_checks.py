@@ -70,6 +70,11 @@ for edit in first second; do printf "rt: must-fail js_doc/$edit.edit: %s\\n"; do
 SAYS_OF_EACH = r"""for edit in "crates/$2/must-fail"/*; do
     echo "rt: must-fail $2/${edit##*/}: refused, as it must be"
 done; [ "$(ls "crates/$2/must-fail" | wc -l)" = 1 ]"""
+# A fake rt whose `check` says this of a crate with an edit, and whose `must-fail` refuses nothing.
+FAKE_WHOLE = r"""[ "$1" = must-fail ] && for edit in "crates/$2/must-fail"/*; do
+    echo "rt: must-fail $2/${edit##*/}: NOT REFUSED: the crate is still proved"
+done
+[ "$1" = check ] && if grep -q wrong_ src/ends.rt; then printf '%s'; else echo logic=proved functions=2; fi"""
 CALLS_IT = 'echo "fn js_doc::ends::$one: no proof: it calls \\`js_doc::ends::other\\`, which is not proved"'
 DOES_NOT_COMPILE = 'echo "error[type]: src/ends.rt:1:1"; exit 1'
 
@@ -113,6 +118,18 @@ def of_wrong_bodies(room):
         yield Check(f"{script} --quick, an rt that {name}", [script, "--quick"], says, homes[0], env)
     yield Check(f"{script} --quick, a crate that isn't proved", [script, "--quick"], "isn't proved without them",
                 homes[1], {"RT": room.executable("rt/refuses each", FAKE_RT % REFUSES)})
+    refuses, ends = "note: src/ends.rt:2:1: it is not proved", r"\nlogic=not-proved\n"
+    for name, says, printed in (("proves all", "NOT REFUSED", "logic=proved functions=2"),
+                                ("refuses each", "", refuses + ends),
+                                ("refuses answers", "", "./proofs/ends/Answers.antt:1:1: error: another type" + ends),
+                                ("refuses names alone", "NOT REFUSED",
+                                 "./proofs/ends/Answers.antt:1:1: error: it has no field" + ends),
+                                ("can't read it", "NOT REFUSED", "src/ends.rt:1:1: error: no such name" + ends),
+                                ("comes to no verdict", "NOT REFUSED", refuses)):
+        env = {"RT": room.executable(f"rt/whole {name}", FAKE_WHOLE % printed)}
+        yield Check(f"{script} --kept, an rt that {name}", [script, "--kept"], says, homes[0], env)
+    yield Check(f"{script} --kept, a crate that isn't proved", [script, "--kept"], "NOT REFUSED", homes[1],
+                {"RT": room.executable("rt/whole refuses each", FAKE_WHOLE % (refuses + ends))})
 
 
 # A fake gate: what a fake prover does, in the order of lines. The words of a line: the crate, the folder of kept work,

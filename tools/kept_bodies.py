@@ -1,0 +1,77 @@
+"""Wrong bodies one at a time over what `rt check` has kept of their crate, for `tools/wrong-bodies --kept`."""
+import re
+import shutil
+import subprocess
+
+import quick_bodies
+
+LOCATED = re.compile(r"(?:note: )?(?:\./)?(\S+?):\d+:\d+: ")
+
+
+def changed_texts(file, folder):
+    """The texts that an edit changes, by their paths in the crate, or None where it can't be applied."""
+    path, old, texts = "", "", {}
+    for line in file.read_text().split("\n"):
+        if line.startswith("file: "):
+            path = line.removeprefix("file: ").strip()
+            if path not in texts and (folder / path).is_file():
+                texts[path] = (folder / path).read_text()
+        elif line.startswith("old: "):
+            old = line.removeprefix("old: ")
+        elif line.startswith("new:"):
+            if not old or texts.get(path, "").count(old) != 1:
+                return None
+            texts[path] = texts[path].replace(old, line.removeprefix("new:").removeprefix(" "))
+    return texts or None
+
+
+def reason(printed, changed):
+    """Why the prover refuses the crate: the first line that isn't about a name alone. None if it doesn't refuse it, or
+    if it can't read an edited text or one that isn't a proof."""
+    lines = printed.rstrip("\n").split("\n")
+    if not lines[-1].startswith("logic=not-proved"):
+        return None
+    located = [(found[1], it) for it in lines if (found := LOCATED.match(it))]
+    if any(": error" in it and (path in changed or not path.startswith("proofs/")) for path, it in located):
+        return None
+    return next((it for path, it in located if (": error" in it or it.startswith("note: "))
+                 and not (path.startswith("proofs/") and quick_bodies.OF_NAMES.search(it))), None)
+
+
+class Kept:
+    """Tries edits of one crate in a copy of the repository."""
+
+    def __init__(self, rt, crate, room, kept):
+        """`kept`: the folder with what `rt check` kept of the crate without edits. Each check begins with that."""
+        self.rt, self.folder, self.kept = rt, room / "crates" / crate, kept
+
+    def check(self, texts):
+        """What `rt check` prints of the crate with these texts in place of its own."""
+        own = {path: (self.folder / path).read_text() for path in texts}
+        work = self.folder / "out" / "incremental"
+        shutil.rmtree(work, ignore_errors=True)
+        shutil.copytree(self.kept, work, copy_function=quick_bodies.link_or_copy)
+        try:
+            for path, text in texts.items():
+                (self.folder / path).write_text(text)
+            return subprocess.run([self.rt, "check", "--jobs", "1"], cwd=self.folder, text=True, errors="replace",
+                                  stdin=subprocess.DEVNULL, stdout=subprocess.PIPE, stderr=subprocess.STDOUT).stdout
+        except OSError as error:
+            return f"{self.rt}: {error.strerror}\n"
+        finally:
+            for path, text in own.items():
+                (self.folder / path).write_text(text)
+            shutil.rmtree(work, ignore_errors=True)
+
+    def refused(self, files):
+        """Of these edits, why each that the prover refuses for a contract is refused. None are where the crate isn't
+        proved without edits."""
+        if not self.kept.is_dir() or not self.check({}).rstrip("\n").rpartition("\n")[2].startswith("logic=proved"):
+            return {}
+        found = {}
+        for file in files:
+            texts = changed_texts(file, self.folder)
+            why = texts and reason(self.check(texts), texts)
+            if why:
+                found[file.name] = why
+        return found
