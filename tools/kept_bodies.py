@@ -10,18 +10,10 @@ LOCATED = re.compile(r"(?:note: )?(?:\./)?(\S+?):\d+:\d+: ")
 
 def changed_texts(file, folder):
     """The texts that an edit changes, by their paths in the crate, or None where it can't be applied."""
-    path, old, texts = "", "", {}
-    for line in file.read_text().split("\n"):
-        if line.startswith("file: "):
-            path = line.removeprefix("file: ").strip()
-            if path not in texts and (folder / path).is_file():
-                texts[path] = (folder / path).read_text()
-        elif line.startswith("old: "):
-            old = line.removeprefix("old: ")
-        elif line.startswith("new:"):
-            if not old or texts.get(path, "").count(old) != 1:
-                return None
-            texts[path] = texts[path].replace(old, line.removeprefix("new:").removeprefix(" "))
+    texts = {}
+    for change in quick_bodies.changes(file):
+        if quick_bodies.changed(texts, folder, *change) is None:
+            return None
     return texts or None
 
 

@@ -99,25 +99,40 @@ def place_of(path, text, at):
     return None
 
 
-def read_edit(file, folder):
-    """An edit whose changes are all in functions, or None: such a one is tried by itself."""
-    path, old, pairs, places, texts = "", "", [], set(), {}
+def changes(file):
+    """The changes of an edit: a path in its crate, an old text there, and what stands in its place."""
+    path = old = ""
     for line in file.read_text().split("\n"):
         if line.startswith("file: "):
             path = line.removeprefix("file: ").strip()
-            if not path.startswith("src/") or path in ROOTS or not (folder / path).is_file():
-                return None
-            texts.setdefault(path, (folder / path).read_text())
         elif line.startswith("old: "):
             old = line.removeprefix("old: ")
         elif line.startswith("new:"):
-            text = texts.get(path, "")
-            place = place_of(path, text, text.index(old)) if old and text.count(old) == 1 else None
-            if place is None:
-                return None
-            places.add(place)
-            pairs.append((path, old, line.removeprefix("new:").removeprefix(" ")))
-            texts[path] = text.replace(old, pairs[-1][2])
+            yield path, old, line.removeprefix("new:").removeprefix(" ")
+
+
+def changed(texts, folder, path, old, new):
+    """Makes a change in a file's text among `texts`, which begin as the files are. Returns the text before it, and where
+    the old text stood; or None, with nothing changed, where that doesn't stand there exactly once."""
+    if path not in texts and (folder / path).is_file():
+        texts[path] = (folder / path).read_text()
+    text = texts.get(path, "")
+    if not old or text.count(old) != 1:
+        return None
+    texts[path] = text.replace(old, new)
+    return text, text.index(old)
+
+
+def read_edit(file, folder):
+    """An edit whose changes are all in functions, or None: such a one is tried by itself."""
+    pairs, places, texts = [], set(), {}
+    for path, old, new in changes(file):
+        found = changed(texts, folder, path, old, new)
+        place = place_of(path, *found) if found else None
+        if not path.startswith("src/") or path in ROOTS or place is None:
+            return None
+        places.add(place)
+        pairs.append((path, old, new))
     return Edit(file.name, pairs, places) if pairs else None
 
 
