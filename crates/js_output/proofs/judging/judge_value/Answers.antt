@@ -1,3 +1,4 @@
+use Rattle.std.proofs.Common.{rules}
 use Rattle.std.proofs.lemmas.Result.{err_from_is_err_and}
 use Rattle.js_doc.specs.Seen.{value_of}
 use Rattle.js_tree.specs.Form.{form}
@@ -21,3 +22,6 @@ returns-clause-answer g c =
     let (t, is, stands, made) = c.in_ok-prepared.ensures.prepared in
     tells-sent docs (place_at docs c.args.place) (value_of c.args.instance.now) format t is stands g.W.Write.contents c.args.out.now c.write.new.out
     c.root_valid-valid.result (c.root_valid-valid.ensures t.root.valid (form format t) made) (c.in_ok-write.ensures.sent t.root.valid (form format t) made)
+
+pub returns-clause-nothing : goal.returns-clause-nothing
+returns-clause-nothing g c = search rules
