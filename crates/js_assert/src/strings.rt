@@ -7,7 +7,7 @@ ghost use Rattle.js_assert.specs.Assertion.{characters, says_by};
 
 use crate::keyword::Keyword;
 use crate::pattern::Pattern;
-use js_doc::{Doc, Memory};
+use js_doc::{Doc, Memory, character_count};
 use std::alloc::Global;
 
 pub(crate) fn max_length(limit: u64, value: &Doc) -> bool
@@ -43,13 +43,6 @@ pub(crate) fn length(value: &Doc) -> u64
 {
     match value {
         Doc::Text(text) => character_count(text.as_str()),
-        _ => character_count(""),
+        _ => 0,
     }
-}
-
-// A string's length is that in code points.
-fn character_count(string: &str) -> u64
-    ensures { result ≡ characters string.now }
-{
-    string.chars().count() as u64
 }

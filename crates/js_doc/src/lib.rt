@@ -39,6 +39,6 @@ pub use printing::{put_number, put_text, text};
 pub use quoting::{push_string, put_escaped, put_quoted, put_string};
 pub use reading::{ReadFault, from_value, read};
 pub use runs::stand_as_they_are;
-pub use string::Text;
+pub use string::{Text, character_count};
 pub use token::{Token, is_plain_token, push_fragment_token, push_token};
 pub use whole::Whole;

@@ -1,4 +1,4 @@
-ghost use Rattle.std.specs.Prelude.{◌≡◌, IfOk, string_bytes};
+ghost use Rattle.std.specs.Prelude.{◌≡◌, IfOk, chars, length, string_bytes};
 
 use crate::memory::Memory;
 use std::marker::Model;
@@ -77,4 +77,11 @@ impl Eq for Text {
     ghost use Rattle.std.specs.Cmp.Lexicographic.{nat_list_eq_equiv};
 
     ghost laws = { nat_list_eq_equiv };
+}
+
+/// The number of characters of a string: its code points (RFC 8259, section 7; JSON Schema Validation, section 6.3.1).
+pub fn character_count(string: &str) -> u64
+    ensures { result ≡ length (chars string.now) }
+{
+    string.chars().count() as u64
 }
