@@ -1,5 +1,5 @@
 //! Absolute keyword locations (JSON Schema Core, section 12.3.2).
-ghost use Rattle.std.specs.Prelude.{◌≡◌, ◌++◌, IfOk, None, Some, string_bytes};
+ghost use Rattle.std.specs.Prelude.{◌≡◌, ◌++◌, IfOk, None, Some, string_bytes, true};
 ghost use Rattle.js_walk.specs.code.Terms.{is_place, numbered_site, schemas_of};
 
 use js_bundle::{Place, Schemas};
