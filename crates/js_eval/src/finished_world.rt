@@ -17,7 +17,10 @@ use crate::searching::searchers::Searchers;
 use js_bundle::{Place, Schemas, Step};
 use js_doc::{Doc, Memory, Text, push_fragment_token};
 use js_tree::Note;
-use js_walk::{Applied, Instance, Keyword, KeywordAt, Keywords, Kind, Others, Path, PointerText, Tally, Trail, World, is_written_as_it_is, names_at};
+use js_walk::{
+    Applied, Instance, Keyword, KeywordAt, Keywords, Kind, Others, Path, PointerText, Tally, Trail,
+    World, is_written_as_it_is, names_at,
+};
 use std::alloc::Global;
 
 /// Finished schemas, and the searchers for their patterns. `'a` is the lifetime of the schemas and of the instance.

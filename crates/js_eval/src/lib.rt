@@ -16,5 +16,5 @@ mod reporters;
 mod schema;
 mod searching;
 
-pub use public_walks::{verdict, walk, walk_into, walk_noted_rows, walk_rows};
 pub use js_walk::WalkFault;
+pub use public_walks::{verdict, walk, walk_into, walk_noted_rows, walk_rows};

@@ -20,7 +20,9 @@ use bumpalo::Bump;
 use js_bundle::{Place, Schemas};
 use js_doc::{Doc, Memory};
 use js_tree::{Boxed, Collector, RelativeRows, Tree};
-use js_walk::{HeldText, Instance, PointerText, Reporter, UnseenText, WalkFault, schema_at, walk_from};
+use js_walk::{
+    HeldText, Instance, PointerText, Reporter, UnseenText, WalkFault, schema_at, walk_from,
+};
 use std::alloc::Global;
 use std::marker::PhantomData;
 

@@ -6,7 +6,7 @@ ghost use Rattle.js_doc.specs.Seen.{value_of};
 ghost use Rattle.js_walk.specs.Verdict.{accepts};
 
 use js_doc::Doc;
-use js_walk::{object_in};
+use js_walk::object_in;
 
 /// The argument of the keyword with this name, if the schema has it.
 pub(crate) fn argument_in<'a>(schema: &'a Doc, name: &str) -> Option<&'a Doc>

@@ -9,7 +9,7 @@ ghost use Rattle.js_walk.specs.code.Terms.{value_of};
 use crate::cursors::application::{Held, To, apply_to_part};
 use js_bundle::{Schemas, Step};
 use js_doc::Doc;
-use js_walk::{Applied};
+use js_walk::Applied;
 
 /// The applications that a keyword still has to ask for, one for each item.
 #[derive(Drop)]

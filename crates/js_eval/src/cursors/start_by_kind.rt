@@ -13,7 +13,9 @@ use crate::cursors::asking::{Asking, alone};
 use crate::cursors::{start_items, start_members};
 use js_bundle::{Place, Schemas};
 use js_doc::{Doc, Memory};
-use js_walk::{Instance, KeywordAt, Kind, Path, dynamic_target_at, held_below, is_chosen, target_at};
+use js_walk::{
+    Instance, KeywordAt, Kind, Path, dynamic_target_at, held_below, is_chosen, target_at,
+};
 use std::alloc::Global;
 
 /// In which dynamic scope a keyword is evaluated, and on what value.

@@ -7,7 +7,9 @@ use crate::judging::notes::keyword_note;
 use js_bundle::Place;
 use js_doc::{Doc, Memory, Text};
 use js_tree::{Collector, Head};
-use js_walk::{HeldText, Instance, Judged, Keyword, Reporter, Trail, World, absolute_keyword, absolute_schema};
+use js_walk::{
+    HeldText, Instance, Judged, Keyword, Reporter, Trail, World, absolute_keyword, absolute_schema,
+};
 use std::alloc::Global;
 use std::marker::PhantomData;
 
