@@ -22,7 +22,8 @@ use crate::walking::{HeldText, PointerText, Reporter, UnseenText, WalkFault, wal
 use bumpalo::Bump;
 use js_bundle::{Place, Schemas};
 use js_doc::{Doc, Memory};
-use js_tree::{Boxed, Collector, RelativeRows, Tree};
+use js_rows::RelativeRows;
+use js_tree::{Boxed, Collector, Tree};
 use std::alloc::Global;
 use std::marker::PhantomData;
 
