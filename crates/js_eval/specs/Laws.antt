@@ -10,7 +10,7 @@ use Rattle.js_bundle.specs.Resource.{Site, sites}
 use Rattle.js_bundle.specs.Schemas.{place_at, below}
 use Rattle.js_bundle.specs.Seen.{AreRead}
 use Rattle.js_bundle.specs.Target.{target, dynamic_target}
-use Rattle.js_tree.specs.Relative.{IsLocated}
+use Rattle.js_rows.specs.Relative.{IsLocated}
 use Rattle.js_walk.specs.Applications.{Application, asks_of, among_indexes, indexed}
 use Rattle.js_walk.specs.Bundle.{schemas_of}
 use Rattle.js_walk.specs.Evaluated.{indexes_applied}

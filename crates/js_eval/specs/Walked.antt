@@ -2,9 +2,9 @@
 use Rattle.std.specs.Prelude.{◌≡◌, ℕ, Bool, []}
 use Rattle.js_doc.specs.Value.{Value}
 use Rattle.js_tree.specs.Events.{Event, Passes, events}
-use Rattle.js_tree.specs.RelativeState.{AreRowsOf}
+use Rattle.js_rows.specs.RelativeState.{AreRowsOf}
 use Rattle.js_tree.specs.Trimmed.{trimmed_tree}
-use Rattle.js_tree.specs.declared.relative.rows.RelativeRows.{RelativeRows}
+use Rattle.js_rows.specs.declared.rows.RelativeRows.{RelativeRows}
 use Rattle.js_bundle.specs.Document.{Documents}
 use Rattle.js_walk.specs.Bundle.{schemas_of}
 use Rattle.js_walk.specs.Location.{at_root}

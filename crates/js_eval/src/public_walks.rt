@@ -19,7 +19,8 @@ use crate::searching::searchers::Searchers;
 use bumpalo::Bump;
 use js_bundle::{Place, Schemas};
 use js_doc::{Doc, Memory};
-use js_tree::{Boxed, Collector, RelativeRows, Tree};
+use js_rows::RelativeRows;
+use js_tree::{Boxed, Collector, Tree};
 use js_walk::{
     HeldText, Instance, PointerText, Reporter, UnseenText, WalkFault, schema_at, walk_from,
 };

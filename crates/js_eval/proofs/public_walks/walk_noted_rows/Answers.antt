@@ -1,7 +1,7 @@
 use Rattle.std.specs.Prelude.{[]}
 use Rattle.js_doc.specs.Seen.{value_of}
-use Rattle.js_tree.proofs.TrimmedTold.{trimmed_held}
-use Rattle.js_tree.specs.RelativeState.{AreTrimmedOf}
+use Rattle.js_rows.proofs.TrimmedTold.{trimmed_held}
+use Rattle.js_rows.specs.RelativeState.{AreTrimmedOf}
 use Rattle.js_walk.specs.Bundle.{schemas_of}
 use Rattle.js_walk.specs.Location.{at_root}
 use Rattle.js_walk.specs.Sited.{numbered_site}

@@ -1,6 +1,6 @@
 use Rattle.std.specs.Prelude.{[]}
 use Rattle.js_doc.specs.Seen.{value_of}
-use Rattle.js_tree.proofs.RelativeTold.{relative_held}
+use Rattle.js_rows.proofs.RelativeTold.{relative_held}
 use Rattle.js_walk.specs.Bundle.{schemas_of}
 use Rattle.js_walk.specs.Location.{at_root}
 use Rattle.js_walk.specs.Sited.{numbered_site}
