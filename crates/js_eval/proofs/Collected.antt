@@ -8,7 +8,7 @@ use Rattle.js_tree.proofs.BoxedTold.{boxed_held}
 use Rattle.js_tree.proofs.FlatTold.{flat_held}
 use Rattle.js_tree.proofs.VerdictTold.{verdict_held}
 use Rattle.js_eval.specs.Collected.{VerdictIsCollected, TreeIsCollected, RowsAreCollected}
-use Rattle.js_eval.specs.Result.{ResultTree, IsWithinLimits}
+use Rattle.js_walk.specs.Result.{ResultTree, IsWithinLimits}
 
 height_le_nodes : {A : Type 0} (f : Forest A) → height f ≤ node_count f
 height_le_nodes empty = omega arith

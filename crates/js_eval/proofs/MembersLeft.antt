@@ -7,10 +7,10 @@ use Rattle.std.specs.List.{list_any}
 use Rattle.std.specs.Ordering.{is_eq, nat_cmp}
 use Rattle.std.specs.Str.{bytes_eq}
 use Rattle.js_doc.specs.Value.{Value, Named}
-use Rattle.js_eval.specs.Applications.{among_names}
+use Rattle.js_walk.specs.Applications.{among_names}
 use Rattle.js_eval.specs.code.Cursors.{HasNames, is_key}
-use Rattle.js_eval.specs.SchemaSet.{Text}
-use Rattle.js_eval.specs.Seen.{texts_of}
+use Rattle.js_walk.specs.SchemaSet.{Text}
+use Rattle.js_walk.specs.Seen.{texts_of}
 
 -- where every member is chosen
 pub all_chosen : (ms : Named) → filter (λ m. true) ms ≡ ms

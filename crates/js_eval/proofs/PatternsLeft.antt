@@ -6,8 +6,8 @@ use Rattle.js_doc.specs.Seen.{pair_of}
 use Rattle.js_doc.specs.Value.{Value}
 use Rattle.js_doc.specs.declared.doc.Doc.{Doc}
 use Rattle.js_eval.specs.code.Cursors.{IsBegun, coming_asked, matching_asked, on_matched_member, patterns_asked, present_asked}
-use Rattle.js_eval.specs.SchemaSet.{Text}
-use Rattle.js_eval.specs.Sited.{numbered_site}
+use Rattle.js_walk.specs.SchemaSet.{Text}
+use Rattle.js_walk.specs.Sited.{numbered_site}
 use Rattle.js_eval.specs.declared.cursors.pattern_cursor.PatternCursor.{PatternCursor}
 use Rattle.js_eval.specs.declared.searching.searchers.NamedPattern.{NamedPattern}
 

@@ -8,7 +8,7 @@ use Rattle.js_tree.specs.VerdictState.{verdict_after, verdict_start, verdict_sta
 use Rattle.js_tree.specs.declared.collecting.boxed.Boxed.{Boxed}
 use Rattle.js_tree.specs.declared.collecting.flat.Flat.{Flat}
 use Rattle.js_tree.specs.declared.collecting.verdict.Verdict.{Verdict}
-use Rattle.js_eval.specs.Result.{ResultTree}
+use Rattle.js_walk.specs.Result.{ResultTree}
 use Rattle.js_eval.specs.Walked.{IsResultWithin, IsVerdict, LeadsTo}
 
 -- v is evaluated at the place with this number, and c is a new collector

@@ -6,11 +6,11 @@ use Rattle.js_doc.specs.Value.{Value, null, truth, whole, text, list, object, it
 use Rattle.js_doc.specs.Members.{get}
 use Rattle.js_assert.specs.Argument.{entries, values}
 use Rattle.js_tree.specs.Forest.{empty, tree}
-use Rattle.js_eval.specs.Location.{at_root}
-use Rattle.js_eval.specs.Note.{Note, silent, error, value}
-use Rattle.js_eval.specs.Result.{OutputUnit, ResultTree, IsResult}
-use Rattle.js_eval.specs.SchemaSet.{Text, SchemaSet, Step, Alone, Index, Name}
-use Rattle.js_eval.specs.Verdict.{Settled, Succeeds, Fails}
+use Rattle.js_walk.specs.Location.{at_root}
+use Rattle.js_walk.specs.Note.{Note, silent, error, value}
+use Rattle.js_walk.specs.Result.{OutputUnit, ResultTree, IsResult}
+use Rattle.js_walk.specs.SchemaSet.{Text, SchemaSet, Step, Alone, Index, Name}
+use Rattle.js_walk.specs.Verdict.{Settled, Succeeds, Fails}
 
 -- ---- The schemas of one document. A place is given by the schema there, which is enough without `$id`. A reference is
 -- `#` and a pointer.

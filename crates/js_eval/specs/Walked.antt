@@ -2,21 +2,15 @@
 use Rattle.std.specs.Prelude.{◌≡◌, ℕ, Bool, []}
 use Rattle.js_doc.specs.Value.{Value}
 use Rattle.js_tree.specs.Events.{Event, Passes, events}
-use Rattle.js_tree.specs.RelativeState.{AreRowsOf}
+use Rattle.js_rows.specs.RelativeState.{AreRowsOf}
 use Rattle.js_tree.specs.Trimmed.{trimmed_tree}
-use Rattle.js_tree.specs.declared.relative.rows.RelativeRows.{RelativeRows}
+use Rattle.js_rows.specs.declared.rows.RelativeRows.{RelativeRows}
 use Rattle.js_bundle.specs.Document.{Documents}
-use Rattle.js_eval.specs.Bundle.{schemas_of}
-use Rattle.js_eval.specs.Location.{at_root}
-use Rattle.js_eval.specs.Result.{ResultTree, IsResult, IsWithinLimits}
-use Rattle.js_eval.specs.Sited.{numbered_site}
-use Rattle.js_eval.specs.declared.walking.fault.WalkFault.{WalkFault}
-use Rattle.js_eval.specs.declared.walking.fault.WalkFault.TheVariants.{Memory, TooLarge}
-
--- nothing is claimed about `Memory`
-abbrev pub OnTooLarge : WalkFault → Type 0 → Type 0
-OnTooLarge Memory P = Unit {0}
-OnTooLarge TooLarge P = P
+use Rattle.js_walk.specs.Bundle.{schemas_of}
+use Rattle.js_walk.specs.Location.{at_root}
+use Rattle.js_walk.specs.Result.{ResultTree, IsResult, IsWithinLimits}
+use Rattle.js_walk.specs.Sited.{numbered_site}
+pub use Rattle.js_walk.specs.Fault.{OnTooLarge}
 
 -- ---- v is evaluated at the place with this number
 

@@ -1,28 +1,26 @@
 //! Finished schemas and their patterns, as a walk uses them.
 ghost use Rattle.std.specs.Prelude.{◌≡◌, ◌++◌, IfOk, None, OnOk, Some, map, option_to_list, string_bytes, true};
 ghost use Rattle.js_doc.specs.Seen.{value_of as schema_value};
-ghost use Rattle.js_eval.specs.Evaluated.{index_in_step, name_in_step};
-ghost use Rattle.js_eval.specs.Walk.Told.{at_step, schema_says};
+ghost use Rattle.js_walk.specs.Evaluated.{index_in_step, name_in_step};
+ghost use Rattle.js_walk.specs.Walk.Told.{at_step, schema_says};
 ghost use Rattle.js_tree.specs.Seen.{note_of};
-ghost use Rattle.js_eval.specs.code.Terms.{IsSchemaAt, instance_of, is_place, numbered_site, schemas_of, step_of};
+ghost use Rattle.js_walk.specs.code.Terms.{IsSchemaAt, instance_of, is_place, numbered_site, schemas_of, step_of};
 
 use crate::cursors::asking::{Asking, next_asked};
 use crate::cursors::start_by_kind::{Facts, Scene, asking_of_keyword};
-use crate::instance::{Applied, Instance};
 use crate::judging::notes::schema_note;
 use crate::judging::others::others_at;
 use crate::judging::passing;
-use crate::keywords::keyword::{Keyword, KeywordAt, is_written_as_it_is};
-use crate::keywords::keyword_cursor::Keywords;
-use crate::keywords::kind::Kind;
 use crate::schema::is_accepting;
-use crate::schema_lookup::names_at;
 use crate::searching::pattern_answers::keep_all;
 use crate::searching::searchers::Searchers;
-use crate::walking::{Others, Path, PointerText, Tally, Trail, World};
 use js_bundle::{Place, Schemas, Step};
 use js_doc::{Doc, Memory, Text, push_fragment_token};
 use js_tree::Note;
+use js_walk::{
+    Applied, Instance, Keyword, KeywordAt, Keywords, Kind, Others, Path, PointerText, Tally, Trail,
+    World, is_written_as_it_is, names_at,
+};
 use std::alloc::Global;
 
 /// Finished schemas, and the searchers for their patterns. `'a` is the lifetime of the schemas and of the instance.
@@ -37,10 +35,10 @@ impl<'a> World for Here<'a> {
     ghost use Rattle.js_doc.specs.Seen as seen;
     ghost use Rattle.js_eval.specs.code.Applied.{applied_of};
     ghost use Rattle.js_eval.specs.code.Asked as here;
-    ghost use Rattle.js_eval.specs.Bundle.{schemas_of};
-    ghost use Rattle.js_eval.specs.code.KeywordsLeft as left;
-    ghost use Rattle.js_eval.specs.Seen.{instance_of, keyword_of};
-    ghost use Rattle.js_eval.specs.Sited.{numbered_site, resource_of};
+    ghost use Rattle.js_walk.specs.Bundle.{schemas_of};
+    ghost use Rattle.js_walk.specs.code.KeywordsLeft as left;
+    ghost use Rattle.js_walk.specs.Seen.{instance_of, keyword_of};
+    ghost use Rattle.js_walk.specs.Sited.{numbered_site, resource_of};
 
     type Value = Instance<'a>;
 
@@ -84,7 +82,7 @@ impl<'a> World for Here<'a> {
 
     ghost is_asking = { λ h a. here.IsAsking h.schemas.now a };
 
-    #[tactic(auto, unfolding(crate::specs::Walk::Told::accepts_at))]
+    #[tactic(auto, unfolding(js_walk::specs::Walk::Told::accepts_at))]
     fn accepts(&self, _place: Place, schema: &'a Doc) -> bool {
         is_accepting(schema)
     }
@@ -103,7 +101,7 @@ impl<'a> World for Here<'a> {
         others_at(alloc, self.schemas, &self.searchers, place, value, matching)
     }
 
-    #[tactic(auto, unfolding(crate::specs::Walk::Told::keywords_at))]
+    #[tactic(auto, unfolding(js_walk::specs::Walk::Told::keywords_at))]
     fn keywords(&self, place: Place, schema: &'a Doc, quiet: bool) -> Keywords<'a> {
         Keywords::new(names_at(self.schemas, place), schema, quiet)
     }
@@ -112,17 +110,17 @@ impl<'a> World for Here<'a> {
         keywords.next()
     }
 
-    #[tactic(auto, unfolding(crate::specs::Walk::Told::kind_at))]
+    #[tactic(auto, unfolding(js_walk::specs::Walk::Told::kind_at))]
     fn kind(&self, keyword: Keyword<'a>) -> Kind {
         keyword.kind
     }
 
-    #[tactic(auto, unfolding(crate::specs::Walk::Told::asked_by))]
+    #[tactic(auto, unfolding(js_walk::specs::Walk::Told::asked_by))]
     fn asks(&self, keyword: Keyword<'a>) -> bool {
         keyword.kind.is_applicator()
     }
 
-    #[tactic(auto, unfolding(crate::specs::Walk::Told::asked_by, crate::specs::Walk::Told::IsKeywordAt))]
+    #[tactic(auto, unfolding(js_walk::specs::Walk::Told::asked_by, js_walk::specs::Walk::Told::IsKeywordAt))]
     fn asking(
         &self,
         alloc: Global,
@@ -208,7 +206,7 @@ impl<'a> World for Here<'a> {
         )
     }
 
-    #[tactic(auto, unfolding(crate::specs::Walk::Told::at_name))]
+    #[tactic(auto, unfolding(js_walk::specs::Walk::Told::at_name))]
     fn go_to_keyword<H: PointerText + Drop>(
         &self,
         keyword: Keyword<'a>,
@@ -280,7 +278,7 @@ fn item_at<'a>(at: Step<'a>, _doc: Option<&'a Doc>) -> Option<usize>
 }
 
 // Appends the step to the trail.
-#[tactic(auto, unfolding(crate::specs::Walk::Told::at_step))]
+#[tactic(auto, unfolding(js_walk::specs::Walk::Told::at_step))]
 fn go<'a, H: PointerText + Drop>(
     step: Step<'a>,
     _doc: Option<&'a Doc>,
@@ -296,45 +294,11 @@ fn go<'a, H: PointerText + Drop>(
 }
 
 impl Here<'_> {
-    /// The absolute keyword location of the schema at a place (Core, section 12.3.2).
-    ///
-    /// # Errors
-    /// `Memory` if an allocation fails.
-    pub fn absolute_schema(&self, alloc: Global, place: Place) -> Result<Text, Memory>
-        requires { is_place self.now.schemas.now place ≡ true }
-        ensures { IfOk result (λ t. t ≡ (schemas_of self.now.schemas.now).absolute
-            (numbered_site self.now.schemas.now place) None) }
-    {
-        let (location, rest) = self.schemas.location_of(place);
-        let whole = joined(alloc, location, rest)?;
-        Ok(Text::new(whole))
-    }
-
-    /// The absolute keyword location of the keyword with this name at a place (Core, section 12.3.2).
-    ///
-    /// # Errors
-    /// `Memory` if an allocation fails.
-    pub fn absolute_keyword(
-        &self,
-        alloc: Global,
-        place: Place,
-        keyword: &str,
-    ) -> Result<Text, Memory>
-        requires { is_place self.now.schemas.now place ≡ true }
-        ensures { IfOk result (λ t. t ≡ (schemas_of self.now.schemas.now).absolute
-            (numbered_site self.now.schemas.now place) (Some keyword.now)) }
-    {
-        let (location, rest) = self.schemas.location_of(place);
-        let mut text = joined(alloc, location, rest)?;
-        push_fragment_token(&mut text, keyword)?;
-        Ok(Text::new(text))
-    }
-
     /// The note of a schema's node.
     ///
     /// # Errors
     /// `Memory` if an allocation fails.
-    #[tactic(auto, unfolding(crate::specs::Walk::Told::schema_says))]
+    #[tactic(auto, unfolding(js_walk::specs::Walk::Told::schema_says))]
     pub fn schema_says<'n>(
         &self,
         alloc: Global,
@@ -347,13 +311,4 @@ impl Here<'_> {
     {
         schema_note(alloc, schema)
     }
-}
-
-// A location, of its two pieces.
-fn joined(alloc: Global, location: &str, rest: &str) -> Result<String, Memory>
-    ensures { IfOk result (λ t. string_bytes t ≡ location.now ++ rest.now) }
-{
-    let mut text = String::from_str(alloc, location)?;
-    text.push_str(rest)?;
-    Ok(text)
 }

@@ -9,16 +9,12 @@
 
 mod cursors;
 mod finished_world;
-mod instance;
 mod judging;
-mod keywords;
 pub mod laws;
 mod public_walks;
 mod reporters;
 mod schema;
-mod schema_lookup;
 mod searching;
-mod walking;
 
+pub use js_walk::WalkFault;
 pub use public_walks::{verdict, walk, walk_into, walk_noted_rows, walk_rows};
-pub use walking::WalkFault;

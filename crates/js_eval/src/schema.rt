@@ -3,10 +3,10 @@ ghost use Rattle.std.specs.Prelude.{◌≡◌, option_map};
 ghost use Rattle.js_assert.specs.Argument.{entries};
 ghost use Rattle.js_doc.specs.Members.{get};
 ghost use Rattle.js_doc.specs.Seen.{value_of};
-ghost use Rattle.js_eval.specs.Verdict.{accepts};
+ghost use Rattle.js_walk.specs.Verdict.{accepts};
 
-use crate::instance::object_in;
 use js_doc::Doc;
+use js_walk::object_in;
 
 /// The argument of the keyword with this name, if the schema has it.
 pub(crate) fn argument_in<'a>(schema: &'a Doc, name: &str) -> Option<&'a Doc>

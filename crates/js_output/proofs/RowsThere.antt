@@ -2,17 +2,17 @@
 use Rattle.std.proofs.Common.{◌≡◌, ℕ, true, ◌⊎◌, inl, inr, Result, Ok, Err, ap, sym, subst, ◌∙◌}
 use Rattle.std.specs.Prelude.{IfOk}
 use Rattle.js_doc.specs.Value.{Value}
-use Rattle.js_tree.specs.RelativeState.{AreRowsOf}
+use Rattle.js_rows.specs.RelativeState.{AreRowsOf}
 use Rattle.js_tree.specs.Result.{ResultTree, kept, pruned}
 use Rattle.js_tree.specs.Trimmed.{trimmed_tree}
 use Rattle.js_tree.specs.declared.forms.Format.{Format}
 use Rattle.js_tree.specs.declared.forms.Format.TheVariants.{Flag, Basic, Detailed, Merged, Verbose}
-use Rattle.js_tree.specs.declared.relative.rows.RelativeRows.{RelativeRows}
+use Rattle.js_rows.specs.declared.rows.RelativeRows.{RelativeRows}
 use Rattle.js_tree.proofs.Trimming.{same_kept}
 use Rattle.js_bundle.specs.Document.{Documents}
 use Rattle.js_bundle.specs.Schemas.{is_place, place_at}
 use Rattle.js_eval.specs.Walked as walked
-use Rattle.js_eval.specs.declared.walking.fault.WalkFault.{WalkFault}
+use Rattle.js_walk.specs.declared.walking.fault.WalkFault.{WalkFault}
 use Rattle.js_output.specs.code.Prepared.{AreRowsBy, recorded, reduced}
 use Rattle.js_output.proofs.Sites.{result-there}
 

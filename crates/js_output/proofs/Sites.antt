@@ -15,8 +15,8 @@ use Rattle.js_eval.specs.Result.{ResultTree, IsResult}
 use Rattle.js_eval.specs.Sited.{numbered_site, nowhere}
 use Rattle.js_eval.specs.Walked.{OnTooLarge, IsResultThere, IsVerdict}
 use Rattle.js_eval.specs.Walked.{NoneStands as NoneStandsThere}
-use Rattle.js_eval.specs.declared.walking.fault.WalkFault.{WalkFault}
-use Rattle.js_eval.specs.declared.walking.fault.WalkFault.TheVariants as walk_fault
+use Rattle.js_walk.specs.declared.walking.fault.WalkFault.{WalkFault}
+use Rattle.js_walk.specs.declared.walking.fault.WalkFault.TheVariants as walk_fault
 use Rattle.js_output.specs.Outcome.{IsResultOf, NoResultStands, IsVerdictOf, IsWalkFault, walk_fault_of}
 use Rattle.js_output.specs.Places.{lines_of}
 

@@ -12,8 +12,8 @@ use Rattle.js_bundle.specs.Resource.{Site}
 use Rattle.js_eval.specs.Bundle.{schemas_of}
 use Rattle.js_eval.specs.Location.{at_root}
 use Rattle.js_eval.specs.Result.{ResultTree, IsResult, IsWithinLimits}
-use Rattle.js_eval.specs.declared.walking.fault.WalkFault.{WalkFault}
-use Rattle.js_eval.specs.declared.walking.fault.WalkFault.TheVariants as walk_fault
+use Rattle.js_walk.specs.declared.walking.fault.WalkFault.{WalkFault}
+use Rattle.js_walk.specs.declared.walking.fault.WalkFault.TheVariants as walk_fault
 use Rattle.js_output.specs.Cause.{Causes}
 use Rattle.js_output.specs.Documents.{DocumentTexts, documents_causes, bundle_of}
 use Rattle.js_output.specs.Entry.{entry_causes, entry_place}

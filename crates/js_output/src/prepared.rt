@@ -5,7 +5,7 @@ ghost use Rattle.js_doc.specs.Seen.{value_of};
 ghost use Rattle.js_doc.specs.Value.{Value};
 ghost use Rattle.js_bundle.specs.Schemas.{is_place, place_at};
 ghost use Rattle.js_tree.specs.Form.{form};
-ghost use Rattle.js_tree.specs.RelativeState.{AreRowsOf};
+ghost use Rattle.js_rows.specs.RelativeState.{AreRowsOf};
 ghost use Rattle.js_tree.specs.Result.{ResultTree};
 ghost use Rattle.js_tree.specs.declared.forms.Format.TheVariants.{Merged};
 ghost use Rattle.js_output.specs.Device.{SendsOrFails, Unflushed};
@@ -20,7 +20,8 @@ use bumpalo::Bump;
 use js_bundle::{Place, Schemas};
 use js_doc::{Doc, Memory};
 use js_eval::verdict;
-use js_tree::{Format, Locations, RelativeRows, Tree, is_surely_merged, merged_tree};
+use js_rows::{Locations, RelativeRows, is_surely_merged, merged_tree};
+use js_tree::{Format, Tree};
 use std::alloc::Global;
 use std::io::Write;
 

@@ -11,7 +11,8 @@ use bumpalo::Bump;
 use js_bundle::{Place, Schemas};
 use js_doc::Doc;
 use js_eval::{WalkFault, walk_noted_rows, walk_rows};
-use js_tree::{Format, RelativeRows, kept_rows};
+use js_rows::{RelativeRows, kept_rows};
+use js_tree::Format;
 use std::alloc::Global;
 
 /// Judges the instance at the place, and keeps the rows that the format is written from: for verbose all, for basic

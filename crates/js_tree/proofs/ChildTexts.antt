@@ -7,7 +7,7 @@ use Rattle.js_tree.specs.Flat.{flat_form, flat_of}
 use Rattle.js_tree.specs.FlatState.{FlatRow}
 use Rattle.js_tree.specs.Forest.{Forest, empty, tree, forest_of}
 use Rattle.js_tree.specs.Form.{node_value, node_values, verbose}
-use Rattle.js_tree.specs.code.NodeText.{back_text, front_text}
+use Rattle.js_tree.specs.NodeText.{back_text, front_text}
 use Rattle.js_tree.specs.OutputUnit.{OutputUnit}
 use Rattle.js_tree.specs.Result.{ResultTree}
 use Rattle.js_tree.proofs.FlatRows.{root_row, rows_below}

@@ -4,14 +4,10 @@ use Rattle.js_tree.specs.Flat.{flat_form}
 use Rattle.js_tree.specs.FlatState.{FlatRow}
 use Rattle.js_tree.specs.Forest.{Forest}
 use Rattle.js_tree.specs.OutputUnit.{OutputUnit}
-use Rattle.js_tree.specs.RelativeState.{relative_row}
-use Rattle.js_tree.specs.code.RelativeText.{AreRowsOfTree}
-use Rattle.js_tree.specs.declared.relative.rows.RelativeRow.{RelativeRow}
-use Rattle.js_tree.proofs.EscapedRows.{NextTree}
 use Rattle.js_tree.proofs.FlatRows.{FirstTree}
 use Rattle.js_tree.proofs.Marks.{flat_form-flat_of}
 
-slice_size : {R : Type 0} (rows : List R) (n size : ℕ) → take (n + size - n) (drop n rows) ≡ take size (drop n rows)
+pub slice_size : {R : Type 0} (rows : List R) (n size : ℕ) → take (n + size - n) (drop n rows) ≡ take size (drop n rows)
 slice_size rows n size = let same : n + size - n ≡ size = omega arith in ap (λ k. take k (drop n rows)) same
 
 pub slice_of_first : {R : Type 0} (row_of : R → FlatRow) (rows : List R) (n : ℕ) (f : Forest OutputUnit) (x : R)
@@ -20,8 +16,3 @@ pub slice_of_first : {R : Type 0} (row_of : R → FlatRow) (rows : List R) (n : 
 slice_of_first row_of rows n f x t =
     ap (map row_of) (slice_size rows n (row_of x).1)
     ∙ (t.all ∙ sym (flat_form-flat_of (record { root = t.unit; below = t.below })))
-
-pub slice_of_next : (rows : List RelativeRow) (n : ℕ) (f : Forest OutputUnit) (x : RelativeRow)
-    (t : NextTree rows n f x)
-    → AreRowsOfTree (take (n + x.size - n) (drop n rows)) (record { root = t.unit; below = t.below })
-slice_of_next rows n f x t = ap (map relative_row) (slice_size rows n x.size) ∙ t.all

@@ -4,7 +4,7 @@ use Rattle.json.specs.Print.{escape_byte}
 use Rattle.js_doc.specs.Compact.{compact, compact_items, compact_members, quoted}
 use Rattle.js_doc.specs.Value.{Value, items, list, members, object, text, truth}
 use Rattle.js_tree.specs.Form.{annotation_value, array_of_some, error_value, member_of_some, list_name, node_value, value_if}
-use Rattle.js_tree.specs.code.NodeText.{given_text, annotation_part, back_text, children_start, error_behind, error_part, front_text, head_text, list_start, tail_text, valid_text, node_text}
+use Rattle.js_tree.specs.NodeText.{given_text, annotation_part, back_text, children_start, error_behind, error_part, front_text, head_text, list_start, tail_text, valid_text, node_text}
 use Rattle.js_tree.specs.Note.{Note}
 use Rattle.js_tree.specs.OutputUnit.{OutputUnit}
 

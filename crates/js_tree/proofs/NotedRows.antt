@@ -9,7 +9,7 @@ use Rattle.js_tree.specs.Forest.{Forest, empty, forest_of, tree}
 use Rattle.js_tree.specs.OutputUnit.{OutputUnit, noted}
 use Rattle.js_tree.specs.Result.{ResultTree, kept, units}
 use Rattle.js_tree.specs.Units.{units_below}
-use Rattle.js_tree.specs.code.NodeText.{list_start, valid_text}
+use Rattle.js_tree.specs.NodeText.{list_start, valid_text}
 use Rattle.js_tree.proofs.KeptTree.{units-kept}
 use Rattle.js_tree.proofs.NodeTexts.{list_text_is, units_value}
 use Rattle.js_tree.proofs.Pieces.{seen_next, seen_all}

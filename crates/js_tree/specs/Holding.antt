@@ -4,13 +4,10 @@ use Rattle.js_tree.specs.BoxedState.{boxed_after, boxed_start, boxed_state}
 use Rattle.js_tree.specs.Events.{events, Passes}
 use Rattle.js_tree.specs.FlatState.{flat_after, flat_start, flat_state, whole_tree}
 use Rattle.js_tree.specs.Forest.{height}
-use Rattle.js_tree.specs.Relative.{IsLocated}
-use Rattle.js_tree.specs.RelativeState.{AreRowsOf, AreTrimmedOf, relative_after, relative_start, relative_state, trimming_start}
 use Rattle.js_tree.specs.Result.{ResultTree}
 use Rattle.js_tree.specs.VerdictState.{verdict_after, verdict_start, verdict_state}
 use Rattle.js_tree.specs.declared.collecting.boxed.Boxed.{Boxed}
 use Rattle.js_tree.specs.declared.collecting.flat.Flat.{Flat}
-use Rattle.js_tree.specs.declared.relative.rows.RelativeRows.{RelativeRows}
 use Rattle.js_tree.specs.declared.collecting.verdict.Verdict.{Verdict}
 
 abbrev pub VerdictHolds : Type 0
@@ -33,14 +30,3 @@ abbrev pub FlatHolds : Type 0
 FlatHolds =
     (t : ResultTree) (c d : Flat) → flat_state c ≡ flat_start
     → Passes (λ a e b. flat_state b ≡ flat_after (flat_state a) e) (events t) c d → flat_state d ≡ whole_tree t
-
--- if each node's locations begin with those of the node above
-abbrev pub RelativeHolds : Type 0
-RelativeHolds =
-    (t : ResultTree) (c d : RelativeRows) → IsLocated t → relative_state c ≡ relative_start
-    → Passes (λ a e b. relative_state b ≡ relative_after (relative_state a) e) (events t) c d → AreRowsOf d t
-
-abbrev pub TrimmingHolds : Type 0
-TrimmingHolds =
-    (t : ResultTree) (c d : RelativeRows) → IsLocated t → relative_state c ≡ trimming_start
-    → Passes (λ a e b. relative_state b ≡ relative_after (relative_state a) e) (events t) c d → AreTrimmedOf d t

@@ -8,16 +8,13 @@ pub mod Forest
 pub mod Form
 pub mod Holding
 pub mod Kept
-pub mod Locations
-pub mod Marks
 pub mod Merged
 pub mod MergedResult
 pub mod Moves
+pub mod NodeText
 pub mod Note
 pub mod OutputUnit
 pub mod Pruned
-pub mod Relative
-pub mod RelativeState
 pub mod Result
 pub mod Seen
 pub mod Step

@@ -3,15 +3,10 @@
 //! A *step* applies a rule once, at one node below the root; a *run* is a sequence of steps. A tree is *normal* if no
 //! step is possible. The *kept tree* of a tree is what `condense` makes of it, and its *merged tree* what
 //! `merge_condense` makes of it.
-ghost use Rattle.std.specs.Prelude.{◌≡◌, [], ◌+◌, ◌<◌, ◌↔◌, Bool, IsTrue, List, Some, false, true, ℕ};
+ghost use Rattle.std.specs.Prelude.{◌≡◌, ◌+◌, ◌<◌, ◌↔◌, IsTrue, Some, false, true};
 ghost use Rattle.js_tree.specs.Alike.{same_but_keyword};
 ghost use Rattle.js_tree.specs.Forest.{Forest, ◌⊹◌, node_count, tree};
-ghost use Rattle.js_tree.specs.Holding.{BoxedClosesAll, BoxedHolds, FlatHolds, RelativeHolds, TrimmingHolds};
-ghost use Rattle.js_tree.specs.Holding.{VerdictHolds};
-ghost use Rattle.js_tree.specs.Events.{closing, opening};
-ghost use Rattle.js_tree.specs.Note.{silent};
-ghost use Rattle.js_tree.specs.Relative.{IsLocated, placed_tree, relative_tree};
-ghost use Rattle.js_tree.specs.RelativeState.{RelativeState, relative_after};
+ghost use Rattle.js_tree.specs.Holding.{BoxedClosesAll, BoxedHolds, FlatHolds, VerdictHolds};
 ghost use Rattle.js_tree.specs.Result.{ResultTree, Normal, Run, ResultStep, kept, moved, pruned, units};
 ghost use Rattle.js_tree.specs.declared.reducing.moves.Move.{Move};
 ghost use Rattle.js_tree.specs.Merged.{alike, firsts, has_alike};
@@ -134,23 +129,6 @@ pub fn rows_are_the_flat_form()
     ensures { FlatHolds }
 {}
 
-/// After the events of a tree whose locations go on from those above, the rows of `RelativeRows` are the tree's.
-pub fn relative_rows_are_those_of_the_tree()
-    ensures { RelativeHolds }
-{}
-
-/// After the events of such a tree, a `RelativeRows` that trims has its trimmed tree's rows, but none if only the root
-/// is left and has no note.
-pub fn trimming_rows_are_those_of_the_trimmed_tree()
-    ensures { TrimmingHolds }
-{}
-
-/// Where a `RelativeRows` trims, a node that opens and closes at once, without a note, leaves its state as it was.
-pub fn a_silent_leaf_leaves_nothing()
-    ensures { (s : RelativeState) (keyword absolute instance : List ℕ) (valid : Bool) → s.trims ≡ true
-        → relative_after (relative_after s (opening keyword absolute instance)) (closing valid silent) ≡ s }
-{}
-
 /// Trimming loses nothing that basic, detailed or merged shows: the trimmed tree, pruned, has the same noted units, the
 /// same kept tree and the same merged tree.
 pub fn a_trimmed_tree_shows_the_same()
@@ -158,16 +136,6 @@ pub fn a_trimmed_tree_shows_the_same()
     ensures kept { (t : ResultTree) → kept (pruned (trimmed_tree t)) ≡ kept (pruned t) }
     ensures merged { (t : ResultTree) → merged (pruned (trimmed_tree t)) ≡ merged (pruned t) }
     ensures root { (t : ResultTree) → (pruned (trimmed_tree t)).root ≡ t.root }
-{}
-
-/// The locations of a trimmed tree go on from those above too.
-pub fn a_trimmed_tree_is_located()
-    ensures { (t : ResultTree) → IsLocated t → IsLocated (trimmed_tree t) }
-{}
-
-/// Nothing is lost: what the locations add, put behind those above, makes the tree again.
-pub fn a_located_tree_is_placed_again()
-    ensures { (t : ResultTree) → IsLocated t → placed_tree [] [] (relative_tree t) ≡ t }
 {}
 
 /// Returns the bare root, which is normal. It shows that a contract which promises just a normal tree is too weak.

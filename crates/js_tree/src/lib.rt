@@ -5,16 +5,16 @@
 //! a verdict, three locations, and a *note*, which is an error, an annotation or nothing. A unit is *noted* if it has
 //! an error or an annotation.
 //!
-//! `collecting` receives a result's nodes, `reducing` prunes, condenses and merges trees and flat forms, `writing`
-//! makes their text, and `relative` does all of this with rows that keep only what their locations add to those above.
+//! `collecting` receives a result's nodes, `reducing` prunes, condenses and merges trees and flat forms, and `writing`
+//! makes their text.
 #![tactic(auto)]
 
 mod collecting;
 mod forms;
 pub mod laws;
 mod note;
+pub mod parts;
 mod reducing;
-mod relative;
 mod tree;
 mod unit;
 mod writing;
@@ -32,12 +32,6 @@ pub use reducing::moves::{Move, NoMove, Rule, apply, replay};
 pub use reducing::noted_rows::flat_units;
 pub use reducing::noted_units::units;
 pub use reducing::pruning::prune;
-pub use relative::basic_text::put_basic;
-pub use relative::keeping::kept_rows;
-pub use relative::locations::Locations;
-pub use relative::merged_tree::{is_surely_merged, merged_tree};
-pub use relative::rows::{RelativeRow, RelativeRows};
-pub use relative::verbose_text::put_verbose;
 pub use tree::{Tree, Trees};
 pub use unit::Unit;
 pub use writing::format_text::{put_flag, put_flat};

@@ -114,13 +114,8 @@ impl<'a> Trees<'a> {
 impl<'a> Tree<'a> {
     ghost use Rattle.js_tree.specs.Forest.{forest_of};
 
-    /// The tree of a node with these locations, this verdict and this note, over these children.
-    pub(crate) fn of_node(
-        head: Head,
-        valid: bool,
-        note: Note<'a>,
-        children: Vec<Tree<'a>>,
-    ) -> Tree<'a>
+    /// The tree of a node with these locations, this verdict and this note, over these children. Allocates nothing.
+    pub fn of_node(head: Head, valid: bool, note: Note<'a>, children: Vec<Tree<'a>>) -> Tree<'a>
         ensures { result ≡ record {
           root = record {
             valid = valid;

@@ -12,12 +12,12 @@ use Rattle.js_doc.specs.Value.{Value, Named}
 use Rattle.js_doc.specs.declared.doc.Doc.{Doc}
 use Rattle.js_bundle.specs.Document.{Documents}
 use Rattle.js_bundle.specs.Resource.{Site}
-use Rattle.js_eval.specs.Applications.{Application, application, among_indexes, among_names, indexed_from}
+use Rattle.js_walk.specs.Applications.{Application, application, among_indexes, among_names, indexed_from}
 use Rattle.js_eval.specs.code.Applied.{applied}
-use Rattle.js_eval.specs.code.Standing.{IsSchemaAt}
-use Rattle.js_eval.specs.Bundle.{schemas_of}
-use Rattle.js_eval.specs.SchemaSet.{Text, Index, Name}
-use Rattle.js_eval.specs.Sited.{numbered_site}
+use Rattle.js_walk.specs.code.Standing.{IsSchemaAt}
+use Rattle.js_walk.specs.Bundle.{schemas_of}
+use Rattle.js_walk.specs.SchemaSet.{Text, Index, Name}
+use Rattle.js_walk.specs.Sited.{numbered_site}
 use Rattle.js_eval.specs.declared.cursors.item_cursor.ItemCursor.{ItemCursor}
 use Rattle.js_eval.specs.declared.cursors.member_cursor.Choice.{Choice}
 use Rattle.js_eval.specs.declared.cursors.member_cursor.Choice.TheVariants as choice

@@ -2,18 +2,18 @@
 ghost use Rattle.std.specs.Prelude.{◌≡◌, ◌∷◌, [], IfOk, MatchOption};
 ghost use Rattle.js_eval.specs.code.Applied.{applied_of};
 ghost use Rattle.js_eval.specs.code.Asked.{IsApplied, IsAsking, IsOne, asked, one_asked};
-ghost use Rattle.js_eval.specs.code.Terms.{Documents, IsSchemaAt, instance_of, numbered_site, value_of};
-ghost use Rattle.js_eval.specs.SchemaSet as spec;
+ghost use Rattle.js_walk.specs.code.Terms.{Documents, IsSchemaAt, instance_of, numbered_site, value_of};
+ghost use Rattle.js_walk.specs.SchemaSet as spec;
 
 use crate::cursors::item_cursor::{ItemCursor, next_on_item};
 use crate::cursors::list_cursor::{ListCursor, next_in_list};
 use crate::cursors::member_cursor::{MemberCursor, next_on_member};
 use crate::cursors::name_cursor::{NameCursor, next_of_names};
 use crate::cursors::pattern_cursor::{PatternCursor, next_matching};
-use crate::instance::{Applied, Instance};
 use crate::searching::searchers::Searchers;
 use js_bundle::{Place, Schemas, Step};
 use js_doc::{Doc, Memory};
+use js_walk::{Applied, Instance};
 use std::alloc::Global;
 
 /// The applications that a keyword still has to ask for.

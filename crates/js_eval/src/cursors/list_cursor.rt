@@ -4,11 +4,9 @@ ghost use Rattle.js_eval.specs.code.Applied.{applied_of};
 ghost use Rattle.js_eval.specs.code.Asked.{IsApplied};
 ghost use Rattle.js_eval.specs.code.ListLeft.{IsList, list_asked};
 
-use crate::instance::{Applied, Instance};
-use crate::keywords::keyword::Keyword;
-use crate::schema_lookup::below_at_rank;
 use js_bundle::{Place, Schemas, Step};
 use js_doc::Doc;
+use js_walk::{Applied, Instance, Keyword, below_at_rank};
 
 /// The schemas of a keyword's list that are still to come.
 #[derive(Drop)]

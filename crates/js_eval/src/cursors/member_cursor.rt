@@ -8,15 +8,15 @@ ghost use Rattle.js_doc.specs.Members.{get};
 ghost use Rattle.js_eval.specs.code.Applied.{IsHeld, applied_of};
 ghost use Rattle.js_eval.specs.code.Asked.{IsApplied};
 ghost use Rattle.js_eval.specs.code.Cursors.{is_chosen, is_matched, is_named, members_asked, chosen_members, named_in};
-ghost use Rattle.js_eval.specs.code.Terms.{entries, value_of};
+ghost use Rattle.js_walk.specs.code.Terms.{entries, value_of};
 
 use crate::cursors::application::{Held, To, apply_to_part};
-use crate::instance::{Applied, object_in};
 use crate::schema::argument_in;
 use crate::searching::name_set::is_in;
 use crate::searching::searchers::{NamedPattern, Searchers};
 use js_bundle::{Place, Schemas, Step};
 use js_doc::{Doc, Members, Memory, Pairs};
+use js_walk::{Applied, object_in};
 use std::alloc::Global;
 use std::collections::BTreeSet;
 

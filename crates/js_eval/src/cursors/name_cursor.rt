@@ -8,14 +8,12 @@ ghost use Rattle.js_bundle.specs.Ranked.{is_name};
 ghost use Rattle.js_eval.specs.code.Applied.{applied_of};
 ghost use Rattle.js_eval.specs.code.Asked.{IsApplied};
 ghost use Rattle.js_eval.specs.code.NamesLeft.{AreLeft, IsNames, members_among, names_asked, names_left};
-ghost use Rattle.js_eval.specs.code.Starting.{HoldsBy, IsAtPlace, on_namesakes};
-ghost use Rattle.js_eval.specs.code.Terms.{Documents, entries, has, pair_of, value_of};
+ghost use Rattle.js_walk.specs.code.Starting.{HoldsBy, IsAtPlace, on_namesakes};
+ghost use Rattle.js_walk.specs.code.Terms.{Documents, entries, has, pair_of, value_of};
 
-use crate::instance::{Applied, Instance};
-use crate::keywords::keyword::{Keyword, KeywordAt};
-use crate::schema_lookup::below_at_rank;
 use js_bundle::{Place, Schemas, Step};
 use js_doc::{Doc, Members, Pairs, name_order};
+use js_walk::{Applied, Instance, Keyword, KeywordAt, below_at_rank};
 use std::cmp::Ordering;
 
 /// The names in `properties` that are still to come, and the members to find them among.
@@ -60,13 +58,6 @@ pub(crate) fn each_of_names<'a>(
         rank: 0,
         among,
     }
-}
-
-/// The names of members ascend.
-pub(crate) fn names_ascend(members: &Members)
-    ensures { IsAscending members.now }
-{
-    let _ = members.pairs();
 }
 
 /// The next application, or None after the last.

@@ -5,14 +5,13 @@ ghost use Rattle.js_assert.specs.Pattern.{matches};
 ghost use Rattle.js_eval.specs.code.Applied.{applied_of};
 ghost use Rattle.js_eval.specs.code.Asked.{ArePatterns, IsApplied};
 ghost use Rattle.js_eval.specs.code.Cursors.{IsBegun, on_matched_member, patterns_asked};
-ghost use Rattle.js_eval.specs.code.Terms.{IsSchemaAt, pair_of, value_of};
+ghost use Rattle.js_walk.specs.code.Terms.{IsSchemaAt, pair_of, value_of};
 
 use crate::cursors::member_cursor::pattern_of;
-use crate::instance::{Applied, Instance};
-use crate::schema_lookup::subschema_at;
 use crate::searching::searchers::{NamedPattern, Searchers};
 use js_bundle::{Place, Schemas, Step};
 use js_doc::{Doc, Members, Memory, Pairs};
+use js_walk::{Applied, Instance, subschema_at};
 use std::alloc::Global;
 
 /// The patterns that are still to come, and the members that are left for the present one.

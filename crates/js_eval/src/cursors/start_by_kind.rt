@@ -1,23 +1,21 @@
 //! The applications that a keyword asks for, by its kind (Core, sections 8.2.3, 10 and 11).
 ghost use Rattle.std.specs.Prelude.{◌≡◌, ◌∷◌, [], IfOk, map, nat_eq, true};
 ghost use Rattle.std.specs.List.{dedup, list_all};
-ghost use Rattle.js_eval.specs.Applications.{asks_of};
+ghost use Rattle.js_walk.specs.Applications.{asks_of};
 ghost use Rattle.js_eval.specs.code.Asked.{IsAsking, asked};
-ghost use Rattle.js_eval.specs.code.Holding.{IsIn};
-ghost use Rattle.js_eval.specs.code.Starting.{HoldsOne, IsAtPlace, applied_if, by_keyword};
-ghost use Rattle.js_eval.specs.code.Terms.{IsSchemaAt, entries, instance_of, is_place, keyword_of};
-ghost use Rattle.js_eval.specs.code.Terms.{numbered_site, resource_of, schemas_of, texts_of, value_of};
-ghost use Rattle.js_eval.specs.SchemaSet as spec;
+ghost use Rattle.js_walk.specs.code.Holding.{IsIn};
+ghost use Rattle.js_walk.specs.code.Starting.{HoldsOne, IsAtPlace, applied_if, by_keyword};
+ghost use Rattle.js_walk.specs.code.Terms.{IsSchemaAt, entries, instance_of, is_place, keyword_of};
+ghost use Rattle.js_walk.specs.code.Terms.{numbered_site, resource_of, schemas_of, texts_of, value_of};
+ghost use Rattle.js_walk.specs.SchemaSet as spec;
 
 use crate::cursors::asking::{Asking, alone};
 use crate::cursors::{start_items, start_members};
-use crate::instance::Instance;
-use crate::keywords::keyword::KeywordAt;
-use crate::keywords::kind::Kind;
-use crate::schema_lookup::{dynamic_target_at, held_below, target_at};
-use crate::walking::Path;
 use js_bundle::{Place, Schemas};
 use js_doc::{Doc, Memory};
+use js_walk::{
+    Instance, KeywordAt, Kind, Path, dynamic_target_at, held_below, is_chosen, target_at,
+};
 use std::alloc::Global;
 
 /// In which dynamic scope a keyword is evaluated, and on what value.
@@ -168,9 +166,9 @@ fn held_if<'a>(
         (by_keyword schemas.now at.now spec.Alone spec.Alone (instance_of value.entry) ∷ []) }
     ensures is { IsAsking schemas.now result }
 {
-    match (condition, wanted) {
-        (Some(true), true) => held(schemas, at, value),
-        (Some(false), false) => held(schemas, at, value),
-        _ => Asking::One(None),
+    if is_chosen(condition, wanted) {
+        held(schemas, at, value)
+    } else {
+        Asking::One(None)
     }
 }

@@ -2,23 +2,21 @@
 //! 11.2).
 ghost use Rattle.std.specs.Prelude.{◌≡◌, IfOk, filter, length, map, nat_le, nat_lt, not, take};
 ghost use Rattle.js_bundle.specs.Ranked.{is_index};
-ghost use Rattle.js_eval.specs.Applications.{among_indexes, indexed, prefix_length};
-ghost use Rattle.js_eval.specs.SchemaSet as spec;
+ghost use Rattle.js_walk.specs.Applications.{among_indexes, indexed, prefix_length};
+ghost use Rattle.js_walk.specs.SchemaSet as spec;
 ghost use Rattle.js_eval.specs.code.Asked.{IsAsking, asked};
 ghost use Rattle.js_eval.specs.code.Cursors.{AreMarked};
-ghost use Rattle.js_eval.specs.code.Starting.{HoldsBy, HoldsOne, IsAtPlace, by_keyword, on_items};
-ghost use Rattle.js_eval.specs.code.Terms.{Documents, entries, instance_of, value_of, values};
+ghost use Rattle.js_walk.specs.code.Starting.{HoldsBy, HoldsOne, IsAtPlace, by_keyword, on_items};
+ghost use Rattle.js_walk.specs.code.Terms.{Documents, entries, instance_of, value_of, values};
 
 use crate::cursors::application::{Held, To};
 use crate::cursors::asking::Asking;
 use crate::cursors::item_cursor::ItemCursor;
 use crate::cursors::list_cursor::ListCursor;
-use crate::instance::{Instance, array_in};
-use crate::keywords::keyword::KeywordAt;
 use crate::schema::argument_in;
-use crate::schema_lookup::held_below;
 use js_bundle::Schemas;
 use js_doc::{Doc, Memory};
+use js_walk::{Instance, KeywordAt, array_in, held_below};
 use std::alloc::Global;
 
 /// Each schema of a keyword's list, applied to the value itself.

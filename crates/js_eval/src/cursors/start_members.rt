@@ -6,25 +6,23 @@ ghost use Rattle.js_assert.specs.Pattern.{matches};
 ghost use Rattle.js_bundle.specs.Ranked.{is_name};
 ghost use Rattle.js_doc.specs.Members.{IsAscending};
 ghost use Rattle.js_doc.specs.Value.{text};
-ghost use Rattle.js_eval.specs.Applications.{among_names, is_property, matches_pattern};
-ghost use Rattle.js_eval.specs.SchemaSet as spec;
+ghost use Rattle.js_walk.specs.Applications.{among_names, is_property, matches_pattern};
+ghost use Rattle.js_walk.specs.SchemaSet as spec;
 ghost use Rattle.js_eval.specs.code.Asked.{IsAsking, asked};
 ghost use Rattle.js_eval.specs.code.NamesLeft.{members_among};
-ghost use Rattle.js_eval.specs.code.Starting.{HoldsBy, HoldsOne, IsAtPlace, by_keyword, on_members, on_namesakes};
-ghost use Rattle.js_eval.specs.code.Terms.{Documents, entries, has, instance_of, texts_of, value_of};
+ghost use Rattle.js_walk.specs.code.Starting.{HoldsBy, HoldsOne, IsAtPlace, by_keyword, on_members, on_namesakes};
+ghost use Rattle.js_walk.specs.code.Terms.{Documents, entries, has, instance_of, texts_of, value_of};
 
 use crate::cursors::application::{Held, To};
 use crate::cursors::asking::{Asking, in_box};
 use crate::cursors::member_cursor::{Adjacent, Choice, MemberCursor, object_at};
-use crate::cursors::name_cursor::{Among, each_of_names, names_ascend};
+use crate::cursors::name_cursor::{Among, each_of_names};
 use crate::cursors::pattern_cursor::PatternCursor;
-use crate::instance::{Instance, object_in};
-use crate::keywords::keyword::KeywordAt;
 use crate::schema::argument_in;
-use crate::schema_lookup::held_below;
 use crate::searching::name_set::set_of;
 use js_bundle::Schemas;
 use js_doc::{Members, Memory};
+use js_walk::{Instance, KeywordAt, held_below, names_ascend, object_in};
 use std::alloc::Global;
 
 /// `properties` goes through the members and looks each up among its names, if it has more names than this number times

@@ -5,30 +5,27 @@ ghost use Rattle.std.specs.Option.{option_map_or};
 ghost use Rattle.js_assert.specs.Assertion.{asserted};
 ghost use Rattle.js_assert.specs.ErrorText as texts;
 ghost use Rattle.js_doc.specs.Value.{Named, Value as JsonValue};
-ghost use Rattle.js_eval.specs.Applications.{among_names};
+ghost use Rattle.js_walk.specs.Applications.{among_names};
 ghost use Rattle.js_eval.specs.code.Cursors.{is_key};
-ghost use Rattle.js_eval.specs.code.Terms.{entries, instance_of, is_place, keyword_of};
-ghost use Rattle.js_eval.specs.code.Terms.{numbered_site, schemas_of, texts_of, value_of};
-ghost use Rattle.js_eval.specs.Keywords as table;
-ghost use Rattle.js_eval.specs.Note as spec;
-ghost use Rattle.js_eval.specs.SchemaSet.{Text as Bytes};
-ghost use Rattle.js_eval.specs.Walk.Said.{keyword_says};
-ghost use Rattle.js_eval.specs.Walk.Told.{IsKeywordAt, says_at};
+ghost use Rattle.js_walk.specs.code.Terms.{entries, instance_of, is_place, keyword_of};
+ghost use Rattle.js_walk.specs.code.Terms.{numbered_site, schemas_of, texts_of, value_of};
+ghost use Rattle.js_walk.specs.Keywords as table;
+ghost use Rattle.js_walk.specs.Note as spec;
+ghost use Rattle.js_walk.specs.SchemaSet.{Text as Bytes};
+ghost use Rattle.js_walk.specs.Walk.Said.{keyword_says};
+ghost use Rattle.js_walk.specs.Walk.Told.{IsKeywordAt, says_at};
 ghost use Rattle.js_tree.specs.Seen.{note_of};
 
 use crate::finished_world::Here;
-use crate::instance::Instance;
 use crate::judging::passing::holds;
-use crate::keywords::keyword::Keyword;
-use crate::keywords::kind::Kind;
 use crate::searching::name_set::{is_in, set_of};
 use crate::searching::searchers::Searchers;
-use crate::walking::Judged;
 use itoa::Buffer;
 use js_assert::Assertion;
 use js_bundle::Place;
 use js_doc::{Doc, Members, Memory, Text};
 use js_tree::{Indexes, Names, Note};
+use js_walk::{Instance, Judged, Keyword, Kind};
 use std::alloc::Global;
 use std::collections::BTreeSet;
 
@@ -38,7 +35,7 @@ use std::collections::BTreeSet;
 ///
 /// # Errors
 /// `Memory` if an allocation fails.
-#[tactic(auto, unfolding(crate::specs::Walk::Told::says_at))]
+#[tactic(auto, unfolding(js_walk::specs::Walk::Told::says_at))]
 pub(crate) fn keyword_note<'a>(
     alloc: Global,
     here: &Here<'a>,

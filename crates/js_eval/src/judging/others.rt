@@ -2,18 +2,16 @@
 ghost use Rattle.std.specs.Prelude.{◌≡◌, IfOk, filter, length, true};
 ghost use Rattle.std.specs.List.{list_all};
 ghost use Rattle.js_assert.specs.Assertion as spec;
-ghost use Rattle.js_eval.specs.Walk.Visited.{AreJudged};
+ghost use Rattle.js_walk.specs.Walk.Visited.{AreJudged};
 ghost use Rattle.js_eval.specs.code.Leaves.{has_leaf};
-ghost use Rattle.js_eval.specs.code.Terms.{instance_of, is_place, numbered_site, schemas_of};
+ghost use Rattle.js_walk.specs.code.Terms.{instance_of, is_place, numbered_site, schemas_of};
 
-use crate::instance::Instance;
 use crate::judging::passing::holds;
-use crate::schema_lookup::names_at;
 use crate::searching::searchers::Searchers;
-use crate::walking::Others;
 use js_assert::Assertion;
 use js_bundle::{KeywordName, Place, Schemas};
 use js_doc::Memory;
+use js_walk::{Instance, Others, names_at};
 use std::alloc::Global;
 
 /// Whether a value passes the keywords at a place that apply no schemas, and how many of them have a node. `matching`:

@@ -5,22 +5,19 @@ ghost use Rattle.js_assert.specs.Argument.{entries, on_array, on_string};
 ghost use Rattle.js_assert.specs.Assertion as spec;
 ghost use Rattle.js_assert.specs.Assertion.{asserted};
 ghost use Rattle.js_assert.specs.Pattern.{matches};
-ghost use Rattle.js_eval.specs.Keywords as table;
-ghost use Rattle.js_eval.specs.Passes.{all, any, how_many, may_contain_none, passes_of};
-ghost use Rattle.js_eval.specs.Walk.Told.{IsKeywordAt, passes_at};
-ghost use Rattle.js_eval.specs.declared.keywords.kind.Kind.TheVariants.{Assertion as AssertionKind};
-ghost use Rattle.js_eval.specs.code.Terms.{IsSchemaAt, instance_of, is_place};
-ghost use Rattle.js_eval.specs.code.Terms.{keyword_of, numbered_site, schemas_of, value_of};
+ghost use Rattle.js_walk.specs.Keywords as table;
+ghost use Rattle.js_walk.specs.Passes.{all, any, how_many, may_contain_none, passes_of};
+ghost use Rattle.js_walk.specs.Walk.Told.{IsKeywordAt, passes_at};
+ghost use Rattle.js_walk.specs.declared.keywords.kind.Kind.TheVariants.{Assertion as AssertionKind};
+ghost use Rattle.js_walk.specs.code.Terms.{IsSchemaAt, instance_of, is_place};
+ghost use Rattle.js_walk.specs.code.Terms.{keyword_of, numbered_site, schemas_of, value_of};
 
-use crate::instance::Instance;
-use crate::keywords::keyword::Keyword;
-use crate::keywords::kind::Kind;
 use crate::schema::argument_in;
 use crate::searching::searchers::{NamedPattern, Searchers};
-use crate::walking::Tally;
 use js_assert::{Assertion, Pattern};
 use js_bundle::{Place, Schemas};
 use js_doc::{Doc, Memory, Text, Whole};
+use js_walk::{Instance, Keyword, Kind, Tally};
 use std::alloc::Global;
 
 /// Whether a keyword passes. `tally`: the number of its applications, and of those that succeed; `matching`: the number
@@ -28,7 +25,7 @@ use std::alloc::Global;
 ///
 /// # Errors
 /// `Memory` if an allocation fails.
-#[tactic(auto, unfolding(crate::specs::Walk::Told::passes_at))]
+#[tactic(auto, unfolding(js_walk::specs::Walk::Told::passes_at))]
 pub(crate) fn passes<'a>(
     alloc: Global,
     schemas: &'a Schemas,

@@ -3,13 +3,13 @@ ghost use Rattle.std.specs.Prelude.{OnOk};
 ghost use Rattle.js_tree.specs.Events.{opening};
 
 use crate::finished_world::Here;
-use crate::instance::Instance;
 use crate::judging::notes::keyword_note;
-use crate::keywords::keyword::Keyword;
-use crate::walking::{HeldText, Judged, Reporter, Trail, World};
 use js_bundle::Place;
 use js_doc::{Doc, Memory, Text};
 use js_tree::{Collector, Head};
+use js_walk::{
+    HeldText, Instance, Judged, Keyword, Reporter, Trail, World, absolute_keyword, absolute_schema,
+};
 use std::alloc::Global;
 use std::marker::PhantomData;
 
@@ -42,7 +42,7 @@ impl<'a, C: Collector<'a>> Reporter<Here<'a>, HeldText> for Collecting<'a, C> {
         keyword_location: &Trail<HeldText>,
         instance_location: &Trail<HeldText>,
     ) -> Result<(), Memory> {
-        let absolute = world.absolute_schema(alloc, place)?;
+        let absolute = absolute_schema(alloc, world.schemas, place)?;
         self.open(keyword_location, absolute, instance_location)
     }
 
@@ -56,7 +56,7 @@ impl<'a, C: Collector<'a>> Reporter<Here<'a>, HeldText> for Collecting<'a, C> {
         keyword_location: &Trail<HeldText>,
         instance_location: &Trail<HeldText>,
     ) -> Result<(), Memory> {
-        let absolute = world.absolute_keyword(alloc, place, keyword.name)?;
+        let absolute = absolute_keyword(alloc, world.schemas, place, keyword.name)?;
         self.open(keyword_location, absolute, instance_location)
     }
 

@@ -1,17 +1,15 @@
 //! The reporter that keeps the result of a walk as rows.
 ghost use Rattle.std.specs.Prelude.{◌≡◌, ◌++◌, OnOk, string_bytes, true};
 ghost use Rattle.js_doc.specs.Fragment.{fragment_token};
-ghost use Rattle.js_tree.specs.RelativeState.{TakesLeafAt, relative_after, relative_state};
-ghost use Rattle.js_eval.specs.code.Standard.{IsWrittenAsItIs};
+ghost use Rattle.js_rows.specs.RelativeState.{TakesLeafAt, relative_after, relative_state};
+ghost use Rattle.js_walk.specs.code.Standard.{IsWrittenAsItIs};
 
 use crate::finished_world::Here;
-use crate::instance::Instance;
 use crate::judging::notes::keyword_note;
-use crate::keywords::keyword::{Keyword, is_written_as_it_is};
-use crate::walking::{HeldText, Judged, Reporter, Trail, World};
 use js_bundle::Place;
 use js_doc::{Doc, Memory, push_fragment_token};
-use js_tree::RelativeRows;
+use js_rows::RelativeRows;
+use js_walk::{HeldText, Instance, Judged, Keyword, Reporter, Trail, World, is_written_as_it_is};
 use std::alloc::Global;
 
 /// Adds a row for each node of the result. Its methods aren't inlined: that keeps the notes that they make out of the

@@ -1,8 +1,8 @@
 //! A set of names, for fast look-ups.
 ghost use Rattle.std.specs.Prelude.{◌≡◌, ◌++◌, ◌∷◌, [], IfOk, List, OnOk};
 ghost use Rattle.js_eval.specs.code.Cursors.{HasNames, is_key};
-ghost use Rattle.js_eval.specs.SchemaSet.{Text};
-ghost use Rattle.js_eval.specs.Seen.{texts_of};
+ghost use Rattle.js_walk.specs.SchemaSet.{Text};
+ghost use Rattle.js_walk.specs.Seen.{texts_of};
 
 use js_doc::Memory;
 use std::alloc::Global;

@@ -7,10 +7,10 @@ ghost use Rattle.js_doc.specs.Seen.{pair_of};
 
 use crate::cursors::item_cursor::is_marked;
 use crate::cursors::member_cursor::{object_at, pattern_of};
-use crate::instance::Instance;
 use crate::searching::searchers::{NamedPattern, Searchers};
 use js_bundle::{Place, Schemas};
 use js_doc::{Doc, Members, Memory, Pairs};
+use js_walk::Instance;
 use std::alloc::Global;
 
 /// For one pattern: whether it matches each name of an object. Names are asked for in ascending order, and some may be

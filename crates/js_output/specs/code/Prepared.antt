@@ -2,13 +2,13 @@
 use Rattle.std.specs.Prelude.{◌≡◌, Bool, Option, ⊤}
 use Rattle.js_doc.specs.Value.{Value}
 use Rattle.js_tree.specs.Form.{flag, form, verbose}
-use Rattle.js_tree.specs.Locations.{HasRoomFor}
-use Rattle.js_tree.specs.RelativeState.{AreRowsOf}
+use Rattle.js_rows.specs.Locations.{HasRoomFor}
+use Rattle.js_rows.specs.RelativeState.{AreRowsOf}
 use Rattle.js_tree.specs.Result.{kept, pruned}
 use Rattle.js_tree.specs.Trimmed.{trimmed_tree}
 use Rattle.js_tree.specs.declared.forms.Format.{Format}
 use Rattle.js_tree.specs.declared.forms.Format.TheVariants.{Flag, Basic, Detailed, Merged, Verbose}
-use Rattle.js_tree.specs.declared.relative.rows.RelativeRows.{RelativeRows}
+use Rattle.js_rows.specs.declared.rows.RelativeRows.{RelativeRows}
 use Rattle.js_bundle.specs.Document as bundle
 use Rattle.js_bundle.specs.Resource.{Site}
 use Rattle.js_eval.specs.Result.{ResultTree, IsWithinLimits}

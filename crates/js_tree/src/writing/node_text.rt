@@ -5,8 +5,8 @@ ghost use Rattle.js_doc.specs.Compact.{comma_if, compact, compact_items, quoted}
 ghost use Rattle.js_doc.specs.Seen.{value_of};
 ghost use Rattle.js_doc.specs.Value.{items, list, text, whole};
 ghost use Rattle.js_tree.specs.Form.{node_value};
-ghost use Rattle.js_tree.specs.code.NodeText.{annotation_part, back_text, children_start, error_behind, error_part};
-ghost use Rattle.js_tree.specs.code.NodeText.{front_text, head_text, tail_text, valid_text};
+ghost use Rattle.js_tree.specs.NodeText.{annotation_part, back_text, children_start, error_behind, error_part};
+ghost use Rattle.js_tree.specs.NodeText.{front_text, head_text, tail_text, valid_text};
 ghost use Rattle.js_tree.specs.Seen.{note_of};
 
 use crate::note::Note;
@@ -47,8 +47,11 @@ fn put_head<O: Out>(unit: &Unit, out: &mut O) -> Result<(), Stopped>
     put_closed_annotation(&unit.note, out)
 }
 
-/// Writes the beginning of the list of children, and the error if it stands before them.
-pub(crate) fn put_list_start<O: Out>(note: &Note, valid: bool, out: &mut O) -> Result<(), Stopped>
+/// Writes the beginning of the list of children, and the error if it stands before them. Allocates nothing.
+///
+/// # Errors
+/// `Stopped` if the output takes no more; then a beginning of the text has been written.
+pub fn put_list_start<O: Out>(note: &Note, valid: bool, out: &mut O) -> Result<(), Stopped>
     ensures { Puts (O.progress out.old) (O.progress out.new) (children_start (note_of note.now) valid) result }
 {
     if valid {
@@ -58,8 +61,11 @@ pub(crate) fn put_list_start<O: Out>(note: &Note, valid: bool, out: &mut O) -> R
     out.put(b",\"errors\":[")
 }
 
-/// Writes the error if it stands after the children.
-pub(crate) fn put_error_behind<O: Out>(note: &Note, valid: bool, out: &mut O) -> Result<(), Stopped>
+/// Writes the error if it stands after the children. Allocates nothing.
+///
+/// # Errors
+/// `Stopped` if the output takes no more; then a beginning of the text has been written.
+pub fn put_error_behind<O: Out>(note: &Note, valid: bool, out: &mut O) -> Result<(), Stopped>
     ensures { Puts (O.progress out.old) (O.progress out.new) (error_behind (note_of note.now) valid) result }
 {
     if valid { put_error(note, out) } else { Ok(()) }
@@ -100,9 +106,12 @@ pub(crate) fn put_error<O: Out>(note: &Note, out: &mut O) -> Result<(), Stopped>
     }
 }
 
-/// Writes the closing quotation mark of the text before it, and the annotation, if the note is one.
+/// Writes the closing quotation mark of the text before it, and the annotation, if the note is one. Allocates nothing.
+///
+/// # Errors
+/// `Stopped` if the output takes no more; then a beginning of the text has been written.
 #[inline(always)]
-pub(crate) fn put_closed_annotation<O: Out>(note: &Note, out: &mut O) -> Result<(), Stopped>
+pub fn put_closed_annotation<O: Out>(note: &Note, out: &mut O) -> Result<(), Stopped>
     ensures { Puts (O.progress out.old) (O.progress out.new) (34 ∷ annotation_part (note_of note.now)) result }
 {
     match note {

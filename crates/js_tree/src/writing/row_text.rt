@@ -7,7 +7,7 @@ ghost use Rattle.js_tree.specs.Flat.{flat_form, flat_of};
 ghost use Rattle.js_tree.specs.FlatState.{noted_of, row_of};
 ghost use Rattle.js_tree.specs.Forest.{Forest};
 ghost use Rattle.js_tree.specs.Form.{node_value, node_values, unit_list, verbose};
-ghost use Rattle.js_tree.specs.code.NodeText.{list_start};
+ghost use Rattle.js_tree.specs.NodeText.{list_start};
 ghost use Rattle.js_tree.specs.OutputUnit.{OutputUnit};
 ghost use Rattle.js_tree.specs.Result.{ResultTree};
 
@@ -67,8 +67,11 @@ pub(crate) fn put_units<O: Out>(rows: &[Row], out: &mut O) -> Result<(), Stopped
     put_valid(valid, out)
 }
 
-/// Writes the beginning of such an object, up to the bracket before the units.
-pub(crate) fn put_units_start<O: Out>(valid: bool, out: &mut O) -> Result<(), Stopped>
+/// Writes the beginning of an object with the verdict and units, up to the bracket before the units. Allocates nothing.
+///
+/// # Errors
+/// `Stopped` if the output takes no more; then a beginning of the text has been written.
+pub fn put_units_start<O: Out>(valid: bool, out: &mut O) -> Result<(), Stopped>
     ensures { Puts (O.progress out.old) (O.progress out.new) (list_start valid ++ codes "[") result }
 {
     if valid {

@@ -1,7 +1,7 @@
 use Rattle.js_assert.specs.Argument.{entries}
 use Rattle.js_doc.specs.Seen.{value_of}
-use Rattle.js_eval.specs.Seen.{keyword_of}
-use Rattle.js_eval.proofs.Holding.{member_ranked}
+use Rattle.js_walk.specs.Seen.{keyword_of}
+use Rattle.js_walk.proofs.Holding.{member_ranked}
 use Rattle.js_eval.proofs.cursors.name_cursor.next_of_names.Goals as goal
 
 pub below_at_rank-place-requires-clause-held : goal.below_at_rank-place-requires-clause-held

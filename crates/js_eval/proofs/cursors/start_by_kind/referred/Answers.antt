@@ -1,6 +1,6 @@
 use Rattle.std.proofs.Common.{ap, ◌∙◌, ◌∷◌, []}
-use Rattle.js_eval.specs.SchemaSet as spec
-use Rattle.js_eval.specs.Seen.{instance_of}
+use Rattle.js_walk.specs.SchemaSet as spec
+use Rattle.js_walk.specs.Seen.{instance_of}
 use Rattle.js_eval.proofs.cursors.start_by_kind.referred.Goals as goal
 
 pub returns-clause-asked : goal.returns-clause-asked

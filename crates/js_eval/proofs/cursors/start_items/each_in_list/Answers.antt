@@ -1,8 +1,8 @@
 use Rattle.std.proofs.Common.{map, ap}
-use Rattle.js_eval.specs.Applications.{indexed_from}
-use Rattle.js_eval.specs.SchemaSet as spec
-use Rattle.js_eval.specs.Seen.{instance_of}
-use Rattle.js_eval.specs.code.Starting.{by_keyword}
+use Rattle.js_walk.specs.Applications.{indexed_from}
+use Rattle.js_walk.specs.SchemaSet as spec
+use Rattle.js_walk.specs.Seen.{instance_of}
+use Rattle.js_walk.specs.code.Starting.{by_keyword}
 use Rattle.js_eval.proofs.cursors.start_items.each_in_list.Goals as goal
 
 pub returns-clause-asked : goal.returns-clause-asked

@@ -1,6 +1,6 @@
 use Rattle.std.proofs.Common.{map, ap, nat_le}
-use Rattle.js_eval.specs.SchemaSet as spec
-use Rattle.js_eval.specs.Sited.{numbered_site}
+use Rattle.js_walk.specs.SchemaSet as spec
+use Rattle.js_walk.specs.Sited.{numbered_site}
 use Rattle.js_eval.proofs.ItemsLeft.{from_left}
 use Rattle.js_eval.proofs.Started.{moved, on_items}
 use Rattle.js_eval.proofs.cursors.start_items.from_index.Goals as goal

@@ -1,9 +1,9 @@
 use Rattle.std.proofs.Common.{map, ap, ap₂, filter, length, nat_lt, sym, ◌∙◌}
 use Rattle.std.proofs.lemmas.List.{length-map}
 use Rattle.js_doc.specs.Seen.{value_of}
-use Rattle.js_eval.specs.Applications.{indexed_from}
-use Rattle.js_eval.specs.SchemaSet as spec
-use Rattle.js_eval.specs.code.Starting.{by_keyword}
+use Rattle.js_walk.specs.Applications.{indexed_from}
+use Rattle.js_walk.specs.SchemaSet as spec
+use Rattle.js_walk.specs.code.Starting.{by_keyword}
 use Rattle.js_eval.proofs.ItemsLeft.{first_left}
 use Rattle.js_eval.proofs.cursors.start_items.prefix.Goals as goal
 

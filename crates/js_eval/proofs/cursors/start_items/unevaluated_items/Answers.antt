@@ -1,7 +1,7 @@
 use Rattle.std.proofs.Common.{map, ap, length, not, refl}
-use Rattle.js_eval.specs.Applications.{among_indexes}
-use Rattle.js_eval.specs.SchemaSet as spec
-use Rattle.js_eval.specs.Sited.{numbered_site}
+use Rattle.js_walk.specs.Applications.{among_indexes}
+use Rattle.js_walk.specs.SchemaSet as spec
+use Rattle.js_walk.specs.Sited.{numbered_site}
 use Rattle.js_eval.proofs.ItemsLeft.{except_left}
 use Rattle.js_eval.proofs.Started.{moved, on_items}
 use Rattle.js_eval.proofs.cursors.start_items.unevaluated_items.Goals as goal

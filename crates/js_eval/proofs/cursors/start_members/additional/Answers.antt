@@ -1,11 +1,11 @@
 use Rattle.std.proofs.Common.{◌||◌, not, map, ap, ap₂, ◌∙◌}
 use Rattle.js_assert.specs.Argument.{entries}
 use Rattle.js_doc.specs.Seen.{value_of}
-use Rattle.js_eval.specs.Bundle.{schemas_of}
+use Rattle.js_walk.specs.Bundle.{schemas_of}
 use Rattle.js_eval.specs.code.Cursors.{is_matched, is_named, members_asked}
-use Rattle.js_eval.specs.SchemaSet as spec
-use Rattle.js_eval.specs.Seen.{instance_of}
-use Rattle.js_eval.specs.Sited.{numbered_site}
+use Rattle.js_walk.specs.SchemaSet as spec
+use Rattle.js_walk.specs.Seen.{instance_of}
+use Rattle.js_walk.specs.Sited.{numbered_site}
 use Rattle.js_eval.proofs.Started.{additional_by, on_members}
 use Rattle.js_eval.proofs.cursors.start_members.additional.Goals as goal
 

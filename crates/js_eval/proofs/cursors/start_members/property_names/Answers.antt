@@ -1,7 +1,7 @@
 use Rattle.std.proofs.Common.{map, ap, ap₂, ◌∙◌}
 use Rattle.js_doc.specs.Value.{text}
 use Rattle.js_eval.specs.code.Cursors.{members_asked}
-use Rattle.js_eval.specs.SchemaSet as spec
+use Rattle.js_walk.specs.SchemaSet as spec
 use Rattle.js_eval.proofs.MembersLeft.{all_chosen}
 use Rattle.js_eval.proofs.cursors.start_members.property_names.Goals as goal
 

@@ -1,5 +1,5 @@
 use Rattle.std.proofs.Common.{◌≡◌, ◌++◌, drop}
-use Rattle.js_eval.specs.Seen.{texts_of}
+use Rattle.js_walk.specs.Seen.{texts_of}
 use Rattle.js_eval.proofs.judging.notes.copies.Given as goal
 
 abbrev pub invariant-loop-name : goal.invariant-loop-name

@@ -2,10 +2,10 @@ use Rattle.std.proofs.Common.{true, false}
 use Rattle.std.proofs.lemmas.Result.{IfOk-weaker}
 use Rattle.js_assert.specs.Argument.{entries}
 use Rattle.js_tree.specs.Seen.{note_of}
-use Rattle.js_eval.specs.Bundle.{schemas_of}
-use Rattle.js_eval.specs.Seen.{instance_of, keyword_of, texts_of}
-use Rattle.js_eval.specs.Sited.{numbered_site}
-use Rattle.js_eval.proofs.SaysThere.{says_there}
+use Rattle.js_walk.specs.Bundle.{schemas_of}
+use Rattle.js_walk.specs.Seen.{instance_of, keyword_of, texts_of}
+use Rattle.js_walk.specs.Sited.{numbered_site}
+use Rattle.js_walk.proofs.SaysThere.{says_there}
 use Rattle.js_eval.proofs.judging.notes.keyword_note.Goals as goal
 
 pub returns-then-judged : goal.returns-then-judged

@@ -1,7 +1,7 @@
 use Rattle.std.proofs.Common.{◌≡◌, ◌++◌, filter, map}
 use Rattle.js_doc.specs.Seen.{pair_of}
 use Rattle.js_eval.specs.code.Cursors.{is_key}
-use Rattle.js_eval.specs.Seen.{texts_of}
+use Rattle.js_walk.specs.Seen.{texts_of}
 use Rattle.js_eval.proofs.judging.notes.names_in.Given as goal
 
 abbrev pub invariant-loop-name : goal.invariant-loop-name

@@ -1,7 +1,7 @@
 use Rattle.std.proofs.Common.{◌≡◌, drop}
 use Rattle.std.specs.List.{list_all}
 use Rattle.js_assert.specs.Assertion.{Asserted, says}
-use Rattle.js_eval.specs.Seen.{instance_of}
+use Rattle.js_walk.specs.Seen.{instance_of}
 use Rattle.js_eval.proofs.judging.others.holds_each.Given as goal
 
 abbrev pub invariant-loop-assertion : goal.invariant-loop-assertion

@@ -1,4 +1,4 @@
-use Rattle.js_eval.specs.Seen.{instance_of}
+use Rattle.js_walk.specs.Seen.{instance_of}
 use Rattle.js_eval.proofs.JudgedTogether.{judged_together}
 use Rattle.js_eval.proofs.judging.others.others_at.Goals as goal
 

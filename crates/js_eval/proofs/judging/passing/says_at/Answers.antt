@@ -1,5 +1,5 @@
-use Rattle.js_eval.proofs.AssertionThere.{assertion_is}
-use Rattle.js_eval.specs.Seen.{keyword_of}
+use Rattle.js_walk.proofs.AssertionThere.{assertion_is}
+use Rattle.js_walk.specs.Seen.{keyword_of}
 use Rattle.js_eval.proofs.judging.passing.says_at.Goals as goal
 
 pub returns : goal.returns

@@ -1,6 +1,6 @@
 use Rattle.std.proofs.Common.{◌++◌, ap, subst}
 use Rattle.js_doc.specs.BytesOut.{Puts}
-use Rattle.js_tree.specs.code.NodeText.{error_behind, tail_text}
+use Rattle.js_tree.specs.NodeText.{error_behind, tail_text}
 use Rattle.js_tree.proofs.Pieces.{then_puts, stops_in}
 use Rattle.js_tree.proofs.writing.node_text.put_back.Goals as goal
 

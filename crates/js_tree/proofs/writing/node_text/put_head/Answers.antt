@@ -1,7 +1,7 @@
 use Rattle.std.proofs.Common.{◌∷◌, ◌++◌, ap, codes, subst, ◌∙◌}
 use Rattle.json.specs.Print.{escape}
 use Rattle.js_doc.specs.BytesOut.{Goes, Puts, Stops}
-use Rattle.js_tree.specs.code.NodeText.{annotation_part}
+use Rattle.js_tree.specs.NodeText.{annotation_part}
 use Rattle.js_tree.proofs.Pieces.{then_puts, stops_in}
 use Rattle.js_tree.proofs.QuotedParts.{quoted_then}
 use Rattle.js_tree.proofs.writing.node_text.put_head.Goals as goal

@@ -1,6 +1,6 @@
 use Rattle.std.proofs.Common.{codes}
 use Rattle.js_tree.specs.Seen.{note_of}
-use Rattle.js_tree.specs.code.NodeText.{error_part}
+use Rattle.js_tree.specs.NodeText.{error_part}
 use Rattle.js_tree.proofs.Pieces.{stops_in, then_puts}
 use Rattle.js_tree.proofs.writing.node_text.put_list_start.Goals as goal
 

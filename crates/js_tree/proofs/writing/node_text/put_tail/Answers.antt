@@ -1,7 +1,7 @@
 use Rattle.std.proofs.Common.{◌++◌, ap, codes, subst, ◌∙◌}
 use Rattle.js_doc.specs.BytesOut.{Puts}
 use Rattle.js_doc.specs.Compact.{quoted}
-use Rattle.js_tree.specs.code.NodeText.{end_text, valid_text}
+use Rattle.js_tree.specs.NodeText.{end_text, valid_text}
 use Rattle.js_tree.proofs.Pieces.{then_puts, stops_in}
 use Rattle.js_tree.proofs.writing.node_text.put_tail.Goals as goal
 

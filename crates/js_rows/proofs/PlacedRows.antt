@@ -1,0 +1,105 @@
+-- The trees that rows are of, with whole locations, one after the other.
+use Rattle.std.proofs.Common.{◌≡◌, ℕ, ◌+◌, ◌-◌, ◌<◌, ◌≤◌, List, [], ◌∷◌, ◌++◌, length, take, drop, map, get_or, refl, ap, ap₂, sym, ◌∙◌, arith}
+use Rattle.std.specs.List.{sum_by}
+use Rattle.std.proofs.lemmas.List.Sums.{sum_by-take-drop}
+use borrow.Rule.Slice.PartMut.{put_mid}
+use Rattle.js_tree.specs.Forest.{Forest, empty, tree, ◌⊹◌}
+use Rattle.js_tree.specs.Note.{Note}
+use Rattle.js_tree.specs.OutputUnit.{OutputUnit}
+use Rattle.js_tree.specs.Result.{ResultTree}
+use Rattle.js_tree.specs.Seen.{note_of}
+use Rattle.js_tree.proofs.ChildTexts.{rest_of}
+use Rattle.js_tree.proofs.FlatRows.{drop-drop, rows_below}
+use Rattle.js_tree.proofs.Forests.{append-append, append-empty}
+use Rattle.js_tree.proofs.Marks.{flat_form-flat_of}
+use Rattle.js_rows.specs.Locations.{HasRoom, IsBack, IsDown, IsUp}
+use Rattle.js_rows.specs.Relative.{escaped_tree, escaped_unit, placed}
+use Rattle.js_rows.specs.RelativeState.{keyword_part, relative_row}
+use Rattle.js_rows.specs.code.RelativeText.{AreRowsOfTree, AreRowsOfTrees, unit_there}
+use Rattle.js_rows.specs.declared.locations.Locations.{Locations}
+use Rattle.js_rows.specs.declared.rows.RelativeRow.{RelativeRow}
+use Rattle.js_rows.proofs.EscapedRows.{NextTree, no_trees}
+use Rattle.js_rows.proofs.RelativeTexts.{unit_is_there}
+
+-- ---- the rows of one tree
+
+pub rows_of_one : (rows : List RelativeRow) (u : OutputUnit) (below : Forest OutputUnit) → AreRowsOfTrees rows (tree u below empty)
+    → AreRowsOfTree rows (record { root = u; below = below })
+rows_of_one rows u below h = h ∙ sym (flat_form-flat_of (escaped_tree (record { root = u; below = below })))
+
+pub rows_under : (rows : List RelativeRow) (u : OutputUnit) (below : Forest OutputUnit) → AreRowsOfTree rows (record { root = u; below = below })
+    → AreRowsOfTrees (take (length rows - 1) (drop 1 rows)) below
+rows_under rows u below h =
+    ap (map relative_row) (rest_of rows) ∙ rows_below relative_row rows (escaped_tree (record { root = u; below = below })) h
+
+-- the first is still there when those behind it have changed
+pub first_again : (rows these : List RelativeRow) (n : ℕ) (x y : RelativeRow) → 0 < length rows → get_or rows 0 x ≡ get_or (put_mid 1 n rows these) 0 y
+first_again [] these n x y h = absurd (omega (arith, h))
+first_again (r ∷ rows) these n x y h = refl
+
+-- the node of a row whose note has been moved
+pub with_head : (x : RelativeRow) (k a i k' a' i' : List ℕ) (g : Forest OutputUnit) (note : Note) → k' ≡ k → a' ≡ a → i' ≡ i → note ≡ note_of x.note
+    → ◌≡◌ {A = ResultTree} (record { root = record { valid = x.valid; keyword = k'; absolute = a'; instance = i'; note = note }; below = g })
+    (record { root = unit_there x k a i; below = g })
+with_head x k a i k' a' i' g note e1 e2 e3 e = rw (e1, e2, e3, e) refl
+
+pub node_placed : (k i : List ℕ) (x : RelativeRow) (u : OutputUnit) (g below : Forest OutputUnit) → (relative_row x).0 ≡ escaped_unit u
+    → g ≡ placed (k ++ u.keyword) (i ++ u.instance) below
+    → tree (unit_there x (k ++ u.keyword) u.absolute (i ++ u.instance)) g empty ≡ placed k i (tree u below empty)
+node_placed k i x u g below e is = ap₂ (λ v f. tree v f empty) (unit_is_there k i x u e) is
+
+-- down to its node, and up again
+pub there_and_back : (a b c d : Locations) (x y : RelativeRow) → IsDown a x b → IsBack b c → IsUp c y d → x ≡ y → IsBack a d
+there_and_back a b c d x y down back up e = record {
+  same_keyword = up.shorter_keyword a.keyword.items (back.same_keyword ∙ (down.longer_keyword ∙ ap (λ r. a.keyword.items ++ keyword_part r) e));
+  same_instance = up.shorter_instance a.instance.items (back.same_instance ∙ (down.longer_instance ∙ ap (λ r. a.instance.items ++ r.instance.now) e));
+  keyword_room = omega (arith, down.keyword_room, back.keyword_room, up.keyword_room);
+  instance_room = omega (arith, down.instance_room, back.instance_room, up.instance_room);
+}
+
+-- ---- room for the rows that come later
+
+rest_le : (f : RelativeRow → ℕ) (rows : List RelativeRow) (n k : ℕ) → sum_by f (drop (n + k) rows) ≤ sum_by f (drop n rows)
+rest_le f rows n k = omega (arith, ap (sum_by f) (drop-drop n k rows), sum_by-take-drop f (drop n rows) k)
+
+pub room_for_rest : (l : Locations) (rows : List RelativeRow) (n k : ℕ) → HasRoom l (drop n rows) → HasRoom l (drop (n + k) rows)
+room_for_rest l rows n k h = record {
+  for_keyword = omega (arith, h.for_keyword, rest_le (λ r. length (keyword_part r)) rows n k);
+  for_instance = omega (arith, h.for_instance, rest_le (λ r. length r.instance.now) rows n k);
+}
+
+-- ---- tree by tree
+
+pub rows_of_next : (rows : List RelativeRow) (next : ℕ) (f : Forest OutputUnit) (x : RelativeRow) (t : NextTree rows next f x)
+    → AreRowsOfTrees (take (next + x.size - next) (drop next rows)) (tree t.unit t.below empty)
+rows_of_next rows next f x t =
+    let size : next + x.size - next ≡ x.size = omega arith in
+    ap (λ n. map relative_row (take n (drop next rows))) size ∙ (t.all ∙ flat_form-flat_of (escaped_tree (record { root = t.unit; below = t.below })))
+
+-- with the trees that the rows from the next on are of, they are all
+pub record LeftToTake (k : List ℕ) (i : List ℕ) (old : Forest OutputUnit) (new : Forest OutputUnit) (rows : List RelativeRow) (next : ℕ) (f : Forest OutputUnit) : Type 0 where
+  pub left : Forest OutputUnit
+  pub left_is : AreRowsOfTrees (drop next rows) left
+  pub all : (new ⊹ placed k i left) ≡ (old ⊹ placed k i f)
+
+pub take_starts : (k i : List ℕ) (old : Forest OutputUnit) (rows : List RelativeRow) (f : Forest OutputUnit) → AreRowsOfTrees rows f
+    → LeftToTake k i old old rows 0 f
+take_starts k i old rows f h = record { left = f; left_is = h; all = refl }
+
+pub take_goes_on : (k i : List ℕ) (old mid new : Forest OutputUnit) (rows more : List RelativeRow) (next : ℕ) (f : Forest OutputUnit) (x : RelativeRow)
+    (w : LeftToTake k i old mid rows next f) (t : NextTree rows next w.left x)
+    → new ≡ (mid ⊹ placed k i (tree t.unit t.below empty)) → drop (next + x.size) more ≡ drop (next + x.size) rows
+    → LeftToTake k i old new more (next + x.size) f
+take_goes_on k i old mid new rows more next f x w t e d = record {
+  left = t.after;
+  left_is = ap (map relative_row) d ∙ t.more;
+  all =
+      ap (λ g. g ⊹ placed k i t.after) e
+      ∙ (append-append mid (placed k i (tree t.unit t.below empty)) (placed k i t.after)
+      ∙ (ap (λ g. mid ⊹ placed k i g) (sym t.is) ∙ w.all));
+}
+
+pub take_ends : (k i : List ℕ) (old new : Forest OutputUnit) (rows : List RelativeRow) (next : ℕ) (f : Forest OutputUnit)
+    → LeftToTake k i old new rows next f → length rows ≤ next → new ≡ (old ⊹ placed k i f)
+take_ends k i old new rows next f w h =
+    sym (append-empty new) ∙ (ap (λ g. new ⊹ placed k i g) (sym (no_trees rows next w.left w.left_is h)) ∙ w.all)

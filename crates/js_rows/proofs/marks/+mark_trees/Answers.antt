@@ -1,0 +1,93 @@
+use Rattle.std.proofs.lemmas.Result.{IfOk-weaker}
+use Rattle.std.proofs.Common.{◌-◌, ◌+◌, ◌++◌, ◌∷◌, append-nil, map, sym, ap, ◌∙◌, arith}
+use Rattle.js_tree.proofs.ChildTexts.{rest_of}
+use Rattle.js_tree.proofs.FlatRows.{first_tree, none_below, root_row, rows_below, shorter}
+use Rattle.js_tree.proofs.NextRows.{slice_of_first}
+use Rattle.js_rows.specs.Marks.{left_trees, mark_of, marked}
+use Rattle.js_rows.specs.RelativeState.{relative_row}
+use Rattle.js_rows.proofs.MarkedRows.{leaf_marked, mark_ends, mark_fits, mark_goes_on, mark_set, mark_starts, one_tree}
+use Rattle.js_rows.proofs.marks.+mark_trees.Goals as goal
+
+pub mark_trees-loop-next-init : goal.mark_trees-loop-next-init
+mark_trees-loop-next-init t c = (omega arith, λ f e. mark_starts c.args.verdict c.args.rows.now c.args.marks.now.items f e)
+
+pub mark_trees-overflow_add-next : goal.mark_trees-overflow_add-next
+mark_trees-overflow_add-next t c =
+    let w = c.loop-next.invariant.1 c.requires.0 c.requires.1 in
+    omega (arith, (first_tree relative_row _ _ _ _ w.left_is c.loop-next-test.true c.index-rows-first.is).fits)
+
+pub mark_trees-loop-next-preserved : goal.mark_trees-loop-next-preserved
+mark_trees-loop-next-preserved t' c =
+    let l = c.loop-next in
+    let w0 = l.invariant.1 c.requires.0 c.requires.1 in
+    let t0 = first_tree relative_row _ _ _ _ w0.left_is c.loop-next-test.true c.index-rows-first.is in (
+      t0.fits,
+      λ f e.
+          let w = l.invariant.1 f e in
+          let t = first_tree relative_row _ _ _ _ w.left_is c.loop-next-test.true c.index-rows-first.is in
+          let all_is = slice_of_first relative_row _ _ _ _ t in
+          let told = c.in_ok-trees.ensures _ all_is in
+          mark_goes_on _ _ _ _ _ _ _ _ _ _ w t told.0 told.1,
+    )
+
+pub mark_trees-returns : goal.mark_trees-returns
+mark_trees-returns t c =
+    λ f e. mark_ends _ _ _ _ _ _ _ (c.loop-next.invariant.1 f e) (omega (arith, c.loop-next-test.false))
+
+pub mark_trees-slice_bounds-mark_tree-end : goal.mark_trees-slice_bounds-mark_tree-end
+mark_trees-slice_bounds-mark_tree-end t' c =
+    let w = c.loop-next.invariant.1 c.requires.0 c.requires.1 in
+    (first_tree relative_row _ _ _ _ w.left_is c.loop-next-test.true c.index-rows-first.is).fits
+
+pub mark_trees-mark_tree-requires : goal.mark_trees-mark_tree-requires
+mark_trees-mark_tree-requires t' c =
+    let w = c.loop-next.invariant.1 c.requires.0 c.requires.1 in
+    let t = first_tree relative_row _ _ _ _ w.left_is c.loop-next-test.true c.index-rows-first.is in
+    let all_is = slice_of_first relative_row _ _ _ _ t in
+    let l = c.loop-next in
+    let few = shorter (l.next + c.index-rows-first.result.size - l.next) l.next c.args.rows.now in
+    (omega (arith, few, c.decreases), (_, all_is))
+
+pub mark_trees-overflow_add-trees : goal.mark_trees-overflow_add-trees
+mark_trees-overflow_add-trees t' c =
+    let w = c.loop-next.invariant.1 c.requires.0 c.requires.1 in
+    let t = first_tree relative_row _ _ _ _ w.left_is c.loop-next-test.true c.index-rows-first.is in
+    let all_is = slice_of_first relative_row _ _ _ _ t in
+    let told = c.in_ok-trees.ensures _ all_is in
+    omega (arith, mark_fits _ _ _ _ _ _ _ _ _ w t c.requires.1 told.1)
+
+pub mark_trees-loop-next-smaller : goal.mark_trees-loop-next-smaller
+mark_trees-loop-next-smaller t' c =
+    let w = c.loop-next.invariant.1 c.requires.0 c.requires.1 in
+    let t = first_tree relative_row _ _ _ _ w.left_is c.loop-next-test.true c.index-rows-first.is in
+    omega (arith, t.size, t.fits)
+
+pub mark_tree-returns-then-count-eq1 : goal.mark_tree-returns-then-count-eq1
+mark_tree-returns-then-count-eq1 t c =
+    let rows = c.args.rows.now in
+    let old = c.args.marks.now.items in
+    let new = c.mark_leaf.new.marks.items in
+    IfOk-weaker c.mark_leaf.result _ _
+    (λ n told r e.
+    let root = root_row relative_row rows r c.index-rows-0.result e c.index-rows-0.is in
+    let none = none_below relative_row rows r e (omega (arith, c.if-count-eq1.true)) in
+    leaf_marked c.args.verdict r c.index-rows-0.result old new n root none told)
+    c.mark_leaf.ensures
+
+pub mark_tree-returns : goal.mark_tree-returns
+mark_tree-returns t' c =
+    λ r e.
+    let v = c.args.verdict in
+    let rows = c.args.rows.now in
+    let x = c.index-rows-0-2.result in
+    let root = root_row relative_row rows r x e c.index-rows-0-2.is in
+    let is = ap (map relative_row) (rest_of rows) ∙ rows_below relative_row rows r e in
+    let told = c.in_ok-trees.ensures r.below is in
+    let old = c.args.marks.now.items in
+    let more = marked v r.below in
+    let mark_is = c.mark_of-mark.ensures ∙ (ap (λ u. mark_of v u c.in_ok-trees.trees) root ∙ ap (mark_of v r.root) told.1) in
+    let new_is = told.0 ∙ ap (λ ms. ms ++ more) c.in_ok-push.ensures.items in (
+      mark_set old _ c.mark_of-mark.result more c.mark_trees.new.marks.items c.len-number.result (c.len-number.ensures ∙ c.args.marks.now.ok.0) new_is
+          ∙ ap (λ m. old ++ m ∷ more) mark_is ∙ ap (λ ms. old ++ mark_of v r.root (left_trees v r.below) ∷ ms) (sym (append-nil more)),
+      one_tree v r.root r.below c.mark_of-mark.result c.trees_of.result mark_is c.trees_of.ensures,
+    )

@@ -1,0 +1,140 @@
+use Rattle.std.proofs.Common.{◌≡◌, ◌+◌, ◌-◌, ◌++◌, OnOk, drop, length, map, slice_index_or, ap, sym, subst, ◌∙◌, arith}
+use Rattle.std.proofs.lemmas.Result.{on_ok_weaker}
+use borrow.Rule.Slice.PartMut.{put_mid}
+use Rattle.js_tree.specs.Forest.{forest_of, ◌⊹◌}
+use Rattle.js_tree.specs.Result.{ResultTree}
+use Rattle.js_tree.proofs.ChildTexts.{rest_of}
+use Rattle.js_tree.proofs.FlatRows.{root_row, shorter}
+use Rattle.js_rows.specs.Locations.{HasRoom}
+use Rattle.js_rows.specs.Relative.{escaped_tree, placed}
+use Rattle.js_rows.specs.RelativeState.{relative_row}
+use Rattle.js_rows.proofs.AddedRows.{still_there}
+use Rattle.js_rows.proofs.EscapedRows.{at_below, is_absolute, next_tree, still_at}
+use Rattle.js_rows.proofs.PlacedRows.{first_again, node_placed, room_for_rest, rows_of_next, rows_of_one, rows_under, take_ends, take_goes_on, take_starts, there_and_back}
+use Rattle.js_rows.proofs.RelativeTexts.{back_again, room_for_part, stays_there}
+use Rattle.js_rows.proofs.RoomLeft.{fewer_below, room_below, some_row}
+use Rattle.js_rows.proofs.rows_tree.+take_trees.Goals as goal
+
+pub take_tree-take_trees-requires : goal.take_tree-take_trees-requires
+take_tree-take_trees-requires t c =
+    let rows = c.args.rows.now in
+    let u = c.requires.0 in
+    let below = c.requires.1 in
+    let one : ResultTree = record { root = u; below = below } in
+    let h = rows_of_one rows u below c.requires.2 in
+    let some = some_row rows (escaped_tree one) h in
+    let x = slice_index_or rows 0 c.index-rows-0.result in
+    let room = room_below c.args.locations.now c.go_to_node.new.self rows x c.requires.3 some (ap (slice_index_or rows 0) c.index-rows-0.is) c.go_to_node.ensures in (
+      omega (arith, fewer_below rows some, c.decreases),
+      (below, rows_under rows u below h, subst (HasRoom c.go_to_node.new.self) (sym (rest_of rows)) room),
+    )
+
+pub take_tree-returns-clause-trees : goal.take_tree-returns-clause-trees
+take_tree-returns-clause-trees t c =
+    λ u below k i at e.
+    let rows = c.args.rows.now in
+    let these = c.take_trees.new.rows in
+    let one : ResultTree = record { root = u; below = below } in
+    let h = rows_of_one rows u below e in
+    let some = some_row rows (escaped_tree one) h in
+    let x = slice_index_or rows 0 c.index-rows-0.result in
+    let y = slice_index_or (put_mid 1 (length rows - 1) rows these) 0 c.index-rows-0-2.result in
+    let same : x ≡ y = first_again rows these (length rows - 1) c.index-rows-0.result c.index-rows-0-2.result some in
+    let first = root_row relative_row rows (escaped_tree one) x h (ap (slice_index_or rows 0) c.index-rows-0.is) in
+    let root = ap (λ r. (relative_row r).0) (sym same) ∙ first in
+    let k1 = k ++ u.keyword in
+    let i1 = i ++ u.instance in
+    let down = at_below c.args.locations.now c.go_to_node.new.self x u k i at c.go_to_node.ensures first in
+    let still = still_at c.go_to_node.new.self c.take_trees.new.locations k1 i1 down c.in_ok-take_trees.ensures.back in
+    let told = c.in_ok-take_trees.ensures.trees below k1 i1 down (rows_under rows u below h) ∙ ap (λ ts. forest_of ts ⊹ placed k1 i1 below) c.new-below.ensures.items in
+    subst (λ g. OnOk c.add_node.result (forest_of c.add_node.new.trees.items ≡ (forest_of c.args.trees.now.items ⊹ g)))
+    (node_placed k i y u (forest_of c.take_trees.new.trees.items) below root told)
+    (c.add_node.ensures.trees k1 u.absolute i1 still (is_absolute y u root))
+
+pub take_tree-returns-clause-back : goal.take_tree-returns-clause-back
+take_tree-returns-clause-back t c =
+    let rows = c.args.rows.now in
+    let these = c.take_trees.new.rows in
+    let one : ResultTree = record { root = c.requires.0; below = c.requires.1 } in
+    let some = some_row rows (escaped_tree one) (rows_of_one rows c.requires.0 c.requires.1 c.requires.2) in
+    let x = slice_index_or rows 0 c.index-rows-0.result in
+    let y = slice_index_or (put_mid 1 (length rows - 1) rows these) 0 c.index-rows-0-2.result in
+    let same : x ≡ y = first_again rows these (length rows - 1) c.index-rows-0.result c.index-rows-0-2.result some in
+    on_ok_weaker c.add_node.result
+    (λ up. there_and_back c.args.locations.now c.go_to_node.new.self c.take_trees.new.locations c.add_node.new.locations x y c.go_to_node.ensures c.in_ok-take_trees.ensures.back up same)
+    c.add_node.ensures.up
+
+pub take_trees-loop-next-init : goal.take_trees-loop-next-init
+take_trees-loop-next-init t c = (
+  omega arith,
+  stays_there c.args.locations.now,
+  c.requires.2,
+  λ f e. (f, e),
+  λ f k i at e. take_starts k i (forest_of c.args.trees.now.items) c.args.rows.now f e,
+)
+
+pub take_trees-overflow_add-next : goal.take_trees-overflow_add-next
+take_trees-overflow_add-next t' c =
+    let l = c.loop-next in
+    let w = l.invariant.3 c.requires.0 c.requires.1 in
+    let is = ap (slice_index_or l.rows l.next) c.index-rows-first.is in
+    omega (arith, (next_tree _ _ _ _ w.1 c.loop-next-test.true is).fits)
+
+pub take_trees-slice_bounds-take_tree-end : goal.take_trees-slice_bounds-take_tree-end
+take_trees-slice_bounds-take_tree-end t' c =
+    let l = c.loop-next in
+    let w = l.invariant.3 c.requires.0 c.requires.1 in
+    let is = ap (slice_index_or l.rows l.next) c.index-rows-first.is in
+    (next_tree _ _ _ _ w.1 c.loop-next-test.true is).fits
+
+pub take_trees-take_tree-requires : goal.take_trees-take_tree-requires
+take_trees-take_tree-requires t' c =
+    let l = c.loop-next in
+    let x = slice_index_or l.rows l.next c.index-rows-first.result in
+    let w = l.invariant.3 c.requires.0 c.requires.1 in
+    let t = next_tree l.rows l.next w.0 x w.1 c.loop-next-test.true (ap (slice_index_or l.rows l.next) c.index-rows-first.is) in
+    let room = room_for_part c.args.locations.now l.locations (drop l.next l.rows) 0 (l.next + x.size - l.next) l.invariant.2 l.invariant.1 in (
+      omega (arith, shorter (l.next + x.size - l.next) l.next l.rows, l.auto.rows, c.decreases),
+      (t.unit, t.below, rows_of_next l.rows l.next w.0 x t, room),
+    )
+
+pub take_trees-loop-next-smaller : goal.take_trees-loop-next-smaller
+take_trees-loop-next-smaller t' c =
+    let l = c.loop-next in
+    let w = l.invariant.3 c.requires.0 c.requires.1 in
+    let is = ap (slice_index_or l.rows l.next) c.index-rows-first.is in
+    let t = next_tree _ _ _ _ w.1 c.loop-next-test.true is in
+    let there = still_there _ _ _ _ c.take_tree.new.rows t c.take_tree.auto.rows in
+    omega (arith, there.count, t.size, t.fits)
+
+pub take_trees-loop-next-preserved : goal.take_trees-loop-next-preserved
+take_trees-loop-next-preserved t' c =
+    let l = c.loop-next in
+    let old = c.args.locations.now in
+    let x = slice_index_or l.rows l.next c.index-rows-first.result in
+    let is = ap (slice_index_or l.rows l.next) c.index-rows-first.is in
+    let w0 = l.invariant.3 c.requires.0 c.requires.1 in
+    let t0 = next_tree l.rows l.next w0.0 x w0.1 c.loop-next-test.true is in
+    let s0 = still_there l.rows l.next w0.0 x c.take_tree.new.rows t0 c.take_tree.auto.rows in (
+      omega (arith, s0.count, t0.fits),
+      back_again old l.locations c.take_tree.new.locations l.invariant.1 c.in_ok-take_tree.ensures.back,
+      subst (HasRoom old) (sym s0.after) (room_for_rest old l.rows l.next x.size l.invariant.2),
+      λ f e.
+          let w = l.invariant.3 f e in
+          let t = next_tree l.rows l.next w.0 x w.1 c.loop-next-test.true is in
+          (t.after, ap (map relative_row) s0.after ∙ t.more),
+      λ f k i at e.
+          let w = l.invariant.4 f k i at e in
+          let t = next_tree l.rows l.next w.left x w.left_is c.loop-next-test.true is in
+          let told = c.in_ok-take_tree.ensures.trees t.unit t.below k i (still_at old l.locations k i at l.invariant.1) (rows_of_next l.rows l.next w.left x t) in
+          take_goes_on k i (forest_of c.args.trees.now.items) (forest_of l.trees.items) (forest_of c.take_tree.new.trees.items) l.rows _ l.next f x w t told s0.after,
+    )
+
+pub take_trees-returns-clause-trees : goal.take_trees-returns-clause-trees
+take_trees-returns-clause-trees t c =
+    λ f k i at e.
+    let l = c.loop-next in
+    take_ends k i (forest_of c.args.trees.now.items) (forest_of l.trees.items) l.rows l.next f (l.invariant.4 f k i at e) (omega (arith, c.loop-next-test.false))
+
+pub take_trees-returns-clause-back : goal.take_trees-returns-clause-back
+take_trees-returns-clause-back t c = c.loop-next.invariant.1

@@ -1,0 +1,6 @@
+pub mod Holding
+pub mod Locations
+pub mod Marks
+pub mod Relative
+pub mod RelativeState
+pub mod code

@@ -1,0 +1,35 @@
+//! The merged tree, from relative rows, and a quick test of whether merging changes nothing.
+ghost use Rattle.std.specs.Prelude.{◌≡◌, IfOk, IsTrue};
+ghost use Rattle.js_tree.specs.MergedResult.{merged};
+ghost use Rattle.js_tree.specs.Result.{Normal, ResultTree};
+ghost use Rattle.js_rows.specs.RelativeState.{AreRowsOf, AreWhole};
+
+use crate::differing::siblings_differ;
+use crate::rows::RelativeRows;
+use crate::rows_tree::tree_of;
+use js_doc::Memory;
+use js_tree::{Tree, merge_condense};
+use std::alloc::Global;
+
+/// The merged tree of the rows' tree, with whole locations. It doesn't prune. The notes are moved.
+///
+/// # Errors
+/// `Memory` if an allocation fails.
+pub fn merged_tree<'a>(alloc: Global, rows: RelativeRows<'a>) -> Result<Tree<'a>, Memory>
+    requires { AreWhole rows }
+    ensures { (t : ResultTree) → AreRowsOf rows.entry t → IfOk result (λ m. m ≡ merged t) }
+{
+    let tree = tree_of(alloc, rows)?;
+    Ok(merge_condense(tree))
+}
+
+/// Whether it is seen at once that merging leaves the rows' tree as it is, if that is normal: no two siblings have the
+/// same instance location and the same absolute keyword location, so none are alike. False says nothing. Takes linear
+/// time, makes no tree and allocates nothing.
+pub fn is_surely_merged(rows: &RelativeRows) -> bool
+    requires { AreWhole rows.now }
+    ensures { (t : ResultTree) → AreRowsOf rows.now t → Normal t → IsTrue result → merged t ≡ t }
+{
+    let rows = rows.rows.as_slice();
+    siblings_differ(&rows[1..])
+}

@@ -1,0 +1,263 @@
+//! The text of the verbose format, from relative rows.
+ghost use Rattle.std.specs.Prelude.{◌≡◌, ◌++◌, ◌∷◌, List, ℕ, false, OnOk};
+ghost use Rattle.js_doc.specs.BytesOut.{Puts};
+ghost use Rattle.js_doc.specs.Compact.{comma_if, compact};
+ghost use Rattle.js_tree.specs.Forest.{Forest};
+ghost use Rattle.js_tree.specs.Form.{node_value, node_values, verbose};
+ghost use Rattle.js_tree.specs.OutputUnit.{OutputUnit};
+ghost use Rattle.js_tree.specs.Result.{ResultTree};
+ghost use Rattle.js_tree.specs.Seen.{note_of};
+ghost use Rattle.js_tree.specs.NodeText.{annotation_part};
+ghost use Rattle.js_tree.specs.NodeText.{children_start, error_behind};
+ghost use Rattle.js_rows.specs.Locations.{AreAt, HasRoom, HasRoomFor, IsBack};
+ghost use Rattle.js_rows.specs.Relative.{placed, placed_tree};
+ghost use Rattle.js_rows.specs.RelativeState.{AreRowsOf, AreWhole, part};
+ghost use Rattle.js_rows.specs.code.Gathering.{GathersOrStops};
+ghost use Rattle.js_rows.specs.code.Listing.{values_text};
+ghost use Rattle.js_rows.specs.code.RelativeText.{AreRowsOfTree, AreRowsOfTrees, IsAbsolute, after_children};
+ghost use Rattle.js_rows.specs.code.RelativeText.{before_children, opening_text};
+ghost use Rattle.js_rows.specs.code.RelativeText.{unit_there};
+
+use crate::basic_text::add_unit;
+use crate::gathered::Gathered;
+use crate::locations::Locations;
+use crate::opening::from_comma;
+use crate::rows::{RelativeRow, RelativeRows};
+use js_doc::{Out, Stopped, put_escaped};
+use js_tree::Note;
+use js_tree::parts::{put_closed_annotation, put_error_behind, put_list_start};
+
+/// Writes the rows' tree as compact text in the verbose format (JSON Schema Core, section 12.4.4), with whole
+/// locations. It allocates nothing.
+///
+/// # Errors
+/// `Stopped` if the output stops; then a beginning of the text was written.
+pub fn put_verbose<O: Out>(
+    rows: &RelativeRows,
+    locations: Locations,
+    out: &mut O,
+) -> Result<(), Stopped>
+    requires whole { AreWhole rows.now }
+    requires room { HasRoomFor locations rows.now }
+    ensures { (t : ResultTree) → AreRowsOf rows.now t
+        → Puts (O.progress out.old) (O.progress out.new) (compact (verbose t)) result }
+{
+    let mut locations = locations;
+    let mut gathered = locations.take_gathered();
+    let rows = rows.rows.as_slice();
+    gathered.clear();
+    put_tree(false, rows, &mut locations, &mut gathered, out)?;
+    out.put(gathered.as_slice())
+}
+
+/// Gathers and writes the tree of the rows, below a node with these locations; after a comma, if it isn't the first in
+/// its list.
+#[cycle(put_tree)]
+#[inline(always)]
+fn put_tree<O: Out>(
+    later: bool,
+    rows: &[RelativeRow],
+    locations: &mut Locations,
+    gathered: &mut Gathered,
+    out: &mut O,
+) -> Result<(), Stopped>
+    requires { (r : ResultTree) × AreRowsOfTree rows.now r × HasRoom locations.old rows.now }
+    ensures text { (r : ResultTree) (keyword instance : List ℕ) → AreAt locations.old keyword instance
+        → AreRowsOfTree rows.now r
+        → GathersOrStops (O.progress out.old) (O.progress out.new) gathered.old.text.items gathered.new.text.items
+        (comma_if later ++ compact (verbose (placed_tree keyword instance r))) result }
+    ensures back { OnOk result (IsBack locations.old locations.new) }
+{
+    let row = &rows[0];
+    locations.go_to_node(row);
+    put_node(later, row, &rows[1..], locations, gathered, out)?;
+    locations.go_back(row);
+    Ok(())
+}
+
+/// Writes a node with these locations, and the trees below it.
+#[cycle(put_tree)]
+#[inline(always)]
+fn put_node<O: Out>(
+    later: bool,
+    row: &RelativeRow,
+    below: &[RelativeRow],
+    locations: &mut Locations,
+    gathered: &mut Gathered,
+    out: &mut O,
+) -> Result<(), Stopped>
+    requires { (f : Forest OutputUnit) × AreRowsOfTrees below.now f × HasRoom locations.old below.now }
+    ensures text { (f : Forest OutputUnit) (keyword absolute instance : List ℕ) → AreAt locations.old keyword instance
+        → IsAbsolute row.now absolute → AreRowsOfTrees below.now f
+        → GathersOrStops (O.progress out.old) (O.progress out.new) gathered.old.text.items gathered.new.text.items
+        (comma_if later ++ compact (node_value (unit_there row.now keyword absolute instance)
+        (node_values (placed keyword instance f)))) result }
+    ensures back { OnOk result (IsBack locations.old locations.new) }
+{
+    if below.is_empty() {
+        return add_unit(later, row, locations, gathered, out);
+    }
+    add_front(later, row, locations, gathered, out)?;
+    put_trees(below, locations, gathered, out)?;
+    add_back(row, locations, gathered, out)
+}
+
+/// Writes the trees of the rows, with commas between them.
+#[cycle(put_tree)]
+fn put_trees<O: Out>(
+    rows: &[RelativeRow],
+    locations: &mut Locations,
+    gathered: &mut Gathered,
+    out: &mut O,
+) -> Result<(), Stopped>
+    requires { (f : Forest OutputUnit) × AreRowsOfTrees rows.now f × HasRoom locations.old rows.now }
+    ensures text { (f : Forest OutputUnit) (keyword instance : List ℕ) → AreAt locations.old keyword instance
+        → AreRowsOfTrees rows.now f
+        → GathersOrStops (O.progress out.old) (O.progress out.new) gathered.old.text.items gathered.new.text.items
+        (values_text false (node_values (placed keyword instance f))) result }
+    ensures back { OnOk result (IsBack locations.old locations.new) }
+{
+    let mut later = false;
+    let mut next = 0;
+    while next < rows.len() {
+        let first = next;
+        let row = &rows[first];
+        next = first + row.size;
+        put_tree(later, &rows[first..next], locations, gathered, out)?;
+        later = true;
+    }
+    Ok(())
+}
+
+/// Gathers what stands before the children of a node that has some, or writes it behind what was gathered if there is
+/// no room for it.
+#[inline(never)]
+fn add_front<O: Out>(
+    later: bool,
+    row: &RelativeRow,
+    locations: &mut Locations,
+    gathered: &mut Gathered,
+    out: &mut O,
+) -> Result<(), Stopped>
+    ensures text { (absolute : List ℕ) → IsAbsolute row.now absolute
+        → GathersOrStops (O.progress out.old) (O.progress out.new) gathered.old.text.items gathered.new.text.items
+        (before_children later absolute (note_of row.now.note) row.now.valid) result }
+    ensures back { IsBack locations.old locations.new }
+{
+    let before = gathered.len();
+    match put_front(later, row, locations, gathered) {
+        Ok(()) => Ok(()),
+        Err(Stopped) => {
+            gathered.put_out(before, out)?;
+            put_front(later, row, locations, out)
+        }
+    }
+}
+
+/// Writes what stands before the children of a node that has some.
+fn put_front<O: Out>(
+    later: bool,
+    row: &RelativeRow,
+    locations: &mut Locations,
+    out: &mut O,
+) -> Result<(), Stopped>
+    ensures text { (absolute : List ℕ) → IsAbsolute row.now absolute
+        → Puts (O.progress out.old) (O.progress out.new)
+        (before_children later absolute (note_of row.now.note) row.now.valid) result }
+    ensures back { IsBack locations.old locations.new }
+{
+    put_opening(later, row, locations, out)?;
+    put_before_list(&row.note, row.valid, out)
+}
+
+/// Writes the closing quotation mark of the absolute location and what stands between that and the children.
+fn put_before_list<O: Out>(note: &Note, valid: bool, out: &mut O) -> Result<(), Stopped>
+    ensures { Puts (O.progress out.old) (O.progress out.new)
+        ((34 ∷ annotation_part (note_of note.now)) ++ children_start (note_of note.now) valid) result }
+{
+    if note.is_some() {
+        put_closed_annotation(note, out)?;
+        return put_list_start(note, valid, out);
+    }
+    if valid {
+        out.put(b"\",\"annotations\":[")
+    } else {
+        out.put(b"\",\"errors\":[")
+    }
+}
+
+/// Gathers what stands after the children, or writes it behind what was gathered if there is no room for it.
+#[inline(never)]
+fn add_back<O: Out>(
+    row: &RelativeRow,
+    locations: &Locations,
+    gathered: &mut Gathered,
+    out: &mut O,
+) -> Result<(), Stopped>
+    ensures { (keyword instance : List ℕ) → AreAt locations.now keyword instance
+        → GathersOrStops (O.progress out.old) (O.progress out.new) gathered.old.text.items gathered.new.text.items
+        (after_children instance keyword (note_of row.now.note) row.now.valid) result }
+{
+    let before = gathered.len();
+    match put_back(row, locations, gathered) {
+        Ok(()) => Ok(()),
+        Err(Stopped) => {
+            gathered.put_out(before, out)?;
+            put_back(row, locations, out)
+        }
+    }
+}
+
+/// Writes what stands after the children.
+fn put_back<O: Out>(row: &RelativeRow, locations: &Locations, out: &mut O) -> Result<(), Stopped>
+    ensures { (keyword instance : List ℕ) → AreAt locations.now keyword instance
+        → Puts (O.progress out.old) (O.progress out.new)
+        (after_children instance keyword (note_of row.now.note) row.now.valid) result }
+{
+    let valid = row.valid;
+    out.put(b"]")?;
+    put_error_behind(&row.note, valid, out)?;
+    locations.put_end(valid, out)
+}
+
+/// Writes the beginning of a node, up to the end of its absolute location, without the closing quotation mark. What
+/// stands before its token is kept for the next node.
+#[inline(always)]
+pub(crate) fn put_opening<O: Out>(
+    later: bool,
+    row: &RelativeRow,
+    locations: &mut Locations,
+    out: &mut O,
+) -> Result<(), Stopped>
+    ensures text { (absolute : List ℕ) → IsAbsolute row.now absolute
+        → Puts (O.progress out.old) (O.progress out.new) (opening_text later absolute) result }
+    ensures back { IsBack locations.old locations.new }
+{
+    let opening = &mut locations.opening;
+    if !opening.keeps_schema(row.schema.as_bytes()) {
+        return put_whole_opening(later, row, out);
+    }
+    opening.put_kept(later, row.absolute_slash, out)?;
+    out.put(row.absolute)
+}
+
+/// The same, of any schema.
+fn put_whole_opening<O: Out>(later: bool, row: &RelativeRow, out: &mut O) -> Result<(), Stopped>
+    ensures { (absolute : List ℕ) → IsAbsolute row.now absolute
+        → Puts (O.progress out.old) (O.progress out.new) (opening_text later absolute) result }
+{
+    out.put(from_comma(later, b",{\"absoluteKeywordLocation\":\""))?;
+    put_escaped(row.schema.as_bytes(), out)?;
+    put_part(row.absolute_slash, row.absolute, out)
+}
+
+/// Writes a part of a location.
+pub(crate) fn put_part<O: Out>(slash: bool, text: &[u8], out: &mut O) -> Result<(), Stopped>
+    ensures { Puts (O.progress out.old) (O.progress out.new) (part slash text.now) result }
+{
+    if !slash {
+        return out.put(text);
+    }
+    out.put(b"/")?;
+    out.put(text)
+}

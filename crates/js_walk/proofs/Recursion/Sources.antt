@@ -1,0 +1,110 @@
+-- What a keyword gives grows application by application.
+use Rattle.std.specs.Prelude.{◌≡◌, ℕ, zero, suc, Bool, true, false, cond, List, [], ◌∷◌, ◌++◌, ◌&&◌, filter, refl}
+use Rattle.std.specs.List.{flat_map}
+use Rattle.std.proofs.Common.{◌∙◌, ap, append-nil}
+use Rattle.std.proofs.lemmas.List.Elements.{filter-append}
+use Rattle.std.proofs.lemmas.List.Concat.{flat_map-append}
+use Rattle.js_doc.specs.Value.{Value}
+use Rattle.js_walk.specs.Applications.{Application}
+use Rattle.js_walk.specs.Evaluated.{names_of, indexes_of, names_applied, indexes_applied, name_in_step, index_in_step}
+use Rattle.js_walk.specs.SchemaSet.{Text, SchemaSet}
+use Rattle.js_walk.specs.Verdict.{within, schema_settled, schema_passes}
+use Rattle.js_walk.specs.declared.keywords.kind.Kind.{Kind}
+use Rattle.js_walk.specs.declared.keywords.kind.Kind.TheVariants.{PrefixItems, Properties}
+use Rattle.js_walk.specs.Walk.Keeping.{names_origin, indexes_origin, keeps}
+use Rattle.js_walk.specs.declared.walking.keeping.Origin.{Origin}
+use Rattle.js_walk.specs.declared.walking.keeping.Origin.TheVariants.{Applied, Holding, Below, Nowhere}
+use Rattle.js_walk.specs.Walk.Told.{names_given, indexes_given, holds_at, settled_at}
+
+abbrev pub from_source : {A : Type 0} → Origin → List A → List A → List A → List A
+from_source Applied applied holding below = applied
+from_source Holding applied holding below = holding
+from_source Below applied holding below = below
+from_source Nowhere applied holding below = []
+
+pub names_by_source : {P : Type 0} (apps holding : List (Application P)) (below : List Text) (κ : Kind) → names_of apps holding below κ ≡ from_source (names_origin κ) (names_applied apps) (names_applied holding) below
+names_by_source apps holding below Properties = refl
+names_by_source apps holding below _ = refl
+
+pub indexes_by_source : {P : Type 0} (apps holding : List (Application P)) (below : List ℕ) (κ : Kind) → indexes_of apps holding below κ ≡ from_source (indexes_origin κ) (indexes_applied apps) (indexes_applied holding) below
+indexes_by_source apps holding below PrefixItems = refl
+indexes_by_source apps holding below _ = refl
+
+pub silent_names : {P : Type 0} (apps holding : List (Application P)) (below : List Text) (κ : Kind) → names_origin κ ≡ Nowhere → names_of apps holding below κ ≡ []
+silent_names apps holding below κ h = names_by_source apps holding below κ ∙ ap (λ s. from_source s (names_applied apps) (names_applied holding) below) h
+
+pub silent_indexes : {P : Type 0} (apps holding : List (Application P)) (below : List ℕ) (κ : Kind) → indexes_origin κ ≡ Nowhere → indexes_of apps holding below κ ≡ []
+silent_indexes apps holding below κ h = indexes_by_source apps holding below κ ∙ ap (λ s. from_source s (indexes_applied apps) (indexes_applied holding) below) h
+
+source_more : {A : Type 0} (s : Origin) (xs ys zs : List A) (b : Bool) (own given : List A) → from_source s (xs ++ own) (ys ++ cond b own []) (zs ++ given) ≡ from_source s xs ys zs ++ keeps s b own given
+source_more Applied xs ys zs b own given = refl
+source_more Holding xs ys zs b own given = refl
+source_more Below xs ys zs b own given = refl
+source_more Nowhere xs ys zs b own given = refl
+
+from_none : {A : Type 0} (s : Origin) → from_source {A = A} s [] [] [] ≡ []
+from_none Applied = refl
+from_none Holding = refl
+from_none Below = refl
+from_none Nowhere = refl
+
+flat_one : {X A : Type 0} (f : X → List A) (b : Bool) (x : X) → flat_map f (cond b (x ∷ []) []) ≡ cond b (f x) []
+flat_one f true x = append-nil (f x)
+flat_one f false x = refl
+
+pub flat_more : {X A : Type 0} (f : X → List A) (xs : List X) (x : X) → flat_map f (xs ++ x ∷ []) ≡ flat_map f xs ++ f x
+flat_more f xs x = flat_map-append f xs (x ∷ []) ∙ ap (λ l. flat_map f xs ++ l) (append-nil (f x))
+
+pub flat_filter_more : {X A : Type 0} (f : X → List A) (p : X → Bool) (xs : List X) (x : X) → flat_map f (filter p (xs ++ x ∷ [])) ≡ flat_map f (filter p xs) ++ cond (p x) (f x) []
+flat_filter_more f p xs x = ap (flat_map f) (filter-append p xs (x ∷ [])) ∙ (flat_map-append f (filter p xs) (filter p (x ∷ [])) ∙ ap (λ l. flat_map f (filter p xs) ++ l) (flat_one f (p x) x))
+
+given_at : {A : Type 0} (s p : Bool) (xs : List A) → s ≡ true → cond (s && p) (cond p xs []) [] ≡ cond p xs []
+given_at s true xs e = let h : (s && true) ≡ true = rw e refl in rw h refl
+given_at s false xs e = let h : (s && false) ≡ false = rw e refl in rw h refl
+
+module _ {P : Type 0} (S : SchemaSet P) where
+  -- one that fails has evaluated nothing
+  names_if_holds : (n : ℕ) (above : List P) (place : P) (v : Value) → (within S n).settled above place v ≡ true → cond ((within S n).holds above place v) ((within S n).names above place v) [] ≡ (within S n).names above place v
+  unfolding within
+  names_if_holds zero above place v h = refl
+  names_if_holds (suc n) above place v h = given_at (schema_settled S (within S n) above place v) (schema_passes S (within S n) above place v) _ h
+
+  indexes_if_holds : (n : ℕ) (above : List P) (place : P) (v : Value) → (within S n).settled above place v ≡ true → cond ((within S n).holds above place v) ((within S n).indexes above place v) [] ≡ (within S n).indexes above place v
+  unfolding within
+  indexes_if_holds zero above place v h = refl
+  indexes_if_holds (suc n) above place v h = given_at (schema_settled S (within S n) above place v) (schema_passes S (within S n) above place v) _ h
+
+  module _ (n : ℕ) (path : List P) (κ : Kind) where
+    pub names_of_none : names_given S n path κ [] ≡ []
+    unfolding names_given
+    names_of_none = names_by_source {P = P} [] [] [] κ ∙ from_none (names_origin κ)
+
+    pub indexes_of_none : indexes_given S n path κ [] ≡ []
+    unfolding indexes_given
+    indexes_of_none = indexes_by_source {P = P} [] [] [] κ ∙ from_none (indexes_origin κ)
+
+    pub names_more : (apps : List (Application P)) (a : Application P) → settled_at S n path a ≡ true
+        → names_given S n path κ (apps ++ a ∷ []) ≡ names_given S n path κ apps ++ keeps (names_origin κ) (holds_at S n path a) (name_in_step a.at) ((within S n).names path a.place a.value)
+    unfolding names_given
+    names_more apps a h =
+        let e1 = flat_more (λ x. name_in_step x.at) apps a in
+        let e2 = flat_filter_more (λ x. name_in_step x.at) (holds_at S n path) apps a in
+        let e3 = flat_filter_more (λ x. (within S n).names path x.place x.value) (holds_at S n path) apps a in
+        let e4 = names_if_holds n path a.place a.value h in
+        let e5 = names_by_source (apps ++ a ∷ []) (filter (holds_at S n path) (apps ++ a ∷ [])) (flat_map (λ x. (within S n).names path x.place x.value) (filter (holds_at S n path) (apps ++ a ∷ []))) κ in
+        let e6 = names_by_source apps (filter (holds_at S n path) apps) (flat_map (λ x. (within S n).names path x.place x.value) (filter (holds_at S n path) apps)) κ in
+        let e7 = source_more (names_origin κ) (names_applied apps) (names_applied (filter (holds_at S n path) apps)) (flat_map (λ x. (within S n).names path x.place x.value) (filter (holds_at S n path) apps)) (holds_at S n path a) (name_in_step a.at) ((within S n).names path a.place a.value) in
+        cc
+
+    pub indexes_more : (apps : List (Application P)) (a : Application P) → settled_at S n path a ≡ true
+        → indexes_given S n path κ (apps ++ a ∷ []) ≡ indexes_given S n path κ apps ++ keeps (indexes_origin κ) (holds_at S n path a) (index_in_step a.at) ((within S n).indexes path a.place a.value)
+    unfolding indexes_given
+    indexes_more apps a h =
+        let e1 = flat_more (λ x. index_in_step x.at) apps a in
+        let e2 = flat_filter_more (λ x. index_in_step x.at) (holds_at S n path) apps a in
+        let e3 = flat_filter_more (λ x. (within S n).indexes path x.place x.value) (holds_at S n path) apps a in
+        let e4 = indexes_if_holds n path a.place a.value h in
+        let e5 = indexes_by_source (apps ++ a ∷ []) (filter (holds_at S n path) (apps ++ a ∷ [])) (flat_map (λ x. (within S n).indexes path x.place x.value) (filter (holds_at S n path) (apps ++ a ∷ []))) κ in
+        let e6 = indexes_by_source apps (filter (holds_at S n path) apps) (flat_map (λ x. (within S n).indexes path x.place x.value) (filter (holds_at S n path) apps)) κ in
+        let e7 = source_more (indexes_origin κ) (indexes_applied apps) (indexes_applied (filter (holds_at S n path) apps)) (flat_map (λ x. (within S n).indexes path x.place x.value) (filter (holds_at S n path) apps)) (holds_at S n path a) (index_in_step a.at) ((within S n).indexes path a.place a.value) in
+        cc

@@ -1,0 +1,16 @@
+use Rattle.std.proofs.lemmas.Result.{on_ok_weaker}
+use Rattle.std.proofs.Common.{refl, option_to_list}
+use Rattle.js_walk.proofs.Recursion.Mapped.{kept_mapped, kept_given}
+use Rattle.js_walk.proofs.walking.steps.come_back.Goals as goal
+
+pub returns : goal.returns
+returns g c =
+    on_ok_weaker c.keep-2.result (λ gives. record {
+      path = refl;
+      scope = refl;
+      keyword = c.cut.ensures;
+      instance = c.cut-2.ensures;
+      names = kept_mapped g.W.World.text_of c.names_origin.result c.names_origin.ensures c.args.holds (option_to_list c.member.result) c.member.ensures c.args.here.names c.args.way.now.names.items c.keep.new.list.items c.in_ok-keep.ensures;
+      indexes = kept_given c.indexes_origin.result c.indexes_origin.ensures c.args.holds (option_to_list c.item.result) c.item.ensures c.args.here.indexes c.args.way.now.indexes.items c.keep-2.new.list.items gives;
+      left = refl;
+    }) c.keep-2.ensures

@@ -1,0 +1,17 @@
+pub mod Kind
+pub mod Keywords
+pub mod SchemaSet
+pub mod Bundle
+pub mod Sited
+pub mod Applications
+pub mod Passes
+pub mod Evaluated
+pub mod Verdict
+pub mod Note
+pub mod Location
+pub mod Result
+pub mod Size
+pub mod Seen
+pub mod Fault
+pub mod Walk
+pub mod code

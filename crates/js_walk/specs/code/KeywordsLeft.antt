@@ -1,0 +1,39 @@
+-- The keywords of a schema that are still to come, in the order of their nodes (of private functions).
+use Rattle.std.specs.Prelude.{List, [], ◌∷◌, ◌++◌, Option, Some, None, cond, map}
+use Rattle.js_doc.specs.Seen.{pair_of}
+use Rattle.js_doc.specs.Value.{Named}
+use Rattle.js_walk.specs.Keywords as table
+use Rattle.js_walk.specs.Seen.{keyword_of}
+use Rattle.js_walk.specs.code.Applicator.{applicators_from}
+use Rattle.js_walk.specs.code.Turns.{ever, first_turn, second_turn, last_turn}
+use Rattle.js_walk.specs.declared.keywords.in_turn.InTurn.{InTurn}
+use Rattle.js_walk.specs.declared.keywords.in_turn.InTurn.TheVariants.{Every, Applying}
+use Rattle.js_walk.specs.declared.keywords.keyword.Keyword.{Keyword}
+use Rattle.js_walk.specs.declared.keywords.keyword_cursor.KeywordCursor.{KeywordCursor}
+use Rattle.js_walk.specs.declared.keywords.keyword_cursor.Keywords.{Keywords}
+use Rattle.js_walk.specs.declared.keywords.keyword_cursor.Keywords.TheVariants.{Nothing, Of}
+
+-- the members that are still to come, of all or of those alone that apply schemas
+abbrev pub members_left : InTurn → Named
+members_left (Every c) = map pair_of c.left
+members_left (Applying c) = applicators_from c.members.now c.rank
+
+-- the keyword that is kept, or else these
+abbrev pub kept_or : Option Keyword → List table.Keyword → List table.Keyword
+kept_or None others = others
+kept_or (Some k) others = keyword_of k ∷ []
+
+-- up to `if`: of all that is left, where `else` may be kept already
+abbrev pub up_to_if : Option Keyword → Named → List table.Keyword
+up_to_if kept left = first_turn left ++ (kept_or kept (second_turn left) ++ last_turn left)
+
+-- after `if`: what may be kept comes first
+abbrev pub after_if : Option Keyword → Named → List table.Keyword
+after_if kept left = kept_or kept [] ++ ever left
+
+abbrev pub keywords_left : KeywordCursor → List table.Keyword
+keywords_left c = cond c.is_past_if (after_if c.kept (members_left c.left)) (up_to_if c.kept (members_left c.left))
+
+abbrev pub keywords_in : Keywords → List table.Keyword
+keywords_in Nothing = []
+keywords_in (Of cursor) = keywords_left cursor

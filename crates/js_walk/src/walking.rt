@@ -1,0 +1,26 @@
+//! The walk: evaluates a value against the schema at a place. It evaluates each application once, and reports each node
+//! of the result when it opens and when it closes.
+
+mod dynamic_scope;
+mod fault;
+mod keeping;
+mod path;
+mod pointer_text;
+mod recursion;
+mod reporter;
+mod start;
+mod steps;
+mod tally;
+mod trail;
+mod unseen;
+mod way;
+mod world;
+
+pub use fault::WalkFault;
+pub use path::Path;
+pub use pointer_text::{HeldText, PointerText, UnseenText};
+pub use reporter::Reporter;
+pub use start::walk_from;
+pub use tally::{Judged, Others, Tally};
+pub use trail::Trail;
+pub use world::World;

@@ -1,0 +1,46 @@
+//! Why a walk fails.
+use js_doc::Memory;
+use std::alloc::{AllocError, AllocFailed};
+
+/// Why a walk fails.
+#[derive(Clone, Copy, Debug, PartialEq, Eq)]
+pub enum WalkFault {
+    /// An allocation failed.
+    Memory,
+    /// No result is within the limits: 512 nested schema applications, and 1,000,000 nodes. Infinite recursion ends so
+    /// too (Core, section 9.4.1).
+    TooLarge,
+}
+
+impl From<Memory> for WalkFault {
+    ghost use Rattle.std.specs.Prelude.{◌≡◌};
+    ghost use Rattle.js_walk.specs.declared.walking.fault.WalkFault.TheVariants as fault;
+
+    ghost from_gives = { λ _ e. e ≡ fault.Memory };
+
+    fn from(_refused: Memory) -> WalkFault {
+        WalkFault::Memory
+    }
+}
+
+impl<T: Drop> From<AllocFailed<T>> for WalkFault {
+    ghost use Rattle.std.specs.Prelude.{◌≡◌};
+    ghost use Rattle.js_walk.specs.declared.walking.fault.WalkFault.TheVariants as fault;
+
+    ghost from_gives = { λ _ e. e ≡ fault.Memory };
+
+    fn from(_refused: AllocFailed<T>) -> WalkFault {
+        WalkFault::Memory
+    }
+}
+
+impl From<AllocError> for WalkFault {
+    ghost use Rattle.std.specs.Prelude.{◌≡◌};
+    ghost use Rattle.js_walk.specs.declared.walking.fault.WalkFault.TheVariants as fault;
+
+    ghost from_gives = { λ _ e. e ≡ fault.Memory };
+
+    fn from(_refused: AllocError) -> WalkFault {
+        WalkFault::Memory
+    }
+}

@@ -1,0 +1,48 @@
+//! The places of the schemas that a walk is applying.
+ghost use Rattle.std.specs.Prelude.{◌≡◌, ◌++◌, ◌∷◌, [], List, ℕ};
+
+use crate::walking::unseen::Unseen;
+use js_bundle::Place;
+use std::marker::Model;
+
+/// The places of the schemas being applied, each nested in the one before. Only contracts see them: compiled code uses
+/// the walk's dynamic scope instead.
+#[derive(Drop)]
+pub struct Path {
+    places: Unseen,
+}
+
+impl Model for Path {
+    ghost use Rattle.std.specs.Prelude.{List, ℕ};
+
+    ghost Value = { List ℕ };
+
+    ghost view = { λ p. p.places.items };
+}
+
+impl Path {
+    /// An empty path.
+    pub fn new() -> Path
+        ensures { result ≡ [] }
+    {
+        Path {
+            places: Unseen::new(),
+        }
+    }
+
+    /// Enters a place.
+    #[inline(always)]
+    pub fn push(&mut self, place: Place)
+        ensures { self.new ≡ self.old ++ place ∷ [] }
+    {
+        self.places = self.places.with_place(&place);
+    }
+
+    /// Leaves the last place.
+    #[inline(always)]
+    pub fn leave_place(&mut self)
+        ensures { (base : List ℕ) (last : ℕ) → self.old ≡ base ++ last ∷ [] → self.new ≡ base }
+    {
+        self.places = self.places.without_last();
+    }
+}

@@ -1,0 +1,472 @@
+//! The single steps of the recursion. Each that returns a `Result` fails with `Memory` if an allocation fails.
+ghost use Rattle.std.specs.Prelude.{◌≡◌, ◌∷◌, [], ◌<◌, ◌≤◌, List, true, map, length, drop, nat_eq, IfOk, OnOk};
+ghost use Rattle.std.specs.Prelude.{MatchOption, ℕ};
+ghost use Rattle.std.specs.List.{dedup, list_all};
+ghost use Rattle.std.specs.String.Boundary.{IsSplitPoint};
+ghost use Rattle.js_bundle.specs.Resource.{Site};
+ghost use Rattle.js_walk.specs.Walk.Steps.{SchemaOpened, SchemaClosed, IsJudged, KeywordOpened, KeywordClosed};
+ghost use Rattle.js_walk.specs.Walk.Steps.{KeywordDone, WentDown, CameBack};
+ghost use Rattle.js_doc.specs.Value.{Value as JsonValue};
+ghost use Rattle.js_walk.specs.SchemaSet.{Text as Bytes};
+ghost use Rattle.js_walk.specs.Walk.Reported.{DropsSilent};
+ghost use Rattle.js_walk.specs.Walk.Told.{IsKeywordAt, asked_by, kind_at, says_at};
+ghost use Rattle.js_tree.specs.Note.{silent};
+ghost use Rattle.js_walk.specs.Walk.Visited.{AreJudged, AreJudgedIf, AreTogether, IsListed};
+ghost use Rattle.js_walk.specs.declared.keywords.kind.Kind.TheVariants.{Assertion};
+
+use crate::keywords::kind::Kind;
+use crate::walking::keeping::{cut_unless, indexes_origin, keep, names_origin};
+use crate::walking::pointer_text::PointerText;
+use crate::walking::reporter::Reporter;
+use crate::walking::tally::{Case, Judged, Judging, Others, Tally, Together};
+use crate::walking::way::{Mark, Start, Way};
+use crate::walking::world::World;
+use js_bundle::Place;
+use js_doc::Memory;
+use std::alloc::Global;
+
+/// Opens the node of a schema. The limit must allow one more node.
+pub(crate) fn open_schema<W: World, H: PointerText + Drop, R: Reporter<W, H>>(
+    alloc: Global,
+    world: &W,
+    way: &mut Way<W::Name, H>,
+    into: &mut R,
+    place: Place,
+) -> Result<(), Memory>
+    requires place { W.is_place world.now place ≡ true }
+    requires left { 0 < way.old.left }
+    ensures { OnOk result (SchemaOpened (W.schemas world.now) W.text_of R.takes (W.site world.now place) place
+        (W.resource world.now place) way.old way.new into.old into.new) }
+{
+    way.left -= 1;
+    into.open_schema(alloc, world, place, &way.keyword, &way.instance)?;
+    way.path.push(place);
+    way.scope.push(world.resource(place))?;
+    Ok(())
+}
+
+/// Closes the node of a schema. If it fails, drops what it has evaluated.
+pub(crate) fn close_schema<W: World, H: PointerText + Drop, R: Reporter<W, H>>(
+    alloc: Global,
+    world: &W,
+    way: &mut Way<W::Name, H>,
+    into: &mut R,
+    place: Place,
+    schema: W::Schema,
+    start: Start,
+    valid: bool,
+) -> Result<(), Memory>
+    requires place { W.is_place world.now place ≡ true }
+    requires schema { W.stands_at world.now place schema }
+    ensures { OnOk result (SchemaClosed (W.schemas world.now) W.text_of R.takes
+        (W.site world.now place) start valid way.old way.new into.old into.new) }
+{
+    into.close_schema(alloc, world, place, schema, valid)?;
+    way.path.leave_place();
+    way.scope.go_back_to(start.scope);
+    cut_unless(&mut way.names, start.names, valid);
+    cut_unless(&mut way.indexes, start.indexes, valid);
+    Ok(())
+}
+
+/// The next keyword of a schema. Keywords are evaluated even if one before them has failed.
+pub(crate) fn next_keyword<W: World>(
+    world: &W,
+    judging: &mut Judging<W::Keywords>,
+) -> Option<W::Keyword>
+    ensures next { MatchOption result (W.listed judging.old.keywords ≡ [])
+        (λ k. W.listed judging.old.keywords ≡ W.keyword_of k ∷ W.listed judging.new.keywords) }
+    ensures known { judging.new.known ≡ judging.old.known }
+{
+    world.next_keyword(&mut judging.keywords)
+}
+
+/// Opens the node of a keyword. The limit must allow one more node.
+#[inline(always)]
+pub(crate) fn open_keyword<W: World, H: PointerText + Drop, R: Reporter<W, H>>(
+    alloc: Global,
+    world: &W,
+    way: &mut Way<W::Name, H>,
+    into: &mut R,
+    place: Place,
+    keyword: W::Keyword,
+) -> Result<(), Memory>
+    requires place { W.is_place world.now place ≡ true }
+    requires left { 0 < way.old.left }
+    ensures { OnOk result (KeywordOpened (W.schemas world.now) W.text_of R.takes (W.site world.now place)
+        (W.keyword_of keyword) way.old way.new into.old into.new) }
+{
+    way.left -= 1;
+    world.go_to_keyword(keyword, &mut way.keyword)?;
+    into.open_keyword(alloc, world, place, keyword, &way.keyword, &way.instance)
+}
+
+/// The applications that a keyword asks for, given what has been evaluated since the schema's node opened. It isn't
+/// inlined, to keep its locals out of the recursive function's stack frame.
+#[inline(never)]
+pub(crate) fn asked<W: World, H: PointerText + Drop>(
+    alloc: Global,
+    world: &W,
+    way: &Way<W::Name, H>,
+    case: Case<W::Schema, W::Value, W::Keyword>,
+    start: Start,
+    condition: Option<bool>,
+) -> Result<W::Asking, Memory>
+    requires path { list_all (W.is_place world.now) way.now.path ≡ true }
+    requires scope { way.now.scope ≡ dedup nat_eq (map (W.resource world.now) way.now.path) }
+    requires place { W.is_place world.now case.place ≡ true }
+    requires schema { W.stands_at world.now case.place case.schema }
+    requires names { start.names ≤ length way.now.names.items }
+    requires indexes { start.indexes ≤ length way.now.indexes.items }
+    requires keyword { IsKeywordAt (W.schemas world.now) (W.site world.now case.place) (W.keyword_of case.keyword) }
+    ensures asked { IfOk result (λ a. W.asked world.now a
+        ≡ asked_by (W.schemas world.now) 0 (map (W.site world.now) way.now.path) (W.site world.now case.place)
+        (W.value_of case.value) (W.keyword_of case.keyword)
+        condition (map W.text_of (drop start.names way.now.names.items)) (drop start.indexes way.now.indexes.items)) }
+    ensures is { IfOk result (λ a. W.is_asking world.now a) }
+{
+    let names = &way.names[start.names..];
+    let indexes = &way.indexes[start.indexes..];
+    world.asking(
+        alloc,
+        &way.path,
+        way.scope.resource_numbers(),
+        case.place,
+        case.schema,
+        case.value,
+        case.keyword,
+        condition,
+        names,
+        indexes,
+    )
+}
+
+/// Closes the node of a keyword, and returns whether it passes. If it fails, drops what it has evaluated. It isn't
+/// inlined, to keep its locals out of the recursive function's stack frame.
+#[inline(never)]
+pub(crate) fn close_keyword<W: World, H: PointerText + Drop, R: Reporter<W, H>>(
+    alloc: Global,
+    world: &W,
+    way: &mut Way<W::Name, H>,
+    into: &mut R,
+    case: Case<W::Schema, W::Value, W::Keyword>,
+    here: Mark<H::Mark>,
+    tally: Tally,
+    matching: u64,
+) -> Result<bool, Memory>
+    requires place { W.is_place world.now case.place ≡ true }
+    requires schema { W.stands_at world.now case.place case.schema }
+    requires names { here.names ≤ length way.old.names.items }
+    requires indexes { here.indexes ≤ length way.old.indexes.items }
+    requires trail { IsSplitPoint way.old.keyword (H.length_at here.keyword) }
+    requires keyword { IsKeywordAt (W.schemas world.now) (W.site world.now case.place) (W.keyword_of case.keyword) }
+    ensures { IfOk result (λ passes. KeywordClosed (W.schemas world.now) W.text_of R.takes H.length_at
+        (W.site world.now case.place) (W.value_of case.value)
+        (W.keyword_of case.keyword) matching tally here passes way.old way.new into.old into.new) }
+{
+    let Case {
+        place,
+        schema,
+        value,
+        keyword,
+    } = case;
+    let passes = world.passes(alloc, place, schema, value, keyword, tally, matching)?;
+    let judged = Judged {
+        passes,
+        held: tally.held,
+    };
+    close_judged(alloc, world, way, into, case, here, judged, matching)?;
+    Ok(passes)
+}
+
+// Closes the node of a keyword that is judged. If it fails, drops what it has evaluated.
+#[inline(always)]
+fn close_judged<W: World, H: PointerText + Drop, R: Reporter<W, H>>(
+    alloc: Global,
+    world: &W,
+    way: &mut Way<W::Name, H>,
+    into: &mut R,
+    case: Case<W::Schema, W::Value, W::Keyword>,
+    here: Mark<H::Mark>,
+    judged: Judged,
+    matching: u64,
+) -> Result<(), Memory>
+    requires place { W.is_place world.now case.place ≡ true }
+    requires names { here.names ≤ length way.old.names.items }
+    requires indexes { here.indexes ≤ length way.old.indexes.items }
+    requires trail { IsSplitPoint way.old.keyword (H.length_at here.keyword) }
+    requires keyword { IsKeywordAt (W.schemas world.now) (W.site world.now case.place) (W.keyword_of case.keyword) }
+    ensures { OnOk result ((tally : Tally) → tally.held ≡ judged.held
+        → IsJudged (W.schemas world.now) (W.site world.now case.place) (W.value_of case.value)
+        (W.keyword_of case.keyword) matching tally judged.passes
+        → KeywordClosed (W.schemas world.now) W.text_of R.takes H.length_at (W.site world.now case.place)
+        (W.value_of case.value) (W.keyword_of case.keyword) matching tally here judged.passes way.old way.new
+        into.old into.new) }
+{
+    let Case {
+        place,
+        schema: _,
+        value,
+        keyword,
+    } = case;
+    let names = &way.names[here.names..];
+    let indexes = &way.indexes[here.indexes..];
+    into.close_keyword(
+        alloc, world, place, value, keyword, judged, matching, names, indexes,
+    )?;
+    cut_unless(&mut way.names, here.names, judged.passes);
+    cut_unless(&mut way.indexes, here.indexes, judged.passes);
+    way.keyword.cut(here.keyword);
+    Ok(())
+}
+
+/// Evaluates a keyword that applies no schema, and reports its node, unless the reporter would keep nothing of it. It
+/// isn't inlined, to keep its locals out of the recursive function's stack frame.
+#[inline(never)]
+pub(crate) fn childless_node<W: World, H: PointerText + Drop, R: Reporter<W, H>>(
+    alloc: Global,
+    world: &W,
+    way: &mut Way<W::Name, H>,
+    into: &mut R,
+    case: Case<W::Schema, W::Value, W::Keyword>,
+    matching: u64,
+) -> Result<Judged, Memory>
+    requires place { W.is_place world.now case.place ≡ true }
+    requires schema { W.stands_at world.now case.place case.schema }
+    requires keyword { IsKeywordAt (W.schemas world.now) (W.site world.now case.place) (W.keyword_of case.keyword) }
+    requires left { 0 < way.old.left }
+    ensures { IfOk result (λ j. (depth : ℕ) (path : List Site)
+        → KeywordDone (W.schemas world.now) W.text_of R.takes depth path (W.site world.now case.place)
+        (W.value_of case.value) (W.keyword_of case.keyword) matching [] j
+        way.old way.new into.old into.new) }
+{
+    let passes = passes_alone(alloc, world, case, matching)?;
+    let judged = Judged { passes, held: 0 };
+    way.left -= 1;
+    if passes && may_drop(world, into, case.keyword) {
+        return Ok(judged);
+    }
+    let Case {
+        place,
+        schema: _,
+        value,
+        keyword,
+    } = case;
+    into.leaf_keyword(
+        alloc,
+        world,
+        place,
+        value,
+        keyword,
+        judged,
+        matching,
+        &mut way.keyword,
+        &way.instance,
+    )?;
+    Ok(judged)
+}
+
+/// The same as `childless_node`. If all assertions pass, and the reporter keeps nothing of one that does, they are
+/// judged together.
+#[inline(always)]
+pub(crate) fn leaf_node<W: World, H: PointerText + Drop, R: Reporter<W, H>>(
+    alloc: Global,
+    world: &W,
+    way: &mut Way<W::Name, H>,
+    into: &mut R,
+    case: Case<W::Schema, W::Value, W::Keyword>,
+    together: &mut Together,
+    matching: u64,
+) -> Result<Judged, Memory>
+    requires place { W.is_place world.now case.place ≡ true }
+    requires schema { W.stands_at world.now case.place case.schema }
+    requires keyword { IsKeywordAt (W.schemas world.now) (W.site world.now case.place) (W.keyword_of case.keyword) }
+    requires listed { IsListed (W.schemas world.now) (W.site world.now case.place) (W.keyword_of case.keyword) }
+    requires left { 0 < way.old.left }
+    requires together { AreTogether (W.schemas world.now) (W.site world.now case.place) (W.value_of case.value)
+        together.old }
+    ensures done { IfOk result (λ j. (depth : ℕ) (path : List Site)
+        → KeywordDone (W.schemas world.now) W.text_of R.takes depth path (W.site world.now case.place)
+        (W.value_of case.value) (W.keyword_of case.keyword) matching [] j
+        way.old way.new into.old into.new) }
+    ensures together { OnOk result (AreTogether (W.schemas world.now) (W.site world.now case.place)
+        (W.value_of case.value) together.new) }
+{
+    let over = is_passed_over(alloc, world, into, case, together, matching)?;
+    if over {
+        way.left -= 1;
+        return Ok(Judged {
+            passes: true,
+            held: 0,
+        });
+    }
+    childless_node(alloc, world, way, into, case, matching)
+}
+
+// Whether the reporter would keep nothing of a keyword's leaf, as all assertions pass.
+#[inline(always)]
+fn is_passed_over<W: World, H: PointerText + Drop, R: Reporter<W, H>>(
+    alloc: Global,
+    world: &W,
+    into: &R,
+    case: Case<W::Schema, W::Value, W::Keyword>,
+    together: &mut Together,
+    matching: u64,
+) -> Result<bool, Memory>
+    requires place { W.is_place world.now case.place ≡ true }
+    requires listed { IsListed (W.schemas world.now) (W.site world.now case.place) (W.keyword_of case.keyword) }
+    requires together { AreTogether (W.schemas world.now) (W.site world.now case.place) (W.value_of case.value)
+        together.old }
+    ensures together { OnOk result (AreTogether (W.schemas world.now) (W.site world.now case.place)
+        (W.value_of case.value) together.new) }
+    ensures passes { IfOk result (λ b. b ≡ true → IsJudged (W.schemas world.now) (W.site world.now case.place)
+        (W.value_of case.value) (W.keyword_of case.keyword) matching (record { asked = 0; held = 0 }) true) }
+    ensures silent { IfOk result (λ b. (place : Site) (v : JsonValue) (matching held : ℕ) (names : List Bytes)
+        (indexes : List ℕ) → b ≡ true → says_at (W.schemas world.now) place v matching (W.keyword_of case.keyword)
+        held names indexes true ≡ silent) }
+    ensures drops { IfOk result (λ b. b ≡ true → DropsSilent R.takes into.now) }
+{
+    if !may_drop(world, into, case.keyword) {
+        return Ok(false);
+    }
+    all_pass(alloc, world, case.place, case.value, together, matching)
+}
+
+// Whether the reporter keeps nothing of a keyword's leaf that passes: it is an assertion, so that it has no note then.
+#[inline(always)]
+#[tactic(auto, using(crate::proofs::SaysThere::assertion_is_silent))]
+fn may_drop<W: World, H: PointerText + Drop, R: Reporter<W, H>>(
+    world: &W,
+    into: &R,
+    keyword: W::Keyword,
+) -> bool
+    ensures assertion { result ≡ true → kind_at (W.keyword_of keyword) ≡ Assertion }
+    ensures silent { (place : Site) (v : JsonValue) (matching held : ℕ) (names : List Bytes) (indexes : List ℕ)
+        → result ≡ true → says_at (W.schemas world.now) place v matching (W.keyword_of keyword) held names indexes
+        true ≡ silent }
+    ensures drops { result ≡ true → DropsSilent R.takes into.now }
+{
+    matches!(world.kind(keyword), Kind::Assertion) && into.drops_silent()
+}
+
+// Whether all keywords of the place pass that apply no schemas. They are judged if they aren't yet, for so many
+// matches.
+#[inline(always)]
+fn all_pass<W: World>(
+    alloc: Global,
+    world: &W,
+    place: Place,
+    value: W::Value,
+    together: &mut Together,
+    matching: u64,
+) -> Result<bool, Memory>
+    requires place { W.is_place world.now place ≡ true }
+    requires together { AreTogether (W.schemas world.now) (W.site world.now place) (W.value_of value) together.old }
+    ensures together { OnOk result (AreTogether (W.schemas world.now) (W.site world.now place) (W.value_of value)
+        together.new) }
+    ensures pass { IfOk result (λ b. b ≡ true → (count : ℕ)
+        × AreJudged (W.schemas world.now) (W.site world.now place) (W.value_of value) matching true count) }
+{
+    if !together.known || together.matching != matching {
+        let others = world.others(alloc, place, value, matching)?;
+        *together = Together {
+            known: true,
+            matching,
+            pass: others.pass,
+        };
+    }
+    Ok(together.pass)
+}
+
+// Whether a keyword passes that applies no schema.
+#[inline(always)]
+fn passes_alone<W: World>(
+    alloc: Global,
+    world: &W,
+    case: Case<W::Schema, W::Value, W::Keyword>,
+    matching: u64,
+) -> Result<bool, Memory>
+    requires place { W.is_place world.now case.place ≡ true }
+    requires schema { W.stands_at world.now case.place case.schema }
+    requires keyword { IsKeywordAt (W.schemas world.now) (W.site world.now case.place) (W.keyword_of case.keyword) }
+    ensures { IfOk result (λ passes. IsJudged (W.schemas world.now) (W.site world.now case.place)
+        (W.value_of case.value) (W.keyword_of case.keyword) matching (record { asked = 0; held = 0 }) passes) }
+{
+    let Case {
+        place,
+        schema,
+        value,
+        keyword,
+    } = case;
+    let none = Tally { asked: 0, held: 0 };
+    world.passes(alloc, place, schema, value, keyword, none, matching)
+}
+
+/// Moves both trails down to an application.
+pub(crate) fn go_down<W: World, H: PointerText + Drop>(
+    world: &W,
+    way: &mut Way<W::Name, H>,
+    application: W::Application,
+) -> Result<(), Memory>
+    ensures { OnOk result (WentDown (W.application_of world.now application) way.old way.new) }
+{
+    world.go_to_schema(application, &mut way.keyword)?;
+    world.go_to_value(application, &mut way.instance)
+}
+
+/// Moves both trails back up, and replaces what the applied schema has evaluated by what the keyword has.
+pub(crate) fn come_back<W: World, H: PointerText + Drop>(
+    world: &W,
+    way: &mut Way<W::Name, H>,
+    application: W::Application,
+    kind: Kind,
+    here: Mark<H::Mark>,
+    holds: bool,
+) -> Result<(), Memory>
+    requires keyword { IsSplitPoint way.old.keyword (H.length_at here.keyword) }
+    requires instance { IsSplitPoint way.old.instance (H.length_at here.instance) }
+    ensures { OnOk result (CameBack W.text_of H.length_at kind
+        (W.application_of world.now application) here holds way.old way.new) }
+{
+    way.keyword.cut(here.keyword);
+    way.instance.cut(here.instance);
+    keep(
+        &mut way.names,
+        here.names,
+        names_origin(kind),
+        holds,
+        world.member(application),
+    )?;
+    keep(
+        &mut way.indexes,
+        here.indexes,
+        indexes_origin(kind),
+        holds,
+        world.item(application),
+    )
+}
+
+/// What the keywords show that the walk hasn't visited: all those that apply no schemas, if it is quiet. `matching`:
+/// the number of items that match the adjacent `contains`.
+#[inline(always)]
+pub(crate) fn others_of<W: World>(
+    alloc: Global,
+    world: &W,
+    quiet: bool,
+    place: Place,
+    value: W::Value,
+    matching: u64,
+) -> Result<Others, Memory>
+    requires { W.is_place world.now place ≡ true }
+    ensures { IfOk result (λ o. AreJudgedIf (W.schemas world.now) (W.site world.now place) quiet (W.value_of value)
+        matching o) }
+{
+    if quiet {
+        world.others(alloc, place, value, matching)
+    } else {
+        Ok(Others {
+            pass: true,
+            count: 0,
+        })
+    }
+}

@@ -1,0 +1,122 @@
+//! What a walk knows of a keyword from its applications, and of a schema from its keywords.
+ghost use Rattle.std.specs.Prelude.{◌≡◌, ◌&&◌, ◌≤◌, ◌<◌, ◌+◌, cond, false};
+ghost use Rattle.js_walk.specs.Walk.Keeping.{condition_step, matching_step};
+
+use crate::keywords::kind::Kind;
+use js_bundle::Place;
+
+/// What is evaluated: a keyword of the schema at a place, on a value.
+#[derive(Clone, Copy)]
+pub(crate) struct Case<S, V, K> {
+    pub place: Place,
+    pub schema: S,
+    pub value: V,
+    pub keyword: K,
+}
+
+/// The number of applications that a keyword has asked for, and the number of those that succeed.
+#[derive(Clone, Copy)]
+pub struct Tally {
+    pub asked: usize,
+    pub held: usize,
+}
+
+/// Whether a keyword passes, and how many of its applications succeed.
+#[derive(Clone, Copy)]
+pub struct Judged {
+    pub passes: bool,
+    pub held: usize,
+}
+
+/// What the keywords evaluated so far show of a schema: whether it is valid so far, whether its `if` succeeds, and how
+/// many items match its `contains`.
+#[derive(Clone, Copy)]
+pub(crate) struct Known {
+    pub valid: bool,
+    pub condition: Option<bool>,
+    pub matching: u64,
+}
+
+/// The keywords of a schema that are still to be evaluated, and what those before them have shown.
+#[derive(Drop)]
+pub(crate) struct Judging<K> {
+    pub keywords: K,
+    pub known: Known,
+}
+
+/// The keywords of a schema that a quiet walk doesn't visit: whether all of them pass, and how many there are.
+#[derive(Clone, Copy)]
+pub struct Others {
+    pub pass: bool,
+    pub count: usize,
+}
+
+/// Whether all keywords of a schema pass that apply no schemas, once they are judged together: given how many items
+/// match the adjacent `contains`.
+#[derive(Clone, Copy)]
+pub(crate) struct Together {
+    pub known: bool,
+    pub matching: u64,
+    pub pass: bool,
+}
+
+impl Tally {
+    /// The tally with one more application.
+    pub fn with_application(self, holds: bool) -> Tally
+        requires few { self.asked < usize.MAX }
+        requires held { self.held ≤ self.asked }
+        ensures asked { result.asked ≡ self.asked + 1 }
+        ensures held { result.held ≡ self.held + cond holds 1 0 }
+    {
+        Tally {
+            asked: self.asked + 1,
+            held: self.held + if holds { 1 } else { 0 },
+        }
+    }
+}
+
+impl Together {
+    /// They aren't judged yet.
+    pub fn unknown() -> Together
+        ensures { result.known ≡ false }
+    {
+        Together {
+            known: false,
+            matching: 0,
+            pass: false,
+        }
+    }
+}
+
+impl Known {
+    /// What is known with one more keyword.
+    pub fn with_keyword(self, kind: Kind, passes: bool, held: usize) -> Known
+        ensures valid { result.valid ≡ (self.valid && passes) }
+        ensures condition { result.condition ≡ condition_step kind held self.condition }
+        ensures matching { result.matching ≡ matching_step kind held self.matching }
+    {
+        Known {
+            valid: self.valid & passes,
+            condition: condition_after(kind, held, self.condition),
+            matching: matching_after(kind, held, self.matching),
+        }
+    }
+}
+
+fn condition_after(kind: Kind, held: usize, before: Option<bool>) -> Option<bool>
+    ensures { result ≡ condition_step kind held before }
+{
+    match kind {
+        Kind::If => Some(held == 1),
+        _ => before,
+    }
+}
+
+fn matching_after(kind: Kind, held: usize, before: u64) -> u64
+    ensures { result ≡ matching_step kind held before }
+{
+    match kind {
+        Kind::Contains => held as u64,
+        _ => before,
+    }
+}
