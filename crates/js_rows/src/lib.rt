@@ -1,7 +1,7 @@
 //! A result of JSON Schema as relative rows: of each location a row keeps only what it adds to that of the node above.
 //!
-//! `rows` and `leaf` collect them. `keeping` makes the rows of the tree that pruning and condensing leave, and `merging`
-//! the merged tree. `basic_text` and `verbose_text` write them, with whole locations.
+//! `rows` and `leaf` collect them. `keeping` makes the rows of the tree that pruning and condensing leave, and
+//! `merging` the merged tree. `basic_text` and `verbose_text` write them, with whole locations.
 #![tactic(auto)]
 
 mod apart;

@@ -1,4 +1,4 @@
--- The text of a node, in the pieces in which it is written (of private functions).
+-- The text of a node, in the pieces in which it is written (Core, section 12.3).
 use Rattle.std.specs.Prelude.{ℕ, Bool, true, false, not, List, [], ◌++◌, Option, Some, None, codes}
 use Rattle.js_doc.specs.Compact.{compact, quoted}
 use Rattle.js_doc.specs.Value.{Value}
