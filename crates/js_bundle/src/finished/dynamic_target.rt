@@ -33,7 +33,7 @@ impl Schemas {
 
     /// The same in a dynamic scope given by the numbers of its resources, from the entry's to the place's: the first of
     /// these that has the name decides. A path and the numbers of its resources, repeated neighbours left out, lead to
-    /// the same place (`laws::numbers_tell_the_dynamic_scope`). It takes no memory.
+    /// the same place (`numbers_tell_the_dynamic_scope`, a law of `js_places`). It takes no memory.
     pub fn dynamic_target_in(&self, place: Place, resources: &[usize]) -> Place
         requires { has_keyword (codes "$dynamicRef") self.now place ≡ true }
         ensures { StandsFor self.now result (option_and_then

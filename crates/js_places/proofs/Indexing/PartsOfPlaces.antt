@@ -1,4 +1,4 @@
--- ListsPlace of which each place has a part: one place more, and the part of a place.
+-- Lists of which each place has a part: one place more, and the part of a place.
 use Rattle.std.proofs.Common.{◌≡◌, ℕ, zero, suc, ◌+◌, ◌-◌, ◌<◌, ◌≤◌, List, [], ◌∷◌, ◌++◌, true, map, take, drop, get_or, length, flat_map, slice_get, slice_range, Some, option_map, unwrap_or, sym, ap, ap₂, ◌∙◌, subst, arith}
 use Rattle.std.proofs.lemmas.Bool.{ltb-true}
 use Rattle.std.proofs.lemmas.List.{length-append}

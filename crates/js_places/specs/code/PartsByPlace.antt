@@ -1,4 +1,4 @@
--- ListsPlace of which each place has a part, one after another.
+-- Lists of which each place has a part, one after another.
 use Rattle.std.specs.Prelude.{◌≡◌, ℕ, ◌+◌, ◌≤◌, List, [], ◌∷◌, length, slice_range, flat_map}
 use Rattle.js_places.specs.Resource.{Site}
 
