@@ -10,7 +10,7 @@ from programs import HOME, TimeoutExpired, answer_of, no_end
 from script_checks import FAKES, SECONDS, Check
 
 BENCHES = {"bench/finish": ["--most", "1000", "places"], "bench/merge": ["alike"], "bench/walk": ["items"]}
-BENCH_CRATES = ("js_doc", "js_assert", "js_bundle", "js_tree", "js_rows", "js_walk", "js_eval")
+BENCH_CRATES = ("js_doc", "js_assert", "js_places", "js_bundle", "js_tree", "js_rows", "js_walk", "js_eval")
 
 
 def of_benches(room):

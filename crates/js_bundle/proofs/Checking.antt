@@ -10,3 +10,5 @@ pub mod OneName
 pub mod TargetsFound
 pub mod MembersByName
 pub mod DocumentsAdded
+pub mod NoReference
+pub mod StoppedScan

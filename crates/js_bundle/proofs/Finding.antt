@@ -16,4 +16,5 @@ pub mod SchemaAtPlace
 pub mod ResourcesNext
 pub mod NumbersStandForPlaces
 pub mod FoundByTest
-pub mod FoundByText
+pub mod KnownRoots
+pub mod ResourceTableRead

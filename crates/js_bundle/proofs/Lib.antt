@@ -1,10 +1,5 @@
 pub mod Rows
 pub mod OnLiterals
-pub mod MemberLoops
-pub mod NameTables
-pub mod Standing
 pub mod SchemaBelow
-pub mod Listing
-pub mod Indexing
 pub mod Checking
 pub mod Finding

@@ -8,14 +8,14 @@ use Rattle.js_doc.specs.Value.{Value, truth, text, list, object, items, members,
 use Rattle.js_assert.specs.Keyword.{keyword_named}
 use Rattle.js_bundle.specs.declared.refusal.Refusal.{Refusal}
 use Rattle.js_bundle.specs.declared.refusal.RefusalKind.TheVariants.{BadKeyword, NotASchema, BadId, BadAnchor, DuplicateUri, DuplicateAnchor, UnknownDialect, Unresolved, BadReference}
-use Rattle.js_bundle.specs.Document.{Documents}
-use Rattle.js_bundle.specs.Keyword.{Text}
-use Rattle.js_bundle.specs.Url.{printed, without_fragment, parsed}
-use Rattle.js_bundle.specs.Place.{holding}
-use Rattle.js_bundle.specs.Resource.{Site, sites}
-use Rattle.js_bundle.specs.Names.{named}
-use Rattle.js_bundle.specs.Location.{absolute}
-use Rattle.js_bundle.specs.Target.{target, dynamic_target}
+use Rattle.js_places.specs.Document.{Documents}
+use Rattle.js_places.specs.Keyword.{Text}
+use Rattle.js_places.specs.Url.{printed, without_fragment, parsed}
+use Rattle.js_places.specs.Place.{holding}
+use Rattle.js_places.specs.Resource.{Site, sites}
+use Rattle.js_places.specs.Names.{named}
+use Rattle.js_places.specs.Location.{absolute}
+use Rattle.js_places.specs.Target.{target, dynamic_target}
 use Rattle.js_bundle.specs.Refusals.{refusals}
 
 abbrev at_uri : Option Parts → Value → Documents

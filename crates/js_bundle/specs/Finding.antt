@@ -1,25 +1,16 @@
 -- How the code finds places: by their numbers in the list.
-use Rattle.std.specs.Prelude.{◌≡◌, ℕ, List, [], ◌∷◌, Bool, false, not, ◌||◌, is_some, Option, Some, None, option_map, option_and_then, slice_get, unwrap_or, codes, if◌then◌else◌}
-use Rattle.std.specs.Borrow.{Bor}
-use Rattle.std.specs.List.{position_from}
+use Rattle.std.specs.Prelude.{◌≡◌, ℕ, List, Bool, false, Option, option_map, option_and_then, unwrap_or, codes, if◌then◌else◌}
 use Rattle.url.specs.Parts.{Parts}
-use Rattle.js_doc.specs.Pointer.{Tokens}
+pub use Rattle.js_places.specs.Finding.{number_named, under_number, is_pointer_read, IfNotRead, tokens_of}
 use Rattle.js_bundle.specs.declared.refusal.Refusal.{Refusal}
 use Rattle.js_bundle.specs.declared.check.fault.CheckFault.{CheckFault}
 use Rattle.js_bundle.specs.declared.check.fault.CheckFault.TheVariants.{Memory, Refused}
 use Rattle.js_bundle.specs.declared.check.references.DynamicReference.{DynamicReference}
-use Rattle.js_bundle.specs.Keyword.{Text, text_argument}
-use Rattle.js_bundle.specs.Names.{names, named, is_pointer}
-use Rattle.js_bundle.specs.declared.index.place_by_uri.NameFault.{NameFault}
-use Rattle.js_bundle.specs.declared.index.place_by_uri.NameFault.TheVariants as fault
-use Rattle.js_doc.specs.PointerReading.{pointer_of}
+use Rattle.js_places.specs.Keyword.{Text, text_argument}
+use Rattle.js_places.specs.Names.{named}
 use Rattle.std.specs.Option.{option_map_or}
-use Rattle.js_bundle.specs.Resource.{Site}
-use Rattle.js_bundle.specs.Target.{reference, first_target, is_dynamic, outermost}
-
--- the number of the place that a URI names
-abbrev pub number_named : List Site → Parts → Option ℕ
-number_named all uri = position_from (names all uri) 0 all
+use Rattle.js_places.specs.Resource.{Site}
+use Rattle.js_places.specs.Target.{reference, first_target, is_dynamic, outermost}
 
 -- that of a reference's first target
 abbrev pub number_of_target : List Site → Text → Site → Option ℕ
@@ -42,30 +33,13 @@ dynamic_by all uri =
 abbrev pub dynamic_at : List Site → Site → Option DynamicReference
 dynamic_at all place = option_map (dynamic_as (goes_by_name all place)) (number_of_target all (codes "$dynamicRef") place)
 
--- what a list with an entry for each place has under the number of one
-abbrev pub under_number : {A : Type 0} → List (Option A) → ℕ → Option A
-under_number entries n = option_and_then (λ o. o) (slice_get entries n)
-
 -- where a first target leads in a dynamic scope: by its own name, where the reference goes by name
 abbrev pub by_scope : List Site → List Site → Bool → Site → Site
 by_scope all path by_name first =
     if by_name then unwrap_or (option_and_then (λ name. outermost all name path) (text_argument (codes "$dynamicAnchor") first.schema)) first else first
-
--- ---- what is read of a fragment
-
-abbrev pub is_pointer_read : Text → Bool
-is_pointer_read f = not (is_pointer f) || is_some (pointer_of f)
-
-abbrev pub IfNotRead : NameFault → Type 0 → Type 0
-IfNotRead fault.Memory P = Unit {0}
-IfNotRead fault.NotRead P = P
 
 -- ---- a refusal, or want of memory
 
 abbrev pub IsRefusalOrMemory : Refusal → CheckFault → Type 0
 IsRefusalOrMemory r Memory = Unit {0}
 IsRefusalOrMemory r (Refused s) = s ≡ r
-
-abbrev pub tokens_of : Option (Bor Text) → Tokens
-tokens_of None = []
-tokens_of (Some k) = k.now ∷ []

@@ -2,8 +2,8 @@
 use Rattle.std.specs.Prelude.{List, [], ◌∷◌, Bool, true, false, codes, bytes_eq, if◌then◌else◌}
 use Rattle.std.specs.List.{list_any}
 use Rattle.js_doc.specs.Value.{Value, truth, text, list, object, item}
-use Rattle.js_bundle.specs.Keyword.{Text}
-use Rattle.js_bundle.specs.Place.{list_of_schemas, object_of_schemas}
+use Rattle.js_places.specs.Keyword.{Text}
+use Rattle.js_places.specs.Place.{list_of_schemas, object_of_schemas}
 
 abbrev pub is_text_value : Value → Bool
 is_text_value (text t) = true

@@ -15,11 +15,11 @@ use Rattle.js_bundle.specs.declared.refusal.RefusalKind.TheVariants.{Memory, Uri
 use Rattle.js_bundle.specs.declared.check.fault.CheckFault.{CheckFault}
 use Rattle.js_bundle.specs.declared.check.fault.CheckFault.TheVariants as fault
 use Rattle.js_bundle.specs.Candidate.{Candidate, IsFirst, decided_in}
-use Rattle.js_bundle.specs.Document.{Documents}
-use Rattle.js_bundle.specs.Keyword.{Text, text_argument}
-use Rattle.js_bundle.specs.Url.{longest_uri, without_fragment, printed, raw_fragment, decoded_fragment}
-use Rattle.js_bundle.specs.Resource.{Site, sites}
-use Rattle.js_bundle.specs.Names.{is_root, is_known_as, belongs_to, makes, is_read, named, is_anchor_name}
+use Rattle.js_places.specs.Document.{Documents}
+use Rattle.js_places.specs.Keyword.{Text, text_argument}
+use Rattle.js_places.specs.Url.{is_empty, longest_uri, without_fragment, printed, raw_fragment, decoded_fragment}
+use Rattle.js_places.specs.Resource.{Site, sites}
+use Rattle.js_places.specs.Names.{is_root, is_known_as, belongs_to, makes, is_read, named, is_anchor_name}
 use Rattle.js_bundle.specs.Form.{is_schema, is_formed}
 
 -- ---- a line of the list
@@ -39,10 +39,6 @@ when condition candidates = if condition then candidates else []
 
 abbrev pub is : Text → Text → Bool
 is keyword name = bytes_eq keyword name
-
-abbrev pub is_empty : Text → Bool
-is_empty [] = true
-is_empty (b ∷ bs) = false
 
 -- ---- the first pass: places in scan order; `before` are those that the scan lists before
 

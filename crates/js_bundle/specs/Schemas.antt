@@ -1,5 +1,5 @@
 -- What is asked of finished schemas. A place is told by its number in scan order.
-use Rattle.std.specs.Prelude.{◌≡◌, ℕ, ◌+◌, ◌<◌, List, [], ◌∷◌, ◌++◌, Bool, true, false, Option, Some, None, option_and_then, option_map, find, decimal, bytes_eq, slice_get, nat_lt, option_to_list, length, map, Ok, Err, codes, if◌then◌else◌}
+use Rattle.std.specs.Prelude.{◌≡◌, ℕ, ◌+◌, ◌<◌, List, [], ◌∷◌, ◌++◌, Bool, true, false, Option, Some, None, option_and_then, option_map, find, decimal, bytes_eq, slice_get, length, map, Ok, Err, codes, if◌then◌else◌}
 use Rattle.std.specs.Borrow.{Bor}
 use Rattle.std.specs.List.{range_with_len}
 use Rattle.std.specs.Option.{option_map_or}
@@ -9,37 +9,26 @@ use Rattle.js_doc.specs.Pointer.{Tokens}
 use Rattle.js_doc.specs.Value.{Value}
 use Rattle.js_doc.specs.Parts.{members_of}
 use Rattle.js_assert.specs.Assertion.{Asserted, asserted}
-use Rattle.js_bundle.specs.declared.scan.holding.Holding.{Holding}
-use Rattle.js_bundle.specs.declared.scan.holding.Holding.TheVariants.{One, Listed, Named}
+use Rattle.js_places.specs.declared.scan.holding.Holding.{Holding}
+use Rattle.js_places.specs.declared.scan.holding.Holding.TheVariants.{One, Listed, Named}
 use Rattle.js_bundle.specs.declared.place.Step as rust
 use Rattle.js_bundle.specs.declared.place.Step.TheVariants as rust_step
 use Rattle.js_bundle.specs.declared.refusal.EntryFault.{EntryFault}
 use Rattle.js_bundle.specs.declared.refusal.EntryFault.TheVariants as fault
-use Rattle.js_bundle.specs.Document.{Documents}
-use Rattle.js_bundle.specs.Keyword.{Text, argument, has_argument}
-use Rattle.js_bundle.specs.Names.{stands_at, known_as, named, is_read}
-use Rattle.js_bundle.specs.Place.{holding, items_in}
-use Rattle.js_bundle.specs.Resource.{Site, sites}
-use Rattle.js_bundle.specs.Url.{longest_uri, decoded_fragment}
+use Rattle.js_places.specs.Document.{Documents}
+use Rattle.js_places.specs.Keyword.{Text, argument, has_argument}
+use Rattle.js_places.specs.Names.{stands_at, known_as, named, is_read}
+use Rattle.js_places.specs.Place.{holding, items_in}
+pub use Rattle.js_places.specs.PlaceNumber.{place_at, is_place, path_at}
+use Rattle.js_places.specs.Resource.{Site, sites}
+use Rattle.js_places.specs.Url.{longest_uri, decoded_fragment}
 
 -- ---- numbers
-
--- the place that has the number
-abbrev pub place_at : Documents → ℕ → Option Site
-place_at documents n = slice_get (sites documents) n
-
-abbrev pub is_place : Documents → ℕ → Bool
-is_place documents n = nat_lt n (length (sites documents))
 
 -- the place of this number has the keyword
 abbrev pub has_keyword : Text → Documents → ℕ → Bool
 has_keyword keyword documents n =
     option_map_or (λ place. has_argument keyword place.schema) (place_at documents n) false
-
--- the places of a path
-abbrev pub path_at : Documents → List ℕ → List Site
-path_at documents [] = []
-path_at documents (n ∷ path) = option_to_list (place_at documents n) ++ path_at documents path
 
 -- the number is that of a place which is found
 abbrev pub StandsFor : Documents → ℕ → Option Site → Type 0

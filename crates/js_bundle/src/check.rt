@@ -3,19 +3,20 @@ ghost use Rattle.std.specs.Prelude.{◌≡◌, codes, map, nat_eq, OnOk, IfOk, I
 ghost use Rattle.indexmap.specs.IndexMap.{get};
 ghost use Rattle.js_bundle.specs.AssertionsAndPatterns.{assertions_at, patterns_at};
 ghost use Rattle.js_bundle.specs.Candidate.{IsClear, IsStopped};
-ghost use Rattle.js_bundle.specs.code.SparseList.{IsSparseList};
-ghost use Rattle.js_bundle.specs.code.Edges.{edges_from, edges_of};
-ghost use Rattle.js_bundle.specs.Finding.{dynamic_at, number_of_target, under_number};
-ghost use Rattle.js_bundle.specs.code.PartsByPlace.{ArePartsByPlace};
-ghost use Rattle.js_bundle.specs.code.Index.{IsIndexOf};
-ghost use Rattle.js_bundle.specs.code.Positions.{ArePositionsOf};
-ghost use Rattle.js_bundle.specs.KeywordName.{keyword_names};
+ghost use Rattle.js_places.specs.code.SparseList.{IsSparseList};
+ghost use Rattle.js_places.specs.code.Edges.{edges_from, edges_of};
+ghost use Rattle.js_bundle.specs.Finding.{dynamic_at, number_of_target};
+ghost use Rattle.js_places.specs.Finding.{under_number};
+ghost use Rattle.js_places.specs.code.PartsByPlace.{ArePartsByPlace};
+ghost use Rattle.js_places.specs.code.Index.{IsIndexOf};
+ghost use Rattle.js_places.specs.code.Positions.{ArePositionsOf};
+ghost use Rattle.js_places.specs.KeywordName.{keyword_names};
 ghost use Rattle.js_bundle.specs.Refusals.{candidates, second_pass};
-ghost use Rattle.js_bundle.specs.Resource.{sites};
-ghost use Rattle.js_bundle.specs.ResourceTable.{AreRooted, IsResourceTable};
-ghost use Rattle.js_bundle.specs.code.Scan.{site_of};
-ghost use Rattle.js_bundle.specs.Seen.{document_of, AreRead};
-ghost use Rattle.js_bundle.specs.code.KeptLocation.{kept_location};
+ghost use Rattle.js_places.specs.Resource.{sites};
+ghost use Rattle.js_places.specs.ResourceTable.{AreRooted, IsResourceTable};
+ghost use Rattle.js_places.specs.code.Scan.{site_of};
+ghost use Rattle.js_places.specs.Seen.{document_of, AreRead};
+ghost use Rattle.js_places.specs.code.KeptLocation.{kept_location};
 ghost use Rattle.js_bundle.specs.code.KeptSite.{kept_site, kept_site_of};
 
 pub(crate) mod assertions_and_patterns;
@@ -30,15 +31,10 @@ use crate::check::fault::CheckFault;
 use crate::check::first_pass::first_pass;
 use crate::check::kept_site::{KeptSite, kept_sites_of};
 use crate::check::references::{References, resolve_all};
-use crate::document::Document;
-use crate::index::Index;
-use crate::index::edges::{Edges, edges_in};
-use crate::index::kept_location::KeptLocation;
-use crate::index::keyword_table::KeywordTable;
-use crate::index::positions::Positions;
-use crate::index::resource_table::{Resources, resources_of};
-use crate::scan::scan;
-use crate::scan::site::Site;
+use js_places::{
+    Document, Edges, Index, KeptLocation, KeywordTable, Positions, Resources, Site, edges_in,
+    resources_of, scan_all,
+};
 use std::alloc::Global;
 
 /// What is kept of checked documents, place by place.
@@ -134,7 +130,7 @@ pub(crate) fn check_whole(alloc: Global, documents: &[Document]) -> Result<Check
     ensures edges { IfOk result (λ c. map edges_of c.edges.items ≡ edges_from 0 (map document_of documents.now)) }
     ensures err { IfErr result (IsStopped (candidates (map document_of documents.now))) }
 {
-    let sites = scan(alloc, documents)?;
+    let sites = scan_all(alloc, documents)?;
     let passed = first_pass(alloc, sites.as_slice())?;
     let found = look_up(
         alloc,

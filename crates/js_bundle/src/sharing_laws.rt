@@ -4,15 +4,10 @@ ghost use Rattle.js_bundle.specs.contracts.schemas.Schemas as Finished;
 
 use crate::check::kept_site::KeptSite;
 use crate::check::references::References;
-use crate::document::Document;
-use crate::index::Index;
-use crate::index::edges::Edges;
-use crate::index::kept_location::KeptLocation;
-use crate::index::keyword_table::KeywordTable;
-use crate::index::resource_table::Resources;
 use crate::schemas::Schemas;
 use js_assert::sharing_laws::{assertions_cross, patterns_cross};
 use js_doc::Text;
+use js_places::{Document, Edges, Index, KeptLocation, KeywordTable, Resources};
 use std::sync::Arc;
 
 /// Schemas may be sent to another thread, and shared by several.

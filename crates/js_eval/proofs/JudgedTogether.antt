@@ -16,8 +16,8 @@ use Rattle.js_bundle.specs.Document.{Documents}
 use Rattle.js_bundle.specs.KeywordName.{keyword_name}
 use Rattle.js_bundle.specs.Resource.{Site}
 use Rattle.js_bundle.specs.Schemas.{is_place, place_at}
-use Rattle.js_bundle.specs.declared.keyword_name.KeywordName.{KeywordName}
-use Rattle.js_bundle.specs.declared.keyword_name.KeywordName.TheVariants.{AssertionUpToIf, AssertionBehindIf}
+use Rattle.js_places.specs.declared.keyword_name.KeywordName.{KeywordName}
+use Rattle.js_places.specs.declared.keyword_name.KeywordName.TheVariants.{AssertionUpToIf, AssertionBehindIf}
 use Rattle.js_walk.specs.Bundle.{schemas_of}
 use Rattle.js_walk.specs.Keywords.{Keyword, has_node, is_else, is_after_if, comes_before_else, comes_after_else}
 use Rattle.js_walk.specs.Kind.{Applicator, applicators, kind, kind_in}

@@ -28,7 +28,7 @@ use Rattle.js_bundle.specs.Schemas.{below, fits, step_tokens, Holds, Step, Alone
 use Rattle.js_bundle.specs.Target.{reference, first_target, target, dynamic_anchor, outermost, is_dynamic, dynamic_of, dynamic_target}
 use Rattle.js_bundle.specs.Url.{decoded_fragment}
 use Rattle.js_bundle.proofs.SchemaBelow.{is_one, is_listed, is_named}
-use Rattle.js_bundle.proofs.Standing.{standing}
+use Rattle.js_places.proofs.Standing.{standing}
 use Rattle.js_walk.specs.Applications.{Application, asks_of, indexed, indexed_from}
 use Rattle.js_walk.specs.Bundle.{schemas_of}
 use Rattle.js_walk.specs.Keywords.{Keyword, keywords}

@@ -6,7 +6,7 @@ use Rattle.std.proofs.lemmas.List.{drop_more}
 use Rattle.std.proofs.lemmas.List.Elements.{filter-append}
 use Rattle.std.proofs.lemmas.Option.{get_or_from_slice_get, slice_get-map, slice_get_read, slice_get_within}
 use Rattle.js_bundle.specs.KeywordName.{keyword_name}
-use Rattle.js_bundle.specs.declared.keyword_name.KeywordName.{KeywordName}
+use Rattle.js_places.specs.declared.keyword_name.KeywordName.{KeywordName}
 use Rattle.js_doc.specs.Value.{Named}
 use Rattle.js_doc.specs.Members.{name_cmp, IsBelowHead, IsAscending}
 use Rattle.js_walk.specs.Keywords.{Keyword, comes_before_else, is_else, comes_after_else}

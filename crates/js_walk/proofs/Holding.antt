@@ -2,8 +2,8 @@
 use Rattle.std.specs.Prelude.{◌≡◌, ℕ, true, List, ◌∷◌, Some, slice_get, refl}
 use Rattle.std.proofs.Common.{sym, ◌∙◌, ap}
 use Rattle.js_assert.specs.Argument.{entries, values}
-use Rattle.js_bundle.specs.declared.keyword_name.KeywordName.{KeywordName}
-use Rattle.js_bundle.specs.declared.keyword_name.KeywordName.TheVariants as name
+use Rattle.js_places.specs.declared.keyword_name.KeywordName.{KeywordName}
+use Rattle.js_places.specs.declared.keyword_name.KeywordName.TheVariants as name
 use Rattle.js_bundle.specs.KeywordName.{keyword_name}
 use Rattle.js_bundle.specs.Place.{items_in}
 use Rattle.js_bundle.specs.Place as bundle

@@ -11,8 +11,8 @@ use Rattle.js_bundle.specs.KeywordName.{TableOfNames, applying, identifying, nam
 use Rattle.js_bundle.specs.Schemas.{is_place, place_at}
 use Rattle.js_walk.specs.Sited.{numbered_site}
 use Rattle.js_walk.proofs.AssertionThere.{place_is, same_members}
-use Rattle.js_bundle.specs.declared.keyword_name.KeywordName.{KeywordName}
-use Rattle.js_bundle.specs.declared.keyword_name.KeywordName.TheVariants.{AssertionUpToIf, AssertionBehindIf, OtherUpToIf, OtherBehindIf}
+use Rattle.js_places.specs.declared.keyword_name.KeywordName.{KeywordName}
+use Rattle.js_places.specs.declared.keyword_name.KeywordName.TheVariants.{AssertionUpToIf, AssertionBehindIf, OtherUpToIf, OtherBehindIf}
 use Rattle.js_walk.specs.Keywords.{has_node, is_else, is_after_if, without_node}
 use Rattle.js_walk.specs.Kind.{Applicator, kind, kind_in}
 use Rattle.js_walk.specs.code.Standard.{kind_by, turn_by_name, keyword_names_of}

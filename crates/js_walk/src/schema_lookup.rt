@@ -16,9 +16,9 @@ ghost use Rattle.js_walk.specs.SchemaSet as spec;
 
 use crate::keywords::keyword::{Keyword, KeywordAt};
 use crate::walking::Path;
-use js_bundle::laws::{a_number_tells_a_resource, numbers_tell_the_dynamic_scope};
 use js_bundle::{KeywordName, Place, Schemas, Step};
 use js_doc::Doc;
+use js_places::laws::{a_number_tells_a_resource, numbers_tell_the_dynamic_scope};
 
 /// The schema at a place. The look-up starts at the root of its document.
 #[tactic(auto, using(crate::proofs::Paths::schema_is))]

@@ -1,27 +1,29 @@
 -- What a dynamic reference leads to.
-use Rattle.std.proofs.Common.{◌≡◌, ◌&&◌, ℕ, ◌+◌, ◌<◌, ◌≤◌, List, [], ◌∷◌, Bool, true, false, not, if◌then◌else◌, Option, Some, None, option_map, option_and_then, unwrap_or, is_some, slice_get, bytes_eq, codes, drop, length, refl, sym, ap, ◌∙◌, subst, arith}
+use Rattle.std.proofs.Common.{◌≡◌, ◌&&◌, ℕ, ◌+◌, ◌≤◌, List, ◌∷◌, Bool, true, false, not, if◌then◌else◌, Option, Some, None, option_map, option_and_then, unwrap_or, is_some, slice_get, bytes_eq, codes, drop, length, refl, sym, ap, ◌∙◌, subst}
 use Rattle.std.specs.List.{position_from}
 use Rattle.std.specs.Option.{option_map_or}
-use Rattle.std.proofs.lemmas.Bool.{ltb-true, lt-ltb}
+use Rattle.std.proofs.lemmas.Bool.{lt-ltb}
 use Rattle.std.proofs.lemmas.List.{drop_more, drop_all}
-use Rattle.std.proofs.lemmas.Option.{slice_get_within, slice_get-get_or, get_or_from_slice_get}
+use Rattle.std.proofs.lemmas.Option.{slice_get_within, get_or_from_slice_get}
 use Rattle.url.specs.Parts.{Parts}
 use Rattle.js_doc.proofs.Named.{is_text-sound}
 use Rattle.js_bundle.specs.declared.check.references.DynamicReference.{DynamicReference}
 use Rattle.js_bundle.specs.Candidate.{IsClear}
-use Rattle.js_bundle.specs.code.SparseList.{IsSparseList}
-use Rattle.js_bundle.specs.Document.{Documents}
+use Rattle.js_places.specs.code.SparseList.{IsSparseList}
+use Rattle.js_places.specs.Document.{Documents}
 use Rattle.js_bundle.specs.Finding.{number_of_target, goes_by_name, dynamic_as, dynamic_at, by_scope}
-use Rattle.js_bundle.specs.Keyword.{Text, has_argument, text_argument}
-use Rattle.js_bundle.specs.Names.{belongs_to, makes}
+use Rattle.js_places.specs.Keyword.{Text, has_argument, text_argument}
+use Rattle.js_places.specs.Names.{belongs_to, makes}
 use Rattle.js_bundle.specs.Refusals.{candidates}
-use Rattle.js_bundle.specs.Resource.{Site, sites}
-use Rattle.js_bundle.specs.Schemas.{is_place, has_keyword, place_at, StandsFor, Finds}
+use Rattle.js_places.specs.Resource.{Site, sites}
+use Rattle.js_places.specs.PlaceNumber.{is_place, place_at}
+use Rattle.js_bundle.specs.Schemas.{has_keyword, StandsFor, Finds}
 use Rattle.js_bundle.specs.code.KeptSite.{KeptSite, kept_site}
-use Rattle.js_bundle.specs.Target as spec
-use Rattle.js_bundle.specs.Url.{decoded_fragment}
+use Rattle.js_places.specs.Target as spec
+use Rattle.js_places.specs.Url.{decoded_fragment}
 use Rattle.js_bundle.proofs.Finding.NumbersStandForPlaces.{finds_place}
 use Rattle.js_bundle.proofs.Finding.KeptUnderNumber.{has_kept, has_target, kept_under, not_missing}
+use Rattle.js_places.proofs.Indexing.PartsOfPlaces.{there}
 use Rattle.js_bundle.proofs.Checking.TargetsFound.{first_target_there, number_is_target}
 
 -- ---- a search by numbers, one number on
@@ -58,13 +60,6 @@ pub anchored : (documents : Documents) (name : Text) (place : ℕ) (x : KeptSite
 anchored documents name place x n e h = anchored_by documents name x n (place_at documents place) e h
 
 -- ---- where a first target leads
-
-pub there : (documents : Documents) (n : ℕ) → is_place documents n ≡ true → (s : Site) × (place_at documents n ≡ Some s)
-there documents n h = by_length (sites documents) (ltb-true n (length (sites documents)) h)
-  where
-    by_length : (all : List Site) → n < length all → (s : Site) × (slice_get all n ≡ Some s)
-    by_length [] low = absurd (omega (arith, low))
-    by_length (x ∷ xs) low = (_, slice_get-get_or (x ∷ xs) n x low)
 
 pub led_first : (documents : Documents) (path : List Site) (b : Bool) (n : ℕ) → is_place documents n ≡ true → ((s : Site) → place_at documents n ≡ Some s → by_scope (sites documents) path b s ≡ s)
     → StandsFor documents n (option_map (by_scope (sites documents) path b) (place_at documents n))

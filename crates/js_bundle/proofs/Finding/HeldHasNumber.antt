@@ -10,17 +10,17 @@ use Rattle.js_doc.specs.Value.{Value, null, truth, whole, text, list, object, It
 use Rattle.js_doc.specs.Parts.{member_list}
 use Rattle.js_doc.proofs.Named.{is_text-refl, is_text-sound}
 use Rattle.js_assert.specs.Keyword as assertion
-use Rattle.js_bundle.specs.contracts.keyword_name.KeywordNamePartialEq.TheImpl.{ghosts}
-use Rattle.js_bundle.specs.declared.scan.holding.Holding.{Holding}
-use Rattle.js_bundle.specs.declared.scan.holding.Holding.TheVariants.{One, Listed, Named, Nothing}
-use Rattle.js_bundle.specs.Keyword.{Text}
-use Rattle.js_bundle.specs.KeywordName.{keyword_name}
-use Rattle.js_bundle.specs.Place.{one_schema, list_of_schemas, object_of_schemas, holding, values, Located, Place, places_held, places_at, places_of_keywords, places_in_list, places_of_items, places_in_object, places_of_members}
-use Rattle.js_bundle.specs.code.Edges.{HeldNumbers, count, count_of_keyword, one_entry, numbers_held, numbers_of_items, numbers_of_members, held_by_keywords}
+use Rattle.js_places.specs.contracts.keyword_name.KeywordNamePartialEq.TheImpl.{ghosts}
+use Rattle.js_places.specs.declared.scan.holding.Holding.{Holding}
+use Rattle.js_places.specs.declared.scan.holding.Holding.TheVariants.{One, Listed, Named, Nothing}
+use Rattle.js_places.specs.Keyword.{Text}
+use Rattle.js_places.specs.KeywordName.{keyword_name}
+use Rattle.js_places.specs.Place.{one_schema, list_of_schemas, object_of_schemas, holding, values, Located, Place, places_held, places_at, places_of_keywords, places_in_list, places_of_items, places_in_object, places_of_members}
+use Rattle.js_places.specs.code.Edges.{HeldNumbers, count, count_of_keyword, one_entry, numbers_held, numbers_of_items, numbers_of_members, held_by_keywords}
 use Rattle.js_bundle.specs.code.PlaceBelow.{numbers_of_keyword}
-use Rattle.js_bundle.proofs.Listing.PlacesCounted.{StandsFrom, first_there, front_there, back_there, place_count, keyword_count}
-use Rattle.js_bundle.proofs.Listing.LeastSetListed.{Among}
-use Rattle.js_bundle.proofs.Finding.FoundByTest.{get_first}
+use Rattle.js_places.proofs.Listing.PlacesCounted.{StandsFrom, first_there, front_there, back_there, place_count, keyword_count}
+use Rattle.js_places.proofs.Listing.LeastSetListed.{Among}
+use Rattle.js_places.proofs.Indexing.FirstFound.{get_first}
 use Rattle.js_bundle.proofs.Finding.RankOfName.{some_first, some_is}
 
 -- ---- the keywords that hold schemas are told apart by which keyword of the standard they are

@@ -6,9 +6,9 @@ use Rattle.std.proofs.lemmas.List.FromFn.{map-range_with_len_more}
 use Rattle.std.specs.List.{range_with_len}
 use Rattle.std.proofs.lemmas.Option.{slice_get-map, slice_get-get_or}
 use Rattle.js_bundle.specs.declared.check.kept_site.KeptSite as rust
-use Rattle.js_bundle.specs.Document.{Documents}
-use Rattle.js_bundle.specs.Resource.{Site, sites}
-use Rattle.js_bundle.specs.Schemas.{is_place, place_at}
+use Rattle.js_places.specs.Document.{Documents}
+use Rattle.js_places.specs.Resource.{Site, sites}
+use Rattle.js_places.specs.PlaceNumber.{is_place, place_at}
 use Rattle.js_bundle.specs.code.KeptSite.{kept_site, kept_site_of}
 
 -- ---- lists with an entry for each place

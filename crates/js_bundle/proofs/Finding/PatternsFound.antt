@@ -7,8 +7,8 @@ use Rattle.js_doc.proofs.Named.{is_text-sound}
 use Rattle.js_bundle.specs.declared.check.assertions_and_patterns.BuiltPattern.{BuiltPattern}
 use Rattle.js_bundle.specs.AssertionsAndPatterns.{pattern_at, patterns_at, patterns_of}
 use Rattle.js_bundle.specs.code.Patterns.{own, AreOwn}
-use Rattle.js_bundle.specs.Keyword.{Text}
-use Rattle.js_bundle.specs.Resource.{Site}
+use Rattle.js_places.specs.Keyword.{Text}
+use Rattle.js_places.specs.Resource.{Site}
 
 -- ---- those of a place
 

@@ -3,12 +3,13 @@ use Rattle.std.specs.Prelude.{ℕ, List, [], Bool, ◌&&◌, ◌∷◌, not, byt
 use Rattle.js_doc.specs.Pointer.{Tokens}
 use Rattle.js_doc.specs.Value.{Value, null}
 use Rattle.js_bundle.specs.declared.check.kept_site.KeptSite as rust
-use Rattle.js_bundle.specs.declared.scan.scope.Scope.{Scope}
-use Rattle.js_bundle.specs.Keyword.{Text}
-use Rattle.js_bundle.specs.Location.{location}
-use Rattle.js_bundle.specs.Names.{same_tokens}
-use Rattle.js_bundle.specs.Resource.{Site}
-use Rattle.js_bundle.specs.Url.{printed}
+use Rattle.js_places.specs.declared.scan.scope.Scope.{Scope}
+use Rattle.js_places.specs.code.Index.{Standing}
+use Rattle.js_places.specs.Keyword.{Text}
+use Rattle.js_places.specs.Location.{location}
+use Rattle.js_places.specs.Names.{same_tokens}
+use Rattle.js_places.specs.Resource.{Site}
+use Rattle.js_places.specs.Url.{printed}
 
 pub record KeptSite : Type 0 where
   pub document : ℕ
@@ -44,3 +45,7 @@ base_made place =
 abbrev pub resource_listed : ℕ → Option Text → List (Text × ℕ)
 resource_listed n None = []
 resource_listed n (Some uri) = (uri, n) ∷ []
+
+-- where it stands
+abbrev pub kept_standing : KeptSite → Standing
+kept_standing kept_site = record { document = kept_site.document; pointer = kept_site.pointer }

@@ -1,11 +1,10 @@
 //! What is kept of a place once its document is checked.
 ghost use Rattle.std.specs.Prelude.{◌≡◌, map, IfOk};
 ghost use Rattle.js_bundle.specs.code.KeptSite.{kept_site, kept_site_of};
-ghost use Rattle.js_bundle.specs.code.Scan.{site_of};
+ghost use Rattle.js_places.specs.code.Scan.{site_of};
 
-use crate::scan::scope::Scope;
-use crate::scan::site::Site;
 use js_doc::{Memory, Pointer};
+use js_places::{Scope, Site};
 use std::alloc::Global;
 use std::sync::Arc;
 

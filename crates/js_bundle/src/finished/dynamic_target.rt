@@ -2,18 +2,18 @@
 ghost use Rattle.std.specs.Prelude.{◌≡◌, true, codes, nat_eq, slice_get, option_map, option_and_then};
 ghost use Rattle.indexmap.specs.IndexMap.{get};
 ghost use Rattle.js_bundle.specs.Finding.{by_scope};
-ghost use Rattle.js_bundle.specs.code.Index.{number_of_key};
-ghost use Rattle.js_bundle.specs.Resource.{sites};
-ghost use Rattle.js_bundle.specs.ResourceNumber.{dynamic_target_in, roots, roots_at};
-ghost use Rattle.js_bundle.specs.Schemas.{is_place, has_keyword, place_at, path_at, StandsFor, Finds};
-ghost use Rattle.js_bundle.specs.Target.{dynamic_anchor, dynamic_target, outermost};
+ghost use Rattle.js_places.specs.code.Index.{number_of_key};
+ghost use Rattle.js_places.specs.Resource.{sites};
+ghost use Rattle.js_places.specs.ResourceNumber.{dynamic_target_in, roots, roots_at};
+ghost use Rattle.js_places.specs.PlaceNumber.{is_place, place_at, path_at};
+ghost use Rattle.js_bundle.specs.Schemas.{has_keyword, StandsFor, Finds};
+ghost use Rattle.js_places.specs.Target.{dynamic_anchor, dynamic_target, outermost};
 
 use crate::check::references::DynamicReference;
-use crate::index::numbering::Numbering;
-use crate::keyword::text_argument;
 use crate::place::Place;
 use crate::schemas::Schemas;
 use indexmap::IndexMap;
+use js_places::{Numbering, text_argument};
 
 impl Schemas {
     /// The place that the `$dynamicRef` of the place names in a dynamic scope (JSON Schema Core, section 8.2.3.2):
@@ -33,7 +33,7 @@ impl Schemas {
 
     /// The same in a dynamic scope given by the numbers of its resources, from the entry's to the place's: the first of
     /// these that has the name decides. A path and the numbers of its resources, repeated neighbours left out, lead to
-    /// the same place (`laws::numbers_tell_the_dynamic_scope`). It takes no memory.
+    /// the same place (`numbers_tell_the_dynamic_scope`, a law of `js_places`). It takes no memory.
     pub fn dynamic_target_in(&self, place: Place, resources: &[usize]) -> Place
         requires { has_keyword (codes "$dynamicRef") self.now place ≡ true }
         ensures { StandsFor self.now result (option_and_then

@@ -2,17 +2,19 @@
 ghost use Rattle.std.specs.Prelude.{◌≡◌, Some, true, codes, find, bytes_eq, option_map, option_and_then};
 ghost use Rattle.js_assert.specs.Keyword.{name_of};
 ghost use Rattle.js_bundle.specs.AssertionsAndPatterns.{assertions_at, patterns_at};
-ghost use Rattle.js_bundle.specs.Schemas.{is_place, has_keyword, place_at, assertion, pattern};
-ghost use Rattle.js_bundle.specs.Seen.{AreRead};
+ghost use Rattle.js_places.specs.KeywordName.{keyword_names};
+ghost use Rattle.js_places.specs.PlaceNumber.{is_place, place_at};
+ghost use Rattle.js_bundle.specs.Schemas.{has_keyword, assertion, pattern};
+ghost use Rattle.js_places.specs.Seen.{AreRead};
 ghost use Rattle.js_bundle.specs.code.Patterns.{AreOwn};
 
 use crate::check::assertions_and_patterns::BuiltPattern;
 use crate::finished::dynamic_target::reference_under;
 use crate::finished::target::target_under;
-use crate::index::parts_by_place::part_of_place;
 use crate::place::Place;
 use crate::schemas::Schemas;
 use js_assert::{Assertion, Pattern};
+use js_places::{KeywordName, part_of_place};
 
 impl Schemas {
     /// The assertion that the keyword is at the place. None where the place hasn't the keyword, or it is no assertion
@@ -48,6 +50,16 @@ impl Schemas {
             built.assertion_ends.as_slice(),
             place.number,
         )
+    }
+
+    /// Which keyword of the standard each of the place's keywords is, in the order of the schema's members: by name
+    /// ascending. A schema that is `true` or `false` has none.
+    pub fn keyword_names(&self, place: Place) -> &[KeywordName]
+        requires { is_place self.now place ≡ true }
+        ensures { option_map keyword_names (place_at self.now place) ≡ Some result.now }
+    {
+        let table = &self.kept.keywords;
+        part_of_place(table.names.as_slice(), table.ends.as_slice(), place.number)
     }
 
     fn patterns_of_place(&self, place: Place) -> &[BuiltPattern]

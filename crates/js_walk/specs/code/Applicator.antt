@@ -2,7 +2,7 @@
 use Rattle.std.specs.Prelude.{ℕ, Bool, true, List, drop, filter}
 use Rattle.std.specs.List.{list_any}
 use Rattle.js_doc.specs.Value.{Named}
-use Rattle.js_bundle.specs.declared.keyword_name.KeywordName.{KeywordName}
+use Rattle.js_places.specs.declared.keyword_name.KeywordName.{KeywordName}
 use Rattle.js_walk.specs.Walk.Visited.{may_apply, is_visited}
 use Rattle.js_walk.specs.code.Standard.{kind_by}
 

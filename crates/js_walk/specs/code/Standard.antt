@@ -7,8 +7,8 @@ use Rattle.js_doc.specs.Fragment.{fragment_token}
 use Rattle.js_doc.specs.Pointer.{escape}
 use Rattle.js_doc.specs.Value.{Named}
 use Rattle.js_bundle.specs.KeywordName.{keyword_name}
-use Rattle.js_bundle.specs.declared.keyword_name.KeywordName.{KeywordName}
-use Rattle.js_bundle.specs.declared.keyword_name.KeywordName.TheVariants as name
+use Rattle.js_places.specs.declared.keyword_name.KeywordName.{KeywordName}
+use Rattle.js_places.specs.declared.keyword_name.KeywordName.TheVariants as name
 use Rattle.js_walk.specs.declared.keywords.kind.Kind.{Kind}
 use Rattle.js_walk.specs.declared.keywords.kind.Kind.TheVariants as kind
 use Rattle.js_walk.specs.declared.keywords.turn.Turn.{Turn}

@@ -1,6 +1,6 @@
 //! The members of a schema, one after another, each as a keyword with its turn (see `turn`).
 ghost use Rattle.std.specs.Prelude.{◌≡◌, ◌∷◌, [], List, MatchOption, map};
-ghost use Rattle.js_bundle.specs.declared.keyword_name.KeywordName.{KeywordName as Which};
+ghost use Rattle.js_places.specs.declared.keyword_name.KeywordName.{KeywordName as Which};
 ghost use Rattle.js_doc.specs.Seen.{pair_of};
 ghost use Rattle.js_walk.specs.code.Standard.{keyword_names_of};
 

@@ -6,15 +6,15 @@ use denote.Param.Send.{IsSend, IsSync, sendable, view_send, view_sync}
 use denote.Param.SendFields.{declared_send, declared_sync}
 use Rattle.std.proofs.Crossing.{Vec-send, Vec-sync}
 use Rattle.js_assert.specs.contracts.assertion.Assertion as Assertion
-use Rattle.js_bundle.specs.contracts.document.Document as Document
+use Rattle.js_places.specs.contracts.document.Document as Document
 use Rattle.js_bundle.specs.contracts.check.kept_site.KeptSite as KeptSite
 use Rattle.js_doc.specs.contracts.string.Text as Text
-use Rattle.js_bundle.specs.contracts.index.keyword_table.KeywordTable as KeywordTable
+use Rattle.js_places.specs.contracts.index.keyword_table.KeywordTable as KeywordTable
 use Rattle.js_bundle.specs.contracts.check.references.References as References
-use Rattle.js_bundle.specs.contracts.index.kept_location.KeptLocation as KeptLocation
-use Rattle.js_bundle.specs.contracts.index.Index as Index
-use Rattle.js_bundle.specs.contracts.index.resource_table.Resources as Resources
-use Rattle.js_bundle.specs.contracts.index.edges.Edges as Edges
+use Rattle.js_places.specs.contracts.index.kept_location.KeptLocation as KeptLocation
+use Rattle.js_places.specs.contracts.index.Index as Index
+use Rattle.js_places.specs.contracts.index.resource_table.Resources as Resources
+use Rattle.js_places.specs.contracts.index.edges.Edges as Edges
 use Rattle.js_bundle.specs.contracts.check.Checked as Checked
 use Rattle.js_bundle.specs.contracts.check.assertions_and_patterns.Built as Built
 use Rattle.js_bundle.specs.contracts.check.assertions_and_patterns.BuiltPattern as BuiltPattern

@@ -1,4 +1,4 @@
-use Rattle.js_bundle.proofs.Indexing.ResourceTableRead.{anchored_by}
+use Rattle.js_bundle.proofs.Finding.ResourceTableRead.{anchored_by}
 use Rattle.js_bundle.proofs.schemas.Schemas.dynamic_anchor.Goals as goal
 
 pub returns : goal.returns

@@ -1,7 +1,7 @@
 use Rattle.std.proofs.Common.{map, nat_eq}
 use Rattle.indexmap.specs.IndexMap.{get}
-use Rattle.js_bundle.specs.Schemas.{path_at}
-use Rattle.js_bundle.specs.Seen.{document_of}
+use Rattle.js_places.specs.PlaceNumber.{path_at}
+use Rattle.js_places.specs.Seen.{document_of}
 use Rattle.js_bundle.proofs.Finding.DynamicTargets.{reference_is, target_place, led, reference_missing}
 use Rattle.js_bundle.proofs.schemas.Schemas.dynamic_target.Goals as goal
 

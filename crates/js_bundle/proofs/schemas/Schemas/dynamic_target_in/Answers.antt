@@ -1,8 +1,8 @@
 use Rattle.std.proofs.Common.{map, nat_eq}
 use Rattle.indexmap.specs.IndexMap.{get}
-use Rattle.js_bundle.specs.Resource.{sites}
-use Rattle.js_bundle.specs.ResourceNumber.{roots_at}
-use Rattle.js_bundle.specs.Seen.{document_of}
+use Rattle.js_places.specs.Resource.{sites}
+use Rattle.js_places.specs.ResourceNumber.{roots_at}
+use Rattle.js_places.specs.Seen.{document_of}
 use Rattle.js_bundle.proofs.Finding.DynamicTargets.{reference_is, target_place, led, reference_missing}
 use Rattle.js_bundle.proofs.schemas.Schemas.dynamic_target_in.Goals as goal
 

@@ -1,6 +1,6 @@
 use Rattle.std.proofs.Common.{map, is_some, ap, ◌∙◌}
-use Rattle.js_bundle.specs.Finding.{under_number}
-use Rattle.js_bundle.specs.Seen.{document_of}
+use Rattle.js_places.specs.Finding.{under_number}
+use Rattle.js_places.specs.Seen.{document_of}
 use Rattle.js_bundle.proofs.Finding.KeptUnderNumber.{has_ref_kept}
 use Rattle.js_bundle.proofs.schemas.Schemas.has_ref.Goals as goal
 

@@ -1,7 +1,7 @@
 use Rattle.std.proofs.Common.{map, ap, ◌∙◌}
-use Rattle.js_bundle.specs.Seen.{document_of}
+use Rattle.js_places.specs.Seen.{document_of}
 use Rattle.js_bundle.specs.code.KeptSite.{kept_site_of}
-use Rattle.js_bundle.proofs.Indexing.KnownRoots.{known_root, no_known_root}
+use Rattle.js_bundle.proofs.Finding.KnownRoots.{known_root, no_known_root}
 use Rattle.js_bundle.proofs.schemas.Schemas.kept_root_named.Goals as goal
 
 pub returns-in-Some : goal.returns-in-Some

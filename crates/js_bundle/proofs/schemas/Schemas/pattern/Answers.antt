@@ -1,5 +1,5 @@
 use Rattle.std.proofs.Common.{Some, None}
-use Rattle.js_bundle.specs.Schemas.{place_at}
+use Rattle.js_places.specs.PlaceNumber.{place_at}
 use Rattle.js_bundle.proofs.Finding.PatternsFound.{own_at}
 use Rattle.js_bundle.proofs.Finding.KeptUnderNumber.{pattern_is}
 use Rattle.js_bundle.proofs.schemas.Schemas.pattern.Goals as goal

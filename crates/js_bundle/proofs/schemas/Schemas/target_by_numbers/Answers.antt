@@ -1,5 +1,5 @@
-use Rattle.js_bundle.specs.Resource.{sites}
-use Rattle.js_bundle.specs.ResourceNumber.{roots_at}
+use Rattle.js_places.specs.Resource.{sites}
+use Rattle.js_places.specs.ResourceNumber.{roots_at}
 use Rattle.js_bundle.proofs.Finding.DynamicTargets.{stays}
 use Rattle.js_bundle.proofs.schemas.Schemas.target_by_numbers.Goals as goal
 

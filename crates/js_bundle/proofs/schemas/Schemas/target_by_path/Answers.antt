@@ -1,4 +1,4 @@
-use Rattle.js_bundle.specs.Schemas.{path_at}
+use Rattle.js_places.specs.PlaceNumber.{path_at}
 use Rattle.js_bundle.proofs.Finding.DynamicTargets.{stays}
 use Rattle.js_bundle.proofs.schemas.Schemas.target_by_path.Goals as goal
 

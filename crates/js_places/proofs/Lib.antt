@@ -1,0 +1,5 @@
+pub mod MemberLoops
+pub mod NameTables
+pub mod Standing
+pub mod Listing
+pub mod Indexing

@@ -1,0 +1,16 @@
+pub mod Document
+pub mod Keyword
+pub mod Place
+pub mod PlaceLaws
+pub mod Url
+pub mod Resource
+pub mod KeywordName
+pub mod Location
+pub mod Names
+pub mod Target
+pub mod Seen
+pub mod Finding
+pub mod PlaceNumber
+pub mod ResourceNumber
+pub mod ResourceTable
+pub mod code

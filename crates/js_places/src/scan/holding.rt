@@ -1,0 +1,40 @@
+//! How the arguments of keywords hold schemas.
+ghost use Rattle.std.specs.Prelude.{◌≡◌};
+ghost use Rattle.js_places.specs.Place.{holding};
+
+/// How a keyword's argument holds schemas.
+#[derive(Clone, Copy, Drop)]
+pub enum Holding {
+    /// It is a schema.
+    One,
+    /// Its items are schemas.
+    Listed,
+    /// Its members' values are schemas.
+    Named,
+    /// It holds none.
+    Nothing,
+}
+
+/// How the argument of the keyword with this name holds them.
+#[tactic(auto, unfolding(crate::specs::Place::holding))]
+pub fn holding_of(keyword: &str) -> Holding
+    ensures { result ≡ holding keyword.now }
+{
+    match keyword {
+        "not"
+        | "if"
+        | "then"
+        | "else"
+        | "items"
+        | "contains"
+        | "additionalProperties"
+        | "propertyNames"
+        | "unevaluatedItems"
+        | "unevaluatedProperties" => Holding::One,
+        "allOf" | "anyOf" | "oneOf" | "prefixItems" => Holding::Listed,
+        "$defs" | "definitions" | "properties" | "patternProperties" | "dependentSchemas" => {
+            Holding::Named
+        }
+        _ => Holding::Nothing,
+    }
+}

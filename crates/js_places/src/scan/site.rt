@@ -1,0 +1,30 @@
+//! A place, as the scan finds it.
+ghost use Rattle.std.specs.Prelude.{◌≡◌};
+ghost use Rattle.js_doc.specs.Seen.{value_of};
+ghost use Rattle.js_places.specs.Resource.{identified, scope_or};
+ghost use Rattle.js_places.specs.code.Identity.{is_bare};
+
+use crate::scan::scope::Scope;
+use js_doc::{Doc, Pointer};
+use std::sync::Arc;
+
+/// A place, as the scan finds it.
+#[derive(Drop)]
+pub struct Site<'a> {
+    pub document: usize,
+    pub pointer: Arc<Pointer>,
+    /// The scope that the place is in.
+    pub above: Arc<Scope>,
+    /// Its own.
+    pub own: Arc<Scope>,
+    /// Whether its `$id` makes a base.
+    pub identifies: bool,
+    /// Whether its `$id` gives a URI without a fragment, or with an empty one.
+    pub bare: bool,
+    /// How many members stand before it in its object: a hint for finding it again. In a list it is 0.
+    pub rank: u32,
+    pub schema: &'a Doc,
+    pub ghost based: { own.value.base
+        ≡ (scope_or (identified above.value.base (value_of schema.now)) pointer.value above.value).base },
+    pub ghost told: { bare ≡ is_bare above.value.base (value_of schema.now) },
+}
