@@ -18,7 +18,7 @@ mod walking;
 
 pub use absolute::{absolute_keyword, absolute_schema};
 pub use instance::{Applied, Instance, array_in, names_ascend, object_in};
-pub use keywords::conditional::is_chosen;
+pub use keywords::conditional::applies_after_if;
 pub use keywords::keyword::{Keyword, KeywordAt, is_written_as_it_is};
 pub use keywords::keyword_cursor::Keywords;
 pub use keywords::kind::Kind;

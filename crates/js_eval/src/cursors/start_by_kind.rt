@@ -14,7 +14,7 @@ use crate::cursors::{start_items, start_members};
 use js_bundle::{Place, Schemas};
 use js_doc::{Doc, Memory};
 use js_walk::{
-    Instance, KeywordAt, Kind, Path, dynamic_target_at, held_below, is_chosen, target_at,
+    Instance, KeywordAt, Kind, Path, applies_after_if, dynamic_target_at, held_below, target_at,
 };
 use std::alloc::Global;
 
@@ -166,7 +166,7 @@ fn held_if<'a>(
         (by_keyword schemas.now at.now spec.Alone spec.Alone (instance_of value.entry) ∷ []) }
     ensures is { IsAsking schemas.now result }
 {
-    if is_chosen(condition, wanted) {
+    if applies_after_if(condition, wanted) {
         held(schemas, at, value)
     } else {
         Asking::One(None)

@@ -6,7 +6,7 @@ ghost use Rattle.js_walk.specs.code.Starting.{applied_if};
 
 /// Whether `then` (`wanted` is true) or `else` (it is false) applies its schema. `condition`: the verdict of the adjacent
 /// `if`, or None without an `if`.
-pub fn is_chosen(condition: Option<bool>, wanted: bool) -> bool
+pub fn applies_after_if(condition: Option<bool>, wanted: bool) -> bool
     ensures { (applications : List (Application Site))
         → applied_if wanted condition applications ≡ (if result then applications else []) }
 {
