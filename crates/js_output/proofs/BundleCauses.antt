@@ -18,9 +18,9 @@ use Rattle.js_bundle.specs.Candidate.{Candidate}
 use Rattle.js_bundle.specs.Candidate as candidate
 use Rattle.js_bundle.specs.Document.{Document}
 use Rattle.js_bundle.specs.Document as bundle
-use Rattle.js_bundle.specs.Refusals.{candidates, is_empty, IsRefusalOf}
+use Rattle.js_bundle.specs.Refusals.{candidates, IsRefusalOf}
 use Rattle.js_bundle.specs.Schemas.{IsEntryFault, IsBadEntry, IsReadEntry}
-use Rattle.js_bundle.specs.Url.{longest_uri, without_fragment, raw_fragment, parsed}
+use Rattle.js_bundle.specs.Url.{is_empty, longest_uri, without_fragment, raw_fragment, parsed}
 use Rattle.js_output.specs.Cause.{Causes, cause, MayGoOn, IsFirstFault, FailsBy, DecidedBy}
 use Rattle.js_output.specs.Documents.{DocumentTexts, documents_of, unfragmented, absolute_uri, document_under, taken, bundle_of, refused, text_causes, uri_causes, document_causes, adding_causes, cause_of, bundle_causes, fault_by}
 use Rattle.js_output.specs.Entry.{is_uri_read, entry_causes, entry_fault_of}

@@ -13,8 +13,8 @@ use Rattle.js_bundle.specs.Adding.{most_documents, refusal_of_read}
 use Rattle.js_bundle.specs.Candidate.{Candidate}
 use Rattle.js_bundle.specs.Document.{Document}
 use Rattle.js_bundle.specs.Document as bundle
-use Rattle.js_bundle.specs.Refusals.{candidates, is_empty}
-use Rattle.js_bundle.specs.Url.{longest_uri, without_fragment, raw_fragment, parsed}
+use Rattle.js_bundle.specs.Refusals.{candidates}
+use Rattle.js_bundle.specs.Url.{is_empty, longest_uri, without_fragment, raw_fragment, parsed}
 use Rattle.js_output.specs.Cause.{Cause, Causes, cause}
 use Rattle.js_output.specs.Reading.{reading}
 use Rattle.js_output.specs.declared.fault.Fault.{Fault}
