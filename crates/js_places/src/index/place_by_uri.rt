@@ -34,6 +34,7 @@ pub struct Root<'a> {
 }
 
 impl<'a> Root<'a> {
+    /// The root at this pointer of the document with this number.
     pub fn new(document: usize, pointer: &'a Pointer) -> Root<'a>
         ensures document { result.document ≡ document }
         ensures pointer { result.pointer.now ≡ pointer.now }

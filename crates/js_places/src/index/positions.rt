@@ -41,6 +41,7 @@ impl Drop for TextPrefixes {
 }
 
 impl TextPrefixes {
+    /// Empty ones, for the first place.
     pub fn new(alloc: Global) -> TextPrefixes {
         TextPrefixes {
             key: TextPrefix::new(alloc),
