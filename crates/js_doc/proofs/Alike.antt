@@ -13,14 +13,19 @@ same_text [] (y ∷ t) = refl
 same_text (x ∷ s) [] = refl
 same_text (x ∷ s) (y ∷ t) = ap (λ b. (x == y) && b) (same_text s t)
 
+-- lists that are compared part by part differ where their lengths do
+apart : {A : Type 0} (part : A → A → Bool) (all : List A → List A → Bool) → ((y : A) (b : List A) → all [] (y ∷ b) ≡ false) → ((x : A) (a : List A) → all (x ∷ a) [] ≡ false)
+    → ((x y : A) (a b : List A) → all (x ∷ a) (y ∷ b) ≡ part x y && all a b) → (a b : List A) → (length a ≡ length b → ⊥) → false ≡ all a b
+apart part all more fewer both [] [] h = absurd (h refl)
+apart part all more fewer both [] (y ∷ b) h = sym (more y b)
+apart part all more fewer both (x ∷ a) [] h = sym (fewer x a)
+apart part all more fewer both (x ∷ a) (y ∷ b) h = sym (both x y a b ∙ and_right (part x y) (all a b) (sym (apart part all more fewer both a b (λ e. h (ap suc e)))))
+
 abbrev pub SameItems : List Doc → List Doc → Bool
 SameItems a b = same_tree (to_items (items_seen a)) (to_items (items_seen b))
 
 pub items_apart : (a b : List Doc) → (length a ≡ length b → ⊥) → false ≡ SameItems a b
-items_apart [] [] h = absurd (h refl)
-items_apart [] (y ∷ b) h = refl
-items_apart (x ∷ a) [] h = refl
-items_apart (x ∷ a) (y ∷ b) h = sym (and_right (same (value_of x) (value_of y)) (SameItems a b) (sym (items_apart a b (λ e. h (ap suc e)))))
+items_apart = apart (λ x y. same (value_of x) (value_of y)) SameItems (λ y b. refl) (λ x a. refl) (λ x y a b. refl)
 
 items_head : (x y : Doc) (a b : List Doc) (r : Bool) → same (value_of x) (value_of y) ≡ r → SameItems (x ∷ a) (y ∷ b) ≡ r && SameItems a b
 items_head x y a b r e = ap (λ c. c && SameItems a b) e
@@ -41,12 +46,8 @@ abbrev pub SameEntries : List Entry → List Entry → Bool
 SameEntries a b = same_tree (to_members (members_seen a)) (to_members (members_seen b))
 
 pub entries_apart : (a b : List Entry) → (length a ≡ length b → ⊥) → false ≡ SameEntries a b
-entries_apart [] [] h = absurd (h refl)
-entries_apart [] (y ∷ b) h = refl
-entries_apart (x ∷ a) [] h = refl
-entries_apart (x ∷ a) (y ∷ b) h =
-    let head = same_tree (to_text (string_bytes x.0)) (to_text (string_bytes y.0)) && same (value_of x.1) (value_of y.1) in
-    sym (and_right head (SameEntries a b) (sym (entries_apart a b (λ e. h (ap suc e)))))
+entries_apart =
+    apart (λ x y. same_tree (to_text (string_bytes x.0)) (to_text (string_bytes y.0)) && same (value_of x.1) (value_of y.1)) SameEntries (λ y b. refl) (λ x a. refl) (λ x y a b. refl)
 
 entries_head : (x y : Entry) (a b : List Entry) (r s : Bool) → bytes_eq (string_bytes x.0) (string_bytes y.0) ≡ r → same (value_of x.1) (value_of y.1) ≡ s
     → SameEntries (x ∷ a) (y ∷ b) ≡ (r && s) && SameEntries a b

@@ -16,14 +16,12 @@ use Rattle.js_doc.specs.Equality.{same, same_tree, same-sound}
 -- the order of stored trees, node by node
 abbrev pub tree_order : Gv → Gv → Ordering
 tree_order gnil gnil = Equal
-tree_order gnil (gnum n) = Less
-tree_order gnil (gcons c d) = Less
-tree_order (gnum m) gnil = Greater
 tree_order (gnum m) (gnum n) = nat_cmp m n
-tree_order (gnum m) (gcons c d) = Less
-tree_order (gcons a b) gnil = Greater
-tree_order (gcons a b) (gnum n) = Greater
 tree_order (gcons a b) (gcons c d) = ordering_then (tree_order a c) (tree_order b d)
+tree_order gnil _ = Less
+tree_order _ gnil = Greater
+tree_order (gnum m) _ = Less
+tree_order _ (gnum n) = Greater
 
 -- the order of values: no two of them are stored alike
 abbrev pub order : Value → Value → Ordering
