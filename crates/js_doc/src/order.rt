@@ -49,37 +49,16 @@ impl PartialOrd for Doc {
 fn compare(a: &Doc, b: &Doc) -> Ordering
     ensures { result ≡ order (value_of a.now) (value_of b.now) }
 {
-    match a {
-        Doc::Null => if let Doc::Null = b {
-            Ordering::Equal
-        } else {
-            compare_kinds(a, b)
-        },
-        Doc::Truth(x) => if let Doc::Truth(y) = b {
-            x.cmp(y)
-        } else {
-            compare_kinds(a, b)
-        },
-        Doc::Whole(x) => if let Doc::Whole(y) = b {
-            compare_numbers(x.value(), y.value())
-        } else {
-            compare_kinds(a, b)
-        },
-        Doc::Text(x) => if let Doc::Text(y) = b {
-            compare_texts(x.as_str(), y.as_str())
-        } else {
-            compare_kinds(a, b)
-        },
-        Doc::List(x) => if let Doc::List(y) = b {
-            compare_items(x.items.as_slice(), y.items.as_slice())
-        } else {
-            compare_kinds(a, b)
-        },
-        Doc::Members(x) => if let Doc::Members(y) = b {
+    match (a, b) {
+        (Doc::Null, Doc::Null) => Ordering::Equal,
+        (Doc::Truth(x), Doc::Truth(y)) => x.cmp(y),
+        (Doc::Whole(x), Doc::Whole(y)) => compare_numbers(x.value(), y.value()),
+        (Doc::Text(x), Doc::Text(y)) => compare_texts(x.as_str(), y.as_str()),
+        (Doc::List(x), Doc::List(y)) => compare_items(x.items.as_slice(), y.items.as_slice()),
+        (Doc::Members(x), Doc::Members(y)) => {
             compare_entries(x.entries.as_slice(), y.entries.as_slice())
-        } else {
-            compare_kinds(a, b)
-        },
+        }
+        _ => compare_kinds(a, b),
     }
 }
 
