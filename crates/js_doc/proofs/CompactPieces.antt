@@ -19,9 +19,6 @@ pub entry_left : (es : List Entry) (i : ℕ) (e : Entry) (later : Bool) (k : Lis
     → compact_members later (members_seen (drop i es)) ≡ comma_if later ++ (quoted k ++ (58 ∷ [] ++ (compact (value_of e.1) ++ compact_members true (members_seen (drop (i + 1) es)))))
 entry_left es i e later k h is f = rw (drop_more es i e h, is, f)
 
-pub entry_end : (es : List Entry) (i : ℕ) (later : Bool) → length es ≤ i → compact_members later (members_seen (drop i es)) ≡ 125 ∷ []
-entry_end es i later h = ap (λ xs. compact_members later (members_seen xs)) (drop_all i es h)
-
 -- the comma before the member at i has gone out, and its name comes next
 pub name_next : (a b c : Progress) (all : List ℕ) (es : List Entry) (i : ℕ) (e : Entry) (later : Bool) (k : List ℕ) → Wrote a b (compact_members later (members_seen (drop i es))) all
     → i < length es → get_or es i e ≡ e → k ≡ string_bytes e.0 → Goes b c (comma_if later)

@@ -34,12 +34,12 @@ flat gnil k = 0 ∷ k
 flat (gnum n) k = 1 ∷ n ∷ k
 flat (gcons a b) k = 2 ∷ flat a (flat b k)
 
-then_then : (r s t : Ordering) → ordering_then r (ordering_then s t) ≡ ordering_then (ordering_then r s) t
+pub then_then : (r s t : Ordering) → ordering_then r (ordering_then s t) ≡ ordering_then (ordering_then r s) t
 then_then Less s t = refl
 then_then Equal s t = refl
 then_then Greater s t = refl
 
-then_equal : (r : Ordering) → ordering_then r Equal ≡ r
+pub then_equal : (r : Ordering) → ordering_then r Equal ≡ r
 then_equal Less = refl
 then_equal Equal = refl
 then_equal Greater = refl
