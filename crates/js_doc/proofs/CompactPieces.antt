@@ -25,3 +25,10 @@ pub name_next : (a b c : Progress) (all : List ℕ) (es : List Entry) (i : ℕ) 
     → Wrote a c (quoted k ++ (58 ∷ [] ++ (compact (value_of e.1) ++ compact_members true (members_seen (drop (i + 1) es))))) all
 name_next a b c all es i e later k w h is f comma =
     goes_on a b c (comma_if later) _ all (same_left a b _ _ all w (entry_left es i e later k h is f)) comma
+
+-- the name and the colon have gone out too, and the value comes next
+pub value_next : (a b c d f : Progress) (all : List ℕ) (es : List Entry) (i : ℕ) (e : Entry) (later : Bool) (k : List ℕ) → Wrote a b (compact_members later (members_seen (drop i es))) all
+    → i < length es → get_or es i e ≡ e → k ≡ string_bytes e.0 → Goes b c (comma_if later) → Goes c d (quoted k) → Goes d f (58 ∷ [])
+    → Wrote a f (compact (value_of e.1) ++ compact_members true (members_seen (drop (i + 1) es))) all
+value_next a b c d f all es i e later k w h is same comma name colon =
+    goes_on a d f (58 ∷ []) _ all (goes_on a c d (quoted k) _ all (name_next a b c all es i e later k w h is same comma) name) colon
