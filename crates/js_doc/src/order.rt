@@ -106,32 +106,22 @@ fn compare_texts(x: &str, y: &str) -> Ordering
 fn compare_items(a: &[Doc], b: &[Doc]) -> Ordering
     ensures { result ≡ tree_order (to_items (items_seen a.now)) (to_items (items_seen b.now)) }
 {
-    let mut others = b.iter();
-    for x in a {
-        let Some(y) = others.next() else {
-            return Ordering::Greater;
-        };
-        let order = compare(x, y);
+    for i in 0..a.len().min(b.len()) {
+        let order = compare(&a[i], &b[i]);
         if order.is_ne() {
             return order;
         }
     }
-    if others.next().is_some() {
-        Ordering::Less
-    } else {
-        Ordering::Equal
-    }
+    a.len().cmp(&b.len())
 }
 
 #[cycle(compare)]
 fn compare_entries(a: &[(String, Doc)], b: &[(String, Doc)]) -> Ordering
     ensures { result ≡ tree_order (to_members (members_seen a.now)) (to_members (members_seen b.now)) }
 {
-    let mut others = b.iter();
-    for (name, x) in a {
-        let Some((other_name, y)) = others.next() else {
-            return Ordering::Greater;
-        };
+    for i in 0..a.len().min(b.len()) {
+        let (name, x) = &a[i];
+        let (other_name, y) = &b[i];
         let by_name = compare_texts(name.as_str(), other_name.as_str());
         if by_name.is_ne() {
             return by_name;
@@ -141,9 +131,5 @@ fn compare_entries(a: &[(String, Doc)], b: &[(String, Doc)]) -> Ordering
             return by_value;
         }
     }
-    if others.next().is_some() {
-        Ordering::Less
-    } else {
-        Ordering::Equal
-    }
+    a.len().cmp(&b.len())
 }
