@@ -10,3 +10,4 @@ pub mod Listed
 pub mod Halves
 pub mod Counting
 pub mod Telling
+pub mod Crossing

@@ -1,8 +1,8 @@
 -- The text that a known test tells.
-use Rattle.std.proofs.Common.{◌≡◌, ℕ, Result, String, Global, string_bytes, sym, subst}
+use Rattle.std.proofs.Common.{◌≡◌, ℕ, ℤ, List, Result, String, Global, string_bytes, sym, ap, ◌∙◌, subst}
 use Rattle.std.specs.Result.{IfOk}
 use Rattle.js_doc.specs.Value.{Value}
-use Rattle.js_assert.specs.ErrorText.{text_by}
+use Rattle.js_assert.specs.ErrorText.{counted, text_by}
 use Rattle.js_assert.specs.Seen.{keyword_tested, argument_tested}
 use Rattle.js_assert.specs.declared.assertion.Test.{Test}
 
@@ -11,3 +11,8 @@ Tells r v m t = IfOk r (λ s. string_bytes s ≡ text_by (argument_tested t) v m
 
 pub told : {E : Type 0} (r : Result (String Global) E) (v : Value) (m : ℕ) (t u : Test) → t ≡ u → Tells r v m u → Tells r v m t
 told r v m t u e h = subst (Tells r v m) (sym e) h
+
+-- the same of words between two numbers, the first of which was found
+pub told_count : {E : Type 0} (r : Result (String Global) E) (v : Value) (m : ℕ) (t u : Test) (n found : ℕ) (words : List ℕ) (limit : ℤ) → t ≡ u → text_by (argument_tested u) v m (keyword_tested u) ≡ counted n words limit → found ≡ n
+    → IfOk r (λ s. string_bytes s ≡ counted found words limit) → Tells r v m t
+told_count r v m t u n found words limit is text count h = told r v m t u is (subst (λ bs. IfOk r (λ s. string_bytes s ≡ bs)) (ap (λ k. counted k words limit) count ∙ sym text) h)

@@ -18,17 +18,19 @@ abbrev pub is_boolean : Value → Bool
 is_boolean (truth b) = true
 is_boolean _ = false
 
+-- a number that passes the test
+abbrev pub is_number_with : (ℤ → Bool) → Value → Bool
+is_number_with test (whole z) = test z
+is_number_with test _ = false
+
 abbrev pub is_number : Value → Bool
-is_number (whole z) = true
-is_number _ = false
+is_number v = is_number_with (λ _. true) v
 
 abbrev pub is_number_above : ℤ → Value → Bool
-is_number_above least (whole z) = int_lt least z
-is_number_above least _ = false
+is_number_above least v = is_number_with (int_lt least) v
 
 abbrev pub is_count : Value → Bool
-is_count (whole z) = int_le (pos 0) z
-is_count _ = false
+is_count v = is_number_with (int_le (pos 0)) v
 
 abbrev pub is_string : Value → Bool
 is_string (text s) = true

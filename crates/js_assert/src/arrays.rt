@@ -3,7 +3,8 @@ ghost use Rattle.std.specs.Prelude.{◌≡◌, IfOk, false, pos, length};
 ghost use Rattle.js_doc.specs.Seen.{value_of};
 ghost use Rattle.js_doc.specs.Value.{truth, whole};
 ghost use Rattle.js_doc.specs.Parts.{items_of};
-ghost use Rattle.js_assert.specs.Assertion.{says_by};
+ghost use Rattle.js_assert.specs.Argument.{on_array};
+ghost use Rattle.js_assert.specs.Assertion.{implies, says_by};
 
 use crate::keyword::Keyword;
 use crate::unique::least_equal_pair;
@@ -43,18 +44,22 @@ pub(crate) fn max_contains(limit: u64, beside_contains: bool, value: &Doc, match
     ensures { result
         ≡ says_by (whole (pos limit)) beside_contains (value_of value.now) matching Keyword.MaxContains }
 {
-    match value {
-        Doc::List(_) => !beside_contains || matching <= limit,
-        _ => true,
-    }
+    has_right_count(value, beside_contains, matching <= limit)
 }
 
 pub(crate) fn min_contains(limit: u64, beside_contains: bool, value: &Doc, matching: u64) -> bool
     ensures { result
         ≡ says_by (whole (pos limit)) beside_contains (value_of value.now) matching Keyword.MinContains }
 {
+    has_right_count(value, beside_contains, limit <= matching)
+}
+
+// Without `contains` beside it, the count isn't looked at.
+fn has_right_count(value: &Doc, beside_contains: bool, is_right: bool) -> bool
+    ensures { result ≡ on_array (value_of value.now) (λ _. implies beside_contains is_right) }
+{
     match value {
-        Doc::List(_) => !beside_contains || limit <= matching,
+        Doc::List(_) => !beside_contains || is_right,
         _ => true,
     }
 }

@@ -1,6 +1,6 @@
 -- Equality of documents, a part further on.
-use Rattle.std.proofs.Common.{◌≡◌, ℕ, ◌==◌, suc, ◌+◌, ◌<◌, ◌≤◌, Bool, true, false, ◌&&◌, List, [], ◌∷◌, length, get_or, drop, String, Global, string_bytes, bytes_eq, refl, sym, ap, ap₂, ◌∙◌}
-use Rattle.std.proofs.lemmas.List.{drop_more, drop_all}
+use Rattle.std.proofs.Common.{◌≡◌, ℕ, ◌==◌, suc, ◌+◌, ◌<◌, Bool, false, ◌&&◌, List, [], ◌∷◌, length, get_or, drop, String, Global, string_bytes, bytes_eq, refl, sym, ap, ap₂, ◌∙◌}
+use Rattle.std.proofs.lemmas.List.{drop_more}
 use Rattle.std.proofs.lemmas.Bool.{and_right}
 use Rattle.js_doc.specs.Coding.{to_text, to_items, to_members}
 use Rattle.js_doc.specs.Equality.{same, same_tree}
@@ -13,26 +13,19 @@ same_text [] (y ∷ t) = refl
 same_text (x ∷ s) [] = refl
 same_text (x ∷ s) (y ∷ t) = ap (λ b. (x == y) && b) (same_text s t)
 
+-- lists that are compared part by part differ where their lengths do
+apart : {A : Type 0} (part : A → A → Bool) (all : List A → List A → Bool) → ((y : A) (b : List A) → all [] (y ∷ b) ≡ false) → ((x : A) (a : List A) → all (x ∷ a) [] ≡ false)
+    → ((x y : A) (a b : List A) → all (x ∷ a) (y ∷ b) ≡ part x y && all a b) → (a b : List A) → (length a ≡ length b → ⊥) → false ≡ all a b
+apart part all more fewer both [] [] h = absurd (h refl)
+apart part all more fewer both [] (y ∷ b) h = sym (more y b)
+apart part all more fewer both (x ∷ a) [] h = sym (fewer x a)
+apart part all more fewer both (x ∷ a) (y ∷ b) h = sym (both x y a b ∙ and_right (part x y) (all a b) (sym (apart part all more fewer both a b (λ e. h (ap suc e)))))
+
 abbrev pub SameItems : List Doc → List Doc → Bool
 SameItems a b = same_tree (to_items (items_seen a)) (to_items (items_seen b))
 
 pub items_apart : (a b : List Doc) → (length a ≡ length b → ⊥) → false ≡ SameItems a b
-items_apart [] [] h = absurd (h refl)
-items_apart [] (y ∷ b) h = refl
-items_apart (x ∷ a) [] h = refl
-items_apart (x ∷ a) (y ∷ b) h = sym (and_right (same (value_of x) (value_of y)) (SameItems a b) (sym (items_apart a b (λ e. h (ap suc e)))))
-
-items_head : (x y : Doc) (a b : List Doc) (r : Bool) → same (value_of x) (value_of y) ≡ r → SameItems (x ∷ a) (y ∷ b) ≡ r && SameItems a b
-items_head x y a b r e = ap (λ c. c && SameItems a b) e
-
--- the items at i decide, or those after them
-pub items_step : (a b : List Doc) (i : ℕ) (x y : Doc) (r : Bool) → i < length a → i < length b → get_or a i x ≡ x → get_or b i y ≡ y → same (value_of x) (value_of y) ≡ r
-    → SameItems (drop i a) (drop i b) ≡ r && SameItems (drop (i + 1) a) (drop (i + 1) b)
-items_step a b i x y r p q e f h =
-    ap₂ SameItems (drop_more a i x p ∙ ap (λ z. z ∷ drop (i + 1) a) e) (drop_more b i y q ∙ ap (λ z. z ∷ drop (i + 1) b) f) ∙ items_head x y (drop (i + 1) a) (drop (i + 1) b) r h
-
-pub items_end : (a b : List Doc) (i : ℕ) → length a ≤ i → length b ≤ i → SameItems (drop i a) (drop i b) ≡ true
-items_end a b i p q = ap₂ SameItems (drop_all i a p) (drop_all i b q)
+items_apart = apart (λ x y. same (value_of x) (value_of y)) SameItems (λ y b. refl) (λ x a. refl) (λ x y a b. refl)
 
 abbrev pub Entry : Type 0
 Entry = String Global × Doc
@@ -41,12 +34,8 @@ abbrev pub SameEntries : List Entry → List Entry → Bool
 SameEntries a b = same_tree (to_members (members_seen a)) (to_members (members_seen b))
 
 pub entries_apart : (a b : List Entry) → (length a ≡ length b → ⊥) → false ≡ SameEntries a b
-entries_apart [] [] h = absurd (h refl)
-entries_apart [] (y ∷ b) h = refl
-entries_apart (x ∷ a) [] h = refl
-entries_apart (x ∷ a) (y ∷ b) h =
-    let head = same_tree (to_text (string_bytes x.0)) (to_text (string_bytes y.0)) && same (value_of x.1) (value_of y.1) in
-    sym (and_right head (SameEntries a b) (sym (entries_apart a b (λ e. h (ap suc e)))))
+entries_apart =
+    apart (λ x y. same_tree (to_text (string_bytes x.0)) (to_text (string_bytes y.0)) && same (value_of x.1) (value_of y.1)) SameEntries (λ y b. refl) (λ x a. refl) (λ x y a b. refl)
 
 entries_head : (x y : Entry) (a b : List Entry) (r s : Bool) → bytes_eq (string_bytes x.0) (string_bytes y.0) ≡ r → same (value_of x.1) (value_of y.1) ≡ s
     → SameEntries (x ∷ a) (y ∷ b) ≡ (r && s) && SameEntries a b
@@ -58,6 +47,3 @@ pub entries_step : (a b : List Entry) (i : ℕ) (d e : Entry) (r s : Bool) → i
     → SameEntries (drop i a) (drop i b) ≡ (r && s) && SameEntries (drop (i + 1) a) (drop (i + 1) b)
 entries_step a b i d e r s p q f g =
     ap₂ SameEntries (drop_more a i d p) (drop_more b i e q) ∙ entries_head (get_or a i d) (get_or b i e) (drop (i + 1) a) (drop (i + 1) b) r s f g
-
-pub entries_end : (a b : List Entry) (i : ℕ) → length a ≤ i → length b ≤ i → SameEntries (drop i a) (drop i b) ≡ true
-entries_end a b i p q = ap₂ SameEntries (drop_all i a p) (drop_all i b q)

@@ -71,6 +71,10 @@ pub puts_err : {T E : Type 0} (a b c : Progress) (piece left all : List ℕ) (r 
 puts_err a b c piece left all (Ok x) h w part = absurd (cc)
 puts_err a b c piece left all (Err e) h w part = stops a b c piece left all w part
 
+-- the first piece stopped
+pub stops_first : {T E : Type 0} (a b : Progress) (piece left : List ℕ) (r : Result T E) → IsErr r → Stops a b piece → Puts a b (piece ++ left) r
+stops_first a b piece left r h part = puts_err a a b piece left (piece ++ left) r h (starts a (piece ++ left)) part
+
 pub puts_last : {T E : Type 0} (a b c : Progress) (piece all : List ℕ) (r : Result T E) → Wrote a b piece all → Puts b c piece r → Puts a c all r
 puts_last a b c piece all (Ok x) w h = ends a b c piece all w h
 puts_last a b c piece all (Err e) w h = stops a b c piece [] all (same_left a b piece (piece ++ []) all w (sym (append-nil piece))) h

@@ -19,12 +19,16 @@ pub entry_left : (es : List Entry) (i : ℕ) (e : Entry) (later : Bool) (k : Lis
     → compact_members later (members_seen (drop i es)) ≡ comma_if later ++ (quoted k ++ (58 ∷ [] ++ (compact (value_of e.1) ++ compact_members true (members_seen (drop (i + 1) es)))))
 entry_left es i e later k h is f = rw (drop_more es i e h, is, f)
 
-pub entry_end : (es : List Entry) (i : ℕ) (later : Bool) → length es ≤ i → compact_members later (members_seen (drop i es)) ≡ 125 ∷ []
-entry_end es i later h = ap (λ xs. compact_members later (members_seen xs)) (drop_all i es h)
-
 -- the comma before the member at i has gone out, and its name comes next
 pub name_next : (a b c : Progress) (all : List ℕ) (es : List Entry) (i : ℕ) (e : Entry) (later : Bool) (k : List ℕ) → Wrote a b (compact_members later (members_seen (drop i es))) all
     → i < length es → get_or es i e ≡ e → k ≡ string_bytes e.0 → Goes b c (comma_if later)
     → Wrote a c (quoted k ++ (58 ∷ [] ++ (compact (value_of e.1) ++ compact_members true (members_seen (drop (i + 1) es))))) all
 name_next a b c all es i e later k w h is f comma =
     goes_on a b c (comma_if later) _ all (same_left a b _ _ all w (entry_left es i e later k h is f)) comma
+
+-- the name and the colon have gone out too, and the value comes next
+pub value_next : (a b c d f : Progress) (all : List ℕ) (es : List Entry) (i : ℕ) (e : Entry) (later : Bool) (k : List ℕ) → Wrote a b (compact_members later (members_seen (drop i es))) all
+    → i < length es → get_or es i e ≡ e → k ≡ string_bytes e.0 → Goes b c (comma_if later) → Goes c d (quoted k) → Goes d f (58 ∷ [])
+    → Wrote a f (compact (value_of e.1) ++ compact_members true (members_seen (drop (i + 1) es))) all
+value_next a b c d f all es i e later k w h is same comma name colon =
+    goes_on a d f (58 ∷ []) _ all (goes_on a c d (quoted k) _ all (name_next a b c all es i e later k w h is same comma) name) colon

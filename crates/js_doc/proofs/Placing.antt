@@ -127,10 +127,6 @@ goes_last k es i d s h e =
     let past : i < rank k (map pair_of es) = goes_above k es i d s (omega (arith, h)) e in
     goes_between k es n n (omega (arith, past, h)) (ranks_fit k es).1 (omega arith)
 
-pub goes_first : (k : List ℕ) (es : List Entry) → length es ≡ 0 → GoesTo k (map pair_of es) 0
-goes_first k [] h = (refl, refl)
-goes_first k (f ∷ es) h = absurd (omega (arith, h))
-
 pub goes_within : (k : List ℕ) (es : List Entry) (i : ℕ) → GoesTo k (map pair_of es) i → i ≤ length es
 goes_within k es i h = omega (arith, h.0, h.1, (ranks_fit k es).1)
 

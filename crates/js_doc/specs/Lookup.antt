@@ -1,7 +1,7 @@
 -- What stands at a pointer in a value (RFC 6901, section 4).
 use Rattle.std.specs.Prelude.{ℕ, ◌+◌, List, [], ◌∷◌, Bool, if◌then◌else◌, nat_eq, decimal, Option, Some, None, option_and_then}
 use Rattle.std.specs.Cmp.Lexicographic.{pointwise}
-use Rattle.js_doc.specs.Value.{Value, null, truth, whole, text, list, object, Items, no_items, item, Members, no_members, member}
+use Rattle.js_doc.specs.Value.{Value, list, object, Items, no_items, item, Members, no_members, member}
 use Rattle.js_doc.specs.Pointer.{Tokens}
 
 abbrev pub is_text : List ℕ → List ℕ → Bool
@@ -19,12 +19,9 @@ member_named token (member k v ms) = if is_text token k then Some v else member_
 
 -- the item or member that the token names
 abbrev pub part_named : List ℕ → Value → Option Value
-part_named token null = None
-part_named token (truth b) = None
-part_named token (whole z) = None
-part_named token (text s) = None
 part_named token (list vs) = item_named token 0 vs
 part_named token (object ms) = member_named token ms
+part_named token _ = None
 
 abbrev pub at : Tokens → Value → Option Value
 at [] v = Some v

@@ -4,7 +4,7 @@ use Rattle.std.specs.Ordering.{nat_cmp, match_ordering}
 use Rattle.std.specs.Cmp.Lexicographic.{slice_cmp}
 use Rattle.std.specs.declared.cmp.Ordering.{Ordering}
 use Rattle.std.specs.declared.cmp.Ordering.TheVariants.{Less}
-use Rattle.js_doc.specs.Value.{Value, null, truth, whole, text, list, object, Items, no_items, item, Members, no_members, member}
+use Rattle.js_doc.specs.Value.{Value, list, object, Items, no_items, item, Members, no_members, member}
 
 -- names are compared byte by byte
 abbrev pub name_cmp : List ℕ → List ℕ → Ordering
@@ -41,12 +41,9 @@ IsBelowFirst k (member l v ms) = name_cmp k l ≡ Less
 
 abbrev mutual
   pub NamesAscend : Value → Type 0
-  NamesAscend null = Unit {0}
-  NamesAscend (truth b) = Unit {0}
-  NamesAscend (whole z) = Unit {0}
-  NamesAscend (text s) = Unit {0}
   NamesAscend (list vs) = NamesAscendInItems vs
   NamesAscend (object ms) = NamesAscendInMembers ms
+  NamesAscend _ = Unit {0}
 
   pub NamesAscendInItems : Items → Type 0
   NamesAscendInItems no_items = Unit {0}

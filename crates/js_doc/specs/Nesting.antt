@@ -1,15 +1,12 @@
 -- How deep a value nests: a value that holds no other nests 0 deep.
 use Rattle.std.specs.Prelude.{ℕ, suc, max}
-use Rattle.js_doc.specs.Value.{Value, null, truth, whole, text, list, object, Items, no_items, item, Members, no_members, member, Values, Named, items, members}
+use Rattle.js_doc.specs.Value.{Value, list, object, Items, no_items, item, Members, no_members, member, Values, Named, items, members}
 
 abbrev mutual
   pub depth : Value → ℕ
-  depth null = 0
-  depth (truth b) = 0
-  depth (whole z) = 0
-  depth (text s) = 0
   depth (list vs) = suc (items_depth vs)
   depth (object ms) = suc (members_depth ms)
+  depth _ = 0
 
   pub items_depth : Items → ℕ
   items_depth no_items = 0

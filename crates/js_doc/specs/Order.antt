@@ -16,14 +16,12 @@ use Rattle.js_doc.specs.Equality.{same, same_tree, same-sound}
 -- the order of stored trees, node by node
 abbrev pub tree_order : Gv → Gv → Ordering
 tree_order gnil gnil = Equal
-tree_order gnil (gnum n) = Less
-tree_order gnil (gcons c d) = Less
-tree_order (gnum m) gnil = Greater
 tree_order (gnum m) (gnum n) = nat_cmp m n
-tree_order (gnum m) (gcons c d) = Less
-tree_order (gcons a b) gnil = Greater
-tree_order (gcons a b) (gnum n) = Greater
 tree_order (gcons a b) (gcons c d) = ordering_then (tree_order a c) (tree_order b d)
+tree_order gnil _ = Less
+tree_order _ gnil = Greater
+tree_order (gnum m) _ = Less
+tree_order _ (gnum n) = Greater
 
 -- the order of values: no two of them are stored alike
 abbrev pub order : Value → Value → Ordering
@@ -36,12 +34,12 @@ flat gnil k = 0 ∷ k
 flat (gnum n) k = 1 ∷ n ∷ k
 flat (gcons a b) k = 2 ∷ flat a (flat b k)
 
-then_then : (r s t : Ordering) → ordering_then r (ordering_then s t) ≡ ordering_then (ordering_then r s) t
+pub then_then : (r s t : Ordering) → ordering_then r (ordering_then s t) ≡ ordering_then (ordering_then r s) t
 then_then Less s t = refl
 then_then Equal s t = refl
 then_then Greater s t = refl
 
-then_equal : (r : Ordering) → ordering_then r Equal ≡ r
+pub then_equal : (r : Ordering) → ordering_then r Equal ≡ r
 then_equal Less = refl
 then_equal Equal = refl
 then_equal Greater = refl

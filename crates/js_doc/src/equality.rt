@@ -36,29 +36,16 @@ impl Eq for Doc {
 fn equal(a: &Doc, b: &Doc) -> bool
     ensures { result ≡ same (value_of a.now) (value_of b.now) }
 {
-    match a {
-        Doc::Null => matches!(b, Doc::Null),
-        Doc::Truth(x) => if let Doc::Truth(y) = b { x == y } else { false },
-        Doc::Whole(x) => if let Doc::Whole(y) = b {
-            x.value() == y.value()
-        } else {
-            false
-        },
-        Doc::Text(x) => if let Doc::Text(y) = b {
-            x.as_str() == y.as_str()
-        } else {
-            false
-        },
-        Doc::List(x) => if let Doc::List(y) = b {
-            equal_items(x.items.as_slice(), y.items.as_slice())
-        } else {
-            false
-        },
-        Doc::Members(x) => if let Doc::Members(y) = b {
+    match (a, b) {
+        (Doc::Null, Doc::Null) => true,
+        (Doc::Truth(x), Doc::Truth(y)) => x == y,
+        (Doc::Whole(x), Doc::Whole(y)) => x.value() == y.value(),
+        (Doc::Text(x), Doc::Text(y)) => x.as_str() == y.as_str(),
+        (Doc::List(x), Doc::List(y)) => equal_items(x.items.as_slice(), y.items.as_slice()),
+        (Doc::Members(x), Doc::Members(y)) => {
             equal_entries(x.entries.as_slice(), y.entries.as_slice())
-        } else {
-            false
-        },
+        }
+        _ => false,
     }
 }
 

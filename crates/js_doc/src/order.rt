@@ -49,37 +49,16 @@ impl PartialOrd for Doc {
 fn compare(a: &Doc, b: &Doc) -> Ordering
     ensures { result ≡ order (value_of a.now) (value_of b.now) }
 {
-    match a {
-        Doc::Null => if let Doc::Null = b {
-            Ordering::Equal
-        } else {
-            compare_kinds(a, b)
-        },
-        Doc::Truth(x) => if let Doc::Truth(y) = b {
-            x.cmp(y)
-        } else {
-            compare_kinds(a, b)
-        },
-        Doc::Whole(x) => if let Doc::Whole(y) = b {
-            compare_numbers(x.value(), y.value())
-        } else {
-            compare_kinds(a, b)
-        },
-        Doc::Text(x) => if let Doc::Text(y) = b {
-            compare_texts(x.as_str(), y.as_str())
-        } else {
-            compare_kinds(a, b)
-        },
-        Doc::List(x) => if let Doc::List(y) = b {
-            compare_items(x.items.as_slice(), y.items.as_slice())
-        } else {
-            compare_kinds(a, b)
-        },
-        Doc::Members(x) => if let Doc::Members(y) = b {
+    match (a, b) {
+        (Doc::Null, Doc::Null) => Ordering::Equal,
+        (Doc::Truth(x), Doc::Truth(y)) => x.cmp(y),
+        (Doc::Whole(x), Doc::Whole(y)) => compare_numbers(x.value(), y.value()),
+        (Doc::Text(x), Doc::Text(y)) => compare_texts(x.as_str(), y.as_str()),
+        (Doc::List(x), Doc::List(y)) => compare_items(x.items.as_slice(), y.items.as_slice()),
+        (Doc::Members(x), Doc::Members(y)) => {
             compare_entries(x.entries.as_slice(), y.entries.as_slice())
-        } else {
-            compare_kinds(a, b)
-        },
+        }
+        _ => compare_kinds(a, b),
     }
 }
 
@@ -127,32 +106,22 @@ fn compare_texts(x: &str, y: &str) -> Ordering
 fn compare_items(a: &[Doc], b: &[Doc]) -> Ordering
     ensures { result ≡ tree_order (to_items (items_seen a.now)) (to_items (items_seen b.now)) }
 {
-    let mut others = b.iter();
-    for x in a {
-        let Some(y) = others.next() else {
-            return Ordering::Greater;
-        };
-        let order = compare(x, y);
+    for i in 0..a.len().min(b.len()) {
+        let order = compare(&a[i], &b[i]);
         if order.is_ne() {
             return order;
         }
     }
-    if others.next().is_some() {
-        Ordering::Less
-    } else {
-        Ordering::Equal
-    }
+    a.len().cmp(&b.len())
 }
 
 #[cycle(compare)]
 fn compare_entries(a: &[(String, Doc)], b: &[(String, Doc)]) -> Ordering
     ensures { result ≡ tree_order (to_members (members_seen a.now)) (to_members (members_seen b.now)) }
 {
-    let mut others = b.iter();
-    for (name, x) in a {
-        let Some((other_name, y)) = others.next() else {
-            return Ordering::Greater;
-        };
+    for i in 0..a.len().min(b.len()) {
+        let (name, x) = &a[i];
+        let (other_name, y) = &b[i];
         let by_name = compare_texts(name.as_str(), other_name.as_str());
         if by_name.is_ne() {
             return by_name;
@@ -162,9 +131,5 @@ fn compare_entries(a: &[(String, Doc)], b: &[(String, Doc)]) -> Ordering
             return by_value;
         }
     }
-    if others.next().is_some() {
-        Ordering::Less
-    } else {
-        Ordering::Equal
-    }
+    a.len().cmp(&b.len())
 }

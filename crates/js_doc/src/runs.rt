@@ -24,23 +24,23 @@ pub(crate) fn run_end(bytes: &[u8], start: usize) -> usize
     }
     let mut end = start;
     while bytes.len() - end >= 16 {
-        let escapes = escapes_of_16(u8x16::from_slice(&bytes[end..]));
+        let escapes = escapes_of(u8x16::from_slice(&bytes[end..]));
         if escapes != 0 {
             return end + escapes.trailing_zeros() as usize;
         }
         end += 16;
     }
-    run_end_in_last_16(bytes)
+    run_end_in_last::<16>(bytes)
 }
 
-// The same from the last 16 bytes on. Those before them are known to stand as they are, and some of these too: looking
+// The same from the last N bytes on. Those before them are known to stand as they are, and some of these too: looking
 // at them again costs less than looking at the others one by one.
-fn run_end_in_last_16(bytes: &[u8]) -> usize
-    requires { 16 ≤ length bytes.now }
-    ensures { result ≡ (length bytes.now - 16) + prefix_len stands (drop (length bytes.now - 16) bytes.now) }
+fn run_end_in_last<const N: usize>(bytes: &[u8]) -> usize
+    requires { (N ≤ 64) × (N ≤ length bytes.now) }
+    ensures { result ≡ (length bytes.now - N) + prefix_len stands (drop (length bytes.now - N) bytes.now) }
 {
-    let last = bytes.len() - 16;
-    let escapes = escapes_of_16(u8x16::from_slice(&bytes[last..]));
+    let last = bytes.len() - N;
+    let escapes = escapes_of(Simd::<u8, N>::from_slice(&bytes[last..]));
     if escapes != 0 {
         return last + escapes.trailing_zeros() as usize;
     }
@@ -55,24 +55,11 @@ fn run_end_among_few(bytes: &[u8], start: usize) -> usize
     if bytes.len() - start < 8 {
         return run_end_by_bytes(bytes, start);
     }
-    let escapes = escapes_of_8(u8x8::from_slice(&bytes[start..]));
+    let escapes = escapes_of(u8x8::from_slice(&bytes[start..]));
     if escapes != 0 {
         return start + escapes.trailing_zeros() as usize;
     }
-    run_end_in_last_8(bytes)
-}
-
-// The same from the last 8 bytes on.
-fn run_end_in_last_8(bytes: &[u8]) -> usize
-    requires { 8 ≤ length bytes.now }
-    ensures { result ≡ (length bytes.now - 8) + prefix_len stands (drop (length bytes.now - 8) bytes.now) }
-{
-    let last = bytes.len() - 8;
-    let escapes = escapes_of_8(u8x8::from_slice(&bytes[last..]));
-    if escapes != 0 {
-        return last + escapes.trailing_zeros() as usize;
-    }
-    bytes.len()
+    run_end_in_last::<8>(bytes)
 }
 
 fn run_end_by_bytes(bytes: &[u8], start: usize) -> usize
@@ -93,20 +80,12 @@ fn is_escaped(byte: u8) -> bool
 }
 
 // A bit for each byte that has to be escaped, the first byte's lowest.
-fn escapes_of_16(bytes: u8x16) -> u64
-    ensures { result ≡ mask_l (map needs_escape bytes) }
+fn escapes_of<const N: usize>(bytes: Simd<u8, N>) -> u64
+    requires { N ≤ 64 }
+    ensures { result ≡ mask_l (map needs_escape bytes.entry) }
 {
-    let quotes = bytes.simd_eq(u8x16::splat(b'"'));
-    let backslashes = bytes.simd_eq(u8x16::splat(b'\\'));
-    let controls = bytes.simd_lt(u8x16::splat(0x20));
-    (quotes | backslashes | controls).to_bitmask()
-}
-
-fn escapes_of_8(bytes: u8x8) -> u64
-    ensures { result ≡ mask_l (map needs_escape bytes) }
-{
-    let quotes = bytes.simd_eq(u8x8::splat(b'"'));
-    let backslashes = bytes.simd_eq(u8x8::splat(b'\\'));
-    let controls = bytes.simd_lt(u8x8::splat(0x20));
+    let quotes = bytes.simd_eq(Simd::splat(b'"'));
+    let backslashes = bytes.simd_eq(Simd::splat(b'\\'));
+    let controls = bytes.simd_lt(Simd::splat(0x20));
     (quotes | backslashes | controls).to_bitmask()
 }

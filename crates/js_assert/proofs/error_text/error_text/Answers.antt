@@ -1,43 +1,30 @@
-use Rattle.std.proofs.Common.{◌≡◌, [], pos, codes, map, string_bytes, sym, subst, ap, ◌∙◌}
+use Rattle.std.proofs.Common.{◌≡◌, [], pos, codes, map, string_bytes, refl, sym, subst, ap, ◌∙◌}
 use Rattle.std.specs.Result.{IfOk}
 use Rattle.js_doc.specs.Seen.{value_of}
 use Rattle.js_doc.specs.Value.{text}
 use Rattle.js_doc.specs.Parts.{members_of}
 use Rattle.js_assert.specs.Dependences.{dependence_of}
-use Rattle.js_assert.specs.ErrorText.{counted, missing, without, names_needed, sorted_with}
+use Rattle.js_assert.specs.ErrorText.{missing, without, names_needed, sorted_with}
 use Rattle.js_assert.specs.declared.assertion.Test.TheVariants.{MaxLength, MinLength, MaxContains, MaxProperties, MinProperties, Required, DependentRequired}
 use Rattle.js_doc.proofs.PartLists.{member_list-members}
 use Rattle.js_assert.proofs.Listed.{strings_names}
-use Rattle.js_assert.proofs.Telling.{told}
+use Rattle.js_assert.proofs.Telling.{told, told_count}
 use Rattle.js_assert.proofs.error_text.error_text.Goals as goal
 
 pub returns-in-MaxLength : goal.returns-in-MaxLength
-returns-in-MaxLength c =
-    let r = c.counted.result in
-    let n = c.in-MaxLength.limit in
-    told r (value_of c.args.value.now) c.args.matching c.args.test.now (MaxLength n) c.in-MaxLength.is (subst (λ k. IfOk r (λ s. string_bytes s ≡ counted k (codes " characters, at most ") (pos n))) c.length.ensures c.counted.ensures)
+returns-in-MaxLength c = told_count c.counted.result (value_of c.args.value.now) c.args.matching c.args.test.now (MaxLength c.in-MaxLength.limit) _ _ (codes " characters, at most ") (pos c.in-MaxLength.limit) c.in-MaxLength.is refl c.length.ensures c.counted.ensures
 
 pub returns-in-MinLength : goal.returns-in-MinLength
-returns-in-MinLength c =
-    let r = c.counted-in-MinLength.result in
-    let n = c.in-MinLength.limit in
-    told r (value_of c.args.value.now) c.args.matching c.args.test.now (MinLength n) c.in-MinLength.is (subst (λ k. IfOk r (λ s. string_bytes s ≡ counted k (codes " characters, at least ") (pos n))) c.length-in-MinLength.ensures c.counted-in-MinLength.ensures)
+returns-in-MinLength c = told_count c.counted-in-MinLength.result (value_of c.args.value.now) c.args.matching c.args.test.now (MinLength c.in-MinLength.limit) _ _ (codes " characters, at least ") (pos c.in-MinLength.limit) c.in-MinLength.is refl c.length-in-MinLength.ensures c.counted-in-MinLength.ensures
 
 pub returns-in-MaxContains : goal.returns-in-MaxContains
-returns-in-MaxContains c =
-    told c.counted-in-MaxContains.result (value_of c.args.value.now) c.args.matching c.args.test.now (MaxContains c.in-MaxContains.limit) c.in-MaxContains.is c.counted-in-MaxContains.ensures
+returns-in-MaxContains c = told c.counted-in-MaxContains.result (value_of c.args.value.now) c.args.matching c.args.test.now (MaxContains c.in-MaxContains.limit) c.in-MaxContains.is c.counted-in-MaxContains.ensures
 
 pub returns-in-MaxProperties : goal.returns-in-MaxProperties
-returns-in-MaxProperties c =
-    let r = c.counted-in-MaxProperties.result in
-    let n = c.in-MaxProperties.limit in
-    told r (value_of c.args.value.now) c.args.matching c.args.test.now (MaxProperties n) c.in-MaxProperties.is (subst (λ k. IfOk r (λ s. string_bytes s ≡ counted k (codes " members, at most ") (pos n))) c.member_count.ensures c.counted-in-MaxProperties.ensures)
+returns-in-MaxProperties c = told_count c.counted-in-MaxProperties.result (value_of c.args.value.now) c.args.matching c.args.test.now (MaxProperties c.in-MaxProperties.limit) _ _ (codes " members, at most ") (pos c.in-MaxProperties.limit) c.in-MaxProperties.is refl c.member_count.ensures c.counted-in-MaxProperties.ensures
 
 pub returns-in-MinProperties : goal.returns-in-MinProperties
-returns-in-MinProperties c =
-    let r = c.counted-in-MinProperties.result in
-    let n = c.in-MinProperties.limit in
-    told r (value_of c.args.value.now) c.args.matching c.args.test.now (MinProperties n) c.in-MinProperties.is (subst (λ k. IfOk r (λ s. string_bytes s ≡ counted k (codes " members, at least ") (pos n))) c.member_count-in-MinProperties.ensures c.counted-in-MinProperties.ensures)
+returns-in-MinProperties c = told_count c.counted-in-MinProperties.result (value_of c.args.value.now) c.args.matching c.args.test.now (MinProperties c.in-MinProperties.limit) _ _ (codes " members, at least ") (pos c.in-MinProperties.limit) c.in-MinProperties.is refl c.member_count-in-MinProperties.ensures c.counted-in-MinProperties.ensures
 
 pub returns-in-Required : goal.returns-in-Required
 returns-in-Required c =

@@ -2,9 +2,7 @@
 use denote.Exit.{yes}
 use denote.Hole.{as_row}
 use denote.Struct.Field.{u64-field, bool-field}
-use denote.Param.Send.{IsSend, IsSync, sendable, view_send, view_sync}
-use denote.Param.SendFields.{declared_send, declared_sync, variants_send, variants_sync}
-use Rattle.std.proofs.Crossing.{Box-send, Box-sync, Vec-send, Vec-sync}
+use denote.Param.Send.{sendable, view_send, view_sync}
 use Rattle.js_assert.specs.contracts.instance_type.Types as Types
 use Rattle.js_assert.specs.contracts.choices.Choices as Choices
 use Rattle.js_doc.specs.contracts.doc.Doc as Doc
@@ -12,42 +10,40 @@ use Rattle.std.specs.contracts.num.NonZeroU64 as NonZeroU64
 use Rattle.js_doc.specs.contracts.whole.Whole as Whole
 use Rattle.js_doc.specs.contracts.string.Text as Text
 use Rattle.js_assert.specs.contracts.objects.Dependence as Dependence
+use Rattle.js_assert.specs.contracts.pattern.Pattern as Pattern
 use Rattle.js_assert.specs.contracts.assertion.Assertion.TheInside as Inside
 use Rattle.js_assert.specs.contracts.assertion.Test as Test
+use Rattle.js_assert.proofs.Crossing.{Law, sent, shared}
 use Rattle.js_assert.proofs.sharing_laws.assertions_cross.Goals as goal
+
+-- what an assertion is made of
+record Parts (L : Law) : Type 0 where
+  types : L.Holds Types.the_row
+  choices : L.Holds Choices.the_row
+  doc : L.Holds Doc.the_row
+  nonzero : L.Holds NonZeroU64.the_row
+  whole : L.Holds Whole.the_row
+  text : L.Holds Text.the_row
+  dependence : L.Holds Dependence.the_row
+  pattern : L.Holds Pattern.the_row
+  count : L.Holds (as_row u64-field)
+  truth : L.Holds (as_row bool-field)
+
+inside : (L : Law) → Parts L → L.Holds Inside.the_row
+inside L parts =
+    let limit = L.box Whole.the_row parts.whole in
+    L.fields Inside.the_type (
+      L.variants Test.enum
+          ((parts.types, tt), ((L.box Choices.the_row parts.choices, tt), ((L.box Doc.the_row parts.doc, tt), ((parts.nonzero, tt), ((limit, tt), ((limit, tt), ((limit, tt), ((limit, tt), ((parts.count, tt), ((parts.count, tt), ((parts.pattern, tt), ((parts.count, tt), ((parts.count, tt), ((parts.truth, tt), ((parts.count, tt), ((parts.count, tt), ((parts.count, tt), ((parts.count, tt), ((L.vec Text.the_row parts.text, tt), ((L.vec Dependence.the_row parts.dependence, tt), tt)))))))))))))))))))),
+      (parts.truth, tt),
+    )
 
 pub returns-clause-send : goal.returns-clause-send
 returns-clause-send c =
-    let types : IsSend Types.the_row = record { owned = c.crosses.ensures.send.owned; leaving = λ k. c.crosses.ensures.send.leaving yes } in
-    let choices : IsSend Choices.the_row = record { owned = c.crosses-2.ensures.send.owned; leaving = λ k. c.crosses-2.ensures.send.leaving yes } in
-    let doc : IsSend Doc.the_row = record { owned = c.crosses-3.ensures.send.owned; leaving = λ k. c.crosses-3.ensures.send.leaving yes } in
-    let nonzero : IsSend NonZeroU64.the_row = record { owned = c.crosses-4.ensures.send.owned; leaving = λ k. c.crosses-4.ensures.send.leaving yes } in
-    let whole : IsSend Whole.the_row = record { owned = c.crosses-5.ensures.send.owned; leaving = λ k. c.crosses-5.ensures.send.leaving yes } in
-    let text : IsSend Text.the_row = record { owned = c.crosses-6.ensures.send.owned; leaving = λ k. c.crosses-6.ensures.send.leaving yes } in
-    let dependence : IsSend Dependence.the_row = record { owned = c.crosses-7.ensures.send.owned; leaving = λ k. c.crosses-7.ensures.send.leaving yes } in
-    let count : IsSend (as_row u64-field) = search sendable in
-    let truth : IsSend (as_row bool-field) = search sendable in
-    let w = Box-send Whole.the_row whole in
-    view_send Inside.the_row _ _ _ _ (declared_send Inside.the_type (
-      variants_send Test.enum
-          ((types, tt), ((Box-send Choices.the_row choices, tt), ((Box-send Doc.the_row doc, tt), ((nonzero, tt), ((w, tt), ((w, tt), ((w, tt), ((w, tt), ((count, tt), ((count, tt), ((c.patterns_cross.ensures.send, tt), ((count, tt), ((count, tt), ((truth, tt), ((count, tt), ((count, tt), ((count, tt), ((count, tt), ((Vec-send Text.the_row text, tt), ((Vec-send Dependence.the_row dependence, tt), tt)))))))))))))))))))),
-      (truth, tt),
-    ))
+    let parts : Parts sent = search (sendable, c.patterns_cross.ensures.send, c.crosses.ensures.send.owned, c.crosses.ensures.send.leaving yes, c.crosses-2.ensures.send.owned, c.crosses-2.ensures.send.leaving yes, c.crosses-3.ensures.send.owned, c.crosses-3.ensures.send.leaving yes, c.crosses-4.ensures.send.owned, c.crosses-4.ensures.send.leaving yes, c.crosses-5.ensures.send.owned, c.crosses-5.ensures.send.leaving yes, c.crosses-6.ensures.send.owned, c.crosses-7.ensures.send.owned, c.crosses-7.ensures.send.leaving yes) in
+    view_send Inside.the_row _ _ _ _ (inside sent parts)
 
 pub returns-clause-sync : goal.returns-clause-sync
 returns-clause-sync c =
-    let types : IsSync Types.the_row = record { shared = c.crosses.ensures.sync.shared } in
-    let choices : IsSync Choices.the_row = record { shared = c.crosses-2.ensures.sync.shared } in
-    let doc : IsSync Doc.the_row = record { shared = c.crosses-3.ensures.sync.shared } in
-    let nonzero : IsSync NonZeroU64.the_row = record { shared = c.crosses-4.ensures.sync.shared } in
-    let whole : IsSync Whole.the_row = record { shared = c.crosses-5.ensures.sync.shared } in
-    let text : IsSync Text.the_row = record { shared = c.crosses-6.ensures.sync.shared } in
-    let dependence : IsSync Dependence.the_row = record { shared = c.crosses-7.ensures.sync.shared } in
-    let count : IsSync (as_row u64-field) = search sendable in
-    let truth : IsSync (as_row bool-field) = search sendable in
-    let w = Box-sync Whole.the_row whole in
-    view_sync Inside.the_row _ _ _ _ (declared_sync Inside.the_type (
-      variants_sync Test.enum
-          ((types, tt), ((Box-sync Choices.the_row choices, tt), ((Box-sync Doc.the_row doc, tt), ((nonzero, tt), ((w, tt), ((w, tt), ((w, tt), ((w, tt), ((count, tt), ((count, tt), ((c.patterns_cross.ensures.sync, tt), ((count, tt), ((count, tt), ((truth, tt), ((count, tt), ((count, tt), ((count, tt), ((count, tt), ((Vec-sync Text.the_row text, tt), ((Vec-sync Dependence.the_row dependence, tt), tt)))))))))))))))))))),
-      (truth, tt),
-    ))
+    let parts : Parts shared = search (sendable, c.patterns_cross.ensures.sync, c.crosses.ensures.sync.shared, c.crosses-2.ensures.sync.shared, c.crosses-3.ensures.sync.shared, c.crosses-4.ensures.sync.shared, c.crosses-5.ensures.sync.shared, c.crosses-6.ensures.sync.shared, c.crosses-7.ensures.sync.shared) in
+    view_sync Inside.the_row _ _ _ _ (inside shared parts)

@@ -7,10 +7,11 @@ use Rattle.js_doc.proofs.equality.+equal.Goals as goal
 pub equal_items-returns-then-a-b : goal.equal_items-returns-then-a-b
 equal_items-returns-then-a-b t c = items_apart c.args.a.now c.args.b.now (search rules)
 
-pub equal-returns-in-Text-b : goal.equal-returns-in-Text-b
-equal-returns-in-Text-b t c =
-    let texts : bytes_eq c.as_str.result.now c.as_str-in-Text-b.result.now ≡ bytes_eq c.in-Text.x c.in-Text-b.y = ap₂ bytes_eq c.as_str.ensures c.as_str-in-Text-b.ensures in
-    c.eq.ensures ∙ texts ∙ sym (same_text c.in-Text.x c.in-Text-b.y) ∙ ap₂ (λ a b. same (value_of a) (value_of b)) (sym c.in-Text.is) (sym c.in-Text-b.is)
+pub equal-returns-in-Text-Text : goal.equal-returns-in-Text-Text
+equal-returns-in-Text-Text t c =
+    let both = c.in-Text-Text in
+    let texts : bytes_eq c.as_str.result.now c.as_str-in-Text-Text.result.now ≡ bytes_eq both.x both.y = ap₂ bytes_eq c.as_str.ensures c.as_str-in-Text-Text.ensures in
+    c.eq.ensures ∙ texts ∙ sym (same_text both.x both.y) ∙ ap₂ (λ a b. same (value_of a) (value_of b)) (sym both.is-0) (sym both.is-1)
 
 pub equal_entries-returns-then-a-b : goal.equal_entries-returns-then-a-b
 equal_entries-returns-then-a-b t c = entries_apart c.args.a.now c.args.b.now (search rules)

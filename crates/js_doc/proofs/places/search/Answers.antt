@@ -1,5 +1,5 @@
-use Rattle.std.proofs.Common.{◌+◌, ◌-◌, ◌/◌, length, get_or, Less, Equal, Greater, arith}
-use Rattle.js_doc.proofs.Placing.{middle_within, compared, stands_at, goes_below, goes_above, goes_between, ranks_fit}
+use Rattle.std.proofs.Common.{◌+◌, ◌-◌, ◌/◌, length, get_or, Less, Greater, arith}
+use Rattle.js_doc.proofs.Placing.{middle_within, compared, goes_below, goes_above, goes_between, ranks_fit}
 use Rattle.js_doc.proofs.places.search.Goals as goal
 
 pub loop-low-init : goal.loop-low-init
@@ -11,13 +11,6 @@ loop-low-preserved-in-Less c =
     let within = middle_within l.low l.high (length c.args.entries.now) c.loop-low-test.true l.invariant.2 in
     let is = compared c.args.name.now _ (get_or c.args.entries.now (l.low + (l.high - l.low) / 2) c.index-entries-middle.result) Less _ c.name_order.ensures c.as_str.ensures.value c.in-Less.is in
     (l.invariant.0, goes_below c.args.name.now c.args.entries.now _ _ within.1 is, omega (arith, within.1))
-
-pub returns-in-Equal-clause-ok : goal.returns-in-Equal-clause-ok
-returns-in-Equal-clause-ok c =
-    let l = c.loop-low in
-    let within = middle_within l.low l.high (length c.args.entries.now) c.loop-low-test.true l.invariant.2 in
-    let is = compared c.args.name.now _ (get_or c.args.entries.now (l.low + (l.high - l.low) / 2) c.index-entries-middle.result) Equal _ c.name_order.ensures c.as_str.ensures.value c.in-Equal.is in
-    stands_at c.args.name.now c.args.entries.now _ _ within.1 is
 
 pub loop-low-preserved : goal.loop-low-preserved
 loop-low-preserved c =

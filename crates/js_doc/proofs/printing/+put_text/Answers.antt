@@ -1,13 +1,12 @@
 use Rattle.std.proofs.Common.{[], ◌∷◌, false, string_bytes, refl, sym}
 use Rattle.js_doc.specs.Seen.{value_of, items_seen, members_seen}
 use Rattle.js_doc.specs.Compact.{quoted, compact, comma_if, compact_items, compact_members}
-use Rattle.js_doc.proofs.BytesGone.{starts, goes_on, same_left, puts_err, puts_last}
-use Rattle.js_doc.proofs.CompactPieces.{item_left, item_end, entry_left, entry_end, name_next}
+use Rattle.js_doc.proofs.BytesGone.{goes_on, same_left, puts_err, stops_first, puts_last}
+use Rattle.js_doc.proofs.CompactPieces.{item_left, item_end, entry_left, name_next, value_next}
 use Rattle.js_doc.proofs.printing.+put_text.Goals as goal
 
 pub put_items-returns-in_err-put : goal.put_items-returns-in_err-put
-put_items-returns-in_err-put g t c =
-    puts_err _ _ _ (91 ∷ []) _ _ _ c.from_residual.ensures.0 (starts (g.O.Out.progress c.args.out.now) (91 ∷ compact_items false (items_seen c.args.docs.now))) c.in_err-put.ensures
+put_items-returns-in_err-put g t c = stops_first _ _ (91 ∷ []) (compact_items false (items_seen c.args.docs.now)) _ c.from_residual.ensures.0 c.in_err-put.ensures
 
 pub put_items-returns-in_err-put_comma : goal.put_items-returns-in_err-put_comma
 put_items-returns-in_err-put_comma g t c =
@@ -36,8 +35,7 @@ put_items-returns g t c =
     puts_last _ _ _ (93 ∷ []) _ _ w c.put-2.ensures
 
 pub put_members-returns-in_err-put : goal.put_members-returns-in_err-put
-put_members-returns-in_err-put g t c =
-    puts_err _ _ _ (123 ∷ []) _ _ _ c.from_residual.ensures.0 (starts (g.O.Out.progress c.args.out.now) (123 ∷ compact_members false (members_seen c.args.entries.now))) c.in_err-put.ensures
+put_members-returns-in_err-put g t c = stops_first _ _ (123 ∷ []) (compact_members false (members_seen c.args.entries.now)) _ c.from_residual.ensures.0 c.in_err-put.ensures
 
 pub put_members-returns-in_err-put_comma : goal.put_members-returns-in_err-put_comma
 put_members-returns-in_err-put_comma g t c =
@@ -64,23 +62,11 @@ put_members-returns-in_err-put-2 g t c =
 pub put_members-returns-in_err-put_text : goal.put_members-returns-in_err-put_text
 put_members-returns-in_err-put_text g t c =
     let l = c.loop-name in
-    let k = c.as_str.result.now in
-    let x = name_next _ _ _ _ c.args.entries.now l.name-index c.loop-name-item.result l.later k l.invariant c.loop-name-test.true (sym c.loop-name-item.is) c.as_str.ensures.value c.in_ok-put_comma.ensures in
-    let y = goes_on _ _ _ (quoted k) _ _ x c.in_ok-put_string.ensures in
-    let z = goes_on _ _ _ (58 ∷ []) _ _ y c.in_ok-put-2.ensures in
-    puts_err _ _ _ (compact (value_of c.loop-name-item.result.1)) _ _ _ c.from_residual-in_err-put_text.ensures.0 z c.in_err-put_text.ensures
+    let w = value_next _ _ _ _ _ _ c.args.entries.now l.name-index c.loop-name-item.result l.later _ l.invariant c.loop-name-test.true (sym c.loop-name-item.is) c.as_str.ensures.value c.in_ok-put_comma.ensures c.in_ok-put_string.ensures c.in_ok-put-2.ensures in
+    puts_err _ _ _ (compact (value_of c.loop-name-item.result.1)) _ _ _ c.from_residual-in_err-put_text.ensures.0 w c.in_err-put_text.ensures
 
 pub put_members-loop-name-preserved : goal.put_members-loop-name-preserved
 put_members-loop-name-preserved g t c =
     let l = c.loop-name in
-    let k = c.as_str.result.now in
-    let x = name_next _ _ _ _ c.args.entries.now l.name-index c.loop-name-item.result l.later k l.invariant c.loop-name-test.true (sym c.loop-name-item.is) c.as_str.ensures.value c.in_ok-put_comma.ensures in
-    let y = goes_on _ _ _ (quoted k) _ _ x c.in_ok-put_string.ensures in
-    let z = goes_on _ _ _ (58 ∷ []) _ _ y c.in_ok-put-2.ensures in
-    goes_on _ _ _ (compact (value_of c.loop-name-item.result.1)) _ _ z c.in_ok-put_text.ensures
-
-pub put_members-returns : goal.put_members-returns
-put_members-returns g t c =
-    let l = c.loop-name in
-    let w = same_left _ _ _ _ _ l.invariant (entry_end c.args.entries.now l.name-index l.later c.loop-name-test.false) in
-    puts_last _ _ _ (125 ∷ []) _ _ w c.put-2.ensures
+    let w = value_next _ _ _ _ _ _ c.args.entries.now l.name-index c.loop-name-item.result l.later _ l.invariant c.loop-name-test.true (sym c.loop-name-item.is) c.as_str.ensures.value c.in_ok-put_comma.ensures c.in_ok-put_string.ensures c.in_ok-put-2.ensures in
+    goes_on _ _ _ (compact (value_of c.loop-name-item.result.1)) _ _ w c.in_ok-put_text.ensures

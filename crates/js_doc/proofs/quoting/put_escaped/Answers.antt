@@ -1,11 +1,8 @@
-use Rattle.std.proofs.Common.{get_or, zero-le, rules}
-use Rattle.json.specs.Print.{escape, escape_byte}
-use Rattle.js_doc.proofs.BytesGone.{starts, goes_on, same_left, puts_err, all_gone}
+use Rattle.std.proofs.Common.{get_or, rules}
+use Rattle.json.specs.Print.{escape_byte}
+use Rattle.js_doc.proofs.BytesGone.{goes_on, same_left, puts_err, all_gone}
 use Rattle.js_doc.proofs.QuotedRuns.{run, run_first, run_gone, escape_next, none_left}
 use Rattle.js_doc.proofs.quoting.put_escaped.Goals as goal
-
-pub loop-out-init : goal.loop-out-init
-loop-out-init g c = (zero-le, starts (g.O.Out.progress c.args.out.now) (escape c.args.bytes.now))
 
 pub returns-in_err-put : goal.returns-in_err-put
 returns-in_err-put g c =
