@@ -162,6 +162,7 @@ pub(crate) fn read_names(
     }
 }
 
+#[tactic(auto, using(crate::proofs::Checking::MembersByName::listed_members))]
 fn read_names_of(
     alloc: Global,
     out: &mut Vec<BuiltPattern>,

@@ -153,6 +153,7 @@ fn check_keywords(
     Ok(())
 }
 
+#[tactic(auto, using(crate::proofs::Checking::MembersByName::listed_members))]
 fn check_schema(
     built: &mut Built,
     index: &Index,
