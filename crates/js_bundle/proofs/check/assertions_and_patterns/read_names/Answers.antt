@@ -5,9 +5,10 @@ use Rattle.js_doc.specs.Seen.{value_of}
 use Rattle.js_doc.specs.Value.{Value, Named, object, members}
 use Rattle.js_doc.proofs.PartLists.{member_list-members}
 use Rattle.js_bundle.specs.AssertionsAndPatterns.{pattern_at}
-use Rattle.js_bundle.specs.Candidate.{IsClear, IsStopped}
+use Rattle.js_bundle.specs.Candidate.{Candidate, IsClear, IsStopped}
 use Rattle.js_bundle.specs.Refusals.{at_pattern}
 use Rattle.js_places.specs.Keyword.{Text}
+use Rattle.js_places.specs.Resource.{Site}
 use Rattle.js_places.specs.code.Scan.{site_of}
 use Rattle.js_bundle.proofs.check.assertions_and_patterns.read_names.Goals as goal
 
@@ -17,11 +18,13 @@ made_of : {A : Type 0} (f : Named → List A) (k : Text) (v : Value) (ms : Named
 made_of f k v ms is seen =
     ap (λ name. if bytes_eq name (codes "patternProperties") then f (members_of v) else []) is ∙ ap f (ap members_of seen ∙ member_list-members ms)
 
+abbrev rules : Site → Text → Named → List Candidate
+rules place k ms = flat_map (λ (n : Text × Value). at_pattern place (k ∷ n.0 ∷ []) n.0) ms
+
 pub returns-in-Members-clause-clear : goal.returns-in-Members-clause-clear
 returns-in-Members-clause-clear c =
-    let rules = flat_map (λ (n : Text × Value). at_pattern (site_of c.args.at.site.now) (c.args.at.keyword.now ∷ n.0 ∷ []) n.0) in
     subst (λ cs. OnOk c.read_patterns.result (IsClear cs))
-    (sym (made_of rules c.args.at.keyword.now (value_of c.args.argument.now) c.in-Members.members c.in-patternProperties.is (ap value_of c.in-Members.is)))
+    (sym (made_of (rules (site_of c.args.at.site.now) c.args.at.keyword.now) c.args.at.keyword.now (value_of c.args.argument.now) c.in-Members.members c.in-patternProperties.is (ap value_of c.in-Members.is)))
     c.read_patterns.ensures.clear
 
 pub returns-in-Members-clause-built : goal.returns-in-Members-clause-built
@@ -32,7 +35,6 @@ returns-in-Members-clause-built c =
 
 pub returns-in-Members-clause-err : goal.returns-in-Members-clause-err
 returns-in-Members-clause-err c =
-    let rules = flat_map (λ (n : Text × Value). at_pattern (site_of c.args.at.site.now) (c.args.at.keyword.now ∷ n.0 ∷ []) n.0) in
     subst (λ cs. IfErr c.read_patterns.result (IsStopped cs))
-    (sym (made_of rules c.args.at.keyword.now (value_of c.args.argument.now) c.in-Members.members c.in-patternProperties.is (ap value_of c.in-Members.is)))
+    (sym (made_of (rules (site_of c.args.at.site.now) c.args.at.keyword.now) c.args.at.keyword.now (value_of c.args.argument.now) c.in-Members.members c.in-patternProperties.is (ap value_of c.in-Members.is)))
     c.read_patterns.ensures.err
