@@ -57,14 +57,14 @@ pub(crate) struct Checked {
 impl Drop for Checked {
     fn drop(self) {
         let Checked {
-            sites: _,
-            built: _,
-            keywords: _,
-            references: _,
-            locations: _,
-            index: _,
-            resources: _,
-            edges: _,
+            sites,
+            built,
+            keywords,
+            references,
+            locations,
+            index,
+            resources,
+            edges,
         } = self;
     }
 }

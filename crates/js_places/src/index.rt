@@ -40,9 +40,9 @@ pub struct Index {
 impl Drop for Index {
     fn drop(self) {
         let Index {
-            known: _,
-            places: _,
-            names: _,
+            known,
+            places,
+            names,
         } = self;
     }
 }
