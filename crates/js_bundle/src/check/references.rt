@@ -70,22 +70,18 @@ fn joined_reference(alloc: Global, at: KeywordAt<'_>, text: &str) -> Result<Url,
     }
 }
 
-// The number of the place that the `$ref` names. None where the place has no `$ref`.
-fn resolve_plain(known: Known<'_>, site: &Site<'_>) -> Result<Option<usize>, CheckFault>
+// The number of the place that a reference names. None where the place has no such reference.
+fn resolve_plain(known: Known<'_>, at: KeywordAt<'_>) -> Result<Option<usize>, CheckFault>
     requires { IsIndexOf known.index.now (map site_of known.sites.now) }
     ensures clear { OnOk result (IsClear
-        (at_reference (map site_of known.entry.sites.now) (codes "$ref") (site_of site.now))) }
-    ensures target { IfOk result
-        (λ t. t ≡ number_of_target (map site_of known.entry.sites.now) (codes "$ref") (site_of site.now)) }
+        (at_reference (map site_of known.entry.sites.now) at.entry.keyword.now (site_of at.entry.site.now))) }
+    ensures target { IfOk result (λ t. t
+        ≡ number_of_target (map site_of known.entry.sites.now) at.entry.keyword.now (site_of at.entry.site.now)) }
     ensures err { IfErr result (IsStopped
-        (at_reference (map site_of known.entry.sites.now) (codes "$ref") (site_of site.now))) }
+        (at_reference (map site_of known.entry.sites.now) at.entry.keyword.now (site_of at.entry.site.now))) }
 {
-    let Some(text) = text_argument(site.schema, "$ref") else {
+    let Some(text) = text_argument(at.site.schema, at.keyword) else {
         return Ok(None);
-    };
-    let at = KeywordAt {
-        site,
-        keyword: "$ref",
     };
     let url = joined_reference(known.alloc, at, text)?;
     resolve_url(known, at, url)
@@ -178,7 +174,11 @@ fn resolve_both(known: Known<'_>, site: &Site<'_>) -> Result<Targets, CheckFault
     ensures err { IfErr result (IsStopped (at_references (map site_of known.entry.sites.now) (site_of site.now))) }
 {
     let dynamic = resolve_dynamic(known, site)?;
-    let plain = resolve_plain(known, site)?;
+    let at = KeywordAt {
+        site,
+        keyword: "$ref",
+    };
+    let plain = resolve_plain(known, at)?;
     Ok(Targets { dynamic, plain })
 }
 
