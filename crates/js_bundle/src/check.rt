@@ -23,7 +23,7 @@ pub(crate) mod assertions_and_patterns;
 pub(crate) mod fault;
 pub(crate) mod first_pass;
 pub(crate) mod kept_site;
-pub(crate) mod known;
+pub(crate) mod lookup;
 pub(crate) mod references;
 pub(crate) mod rules;
 
@@ -31,7 +31,7 @@ use crate::check::assertions_and_patterns::BuiltTable;
 use crate::check::fault::CheckFault;
 use crate::check::first_pass::{Passed, first_pass};
 use crate::check::kept_site::{KeptSite, kept_sites_of};
-use crate::check::known::Known;
+use crate::check::lookup::Lookup;
 use crate::check::references::{References, resolve_all};
 use js_places::{
     Document, Edges, Index, KeptLocation, KeywordTable, Resources, Site, edges_in, resources_of,
@@ -97,7 +97,7 @@ fn look_up(
     ensures edges { IfOk result (λ l. map edges_of l.edges.items ≡ edges_from 0 (map document_of documents.now)) }
     ensures err { IfErr result (IsStopped (second_pass (map site_of sites.now))) }
 {
-    let known = Known {
+    let known = Lookup {
         alloc,
         index: &passed.positions.index,
         sites,

@@ -8,7 +8,7 @@ ghost use Rattle.js_bundle.specs.Refusals.{at_pattern, name_rules};
 ghost use Rattle.js_places.specs.code.Scan.{site_of};
 
 use crate::check::fault::{CheckFault, refuse_member};
-use crate::check::known::KeywordAt;
+use crate::check::lookup::SiteKeyword;
 use crate::refusal::RefusalKind;
 use js_assert::{Assertion, Pattern, PatternFault};
 use js_doc::{Doc, Members, Memory, Text};
@@ -93,7 +93,7 @@ pub(crate) fn keep_assertion(
     Ok(())
 }
 
-fn read_pattern(alloc: Global, at: KeywordAt<'_>, name: &str) -> Result<Pattern, CheckFault>
+fn read_pattern(alloc: Global, at: SiteKeyword<'_>, name: &str) -> Result<Pattern, CheckFault>
     ensures clear { OnOk result (IsClear
         (at_pattern (site_of at.entry.site.now) (at.entry.keyword.now ∷ name.now ∷ []) name.now)) }
     ensures built { IfOk result (λ p. p ≡ name.now) }
@@ -121,7 +121,7 @@ fn read_pattern(alloc: Global, at: KeywordAt<'_>, name: &str) -> Result<Pattern,
 // Reads the names of `patternProperties` as patterns.
 fn read_patterns(
     out: &mut Vec<BuiltPattern>,
-    at: KeywordAt<'_>,
+    at: SiteKeyword<'_>,
     members: &Members,
 ) -> Result<(), CheckFault>
     ensures clear { OnOk result (IsClear
@@ -144,7 +144,7 @@ fn read_patterns(
 /// Reads the names of an argument as patterns, where the keyword is `patternProperties`.
 pub(crate) fn read_names(
     out: &mut Vec<BuiltPattern>,
-    at: KeywordAt<'_>,
+    at: SiteKeyword<'_>,
     argument: &Doc,
 ) -> Result<(), CheckFault>
     ensures clear { OnOk result (IsClear

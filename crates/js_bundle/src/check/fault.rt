@@ -5,7 +5,7 @@ ghost use Rattle.js_places.specs.Finding.{tokens_of};
 ghost use Rattle.js_bundle.specs.Refusals.{refusal_at};
 ghost use Rattle.js_places.specs.code.Scan.{site_of};
 
-use crate::check::known::KeywordAt;
+use crate::check::lookup::SiteKeyword;
 use crate::refusal::{Refusal, RefusalKind};
 use js_doc::{Memory as NoMemory, Pointer};
 use js_places::Site;
@@ -68,7 +68,7 @@ pub(crate) fn refuse(
 }
 
 /// The refusal at a keyword of a place.
-pub(crate) fn refuse_keyword(alloc: Global, at: KeywordAt<'_>, kind: RefusalKind) -> CheckFault
+pub(crate) fn refuse_keyword(alloc: Global, at: SiteKeyword<'_>, kind: RefusalKind) -> CheckFault
     ensures { IsRefusalOrMemory
         (refusal_at (site_of at.entry.site.now) (at.entry.keyword.now ∷ []) kind) result }
 {

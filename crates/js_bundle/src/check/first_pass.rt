@@ -19,7 +19,7 @@ ghost use Rattle.js_places.specs.code.Scan.{site_of};
 
 use crate::check::assertions_and_patterns::{Built, BuiltTable, keep_assertion, read_names};
 use crate::check::fault::{CheckFault, refuse_keyword};
-use crate::check::known::{KeywordAt, Known};
+use crate::check::lookup::{Lookup, SiteKeyword};
 use crate::check::rules::{
     check_anchor, check_dialect, check_id, check_place, is_formed, read_assertion,
 };
@@ -28,7 +28,7 @@ use js_doc::{Doc, Members, Memory};
 use js_places::{KeywordTable, Positions, Site, TextPrefixes};
 use std::alloc::Global;
 
-fn check_form(alloc: Global, at: KeywordAt<'_>, argument: &Doc) -> Result<(), CheckFault>
+fn check_form(alloc: Global, at: SiteKeyword<'_>, argument: &Doc) -> Result<(), CheckFault>
     ensures ok { OnOk result (IsClear (when (not (is_formed at.entry.keyword.now (value_of argument.now)))
         (decided (site_of at.entry.site.now) (at.entry.keyword.now ∷ []) BadKeyword))) }
     ensures err { IfErr result (IsStopped (when (not (is_formed at.entry.keyword.now (value_of argument.now)))
@@ -42,7 +42,7 @@ fn check_form(alloc: Global, at: KeywordAt<'_>, argument: &Doc) -> Result<(), Ch
 }
 
 // The rules of a keyword whose argument is a text.
-fn check_text(known: Known<'_>, at: KeywordAt<'_>, text: &str) -> Result<(), CheckFault>
+fn check_text(known: Lookup<'_>, at: SiteKeyword<'_>, text: &str) -> Result<(), CheckFault>
     requires index { IsIndexOf known.index.now (map site_of known.sites.now) }
     requires argument { words.argument at.keyword.now (value_of at.site.now.schema.now) ≡ Some (spec.text text.now) }
     ensures ok { OnOk result (IsClear
@@ -59,7 +59,7 @@ fn check_text(known: Known<'_>, at: KeywordAt<'_>, text: &str) -> Result<(), Che
     }
 }
 
-fn check_argument(known: Known<'_>, at: KeywordAt<'_>, argument: &Doc) -> Result<(), CheckFault>
+fn check_argument(known: Lookup<'_>, at: SiteKeyword<'_>, argument: &Doc) -> Result<(), CheckFault>
     requires index { IsIndexOf known.index.now (map site_of known.sites.now) }
     requires argument { words.argument at.keyword.now (value_of at.site.now.schema.now) ≡ Some (value_of argument.now) }
     ensures ok { OnOk result (IsClear (on_text
@@ -78,8 +78,8 @@ fn check_argument(known: Known<'_>, at: KeywordAt<'_>, argument: &Doc) -> Result
 // The rules of a keyword, its form first.
 fn check_keyword(
     built: &mut Built,
-    known: Known<'_>,
-    at: KeywordAt<'_>,
+    known: Lookup<'_>,
+    at: SiteKeyword<'_>,
     argument: &Doc,
     siblings: &Members,
 ) -> Result<(), CheckFault>
@@ -106,7 +106,7 @@ fn check_keyword(
 // The rules of all of a place's keywords, by name ascending.
 fn check_keywords(
     built: &mut Built,
-    known: Known<'_>,
+    known: Lookup<'_>,
     site: &Site<'_>,
     members: &Members,
 ) -> Result<(), CheckFault>
@@ -122,7 +122,7 @@ fn check_keywords(
         (flat_map (at_member (map site_of known.entry.sites.now) (site_of site.now)) members.now)) }
 {
     for (keyword, argument) in members.pairs() {
-        let at = KeywordAt {
+        let at = SiteKeyword {
             site: &*site, // lent again, for as long as the name is
             keyword: keyword.as_str(),
         };
@@ -132,7 +132,7 @@ fn check_keywords(
 }
 
 #[tactic(auto, using(crate::proofs::Checking::MembersByName::listed_members))]
-fn check_schema(built: &mut Built, known: Known<'_>, site: &Site<'_>) -> Result<(), CheckFault>
+fn check_schema(built: &mut Built, known: Lookup<'_>, site: &Site<'_>) -> Result<(), CheckFault>
     requires { IsIndexOf known.index.now (map site_of known.sites.now) }
     ensures clear { OnOk result (IsClear (flat_map
         (at_member (map site_of known.entry.sites.now) (site_of site.now)) (members_of (site_of site.now).schema))) }
@@ -150,7 +150,7 @@ fn check_schema(built: &mut Built, known: Known<'_>, site: &Site<'_>) -> Result<
 }
 
 // The rules of a place, and of its keywords.
-fn check_site(built: &mut Built, known: Known<'_>, site: &Site<'_>) -> Result<(), CheckFault>
+fn check_site(built: &mut Built, known: Lookup<'_>, site: &Site<'_>) -> Result<(), CheckFault>
     requires { IsIndexOf known.index.now (map site_of known.sites.now) }
     ensures clear { OnOk result (IsClear (at_site (map site_of known.entry.sites.now) (site_of site.now))) }
     ensures assertions { OnOk result (built.new.assertions.items ≡ built.old.assertions.items
@@ -220,7 +220,7 @@ impl Passed {
         ensures err { IfErr result (IsStopped (at_site (map site_of earlier.now) (site_of site.now))) }
     {
         self.keywords.add_names(site)?;
-        let known = Known {
+        let known = Lookup {
             alloc,
             index: &self.positions.index,
             sites: &*earlier, // lent again, for as long as the index is

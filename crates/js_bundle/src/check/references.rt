@@ -20,7 +20,7 @@ ghost use Rattle.js_places.specs.Url.{longest_uri};
 ghost use Rattle.url.specs.Parser.{parse_url};
 
 use crate::check::fault::{CheckFault, refuse_keyword};
-use crate::check::known::{KeywordAt, Known};
+use crate::check::lookup::{Lookup, SiteKeyword};
 use crate::refusal::RefusalKind;
 use indexmap::IndexMap;
 use js_doc::Memory;
@@ -32,7 +32,11 @@ use js_places::{
 use std::alloc::Global;
 use url::{ParseError, Url};
 
-fn resolve_url(known: Known<'_>, at: KeywordAt<'_>, url: Url) -> Result<Option<usize>, CheckFault>
+fn resolve_url(
+    known: Lookup<'_>,
+    at: SiteKeyword<'_>,
+    url: Url,
+) -> Result<Option<usize>, CheckFault>
     requires { IsIndexOf known.index.now (map site_of known.sites.now) }
     ensures clear { OnOk result (IsClear
         (at_joined_reference (map site_of known.entry.sites.now) (site_of at.entry.site.now)
@@ -53,7 +57,7 @@ fn resolve_url(known: Known<'_>, at: KeywordAt<'_>, url: Url) -> Result<Option<u
 }
 
 // The URL that a reference is, joined with the base of its place.
-fn joined_reference(alloc: Global, at: KeywordAt<'_>, text: &str) -> Result<Url, CheckFault>
+fn joined_reference(alloc: Global, at: SiteKeyword<'_>, text: &str) -> Result<Url, CheckFault>
     ensures short { OnOk result (nat_lt longest_uri (length text.now) ≡ false) }
     ensures url { IfOk result (λ u. parse_url (Some at.entry.site.now.own.value.base) text.now ≡ Ok u) }
     ensures err { IfErr result (λ e. (all : List spec.Site) → IsStopped
@@ -71,7 +75,7 @@ fn joined_reference(alloc: Global, at: KeywordAt<'_>, text: &str) -> Result<Url,
 }
 
 // The number of the place that a reference names. None where the place has no such reference.
-fn resolve_plain(known: Known<'_>, at: KeywordAt<'_>) -> Result<Option<usize>, CheckFault>
+fn resolve_plain(known: Lookup<'_>, at: SiteKeyword<'_>) -> Result<Option<usize>, CheckFault>
     requires { IsIndexOf known.index.now (map site_of known.sites.now) }
     ensures clear { OnOk result (IsClear
         (at_reference (map site_of known.entry.sites.now) at.entry.keyword.now (site_of at.entry.site.now))) }
@@ -111,7 +115,7 @@ fn reference_to(sites: &[Site<'_>], target: usize, name: &[u8]) -> DynamicRefere
 
 // What a `$dynamicRef` that is this URL leads to. None where it names no place.
 fn resolve_dynamic_url(
-    known: Known<'_>,
+    known: Lookup<'_>,
     site: &Site<'_>,
     url: Url,
 ) -> Result<Option<DynamicReference>, CheckFault>
@@ -125,7 +129,7 @@ fn resolve_dynamic_url(
         (codes "$dynamicRef" ∷ []) (Ok url))) }
 {
     let name = uri::decoded_fragment(known.alloc, &url)?;
-    let at = KeywordAt {
+    let at = SiteKeyword {
         site,
         keyword: "$dynamicRef",
     };
@@ -137,7 +141,7 @@ fn resolve_dynamic_url(
 
 // What the `$dynamicRef` of a place leads to. None where the place has no `$dynamicRef`.
 fn resolve_dynamic(
-    known: Known<'_>,
+    known: Lookup<'_>,
     site: &Site<'_>,
 ) -> Result<Option<DynamicReference>, CheckFault>
     requires { IsIndexOf known.index.now (map site_of known.sites.now) }
@@ -150,7 +154,7 @@ fn resolve_dynamic(
     let Some(text) = text_argument(site.schema, "$dynamicRef") else {
         return Ok(None);
     };
-    let at = KeywordAt {
+    let at = SiteKeyword {
         site,
         keyword: "$dynamicRef",
     };
@@ -165,7 +169,7 @@ struct Targets {
     plain: Option<usize>,
 }
 
-fn resolve_both(known: Known<'_>, site: &Site<'_>) -> Result<Targets, CheckFault>
+fn resolve_both(known: Lookup<'_>, site: &Site<'_>) -> Result<Targets, CheckFault>
     requires { IsIndexOf known.index.now (map site_of known.sites.now) }
     ensures clear { OnOk result (IsClear (at_references (map site_of known.entry.sites.now) (site_of site.now))) }
     ensures dynamic { IfOk result (λ t. t.dynamic ≡ dynamic_at (map site_of known.entry.sites.now) (site_of site.now)) }
@@ -174,7 +178,7 @@ fn resolve_both(known: Known<'_>, site: &Site<'_>) -> Result<Targets, CheckFault
     ensures err { IfErr result (IsStopped (at_references (map site_of known.entry.sites.now) (site_of site.now))) }
 {
     let dynamic = resolve_dynamic(known, site)?;
-    let at = KeywordAt {
+    let at = SiteKeyword {
         site,
         keyword: "$ref",
     };
@@ -184,7 +188,7 @@ fn resolve_both(known: Known<'_>, site: &Site<'_>) -> Result<Targets, CheckFault
 
 // The same for a place whose keywords are these. Most have no reference: nothing is looked up for them.
 fn targets_of(
-    known: Known<'_>,
+    known: Lookup<'_>,
     site: &Site<'_>,
     names: &[KeywordName],
 ) -> Result<Targets, CheckFault>
@@ -242,7 +246,7 @@ fn keep_dynamic(
 
 /// Resolves all references.
 pub(crate) fn resolve_all(
-    known: Known<'_>,
+    known: Lookup<'_>,
     keywords: &KeywordTable,
 ) -> Result<References, CheckFault>
     requires index { IsIndexOf known.index.now (map site_of known.sites.now) }

@@ -16,7 +16,7 @@ ghost use Rattle.js_assert.specs.Assertion.{asserted};
 ghost use Rattle.js_places.specs.code.Scan.{site_of};
 
 use crate::check::fault::{CheckFault, refuse, refuse_keyword};
-use crate::check::known::{KeywordAt, Known};
+use crate::check::lookup::{Lookup, SiteKeyword};
 use crate::refusal::RefusalKind;
 use js_assert::{Assertion, KeywordFault};
 use js_doc::{Doc, Members, Memory};
@@ -29,7 +29,7 @@ use url::Url;
 const MOST_PLACES: usize = 100_000;
 
 // Whether a resource before has the URI.
-fn is_taken(known: Known<'_>, uri: &Url) -> bool
+fn is_taken(known: Lookup<'_>, uri: &Url) -> bool
     requires { IsIndexOf known.index.now (map site_of known.sites.now) }
     ensures { result ≡ is_taken (map site_of known.entry.sites.now) uri.now }
 {
@@ -37,7 +37,7 @@ fn is_taken(known: Known<'_>, uri: &Url) -> bool
 }
 
 // Whether a place before makes the name in the same resource.
-fn is_made(known: Known<'_>, place: &Site<'_>, name: &str) -> Result<bool, Memory>
+fn is_made(known: Lookup<'_>, place: &Site<'_>, name: &str) -> Result<bool, Memory>
     requires { IsIndexOf known.index.now (map site_of known.sites.now) }
     ensures { IfOk result (λ b. b ≡ is_made (map site_of known.entry.sites.now) (site_of place.now) name.now) }
 {
@@ -120,7 +120,11 @@ fn is_dialect(text: &str) -> bool
 }
 
 /// The rule of `$schema`.
-pub(crate) fn check_dialect(alloc: Global, at: KeywordAt<'_>, text: &str) -> Result<(), CheckFault>
+pub(crate) fn check_dialect(
+    alloc: Global,
+    at: SiteKeyword<'_>,
+    text: &str,
+) -> Result<(), CheckFault>
     ensures ok { OnOk result (IsClear
         (at_dialect (site_of at.entry.site.now) (at.entry.keyword.now ∷ []) text.now)) }
     ensures err { IfErr result (IsStopped
@@ -134,7 +138,7 @@ pub(crate) fn check_dialect(alloc: Global, at: KeywordAt<'_>, text: &str) -> Res
 }
 
 /// The rules of `$id` (JSON Schema Core, section 8.2.1). The scan joined it.
-pub(crate) fn check_id(known: Known<'_>, at: KeywordAt<'_>, text: &str) -> Result<(), CheckFault>
+pub(crate) fn check_id(known: Lookup<'_>, at: SiteKeyword<'_>, text: &str) -> Result<(), CheckFault>
     requires index { IsIndexOf known.index.now (map site_of known.sites.now) }
     requires id { argument (codes "$id") (value_of at.site.now.schema.now) ≡ Some (spec.text text.now) }
     ensures ok { OnOk result (IsClear
@@ -156,8 +160,8 @@ pub(crate) fn check_id(known: Known<'_>, at: KeywordAt<'_>, text: &str) -> Resul
 
 /// The rules of `$anchor` and of `$dynamicAnchor` (JSON Schema Core, section 8.2.2).
 pub(crate) fn check_anchor(
-    known: Known<'_>,
-    at: KeywordAt<'_>,
+    known: Lookup<'_>,
+    at: SiteKeyword<'_>,
     name: &str,
 ) -> Result<(), CheckFault>
     requires { IsIndexOf known.index.now (map site_of known.sites.now) }
@@ -202,7 +206,7 @@ fn check_shape(alloc: Global, site: &Site<'_>) -> Result<(), CheckFault>
     }
 }
 
-fn check_root(known: Known<'_>, site: &Site<'_>) -> Result<(), CheckFault>
+fn check_root(known: Lookup<'_>, site: &Site<'_>) -> Result<(), CheckFault>
     requires { IsIndexOf known.index.now (map site_of known.sites.now) }
     ensures ok { OnOk result (IsClear
         (when (is_root (site_of site.now) && is_taken (map site_of known.entry.sites.now) site.now.above.value.base)
@@ -218,7 +222,7 @@ fn check_root(known: Known<'_>, site: &Site<'_>) -> Result<(), CheckFault>
 }
 
 /// The rules of a place itself.
-pub(crate) fn check_place(known: Known<'_>, site: &Site<'_>) -> Result<(), CheckFault>
+pub(crate) fn check_place(known: Lookup<'_>, site: &Site<'_>) -> Result<(), CheckFault>
     requires { IsIndexOf known.index.now (map site_of known.sites.now) }
     ensures ok { OnOk result (IsClear (at_place (map site_of known.entry.sites.now) (site_of site.now))) }
     ensures err { IfErr result (IsStopped (at_place (map site_of known.entry.sites.now) (site_of site.now))) }
@@ -231,7 +235,7 @@ pub(crate) fn check_place(known: Known<'_>, site: &Site<'_>) -> Result<(), Check
 /// Reads a keyword's argument as an assertion's. None where the keyword is no assertion.
 pub(crate) fn read_assertion(
     alloc: Global,
-    at: KeywordAt<'_>,
+    at: SiteKeyword<'_>,
     argument: &Doc,
     siblings: &Members,
 ) -> Result<Option<Assertion>, CheckFault>

@@ -5,7 +5,7 @@ use std::alloc::Global;
 
 /// The places that are known so far, with the index that finds them. Memory comes from `alloc`.
 #[derive(Clone, Copy)]
-pub(crate) struct Known<'s> {
+pub(crate) struct Lookup<'s> {
     pub(crate) alloc: Global,
     pub(crate) index: &'s Index,
     pub(crate) sites: &'s [Site<'s>],
@@ -13,7 +13,7 @@ pub(crate) struct Known<'s> {
 
 /// A keyword of a place.
 #[derive(Clone, Copy)]
-pub(crate) struct KeywordAt<'s> {
+pub(crate) struct SiteKeyword<'s> {
     pub(crate) site: &'s Site<'s>,
     pub(crate) keyword: &'s str,
 }
