@@ -1,5 +1,5 @@
 -- How the code finds places: by their numbers in the list.
-use Rattle.std.specs.Prelude.{◌≡◌, ℕ, List, Bool, false, Option, option_map, option_and_then, unwrap_or, codes, if◌then◌else◌}
+use Rattle.std.specs.Prelude.{◌≡◌, ℕ, List, Bool, false, Option, Some, None, option_map, option_and_then, unwrap_or, codes, if◌then◌else◌}
 use Rattle.url.specs.Parts.{Parts}
 pub use Rattle.js_places.specs.Finding.{number_named, under_number, is_pointer_read, IfNotRead, tokens_of}
 use Rattle.js_bundle.specs.declared.refusal.Refusal.{Refusal}
@@ -9,8 +9,10 @@ use Rattle.js_bundle.specs.declared.check.references.DynamicReference.{DynamicRe
 use Rattle.js_places.specs.Keyword.{Text, text_argument}
 use Rattle.js_places.specs.Names.{named}
 use Rattle.std.specs.Option.{option_map_or}
-use Rattle.js_places.specs.Resource.{Site}
-use Rattle.js_places.specs.Target.{reference, first_target, is_dynamic, outermost}
+use Rattle.js_places.specs.Document.{Documents}
+use Rattle.js_places.specs.PlaceNumber.{place_at}
+use Rattle.js_places.specs.Resource.{Site, sites}
+use Rattle.js_places.specs.Target.{reference, first_target, is_dynamic, outermost, dynamic_target}
 
 -- that of a reference's first target
 abbrev pub number_of_target : List Site → Text → Site → Option ℕ
@@ -33,10 +35,16 @@ dynamic_by all uri =
 abbrev pub dynamic_at : List Site → Site → Option DynamicReference
 dynamic_at all place = option_map (dynamic_as (goes_by_name all place)) (number_of_target all (codes "$dynamicRef") place)
 
--- where a first target leads in a dynamic scope: by its own name, where the reference goes by name
-abbrev pub by_scope : List Site → List Site → Bool → Site → Site
-by_scope all path by_name first =
-    if by_name then unwrap_or (option_and_then (λ name. outermost all name path) (text_argument (codes "$dynamicAnchor") first.schema)) first else first
+-- the name that a reference to this first target looks for in a dynamic scope: the target's own, where it goes by name
+abbrev pub scope_name : Bool → Site → Option Text
+scope_name by_name first = if by_name then text_argument (codes "$dynamicAnchor") first.schema else None
+
+-- what the `$dynamicRef` of a place leads to: to its first target, unless a resource of the scope has the name
+pub record IsFirstTarget (documents : Documents) (place first : ℕ) (name : Option Text) : Type 0 where
+  pub target : Site
+  pub stands : place_at documents first ≡ Some target
+  pub decides : (scope : List Site) → option_and_then (dynamic_target (sites documents) scope) (place_at documents place)
+      ≡ Some (unwrap_or (option_and_then (λ n. outermost (sites documents) n scope) name) target)
 
 -- ---- a refusal, or want of memory
 

@@ -1,6 +1,6 @@
 -- What a schema's keyword holds at a step, by its rank among all that the keyword holds (JSON Schema Core, sections 10
 -- and 11).
-use Rattle.std.specs.Prelude.{◌≡◌, ℕ, Bool, true, false, Some, slice_get}
+use Rattle.std.specs.Prelude.{◌≡◌, ℕ, Bool, true, Some, slice_get}
 use Rattle.js_doc.specs.Value.{Value}
 use Rattle.js_doc.specs.Parts.{members_of}
 use Rattle.js_places.specs.declared.keyword_name.KeywordName.{KeywordName}
@@ -8,22 +8,20 @@ use Rattle.js_places.specs.declared.keyword_name.KeywordName.TheVariants as name
 use Rattle.js_places.specs.Keyword.{Text, argument}
 use Rattle.js_places.specs.KeywordName.{keyword_name}
 use Rattle.js_places.specs.Place.{items_in}
-use Rattle.js_bundle.specs.Schemas.{Step, Alone, Index, Name}
+use Rattle.js_places.specs.declared.scan.holding.Holding.TheVariants.{One, Listed, Named, Nothing}
+use Rattle.js_bundle.specs.Schemas.{Step, Alone, Index, Name, fits}
 
 abbrev pub is_alone : Step → Bool
-is_alone Alone = true
-is_alone _ = false
+is_alone = fits One
 
 abbrev pub is_index : Step → Bool
-is_index (Index i) = true
-is_index _ = false
+is_index = fits Listed
 
 abbrev pub is_name : Step → Bool
-is_name (Name n) = true
-is_name _ = false
+is_name = fits Named
 
 abbrev pub is_none : Step → Bool
-is_none step = false
+is_none = fits Nothing
 
 -- the steps to the schemas that a keyword holds and applies
 abbrev pub applies_at : KeywordName → Step → Bool

@@ -37,7 +37,7 @@ pub struct Bundle {
 // By hand, so that it is proved here alone, and crates that own bundles call it.
 impl Drop for Bundle {
     fn drop(self) {
-        let Bundle { documents: _ } = self;
+        let Bundle { documents } = self;
     }
 }
 

@@ -23,17 +23,19 @@ pub(crate) mod assertions_and_patterns;
 pub(crate) mod fault;
 pub(crate) mod first_pass;
 pub(crate) mod kept_site;
+pub(crate) mod lookup;
 pub(crate) mod references;
 pub(crate) mod rules;
 
 use crate::check::assertions_and_patterns::BuiltTable;
 use crate::check::fault::CheckFault;
-use crate::check::first_pass::first_pass;
+use crate::check::first_pass::{Passed, first_pass};
 use crate::check::kept_site::{KeptSite, kept_sites_of};
+use crate::check::lookup::Lookup;
 use crate::check::references::{References, resolve_all};
 use js_places::{
-    Document, Edges, Index, KeptLocation, KeywordTable, Positions, Resources, Site, edges_in,
-    resources_of, scan_all,
+    Document, Edges, Index, KeptLocation, KeywordTable, Resources, Site, edges_in, resources_of,
+    scan_all,
 };
 use std::alloc::Global;
 
@@ -55,14 +57,14 @@ pub(crate) struct Checked {
 impl Drop for Checked {
     fn drop(self) {
         let Checked {
-            sites: _,
-            built: _,
-            keywords: _,
-            references: _,
-            locations: _,
-            index: _,
-            resources: _,
-            edges: _,
+            sites,
+            built,
+            keywords,
+            references,
+            locations,
+            index,
+            resources,
+            edges,
         } = self;
     }
 }
@@ -79,13 +81,12 @@ struct LookedUp {
 fn look_up(
     alloc: Global,
     documents: &[Document],
-    positions: &Positions,
     sites: &[Site<'_>],
-    keywords: &KeywordTable,
+    passed: &Passed,
 ) -> Result<LookedUp, CheckFault>
-    requires positions { ArePositionsOf positions.now (map site_of sites.now) }
+    requires positions { ArePositionsOf passed.now.positions (map site_of sites.now) }
     requires keywords { ArePartsByPlace keyword_names (map site_of sites.now)
-        keywords.now.names.items keywords.now.ends.items }
+        passed.now.keywords.names.items passed.now.keywords.ends.items }
     requires rooted { AreRooted (map site_of sites.now) }
     ensures clear { OnOk result (IsClear (second_pass (map site_of sites.now))) }
     ensures dynamic { IfOk result (λ l. IsSparseList (get nat_eq l.references.dynamic)
@@ -96,8 +97,13 @@ fn look_up(
     ensures edges { IfOk result (λ l. map edges_of l.edges.items ≡ edges_from 0 (map document_of documents.now)) }
     ensures err { IfErr result (IsStopped (second_pass (map site_of sites.now))) }
 {
-    let references = resolve_all(alloc, &positions.index, sites, keywords)?;
-    let resources = resources_of(alloc, positions, sites, keywords)?;
+    let known = Lookup {
+        alloc,
+        index: &passed.positions.index,
+        sites,
+    };
+    let references = resolve_all(known, &passed.keywords)?;
+    let resources = resources_of(alloc, &passed.positions, sites, &passed.keywords)?;
     Ok(LookedUp {
         references,
         resources,
@@ -132,13 +138,7 @@ pub(crate) fn check_whole(alloc: Global, documents: &[Document]) -> Result<Check
 {
     let sites = scan_all(alloc, documents)?;
     let passed = first_pass(alloc, sites.as_slice())?;
-    let found = look_up(
-        alloc,
-        documents,
-        &passed.positions,
-        sites.as_slice(),
-        &passed.keywords,
-    )?;
+    let found = look_up(alloc, documents, sites.as_slice(), &passed)?;
     Ok(Checked {
         sites: kept_sites_of(alloc, sites)?,
         built: passed.built,

@@ -26,10 +26,7 @@ pub struct Schemas {
 // By hand, so that it is proved here alone, and crates that own schemas call it.
 impl Drop for Schemas {
     fn drop(self) {
-        let Schemas {
-            documents: _,
-            kept: _,
-        } = self;
+        let Schemas { documents, kept } = self;
     }
 }
 

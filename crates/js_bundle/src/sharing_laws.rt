@@ -17,15 +17,16 @@ pub fn schemas_cross()
 {
     assertions_cross();
     patterns_cross();
-    crosses::<Document>();
-    crosses::<KeptSite>();
+    crosses::<Vec<Document>>();
+    crosses::<Vec<KeptSite>>();
     crosses::<Text>();
+    crosses::<Vec<usize>>();
     crosses::<KeywordTable>();
     crosses::<References>();
-    crosses::<KeptLocation>();
+    crosses::<Vec<KeptLocation>>();
     crosses::<Index>();
     crosses::<Resources>();
-    crosses::<Edges>();
+    crosses::<Vec<Edges>>();
 }
 
 /// So may a handle on them.

@@ -2,7 +2,6 @@
 ghost use Rattle.std.specs.Prelude.{◌≡◌, [], OnOk, string_bytes, option_copied, option_to_list};
 ghost use Rattle.js_places.specs.code.Index.{AreInserted, HasPlaceAdded, IsIndexOf, place_key, name_keys_by, name_keys};
 ghost use Rattle.js_places.specs.code.Index.{root_uris, made_uris};
-ghost use Rattle.js_places.specs.Names.{known_as};
 ghost use Rattle.js_places.specs.code.Scan.{site_of};
 
 pub(crate) mod edges;
@@ -41,9 +40,9 @@ pub struct Index {
 impl Drop for Index {
     fn drop(self) {
         let Index {
-            known: _,
-            places: _,
-            names: _,
+            known,
+            places,
+            names,
         } = self;
     }
 }
@@ -74,7 +73,10 @@ impl Index {
         // read, so that it is known to be small: keys of different documents then differ
         let _document = site.document;
         self.places.insert_first(key, number)?;
-        insert_uris(alloc, &mut self.known, site, number)?;
+        self.known
+            .insert_first_given(alloc, root_uri(site), number)?;
+        self.known
+            .insert_first_given(alloc, made_uri(site), number)?;
         insert_names(alloc, &mut self.names, site, number)
     }
 }
@@ -99,18 +101,6 @@ fn made_uri<'s>(site: &'s Site<'_>) -> Option<&'s str>
     } else {
         None
     }
-}
-
-fn insert_uris(
-    alloc: Global,
-    known: &mut Numbering,
-    site: &Site<'_>,
-    number: usize,
-) -> Result<(), Memory>
-    ensures { OnOk result (AreInserted known.old (known_as (site_of site.now)) number known.new) }
-{
-    known.insert_first_given(alloc, root_uri(site), number)?;
-    known.insert_first_given(alloc, made_uri(site), number)
 }
 
 fn insert_name(

@@ -41,23 +41,10 @@ added old uri bytes d docs new seen push taken = (
 
 kind_of_uri : (held : ℕ) (uri : Text) (bytes : List ℕ) (place : Tokens) (k : RefusalKind) → IsUriKind held uri place k → IsKind held uri bytes place k
 kind_of_uri held uri bytes place kind.Memory h = h
-kind_of_uri held uri bytes place kind.NotJson h = absurd h
-kind_of_uri held uri bytes place kind.NotWhole h = absurd h
 kind_of_uri held uri bytes place kind.BadUri h = h
 kind_of_uri held uri bytes place kind.TooManyDocuments h = h
 kind_of_uri held uri bytes place kind.UriTooLong h = h
-kind_of_uri held uri bytes place kind.NotASchema h = absurd h
-kind_of_uri held uri bytes place kind.BadKeyword h = absurd h
-kind_of_uri held uri bytes place kind.BadPattern h = absurd h
-kind_of_uri held uri bytes place kind.PatternTooLarge h = absurd h
-kind_of_uri held uri bytes place kind.BadId h = absurd h
-kind_of_uri held uri bytes place kind.BadAnchor h = absurd h
-kind_of_uri held uri bytes place kind.UnknownDialect h = absurd h
-kind_of_uri held uri bytes place kind.DuplicateUri h = absurd h
-kind_of_uri held uri bytes place kind.DuplicateAnchor h = absurd h
-kind_of_uri held uri bytes place kind.TooManyPlaces h = absurd h
-kind_of_uri held uri bytes place kind.BadReference h = absurd h
-kind_of_uri held uri bytes place kind.Unresolved h = absurd h
+kind_of_uri held uri bytes place _ h = absurd h
 
 pub refused_by_uri : (held : ℕ) (uri : Text) (bytes : List ℕ) (r : Refusal) → IsUriRefusedBy held uri r → IsRefusedBy held uri bytes r
 refused_by_uri held uri bytes r h = (h.0, kind_of_uri held uri bytes r.place r.kind h.1)

@@ -6,6 +6,8 @@ use Rattle.js_doc.proofs.FiniteMaps.{get_past, get_here, get_below}
 use Rattle.js_places.specs.Keyword.{Text, argument}
 use Rattle.js_doc.proofs.PartLists.{member_list-members}
 
+pub ruleset listed_members = (member_list-members)
+
 -- each of these stands so in the whole
 abbrev pub StandIn : Named → Named → Type 0
 StandIn whole [] = Unit {0}

@@ -13,7 +13,8 @@ use Rattle.js_bundle.specs.Candidate.{Candidate, IsClear}
 use Rattle.js_places.specs.Document.{Documents}
 use Rattle.js_places.specs.Finding.{number_named}
 use Rattle.js_bundle.specs.Finding.{number_of_target}
-use Rattle.js_bundle.specs.Form.{is_text_value, text_keywords, is_formed}
+use Rattle.js_assert.specs.Form.{is_string}
+use Rattle.js_bundle.specs.Form.{text_keywords, is_formed}
 use Rattle.js_places.specs.Keyword.{Text, argument, has_argument, as_text, text_argument}
 use Rattle.js_places.specs.Names.{names, named, is_read}
 use Rattle.js_bundle.specs.Refusals.{when, decided, assertion_rules, on_text, text_rules, name_rules, at_place, at_member, at_site, first_pass, at_joined_reference, at_reference_text, at_reference, at_references, second_pass, candidates}
@@ -67,14 +68,14 @@ form_clear before all n s h e k v g =
 
 -- ---- a reference is a text
 
-text_form : (k : Text) (v : Value) → list_any (bytes_eq k) text_keywords ≡ true → is_formed k v ≡ true → is_text_value v ≡ true
+text_form : (k : Text) (v : Value) → list_any (bytes_eq k) text_keywords ≡ true → is_formed k v ≡ true → is_string v ≡ true
 text_form k v e h = rest (list_any (bytes_eq k) text_keywords) e _ h
   where
-    rest : (b : Bool) → b ≡ true → (other : Bool) → (if b then is_text_value v else other) ≡ true → is_text_value v ≡ true
+    rest : (b : Bool) → b ≡ true → (other : Bool) → (if b then is_string v else other) ≡ true → is_string v ≡ true
     rest true e other h = h
     rest false e other h = absurd (cc)
 
-is_as_text : (v : Value) → is_text_value v ≡ true → is_some (as_text v) ≡ true
+is_as_text : (v : Value) → is_string v ≡ true → is_some (as_text v) ≡ true
 is_as_text null e = absurd (cc)
 is_as_text (truth b) e = absurd (cc)
 is_as_text (whole z) e = absurd (cc)
@@ -82,7 +83,7 @@ is_as_text (text t) e = refl
 is_as_text (list vs) e = absurd (cc)
 is_as_text (object ms) e = absurd (cc)
 
-some_text : (o : Option Value) → is_some o ≡ true → ((v : Value) → o ≡ Some v → is_text_value v ≡ true) → is_some (option_and_then as_text o) ≡ true
+some_text : (o : Option Value) → is_some o ≡ true → ((v : Value) → o ≡ Some v → is_string v ≡ true) → is_some (option_and_then as_text o) ≡ true
 some_text None e h = absurd (cc)
 some_text (Some v) e h = is_as_text v (h v refl)
 

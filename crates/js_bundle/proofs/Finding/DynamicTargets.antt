@@ -1,5 +1,5 @@
 -- What a dynamic reference leads to.
-use Rattle.std.proofs.Common.{◌≡◌, ◌&&◌, ℕ, ◌+◌, ◌≤◌, List, ◌∷◌, Bool, true, false, not, if◌then◌else◌, Option, Some, None, option_map, option_and_then, unwrap_or, is_some, slice_get, bytes_eq, codes, drop, length, refl, sym, ap, ◌∙◌, subst}
+use Rattle.std.proofs.Common.{◌≡◌, ◌&&◌, ℕ, ◌+◌, ◌≤◌, List, ◌∷◌, Bool, true, false, if◌then◌else◌, Option, Some, None, option_map, option_and_then, unwrap_or, is_some, slice_get, bytes_eq, codes, drop, length, refl, sym, ap, ◌∙◌, subst}
 use Rattle.std.specs.List.{position_from}
 use Rattle.std.specs.Option.{option_map_or}
 use Rattle.std.proofs.lemmas.Bool.{lt-ltb}
@@ -11,7 +11,7 @@ use Rattle.js_bundle.specs.declared.check.references.DynamicReference.{DynamicRe
 use Rattle.js_bundle.specs.Candidate.{IsClear}
 use Rattle.js_places.specs.code.SparseList.{IsSparseList}
 use Rattle.js_places.specs.Document.{Documents}
-use Rattle.js_bundle.specs.Finding.{number_of_target, goes_by_name, dynamic_as, dynamic_at, by_scope}
+use Rattle.js_bundle.specs.Finding.{number_of_target, goes_by_name, dynamic_as, dynamic_at, scope_name, IsFirstTarget}
 use Rattle.js_places.specs.Keyword.{Text, has_argument, text_argument}
 use Rattle.js_places.specs.Names.{belongs_to, makes}
 use Rattle.js_bundle.specs.Refusals.{candidates}
@@ -61,31 +61,36 @@ anchored documents name place x n e h = anchored_by documents name x n (place_at
 
 -- ---- where a first target leads
 
-pub led_first : (documents : Documents) (path : List Site) (b : Bool) (n : ℕ) → is_place documents n ≡ true → ((s : Site) → place_at documents n ≡ Some s → by_scope (sites documents) path b s ≡ s)
-    → StandsFor documents n (option_map (by_scope (sites documents) path b) (place_at documents n))
-led_first documents path b n h same =
-    let found = there documents n h in
-    (found.0, ap (option_map (by_scope (sites documents) path b)) found.1 ∙ ap Some (same found.0 found.1), found.1)
-
-not_so : (b : Bool) → not b ≡ true → b ≡ false
-not_so false e = refl
-not_so true e = absurd (cc)
-
-pub stays : (documents : Documents) (path : List Site) (b : Bool) (n : ℕ) → is_place documents n ≡ true → not b ≡ true
-    → StandsFor documents n (option_map (by_scope (sites documents) path b) (place_at documents n))
-stays documents path b n h e = led_first documents path b n h (λ s _. let plain : b ≡ false = not_so b e in rw plain refl)
-
 -- by its own name, which is the reference's fragment
 same_name : (all path : List Site) (f : Text) (o : Option Text) (first : Site) (b : Bool) → option_map_or (bytes_eq f) o false ≡ b
-    → (if b then unwrap_or (option_and_then (λ name. spec.outermost all name path) o) first else first) ≡ (if b then unwrap_or (spec.outermost all f path) first else first)
+    → unwrap_or (option_and_then (λ name. spec.outermost all name path) (if b then o else None)) first ≡ (if b then unwrap_or (spec.outermost all f path) first else first)
 same_name all path f o first false e = refl
 same_name all path f None first true e = absurd (cc)
 same_name all path f (Some t) first true e = ap (λ name. unwrap_or (spec.outermost all name path) first) (sym (is_text-sound f t e))
 
-scope_is : (all path : List Site) (u : Option Parts) (first : Site) → by_scope all path (spec.is_dynamic u first) first ≡ spec.dynamic_of all path u first
+scope_is : (all path : List Site) (u : Option Parts) (first : Site)
+    → unwrap_or (option_and_then (λ name. spec.outermost all name path) (scope_name (spec.is_dynamic u first) first)) first ≡ spec.dynamic_of all path u first
 scope_is all path None first = refl
 scope_is all path (Some u) first =
     same_name all path (decoded_fragment u) (text_argument (codes "$dynamicAnchor") first.schema) first (makes (codes "$dynamicAnchor") (decoded_fragment u) first) refl
+
+pub leads_first : (documents : Documents) (scope : List Site) (place first : ℕ) (name : Option Text) → IsFirstTarget documents place first name → name ≡ None
+    → StandsFor documents first (option_and_then (spec.dynamic_target (sites documents) scope) (place_at documents place))
+leads_first documents scope place first name h none =
+    (h.target, h.decides scope ∙ ap (λ o. Some (unwrap_or (option_and_then (λ n. spec.outermost (sites documents) n scope) o) h.target)) none, h.stands)
+
+pub leads_by_name : (documents : Documents) (scope : List Site) (place first n : ℕ) (name : Option Text) (text : Text) (found : Option ℕ) → IsFirstTarget documents place first name → name ≡ Some text
+    → Finds documents found (spec.outermost (sites documents) text scope) → n ≡ unwrap_or found first
+    → StandsFor documents n (option_and_then (spec.dynamic_target (sites documents) scope) (place_at documents place))
+leads_by_name documents scope place first n name text found h some = by_found found
+  where
+    decided : option_and_then (spec.dynamic_target (sites documents) scope) (place_at documents place) ≡ Some (unwrap_or (spec.outermost (sites documents) text scope) h.target)
+    decided = h.decides scope ∙ ap (λ o. Some (unwrap_or (option_and_then (λ t. spec.outermost (sites documents) t scope) o) h.target)) some
+
+    by_found : (o : Option ℕ) → Finds documents o (spec.outermost (sites documents) text scope) → n ≡ unwrap_or o first
+        → StandsFor documents n (option_and_then (spec.dynamic_target (sites documents) scope) (place_at documents place))
+    by_found None none is = (h.target, decided ∙ ap (λ o. Some (unwrap_or o h.target)) none, ap (place_at documents) is ∙ h.stands)
+    by_found (Some m) one is = (one.0, decided ∙ ap (λ o. Some (unwrap_or o h.target)) one.1, ap (place_at documents) is ∙ one.2)
 
 -- ---- the reference that is kept of a place
 
@@ -128,18 +133,20 @@ reference_is docs documents kept n place r same number e h =
 pub target_place : (documents : Documents) (place : ℕ) (r : DynamicReference) → IsReference documents place r → is_place documents r.target ≡ true
 target_place documents place r h = lt-ltb r.target (length (sites documents)) (slice_get_within (sites documents) r.target h.first h.target)
 
-pub led : (documents : Documents) (path : List Site) (place m : ℕ) (r : DynamicReference) → IsReference documents place r
-    → StandsFor documents m (option_map (by_scope (sites documents) path r.by_name) (place_at documents r.target))
-    → StandsFor documents m (option_and_then (spec.dynamic_target (sites documents) path) (place_at documents place))
-led documents path place m r h there =
+pub leads : (documents : Documents) (place : ℕ) (r : DynamicReference) (name : Option Text) → IsReference documents place r
+    → name ≡ option_and_then (scope_name r.by_name) (place_at documents r.target) → IsFirstTarget documents place r.target name
+leads documents place r name h is =
     let all = sites documents in
     let u = spec.reference (codes "$dynamicRef") h.site in
     let dynamic : r.by_name ≡ spec.is_dynamic u h.first = h.by_name ∙ ap (λ o. option_map_or (spec.is_dynamic u) o false) h.named in
-    let left : option_map (by_scope all path r.by_name) (place_at documents r.target) ≡ Some (spec.dynamic_of all path u h.first) =
-    ap (option_map (by_scope all path r.by_name)) h.target ∙ ap (λ b. Some (by_scope all path b h.first)) dynamic ∙ ap Some (scope_is all path u h.first) in
-    let right : option_and_then (spec.dynamic_target all path) (place_at documents place) ≡ Some (spec.dynamic_of all path u h.first) =
-    ap (option_and_then (spec.dynamic_target all path)) h.stands ∙ ap (option_map (spec.dynamic_of all path u)) h.named in
-    subst (λ o. StandsFor documents m o) (left ∙ sym right) there
+    let same : name ≡ scope_name (spec.is_dynamic u h.first) h.first = is ∙ ap (option_and_then (scope_name r.by_name)) h.target ∙ ap (λ b. scope_name b h.first) dynamic in
+    record {
+      target = h.first;
+      stands = h.target;
+      decides = λ scope.
+          let by_name = ap (λ o. unwrap_or (option_and_then (λ n. spec.outermost all n scope) o) h.first) same ∙ scope_is all scope u h.first in
+          ap (option_and_then (spec.dynamic_target all scope)) h.stands ∙ ap (option_map (spec.dynamic_of all scope u)) h.named ∙ ap Some (sym by_name);
+    }
 
 -- ---- there is one
 

@@ -5,7 +5,7 @@ use Rattle.std.specs.Str.{bytes_eq}
 use Rattle.std.proofs.lemmas.List.{append-nil}
 use Rattle.std.proofs.lemmas.List.Folds.{find-append}
 use Rattle.js_doc.specs.Members.{get, NamesAscend, NamesAscendInMembers}
-use Rattle.js_doc.specs.Value.{Value, null, truth, whole, text, list, object, Members, no_members, member, Named}
+use Rattle.js_doc.specs.Value.{Value, object, Members, no_members, member, Named}
 use Rattle.js_doc.specs.Parts.{member_list, members_of}
 use Rattle.js_doc.proofs.Named.{is_text-refl, is_text-sound}
 use Rattle.js_assert.specs.Argument.{has}
@@ -147,12 +147,8 @@ module _ (name : Text) where
       (pattern_in ms a.2)
 
   pattern_of : (v : Value) → NamesAscend v → option_map (λ b. b.pattern) (find so_named (flat_map patterns_of (members_of v))) ≡ option_and_then of_argument (argument the_patterns v)
-  pattern_of null a = refl
-  pattern_of (truth b) a = refl
-  pattern_of (whole z) a = refl
-  pattern_of (text t) a = refl
-  pattern_of (list vs) a = refl
   pattern_of (object ms) a = pattern_in ms a
+  pattern_of _ a = refl
 
 -- the pattern of a name among a place's `patternProperties` is what is found under that name
 pub pattern_found : (name : Text) (s : Site) → NamesAscend s.schema → option_map (λ b. b.pattern) (find (λ b. bytes_eq name b.name) (patterns_at s)) ≡ pattern name s

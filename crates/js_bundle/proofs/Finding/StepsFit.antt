@@ -11,7 +11,7 @@ use Rattle.js_places.specs.Keyword.{Text}
 use Rattle.js_places.specs.KeywordName.{TableOfNames, applying, identifying, name_in, by_side, not_applying, stands_behind_if, keyword_name}
 use Rattle.js_places.specs.Place.{holding}
 use Rattle.js_bundle.specs.Ranked.{applies_at}
-use Rattle.js_bundle.specs.Schemas.{Step, Alone, Index, Name, fits}
+use Rattle.js_bundle.specs.Schemas.{Step, fits}
 
 side_of : (g : KeywordName → Bool) (b : Bool) (m n : KeywordName) → g m ≡ false → g n ≡ false → g (cond b n m) ≡ false
 side_of g true m n e f = f
@@ -46,15 +46,7 @@ by_name f g name none a b c d all e =
 pub applies_fits : (name : Text) (step : Step)
     → applies_at (keyword_name name) step ≡ true → fits (holding name) step ≡ true
 unfolding holding
-applies_fits name Alone e =
-    by_name (λ k. fits (holding k) Alone) (λ w. applies_at w Alone) name (refl, (refl, (refl, (refl, (refl, (refl, (refl, (refl, tt)))))))) refl refl refl refl
-    (refl, (refl, (refl, (refl, (refl, (refl, (refl, (refl, (refl, (refl, (refl, (refl, (refl, (refl, (refl, (refl, (refl, (refl, (refl, tt)))))))))))))))))))
-    e
-applies_fits name (Index i) e =
-    by_name (λ k. fits (holding k) (Index i)) (λ w. applies_at w (Index i)) name (refl, (refl, (refl, (refl, (refl, (refl, (refl, (refl, tt)))))))) refl refl refl refl
-    (refl, (refl, (refl, (refl, (refl, (refl, (refl, (refl, (refl, (refl, (refl, (refl, (refl, (refl, (refl, (refl, (refl, (refl, (refl, tt)))))))))))))))))))
-    e
-applies_fits name (Name n) e =
-    by_name (λ k. fits (holding k) (Name n)) (λ w. applies_at w (Name n)) name (refl, (refl, (refl, (refl, (refl, (refl, (refl, (refl, tt)))))))) refl refl refl refl
+applies_fits name step e =
+    by_name (λ k. fits (holding k) step) (λ w. applies_at w step) name (refl, (refl, (refl, (refl, (refl, (refl, (refl, (refl, tt)))))))) refl refl refl refl
     (refl, (refl, (refl, (refl, (refl, (refl, (refl, (refl, (refl, (refl, (refl, (refl, (refl, (refl, (refl, (refl, (refl, (refl, (refl, tt)))))))))))))))))))
     e

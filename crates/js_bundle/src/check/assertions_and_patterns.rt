@@ -8,6 +8,7 @@ ghost use Rattle.js_bundle.specs.Refusals.{at_pattern, name_rules};
 ghost use Rattle.js_places.specs.code.Scan.{site_of};
 
 use crate::check::fault::{CheckFault, refuse_member};
+use crate::check::lookup::SiteKeyword;
 use crate::refusal::RefusalKind;
 use js_assert::{Assertion, Pattern, PatternFault};
 use js_doc::{Doc, Members, Memory, Text};
@@ -92,47 +93,46 @@ pub(crate) fn keep_assertion(
     Ok(())
 }
 
-fn read_pattern(
-    alloc: Global,
-    site: &Site<'_>,
-    keyword: &str,
-    name: &str,
-) -> Result<Pattern, CheckFault>
+fn read_pattern(alloc: Global, at: SiteKeyword<'_>, name: &str) -> Result<Pattern, CheckFault>
     ensures clear { OnOk result (IsClear
-        (at_pattern (site_of site.now) (keyword.now ∷ name.now ∷ []) name.now)) }
+        (at_pattern (site_of at.entry.site.now) (at.entry.keyword.now ∷ name.now ∷ []) name.now)) }
     ensures built { IfOk result (λ p. p ≡ name.now) }
     ensures err { IfErr result (IsStopped
-        (at_pattern (site_of site.now) (keyword.now ∷ name.now ∷ []) name.now)) }
+        (at_pattern (site_of at.entry.site.now) (at.entry.keyword.now ∷ name.now ∷ []) name.now)) }
 {
     match Pattern::new(alloc, name) {
         Ok(pattern) => Ok(pattern),
         Err(PatternFault::Memory) => Err(CheckFault::Memory),
         Err(PatternFault::NotAPattern) => {
-            Err(refuse_member(alloc, site, keyword, name, RefusalKind::BadPattern))
+            Err(refuse_member(alloc, at.site, at.keyword, name, RefusalKind::BadPattern))
         }
         Err(PatternFault::PatternTooLarge) => {
-            Err(refuse_member(alloc, site, keyword, name, RefusalKind::PatternTooLarge))
+            Err(refuse_member(
+                alloc,
+                at.site,
+                at.keyword,
+                name,
+                RefusalKind::PatternTooLarge,
+            ))
         }
     }
 }
 
-/// Reads the names of `patternProperties` as patterns.
-pub(crate) fn read_patterns(
-    alloc: Global,
+// Reads the names of `patternProperties` as patterns.
+fn read_patterns(
     out: &mut Vec<BuiltPattern>,
-    site: &Site<'_>,
-    keyword: &str,
+    at: SiteKeyword<'_>,
     members: &Members,
 ) -> Result<(), CheckFault>
     ensures clear { OnOk result (IsClear
-        (flat_map (λ n. at_pattern (site_of site.now) (keyword.now ∷ n.0 ∷ []) n.0) members.now)) }
+        (flat_map (λ n. at_pattern (site_of at.entry.site.now) (at.entry.keyword.now ∷ n.0 ∷ []) n.0) members.now)) }
     ensures built { OnOk result (out.new.items ≡ out.old.items ++ map pattern_at members.now) }
     ensures err { IfErr result (IsStopped
-        (flat_map (λ n. at_pattern (site_of site.now) (keyword.now ∷ n.0 ∷ []) n.0) members.now)) }
+        (flat_map (λ n. at_pattern (site_of at.entry.site.now) (at.entry.keyword.now ∷ n.0 ∷ []) n.0) members.now)) }
 {
     for (name, _) in members.pairs() {
         let copied = Text::new(name.clone()?);
-        let pattern = read_pattern(alloc, site, keyword, name.as_str())?;
+        let pattern = read_pattern(*out.allocator(), at, name.as_str())?;
         out.push(BuiltPattern {
             name: copied,
             pattern,
@@ -143,43 +143,22 @@ pub(crate) fn read_patterns(
 
 /// Reads the names of an argument as patterns, where the keyword is `patternProperties`.
 pub(crate) fn read_names(
-    alloc: Global,
     out: &mut Vec<BuiltPattern>,
-    site: &Site<'_>,
-    keyword: &str,
+    at: SiteKeyword<'_>,
     argument: &Doc,
 ) -> Result<(), CheckFault>
     ensures clear { OnOk result (IsClear
-        (name_rules (site_of site.now) keyword.now (value_of argument.now))) }
+        (name_rules (site_of at.entry.site.now) at.entry.keyword.now (value_of argument.now))) }
     ensures built { OnOk result (out.new.items
-        ≡ out.old.items ++ patterns_of (keyword.now, value_of argument.now)) }
+        ≡ out.old.items ++ patterns_of (at.entry.keyword.now, value_of argument.now)) }
     ensures err { IfErr result (IsStopped
-        (name_rules (site_of site.now) keyword.now (value_of argument.now))) }
+        (name_rules (site_of at.entry.site.now) at.entry.keyword.now (value_of argument.now))) }
 {
-    match keyword {
-        "patternProperties" => read_names_of(alloc, out, site, keyword, argument),
-        _ => Ok(()),
-    }
-}
-
-fn read_names_of(
-    alloc: Global,
-    out: &mut Vec<BuiltPattern>,
-    site: &Site<'_>,
-    keyword: &str,
-    argument: &Doc,
-) -> Result<(), CheckFault>
-    ensures clear { OnOk result (IsClear
-        (flat_map (λ n. at_pattern (site_of site.now) (keyword.now ∷ n.0 ∷ []) n.0)
-        (members_of (value_of argument.now)))) }
-    ensures built { OnOk result (out.new.items
-        ≡ out.old.items ++ map pattern_at (members_of (value_of argument.now))) }
-    ensures err { IfErr result (IsStopped
-        (flat_map (λ n. at_pattern (site_of site.now) (keyword.now ∷ n.0 ∷ []) n.0)
-        (members_of (value_of argument.now)))) }
-{
-    match argument {
-        Doc::Members(members) => read_patterns(alloc, out, site, keyword, members),
+    match at.keyword {
+        "patternProperties" => match argument {
+            Doc::Members(members) => read_patterns(out, at, members),
+            _ => Ok(()),
+        },
         _ => Ok(()),
     }
 }

@@ -5,6 +5,7 @@ ghost use Rattle.js_places.specs.Finding.{tokens_of};
 ghost use Rattle.js_bundle.specs.Refusals.{refusal_at};
 ghost use Rattle.js_places.specs.code.Scan.{site_of};
 
+use crate::check::lookup::SiteKeyword;
 use crate::refusal::{Refusal, RefusalKind};
 use js_doc::{Memory as NoMemory, Pointer};
 use js_places::Site;
@@ -64,6 +65,14 @@ pub(crate) fn refuse(
         }),
         Err(_) => CheckFault::Memory,
     }
+}
+
+/// The refusal at a keyword of a place.
+pub(crate) fn refuse_keyword(alloc: Global, at: SiteKeyword<'_>, kind: RefusalKind) -> CheckFault
+    ensures { IsRefusalOrMemory
+        (refusal_at (site_of at.entry.site.now) (at.entry.keyword.now ∷ []) kind) result }
+{
+    refuse(alloc, at.site, Some(at.keyword), kind)
 }
 
 fn pointer_at(alloc: Global, place: &Pointer, keyword: Option<&str>) -> Result<Pointer, NoMemory>

@@ -18,75 +18,59 @@ ghost use Rattle.js_bundle.specs.Refusals.{when, decided, on_text, text_rules, a
 ghost use Rattle.js_places.specs.code.Scan.{site_of};
 
 use crate::check::assertions_and_patterns::{Built, BuiltTable, keep_assertion, read_names};
-use crate::check::fault::{CheckFault, refuse};
+use crate::check::fault::{CheckFault, refuse_keyword};
+use crate::check::lookup::{Lookup, SiteKeyword};
 use crate::check::rules::{
     check_anchor, check_dialect, check_id, check_place, is_formed, read_assertion,
 };
 use crate::refusal::RefusalKind;
 use js_doc::{Doc, Members, Memory};
-use js_places::{Index, KeywordTable, Positions, Site, TextPrefixes};
+use js_places::{KeywordTable, Positions, Site, TextPrefixes};
 use std::alloc::Global;
 
-fn check_form(
-    alloc: Global,
-    site: &Site<'_>,
-    keyword: &str,
-    argument: &Doc,
-) -> Result<(), CheckFault>
-    ensures ok { OnOk result (IsClear (when (not (is_formed keyword.now (value_of argument.now)))
-        (decided (site_of site.now) (keyword.now ∷ []) BadKeyword))) }
-    ensures err { IfErr result (IsStopped (when (not (is_formed keyword.now (value_of argument.now)))
-        (decided (site_of site.now) (keyword.now ∷ []) BadKeyword))) }
+fn check_form(alloc: Global, at: SiteKeyword<'_>, argument: &Doc) -> Result<(), CheckFault>
+    ensures ok { OnOk result (IsClear (when (not (is_formed at.entry.keyword.now (value_of argument.now)))
+        (decided (site_of at.entry.site.now) (at.entry.keyword.now ∷ []) BadKeyword))) }
+    ensures err { IfErr result (IsStopped (when (not (is_formed at.entry.keyword.now (value_of argument.now)))
+        (decided (site_of at.entry.site.now) (at.entry.keyword.now ∷ []) BadKeyword))) }
 {
-    if is_formed(keyword, argument) {
+    if is_formed(at.keyword, argument) {
         Ok(())
     } else {
-        Err(refuse(alloc, site, Some(keyword), RefusalKind::BadKeyword))
+        Err(refuse_keyword(alloc, at, RefusalKind::BadKeyword))
     }
 }
 
 // The rules of a keyword whose argument is a text.
-fn check_text(
-    alloc: Global,
-    index: &Index,
-    before: &[Site<'_>],
-    site: &Site<'_>,
-    keyword: &str,
-    text: &str,
-) -> Result<(), CheckFault>
-    requires index { IsIndexOf index.now (map site_of before.now) }
-    requires argument { words.argument keyword.now (value_of site.now.schema.now) ≡ Some (spec.text text.now) }
+fn check_text(known: Lookup<'_>, at: SiteKeyword<'_>, text: &str) -> Result<(), CheckFault>
+    requires index { IsIndexOf known.index.now (map site_of known.sites.now) }
+    requires argument { words.argument at.keyword.now (value_of at.site.now.schema.now) ≡ Some (spec.text text.now) }
     ensures ok { OnOk result (IsClear
-        (text_rules (map site_of before.now) (site_of site.now) keyword.now text.now)) }
+        (text_rules (map site_of known.entry.sites.now) (site_of at.entry.site.now) at.entry.keyword.now text.now)) }
     ensures err { IfErr result (IsStopped
-        (text_rules (map site_of before.now) (site_of site.now) keyword.now text.now)) }
+        (text_rules (map site_of known.entry.sites.now) (site_of at.entry.site.now) at.entry.keyword.now text.now)) }
 {
-    match keyword {
-        "$schema" => check_dialect(alloc, site, keyword, text),
-        "$id" => check_id(alloc, index, before, site, keyword, text),
-        "$anchor" => check_anchor(alloc, index, before, site, keyword, text),
-        "$dynamicAnchor" => check_anchor(alloc, index, before, site, keyword, text),
+    match at.keyword {
+        "$schema" => check_dialect(known.alloc, at, text),
+        "$id" => check_id(known, at, text),
+        "$anchor" => check_anchor(known, at, text),
+        "$dynamicAnchor" => check_anchor(known, at, text),
         _ => Ok(()),
     }
 }
 
-fn check_argument(
-    alloc: Global,
-    index: &Index,
-    before: &[Site<'_>],
-    site: &Site<'_>,
-    keyword: &str,
-    argument: &Doc,
-) -> Result<(), CheckFault>
-    requires index { IsIndexOf index.now (map site_of before.now) }
-    requires argument { words.argument keyword.now (value_of site.now.schema.now) ≡ Some (value_of argument.now) }
+fn check_argument(known: Lookup<'_>, at: SiteKeyword<'_>, argument: &Doc) -> Result<(), CheckFault>
+    requires index { IsIndexOf known.index.now (map site_of known.sites.now) }
+    requires argument { words.argument at.keyword.now (value_of at.site.now.schema.now) ≡ Some (value_of argument.now) }
     ensures ok { OnOk result (IsClear (on_text
-        (text_rules (map site_of before.now) (site_of site.now) keyword.now) (value_of argument.now))) }
+        (text_rules (map site_of known.entry.sites.now) (site_of at.entry.site.now) at.entry.keyword.now)
+        (value_of argument.now))) }
     ensures err { IfErr result (IsStopped (on_text
-        (text_rules (map site_of before.now) (site_of site.now) keyword.now) (value_of argument.now))) }
+        (text_rules (map site_of known.entry.sites.now) (site_of at.entry.site.now) at.entry.keyword.now)
+        (value_of argument.now))) }
 {
     match argument {
-        Doc::Text(text) => check_text(alloc, index, before, site, keyword, text.as_str()),
+        Doc::Text(text) => check_text(known, at, text.as_str()),
         _ => Ok(()),
     }
 }
@@ -94,104 +78,89 @@ fn check_argument(
 // The rules of a keyword, its form first.
 fn check_keyword(
     built: &mut Built,
-    index: &Index,
-    before: &[Site<'_>],
-    site: &Site<'_>,
-    keyword: &str,
+    known: Lookup<'_>,
+    at: SiteKeyword<'_>,
     argument: &Doc,
     siblings: &Members,
 ) -> Result<(), CheckFault>
-    requires index { IsIndexOf index.now (map site_of before.now) }
-    requires argument { words.argument keyword.now (value_of site.now.schema.now) ≡ Some (value_of argument.now) }
+    requires index { IsIndexOf known.index.now (map site_of known.sites.now) }
+    requires argument { words.argument at.keyword.now (value_of at.site.now.schema.now) ≡ Some (value_of argument.now) }
     ensures clear { OnOk result (IsClear
-        (at_member (map site_of before.now) (site_of site.now) (keyword.now, value_of argument.now))) }
+        (at_member (map site_of known.entry.sites.now) (site_of at.entry.site.now)
+        (at.entry.keyword.now, value_of argument.now))) }
     ensures assertions { OnOk result (built.new.assertions.items ≡ built.old.assertions.items
-        ++ assertion_at siblings.now (keyword.now, value_of argument.now)) }
+        ++ assertion_at siblings.now (at.entry.keyword.now, value_of argument.now)) }
     ensures patterns { OnOk result (built.new.patterns.items ≡ built.old.patterns.items
-        ++ patterns_of (keyword.now, value_of argument.now)) }
+        ++ patterns_of (at.entry.keyword.now, value_of argument.now)) }
     ensures err { IfErr result (IsStopped
-        (at_member (map site_of before.now) (site_of site.now) (keyword.now, value_of argument.now))) }
+        (at_member (map site_of known.entry.sites.now) (site_of at.entry.site.now)
+        (at.entry.keyword.now, value_of argument.now))) }
 {
-    let alloc = *built.assertions.allocator();
-    check_form(alloc, site, keyword, argument)?;
-    let assertion = read_assertion(alloc, site, keyword, argument, siblings)?;
+    check_form(known.alloc, at, argument)?;
+    let assertion = read_assertion(known.alloc, at, argument, siblings)?;
     keep_assertion(&mut built.assertions, assertion)?;
-    check_argument(alloc, index, before, site, keyword, argument)?;
-    read_names(alloc, &mut built.patterns, site, keyword, argument)
+    check_argument(known, at, argument)?;
+    read_names(&mut built.patterns, at, argument)
 }
 
 // The rules of all of a place's keywords, by name ascending.
 fn check_keywords(
     built: &mut Built,
-    index: &Index,
-    before: &[Site<'_>],
+    known: Lookup<'_>,
     site: &Site<'_>,
     members: &Members,
 ) -> Result<(), CheckFault>
-    requires index { IsIndexOf index.now (map site_of before.now) }
+    requires index { IsIndexOf known.index.now (map site_of known.sites.now) }
     requires members { value_of site.now.schema.now ≡ spec.object (spec.members members.now) }
     ensures clear { OnOk result (IsClear
-        (flat_map (at_member (map site_of before.now) (site_of site.now)) members.now)) }
+        (flat_map (at_member (map site_of known.entry.sites.now) (site_of site.now)) members.now)) }
     ensures assertions { OnOk result (built.new.assertions.items ≡ built.old.assertions.items
         ++ flat_map (assertion_at members.now) members.now) }
     ensures patterns { OnOk result (built.new.patterns.items ≡ built.old.patterns.items
         ++ flat_map patterns_of members.now) }
     ensures err { IfErr result (IsStopped
-        (flat_map (at_member (map site_of before.now) (site_of site.now)) members.now)) }
+        (flat_map (at_member (map site_of known.entry.sites.now) (site_of site.now)) members.now)) }
 {
     for (keyword, argument) in members.pairs() {
-        check_keyword(
-            built,
-            index,
-            before,
-            site,
-            keyword.as_str(),
-            argument,
-            members,
-        )?;
+        let at = SiteKeyword {
+            site: &*site, // lent again, for as long as the name is
+            keyword: keyword.as_str(),
+        };
+        check_keyword(built, known, at, argument, members)?;
     }
     Ok(())
 }
 
-fn check_schema(
-    built: &mut Built,
-    index: &Index,
-    before: &[Site<'_>],
-    site: &Site<'_>,
-) -> Result<(), CheckFault>
-    requires { IsIndexOf index.now (map site_of before.now) }
+#[tactic(auto, using(crate::proofs::Checking::MembersByName::listed_members))]
+fn check_schema(built: &mut Built, known: Lookup<'_>, site: &Site<'_>) -> Result<(), CheckFault>
+    requires { IsIndexOf known.index.now (map site_of known.sites.now) }
     ensures clear { OnOk result (IsClear (flat_map
-        (at_member (map site_of before.now) (site_of site.now)) (members_of (site_of site.now).schema))) }
+        (at_member (map site_of known.entry.sites.now) (site_of site.now)) (members_of (site_of site.now).schema))) }
     ensures assertions { OnOk result (built.new.assertions.items ≡ built.old.assertions.items
         ++ assertions_at (site_of site.now)) }
     ensures patterns { OnOk result (built.new.patterns.items ≡ built.old.patterns.items
         ++ patterns_at (site_of site.now)) }
     ensures err { IfErr result (IsStopped (flat_map
-        (at_member (map site_of before.now) (site_of site.now)) (members_of (site_of site.now).schema))) }
+        (at_member (map site_of known.entry.sites.now) (site_of site.now)) (members_of (site_of site.now).schema))) }
 {
     match site.schema {
-        Doc::Members(members) => check_keywords(built, index, before, site, members),
+        Doc::Members(members) => check_keywords(built, known, site, members),
         _ => Ok(()),
     }
 }
 
 // The rules of a place, and of its keywords.
-fn check_site(
-    built: &mut Built,
-    index: &Index,
-    before: &[Site<'_>],
-    site: &Site<'_>,
-) -> Result<(), CheckFault>
-    requires { IsIndexOf index.now (map site_of before.now) }
-    ensures clear { OnOk result (IsClear (at_site (map site_of before.now) (site_of site.now))) }
+fn check_site(built: &mut Built, known: Lookup<'_>, site: &Site<'_>) -> Result<(), CheckFault>
+    requires { IsIndexOf known.index.now (map site_of known.sites.now) }
+    ensures clear { OnOk result (IsClear (at_site (map site_of known.entry.sites.now) (site_of site.now))) }
     ensures assertions { OnOk result (built.new.assertions.items ≡ built.old.assertions.items
         ++ assertions_at (site_of site.now)) }
     ensures patterns { OnOk result (built.new.patterns.items ≡ built.old.patterns.items
         ++ patterns_at (site_of site.now)) }
-    ensures err { IfErr result (IsStopped (at_site (map site_of before.now) (site_of site.now))) }
+    ensures err { IfErr result (IsStopped (at_site (map site_of known.entry.sites.now) (site_of site.now))) }
 {
-    check_place(*built.assertions.allocator(), index, before, site)?;
-    check_schema(built, index, before, site)
+    check_place(known, site)?;
+    check_schema(built, known, site)
 }
 
 /// What the first pass has of the places.
@@ -251,8 +220,12 @@ impl Passed {
         ensures err { IfErr result (IsStopped (at_site (map site_of earlier.now) (site_of site.now))) }
     {
         self.keywords.add_names(site)?;
-        let index = &self.positions.index;
-        check_site(&mut self.built.all, index, earlier, site)?;
+        let known = Lookup {
+            alloc,
+            index: &self.positions.index,
+            sites: &*earlier, // lent again, for as long as the index is
+        };
+        check_site(&mut self.built.all, known, site)?;
         self.built.end_place()?;
         self.positions
             .add_position(alloc, prefixes, earlier, before, site)?;

@@ -19,85 +19,76 @@ ghost use Rattle.js_places.specs.code.Scan.{site_of};
 ghost use Rattle.js_places.specs.Url.{longest_uri};
 ghost use Rattle.url.specs.Parser.{parse_url};
 
-use crate::check::fault::{CheckFault, refuse};
+use crate::check::fault::{CheckFault, refuse_keyword};
+use crate::check::lookup::{Lookup, SiteKeyword};
 use crate::refusal::RefusalKind;
 use indexmap::IndexMap;
 use js_doc::Memory;
 use js_places::uri::{self, LONGEST};
 use js_places::{
-    Index, KeywordName, KeywordTable, NameFault, Site, add_entry, number_named, part_of_place,
+    KeywordName, KeywordTable, NameFault, Site, add_entry, number_named, part_of_place,
     text_argument,
 };
 use std::alloc::Global;
 use url::{ParseError, Url};
 
 fn resolve_url(
-    alloc: Global,
-    index: &Index,
-    sites: &[Site<'_>],
-    site: &Site<'_>,
-    keyword: &str,
+    known: Lookup<'_>,
+    at: SiteKeyword<'_>,
     url: Url,
 ) -> Result<Option<usize>, CheckFault>
-    requires { IsIndexOf index.now (map site_of sites.now) }
+    requires { IsIndexOf known.index.now (map site_of known.sites.now) }
     ensures clear { OnOk result (IsClear
-        (at_joined_reference (map site_of sites.now) (site_of site.now) (keyword.now ∷ []) (Ok url))) }
-    ensures target { IfOk result (λ t. t ≡ number_named (map site_of sites.now) url) }
+        (at_joined_reference (map site_of known.entry.sites.now) (site_of at.entry.site.now)
+        (at.entry.keyword.now ∷ []) (Ok url))) }
+    ensures target { IfOk result (λ t. t ≡ number_named (map site_of known.entry.sites.now) url) }
     ensures err { IfErr result (IsStopped
-        (at_joined_reference (map site_of sites.now) (site_of site.now) (keyword.now ∷ []) (Ok url))) }
+        (at_joined_reference (map site_of known.entry.sites.now) (site_of at.entry.site.now)
+        (at.entry.keyword.now ∷ []) (Ok url))) }
 {
-    match number_named(alloc, index, sites, url) {
+    match number_named(known.alloc, known.index, known.sites, url) {
         Ok(Some(place)) => Ok(Some(place)),
-        Ok(None) => Err(refuse(alloc, site, Some(keyword), RefusalKind::Unresolved)),
+        Ok(None) => Err(refuse_keyword(known.alloc, at, RefusalKind::Unresolved)),
         Err(NameFault::NotRead) => {
-            Err(refuse(alloc, site, Some(keyword), RefusalKind::BadReference))
+            Err(refuse_keyword(known.alloc, at, RefusalKind::BadReference))
         }
         Err(NameFault::Memory) => Err(CheckFault::Memory),
     }
 }
 
 // The URL that a reference is, joined with the base of its place.
-fn joined_reference(
-    alloc: Global,
-    site: &Site<'_>,
-    keyword: &str,
-    text: &str,
-) -> Result<Url, CheckFault>
+fn joined_reference(alloc: Global, at: SiteKeyword<'_>, text: &str) -> Result<Url, CheckFault>
     ensures short { OnOk result (nat_lt longest_uri (length text.now) ≡ false) }
-    ensures url { IfOk result (λ u. parse_url (Some site.now.own.value.base) text.now ≡ Ok u) }
+    ensures url { IfOk result (λ u. parse_url (Some at.entry.site.now.own.value.base) text.now ≡ Ok u) }
     ensures err { IfErr result (λ e. (all : List spec.Site) → IsStopped
-        (at_reference_text all (site_of site.now) (keyword.now ∷ []) (Some text.now)) e) }
+        (at_reference_text all (site_of at.entry.site.now) (at.entry.keyword.now ∷ []) (Some text.now)) e) }
 {
     if LONGEST < text.len() {
-        return Err(refuse(alloc, site, Some(keyword), RefusalKind::UriTooLong));
+        return Err(refuse_keyword(alloc, at, RefusalKind::UriTooLong));
     }
-    match site.own.base.join(text) {
+    match at.site.own.base.join(text) {
         Ok(url) => Ok(url),
         Err(ParseError::OutOfMemory) => Err(CheckFault::Memory),
         Err(ParseError::Overflow) => Err(CheckFault::Memory),
-        Err(_) => Err(refuse(alloc, site, Some(keyword), RefusalKind::BadReference)),
+        Err(_) => Err(refuse_keyword(alloc, at, RefusalKind::BadReference)),
     }
 }
 
-// The number of the place that the `$ref` names. None where the place has no `$ref`.
-fn resolve_plain(
-    alloc: Global,
-    index: &Index,
-    sites: &[Site<'_>],
-    site: &Site<'_>,
-) -> Result<Option<usize>, CheckFault>
-    requires { IsIndexOf index.now (map site_of sites.now) }
-    ensures clear { OnOk result (IsClear (at_reference (map site_of sites.now) (codes "$ref") (site_of site.now))) }
-    ensures target { IfOk result
-        (λ t. t ≡ number_of_target (map site_of sites.now) (codes "$ref") (site_of site.now)) }
+// The number of the place that a reference names. None where the place has no such reference.
+fn resolve_plain(known: Lookup<'_>, at: SiteKeyword<'_>) -> Result<Option<usize>, CheckFault>
+    requires { IsIndexOf known.index.now (map site_of known.sites.now) }
+    ensures clear { OnOk result (IsClear
+        (at_reference (map site_of known.entry.sites.now) at.entry.keyword.now (site_of at.entry.site.now))) }
+    ensures target { IfOk result (λ t. t
+        ≡ number_of_target (map site_of known.entry.sites.now) at.entry.keyword.now (site_of at.entry.site.now)) }
     ensures err { IfErr result (IsStopped
-        (at_reference (map site_of sites.now) (codes "$ref") (site_of site.now))) }
+        (at_reference (map site_of known.entry.sites.now) at.entry.keyword.now (site_of at.entry.site.now))) }
 {
-    let Some(text) = text_argument(site.schema, "$ref") else {
+    let Some(text) = text_argument(at.site.schema, at.keyword) else {
         return Ok(None);
     };
-    let url = joined_reference(alloc, site, "$ref", text)?;
-    resolve_url(alloc, index, sites, site, "$ref", url)
+    let url = joined_reference(known.alloc, at, text)?;
+    resolve_url(known, at, url)
 }
 
 // Whether the place makes the name by `$dynamicAnchor`.
@@ -124,45 +115,51 @@ fn reference_to(sites: &[Site<'_>], target: usize, name: &[u8]) -> DynamicRefere
 
 // What a `$dynamicRef` that is this URL leads to. None where it names no place.
 fn resolve_dynamic_url(
-    alloc: Global,
-    index: &Index,
-    sites: &[Site<'_>],
+    known: Lookup<'_>,
     site: &Site<'_>,
     url: Url,
 ) -> Result<Option<DynamicReference>, CheckFault>
-    requires { IsIndexOf index.now (map site_of sites.now) }
+    requires { IsIndexOf known.index.now (map site_of known.sites.now) }
     ensures clear { OnOk result (IsClear
-        (at_joined_reference (map site_of sites.now) (site_of site.now) (codes "$dynamicRef" ∷ []) (Ok url))) }
-    ensures reference { IfOk result (λ r. r ≡ dynamic_by (map site_of sites.now) (Some url)) }
+        (at_joined_reference (map site_of known.entry.sites.now) (site_of site.now)
+        (codes "$dynamicRef" ∷ []) (Ok url))) }
+    ensures reference { IfOk result (λ r. r ≡ dynamic_by (map site_of known.entry.sites.now) (Some url)) }
     ensures err { IfErr result (IsStopped
-        (at_joined_reference (map site_of sites.now) (site_of site.now) (codes "$dynamicRef" ∷ []) (Ok url))) }
+        (at_joined_reference (map site_of known.entry.sites.now) (site_of site.now)
+        (codes "$dynamicRef" ∷ []) (Ok url))) }
 {
-    let name = uri::decoded_fragment(alloc, &url)?;
-    match resolve_url(alloc, index, sites, site, "$dynamicRef", url)? {
-        Some(target) => Ok(Some(reference_to(sites, target, name.as_slice()))),
+    let name = uri::decoded_fragment(known.alloc, &url)?;
+    let at = SiteKeyword {
+        site,
+        keyword: "$dynamicRef",
+    };
+    match resolve_url(known, at, url)? {
+        Some(target) => Ok(Some(reference_to(known.sites, target, name.as_slice()))),
         None => Ok(None),
     }
 }
 
 // What the `$dynamicRef` of a place leads to. None where the place has no `$dynamicRef`.
 fn resolve_dynamic(
-    alloc: Global,
-    index: &Index,
-    sites: &[Site<'_>],
+    known: Lookup<'_>,
     site: &Site<'_>,
 ) -> Result<Option<DynamicReference>, CheckFault>
-    requires { IsIndexOf index.now (map site_of sites.now) }
+    requires { IsIndexOf known.index.now (map site_of known.sites.now) }
     ensures clear { OnOk result (IsClear
-        (at_reference (map site_of sites.now) (codes "$dynamicRef") (site_of site.now))) }
-    ensures reference { IfOk result (λ r. r ≡ dynamic_at (map site_of sites.now) (site_of site.now)) }
+        (at_reference (map site_of known.entry.sites.now) (codes "$dynamicRef") (site_of site.now))) }
+    ensures reference { IfOk result (λ r. r ≡ dynamic_at (map site_of known.entry.sites.now) (site_of site.now)) }
     ensures err { IfErr result (IsStopped
-        (at_reference (map site_of sites.now) (codes "$dynamicRef") (site_of site.now))) }
+        (at_reference (map site_of known.entry.sites.now) (codes "$dynamicRef") (site_of site.now))) }
 {
     let Some(text) = text_argument(site.schema, "$dynamicRef") else {
         return Ok(None);
     };
-    let url = joined_reference(alloc, site, "$dynamicRef", text)?;
-    resolve_dynamic_url(alloc, index, sites, site, url)
+    let at = SiteKeyword {
+        site,
+        keyword: "$dynamicRef",
+    };
+    let url = joined_reference(known.alloc, at, text)?;
+    resolve_dynamic_url(known, site, url)
 }
 
 /// What the two references of a place name.
@@ -172,45 +169,42 @@ struct Targets {
     plain: Option<usize>,
 }
 
-fn resolve_both(
-    alloc: Global,
-    index: &Index,
-    sites: &[Site<'_>],
-    site: &Site<'_>,
-) -> Result<Targets, CheckFault>
-    requires { IsIndexOf index.now (map site_of sites.now) }
-    ensures clear { OnOk result (IsClear (at_references (map site_of sites.now) (site_of site.now))) }
-    ensures dynamic { IfOk result (λ t. t.dynamic ≡ dynamic_at (map site_of sites.now) (site_of site.now)) }
+fn resolve_both(known: Lookup<'_>, site: &Site<'_>) -> Result<Targets, CheckFault>
+    requires { IsIndexOf known.index.now (map site_of known.sites.now) }
+    ensures clear { OnOk result (IsClear (at_references (map site_of known.entry.sites.now) (site_of site.now))) }
+    ensures dynamic { IfOk result (λ t. t.dynamic ≡ dynamic_at (map site_of known.entry.sites.now) (site_of site.now)) }
     ensures plain { IfOk result
-        (λ t. t.plain ≡ number_of_target (map site_of sites.now) (codes "$ref") (site_of site.now)) }
-    ensures err { IfErr result (IsStopped (at_references (map site_of sites.now) (site_of site.now))) }
+        (λ t. t.plain ≡ number_of_target (map site_of known.entry.sites.now) (codes "$ref") (site_of site.now)) }
+    ensures err { IfErr result (IsStopped (at_references (map site_of known.entry.sites.now) (site_of site.now))) }
 {
-    let dynamic = resolve_dynamic(alloc, index, sites, site)?;
-    let plain = resolve_plain(alloc, index, sites, site)?;
+    let dynamic = resolve_dynamic(known, site)?;
+    let at = SiteKeyword {
+        site,
+        keyword: "$ref",
+    };
+    let plain = resolve_plain(known, at)?;
     Ok(Targets { dynamic, plain })
 }
 
 // The same for a place whose keywords are these. Most have no reference: nothing is looked up for them.
 fn targets_of(
-    alloc: Global,
-    index: &Index,
-    sites: &[Site<'_>],
+    known: Lookup<'_>,
     site: &Site<'_>,
     names: &[KeywordName],
 ) -> Result<Targets, CheckFault>
-    requires index { IsIndexOf index.now (map site_of sites.now) }
+    requires index { IsIndexOf known.index.now (map site_of known.sites.now) }
     requires names { names.now ≡ keyword_names (site_of site.now) }
-    ensures clear { OnOk result (IsClear (at_references (map site_of sites.now) (site_of site.now))) }
-    ensures dynamic { IfOk result (λ t. t.dynamic ≡ dynamic_at (map site_of sites.now) (site_of site.now)) }
+    ensures clear { OnOk result (IsClear (at_references (map site_of known.entry.sites.now) (site_of site.now))) }
+    ensures dynamic { IfOk result (λ t. t.dynamic ≡ dynamic_at (map site_of known.entry.sites.now) (site_of site.now)) }
     ensures plain { IfOk result
-        (λ t. t.plain ≡ number_of_target (map site_of sites.now) (codes "$ref") (site_of site.now)) }
-    ensures err { IfErr result (IsStopped (at_references (map site_of sites.now) (site_of site.now))) }
+        (λ t. t.plain ≡ number_of_target (map site_of known.entry.sites.now) (codes "$ref") (site_of site.now)) }
+    ensures err { IfErr result (IsStopped (at_references (map site_of known.entry.sites.now) (site_of site.now))) }
 {
     if names.contains(&KeywordName::Ref) {
-        return resolve_both(alloc, index, sites, site);
+        return resolve_both(known, site);
     }
     if names.contains(&KeywordName::DynamicRef) {
-        return resolve_both(alloc, index, sites, site);
+        return resolve_both(known, site);
     }
     Ok(Targets {
         dynamic: None,
@@ -252,26 +246,24 @@ fn keep_dynamic(
 
 /// Resolves all references.
 pub(crate) fn resolve_all(
-    alloc: Global,
-    index: &Index,
-    sites: &[Site<'_>],
+    known: Lookup<'_>,
     keywords: &KeywordTable,
 ) -> Result<References, CheckFault>
-    requires index { IsIndexOf index.now (map site_of sites.now) }
-    requires keywords { ArePartsByPlace keyword_names (map site_of sites.now)
+    requires index { IsIndexOf known.index.now (map site_of known.sites.now) }
+    requires keywords { ArePartsByPlace keyword_names (map site_of known.sites.now)
         keywords.now.names.items keywords.now.ends.items }
-    ensures clear { OnOk result (IsClear (second_pass (map site_of sites.now))) }
+    ensures clear { OnOk result (IsClear (second_pass (map site_of known.entry.sites.now))) }
     ensures dynamic { IfOk result (λ r. IsSparseList (get nat_eq r.dynamic)
-        (dynamic_at (map site_of sites.now)) (map site_of sites.now)) }
+        (dynamic_at (map site_of known.entry.sites.now)) (map site_of known.entry.sites.now)) }
     ensures plain { IfOk result (λ r. IsSparseList (under_number r.plain.items)
-        (number_of_target (map site_of sites.now) (codes "$ref")) (map site_of sites.now)) }
-    ensures err { IfErr result (IsStopped (second_pass (map site_of sites.now))) }
+        (number_of_target (map site_of known.entry.sites.now) (codes "$ref")) (map site_of known.entry.sites.now)) }
+    ensures err { IfErr result (IsStopped (second_pass (map site_of known.entry.sites.now))) }
 {
-    let mut dynamic = IndexMap::new(alloc);
-    let mut plain = Vec::new(alloc);
-    for i in 0..sites.len() {
+    let mut dynamic = IndexMap::new(known.alloc);
+    let mut plain = Vec::new(known.alloc);
+    for i in 0..known.sites.len() {
         let names = part_of_place(keywords.names.as_slice(), keywords.ends.as_slice(), i);
-        let targets = targets_of(alloc, index, sites, &sites[i], names)?;
+        let targets = targets_of(known, &known.sites[i], names)?;
         keep_dynamic(&mut dynamic, i, targets.dynamic)?;
         add_entry(&mut plain, i, targets.plain)?;
     }

@@ -15,12 +15,13 @@ ghost use Rattle.js_bundle.specs.Refusals.{at_place, assertion_rules};
 ghost use Rattle.js_assert.specs.Assertion.{asserted};
 ghost use Rattle.js_places.specs.code.Scan.{site_of};
 
-use crate::check::fault::{CheckFault, refuse};
+use crate::check::fault::{CheckFault, refuse, refuse_keyword};
+use crate::check::lookup::{Lookup, SiteKeyword};
 use crate::refusal::RefusalKind;
 use js_assert::{Assertion, KeywordFault};
 use js_doc::{Doc, Members, Memory};
 use js_places::uri::{self, LONGEST};
-use js_places::{Index, Site, as_text, is_root, name_key};
+use js_places::{Site, as_text, is_root, name_key};
 use std::alloc::Global;
 use url::Url;
 
@@ -28,26 +29,20 @@ use url::Url;
 const MOST_PLACES: usize = 100_000;
 
 // Whether a resource before has the URI.
-fn is_taken(index: &Index, before: &[Site<'_>], uri: &Url) -> bool
-    requires { IsIndexOf index.now (map site_of before.now) }
-    ensures { result ≡ is_taken (map site_of before.now) uri.now }
+fn is_taken(known: Lookup<'_>, uri: &Url) -> bool
+    requires { IsIndexOf known.index.now (map site_of known.sites.now) }
+    ensures { result ≡ is_taken (map site_of known.entry.sites.now) uri.now }
 {
-    index.known.number_of(uri::printed(uri)).is_some()
+    known.index.known.number_of(uri::printed(uri)).is_some()
 }
 
 // Whether a place before makes the name in the same resource.
-fn is_made(
-    alloc: Global,
-    index: &Index,
-    before: &[Site<'_>],
-    place: &Site<'_>,
-    name: &str,
-) -> Result<bool, Memory>
-    requires { IsIndexOf index.now (map site_of before.now) }
-    ensures { IfOk result (λ b. b ≡ is_made (map site_of before.now) (site_of place.now) name.now) }
+fn is_made(known: Lookup<'_>, place: &Site<'_>, name: &str) -> Result<bool, Memory>
+    requires { IsIndexOf known.index.now (map site_of known.sites.now) }
+    ensures { IfOk result (λ b. b ≡ is_made (map site_of known.entry.sites.now) (site_of place.now) name.now) }
 {
-    let key = name_key(alloc, place.document, &place.own.resource, name)?;
-    Ok(index.names.number_of(key.as_str()).is_some())
+    let key = name_key(known.alloc, place.document, &place.own.resource, name)?;
+    Ok(known.index.names.number_of(key.as_str()).is_some())
 }
 
 fn begins_name(b: u8) -> bool
@@ -127,68 +122,61 @@ fn is_dialect(text: &str) -> bool
 /// The rule of `$schema`.
 pub(crate) fn check_dialect(
     alloc: Global,
-    site: &Site<'_>,
-    keyword: &str,
+    at: SiteKeyword<'_>,
     text: &str,
 ) -> Result<(), CheckFault>
-    ensures ok { OnOk result (IsClear (at_dialect (site_of site.now) (keyword.now ∷ []) text.now)) }
-    ensures err { IfErr result (IsStopped (at_dialect (site_of site.now) (keyword.now ∷ []) text.now)) }
+    ensures ok { OnOk result (IsClear
+        (at_dialect (site_of at.entry.site.now) (at.entry.keyword.now ∷ []) text.now)) }
+    ensures err { IfErr result (IsStopped
+        (at_dialect (site_of at.entry.site.now) (at.entry.keyword.now ∷ []) text.now)) }
 {
     if is_dialect(text) {
         Ok(())
     } else {
-        Err(refuse(alloc, site, Some(keyword), RefusalKind::UnknownDialect))
+        Err(refuse_keyword(alloc, at, RefusalKind::UnknownDialect))
     }
 }
 
 /// The rules of `$id` (JSON Schema Core, section 8.2.1). The scan joined it.
-pub(crate) fn check_id(
-    alloc: Global,
-    index: &Index,
-    before: &[Site<'_>],
-    site: &Site<'_>,
-    keyword: &str,
-    text: &str,
-) -> Result<(), CheckFault>
-    requires index { IsIndexOf index.now (map site_of before.now) }
-    requires id { argument (codes "$id") (value_of site.now.schema.now) ≡ Some (spec.text text.now) }
+pub(crate) fn check_id(known: Lookup<'_>, at: SiteKeyword<'_>, text: &str) -> Result<(), CheckFault>
+    requires index { IsIndexOf known.index.now (map site_of known.sites.now) }
+    requires id { argument (codes "$id") (value_of at.site.now.schema.now) ≡ Some (spec.text text.now) }
     ensures ok { OnOk result (IsClear
-        (at_id (map site_of before.now) (site_of site.now) (keyword.now ∷ []) text.now)) }
+        (at_id (map site_of known.entry.sites.now) (site_of at.entry.site.now) (at.entry.keyword.now ∷ []) text.now)) }
     ensures err { IfErr result (IsStopped
-        (at_id (map site_of before.now) (site_of site.now) (keyword.now ∷ []) text.now)) }
+        (at_id (map site_of known.entry.sites.now) (site_of at.entry.site.now) (at.entry.keyword.now ∷ []) text.now)) }
 {
     if LONGEST < text.len() {
-        return Err(refuse(alloc, site, Some(keyword), RefusalKind::UriTooLong));
+        return Err(refuse_keyword(known.alloc, at, RefusalKind::UriTooLong));
     }
-    if !site.bare {
-        return Err(refuse(alloc, site, Some(keyword), RefusalKind::BadId));
+    if !at.site.bare {
+        return Err(refuse_keyword(known.alloc, at, RefusalKind::BadId));
     }
-    if is_taken(index, before, &site.own.base) {
-        return Err(refuse(alloc, site, Some(keyword), RefusalKind::DuplicateUri));
+    if is_taken(known, &at.site.own.base) {
+        return Err(refuse_keyword(known.alloc, at, RefusalKind::DuplicateUri));
     }
     Ok(())
 }
 
 /// The rules of `$anchor` and of `$dynamicAnchor` (JSON Schema Core, section 8.2.2).
 pub(crate) fn check_anchor(
-    alloc: Global,
-    index: &Index,
-    before: &[Site<'_>],
-    site: &Site<'_>,
-    keyword: &str,
+    known: Lookup<'_>,
+    at: SiteKeyword<'_>,
     name: &str,
 ) -> Result<(), CheckFault>
-    requires { IsIndexOf index.now (map site_of before.now) }
+    requires { IsIndexOf known.index.now (map site_of known.sites.now) }
     ensures ok { OnOk result (IsClear
-        (at_anchor (map site_of before.now) (site_of site.now) (keyword.now ∷ []) name.now)) }
+        (at_anchor (map site_of known.entry.sites.now) (site_of at.entry.site.now)
+        (at.entry.keyword.now ∷ []) name.now)) }
     ensures err { IfErr result (IsStopped
-        (at_anchor (map site_of before.now) (site_of site.now) (keyword.now ∷ []) name.now)) }
+        (at_anchor (map site_of known.entry.sites.now) (site_of at.entry.site.now)
+        (at.entry.keyword.now ∷ []) name.now)) }
 {
     if !is_anchor_name(name.as_bytes()) {
-        return Err(refuse(alloc, site, Some(keyword), RefusalKind::BadAnchor));
+        return Err(refuse_keyword(known.alloc, at, RefusalKind::BadAnchor));
     }
-    if is_made(alloc, index, before, site, name)? {
-        return Err(refuse(alloc, site, Some(keyword), RefusalKind::DuplicateAnchor));
+    if is_made(known, at.site, name)? {
+        return Err(refuse_keyword(known.alloc, at, RefusalKind::DuplicateAnchor));
     }
     Ok(())
 }
@@ -218,67 +206,54 @@ fn check_shape(alloc: Global, site: &Site<'_>) -> Result<(), CheckFault>
     }
 }
 
-fn check_root(
-    alloc: Global,
-    index: &Index,
-    before: &[Site<'_>],
-    site: &Site<'_>,
-) -> Result<(), CheckFault>
-    requires { IsIndexOf index.now (map site_of before.now) }
+fn check_root(known: Lookup<'_>, site: &Site<'_>) -> Result<(), CheckFault>
+    requires { IsIndexOf known.index.now (map site_of known.sites.now) }
     ensures ok { OnOk result (IsClear
-        (when (is_root (site_of site.now) && is_taken (map site_of before.now) site.now.above.value.base)
+        (when (is_root (site_of site.now) && is_taken (map site_of known.entry.sites.now) site.now.above.value.base)
         (decided (site_of site.now) [] DuplicateUri))) }
     ensures err { IfErr result (IsStopped
-        (when (is_root (site_of site.now) && is_taken (map site_of before.now) site.now.above.value.base)
+        (when (is_root (site_of site.now) && is_taken (map site_of known.entry.sites.now) site.now.above.value.base)
         (decided (site_of site.now) [] DuplicateUri))) }
 {
-    if is_root(&site.pointer) && is_taken(index, before, &site.above.base) {
-        return Err(refuse(alloc, site, None, RefusalKind::DuplicateUri));
+    if is_root(&site.pointer) && is_taken(known, &site.above.base) {
+        return Err(refuse(known.alloc, site, None, RefusalKind::DuplicateUri));
     }
     Ok(())
 }
 
 /// The rules of a place itself.
-pub(crate) fn check_place(
-    alloc: Global,
-    index: &Index,
-    before: &[Site<'_>],
-    site: &Site<'_>,
-) -> Result<(), CheckFault>
-    requires { IsIndexOf index.now (map site_of before.now) }
-    ensures ok { OnOk result (IsClear (at_place (map site_of before.now) (site_of site.now))) }
-    ensures err { IfErr result (IsStopped (at_place (map site_of before.now) (site_of site.now))) }
+pub(crate) fn check_place(known: Lookup<'_>, site: &Site<'_>) -> Result<(), CheckFault>
+    requires { IsIndexOf known.index.now (map site_of known.sites.now) }
+    ensures ok { OnOk result (IsClear (at_place (map site_of known.entry.sites.now) (site_of site.now))) }
+    ensures err { IfErr result (IsStopped (at_place (map site_of known.entry.sites.now) (site_of site.now))) }
 {
-    check_count(alloc, before, site)?;
-    check_shape(alloc, site)?;
-    check_root(alloc, index, before, site)
+    check_count(known.alloc, known.sites, site)?;
+    check_shape(known.alloc, site)?;
+    check_root(known, site)
 }
 
 /// Reads a keyword's argument as an assertion's. None where the keyword is no assertion.
 pub(crate) fn read_assertion(
     alloc: Global,
-    site: &Site<'_>,
-    keyword: &str,
+    at: SiteKeyword<'_>,
     argument: &Doc,
     siblings: &Members,
 ) -> Result<Option<Assertion>, CheckFault>
     ensures clear { OnOk result (IsClear
-        (assertion_rules (site_of site.now) keyword.now (value_of argument.now))) }
-    ensures built { IfOk result (λ a. a ≡ asserted keyword.now (value_of argument.now) siblings.now) }
+        (assertion_rules (site_of at.entry.site.now) at.entry.keyword.now (value_of argument.now))) }
+    ensures built { IfOk result (λ a. a ≡ asserted at.entry.keyword.now (value_of argument.now) siblings.now) }
     ensures err { IfErr result (IsStopped
-        (assertion_rules (site_of site.now) keyword.now (value_of argument.now))) }
+        (assertion_rules (site_of at.entry.site.now) at.entry.keyword.now (value_of argument.now))) }
 {
-    match Assertion::read(alloc, keyword, argument, siblings) {
+    match Assertion::read(alloc, at.keyword, argument, siblings) {
         Ok(assertion) => Ok(assertion),
         Err(KeywordFault::Memory) => Err(CheckFault::Memory),
-        Err(KeywordFault::BadKeyword) => {
-            Err(refuse(alloc, site, Some(keyword), RefusalKind::BadKeyword))
-        }
+        Err(KeywordFault::BadKeyword) => { Err(refuse_keyword(alloc, at, RefusalKind::BadKeyword)) }
         Err(KeywordFault::NotAPattern) => {
-            Err(refuse(alloc, site, Some(keyword), RefusalKind::BadPattern))
+            Err(refuse_keyword(alloc, at, RefusalKind::BadPattern))
         }
         Err(KeywordFault::PatternTooLarge) => {
-            Err(refuse(alloc, site, Some(keyword), RefusalKind::PatternTooLarge))
+            Err(refuse_keyword(alloc, at, RefusalKind::PatternTooLarge))
         }
     }
 }

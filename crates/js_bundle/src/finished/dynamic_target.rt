@@ -1,7 +1,7 @@
 //! What dynamic references lead to (JSON Schema Core, sections 7.1 and 8.2.3.2).
-ghost use Rattle.std.specs.Prelude.{◌≡◌, true, codes, nat_eq, slice_get, option_map, option_and_then};
+ghost use Rattle.std.specs.Prelude.{◌≡◌, true, codes, nat_eq, slice_get, option_and_then, option_copied};
 ghost use Rattle.indexmap.specs.IndexMap.{get};
-ghost use Rattle.js_bundle.specs.Finding.{by_scope};
+ghost use Rattle.js_bundle.specs.Finding.{scope_name, IsFirstTarget};
 ghost use Rattle.js_places.specs.code.Index.{number_of_key};
 ghost use Rattle.js_places.specs.Resource.{sites};
 ghost use Rattle.js_places.specs.ResourceNumber.{dynamic_target_in, roots, roots_at};
@@ -15,6 +15,13 @@ use crate::schemas::Schemas;
 use indexmap::IndexMap;
 use js_places::{Numbering, text_argument};
 
+// The place that a dynamic reference names, and the name by which it leads to another one in a dynamic scope.
+#[derive(Clone, Copy)]
+struct FirstTarget<'s> {
+    place: Place,
+    name: Option<&'s str>,
+}
+
 impl Schemas {
     /// The place that the `$dynamicRef` of the place names in a dynamic scope (JSON Schema Core, section 8.2.3.2):
     /// `path` has all the places that were applied, from the entry to this one, both included. Where the reference goes
@@ -25,9 +32,10 @@ impl Schemas {
         ensures { StandsFor self.now result (option_and_then
             (dynamic_target (sites self.now) (path_at self.now path.now)) (place_at self.now place)) }
     {
-        match reference_under(&self.kept.references.dynamic, place.number) {
-            Some(reference) => self.target_by_path(reference, path),
-            None => place, // never: each reference of finished schemas has its target
+        let first = self.find_first_target(place);
+        match first.name {
+            Some(name) => self.outermost(name, path).unwrap_or(first.place),
+            None => first.place,
         }
     }
 
@@ -39,53 +47,43 @@ impl Schemas {
         ensures { StandsFor self.now result (option_and_then
             (dynamic_target_in (sites self.now) resources.now) (place_at self.now place)) }
     {
+        let first = self.find_first_target(place);
+        match first.name {
+            Some(name) => self.outermost_in(name, resources).unwrap_or(first.place),
+            None => first.place,
+        }
+    }
+
+    // What the `$dynamicRef` of the place leads to in each dynamic scope.
+    fn find_first_target(&self, place: Place) -> FirstTarget<'_>
+        requires { has_keyword (codes "$dynamicRef") self.now place ≡ true }
+        ensures { IsFirstTarget self.now place result.place (option_copied result.name) }
+    {
         match reference_under(&self.kept.references.dynamic, place.number) {
-            Some(reference) => self.target_by_numbers(reference, resources),
-            None => place, // never: each reference of finished schemas has its target
+            Some(reference) => FirstTarget {
+                place: Place {
+                    number: reference.target,
+                },
+                name: self.scope_name(reference),
+            },
+            // never: each reference of finished schemas has its target
+            None => FirstTarget { place, name: None },
         }
     }
 
-    // Where a reference leads in a dynamic scope.
-    fn target_by_path(&self, reference: DynamicReference, path: &[Place]) -> Place
+    // The name that a reference looks for in a dynamic scope, if it goes by one.
+    fn scope_name(&self, reference: DynamicReference) -> Option<&str>
         requires { is_place self.now reference.target ≡ true }
-        ensures { StandsFor self.now result (option_map
-            (by_scope (sites self.now) (path_at self.now path.now) reference.by_name)
-            (place_at self.now reference.target)) }
+        ensures { option_copied result
+            ≡ option_and_then (scope_name reference.by_name) (place_at self.now reference.target) }
     {
         let first = Place {
             number: reference.target,
         };
-        if !reference.by_name {
-            return first;
-        }
-        match text_argument(self.schema(first), "$dynamicAnchor") {
-            Some(name) => match self.outermost(name, path) {
-                Some(place) => place,
-                None => first,
-            },
-            None => first,
-        }
-    }
-
-    // The same in a scope given by numbers.
-    fn target_by_numbers(&self, reference: DynamicReference, resources: &[usize]) -> Place
-        requires { is_place self.now reference.target ≡ true }
-        ensures { StandsFor self.now result (option_map
-            (by_scope (sites self.now) (roots_at (sites self.now) resources.now) reference.by_name)
-            (place_at self.now reference.target)) }
-    {
-        let first = Place {
-            number: reference.target,
-        };
-        if !reference.by_name {
-            return first;
-        }
-        match text_argument(self.schema(first), "$dynamicAnchor") {
-            Some(name) => match self.outermost_in(name, resources) {
-                Some(place) => place,
-                None => first,
-            },
-            None => first,
+        if reference.by_name {
+            text_argument(self.schema(first), "$dynamicAnchor")
+        } else {
+            None
         }
     }
 

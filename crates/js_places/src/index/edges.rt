@@ -31,7 +31,7 @@ pub struct Edges {
 // By hand, so that it is proved here alone, and crates that own edges call it.
 impl Drop for Edges {
     fn drop(self) {
-        let Edges { keywords: _ } = self;
+        let Edges { keywords } = self;
     }
 }
 

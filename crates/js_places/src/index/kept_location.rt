@@ -17,10 +17,7 @@ pub struct KeptLocation {
 // By hand, so that it is proved here alone, and crates that own locations call it.
 impl Drop for KeptLocation {
     fn drop(self) {
-        let KeptLocation {
-            text: _,
-            is_fragment: _,
-        } = self;
+        let KeptLocation { text, is_fragment } = self;
     }
 }
 

@@ -18,7 +18,7 @@ pub struct KeywordTable {
 // By hand, so that it is proved here alone, and crates that own a table call it.
 impl Drop for KeywordTable {
     fn drop(self) {
-        let KeywordTable { names: _, ends: _ } = self;
+        let KeywordTable { names, ends } = self;
     }
 }
 

@@ -4,7 +4,7 @@ ghost use Rattle.std.specs.Prelude.{MatchOption, []};
 ghost use Rattle.std.specs.Str.{is_utf8};
 ghost use Rattle.js_doc.specs.PointerReading.{pointer_of};
 ghost use Rattle.js_places.specs.Finding.{number_named, is_pointer_read, IfNotRead};
-ghost use Rattle.js_places.specs.code.Index.{IsIndexOf, number_standing, number_making, number_under, standing};
+ghost use Rattle.js_places.specs.code.Index.{IsIndexOf, number_standing, number_under, standing};
 ghost use Rattle.js_places.specs.code.Index.{standing_of};
 ghost use Rattle.js_places.specs.code.Scan.{site_of};
 ghost use Rattle.js_places.specs.Names.{is_known_as, is_pointer, is_read, same_tokens};
@@ -90,20 +90,6 @@ fn number_below(
     number_at(alloc, index, root.document, &whole)
 }
 
-// The number of the place with the anchor in a resource.
-fn number_anchored(
-    alloc: Global,
-    index: &Index,
-    root: Root<'_>,
-    name: &str,
-) -> Result<Option<usize>, Memory>
-    ensures { IfOk result
-        (λ n. n ≡ number_making index.now root.entry.document root.entry.pointer.now name.now) }
-{
-    let key = name_key(alloc, root.document, root.pointer, name)?;
-    Ok(index.names.number_of(key.as_str()))
-}
-
 /// Whether a fragment is a pointer: it is empty, or begins with `/`.
 pub(crate) fn is_pointer(fragment: &[u8]) -> bool
     ensures { result ≡ is_pointer fragment.now }
@@ -167,7 +153,10 @@ fn number_under_root(
 {
     if !is_pointer(fragment.as_bytes()) {
         return match root {
-            Some(root) => Ok(number_anchored(alloc, index, root, fragment)?),
+            Some(root) => {
+                let key = name_key(alloc, root.document, root.pointer, fragment)?;
+                Ok(index.names.number_of(key.as_str()))
+            }
             None => Ok(None),
         };
     }

@@ -33,10 +33,7 @@ pub struct TextPrefixes {
 // By hand, so that it is proved here alone, and crates that own prefixes call it.
 impl Drop for TextPrefixes {
     fn drop(self) {
-        let TextPrefixes {
-            key: _,
-            location: _,
-        } = self;
+        let TextPrefixes { key, location } = self;
     }
 }
 

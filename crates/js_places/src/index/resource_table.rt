@@ -36,10 +36,7 @@ pub struct Resources {
 // By hand, so that it is proved here alone, and crates that own resources call it.
 impl Drop for Resources {
     fn drop(self) {
-        let Resources {
-            numbers: _,
-            anchors: _,
-        } = self;
+        let Resources { numbers, anchors } = self;
     }
 }
 

@@ -21,10 +21,7 @@ pub struct Scope {
 // By hand, so that it is proved here alone, and crates that own scopes call it.
 impl Drop for Scope {
     fn drop(self) {
-        let Scope {
-            resource: _,
-            base: _,
-        } = self;
+        let Scope { resource, base } = self;
     }
 }
 

@@ -2,9 +2,12 @@
 -- the type.
 use denote.Exit.{yes}
 use denote.Builtin.{usize}
-use denote.Param.Send.{IsSend, IsSync, sendable, view_send, view_sync}
+use denote.Param.Send.{IsSend, IsSync, view_send, view_sync}
 use denote.Param.SendFields.{declared_send, declared_sync}
 use Rattle.std.proofs.Crossing.{Vec-send, Vec-sync}
+use Rattle.std.specs.contracts.alloc.Global as Global
+use Rattle.std.specs.contracts.impls.GlobalAllocator.TheImpl.{ghosts}
+use Rattle.std.specs.contracts.vec.Vec as Vec
 use Rattle.js_assert.specs.contracts.assertion.Assertion as Assertion
 use Rattle.js_places.specs.contracts.document.Document as Document
 use Rattle.js_bundle.specs.contracts.check.kept_site.KeptSite as KeptSite
@@ -24,46 +27,36 @@ use Rattle.js_bundle.proofs.sharing_laws.schemas_cross.Goals as goal
 
 pub returns-clause-send : goal.returns-clause-send
 returns-clause-send c =
-    let document : IsSend Document.the_row = record { owned = c.crosses.ensures.send.owned; leaving = λ k. c.crosses.ensures.send.leaving yes } in
-    let site : IsSend KeptSite.the_row = record { owned = c.crosses-2.ensures.send.owned; leaving = λ k. c.crosses-2.ensures.send.leaving yes } in
+    let documents : IsSend (Vec.the_row Document.the_row Global.the_row ghosts) = record { owned = c.crosses.ensures.send.owned; leaving = λ k. c.crosses.ensures.send.leaving yes } in
+    let sites : IsSend (Vec.the_row KeptSite.the_row Global.the_row ghosts) = record { owned = c.crosses-2.ensures.send.owned; leaving = λ k. c.crosses-2.ensures.send.leaving yes } in
     let text : IsSend Text.the_row = record { owned = c.crosses-3.ensures.send.owned; leaving = λ k. c.crosses-3.ensures.send.leaving yes } in
-    let keywords : IsSend KeywordTable.the_row = record { owned = c.crosses-4.ensures.send.owned; leaving = λ k. c.crosses-4.ensures.send.leaving yes } in
-    let references : IsSend References.the_row = record { owned = c.crosses-5.ensures.send.owned; leaving = λ k. c.crosses-5.ensures.send.leaving yes } in
-    let location : IsSend KeptLocation.the_row = record { owned = c.crosses-6.ensures.send.owned; leaving = λ k. c.crosses-6.ensures.send.leaving yes } in
-    let index : IsSend Index.the_row = record { owned = c.crosses-7.ensures.send.owned; leaving = λ k. c.crosses-7.ensures.send.leaving yes } in
-    let resources : IsSend Resources.the_row = record { owned = c.crosses-8.ensures.send.owned; leaving = λ k. c.crosses-8.ensures.send.leaving yes } in
-    let edge : IsSend Edges.the_row = record { owned = c.crosses-9.ensures.send.owned; leaving = λ k. c.crosses-9.ensures.send.leaving yes } in
-    let count : IsSend usize = search sendable in
-    let ends = Vec-send usize count in
+    let ends : IsSend (Vec.the_row usize Global.the_row ghosts) = record { owned = c.crosses-4.ensures.send.owned; leaving = λ k. c.crosses-4.ensures.send.leaving yes } in
+    let keywords : IsSend KeywordTable.the_row = record { owned = c.crosses-5.ensures.send.owned; leaving = λ k. c.crosses-5.ensures.send.leaving yes } in
+    let references : IsSend References.the_row = record { owned = c.crosses-6.ensures.send.owned; leaving = λ k. c.crosses-6.ensures.send.leaving yes } in
+    let locations : IsSend (Vec.the_row KeptLocation.the_row Global.the_row ghosts) = record { owned = c.crosses-7.ensures.send.owned; leaving = λ k. c.crosses-7.ensures.send.leaving yes } in
+    let index : IsSend Index.the_row = record { owned = c.crosses-8.ensures.send.owned; leaving = λ k. c.crosses-8.ensures.send.leaving yes } in
+    let resources : IsSend Resources.the_row = record { owned = c.crosses-9.ensures.send.owned; leaving = λ k. c.crosses-9.ensures.send.leaving yes } in
+    let edges : IsSend (Vec.the_row Edges.the_row Global.the_row ghosts) = record { owned = c.crosses-10.ensures.send.owned; leaving = λ k. c.crosses-10.ensures.send.leaving yes } in
     let pattern : IsSend BuiltPattern.the_row = declared_send BuiltPattern.the_type (text, (c.patterns_cross.ensures.send, tt)) in
-    let assertions = Vec-send Assertion.the_row c.assertions_cross.ensures.send in
-    let built : IsSend Built.the_row = declared_send Built.the_type (assertions, (Vec-send BuiltPattern.the_row pattern, tt)) in
+    let built : IsSend Built.the_row = declared_send Built.the_type (Vec-send Assertion.the_row c.assertions_cross.ensures.send, (Vec-send BuiltPattern.the_row pattern, tt)) in
     let table : IsSend BuiltTable.the_row = declared_send BuiltTable.the_type (built, (ends, (ends, tt))) in
-    let sites = Vec-send KeptSite.the_row site in
-    let locations = Vec-send KeptLocation.the_row location in
-    let edges = Vec-send Edges.the_row edge in
     let checked : IsSend Checked.the_row = declared_send Checked.the_type (sites, (table, (keywords, (references, (locations, (index, (resources, (edges, tt)))))))) in
-    view_send Inside.the_row _ _ _ _ (declared_send Inside.the_type (Vec-send Document.the_row document, (checked, tt)))
+    view_send Inside.the_row _ _ _ _ (declared_send Inside.the_type (documents, (checked, tt)))
 
 pub returns-clause-sync : goal.returns-clause-sync
 returns-clause-sync c =
-    let document : IsSync Document.the_row = record { shared = c.crosses.ensures.sync.shared } in
-    let site : IsSync KeptSite.the_row = record { shared = c.crosses-2.ensures.sync.shared } in
+    let documents : IsSync (Vec.the_row Document.the_row Global.the_row ghosts) = record { shared = c.crosses.ensures.sync.shared } in
+    let sites : IsSync (Vec.the_row KeptSite.the_row Global.the_row ghosts) = record { shared = c.crosses-2.ensures.sync.shared } in
     let text : IsSync Text.the_row = record { shared = c.crosses-3.ensures.sync.shared } in
-    let keywords : IsSync KeywordTable.the_row = record { shared = c.crosses-4.ensures.sync.shared } in
-    let references : IsSync References.the_row = record { shared = c.crosses-5.ensures.sync.shared } in
-    let location : IsSync KeptLocation.the_row = record { shared = c.crosses-6.ensures.sync.shared } in
-    let index : IsSync Index.the_row = record { shared = c.crosses-7.ensures.sync.shared } in
-    let resources : IsSync Resources.the_row = record { shared = c.crosses-8.ensures.sync.shared } in
-    let edge : IsSync Edges.the_row = record { shared = c.crosses-9.ensures.sync.shared } in
-    let count : IsSync usize = search sendable in
-    let ends = Vec-sync usize count in
+    let ends : IsSync (Vec.the_row usize Global.the_row ghosts) = record { shared = c.crosses-4.ensures.sync.shared } in
+    let keywords : IsSync KeywordTable.the_row = record { shared = c.crosses-5.ensures.sync.shared } in
+    let references : IsSync References.the_row = record { shared = c.crosses-6.ensures.sync.shared } in
+    let locations : IsSync (Vec.the_row KeptLocation.the_row Global.the_row ghosts) = record { shared = c.crosses-7.ensures.sync.shared } in
+    let index : IsSync Index.the_row = record { shared = c.crosses-8.ensures.sync.shared } in
+    let resources : IsSync Resources.the_row = record { shared = c.crosses-9.ensures.sync.shared } in
+    let edges : IsSync (Vec.the_row Edges.the_row Global.the_row ghosts) = record { shared = c.crosses-10.ensures.sync.shared } in
     let pattern : IsSync BuiltPattern.the_row = declared_sync BuiltPattern.the_type (text, (c.patterns_cross.ensures.sync, tt)) in
-    let assertions = Vec-sync Assertion.the_row c.assertions_cross.ensures.sync in
-    let built : IsSync Built.the_row = declared_sync Built.the_type (assertions, (Vec-sync BuiltPattern.the_row pattern, tt)) in
+    let built : IsSync Built.the_row = declared_sync Built.the_type (Vec-sync Assertion.the_row c.assertions_cross.ensures.sync, (Vec-sync BuiltPattern.the_row pattern, tt)) in
     let table : IsSync BuiltTable.the_row = declared_sync BuiltTable.the_type (built, (ends, (ends, tt))) in
-    let sites = Vec-sync KeptSite.the_row site in
-    let locations = Vec-sync KeptLocation.the_row location in
-    let edges = Vec-sync Edges.the_row edge in
     let checked : IsSync Checked.the_row = declared_sync Checked.the_type (sites, (table, (keywords, (references, (locations, (index, (resources, (edges, tt)))))))) in
-    view_sync Inside.the_row _ _ _ _ (declared_sync Inside.the_type (Vec-sync Document.the_row document, (checked, tt)))
+    view_sync Inside.the_row _ _ _ _ (declared_sync Inside.the_type (documents, (checked, tt)))

@@ -1,11 +1,9 @@
-use Rattle.std.proofs.Common.{◌<◌, ◌≤◌, [], ◌∷◌, ◌++◌, map, length, string_bytes, refl, sym, ap, ◌∙◌, subst, arith}
+use Rattle.std.proofs.Common.{◌≤◌, [], ◌∷◌, ◌++◌, map, length, string_bytes, ap, ◌∙◌, arith}
 use Rattle.std.proofs.lemmas.List.{length-map}
-use Rattle.js_doc.specs.Nesting.{depth}
-use Rattle.js_doc.specs.Value.{list, items, members}
+use Rattle.js_doc.specs.Value.{members}
 use Rattle.js_doc.specs.Seen.{value_of, pair_of}
-use Rattle.js_doc.proofs.Smaller.{item_smaller}
-use Rattle.js_places.specs.code.Scan.{SameFront, site_of, most_sites, sites_of_keywords, sites_of_members}
-use Rattle.js_places.proofs.MemberLoops.{next_smaller, split_next}
+use Rattle.js_places.specs.code.Scan.{site_of, most_sites}
+use Rattle.js_places.proofs.MemberLoops.{loop_next, next_item_smaller, next_smaller}
 use Rattle.js_places.proofs.Listing.ScanNext.{front_full, item_next, keyword_next, member_next}
 use Rattle.js_places.proofs.scan.+scan.Goals as goal
 
@@ -16,10 +14,7 @@ scan_schema-returns-then-len-ge-MOST_SITES t c =
     front_full (map site_of c.args.out.now.items) _ full
 
 pub scan_items-scan_schema-requires : goal.scan_items-scan_schema-requires
-scan_items-scan_schema-requires t c =
-    let small : depth (value_of c.index-schemas-i.result) < depth (list (items (map value_of c.args.schemas.now))) =
-    item_smaller c.args.schemas.now (map value_of c.args.schemas.now) c.loop-i.i c.index-schemas-i.result c.index-schemas-i.result refl (omega arith) (sym c.index-schemas-i.is) in
-    (omega (arith, small, c.decreases), tt)
+scan_items-scan_schema-requires t c = (omega (arith, next_item_smaller c.args.schemas.now c.loop-i.i c.index-schemas-i.result (omega arith) c.index-schemas-i.is, c.decreases), tt)
 
 pub scan_items-loop-i-preserved : goal.scan_items-loop-i-preserved
 scan_items-loop-i-preserved t c =
@@ -30,33 +25,19 @@ scan_items-loop-i-preserved t c =
     c.in_ok-scan_schema.ensures l.invariant
 
 pub scan_keywords-scan_keyword-requires : goal.scan_keywords-scan_keyword-requires
-scan_keywords-scan_keyword-requires t c =
-    let small = next_smaller c.pairs-keyword-items.result c.into_iter-keyword-iterator.result c.loop-keyword.keyword-iterator c.next.new.self c.in-Some.keyword.now c.in-Some.argument.now c.args.members.now c.pairs-keyword-items.ensures.pairs
-    c.into_iter-keyword-iterator.ensures.into_iter_gives c.loop-keyword.invariant.split c.in-Some.ensures.steps in
-    (omega (arith, small, c.decreases), tt)
+scan_keywords-scan_keyword-requires t c = (omega (arith, next_smaller c.pairs-keyword-items.ensures.pairs c.into_iter-keyword-iterator.ensures.into_iter_gives c.loop-keyword.invariant.split c.in-Some.ensures.steps, c.decreases), tt)
 
 pub scan_keywords-loop-keyword-preserved : goal.scan_keywords-loop-keyword-preserved
 scan_keywords-loop-keyword-preserved t c =
-    let l = c.loop-keyword in
-    record {
-      split = split_next c.into_iter-keyword-iterator.result l.keyword-iterator c.next.new.self (c.in-Some.keyword.now, c.in-Some.argument.now) l.invariant.split c.in-Some.ensures.steps;
-      told = keyword_next c.args.document c.args.above.now.value c.args.pointer.now (string_bytes c.in-Some.keyword.now) c.as_str.result.now (value_of c.in-Some.argument.now) (members (map pair_of c.next.new.self)) (map site_of l.out.items) (map site_of c.scan_keyword.new.out.items) _
-          c.as_str.ensures.value c.in_ok-scan_keyword.ensures
-          (subst (λ es. SameFront (map site_of l.out.items ++ sites_of_keywords c.args.document c.args.above.now.value c.args.pointer.now (members (map pair_of es))) (map site_of c.args.out.now.items ++ sites_of_keywords c.args.document c.args.above.now.value c.args.pointer.now (members (map pair_of c.into_iter-keyword-iterator.result)))) c.in-Some.ensures.steps l.invariant.told);
-    }
+    loop_next c.loop-keyword.invariant c.in-Some.ensures.steps
+    (keyword_next c.args.document c.args.above.now.value c.args.pointer.now (string_bytes c.in-Some.keyword.now) c.as_str.result.now (value_of c.in-Some.argument.now) (members (map pair_of c.next.new.self)) (map site_of c.loop-keyword.out.items) (map site_of c.scan_keyword.new.out.items) _
+    c.as_str.ensures.value c.in_ok-scan_keyword.ensures)
 
 pub scan_members-scan_schema-requires : goal.scan_members-scan_schema-requires
-scan_members-scan_schema-requires t c =
-    let small = next_smaller c.pairs-name-items.result c.into_iter-name-iterator.result c.loop-name.name-iterator c.next.new.self c.in-Some.name.now c.in-Some.schema.now c.args.members.now c.pairs-name-items.ensures.pairs
-    c.into_iter-name-iterator.ensures.into_iter_gives c.loop-name.invariant.split c.in-Some.ensures.steps in
-    (omega (arith, small, c.decreases), tt)
+scan_members-scan_schema-requires t c = (omega (arith, next_smaller c.pairs-name-items.ensures.pairs c.into_iter-name-iterator.ensures.into_iter_gives c.loop-name.invariant.split c.in-Some.ensures.steps, c.decreases), tt)
 
 pub scan_members-loop-name-preserved : goal.scan_members-loop-name-preserved
 scan_members-loop-name-preserved t c =
-    let l = c.loop-name in
-    record {
-      split = split_next c.into_iter-name-iterator.result l.name-iterator c.next.new.self (c.in-Some.name.now, c.in-Some.schema.now) l.invariant.split c.in-Some.ensures.steps;
-      told = member_next c.args.document c.args.above.now.value c.args.pointer.now (string_bytes c.in-Some.name.now) (value_of c.in-Some.schema.now) (members (map pair_of c.next.new.self)) c.in_ok-at.at.value (map site_of l.out.items) (map site_of c.scan_schema.new.out.items) _
-          (c.in_ok-at.ensures ∙ ap (λ k. c.args.pointer.now ++ k ∷ []) c.as_str.ensures.value) c.in_ok-scan_schema.ensures
-          (subst (λ es. SameFront (map site_of l.out.items ++ sites_of_members c.args.document c.args.above.now.value c.args.pointer.now (members (map pair_of es))) (map site_of c.args.out.now.items ++ sites_of_members c.args.document c.args.above.now.value c.args.pointer.now (members (map pair_of c.into_iter-name-iterator.result)))) c.in-Some.ensures.steps l.invariant.told);
-    }
+    loop_next c.loop-name.invariant c.in-Some.ensures.steps
+    (member_next c.args.document c.args.above.now.value c.args.pointer.now (string_bytes c.in-Some.name.now) (value_of c.in-Some.schema.now) (members (map pair_of c.next.new.self)) c.in_ok-at.at.value (map site_of c.loop-name.out.items) (map site_of c.scan_schema.new.out.items) _
+    (c.in_ok-at.ensures ∙ ap (λ k. c.args.pointer.now ++ k ∷ []) c.as_str.ensures.value) c.in_ok-scan_schema.ensures)

@@ -3,7 +3,7 @@ use Rattle.js_doc.specs.Nesting.{depth}
 use Rattle.js_doc.specs.Value.{list, object, items, members}
 use Rattle.js_doc.specs.Seen.{value_of, pair_of}
 use Rattle.js_places.specs.code.Scan.{SameFront, site_of, sites_of_items, sites_of_keywords, sites_of_members}
-use Rattle.js_places.proofs.MemberLoops.{IsSplit}
+use Rattle.js_places.proofs.MemberLoops.{IsLoopOver}
 use Rattle.js_places.proofs.scan.+scan.Given as goal
 
 abbrev pub decreases-scan_schema : goal.decreases-scan_schema
@@ -30,15 +30,13 @@ invariant-scan_items-loop-i l =
     (map site_of l.initial.out.items ++ sites_of_items l.document l.above.value l.pointer 0 (items (map value_of l.schemas)))
 
 abbrev pub invariant-scan_keywords-loop-keyword : goal.invariant-scan_keywords-loop-keyword
-invariant-scan_keywords-loop-keyword l = record {
-  split : IsSplit l.initial.keyword-iterator l.keyword-iterator;
-  told : SameFront (map site_of l.out.items ++ sites_of_keywords l.document l.above.value l.pointer (members (map pair_of l.keyword-iterator)))
-      (map site_of l.initial.out.items ++ sites_of_keywords l.document l.above.value l.pointer (members (map pair_of l.initial.keyword-iterator)));
-}
+invariant-scan_keywords-loop-keyword l =
+    IsLoopOver l.initial.keyword-iterator l.keyword-iterator (λ es.
+    SameFront (map site_of l.out.items ++ sites_of_keywords l.document l.above.value l.pointer (members (map pair_of es)))
+    (map site_of l.initial.out.items ++ sites_of_keywords l.document l.above.value l.pointer (members (map pair_of l.initial.keyword-iterator))))
 
 abbrev pub invariant-scan_members-loop-name : goal.invariant-scan_members-loop-name
-invariant-scan_members-loop-name l = record {
-  split : IsSplit l.initial.name-iterator l.name-iterator;
-  told : SameFront (map site_of l.out.items ++ sites_of_members l.document l.above.value l.pointer (members (map pair_of l.name-iterator)))
-      (map site_of l.initial.out.items ++ sites_of_members l.document l.above.value l.pointer (members (map pair_of l.initial.name-iterator)));
-}
+invariant-scan_members-loop-name l =
+    IsLoopOver l.initial.name-iterator l.name-iterator (λ es.
+    SameFront (map site_of l.out.items ++ sites_of_members l.document l.above.value l.pointer (members (map pair_of es)))
+    (map site_of l.initial.out.items ++ sites_of_members l.document l.above.value l.pointer (members (map pair_of l.initial.name-iterator))))

@@ -11,7 +11,7 @@ use Rattle.js_bundle.proofs.check.assertions_and_patterns.read_patterns.Given as
 
 abbrev pub invariant-loop-name : goal.invariant-loop-name
 invariant-loop-name l =
-    let f = λ (n : Text × Value). at_pattern (site_of l.site) (l.keyword ∷ n.0 ∷ []) n.0 in
+    let f = λ (n : Text × Value). at_pattern (site_of l.at.site.now) (l.at.keyword.now ∷ n.0 ∷ []) n.0 in
     record {
       leads : Leads (flat_map f l.members) (flat_map f (map pair_of l.name-iterator));
       built : l.out.items ++ map pattern_at (map pair_of l.name-iterator) ≡ l.initial.out.items ++ map pattern_at l.members;

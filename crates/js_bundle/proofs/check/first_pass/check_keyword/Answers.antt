@@ -46,21 +46,21 @@ all_clear before site k v r formed read texted h =
 pub returns-in_err-check_form-clause-err : goal.returns-in_err-check_form-clause-err
 returns-in_err-check_form-clause-err c =
     let p = err_from_is_err_and c.from_residual.result c.from_residual.ensures.1 in
-    rw (p.1, p.2) (stopped_by_form (map site_of c.args.before.now) (site_of c.args.site.now) c.args.keyword.now (value_of c.args.argument.now) c.in_err-check_form.field-0.0 c.in_err-check_form.ensures.err)
+    rw (p.1, p.2) (stopped_by_form (map site_of c.args.known.sites.now) (site_of c.args.at.site.now) c.args.at.keyword.now (value_of c.args.argument.now) c.in_err-check_form.field-0.0 c.in_err-check_form.ensures.err)
 
 pub returns-in_err-assertion-clause-err : goal.returns-in_err-assertion-clause-err
 returns-in_err-assertion-clause-err c =
     let p = err_from_is_err_and c.from_residual-in_err-assertion.result c.from_residual-in_err-assertion.ensures.1 in
-    rw (p.1, p.2) (stopped_by_assertion (map site_of c.args.before.now) (site_of c.args.site.now) c.args.keyword.now (value_of c.args.argument.now) c.in_err-assertion.field-0.0
+    rw (p.1, p.2) (stopped_by_assertion (map site_of c.args.known.sites.now) (site_of c.args.at.site.now) c.args.at.keyword.now (value_of c.args.argument.now) c.in_err-assertion.field-0.0
     c.in_ok-check_form.ensures.ok c.in_err-assertion.ensures.err)
 
 pub returns-in_err-check_argument-clause-err : goal.returns-in_err-check_argument-clause-err
 returns-in_err-check_argument-clause-err c =
     let p = err_from_is_err_and c.from_residual-in_err-check_argument.result c.from_residual-in_err-check_argument.ensures.1 in
-    rw (p.1, p.2) (stopped_by_text (map site_of c.args.before.now) (site_of c.args.site.now) c.args.keyword.now (value_of c.args.argument.now) c.in_err-check_argument.field-0.0
+    rw (p.1, p.2) (stopped_by_text (map site_of c.args.known.sites.now) (site_of c.args.at.site.now) c.args.at.keyword.now (value_of c.args.argument.now) c.in_err-check_argument.field-0.0
     c.in_ok-check_form.ensures.ok c.in_ok-assertion.ensures.clear c.in_err-check_argument.ensures.err)
 
 pub returns-clause-clear : goal.returns-clause-clear
 returns-clause-clear c =
-    all_clear (map site_of c.args.before.now) (site_of c.args.site.now) c.args.keyword.now (value_of c.args.argument.now) c.read_names.result c.in_ok-check_form.ensures.ok c.in_ok-assertion.ensures.clear
+    all_clear (map site_of c.args.known.sites.now) (site_of c.args.at.site.now) c.args.at.keyword.now (value_of c.args.argument.now) c.read_names.result c.in_ok-check_form.ensures.ok c.in_ok-assertion.ensures.clear
     c.in_ok-check_argument.ensures.ok c.read_names.ensures.clear

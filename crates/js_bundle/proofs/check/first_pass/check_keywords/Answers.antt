@@ -16,7 +16,7 @@ use Rattle.js_bundle.proofs.check.first_pass.check_keywords.Goals as goal
 pub returns-in_err-check_keyword-clause-err : goal.returns-in_err-check_keyword-clause-err
 returns-in_err-check_keyword-clause-err c =
     let p = err_from_is_err_and c.from_residual.result c.from_residual.ensures.1 in
-    let f = at_member (map site_of c.args.before.now) (site_of c.args.site.now) in
+    let f = at_member (map site_of c.args.known.sites.now) (site_of c.args.site.now) in
     let e = c.in_err-check_keyword.field-0.0 in
     let v = value_of c.in-Some.argument.now in
     let all = c.args.members.now in
@@ -28,7 +28,7 @@ pub loop-keyword-preserved : goal.loop-keyword-preserved
 loop-keyword-preserved c =
     let l = c.loop-keyword in
     let all = c.args.members.now in
-    let f = at_member (map site_of c.args.before.now) (site_of c.args.site.now) in
+    let f = at_member (map site_of c.args.known.sites.now) (site_of c.args.site.now) in
     let g = assertion_at all in
     let h = patterns_of in
     let key = string_bytes c.in-Some.keyword.now in
@@ -60,7 +60,7 @@ check_keyword-requires-clause-argument c =
 pub loop-keyword-init : goal.loop-keyword-init
 loop-keyword-init c =
     let all = c.args.members.now in
-    let f = at_member (map site_of c.args.before.now) (site_of c.args.site.now) in
+    let f = at_member (map site_of c.args.known.sites.now) (site_of c.args.site.now) in
     let told : map pair_of c.into_iter-keyword-iterator.result ≡ all = ap (map pair_of) c.into_iter-keyword-iterator.ensures.into_iter_gives ∙ c.pairs-keyword-items.ensures.pairs in
     record {
       stand = subst (StandIn all) (sym told) (each_stands all c.pairs-keyword-items.ensures.ascending);

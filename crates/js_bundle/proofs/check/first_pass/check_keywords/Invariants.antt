@@ -10,7 +10,7 @@ use Rattle.js_bundle.proofs.check.first_pass.check_keywords.Given as goal
 
 abbrev pub invariant-loop-keyword : goal.invariant-loop-keyword
 invariant-loop-keyword l =
-    let rules = at_member (map site_of l.before) (site_of l.site) in
+    let rules = at_member (map site_of l.known.sites.now) (site_of l.site) in
     let left = map pair_of l.keyword-iterator in
     record {
       stand : StandIn l.members left;

@@ -11,10 +11,10 @@ use Rattle.js_bundle.proofs.check.references.resolve_all.Given as goal
 
 abbrev pub invariant-loop-i : goal.invariant-loop-i
 invariant-loop-i l =
-    let all = map site_of l.sites in
+    let all = map site_of l.known.sites.now in
     record {
-      leads : Leads (second_pass all) (flat_map (at_references all) (map site_of (drop l.i l.sites)));
-      dynamic : IsSparseList (get nat_eq l.dynamic) (dynamic_at all) (map site_of (take l.i l.sites));
-      plain : IsSparseList (under_number l.plain.items) (number_of_target all (codes "$ref")) (map site_of (take l.i l.sites));
+      leads : Leads (second_pass all) (flat_map (at_references all) (map site_of (drop l.i l.known.sites.now)));
+      dynamic : IsSparseList (get nat_eq l.dynamic) (dynamic_at all) (map site_of (take l.i l.known.sites.now));
+      plain : IsSparseList (under_number l.plain.items) (number_of_target all (codes "$ref")) (map site_of (take l.i l.known.sites.now));
       plain_long : length l.plain.items ≤ l.i;
     }

@@ -1,27 +1,12 @@
-use Rattle.std.proofs.Common.{map, nat_eq}
-use Rattle.indexmap.specs.IndexMap.{get}
+use Rattle.std.proofs.Common.{option_copied, ap}
 use Rattle.js_places.specs.Resource.{sites}
 use Rattle.js_places.specs.ResourceNumber.{roots_at}
-use Rattle.js_places.specs.Seen.{document_of}
-use Rattle.js_bundle.proofs.Finding.DynamicTargets.{reference_is, target_place, led, reference_missing}
+use Rattle.js_bundle.proofs.Finding.DynamicTargets.{leads_by_name, leads_first}
 use Rattle.js_bundle.proofs.schemas.Schemas.dynamic_target_in.Goals as goal
-
-pub target_by_numbers-requires : goal.target_by_numbers-requires
-target_by_numbers-requires c =
-    let n = c.place.inside.number in
-    target_place c.args.self.now c.args.place c.in-Some.reference
-    (reference_is (map document_of c.self.inside.documents.items) c.args.self.now (get nat_eq c.self.inside.kept.references.dynamic) n c.args.place c.in-Some.reference c.self.view_is c.place.view_is c.self.invariant.dynamic
-    c.in-Some.ensures)
 
 pub returns-in-Some : goal.returns-in-Some
 returns-in-Some c =
-    let n = c.place.inside.number in
-    led c.args.self.now (roots_at (sites c.args.self.now) c.args.resources.now) c.args.place c.target_by_numbers.result c.in-Some.reference
-    (reference_is (map document_of c.self.inside.documents.items) c.args.self.now (get nat_eq c.self.inside.kept.references.dynamic) n c.args.place c.in-Some.reference c.self.view_is c.place.view_is c.self.invariant.dynamic
-    c.in-Some.ensures) c.target_by_numbers.ensures
+    leads_by_name c.args.self.now (roots_at (sites c.args.self.now) c.args.resources.now) c.args.place _ _ _ c.in-Some.name.now c.outermost_in.result c.find_first_target-first.ensures (ap option_copied c.in-Some.is) c.outermost_in.ensures c.unwrap_or.ensures
 
 pub returns-in-None : goal.returns-in-None
-returns-in-None c =
-    let n = c.place.inside.number in
-    absurd (reference_missing (map document_of c.self.inside.documents.items) c.args.self.now (get nat_eq c.self.inside.kept.references.dynamic) n c.args.place c.self.view_is c.place.view_is c.self.invariant.clear
-    c.self.invariant.dynamic c.requires c.in-None.ensures)
+returns-in-None c = leads_first c.args.self.now (roots_at (sites c.args.self.now) c.args.resources.now) c.args.place _ _ c.find_first_target-first.ensures (ap option_copied c.in-None.is)

@@ -1,18 +1,13 @@
-use Rattle.std.proofs.Common.{◌<◌, ◌++◌, map, length, string_bytes, refl, sym, ap, ◌∙◌, arith}
-use Rattle.js_doc.specs.Nesting.{depth}
-use Rattle.js_doc.specs.Value.{list, items, members}
+use Rattle.std.proofs.Common.{map, string_bytes, arith}
+use Rattle.js_doc.specs.Value.{members}
 use Rattle.js_doc.specs.Seen.{value_of, pair_of}
-use Rattle.js_doc.proofs.Smaller.{item_smaller}
-use Rattle.js_places.specs.code.Edges.{edges_of, edges_of_keywords, edges_of_members, held_by_keywords, held_of, numbers_of_members}
-use Rattle.js_places.proofs.MemberLoops.{next_smaller, split_next}
+use Rattle.js_places.specs.code.Edges.{held_of}
+use Rattle.js_places.proofs.MemberLoops.{loop_next, next_item_smaller, next_smaller}
 use Rattle.js_places.proofs.Indexing.EdgesNext.{item_edges, item_numbers, keyword_edges_next, keyword_held_next, keywords_put, member_edges, member_numbers, put_within}
 use Rattle.js_places.proofs.index.edges.+edges.Goals as goal
 
 pub link_items-link_one-requires : goal.link_items-link_one-requires
-link_items-link_one-requires t c =
-    let small : depth (value_of c.index-schemas-i.result) < depth (list (items (map value_of c.args.schemas.now))) =
-    item_smaller c.args.schemas.now (map value_of c.args.schemas.now) c.loop-i.i c.index-schemas-i.result c.index-schemas-i.result refl (omega arith) (sym c.index-schemas-i.is) in
-    (omega (arith, small, c.decreases), tt)
+link_items-link_one-requires t c = (omega (arith, next_item_smaller c.args.schemas.now c.loop-i.i c.index-schemas-i.result (omega arith) c.index-schemas-i.is, c.decreases), tt)
 
 pub link_items-loop-i-preserved : goal.link_items-loop-i-preserved
 link_items-loop-i-preserved t c =
@@ -25,45 +20,35 @@ link_items-loop-i-preserved t c =
     }
 
 pub link_members-link_one-requires : goal.link_members-link_one-requires
-link_members-link_one-requires t c =
-    let small = next_smaller c.pairs-schema-items.result c.into_iter-schema-iterator.result c.loop-schema.schema-iterator c.next.new.self c.in-Some.field-0-0.now c.in-Some.schema.now c.args.members.now c.pairs-schema-items.ensures.pairs
-    c.into_iter-schema-iterator.ensures.into_iter_gives c.loop-schema.invariant.split c.in-Some.ensures.steps in
-    (omega (arith, small, c.decreases), tt)
+link_members-link_one-requires t c = (omega (arith, next_smaller c.pairs-schema-items.ensures.pairs c.into_iter-schema-iterator.ensures.into_iter_gives c.loop-schema.invariant.split c.in-Some.ensures.steps, c.decreases), tt)
 
 pub link_members-loop-schema-preserved : goal.link_members-loop-schema-preserved
 link_members-loop-schema-preserved t c =
+    let name = string_bytes c.in-Some.field-0-0.now in
+    let value = value_of c.in-Some.schema.now in
+    let rest = members (map pair_of c.next.new.self) in
     let l = c.loop-schema in
     let e = c.in_ok-link_one.ensures in
-    let name = c.in-Some.field-0-0.now in
-    let rest = members (map pair_of c.next.new.self) in
-    record {
-      split = split_next c.into_iter-schema-iterator.result l.schema-iterator c.next.new.self (c.in-Some.field-0-0.now, c.in-Some.schema.now) l.invariant.split c.in-Some.ensures.steps;
-      edges = member_edges (string_bytes name) (value_of c.in-Some.schema.now) rest l.edges.items c.link_one.new.edges.items _ e.edges
-          (ap (λ es. map edges_of l.edges.items ++ edges_of_members (length l.edges.items) (members (map pair_of es))) (sym c.in-Some.ensures.steps) ∙ l.invariant.edges);
-      places = member_numbers (string_bytes name) (value_of c.in-Some.schema.now) rest l.edges.items c.link_one.new.edges.items l.places.items c.link_one.new.places.items _ e.edges e.places
-          (ap (λ es. l.places.items ++ numbers_of_members (length l.edges.items) (members (map pair_of es))) (sym c.in-Some.ensures.steps) ∙ l.invariant.places);
-    }
+    loop_next l.invariant c.in-Some.ensures.steps (λ told. (
+      member_edges name value rest l.edges.items c.link_one.new.edges.items _ e.edges told.0,
+      member_numbers name value rest l.edges.items c.link_one.new.edges.items l.places.items c.link_one.new.places.items _ e.edges e.places told.1,
+    ))
 
 pub keywords_of-link_keyword-requires : goal.keywords_of-link_keyword-requires
-keywords_of-link_keyword-requires t c =
-    let small = next_smaller c.pairs-keyword-items.result c.into_iter-keyword-iterator.result c.loop-keyword.keyword-iterator c.next.new.self c.in-Some.keyword.now c.in-Some.argument.now c.args.members.now c.pairs-keyword-items.ensures.pairs
-    c.into_iter-keyword-iterator.ensures.into_iter_gives c.loop-keyword.invariant.split c.in-Some.ensures.steps in
-    (omega (arith, small, c.decreases), tt)
+keywords_of-link_keyword-requires t c = (omega (arith, next_smaller c.pairs-keyword-items.ensures.pairs c.into_iter-keyword-iterator.ensures.into_iter_gives c.loop-keyword.invariant.split c.in-Some.ensures.steps, c.decreases), tt)
 
 pub keywords_of-loop-keyword-preserved : goal.keywords_of-loop-keyword-preserved
 keywords_of-loop-keyword-preserved t c =
+    let name = string_bytes c.in-Some.keyword.now in
+    let value = value_of c.in-Some.argument.now in
+    let rest = members (map pair_of c.next.new.self) in
     let l = c.loop-keyword in
     let e = c.in_ok-link_keyword.ensures in
-    let name = c.in-Some.keyword.now in
-    let rest = members (map pair_of c.next.new.self) in
-    record {
-      split = split_next c.into_iter-keyword-iterator.result l.keyword-iterator c.next.new.self (c.in-Some.keyword.now, c.in-Some.argument.now) l.invariant.split c.in-Some.ensures.steps;
-      edges = keyword_edges_next c.as_str.result.now (string_bytes name) (value_of c.in-Some.argument.now) rest l.edges.items c.link_keyword.new.edges.items _ c.as_str.ensures.value e.edges
-          (ap (λ es. map edges_of l.edges.items ++ edges_of_keywords (length l.edges.items) (members (map pair_of es))) (sym c.in-Some.ensures.steps) ∙ l.invariant.edges);
-      held = keyword_held_next c.as_str.result.now (string_bytes name) (value_of c.in-Some.argument.now) rest l.edges.items c.link_keyword.new.edges.items (map held_of l.held.items) (map held_of c.link_keyword.new.held.items) _
-          c.as_str.ensures.value e.edges e.held
-          (ap (λ es. map held_of l.held.items ++ held_by_keywords (length l.edges.items) (members (map pair_of es))) (sym c.in-Some.ensures.steps) ∙ l.invariant.held);
-    }
+    let same = c.as_str.ensures.value in
+    loop_next l.invariant c.in-Some.ensures.steps (λ told. (
+      keyword_edges_next c.as_str.result.now name value rest l.edges.items c.link_keyword.new.edges.items _ same e.edges told.0,
+      keyword_held_next c.as_str.result.now name value rest l.edges.items c.link_keyword.new.edges.items (map held_of l.held.items) (map held_of c.link_keyword.new.held.items) _ same e.edges e.held told.1,
+    ))
 
 pub link_keywords-set_keywords-requires : goal.link_keywords-set_keywords-requires
 link_keywords-set_keywords-requires t c =

@@ -3,7 +3,7 @@ use Rattle.js_doc.specs.Nesting.{depth}
 use Rattle.js_doc.specs.Value.{list, object, items, members}
 use Rattle.js_doc.specs.Seen.{value_of, pair_of}
 use Rattle.js_places.specs.code.Edges.{edges_of, edges_of_items, edges_of_keywords, edges_of_members, held_by_keywords, held_of, numbers_of_items, numbers_of_members}
-use Rattle.js_places.proofs.MemberLoops.{IsSplit}
+use Rattle.js_places.proofs.MemberLoops.{IsLoopOver}
 use Rattle.js_places.proofs.index.edges.+edges.Given as goal
 
 abbrev pub decreases-link_schema : goal.decreases-link_schema
@@ -39,19 +39,17 @@ invariant-link_items-loop-i l = record {
 }
 
 abbrev pub invariant-link_members-loop-schema : goal.invariant-link_members-loop-schema
-invariant-link_members-loop-schema l = record {
-  split : IsSplit l.initial.schema-iterator l.schema-iterator;
-  edges : map edges_of l.edges.items ++ edges_of_members (length l.edges.items) (members (map pair_of l.schema-iterator))
-      ≡ map edges_of l.initial.edges.items ++ edges_of_members (length l.initial.edges.items) (members (map pair_of l.initial.schema-iterator));
-  places : l.places.items ++ numbers_of_members (length l.edges.items) (members (map pair_of l.schema-iterator))
-      ≡ l.initial.places.items ++ numbers_of_members (length l.initial.edges.items) (members (map pair_of l.initial.schema-iterator));
-}
+invariant-link_members-loop-schema l =
+    IsLoopOver l.initial.schema-iterator l.schema-iterator (λ es.
+    (map edges_of l.edges.items ++ edges_of_members (length l.edges.items) (members (map pair_of es))
+    ≡ map edges_of l.initial.edges.items ++ edges_of_members (length l.initial.edges.items) (members (map pair_of l.initial.schema-iterator)))
+    × (l.places.items ++ numbers_of_members (length l.edges.items) (members (map pair_of es))
+    ≡ l.initial.places.items ++ numbers_of_members (length l.initial.edges.items) (members (map pair_of l.initial.schema-iterator))))
 
 abbrev pub invariant-keywords_of-loop-keyword : goal.invariant-keywords_of-loop-keyword
-invariant-keywords_of-loop-keyword l = record {
-  split : IsSplit l.initial.keyword-iterator l.keyword-iterator;
-  edges : map edges_of l.edges.items ++ edges_of_keywords (length l.edges.items) (members (map pair_of l.keyword-iterator))
-      ≡ map edges_of l.initial.edges.items ++ edges_of_keywords (length l.initial.edges.items) (members (map pair_of l.initial.keyword-iterator));
-  held : map held_of l.held.items ++ held_by_keywords (length l.edges.items) (members (map pair_of l.keyword-iterator))
-      ≡ held_by_keywords (length l.initial.edges.items) (members (map pair_of l.initial.keyword-iterator));
-}
+invariant-keywords_of-loop-keyword l =
+    IsLoopOver l.initial.keyword-iterator l.keyword-iterator (λ es.
+    (map edges_of l.edges.items ++ edges_of_keywords (length l.edges.items) (members (map pair_of es))
+    ≡ map edges_of l.initial.edges.items ++ edges_of_keywords (length l.initial.edges.items) (members (map pair_of l.initial.keyword-iterator)))
+    × (map held_of l.held.items ++ held_by_keywords (length l.edges.items) (members (map pair_of es))
+    ≡ held_by_keywords (length l.initial.edges.items) (members (map pair_of l.initial.keyword-iterator))))
