@@ -15,34 +15,15 @@ impl<'a> Note<'a> {
     pub(crate) fn is_same(&self, other: &Note) -> bool
         ensures { result ≡ same_note (note_of self.now) (note_of other.now) }
     {
-        match self {
-            Note::Silent => matches!(other, Note::Silent),
-            Note::Error(a) => if let Note::Error(b) = other {
-                a == b
-            } else {
-                false
-            },
-            Note::Value(a) => if let Note::Value(b) = other {
-                a == b
-            } else {
-                false
-            },
-            Note::Names(a) => if let Note::Names(b) = other {
-                a.as_slice() == b.as_slice()
-            } else {
-                false
-            },
-            Note::Index(a) => if let Note::Index(b) = other {
-                a == b
-            } else {
-                false
-            },
-            Note::Indexes(a) => if let Note::Indexes(b) = other {
-                a.as_slice() == b.as_slice()
-            } else {
-                false
-            },
-            Note::Truth => matches!(other, Note::Truth),
+        match (self, other) {
+            (Note::Silent, Note::Silent) => true,
+            (Note::Error(a), Note::Error(b)) => a == b,
+            (Note::Value(a), Note::Value(b)) => a == b,
+            (Note::Names(a), Note::Names(b)) => a.as_slice() == b.as_slice(),
+            (Note::Index(a), Note::Index(b)) => a == b,
+            (Note::Indexes(a), Note::Indexes(b)) => a.as_slice() == b.as_slice(),
+            (Note::Truth, Note::Truth) => true,
+            _ => false,
         }
     }
 }
