@@ -23,7 +23,7 @@ use Rattle.js_rows.specs.code.RelativeText.{AreRowsOfTrees}
 use Rattle.js_rows.specs.declared.keeping.Between.{Between}
 use Rattle.js_rows.specs.declared.keeping.Lengths.{Lengths}
 use Rattle.js_rows.specs.declared.rows.RelativeRow.{RelativeRow}
-use Rattle.js_rows.specs.declared.marks.Mark.{Mark}
+use Rattle.js_rows.specs.declared.marks.Left.{Left}
 use Rattle.js_rows.proofs.EscapedRows.{NextTree, further, no_trees}
 use Rattle.js_rows.proofs.KeptBetween.{next_between, relative_kept}
 use Rattle.js_rows.proofs.MarkedRows.{marked_below, next_marks}
@@ -81,7 +81,7 @@ row_added old new x y n note e m r =
 
 -- ---- the rows below the first
 
-pub below_set : (rows : List RelativeRow) (x : RelativeRow) (marks : List Mark) (v : Bool) (u : OutputUnit) (below : Forest OutputUnit) → AreMarkedRows rows marks v (tree u below empty)
+pub below_set : (rows : List RelativeRow) (x : RelativeRow) (marks : List Left) (v : Bool) (u : OutputUnit) (below : Forest OutputUnit) → AreMarkedRows rows marks v (tree u below empty)
     → AreMarkedRows (take (length (slice_set rows 0 x) - 1) (drop 1 (slice_set rows 0 x))) (take (length marks - 1) (drop 1 marks)) v below
 below_set [] x marks v u below h = marked_below [] marks v u below h
 below_set (r ∷ rows) x marks v u below h = marked_below (r ∷ rows) marks v u below h
@@ -183,17 +183,17 @@ still_there rows next f x these t e =
 -- ---- what is left, tree by tree
 
 -- with the rows of what is left of the trees from the next row on, they are all
-pub record LeftToAdd (v : Bool) (k : List ℕ) (i : List ℕ) (old : List RelativeRow) (new : List RelativeRow) (rows : List RelativeRow) (marks : List Mark) (next : ℕ) (f : Forest OutputUnit) : Type 0 where
+pub record LeftToAdd (v : Bool) (k : List ℕ) (i : List ℕ) (old : List RelativeRow) (new : List RelativeRow) (rows : List RelativeRow) (marks : List Left) (next : ℕ) (f : Forest OutputUnit) : Type 0 where
   pub left : Forest OutputUnit
   pub left_is : AreRowsOfTrees (drop next rows) left
   pub marks_are : drop next marks ≡ marked v left
   pub all : map relative_row new ++ flat_of (escaped (kept_between v k i left)) ≡ map relative_row old ++ flat_of (escaped (kept_between v k i f))
 
-pub add_starts : (v : Bool) (k i : List ℕ) (old : List RelativeRow) (rows : List RelativeRow) (marks : List Mark) (f : Forest OutputUnit)
+pub add_starts : (v : Bool) (k i : List ℕ) (old : List RelativeRow) (rows : List RelativeRow) (marks : List Left) (f : Forest OutputUnit)
     → AreMarkedRows rows marks v f → LeftToAdd v k i old old rows marks 0 f
 add_starts v k i old rows marks f h = record { left = f; left_is = h.rows_are; marks_are = h.marks_are; all = refl }
 
-pub add_goes_on : (v : Bool) (k i : List ℕ) (old mid new rows more : List RelativeRow) (marks : List Mark) (next : ℕ) (f : Forest OutputUnit) (x : RelativeRow)
+pub add_goes_on : (v : Bool) (k i : List ℕ) (old mid new rows more : List RelativeRow) (marks : List Left) (next : ℕ) (f : Forest OutputUnit) (x : RelativeRow)
     (w : LeftToAdd v k i old mid rows marks next f) (t : NextTree rows next w.left x)
     → AreAdded mid new (kept_between v k i (tree t.unit t.below empty)) → drop (next + x.size) more ≡ drop (next + x.size) rows
     → LeftToAdd v k i old new more marks (next + x.size) f
@@ -212,7 +212,7 @@ add_goes_on v k i old mid new rows more marks next f x w t e d =
           ∙ w.all));
     }
 
-pub add_ends : (v : Bool) (k i : List ℕ) (old new rows : List RelativeRow) (marks : List Mark) (next : ℕ) (f : Forest OutputUnit)
+pub add_ends : (v : Bool) (k i : List ℕ) (old new rows : List RelativeRow) (marks : List Left) (next : ℕ) (f : Forest OutputUnit)
     → LeftToAdd v k i old new rows marks next f → length rows ≤ next → AreAdded old new (kept_between v k i f)
 add_ends v k i old new rows marks next f w h =
     sym (append-nil (map relative_row new))

@@ -97,6 +97,11 @@ pub record LeftToSee (rows : List RelativeRow) (next : ℕ) (rest : Forest Outpu
   pub left_is : map relative_row (drop next rows) ≡ flat_of left
   pub decides : rest left ≡ true → whole ≡ true
 
+-- so for each forest that these rows are of
+abbrev pub SeesUpTo : List RelativeRow → ℕ → List RelativeRow → (Forest OutputUnit → Bool) → (Forest OutputUnit → Bool) → Type 0
+SeesUpTo rows next these rest whole =
+    (f : Forest OutputUnit) → map relative_row these ≡ flat_of f → LeftToSee rows next rest (whole f)
+
 pub see_from : (rows : List RelativeRow) (next : ℕ) (rest : Forest OutputUnit → Bool) (whole : Bool)
     (f : Forest OutputUnit) → map relative_row (drop next rows) ≡ flat_of f → (rest f ≡ true → whole ≡ true)
     → LeftToSee rows next rest whole

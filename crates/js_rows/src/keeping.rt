@@ -10,7 +10,7 @@ ghost use Rattle.js_rows.specs.RelativeState.{AreRowsOf, AreWhole, part, relativ
 ghost use Rattle.js_rows.specs.code.KeptBetween.{AreAdded, AreLonger, AreSame, IsEnd, IsPending, kept_between};
 ghost use Rattle.js_rows.specs.code.Listing.{AreMarkedRows};
 
-use crate::marks::{Mark, RelativeMarks};
+use crate::marks::{Left, RelativeMarks};
 use crate::rows::{RelativeRow, RelativeRows, behind};
 use bumpalo::Bump;
 use js_doc::Memory;
@@ -185,7 +185,7 @@ fn move_row<'a>(
 fn keep_trees<'a>(
     arena: &'a Bump,
     rows: &mut [RelativeRow<'a>],
-    marks: &[Mark],
+    marks: &[Left],
     start: Lengths,
     between: &mut Between,
     kept: &mut Vec<RelativeRow<'a>>,
@@ -219,7 +219,7 @@ fn keep_trees<'a>(
 fn keep_tree<'a>(
     arena: &'a Bump,
     rows: &mut [RelativeRow<'a>],
-    marks: &[Mark],
+    marks: &[Left],
     start: Lengths,
     between: &mut Between,
     kept: &mut Vec<RelativeRow<'a>>,
@@ -249,7 +249,7 @@ fn keep_tree<'a>(
 fn keep_node<'a>(
     arena: &'a Bump,
     rows: &mut [RelativeRow<'a>],
-    marks: &[Mark],
+    marks: &[Left],
     start: Lengths,
     between: &mut Between,
     kept: &mut Vec<RelativeRow<'a>>,
@@ -281,7 +281,7 @@ fn keep_node<'a>(
 fn keep_below<'a>(
     arena: &'a Bump,
     rows: &mut [RelativeRow<'a>],
-    marks: &[Mark],
+    marks: &[Left],
     start: Lengths,
     between: &mut Between,
     kept: &mut Vec<RelativeRow<'a>>,

@@ -12,11 +12,11 @@ use Rattle.js_rows.specs.RelativeState.{keyword_part, relative_row}
 use Rattle.js_rows.specs.declared.keeping.Between.{Between}
 use Rattle.js_rows.specs.declared.keeping.Lengths.{Lengths}
 use Rattle.js_rows.specs.declared.rows.RelativeRow.{RelativeRow}
-use Rattle.js_rows.specs.declared.marks.Mark.{Mark}
+use Rattle.js_rows.specs.declared.marks.Left.{Left}
 
 -- What is left of a tree with this mark and of the trees after it: `stays` puts its root before these, and `below` is left
 -- of the trees below a root that goes.
-abbrev pub by_mark : Mark → (Forest OutputUnit → Forest OutputUnit) → Forest OutputUnit → Forest OutputUnit → Forest OutputUnit
+abbrev pub by_mark : Left → (Forest OutputUnit → Forest OutputUnit) → Forest OutputUnit → Forest OutputUnit → Forest OutputUnit
 by_mark m stays below after = if m.stays then stays after else (if m.below then (below ⊹ after) else after)
 
 -- the trees, where the removed nodes between them and the kept node above add this to its locations
