@@ -1,12 +1,12 @@
 -- What pruning, condensing and merging leave of sibling trees (of private functions).
-use Rattle.std.specs.Prelude.{Bool, true, false, not}
+use Rattle.std.specs.Prelude.{ℕ, Bool, true, false, not, List, get_or, take}
 use Rattle.js_tree.specs.Alike.{same_but_keyword}
-use Rattle.js_tree.specs.Forest.{Forest}
+use Rattle.js_tree.specs.Forest.{Forest, forest_of}
 use Rattle.js_tree.specs.Kept.{kept_below}
-use Rattle.js_tree.specs.Merged.{given_trees, merged_below}
+use Rattle.js_tree.specs.Merged.{given_trees, has_alike, merged_below}
 use Rattle.js_tree.specs.OutputUnit.{OutputUnit, noted}
 use Rattle.js_tree.specs.Pruned.{pruned_below}
-use Rattle.js_tree.specs.Result.{has_verdict}
+use Rattle.js_tree.specs.Result.{ResultTree, has_verdict}
 use Rattle.js_tree.specs.declared.reducing.reduction.Reduction.{Reduction}
 use Rattle.js_tree.specs.declared.reducing.reduction.Reduction.TheVariants.{Prune, Condense, Merge}
 
@@ -33,3 +33,7 @@ abbrev pub is_lifted : Reduction → Bool
 is_lifted (Prune v) = false
 is_lifted Condense = true
 is_lifted Merge = true
+
+-- one of so many first trees is alike to the one with this index
+abbrev pub comes_again : List ResultTree → ℕ → ℕ → ResultTree → Bool
+comes_again ts count i d = has_alike same_but_keyword (forest_of (take count ts)) (get_or ts i d).root (get_or ts i d).below
