@@ -34,13 +34,16 @@ use Rattle.js_rows.proofs.RoomLeft.{fewer_below}
 pub same_parts : (a b c : Between) → AreSame a b → AreSame b c → AreSame a c
 same_parts a b c d e = record { keyword = e.keyword ∙ d.keyword; instance = e.instance ∙ d.instance }
 
-pub still_pending : (a b : Between) (s : Lengths) (k i : List ℕ) → IsPending a s k i → AreSame a b → IsPending b s k i
+still_pending : (a b : Between) (s : Lengths) (k i : List ℕ) → IsPending a s k i → AreSame a b → IsPending b s k i
 still_pending a b s k i p e = record {
   keyword_fits = subst (λ xs. s.keyword ≤ length xs) (sym e.keyword) p.keyword_fits;
   instance_fits = subst (λ xs. s.instance ≤ length xs) (sym e.instance) p.instance_fits;
   keyword_is = ap (drop s.keyword) e.keyword ∙ p.keyword_is;
   instance_is = ap (drop s.instance) e.instance ∙ p.instance_is;
 }
+
+pub still_pending_at : (a b : Between) (s t : Lengths) (k i : List ℕ) → IsPending a s k i → AreSame a b → t ≡ s → IsPending b t k i
+still_pending_at a b s t k i p e at = subst (λ l. IsPending b l k i) (sym at) (still_pending a b s k i p e)
 
 pub none_pending : (a : Between) (s : Lengths) → IsEnd a s → IsPending a s [] []
 none_pending a s e = record {
