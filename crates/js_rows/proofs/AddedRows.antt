@@ -23,7 +23,7 @@ use Rattle.js_rows.specs.code.RelativeText.{AreRowsOfTrees}
 use Rattle.js_rows.specs.declared.keeping.Between.{Between}
 use Rattle.js_rows.specs.declared.keeping.Lengths.{Lengths}
 use Rattle.js_rows.specs.declared.rows.RelativeRow.{RelativeRow}
-use Rattle.js_rows.specs.declared.marks.Mark.{Mark}
+use Rattle.js_rows.specs.declared.marks.Left.{Left}
 use Rattle.js_rows.proofs.EscapedRows.{NextTree, further, no_trees}
 use Rattle.js_rows.proofs.KeptBetween.{next_between, relative_kept}
 use Rattle.js_rows.proofs.MarkedRows.{marked_below, next_marks}
@@ -34,13 +34,16 @@ use Rattle.js_rows.proofs.RoomLeft.{fewer_below}
 pub same_parts : (a b c : Between) → AreSame a b → AreSame b c → AreSame a c
 same_parts a b c d e = record { keyword = e.keyword ∙ d.keyword; instance = e.instance ∙ d.instance }
 
-pub still_pending : (a b : Between) (s : Lengths) (k i : List ℕ) → IsPending a s k i → AreSame a b → IsPending b s k i
+still_pending : (a b : Between) (s : Lengths) (k i : List ℕ) → IsPending a s k i → AreSame a b → IsPending b s k i
 still_pending a b s k i p e = record {
   keyword_fits = subst (λ xs. s.keyword ≤ length xs) (sym e.keyword) p.keyword_fits;
   instance_fits = subst (λ xs. s.instance ≤ length xs) (sym e.instance) p.instance_fits;
   keyword_is = ap (drop s.keyword) e.keyword ∙ p.keyword_is;
   instance_is = ap (drop s.instance) e.instance ∙ p.instance_is;
 }
+
+pub still_pending_at : (a b : Between) (s t : Lengths) (k i : List ℕ) → IsPending a s k i → AreSame a b → t ≡ s → IsPending b t k i
+still_pending_at a b s t k i p e at = subst (λ l. IsPending b l k i) (sym at) (still_pending a b s k i p e)
 
 pub none_pending : (a : Between) (s : Lengths) → IsEnd a s → IsPending a s [] []
 none_pending a s e = record {
@@ -81,7 +84,7 @@ row_added old new x y n note e m r =
 
 -- ---- the rows below the first
 
-pub below_set : (rows : List RelativeRow) (x : RelativeRow) (marks : List Mark) (v : Bool) (u : OutputUnit) (below : Forest OutputUnit) → AreMarkedRows rows marks v (tree u below empty)
+pub below_set : (rows : List RelativeRow) (x : RelativeRow) (marks : List Left) (v : Bool) (u : OutputUnit) (below : Forest OutputUnit) → AreMarkedRows rows marks v (tree u below empty)
     → AreMarkedRows (take (length (slice_set rows 0 x) - 1) (drop 1 (slice_set rows 0 x))) (take (length marks - 1) (drop 1 marks)) v below
 below_set [] x marks v u below h = marked_below [] marks v u below h
 below_set (r ∷ rows) x marks v u below h = marked_below (r ∷ rows) marks v u below h
@@ -183,17 +186,17 @@ still_there rows next f x these t e =
 -- ---- what is left, tree by tree
 
 -- with the rows of what is left of the trees from the next row on, they are all
-pub record LeftToAdd (v : Bool) (k : List ℕ) (i : List ℕ) (old : List RelativeRow) (new : List RelativeRow) (rows : List RelativeRow) (marks : List Mark) (next : ℕ) (f : Forest OutputUnit) : Type 0 where
+pub record LeftToAdd (v : Bool) (k : List ℕ) (i : List ℕ) (old : List RelativeRow) (new : List RelativeRow) (rows : List RelativeRow) (marks : List Left) (next : ℕ) (f : Forest OutputUnit) : Type 0 where
   pub left : Forest OutputUnit
   pub left_is : AreRowsOfTrees (drop next rows) left
   pub marks_are : drop next marks ≡ marked v left
   pub all : map relative_row new ++ flat_of (escaped (kept_between v k i left)) ≡ map relative_row old ++ flat_of (escaped (kept_between v k i f))
 
-pub add_starts : (v : Bool) (k i : List ℕ) (old : List RelativeRow) (rows : List RelativeRow) (marks : List Mark) (f : Forest OutputUnit)
+pub add_starts : (v : Bool) (k i : List ℕ) (old : List RelativeRow) (rows : List RelativeRow) (marks : List Left) (f : Forest OutputUnit)
     → AreMarkedRows rows marks v f → LeftToAdd v k i old old rows marks 0 f
 add_starts v k i old rows marks f h = record { left = f; left_is = h.rows_are; marks_are = h.marks_are; all = refl }
 
-pub add_goes_on : (v : Bool) (k i : List ℕ) (old mid new rows more : List RelativeRow) (marks : List Mark) (next : ℕ) (f : Forest OutputUnit) (x : RelativeRow)
+pub add_goes_on : (v : Bool) (k i : List ℕ) (old mid new rows more : List RelativeRow) (marks : List Left) (next : ℕ) (f : Forest OutputUnit) (x : RelativeRow)
     (w : LeftToAdd v k i old mid rows marks next f) (t : NextTree rows next w.left x)
     → AreAdded mid new (kept_between v k i (tree t.unit t.below empty)) → drop (next + x.size) more ≡ drop (next + x.size) rows
     → LeftToAdd v k i old new more marks (next + x.size) f
@@ -212,7 +215,7 @@ add_goes_on v k i old mid new rows more marks next f x w t e d =
           ∙ w.all));
     }
 
-pub add_ends : (v : Bool) (k i : List ℕ) (old new rows : List RelativeRow) (marks : List Mark) (next : ℕ) (f : Forest OutputUnit)
+pub add_ends : (v : Bool) (k i : List ℕ) (old new rows : List RelativeRow) (marks : List Left) (next : ℕ) (f : Forest OutputUnit)
     → LeftToAdd v k i old new rows marks next f → length rows ≤ next → AreAdded old new (kept_between v k i f)
 add_ends v k i old new rows marks next f w h =
     sym (append-nil (map relative_row new))

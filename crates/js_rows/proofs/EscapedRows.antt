@@ -6,7 +6,8 @@ use Rattle.js_tree.specs.Flat.{flat_of}
 use Rattle.js_tree.specs.Forest.{Forest, empty, tree, node_count}
 use Rattle.js_tree.specs.OutputUnit.{OutputUnit}
 use Rattle.js_tree.specs.Result.{ResultTree, has_verdict}
-use Rattle.js_tree.proofs.FlatRows.{SomeTree, all_gone, first_tree, some_tree}
+use Rattle.js_tree.proofs.ChildTexts.{rest_of}
+use Rattle.js_tree.proofs.FlatRows.{SomeTree, all_gone, first_tree, root_row, rows_below, some_tree}
 use Rattle.js_tree.proofs.Marks.{flat_form-flat_of}
 use Rattle.js_tree.proofs.NextRows.{slice_size}
 use Rattle.js_rows.specs.Marks.{left_trees, mark_of, marked}
@@ -124,6 +125,24 @@ at_below old new x u keyword instance at d e = record {
   keyword_is = further_behind keyword_start new.keyword.items old.keyword.items (keyword_part x) keyword u.keyword d.longer_keyword at.keyword_is (ap (λ y. y.keyword) e);
   instance_is = further_behind instance_start new.instance.items old.instance.items x.instance.now instance u.instance d.longer_instance at.instance_is (ap (λ y. y.instance) e);
 }
+
+-- at the root of a tree, below a node with these locations
+pub record Entered (rows : List RelativeRow) (t : ResultTree) (x : RelativeRow) (now : Locations) (keyword : List ℕ) (instance : List ℕ) : Type 0 where
+  pub root : (relative_row x).0 ≡ escaped_unit t.root
+  pub down : AreAt now (keyword ++ t.root.keyword) (instance ++ t.root.instance)
+  pub absolute : IsAbsolute x t.root.absolute
+  pub below : AreRowsOfTrees (take (length rows - 1) (drop 1 rows)) t.below
+
+pub entered : (rows : List RelativeRow) (t : ResultTree) (x : RelativeRow) (old new : Locations) (keyword instance : List ℕ) → AreRowsOfTree rows t → x ≡ get_or rows 0 x → AreAt old keyword instance → IsDown old x new
+    → Entered rows t x new keyword instance
+entered rows t x old new keyword instance e is at d =
+    let root = root_row relative_row rows (escaped_tree t) x e is in
+    record {
+      root = root;
+      down = at_below old new x t.root keyword instance at d root;
+      absolute = is_absolute x t.root root;
+      below = ap (map relative_row) (rest_of rows) ∙ rows_below relative_row rows (escaped_tree t) e;
+    }
 
 pub still_at : (old new : Locations) (keyword instance : List ℕ) → AreAt old keyword instance → IsBack old new → AreAt new keyword instance
 still_at old new keyword instance at b = record { keyword_is = b.same_keyword ∙ at.keyword_is; instance_is = b.same_instance ∙ at.instance_is }

@@ -9,7 +9,7 @@ use Rattle.js_rows.specs.Marks.{left_trees, mark_of}
 use Rattle.js_rows.specs.Relative.{AreLocated, IsLocated, placed, placed_unit, relative, relative_tree}
 use Rattle.js_rows.specs.code.KeptBetween.{by_mark, kept_between, kept_relative}
 use Rattle.js_rows.specs.code.Listing.{condensed}
-use Rattle.js_rows.specs.declared.marks.Mark.{Mark}
+use Rattle.js_rows.specs.declared.marks.Left.{Left}
 use Rattle.js_rows.proofs.KeptRows.{kept_alone, kept_first, whole_kept}
 
 -- ---- placing twice
@@ -35,7 +35,7 @@ anew v k i l j u below h =
     ∙ ap₂ (λ x y. condensed v x y below) (append-nil (k ++ (l ++ u.keyword)) ∙ sym (append_assoc k l u.keyword))
     (append-nil (i ++ (j ++ u.instance)) ∙ sym (append_assoc i j u.instance))
 
-by_stays : (s b : Bool) (m : Mark) (v : Bool) (k i l j : List ℕ) (u : OutputUnit) (below after : Forest OutputUnit) → m.stays ≡ s → m.below ≡ b
+by_stays : (s b : Bool) (m : Left) (v : Bool) (k i l j : List ℕ) (u : OutputUnit) (below after : Forest OutputUnit) → m.stays ≡ s → m.below ≡ b
     → ((x y : List ℕ) → placed x y (kept_between v [] [] below) ≡ condensed v (x ++ []) (y ++ []) below)
     → placed k i (kept_between v (l ++ u.keyword) (j ++ u.instance) below) ≡ condensed v (k ++ (l ++ u.keyword)) (i ++ (j ++ u.instance)) below
     → placed k i (kept_between v l j after) ≡ condensed v (k ++ l) (i ++ j) after
@@ -97,7 +97,7 @@ kept_located t h = subst IsLocated (sym (kept_is_placed t h)) (located_placed t.
 
 -- ---- tree by tree
 
-first_by_mark : (s b : Bool) (m : Mark) (u : OutputUnit) (inside handed after : Forest OutputUnit) → m.stays ≡ s → m.below ≡ b
+first_by_mark : (s b : Bool) (m : Left) (u : OutputUnit) (inside handed after : Forest OutputUnit) → m.stays ≡ s → m.below ≡ b
     → by_mark m (tree u inside) handed after ≡ (by_mark m (tree u inside) handed empty ⊹ after)
 first_by_mark true b m u inside handed after s e = rw s refl
 first_by_mark false true m u inside handed after s e = rw (s, e) (ap (λ f. f ⊹ after) (sym (append-empty handed)))
@@ -110,13 +110,13 @@ next_between v k i f u below after e =
     ap (kept_between v k i) e
     ∙ first_by_mark m.stays m.below m (placed_unit k i u) (kept_between v [] [] below) (kept_between v (k ++ u.keyword) (i ++ u.instance) below) (kept_between v k i after) refl refl
 
-by_its_mark : (v : Bool) (k i : List ℕ) (u : OutputUnit) (below : Forest OutputUnit) (m : Mark) → m ≡ mark_of v u (left_trees v below)
+by_its_mark : (v : Bool) (k i : List ℕ) (u : OutputUnit) (below : Forest OutputUnit) (m : Left) → m ≡ mark_of v u (left_trees v below)
     → kept_between v k i (tree u below empty)
     ≡ by_mark m (tree (placed_unit k i u) (kept_between v [] [] below)) (kept_between v (k ++ u.keyword) (i ++ u.instance) below) empty
 by_its_mark v k i u below m e =
     ap (λ n. by_mark n (tree (placed_unit k i u) (kept_between v [] [] below)) (kept_between v (k ++ u.keyword) (i ++ u.instance) below) empty) (sym e)
 
-pub node_goes : (v : Bool) (k i : List ℕ) (u : OutputUnit) (below : Forest OutputUnit) (m : Mark)
+pub node_goes : (v : Bool) (k i : List ℕ) (u : OutputUnit) (below : Forest OutputUnit) (m : Left)
     → m ≡ mark_of v u (left_trees v below) → m.stays ≡ false → m.below ≡ true
     → kept_between v k i (tree u below empty) ≡ kept_between v (k ++ u.keyword) (i ++ u.instance) below
 node_goes v k i u below m e s b = by_its_mark v k i u below m e ∙ rw (s, b) (append-empty (kept_between v (k ++ u.keyword) (i ++ u.instance) below))

@@ -9,7 +9,7 @@ use Rattle.js_tree.specs.Step.{at_least_one, at_least_two}
 use Rattle.js_rows.specs.Marks.{left_trees, mark_of}
 use Rattle.js_rows.specs.Relative.{IsLocated, placed_unit, relative_tree}
 use Rattle.js_rows.specs.code.Listing.{condensed}
-use Rattle.js_rows.specs.declared.marks.Mark.{Mark}
+use Rattle.js_rows.specs.declared.marks.Left.{Left}
 use Rattle.js_rows.proofs.LeftTrees.{count_left, left_trees-placed}
 use Rattle.js_rows.proofs.ListedUnits.{agrees_placed}
 use Rattle.js_rows.proofs.Placing.{placed_tree_again}
@@ -23,7 +23,7 @@ abbrev below_of : Bool → List ℕ → List ℕ → OutputUnit → Forest Outpu
 below_of v k i u below = condensed v (k ++ u.keyword) (i ++ u.instance) below
 
 -- what is kept of a tree, of whose root's mark this is
-abbrev pub kept_alone : Bool → List ℕ → List ℕ → OutputUnit → Forest OutputUnit → Mark → Forest OutputUnit
+abbrev pub kept_alone : Bool → List ℕ → List ℕ → OutputUnit → Forest OutputUnit → Left → Forest OutputUnit
 kept_alone v k i u below m =
     if m.stays then tree (placed_unit k i u) (below_of v k i u below) empty else (if m.below then below_of v k i u below else empty)
 

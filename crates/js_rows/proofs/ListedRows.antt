@@ -1,5 +1,5 @@
 -- Values that go out in an array one after the other, and rows whose trees are gone through one after the other.
-use Rattle.std.proofs.Common.{◌≡◌, ℕ, ◌+◌, ◌≤◌, suc, ◌&&◌, ◌||◌, nat_lt, Bool, true, false, not, List, [], ◌∷◌, ◌++◌, length, drop, map, codes, Result, Ok, Err, refl, ap, sym, subst, ◌∙◌, append_assoc, append-nil, arith}
+use Rattle.std.proofs.Common.{◌≡◌, ℕ, ◌+◌, ◌≤◌, ◌<◌, suc, ◌&&◌, ◌||◌, nat_lt, Bool, true, false, not, List, [], ◌∷◌, ◌++◌, length, drop, get_or, map, codes, Result, Ok, Err, refl, ap, sym, subst, ◌∙◌, append_assoc, append-nil, arith}
 use Rattle.std.proofs.lemmas.Bool.{and_parts}
 use Rattle.std.proofs.lemmas.Bool.Decides.{nat_tests}
 use Rattle.std.specs.Result.{IsErr}
@@ -12,17 +12,20 @@ use Rattle.js_tree.specs.Form.{node_value, unit_list}
 use Rattle.js_tree.specs.OutputUnit.{OutputUnit, noted}
 use Rattle.js_tree.specs.Result.{ResultTree, has_verdict, pruned, units}
 use Rattle.js_tree.specs.NodeText.{annotation_part, error_part, head_text, list_start, tail_text, valid_text}
+use Rattle.js_tree.proofs.FlatRows.{root_row}
 use Rattle.js_tree.proofs.Marks.{flat_form-flat_of}
 use Rattle.js_tree.proofs.NodeTexts.{leaf_text_is, list_text_is}
 use Rattle.js_tree.proofs.Pieces.{nothing_goes}
+use Rattle.js_rows.specs.Locations.{AreAt, IsBack}
 use Rattle.js_rows.specs.Marks.{whole_of}
 use Rattle.js_rows.specs.Relative.{escaped, escaped_tree, escaped_unit, relative_tree}
 use Rattle.js_rows.specs.RelativeState.{AreRowsOf, relative_row}
 use Rattle.js_rows.specs.code.Listing.{AllListed, AreListed, if_noted, later_after, leaves, listed, listed_tree, may_list, values_text}
 use Rattle.js_rows.specs.code.RelativeText.{AreRowsOfTree, AreRowsOfTrees, opening_text, unit_there}
+use Rattle.js_rows.specs.declared.locations.Locations.{Locations}
 use Rattle.js_rows.specs.declared.rows.RelativeRow.{RelativeRow}
 use Rattle.js_rows.specs.declared.rows.RelativeRows.{RelativeRows}
-use Rattle.js_rows.proofs.EscapedRows.{NextTree, no_trees}
+use Rattle.js_rows.proofs.EscapedRows.{NextTree, next_tree, no_trees}
 use Rattle.js_rows.proofs.ListedUnits.{array_text, gone_through, later_after-append, listed_all, passed_over, values_text-append}
 use Rattle.js_rows.proofs.Placing.{placed_tree_again}
 use Rattle.js_rows.proofs.QuotedParts.{beginning_in_parts}
@@ -101,6 +104,31 @@ pub record LeftToList (old : Progress) (new : Progress) (later : Bool) (now : Bo
   pub left_is : AreRowsOfTrees (drop next rows) left
   pub all : done ++ shown left ≡ shown f
   pub gone : AllListed old new later done now
+
+-- what has gone out of the trees before the next, wherever their node stands, and where it is said to stand
+abbrev pub ListsUpTo : Progress → Progress → Bool → Bool → Bool → List RelativeRow → ℕ → Locations → Locations → Type 0
+ListsUpTo old new later now verdict rows next above at =
+    (next ≤ length rows)
+    × IsBack above at
+    × ((f : Forest OutputUnit) → AreRowsOfTrees rows f → (left : Forest OutputUnit) × AreRowsOfTrees (drop next rows) left)
+    × ((f : Forest OutputUnit) (keyword instance : List ℕ) → AreAt above keyword instance → AreRowsOfTrees rows f
+    → LeftToList old new later now (listed verdict keyword instance) rows next f)
+
+pub lists_go_on : (a b d : Progress) (later now then verdict : Bool) (rows : List RelativeRow) (next : ℕ) (above mid at : Locations) (x : RelativeRow) (f : Forest OutputUnit)
+    → ListsUpTo a b later now verdict rows next above mid → AreRowsOfTrees rows f → next < length rows → x ≡ get_or rows next x → IsBack above at
+    → ((g : Forest OutputUnit) (keyword instance : List ℕ) → AreAt above keyword instance → AreRowsOfTrees rows g
+    → LeftToList a d later then (listed verdict keyword instance) rows (next + x.size) g)
+    → ListsUpTo a d later then verdict rows (next + x.size) above at
+lists_go_on a b d later now then verdict rows next above mid at x f w are some is back gone =
+    let here = w.2 f are in (
+      (next_tree rows next here.0 x here.1 some is).fits,
+      back,
+      λ g e.
+          let there = w.2 g e in
+          let t = next_tree rows next there.0 x there.1 some is in
+          (t.after, t.more),
+      gone,
+    )
 
 abbrev pub list_starts : (a : Progress) (later : Bool) (shown : Forest OutputUnit → List Value) (rows : List RelativeRow) (f : Forest OutputUnit) → AreRowsOfTrees rows f → LeftToList a a later later shown rows 0 f
 list_starts a later shown rows f e = record { done = []; left = f; left_is = e; all = refl; gone = none_listed a later }
@@ -198,10 +226,16 @@ list_in_parts valid vs =
     ∙ ap (λ l. list_start valid ++ l)
     (sym (ap (λ l. l ++ valid_text valid) (array_text vs) ∙ (append_assoc (codes "[") (values_text false vs ++ codes "]") (valid_text valid) ∙ ap (λ l. codes "[" ++ l) (append_assoc (values_text false vs) (codes "]") (valid_text valid)))))
 
-pub basic_in_parts : (rows : RelativeRows) (t : ResultTree) (verdict : Bool) → AreRowsOf rows t → verdict ≡ t.root.valid
+basic_in_parts : (rows : RelativeRows) (t : ResultTree) (verdict : Bool) → AreRowsOf rows t → verdict ≡ t.root.valid
     → (list_start verdict ++ codes "[") ++ (values_text false (listed verdict [] [] (whole_of t)) ++ (codes "]" ++ valid_text verdict)) ≡ compact (unit_list (pruned t))
 basic_in_parts rows t verdict h v =
     let vs = leaves (units (pruned t)) in
     ap (λ us. (list_start verdict ++ codes "[") ++ (values_text false us ++ (codes "]" ++ valid_text verdict))) (listed_all t (relative_tree t) verdict (placed_tree_again t h.located) v)
     ∙ (ap (λ b. (list_start b ++ codes "[") ++ (values_text false vs ++ (codes "]" ++ valid_text b))) v
     ∙ (list_in_parts t.root.valid vs ∙ list_text_is t.root.valid (list (items vs))))
+
+-- the same by the first row
+pub basic_by_first : (rows : RelativeRows) (t : ResultTree) (found : List RelativeRow) (x : RelativeRow) → found ≡ rows.rows.items → x ≡ get_or found 0 x → AreRowsOf rows t
+    → (list_start x.valid ++ codes "[") ++ (values_text false (listed x.valid [] [] (whole_of t)) ++ (codes "]" ++ valid_text x.valid)) ≡ compact (unit_list (pruned t))
+basic_by_first rows t found x e is h =
+    basic_in_parts rows t x.valid h (ap (λ u. u.valid) (root_row relative_row found (escaped_tree (relative_tree t)) x (whole_rows rows t found e h) is))

@@ -15,7 +15,7 @@ use Rattle.js_rows.specs.Relative.{escaped, escaped_tree}
 use Rattle.js_rows.specs.code.Listing.{AreMarkedRows}
 use Rattle.js_rows.specs.code.RelativeText.{AreRowsOfTree}
 use Rattle.js_rows.specs.declared.rows.RelativeRow.{RelativeRow}
-use Rattle.js_rows.specs.declared.marks.Mark.{Mark}
+use Rattle.js_rows.specs.declared.marks.Left.{Left}
 use Rattle.js_rows.proofs.LeftTrees.{first_left}
 use Rattle.js_rows.proofs.EscapedRows.{NextTree, count-escaped}
 
@@ -39,18 +39,23 @@ left_few v (tree u below after) =
 
 -- ---- marks that are written tree by tree
 
-pub record LeftToMark (verdict : Bool) (rows : List RelativeRow) (next : ℕ) (old : List Mark) (new : List Mark) (trees : ℕ) (f : Forest OutputUnit) : Type 0 where
-  pub done : List Mark
+pub record LeftToMark (verdict : Bool) (rows : List RelativeRow) (next : ℕ) (old : List Left) (new : List Left) (trees : ℕ) (f : Forest OutputUnit) : Type 0 where
+  pub done : List Left
   pub left : Forest OutputUnit
   pub left_is : map relative_row (drop next rows) ≡ flat_of left
   pub new_is : new ≡ old ++ done
   pub all : done ++ marked verdict left ≡ marked verdict f
   pub count : trees + left_trees verdict left ≡ left_trees verdict f
 
-pub mark_starts : (verdict : Bool) (rows : List RelativeRow) (old : List Mark) (f : Forest OutputUnit) → map relative_row rows ≡ flat_of f → LeftToMark verdict rows 0 old old 0 f
+-- so for each forest that the rows are of
+abbrev pub MarksUpTo : Bool → List RelativeRow → ℕ → List Left → List Left → ℕ → Type 0
+MarksUpTo verdict rows next old new trees =
+    (next ≤ length rows) × ((f : Forest OutputUnit) → map relative_row rows ≡ flat_of f → LeftToMark verdict rows next old new trees f)
+
+pub mark_starts : (verdict : Bool) (rows : List RelativeRow) (old : List Left) (f : Forest OutputUnit) → map relative_row rows ≡ flat_of f → LeftToMark verdict rows 0 old old 0 f
 mark_starts verdict rows old f e = record { done = []; left = f; left_is = e; new_is = sym (append-nil old); all = refl; count = omega arith }
 
-pub mark_goes_on : (verdict : Bool) (rows : List RelativeRow) (next : ℕ) (old mid new : List Mark) (trees more : ℕ) (f : Forest OutputUnit) (x : RelativeRow)
+pub mark_goes_on : (verdict : Bool) (rows : List RelativeRow) (next : ℕ) (old mid new : List Left) (trees more : ℕ) (f : Forest OutputUnit) (x : RelativeRow)
     → (l : LeftToMark verdict rows next old mid trees f) → (t : FirstTree relative_row rows next l.left x)
     → new ≡ mid ++ marked verdict (tree t.unit t.below empty) → more ≡ left_trees verdict (tree t.unit t.below empty)
     → LeftToMark verdict rows (next + x.size) old new (trees + more) f
@@ -66,7 +71,7 @@ mark_goes_on verdict rows next old mid new trees more f x l t e m =
       count = omega (arith, m, l.count, first_left verdict t.unit t.below t.after, first_left verdict t.unit t.below empty, ap (left_trees verdict) t.is);
     }
 
-pub mark_ends : (verdict : Bool) (rows : List RelativeRow) (next : ℕ) (old new : List Mark) (trees : ℕ) (f : Forest OutputUnit)
+pub mark_ends : (verdict : Bool) (rows : List RelativeRow) (next : ℕ) (old new : List Left) (trees : ℕ) (f : Forest OutputUnit)
     → LeftToMark verdict rows next old new trees f → length rows ≤ next → (new ≡ old ++ marked verdict f) × (trees ≡ left_trees verdict f)
 mark_ends verdict rows next old new trees f l h =
     let none = all_gone relative_row rows next l.left l.left_is h in
@@ -76,28 +81,28 @@ mark_ends verdict rows next old new trees f l h =
     )
 
 -- the trees of which something is left are no more than the rows
-pub mark_fits : (verdict : Bool) (rows : List RelativeRow) (next : ℕ) (old mid : List Mark) (trees more : ℕ) (f : Forest OutputUnit) (x : RelativeRow)
+pub mark_fits : (verdict : Bool) (rows : List RelativeRow) (next : ℕ) (old mid : List Left) (trees more : ℕ) (f : Forest OutputUnit) (x : RelativeRow)
     → (l : LeftToMark verdict rows next old mid trees f) → (t : FirstTree relative_row rows next l.left x) → map relative_row rows ≡ flat_of f
     → more ≡ left_trees verdict (tree t.unit t.below empty) → trees + more ≤ length rows
 mark_fits verdict rows next old mid trees more f x l t e m =
     omega (arith, m, l.count, first_left verdict t.unit t.below t.after, first_left verdict t.unit t.below empty, ap (left_trees verdict) t.is, left_few verdict f, length-flat_of f, ap length e, length-map rows relative_row)
 
-set_at : (old : List Mark) (p m : Mark) (more : List Mark) → slice_set ((old ++ p ∷ []) ++ more) (length old) m ≡ old ++ m ∷ more
+set_at : (old : List Left) (p m : Left) (more : List Left) → slice_set ((old ++ p ∷ []) ++ more) (length old) m ≡ old ++ m ∷ more
 set_at [] p m more = refl
 set_at (o ∷ old) p m more = ap (λ ms. o ∷ ms) (set_at old p m more)
 
 -- the mark stands where there was none yet
-pub mark_set : (old : List Mark) (p m : Mark) (more new : List Mark) (n : ℕ) → n ≡ length old → new ≡ (old ++ p ∷ []) ++ more → slice_set new n m ≡ old ++ m ∷ more
+pub mark_set : (old : List Left) (p m : Left) (more new : List Left) (n : ℕ) → n ≡ length old → new ≡ (old ++ p ∷ []) ++ more → slice_set new n m ≡ old ++ m ∷ more
 mark_set old p m more new n n_is new_is = ap (λ ms. slice_set ms n m) new_is ∙ (ap (λ k. slice_set ((old ++ p ∷ []) ++ more) k m) n_is ∙ set_at old p m more)
 
-pub one_tree : (v : Bool) (u : OutputUnit) (below : Forest OutputUnit) (m : Mark) (n : ℕ) → m ≡ mark_of v u (left_trees v below) → n ≡ (if (m.stays || m.below) then 1 else 0) → n ≡ left_trees v (tree u below empty)
+pub one_tree : (v : Bool) (u : OutputUnit) (below : Forest OutputUnit) (m : Left) (n : ℕ) → m ≡ mark_of v u (left_trees v below) → n ≡ (if (m.stays || m.below) then 1 else 0) → n ≡ left_trees v (tree u below empty)
 one_tree v u below m n e k =
-    let count : Mark → ℕ = λ a. if (a.stays || a.below) then 1 else 0 in
+    let count : Left → ℕ = λ a. if (a.stays || a.below) then 1 else 0 in
     let same : count m ≡ count (mark_of v u (left_trees v below)) = ap count e in
     omega (arith, k, same, first_left v u below empty)
 
 -- a node without children
-pub leaf_marked : (v : Bool) (r : ResultTree) (x : RelativeRow) (old new : List Mark) (n : ℕ) → (relative_row x).0 ≡ r.root → r.below ≡ empty
+pub leaf_marked : (v : Bool) (r : ResultTree) (x : RelativeRow) (old new : List Left) (n : ℕ) → (relative_row x).0 ≡ r.root → r.below ≡ empty
     → (new ≡ old ++ marked v (tree (relative_row x).0 empty empty)) × (n ≡ left_trees v (tree (relative_row x).0 empty empty))
     → (new ≡ old ++ marked v (tree r.root r.below empty)) × (n ≡ left_trees v (tree r.root r.below empty))
 leaf_marked v r x old new n u b told =
@@ -110,11 +115,11 @@ take_front : {A : Type 0} (xs ys : List A) → take (length xs) (xs ++ ys) ≡ x
 take_front [] ys = refl
 take_front (x ∷ xs) ys = ap (λ zs. x ∷ zs) (take_front xs ys)
 
-pub record NextMarks (verdict : Bool) (marks : List Mark) (next : ℕ) (size : ℕ) (unit : OutputUnit) (below : Forest OutputUnit) (after : Forest OutputUnit) : Type 0 where
+pub record NextMarks (verdict : Bool) (marks : List Left) (next : ℕ) (size : ℕ) (unit : OutputUnit) (below : Forest OutputUnit) (after : Forest OutputUnit) : Type 0 where
   pub these : take size (drop next marks) ≡ marked verdict (tree unit below empty)
   pub more : drop (next + size) marks ≡ marked verdict after
 
-pub next_marks : (verdict : Bool) (marks : List Mark) (rows : List RelativeRow) (next : ℕ) (f : Forest OutputUnit) (x : RelativeRow) → (t : NextTree rows next f x) → drop next marks ≡ marked verdict f
+pub next_marks : (verdict : Bool) (marks : List Left) (rows : List RelativeRow) (next : ℕ) (f : Forest OutputUnit) (x : RelativeRow) → (t : NextTree rows next f x) → drop next marks ≡ marked verdict f
     → NextMarks verdict marks next x.size t.unit t.below t.after
 next_marks verdict marks rows next f x t e =
     let these = marked verdict (tree t.unit t.below empty) in
@@ -127,28 +132,28 @@ next_marks verdict marks rows next f x t e =
 
 -- ---- the rows and the marks of a tree
 
-abbrev pub first_mark : List Mark → Mark
+abbrev pub first_mark : List Left → Left
 first_mark marks = get_or marks 0 (record { stays = false; below = false })
 
-pub root_mark : (rows : List RelativeRow) (marks : List Mark) (v : Bool) (u : OutputUnit) (below : Forest OutputUnit) → AreMarkedRows rows marks v (tree u below empty) → first_mark marks ≡ mark_of v u (left_trees v below)
+pub root_mark : (rows : List RelativeRow) (marks : List Left) (v : Bool) (u : OutputUnit) (below : Forest OutputUnit) → AreMarkedRows rows marks v (tree u below empty) → first_mark marks ≡ mark_of v u (left_trees v below)
 root_mark rows marks v u below h = ap first_mark h.marks_are
 
-pub flat_rows : (rows : List RelativeRow) (marks : List Mark) (v : Bool) (u : OutputUnit) (below : Forest OutputUnit) → AreMarkedRows rows marks v (tree u below empty) → AreRowsOfTree rows (record { root = u; below = below })
+pub flat_rows : (rows : List RelativeRow) (marks : List Left) (v : Bool) (u : OutputUnit) (below : Forest OutputUnit) → AreMarkedRows rows marks v (tree u below empty) → AreRowsOfTree rows (record { root = u; below = below })
 flat_rows rows marks v u below h = h.rows_are ∙ sym (flat_form-flat_of (escaped_tree (record { root = u; below = below })))
 
-pub marked_below : (rows : List RelativeRow) (marks : List Mark) (v : Bool) (u : OutputUnit) (below : Forest OutputUnit) → AreMarkedRows rows marks v (tree u below empty)
+pub marked_below : (rows : List RelativeRow) (marks : List Left) (v : Bool) (u : OutputUnit) (below : Forest OutputUnit) → AreMarkedRows rows marks v (tree u below empty)
     → AreMarkedRows (take (length rows - 1) (drop 1 rows)) (take (length marks - 1) (drop 1 marks)) v below
 marked_below rows marks v u below h = record {
   rows_are = ap (map relative_row) (rest_of rows) ∙ rows_below relative_row rows (escaped_tree (record { root = u; below = below })) (flat_rows rows marks v u below h);
   marks_are = rest_of marks ∙ (ap (drop 1) h.marks_are ∙ append-nil (marked v below));
 }
 
-pub as_many : (rows : List RelativeRow) (marks : List Mark) (v : Bool) (f : Forest OutputUnit) → AreMarkedRows rows marks v f → length marks ≡ length rows
+pub as_many : (rows : List RelativeRow) (marks : List Left) (v : Bool) (f : Forest OutputUnit) → AreMarkedRows rows marks v f → length marks ≡ length rows
 as_many rows marks v f h =
     omega (arith, ap length h.rows_are, length-map rows relative_row, length-flat_of (escaped f), count-escaped f, ap length h.marks_are, length-marked v f)
 
 -- the tree that comes next
-pub marked_next : (v : Bool) (marks : List Mark) (rows : List RelativeRow) (next : ℕ) (f : Forest OutputUnit) (x : RelativeRow) → (t : NextTree rows next f x) → drop next marks ≡ marked v f
+pub marked_next : (v : Bool) (marks : List Left) (rows : List RelativeRow) (next : ℕ) (f : Forest OutputUnit) (x : RelativeRow) → (t : NextTree rows next f x) → drop next marks ≡ marked v f
     → AreMarkedRows (take (next + x.size - next) (drop next rows)) (take (next + x.size - next) (drop next marks)) v (tree t.unit t.below empty)
 marked_next v marks rows next f x t e =
     let size : next + x.size - next ≡ x.size = omega arith in

@@ -54,10 +54,10 @@ part_is true token = refl
 part_is false token = refl
 
 -- with the token behind it
-pub front_then : (later slash : Bool) (kept bytes schema token absolute : List ℕ) → kept ≡ bytes → escape bytes ≡ bytes → bytes ≡ schema → escape schema ++ part slash token ≡ escape absolute → opening_front later kept slash ++ token ≡ opening_text later absolute
-front_then later slash kept bytes schema token absolute k p b e =
+pub front_then : (later slash : Bool) (kept bytes schema token absolute : List ℕ) → (kept ≡ bytes) × (escape bytes ≡ bytes) → bytes ≡ schema → escape schema ++ part slash token ≡ escape absolute → opening_front later kept slash ++ token ≡ opening_text later absolute
+front_then later slash kept bytes schema token absolute k b e =
     let start = codes "{\"absoluteKeywordLocation\":\"" in
     append_assoc (comma_if later) (start ++ (kept ++ part slash [])) token
     ∙ ap (λ l. comma_if later ++ l) (append_assoc start (kept ++ part slash []) token
     ∙ ap (λ l. start ++ l) (append_assoc kept (part slash []) token
-    ∙ (ap (λ l. kept ++ l) (part_is slash token) ∙ (ap (λ l. l ++ part slash token) (k ∙ (sym p ∙ ap escape b)) ∙ e))))
+    ∙ (ap (λ l. kept ++ l) (part_is slash token) ∙ (ap (λ l. l ++ part slash token) (k.0 ∙ (sym k.1 ∙ ap escape b)) ∙ e))))

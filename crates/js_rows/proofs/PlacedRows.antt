@@ -12,14 +12,15 @@ use Rattle.js_tree.proofs.ChildTexts.{rest_of}
 use Rattle.js_tree.proofs.FlatRows.{drop-drop, rows_below}
 use Rattle.js_tree.proofs.Forests.{append-append, append-empty}
 use Rattle.js_tree.proofs.Marks.{flat_form-flat_of}
-use Rattle.js_rows.specs.Locations.{HasRoom, IsBack, IsDown, IsUp}
+use Rattle.js_rows.specs.Locations.{AreAt, HasRoom, IsBack, IsDown, IsUp}
 use Rattle.js_rows.specs.Relative.{escaped_tree, escaped_unit, placed}
 use Rattle.js_rows.specs.RelativeState.{keyword_part, relative_row}
-use Rattle.js_rows.specs.code.RelativeText.{AreRowsOfTree, AreRowsOfTrees, unit_there}
+use Rattle.js_rows.specs.code.RelativeText.{AreRowsOfTree, AreRowsOfTrees, IsAbsolute, unit_there}
 use Rattle.js_rows.specs.declared.locations.Locations.{Locations}
 use Rattle.js_rows.specs.declared.rows.RelativeRow.{RelativeRow}
-use Rattle.js_rows.proofs.EscapedRows.{NextTree, no_trees}
+use Rattle.js_rows.proofs.EscapedRows.{NextTree, entered, is_absolute, no_trees, still_at}
 use Rattle.js_rows.proofs.RelativeTexts.{unit_is_there}
+use Rattle.js_rows.proofs.RoomLeft.{some_row}
 
 -- ---- the rows of one tree
 
@@ -36,6 +37,27 @@ rows_under rows u below h =
 pub first_again : (rows these : List RelativeRow) (n : ℕ) (x y : RelativeRow) → 0 < length rows → get_or rows 0 x ≡ get_or (put_mid 1 n rows these) 0 y
 first_again [] these n x y h = absurd (omega (arith, h))
 first_again (r ∷ rows) these n x y h = refl
+
+-- at its root, before the trees below it are taken and after that
+pub record StillEntered (y : RelativeRow) (t : ResultTree) (mid : Locations) (new : Locations) (k : List ℕ) (i : List ℕ) : Type 0 where
+  pub root : (relative_row y).0 ≡ escaped_unit t.root
+  pub absolute : IsAbsolute y t.root.absolute
+  pub down : AreAt mid (k ++ t.root.keyword) (i ++ t.root.instance)
+  pub still : AreAt new (k ++ t.root.keyword) (i ++ t.root.instance)
+
+pub still_entered : (rows these : List RelativeRow) (t : ResultTree) (x y : RelativeRow) (old mid new : Locations) (k i : List ℕ) → AreRowsOfTree rows t → x ≡ get_or rows 0 x → AreAt old k i → IsDown old (get_or rows 0 x) mid → IsBack mid new
+    → StillEntered (get_or (put_mid 1 (length rows - 1) rows these) 0 y) t mid new k i
+still_entered rows these t x y old mid new k i h is at d b =
+    let n = entered rows t (get_or rows 0 x) old mid k i h (ap (get_or rows 0) is) at d in
+    let again = get_or (put_mid 1 (length rows - 1) rows these) 0 y in
+    let same : get_or rows 0 x ≡ again = first_again rows these (length rows - 1) x y (some_row rows (escaped_tree t) h) in
+    let root = ap (λ r. (relative_row r).0) (sym same) ∙ n.root in
+    record {
+      root = root;
+      absolute = is_absolute again t.root root;
+      down = n.down;
+      still = still_at mid new (k ++ t.root.keyword) (i ++ t.root.instance) n.down b;
+    }
 
 -- the node of a row whose note has been moved
 pub with_head : (x : RelativeRow) (k a i k' a' i' : List ℕ) (g : Forest OutputUnit) (note : Note) → k' ≡ k → a' ≡ a → i' ≡ i → note ≡ note_of x.note
@@ -81,6 +103,17 @@ pub record LeftToTake (k : List ℕ) (i : List ℕ) (old : Forest OutputUnit) (n
   pub left : Forest OutputUnit
   pub left_is : AreRowsOfTrees (drop next rows) left
   pub all : (new ⊹ placed k i left) ≡ (old ⊹ placed k i f)
+
+-- what has been taken of the trees of the rows `all` before the next, wherever their node stands, and where it is said to
+-- stand
+abbrev pub TakesUpTo : Forest OutputUnit → Forest OutputUnit → List RelativeRow → List RelativeRow → ℕ → Locations → Locations → Type 0
+TakesUpTo old new all rows next above at =
+    (next ≤ length rows)
+    × IsBack above at
+    × HasRoom above (drop next rows)
+    × ((f : Forest OutputUnit) → AreRowsOfTrees all f → (left : Forest OutputUnit) × AreRowsOfTrees (drop next rows) left)
+    × ((f : Forest OutputUnit) (keyword instance : List ℕ) → AreAt above keyword instance → AreRowsOfTrees all f
+    → LeftToTake keyword instance old new rows next f)
 
 pub take_starts : (k i : List ℕ) (old : Forest OutputUnit) (rows : List RelativeRow) (f : Forest OutputUnit) → AreRowsOfTrees rows f
     → LeftToTake k i old old rows 0 f

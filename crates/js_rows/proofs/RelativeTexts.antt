@@ -1,8 +1,9 @@
 -- The text of trees that have only what their locations add, below a node with given locations.
-use Rattle.std.proofs.Common.{◌≡◌, ℕ, ◌≤◌, Bool, true, false, List, [], ◌∷◌, ◌++◌, codes, length, take, drop, refl, ap, sym, ◌∙◌, append_assoc, arith}
+use Rattle.std.proofs.Common.{◌≡◌, ℕ, ◌≤◌, ◌<◌, Bool, true, false, List, [], ◌∷◌, ◌++◌, codes, length, take, drop, Result, refl, ap, sym, subst, ◌∙◌, append_assoc, arith}
 use Rattle.std.specs.List.{sum_by}
 use Rattle.std.proofs.lemmas.List.Sums.{sum_by-take-drop, sum_by-take-le}
-use Rattle.js_doc.specs.BytesOut.{Progress}
+use Rattle.std.specs.Result.{IsErr}
+use Rattle.js_doc.specs.BytesOut.{Progress, Stops}
 use Rattle.js_doc.specs.Compact.{comma_if, compact}
 use Rattle.js_doc.specs.Value.{Value, items, list}
 use Rattle.js_tree.specs.Forest.{Forest, empty, tree}
@@ -10,19 +11,20 @@ use Rattle.js_tree.specs.Form.{node_value, node_values, verbose}
 use Rattle.js_tree.specs.Note.{Note}
 use Rattle.js_tree.specs.OutputUnit.{OutputUnit}
 use Rattle.js_tree.specs.Result.{ResultTree}
+use Rattle.js_tree.specs.Seen.{note_of}
 use Rattle.js_tree.specs.NodeText.{annotation_part, beginning_text, end_text, error_part}
 use Rattle.js_tree.specs.NodeText.{children_start, error_behind}
-use Rattle.js_tree.proofs.FlatRows.{SomeTree}
 use Rattle.js_tree.proofs.NodeTexts.{annotations, errors, pieces_are}
 use Rattle.js_rows.specs.Locations.{HasRoom, IsBack}
 use Rattle.js_rows.specs.Relative.{escaped_unit, placed, placed_tree, placed_unit}
 use Rattle.js_rows.specs.RelativeState.{keyword_part, relative_row}
+use Rattle.js_rows.specs.code.Gathering.{Gathers, GathersOrStops}
 use Rattle.js_rows.specs.code.Listing.{values_text}
 use Rattle.js_rows.specs.code.RelativeText.{AreRowsOfTrees, after_children, before_children, opening_text, unit_there}
 use Rattle.js_rows.specs.declared.locations.Locations.{Locations}
 use Rattle.js_rows.specs.declared.rows.RelativeRow.{RelativeRow}
-use Rattle.js_rows.proofs.EscapedRows.{no_trees}
-use Rattle.js_rows.proofs.Gathering.{LeftToPass, same_to_pass}
+use Rattle.js_rows.proofs.EscapedRows.{no_trees, some_trees}
+use Rattle.js_rows.proofs.Gathering.{LeftToPass, same_to_pass, stopped_in, then_passed}
 use Rattle.js_rows.proofs.ListedUnits.{array_text}
 use Rattle.js_rows.proofs.QuotedParts.{beginning_in_parts}
 
@@ -80,12 +82,12 @@ children_then note false v vs end =
     ∙ ap (λ l. error_part note ++ (codes ",\"errors\":" ++ l)) (array_then (v ∷ vs) end)
 
 -- a node with children
-pub parent_pieces : (later : Bool) (x : RelativeRow) (keyword absolute instance : List ℕ) (f : Forest OutputUnit) → SomeTree f →
+pub parent_pieces : (later : Bool) (x : RelativeRow) (keyword absolute instance : List ℕ) (rows : List RelativeRow) (f : Forest OutputUnit) → AreRowsOfTrees rows f → 0 < length rows →
     let u = unit_there x keyword absolute instance in
     before_children later absolute u.note u.valid ++ (values_text false (node_values (placed keyword instance f)) ++ after_children instance keyword u.note u.valid)
     ≡ comma_if later ++ compact (node_value u (node_values (placed keyword instance f)))
-parent_pieces later x keyword absolute instance empty s = let n = s.is in absurd cc
-parent_pieces later x keyword absolute instance (tree w below after) s =
+parent_pieces later x keyword absolute instance rows empty are some = let n = (some_trees rows empty are some).is in absurd cc
+parent_pieces later x keyword absolute instance rows (tree w below after) are some =
     let u = unit_there x keyword absolute instance in
     let v = node_value (placed_unit keyword instance w) (node_values (placed (keyword ++ w.keyword) (instance ++ w.instance) below)) in
     let vs = node_values (placed keyword instance after) in
@@ -95,6 +97,36 @@ parent_pieces later x keyword absolute instance (tree w below after) s =
     (append_assoc (34 ∷ annotation_part u.note) (children_start u.note u.valid) rest
     ∙ ap (λ l. (34 ∷ annotation_part u.note) ++ l) (children_then u.note u.valid v vs (end_text instance keyword u.valid)))
     ∙ noted_pieces later x keyword absolute instance (tree w below after)
+
+-- ---- as it is gathered: what stands before the children, the children, and what stands after them
+
+module _ (later : Bool) (x : RelativeRow) (keyword absolute instance : List ℕ) (rows : List RelativeRow) (f : Forest OutputUnit) (are : AreRowsOfTrees rows f) (some : 0 < length rows) where
+  abbrev front : List ℕ
+  front = before_children later absolute (note_of x.note) x.valid
+
+  abbrev children : List ℕ
+  children = values_text false (node_values (placed keyword instance f))
+
+  abbrev back : List ℕ
+  back = after_children instance keyword (note_of x.note) x.valid
+
+  abbrev ParentGathers : {T E : Type 0} → Progress → Progress → List ℕ → List ℕ → Result T E → Type 0
+  ParentGathers a b p q r =
+      GathersOrStops a b p q (comma_if later ++ compact (node_value (unit_there x keyword absolute instance) (node_values (placed keyword instance f)))) r
+
+  all_pieces : {T E : Type 0} (a b : Progress) (p q : List ℕ) (r : Result T E) → GathersOrStops a b p q (front ++ (children ++ back)) r → ParentGathers a b p q r
+  all_pieces a b p q r g = subst (λ l. GathersOrStops a b p q l r) (parent_pieces later x keyword absolute instance rows f are some) g
+
+  pub stops_in_front : {T E : Type 0} (a b : Progress) (p q : List ℕ) (r : Result T E) → IsErr r → Stops a b (p ++ front) → ParentGathers a b p q r
+  stops_in_front a b p q r e s = all_pieces a b p q r (stopped_in a b p q front (children ++ back) r e s)
+
+  pub stops_in_children : {T E : Type 0} (a b c : Progress) (p q s : List ℕ) (r : Result T E) → Gathers a b p q front → IsErr r → Stops b c (q ++ children) → ParentGathers a c p s r
+  stops_in_children a b c p q s r g e h =
+      all_pieces a c p s r (then_passed a b c p q s front (children ++ back) r g (stopped_in b c q s children back r e h))
+
+  pub gathers_whole : {T E : Type 0} (a b c d : Progress) (p q s z : List ℕ) (r : Result T E) → Gathers a b p q front → Gathers b c q s children → GathersOrStops c d s z back r → ParentGathers a d p z r
+  gathers_whole a b c d p q s z r g h k =
+      all_pieces a d p z r (then_passed a b d p q z front (children ++ back) r g (then_passed b c d q s z children back r h k))
 
 pub without_trees : (later : Bool) (u : OutputUnit) (keyword instance : List ℕ) (rows : List RelativeRow) (f : Forest OutputUnit) → length rows ≡ 0 → AreRowsOfTrees rows f
     → comma_if later ++ compact (node_value u []) ≡ comma_if later ++ compact (node_value u (node_values (placed keyword instance f)))

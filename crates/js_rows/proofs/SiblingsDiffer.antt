@@ -15,7 +15,7 @@ use Rattle.js_tree.specs.OutputUnit.{OutputUnit}
 use Rattle.js_tree.proofs.FlatRows.{FirstTree, all_gone, first_tree}
 use Rattle.js_tree.proofs.Steps.{and_left, and_right}
 use Rattle.js_rows.specs.RelativeState.{relative_row}
-use Rattle.js_rows.specs.code.Differing.{none_there, same_places, siblings_differ}
+use Rattle.js_rows.specs.code.Differing.{AreTrees, none_there, same_places, siblings_differ}
 use Rattle.js_rows.specs.code.PartOrder.{ascend_behind, differ_below, part_order, part_rank, rank_of, ranked}
 use Rattle.js_rows.specs.code.PartOrder.{roots_differ}
 use Rattle.js_rows.specs.declared.rows.RelativeRow.{RelativeRow}
@@ -97,6 +97,12 @@ pub record LeftToSee (rows : List RelativeRow) (next : ℕ) (rest : Forest Outpu
   pub left_is : map relative_row (drop next rows) ≡ flat_of left
   pub decides : rest left ≡ true → whole ≡ true
 
+-- so for each forest that these rows are of; and the rows from the next on are those of trees
+abbrev pub SeesUpTo : List RelativeRow → ℕ → List RelativeRow → (Forest OutputUnit → Bool) → (Forest OutputUnit → Bool) → Type 0
+SeesUpTo rows next these rest whole =
+    AreTrees (drop next rows)
+    × ((f : Forest OutputUnit) → map relative_row these ≡ flat_of f → LeftToSee rows next rest (whole f))
+
 pub see_from : (rows : List RelativeRow) (next : ℕ) (rest : Forest OutputUnit → Bool) (whole : Bool)
     (f : Forest OutputUnit) → map relative_row (drop next rows) ≡ flat_of f → (rest f ≡ true → whole ≡ true)
     → LeftToSee rows next rest whole
@@ -107,11 +113,15 @@ pub tree_there : {rest : Forest OutputUnit → Bool} {whole : Bool} (rows : List
     → FirstTree relative_row rows next l.left x
 tree_there rows next x l h is = first_tree relative_row rows next l.left x l.left_is h is
 
-pub see_next : {rest now : Forest OutputUnit → Bool} {whole : Bool} (rows : List RelativeRow) (next : ℕ)
+pub more_at : (rows : List RelativeRow) (next end : ℕ) (f : Forest OutputUnit) (x : RelativeRow)
+    (t : FirstTree relative_row rows next f x) → end ≡ next + x.size → map relative_row (drop end rows) ≡ flat_of t.after
+more_at rows next end f x t e = ap (λ n. map relative_row (drop n rows)) e ∙ t.more
+
+pub see_next : {rest now : Forest OutputUnit → Bool} {whole : Bool} (rows : List RelativeRow) (next end : ℕ)
     (x : RelativeRow) (l : LeftToSee rows next rest whole) (t : FirstTree relative_row rows next l.left x)
-    → (now t.after ≡ true → rest (tree t.unit t.below t.after) ≡ true) → LeftToSee rows (next + x.size) now whole
-see_next {rest} rows next x l t d =
-    record { left = t.after; left_is = t.more; decides = λ h. l.decides (ap rest t.is ∙ d h) }
+    → end ≡ next + x.size → (now t.after ≡ true → rest (tree t.unit t.below t.after) ≡ true) → LeftToSee rows end now whole
+see_next {rest} rows next end x l t e d =
+    record { left = t.after; left_is = more_at rows next end l.left x t e; decides = λ h. l.decides (ap rest t.is ∙ d h) }
 
 pub see_end : {rest : Forest OutputUnit → Bool} {whole : Bool} (rows : List RelativeRow) (next : ℕ)
     → LeftToSee rows next rest whole → length rows ≤ next → rest empty ≡ true → whole ≡ true
@@ -149,14 +159,14 @@ one_differs (tree u empty (tree v under after)) n e h = absurd (omega (arith, e,
 one_differs (tree u (tree v under others) after) n e h = absurd (omega (arith, e, h))
 
 -- the rows below the first root are those of the trees below it
-pub rows_inside : (rows : List RelativeRow) (next : ℕ) (f : Forest OutputUnit) (x : RelativeRow)
-    (t : FirstTree relative_row rows next f x)
-    → map relative_row (take (next + x.size - (next + 1)) (drop (next + 1) rows)) ≡ flat_of t.below
-rows_inside rows next f x t =
-    let size : next + x.size - (next + 1) ≡ x.size - 1 = omega arith in
+pub rows_inside : (rows : List RelativeRow) (next end : ℕ) (f : Forest OutputUnit) (x : RelativeRow)
+    (t : FirstTree relative_row rows next f x) → end ≡ next + x.size
+    → map relative_row (take (end - (next + 1)) (drop (next + 1) rows)) ≡ flat_of t.below
+rows_inside rows next end f x t e =
+    let size : end - (next + 1) ≡ x.size - 1 = omega arith in
     ap (λ n. map relative_row (take n (drop (next + 1) rows))) size ∙ t.inside
 
-pub fewer_inside : (rows : List RelativeRow) (next size : ℕ) → next < length rows
-    → length (take (next + size - (next + 1)) (drop (next + 1) rows)) < length rows
-fewer_inside rows next size h =
-    omega (arith, h, length-take (next + size - (next + 1)) (drop (next + 1) rows), length-drop (next + 1) rows)
+pub fewer_inside : (rows : List RelativeRow) (next end : ℕ) → next < length rows
+    → length (take (end - (next + 1)) (drop (next + 1) rows)) < length rows
+fewer_inside rows next end h =
+    omega (arith, h, length-take (end - (next + 1)) (drop (next + 1) rows), length-drop (next + 1) rows)

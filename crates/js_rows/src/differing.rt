@@ -1,14 +1,15 @@
 //! A quick test which shows that no two siblings of a tree are alike, so that merging drops nothing. It reads the
 //! locations of relative rows only.
-ghost use Rattle.std.specs.Prelude.{◌≡◌, IsTrue, drop, true, map};
+ghost use Rattle.std.specs.Prelude.{◌≡◌, ◌<◌, ◌≤◌, ◌+◌, IsTrue, drop, get_or, length, true, map};
 ghost use Rattle.std.specs.List.{prefix_len};
 ghost use Rattle.std.specs.Ordering.{is_lt};
 ghost use Rattle.js_tree.specs.Flat.{flat_of};
 ghost use Rattle.js_tree.specs.Forest.{Forest};
 ghost use Rattle.js_tree.specs.OutputUnit.{OutputUnit};
 ghost use Rattle.js_rows.specs.RelativeState.{relative_row};
-ghost use Rattle.js_rows.specs.code.Differing.{none_there, siblings_differ};
+ghost use Rattle.js_rows.specs.code.Differing.{AreTrees, none_there, siblings_differ};
 ghost use Rattle.js_rows.specs.code.PartOrder.{is_digit, part_order, part_rank, roots_differ};
+ghost use Rattle.js_rows.specs.declared.rows.RelativeRow.{RelativeRow as Row};
 
 use crate::apart::stand_apart;
 use crate::rows::RelativeRow;
@@ -22,7 +23,7 @@ const NO_INDEX: usize = 100;
 /// Whether it is seen at once that no two siblings stand at the same places. Takes linear time.
 #[cycle(siblings_differ)]
 pub(crate) fn siblings_differ(rows: &[RelativeRow]) -> bool
-    requires { (f : Forest OutputUnit) × (map relative_row rows.now ≡ flat_of f) }
+    requires { AreTrees rows.now }
     ensures { (f : Forest OutputUnit) → map relative_row rows.now ≡ flat_of f → IsTrue result
         → siblings_differ f ≡ true }
 {
@@ -33,7 +34,7 @@ pub(crate) fn siblings_differ(rows: &[RelativeRow]) -> bool
     while next < rows.len() {
         let first = next;
         let row = &rows[first];
-        next = first + row.size;
+        next = tree_end(rows, first);
         // One node below has no siblings.
         if row.size > 2 && !siblings_differ(&rows[first + 1..next]) {
             return false;
@@ -43,11 +44,25 @@ pub(crate) fn siblings_differ(rows: &[RelativeRow]) -> bool
 }
 
 fn roots_differ(rows: &[RelativeRow]) -> bool
-    requires { (f : Forest OutputUnit) × (map relative_row rows.now ≡ flat_of f) }
+    requires { AreTrees rows.now }
     ensures { (f : Forest OutputUnit) → map relative_row rows.now ≡ flat_of f → IsTrue result
         → roots_differ f ≡ true }
 {
     (may_ascend(rows) && roots_ascend(rows)) || pairs_differ(rows)
+}
+
+// Where the rows of the tree end whose root is the row at `first`.
+#[inline(always)]
+fn tree_end(rows: &[RelativeRow], first: usize) -> usize
+    requires trees { AreTrees (drop first rows.now) }
+    requires more { first < length rows.now }
+    ensures further { first < result }
+    ensures fits { result ≤ length rows.now }
+    ensures rest { AreTrees (drop result rows.now) }
+    ensures size { (row : Row) → row ≡ get_or rows.now first row → result ≡ first + row.size }
+{
+    let row = &rows[first];
+    first + row.size
 }
 
 // Whether the second root adds to the instance location. If it doesn't, it doesn't come after the first.
@@ -63,7 +78,7 @@ fn may_ascend(rows: &[RelativeRow]) -> bool {
 
 // Whether what each root adds to the instance location comes after what the one before adds.
 fn roots_ascend(rows: &[RelativeRow]) -> bool
-    requires { (f : Forest OutputUnit) × (map relative_row rows.now ≡ flat_of f) }
+    requires { AreTrees rows.now }
     ensures { (f : Forest OutputUnit) → map relative_row rows.now ≡ flat_of f → IsTrue result
         → roots_differ f ≡ true }
 {
@@ -73,7 +88,7 @@ fn roots_ascend(rows: &[RelativeRow]) -> bool
     while next < rows.len() {
         let first = next;
         let row = &rows[first];
-        next = first + row.size;
+        next = tree_end(rows, first);
         let part = row.instance;
         let above = rank;
         rank = part_rank(part);
@@ -120,7 +135,7 @@ fn comes_before(a_rank: usize, a: &[u8], b_rank: usize, b: &[u8]) -> bool
 
 // Whether each root stands apart from each one behind it.
 fn pairs_differ(rows: &[RelativeRow]) -> bool
-    requires { (f : Forest OutputUnit) × (map relative_row rows.now ≡ flat_of f) }
+    requires { AreTrees rows.now }
     ensures { (f : Forest OutputUnit) → map relative_row rows.now ≡ flat_of f → IsTrue result
         → roots_differ f ≡ true }
 {
@@ -128,7 +143,7 @@ fn pairs_differ(rows: &[RelativeRow]) -> bool
     while next < rows.len() {
         let first = next;
         let row = &rows[first];
-        next = first + row.size;
+        next = tree_end(rows, first);
         if !stands_alone(row, rows, next) {
             return false;
         }
@@ -138,7 +153,7 @@ fn pairs_differ(rows: &[RelativeRow]) -> bool
 
 // Whether the row stands apart from each of the trees' roots from there on. Not if there are too many.
 fn stands_alone(row: &RelativeRow, rows: &[RelativeRow], start: usize) -> bool
-    requires { (f : Forest OutputUnit) × (map relative_row (drop start rows.now) ≡ flat_of f) }
+    requires { AreTrees (drop start rows.now) }
     ensures { (f : Forest OutputUnit) → map relative_row (drop start rows.now) ≡ flat_of f → IsTrue result
         → none_there (relative_row row.now).0 f ≡ true }
 {
@@ -147,7 +162,7 @@ fn stands_alone(row: &RelativeRow, rows: &[RelativeRow], start: usize) -> bool
     while next < rows.len() {
         let first = next;
         let other = &rows[first];
-        next = first + other.size;
+        next = tree_end(rows, first);
         if left == 0 || !stand_apart(row, other) {
             return false;
         }

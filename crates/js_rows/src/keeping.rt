@@ -1,16 +1,15 @@
 //! The rows of the tree that pruning and condensing leave, from those of the whole tree.
-ghost use Rattle.std.specs.Prelude.{◌≡◌, ◌+◌, ◌≤◌, ◌++◌, ◌∷◌, [], Bool, IfOk, IsTrue, List, OnOk, ℕ, drop, false};
+ghost use Rattle.std.specs.Prelude.{◌≡◌, ◌+◌, ◌≤◌, ◌++◌, ◌∷◌, [], IfOk, IsTrue, List, OnOk, ℕ, drop, false};
 ghost use Rattle.std.specs.Prelude.{length, map};
-ghost use Rattle.js_tree.specs.Forest.{Forest, empty, tree};
 ghost use Rattle.js_tree.specs.OutputUnit.{OutputUnit};
 ghost use Rattle.js_tree.specs.Result.{ResultTree, kept, pruned};
 ghost use Rattle.js_rows.specs.Marks.{AreMarksOf};
 ghost use Rattle.js_rows.specs.Relative.{escaped_unit, placed_unit};
 ghost use Rattle.js_rows.specs.RelativeState.{AreRowsOf, AreWhole, part, relative_row};
-ghost use Rattle.js_rows.specs.code.KeptBetween.{AreAdded, AreLonger, AreSame, IsEnd, IsPending, kept_between};
-ghost use Rattle.js_rows.specs.code.Listing.{AreMarkedRows};
+ghost use Rattle.js_rows.specs.code.KeptBetween.{AreLonger, AreMarked, AreSame, IsEnd, IsMarked, IsPending, KeepsTree};
+ghost use Rattle.js_rows.specs.code.KeptBetween.{KeepsTrees, StaysPending, left_below, left_of_tree, over_what_is_left};
 
-use crate::marks::{Mark, RelativeMarks};
+use crate::marks::{Left, RelativeMarks};
 use crate::rows::{RelativeRow, RelativeRows, behind};
 use bumpalo::Bump;
 use js_doc::Memory;
@@ -25,11 +24,21 @@ struct Between {
     instance: Vec<u8>,
 }
 
-// How long these were at the last node that stays. What is behind that is still to be added.
+// How long these are.
 #[derive(Clone, Copy)]
 struct Lengths {
     keyword: usize,
     instance: usize,
+}
+
+// The rows that are kept, and what the next of them needs.
+#[derive(Drop)]
+struct Keeper<'a> {
+    arena: &'a Bump,
+    between: Between,
+    // How long that was at the last node that stays. What is behind it is still to be added.
+    start: Lengths,
+    kept: Vec<RelativeRow<'a>>,
 }
 
 /// The rows of what pruning and condensing leave of the rows' tree: the tree of the detailed format (JSON Schema Core,
@@ -57,16 +66,27 @@ fn keep_marked<'a>(
     ensures { (t : ResultTree) → AreRowsOf rows.entry t → IfOk result (λ k. AreRowsOf k (kept (pruned t))) }
 {
     let mut rows = rows;
-    let mut between = Between {
+    let marks = marks.marks.as_slice();
+    // No more rows stay. Reserved memory that is never used costs nothing.
+    let kept = Vec::with_capacity(alloc, marks.len())?;
+    let between = Between {
         keyword: Vec::new(alloc),
         instance: Vec::new(alloc),
     };
     let start = between.end();
-    let marks = marks.marks.as_slice();
-    // No more rows stay. Reserved memory that is never used costs nothing.
-    let mut kept = Vec::with_capacity(alloc, marks.len())?;
-    let arena = rows.arena;
-    keep_node(arena, &mut rows.rows, marks, start, &mut between, &mut kept)?;
+    let mut keeper = Keeper {
+        arena: rows.arena,
+        between,
+        start,
+        kept,
+    };
+    keeper.keep_node(&mut rows.rows, marks)?;
+    let Keeper {
+        arena: _,
+        between: _,
+        start: _,
+        kept,
+    } = keeper;
     rows.rows = kept;
     Ok(rows)
 }
@@ -180,125 +200,84 @@ fn move_row<'a>(
     Ok(())
 }
 
-// Adds the rows of what is left of the trees of the rows.
-#[cycle(keep_trees)]
-fn keep_trees<'a>(
-    arena: &'a Bump,
-    rows: &mut [RelativeRow<'a>],
-    marks: &[Mark],
-    start: Lengths,
-    between: &mut Between,
-    kept: &mut Vec<RelativeRow<'a>>,
-) -> Result<(), Memory>
-    requires { (v : Bool) × (f : Forest OutputUnit) × AreMarkedRows rows.old marks.now v f }
-    ensures rows { (v : Bool) (f : Forest OutputUnit) (keyword instance : List ℕ)
-        → IsPending between.old start keyword instance → AreMarkedRows rows.old marks.now v f
-        → OnOk result (AreAdded kept.old.items kept.new.items (kept_between v keyword instance f)) }
-    ensures same { OnOk result (AreSame between.old between.new) }
-{
-    let mut next = 0;
-    while next < rows.len() {
-        let first = next;
-        let row = &rows[first];
-        next = first + row.size;
-        keep_tree(
-            arena,
-            &mut rows[first..next],
-            &marks[first..next],
-            start,
-            between,
-            kept,
-        )?;
+impl<'a> Keeper<'a> {
+    // Adds the rows of what is left of the trees of the rows.
+    #[cycle(keep_trees)]
+    fn keep_trees(&mut self, rows: &mut [RelativeRow<'a>], marks: &[Left]) -> Result<(), Memory>
+        requires { AreMarked rows.old marks.now }
+        ensures rows { KeepsTrees self.old rows.old marks.now self.new result }
+        ensures same { OnOk result (StaysPending self.old self.new) }
+    {
+        let mut next = 0;
+        while next < rows.len() {
+            let first = next;
+            let row = &rows[first];
+            next = first + row.size;
+            self.keep_tree(&mut rows[first..next], &marks[first..next])?;
+        }
+        Ok(())
     }
-    Ok(())
-}
 
-// Adds the rows of what is left of the tree of the rows.
-#[cycle(keep_trees)]
-#[inline(always)]
-fn keep_tree<'a>(
-    arena: &'a Bump,
-    rows: &mut [RelativeRow<'a>],
-    marks: &[Mark],
-    start: Lengths,
-    between: &mut Between,
-    kept: &mut Vec<RelativeRow<'a>>,
-) -> Result<(), Memory>
-    requires { (v : Bool) × (u : OutputUnit) × (below : Forest OutputUnit)
-        × AreMarkedRows rows.old marks.now v (tree u below empty) }
-    ensures rows { (v : Bool) (u : OutputUnit) (below : Forest OutputUnit) (keyword instance : List ℕ)
-        → IsPending between.old start keyword instance → AreMarkedRows rows.old marks.now v (tree u below empty)
-        → OnOk result (AreAdded kept.old.items kept.new.items (kept_between v keyword instance (tree u below empty))) }
-    ensures same { OnOk result (AreSame between.old between.new) }
-{
-    let mark = &marks[0];
-    let stays = mark.stays;
-    let some = mark.below;
-    if stays {
-        return keep_node(arena, rows, marks, start, between, kept);
+    // Adds the rows of what is left of the tree of the rows.
+    #[cycle(keep_trees)]
+    #[inline(always)]
+    fn keep_tree(&mut self, rows: &mut [RelativeRow<'a>], marks: &[Left]) -> Result<(), Memory>
+        requires { IsMarked rows.old marks.now }
+        ensures rows { KeepsTree left_of_tree self.old rows.old marks.now self.new result }
+        ensures same { OnOk result (StaysPending self.old self.new) }
+    {
+        let mark = &marks[0];
+        let stays = mark.stays;
+        let some = mark.below;
+        if stays {
+            return self.keep_node(rows, marks);
+        }
+        if some {
+            return self.keep_below(rows, marks);
+        }
+        Ok(())
     }
-    if some {
-        return keep_below(arena, rows, marks, start, between, kept);
-    }
-    Ok(())
-}
 
-// Adds the row of the first row's node, and those of what is left below it.
-#[cycle(keep_trees)]
-#[inline(always)]
-fn keep_node<'a>(
-    arena: &'a Bump,
-    rows: &mut [RelativeRow<'a>],
-    marks: &[Mark],
-    start: Lengths,
-    between: &mut Between,
-    kept: &mut Vec<RelativeRow<'a>>,
-) -> Result<(), Memory>
-    requires { (v : Bool) × (u : OutputUnit) × (below : Forest OutputUnit)
-        × AreMarkedRows rows.old marks.now v (tree u below empty) }
-    ensures rows { (v : Bool) (u : OutputUnit) (below : Forest OutputUnit) (keyword instance : List ℕ)
-        → IsPending between.old start keyword instance → AreMarkedRows rows.old marks.now v (tree u below empty)
-        → OnOk result (AreAdded kept.old.items kept.new.items
-        (tree (placed_unit keyword instance u) (kept_between v [] [] below) empty)) }
-    ensures same { OnOk result (AreSame between.old between.new) }
-{
-    let count = rows.len();
-    if count == 1 {
-        return between.add_row(arena, &mut rows[0], start, 1, kept);
+    // Adds the row of the first row's node, and those of what is left below it.
+    #[cycle(keep_trees)]
+    #[inline(always)]
+    fn keep_node(&mut self, rows: &mut [RelativeRow<'a>], marks: &[Left]) -> Result<(), Memory>
+        requires { IsMarked rows.old marks.now }
+        ensures rows { KeepsTree over_what_is_left self.old rows.old marks.now self.new result }
+        ensures same { OnOk result (StaysPending self.old self.new) }
+    {
+        let arena = self.arena;
+        let start = self.start;
+        let count = rows.len();
+        let kept = &mut self.kept;
+        if count == 1 {
+            return self.between.add_row(arena, &mut rows[0], start, 1, kept);
+        }
+        let number = kept.len();
+        self.between.add_row(arena, &mut rows[0], start, 0, kept)?;
+        let end = self.between.end();
+        self.start = end;
+        self.keep_trees(&mut rows[1..], &marks[1..])?;
+        self.start = start;
+        let size = self.kept.len() - number;
+        let row = &mut self.kept[number];
+        row.size = size;
+        Ok(())
     }
-    let number = kept.len();
-    between.add_row(arena, &mut rows[0], start, 0, kept)?;
-    let end = between.end();
-    keep_trees(arena, &mut rows[1..], &marks[1..], end, between, kept)?;
-    let size = kept.len() - number;
-    let row = &mut kept[number];
-    row.size = size;
-    Ok(())
-}
 
-// Adds the rows of what is left below the first row's node, which goes.
-#[cycle(keep_trees)]
-fn keep_below<'a>(
-    arena: &'a Bump,
-    rows: &mut [RelativeRow<'a>],
-    marks: &[Mark],
-    start: Lengths,
-    between: &mut Between,
-    kept: &mut Vec<RelativeRow<'a>>,
-) -> Result<(), Memory>
-    requires { (v : Bool) × (u : OutputUnit) × (below : Forest OutputUnit)
-        × AreMarkedRows rows.old marks.now v (tree u below empty) }
-    ensures rows { (v : Bool) (u : OutputUnit) (below : Forest OutputUnit) (keyword instance : List ℕ)
-        → IsPending between.old start keyword instance → AreMarkedRows rows.old marks.now v (tree u below empty)
-        → OnOk result (AreAdded kept.old.items kept.new.items
-        (kept_between v (keyword ++ u.keyword) (instance ++ u.instance) below)) }
-    ensures same { OnOk result (AreSame between.old between.new) }
-{
-    let end = between.end();
-    between.add(&rows[0])?;
-    keep_trees(arena, &mut rows[1..], &marks[1..], start, between, kept)?;
-    between.go_back(end);
-    Ok(())
+    // Adds the rows of what is left below the first row's node, which goes.
+    #[cycle(keep_trees)]
+    fn keep_below(&mut self, rows: &mut [RelativeRow<'a>], marks: &[Left]) -> Result<(), Memory>
+        requires { IsMarked rows.old marks.now }
+        ensures rows { KeepsTree left_below self.old rows.old marks.now self.new result }
+        ensures same { OnOk result (StaysPending self.old self.new) }
+    {
+        let end = self.between.end();
+        self.between.add(&rows[0])?;
+        self.keep_trees(&mut rows[1..], &marks[1..])?;
+        self.between.go_back(end);
+        Ok(())
+    }
 }
 
 // Adds a part to what is there.

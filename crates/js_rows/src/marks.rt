@@ -13,7 +13,7 @@ use std::alloc::Global;
 
 /// What is left of a node's tree.
 #[derive(Clone, Copy)]
-pub(crate) struct Mark {
+pub(crate) struct Left {
     // The node is left.
     pub(crate) stays: bool,
     // Something is left below it.
@@ -23,7 +23,7 @@ pub(crate) struct Mark {
 /// What pruning and condensing leave of each node's tree, row by row (JSON Schema Core, section 12.4.3).
 #[derive(Drop)]
 pub(crate) struct RelativeMarks {
-    pub(crate) marks: Vec<Mark>,
+    pub(crate) marks: Vec<Left>,
 }
 
 impl RelativeMarks {
@@ -45,7 +45,7 @@ impl RelativeMarks {
 
 // Marks the trees of the rows. Returns of how many of them something is left.
 #[cycle(mark_trees)]
-fn mark_trees(verdict: bool, rows: &[RelativeRow], marks: &mut Vec<Mark>) -> Result<usize, Memory>
+fn mark_trees(verdict: bool, rows: &[RelativeRow], marks: &mut Vec<Left>) -> Result<usize, Memory>
     requires { (f : Forest OutputUnit) × (map relative_row rows.now ≡ flat_of f) }
     ensures { IfOk result (λ trees. (f : Forest OutputUnit) → map relative_row rows.now ≡ flat_of f
         → (marks.new.items ≡ marks.old.items ++ marked verdict f) × (trees ≡ left_trees verdict f)) }
@@ -64,7 +64,7 @@ fn mark_trees(verdict: bool, rows: &[RelativeRow], marks: &mut Vec<Mark>) -> Res
 // Marks the tree of the rows. Returns 1 if something is left of it, and otherwise 0.
 #[cycle(mark_trees)]
 #[inline(always)]
-fn mark_tree(verdict: bool, rows: &[RelativeRow], marks: &mut Vec<Mark>) -> Result<usize, Memory>
+fn mark_tree(verdict: bool, rows: &[RelativeRow], marks: &mut Vec<Left>) -> Result<usize, Memory>
     requires { (r : ResultTree) × (map relative_row rows.now ≡ flat_form r) }
     ensures { IfOk result (λ trees. (r : ResultTree) → map relative_row rows.now ≡ flat_form r
         → (marks.new.items ≡ marks.old.items ++ marked verdict (tree r.root r.below empty))
@@ -75,7 +75,7 @@ fn mark_tree(verdict: bool, rows: &[RelativeRow], marks: &mut Vec<Mark>) -> Resu
         return mark_leaf(verdict, &rows[0], marks);
     }
     let number = marks.len();
-    marks.push(Mark {
+    marks.push(Left {
         stays: false,
         below: false,
     })?;
@@ -87,7 +87,7 @@ fn mark_tree(verdict: bool, rows: &[RelativeRow], marks: &mut Vec<Mark>) -> Resu
 
 // Marks the row of a node without children: most rows are of such nodes.
 #[inline(always)]
-fn mark_leaf(verdict: bool, row: &RelativeRow, marks: &mut Vec<Mark>) -> Result<usize, Memory>
+fn mark_leaf(verdict: bool, row: &RelativeRow, marks: &mut Vec<Left>) -> Result<usize, Memory>
     ensures { IfOk result (λ trees.
         (marks.new.items ≡ marks.old.items ++ marked verdict (tree (relative_row row.now).0 empty empty))
         × (trees ≡ left_trees verdict (tree (relative_row row.now).0 empty empty))) }
@@ -98,27 +98,27 @@ fn mark_leaf(verdict: bool, row: &RelativeRow, marks: &mut Vec<Mark>) -> Result<
 }
 
 #[inline(always)]
-fn mark_of(verdict: bool, row: &RelativeRow, trees: usize) -> Mark
+fn mark_of(verdict: bool, row: &RelativeRow, trees: usize) -> Left
     ensures { result ≡ mark_of verdict (relative_row row.now).0 trees }
 {
     if row.valid != verdict {
-        return Mark {
+        return Left {
             stays: false,
             below: false,
         };
     }
     let below = trees >= 1;
     if row.note.is_some() {
-        return Mark { stays: true, below };
+        return Left { stays: true, below };
     }
-    Mark {
+    Left {
         stays: trees >= 2,
         below,
     }
 }
 
 #[inline(always)]
-fn trees_of(mark: Mark) -> usize
+fn trees_of(mark: Left) -> usize
     ensures { result ≡ (if (mark.stays || mark.below) then 1 else 0) }
 {
     if mark.stays {

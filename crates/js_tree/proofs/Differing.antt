@@ -207,3 +207,11 @@ pub before_read : (ts : List ResultTree) (p q : ℕ) (x y : ResultTree) → p < 
     → result_tree_order x y ≡ Less → IsBefore ts p q
 before_read ts p q x y h l e f a d =
     let both = read_as ts p q x y d h l e f in ap (λ t. result_tree_order t (get_or ts q d)) (sym both.0) ∙ ap (result_tree_order x) (sym both.1) ∙ a
+
+-- ---- those that are kept of the trees that were seen
+
+-- the same are first among them; and they are the first if each was compared with all
+abbrev pub AreFirsts : Bool → List ResultTree → List ResultTree → Type 0
+AreFirsts by_marks done seen =
+    (firsts same_but_keyword (forest_of done) ≡ firsts same_but_keyword (forest_of seen))
+    × (by_marks ≡ false → forest_of done ≡ firsts same_but_keyword (forest_of seen))

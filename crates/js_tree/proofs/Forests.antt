@@ -41,6 +41,13 @@ module _ {A : Type 0} where
   fewer_nodes (t ∷ ts) zero d h = omega arith
   fewer_nodes (t ∷ ts) (suc i) d h = let k : i < length ts = omega arith in omega (arith, fewer_nodes ts i d k)
 
+  -- and so have its children
+  pub fewer_children : (ts : List (Rose A)) (i : ℕ) (d : Rose A) (a : A) (us vs : List (Rose A)) → us ≡ vs → record { root = a; below = forest_of vs } ≡ get_or ts i d → i < length ts
+      → node_count (forest_of us) < node_count (forest_of ts)
+  fewer_children ts i d a us vs e is h =
+      let n : node_count (forest_of us) ≡ node_count (get_or ts i d).below = ap (λ ws. node_count (forest_of ws)) e ∙ ap (λ t. node_count t.below) is in
+      omega (arith, n, fewer_nodes ts i d h)
+
   pub same_at : (ts us : List (Rose A)) (i : ℕ) (d : Rose A) → drop i ts ≡ drop i us → get_or ts i d ≡ get_or us i d
   same_at ts us i d e =
       let z : i + 0 ≡ i = omega arith in

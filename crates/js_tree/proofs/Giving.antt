@@ -1,11 +1,11 @@
 -- What trees give, and the first of those that are alike, with one tree more at the end.
-use Rattle.std.proofs.Common.{◌≡◌, ℕ, ◌+◌, ◌<◌, Bool, true, false, ◌||◌, if◌then◌else◌, List, [], ◌∷◌, ◌++◌, length, take, get_or, refl, ap, sym, ◌∙◌, add-one}
+use Rattle.std.proofs.Common.{◌≡◌, ℕ, ◌+◌, ◌<◌, Bool, true, false, ◌||◌, if◌then◌else◌, List, [], ◌∷◌, ◌++◌, length, take, drop, get_or, refl, ap, sym, ◌∙◌, add-one}
 use Rattle.std.proofs.Math.Seq.{take-suc}
 use Rattle.std.specs.Cmp.{IsEquivalence}
 use Rattle.js_tree.specs.Forest.{Forest, empty, tree, Rose, forest_of, ◌⊹◌}
 use Rattle.js_tree.specs.Step.{node_stands}
 use Rattle.js_tree.specs.Merged.{alike_trees, has_alike, unlike, firsts, over, given_trees, merged_below}
-use Rattle.js_tree.proofs.Forests.{append-empty, append-append, forest_of-append}
+use Rattle.js_tree.proofs.Forests.{append-empty, append-append, forest_of-append, same_at}
 use Rattle.js_tree.proofs.AlikeTrees.{alike_trees-congr}
 
 -- one tree more, where a test fails
@@ -30,6 +30,11 @@ module _ {A : Type 0} (same : A → A → Bool) where
   unlike_last : (a : A) (below f : Forest A) (c : A) (last : Forest A) → unlike same a below (f ⊹ tree c last empty) ≡ with_last (alike_trees same a below c last) (unlike same a below f) c last
   unlike_last a below empty c last = refl
   unlike_last a below (tree b under others) c last = unlike_last_at (alike_trees same a below b under) a below b under others c last refl (unlike_last a below others c last)
+
+  -- what is found of a tree that is still where it was
+  pub still_found : (done ts all : List (Rose A)) (i : ℕ) (d : Rose A) (v : Bool) → drop i ts ≡ drop i all → has_alike same (forest_of done) (get_or ts i d).root (get_or ts i d).below ≡ v
+      → has_alike same (forest_of done) (get_or all i d).root (get_or all i d).below ≡ v
+  still_found done ts all i d v e h = ap (λ t. has_alike same (forest_of done) t.root t.below) (sym (same_at ts all i d e)) ∙ h
 
 module _ {A : Type 0} (same : A → A → Bool) (e : IsEquivalence same) where
   -- what isn't alike to the tree that is taken away is found as before

@@ -22,6 +22,7 @@ pub mod NodeTexts
 pub mod NotedRows
 pub mod Pieces
 pub mod QuotedParts
+pub mod ReducedTrees
 pub mod Searching
 pub mod Siblings
 pub mod Steps

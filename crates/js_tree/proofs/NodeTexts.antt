@@ -18,21 +18,14 @@ given_member name start (Some value) later e =
     sym (append_assoc (44 ∷ (quoted name ++ 58 ∷ [])) (compact value) (compact_members true (members later)) ∙ ap (λ l. 44 ∷ l) (append_assoc (quoted name) (58 ∷ []) (compact value ++ compact_members true (members later))))
     ∙ ap (λ l. (l ++ compact value) ++ compact_members true (members later)) (sym e)
 
-annotation_name : codes ",\"annotation\":" ≡ 44 ∷ (quoted (codes "annotation") ++ 58 ∷ [])
+-- how the members begin that come after another
+member_starts :
+    (codes ",\"annotation\":" ≡ 44 ∷ (quoted (codes "annotation") ++ 58 ∷ []))
+    × (codes ",\"annotations\":" ≡ 44 ∷ (quoted (codes "annotations") ++ 58 ∷ []))
+    × (codes ",\"error\":" ≡ 44 ∷ (quoted (codes "error") ++ 58 ∷ []))
+    × (codes ",\"errors\":" ≡ 44 ∷ (quoted (codes "errors") ++ 58 ∷ []))
 unfolding escape_byte
-annotation_name = refl
-
-annotations_name : codes ",\"annotations\":" ≡ 44 ∷ (quoted (codes "annotations") ++ 58 ∷ [])
-unfolding escape_byte
-annotations_name = refl
-
-error_name : codes ",\"error\":" ≡ 44 ∷ (quoted (codes "error") ++ 58 ∷ [])
-unfolding escape_byte
-error_name = refl
-
-errors_name : codes ",\"errors\":" ≡ 44 ∷ (quoted (codes "errors") ++ 58 ∷ [])
-unfolding escape_byte
-errors_name = refl
+member_starts = (refl, refl, refl, refl)
 
 last_member : (valid : Bool) → compact_members true (members ((codes "valid", truth valid) ∷ [])) ≡ valid_text valid
 unfolding escape_byte
@@ -53,10 +46,10 @@ node_text_is : (u : OutputUnit) (children : List Value) → node_text u children
 unfolding escape_byte
 node_text_is u children =
     let last : Members = (codes "instanceLocation", text u.instance) ∷ (codes "keywordLocation", text u.keyword) ∷ (codes "valid", truth u.valid) ∷ [] in
-    let fourth = given_member (codes "errors") (codes ",\"errors\":") (value_if (not u.valid) (array_of_some children)) last errors_name ∙ ap (λ l. errors u.valid children ++ l) (last_members u) in
-    let third = given_member (codes "error") (codes ",\"error\":") (error_value u.note) (member_of_some (codes "errors") (value_if (not u.valid) (array_of_some children)) ++ last) error_name ∙ ap (λ l. error_part u.note ++ l) fourth in
-    let second = given_member (codes "annotations") (codes ",\"annotations\":") (value_if u.valid (array_of_some children)) (member_of_some (codes "error") (error_value u.note) ++ (member_of_some (codes "errors") (value_if (not u.valid) (array_of_some children)) ++ last)) annotations_name ∙ ap (λ l. annotations u.valid children ++ l) third in
-    let first = given_member (codes "annotation") (codes ",\"annotation\":") (annotation_value u.note) (member_of_some (codes "annotations") (value_if u.valid (array_of_some children)) ++ (member_of_some (codes "error") (error_value u.note) ++ (member_of_some (codes "errors") (value_if (not u.valid) (array_of_some children)) ++ last))) annotation_name ∙ ap (λ l. annotation_part u.note ++ l) second in
+    let fourth = given_member (codes "errors") (codes ",\"errors\":") (value_if (not u.valid) (array_of_some children)) last member_starts.3 ∙ ap (λ l. errors u.valid children ++ l) (last_members u) in
+    let third = given_member (codes "error") (codes ",\"error\":") (error_value u.note) (member_of_some (codes "errors") (value_if (not u.valid) (array_of_some children)) ++ last) member_starts.2 ∙ ap (λ l. error_part u.note ++ l) fourth in
+    let second = given_member (codes "annotations") (codes ",\"annotations\":") (value_if u.valid (array_of_some children)) (member_of_some (codes "error") (error_value u.note) ++ (member_of_some (codes "errors") (value_if (not u.valid) (array_of_some children)) ++ last)) member_starts.1 ∙ ap (λ l. annotations u.valid children ++ l) third in
+    let first = given_member (codes "annotation") (codes ",\"annotation\":") (annotation_value u.note) (member_of_some (codes "annotations") (value_if u.valid (array_of_some children)) ++ (member_of_some (codes "error") (error_value u.note) ++ (member_of_some (codes "errors") (value_if (not u.valid) (array_of_some children)) ++ last))) member_starts.0 ∙ ap (λ l. annotation_part u.note ++ l) second in
     ap (λ l. codes "{\"absoluteKeywordLocation\":" ++ l) (append_assoc (quoted u.absolute) (annotation_part u.note) (annotations u.valid children ++ (error_part u.note ++ (errors u.valid children ++ tail_text u))) ∙ ap (λ l. quoted u.absolute ++ l) (sym first))
 
 -- with the verdict and the note by themselves

@@ -2,6 +2,7 @@
 use Rattle.std.proofs.Common.{◌≡◌, ℕ, true, List, [], ◌∷◌, Option, Some, None, refl, ap, ◌∙◌, subst}
 use Rattle.std.proofs.lemmas.Cmp.{then_total, nat_cmp_total, nat_list_cmp_total, lists_total, tied_itself, on_total}
 use Rattle.std.specs.Cmp.{IsTotalOrder, bool_cmp_total}
+use Rattle.std.specs.Cmp.Derive.{then_next}
 use Rattle.std.specs.Cmp.Lexicographic.{slice_cmp, options_total}
 use Rattle.std.specs.Option.{option_cmp}
 use Rattle.std.specs.Ordering.{nat_cmp, ordering_then, then_cmp, on}
@@ -18,9 +19,7 @@ use Rattle.js_tree.proofs.AlikeUnits.{same_but_keyword_decides}
 use Rattle.js_tree.proofs.Steps.{and_left, and_right}
 
 then_then : (r s t : Ordering) → ordering_then r (ordering_then s t) ≡ ordering_then (ordering_then r s) t
-then_then Less s t = refl
-then_then Equal s t = refl
-then_then Greater s t = refl
+then_then r s t = then_next r s t refl refl
 
 then_equal : (r : Ordering) → ordering_then r Equal ≡ r
 then_equal Less = refl
@@ -43,54 +42,13 @@ said_order = then_cmp (on note_rank nat_cmp) (on said (slice_cmp (slice_cmp nat_
 
 said-note_order : (m n : Note) → said_order m n ≡ note_order m n
 said-note_order silent silent = refl
-said-note_order silent (error b) = refl
-said-note_order silent (value b) = refl
-said-note_order silent (names b) = refl
-said-note_order silent (index b) = refl
-said-note_order silent (indexes b) = refl
-said-note_order silent truly = refl
-said-note_order (error a) silent = refl
 said-note_order (error a) (error b) = then_equal (slice_cmp nat_cmp a b)
-said-note_order (error a) (value b) = refl
-said-note_order (error a) (names b) = refl
-said-note_order (error a) (index b) = refl
-said-note_order (error a) (indexes b) = refl
-said-note_order (error a) truly = refl
-said-note_order (value a) silent = refl
-said-note_order (value a) (error b) = refl
 said-note_order (value a) (value b) = refl
-said-note_order (value a) (names b) = refl
-said-note_order (value a) (index b) = refl
-said-note_order (value a) (indexes b) = refl
-said-note_order (value a) truly = refl
-said-note_order (names a) silent = refl
-said-note_order (names a) (error b) = refl
-said-note_order (names a) (value b) = refl
 said-note_order (names a) (names b) = refl
-said-note_order (names a) (index b) = refl
-said-note_order (names a) (indexes b) = refl
-said-note_order (names a) truly = refl
-said-note_order (index a) silent = refl
-said-note_order (index a) (error b) = refl
-said-note_order (index a) (value b) = refl
-said-note_order (index a) (names b) = refl
 said-note_order (index a) (index b) = then_equal (ordering_then (nat_cmp a b) Equal) ∙ then_equal (nat_cmp a b)
-said-note_order (index a) (indexes b) = refl
-said-note_order (index a) truly = refl
-said-note_order (indexes a) silent = refl
-said-note_order (indexes a) (error b) = refl
-said-note_order (indexes a) (value b) = refl
-said-note_order (indexes a) (names b) = refl
-said-note_order (indexes a) (index b) = refl
 said-note_order (indexes a) (indexes b) = then_equal (slice_cmp nat_cmp a b)
-said-note_order (indexes a) truly = refl
-said-note_order truly silent = refl
-said-note_order truly (error b) = refl
-said-note_order truly (value b) = refl
-said-note_order truly (names b) = refl
-said-note_order truly (index b) = refl
-said-note_order truly (indexes b) = refl
 said-note_order truly truly = refl
+said-note_order m n = refl
 
 said_order-total : IsTotalOrder said_order
 said_order-total = then_total (on_total note_rank nat_cmp_total) (on_total said (lists_total nat_list_cmp_total))

@@ -3,4 +3,6 @@ pub mod Compacting
 pub mod Nesting
 pub mod Order
 pub mod Put
+pub mod PutTrees
+pub mod Reductions
 pub mod Search

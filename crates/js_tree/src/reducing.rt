@@ -10,4 +10,5 @@ pub(crate) mod noted_rows;
 pub(crate) mod noted_units;
 pub(crate) mod order;
 pub(crate) mod pruning;
+pub(crate) mod reduction;
 pub(crate) mod sorting;

@@ -16,7 +16,7 @@ use Rattle.js_rows.specs.Marks.{marked}
 use Rattle.js_rows.specs.Relative.{placed, placed_unit}
 use Rattle.js_rows.specs.code.RelativeText.{AreRowsOfTrees}
 use Rattle.js_rows.specs.declared.rows.RelativeRow.{RelativeRow}
-use Rattle.js_rows.specs.declared.marks.Mark.{Mark}
+use Rattle.js_rows.specs.declared.marks.Left.{Left}
 
 -- the values from somewhere in the array on, with commas between
 abbrev pub values_text : Bool → List Value → List ℕ
@@ -67,6 +67,6 @@ abbrev pub condensed : Bool → List ℕ → List ℕ → Forest OutputUnit → 
 condensed verdict keyword instance f = kept_below noted (pruned_below (has_verdict verdict) (placed keyword instance f))
 
 -- the rows and the marks are those of the trees
-pub record AreMarkedRows (rows : List RelativeRow) (marks : List Mark) (verdict : Bool) (f : Forest OutputUnit) : Type 0 where
+pub record AreMarkedRows (rows : List RelativeRow) (marks : List Left) (verdict : Bool) (f : Forest OutputUnit) : Type 0 where
   pub rows_are : AreRowsOfTrees rows f
   pub marks_are : marks ≡ marked verdict f

@@ -1,5 +1,5 @@
 //! The flat form of a result tree: a row for each node, in preorder.
-ghost use Rattle.std.specs.Prelude.{◌≡◌, ◌↔◌, IsTrue, map};
+ghost use Rattle.std.specs.Prelude.{◌≡◌, ◌≢◌, ◌↔◌, IsTrue, [], false, length, map, true};
 
 use crate::collecting::collector::{Collector, Head};
 use crate::collecting::nesting::are_of_a_tree;
@@ -50,6 +50,14 @@ impl<'a> Flat<'a> {
         self.rows.as_slice()
     }
 
+    /// Whether a node can open: another is open, or there are no rows yet. Otherwise the root has closed.
+    fn takes_node(&self) -> bool
+        ensures opens { result ≡ true → length self.now.numbers.items ≡ 0 → length self.now.rows.items ≡ 0 }
+        ensures closed { result ≡ false → (self.now.numbers.items ≡ []) × (self.now.rows.items ≢ []) }
+    {
+        !self.numbers.is_empty() || self.rows.is_empty()
+    }
+
     /// Whether the rows are those of a whole tree, and no node is open. Takes linear time, and allocates nothing.
     pub fn whole(&self) -> bool
         ensures { IsTrue result ↔ IsWholeTree (flat_state self.now) }
@@ -72,8 +80,7 @@ impl<'a> Collector<'a> for Flat<'a> {
         ensures kept { IfErr result (λ _. flat_state self.new ≡ flat_state self.old) }
         ensures ok { (flat_state self.old).rows ≢ [] → (flat_state self.old).numbers ≡ [] → IsOk result }
     {
-        // If no node is open, there are no rows yet, or the root has closed.
-        if !self.numbers.is_empty() || self.rows.is_empty() {
+        if self.takes_node() {
             self.numbers.reserve(1)?;
             let number = self.rows.len();
             let row = Row {

@@ -1,10 +1,11 @@
 //! Which trees are *alike*: equal except for their keyword locations.
-ghost use Rattle.std.specs.Prelude.{◌≡◌, ◌≤◌, ◌<◌, IsTrue, true, length, take, get_or};
+ghost use Rattle.std.specs.Prelude.{◌≡◌, ◌≤◌, ◌<◌, IsTrue, false, true, length};
 ghost use Rattle.js_tree.specs.Alike.{same_but_keyword, same_note};
 ghost use Rattle.js_tree.specs.Forest.{forest_of};
 ghost use Rattle.js_tree.specs.Merged.{alike, alike_trees, has_alike};
 ghost use Rattle.js_tree.specs.Result.{ResultTree};
 ghost use Rattle.js_tree.specs.Seen.{note_of};
+ghost use Rattle.js_tree.specs.code.Reductions.{comes_again};
 
 use crate::note::Note;
 use crate::tree::Tree;
@@ -15,34 +16,15 @@ impl<'a> Note<'a> {
     pub(crate) fn is_same(&self, other: &Note) -> bool
         ensures { result ≡ same_note (note_of self.now) (note_of other.now) }
     {
-        match self {
-            Note::Silent => matches!(other, Note::Silent),
-            Note::Error(a) => if let Note::Error(b) = other {
-                a == b
-            } else {
-                false
-            },
-            Note::Value(a) => if let Note::Value(b) = other {
-                a == b
-            } else {
-                false
-            },
-            Note::Names(a) => if let Note::Names(b) = other {
-                a.as_slice() == b.as_slice()
-            } else {
-                false
-            },
-            Note::Index(a) => if let Note::Index(b) = other {
-                a == b
-            } else {
-                false
-            },
-            Note::Indexes(a) => if let Note::Indexes(b) = other {
-                a.as_slice() == b.as_slice()
-            } else {
-                false
-            },
-            Note::Truth => matches!(other, Note::Truth),
+        match (self, other) {
+            (Note::Silent, Note::Silent) => true,
+            (Note::Error(a), Note::Error(b)) => a == b,
+            (Note::Value(a), Note::Value(b)) => a == b,
+            (Note::Names(a), Note::Names(b)) => a.as_slice() == b.as_slice(),
+            (Note::Index(a), Note::Index(b)) => a == b,
+            (Note::Indexes(a), Note::Indexes(b)) => a.as_slice() == b.as_slice(),
+            (Note::Truth, Note::Truth) => true,
+            _ => false,
         }
     }
 }
@@ -97,18 +79,28 @@ fn has_alike(trees: &[Tree], tree: &Tree) -> bool
 /// Whether the tree at `index` is alike to one of the first `count` trees.
 pub(crate) fn comes_again(trees: &[Tree], count: usize, index: usize) -> bool
     requires { (count ≤ index) × (index < length trees.now) }
-    ensures { (d : ResultTree) → result ≡ has_alike same_but_keyword (forest_of (take count trees.now))
-        (get_or trees.now index d).root (get_or trees.now index d).below }
+    ensures { (d : ResultTree) → result ≡ comes_again trees.now count index d }
 {
     has_alike(&trees[..count], &trees[index])
 }
 
-/// Whether the tree at `index` is alike to the tree that its mark names, and that one is among the first `count`.
-pub(crate) fn comes_again_at_mark(trees: &[Tree], count: usize, index: usize) -> bool
+/// Whether the tree at `index` is found to be alike to one of the first `count` trees: compared with all of them, or only
+/// with the one that its mark names.
+pub(crate) fn is_found(trees: &[Tree], count: usize, index: usize, by_mark: bool) -> bool
     requires { (count ≤ index) × (index < length trees.now) }
-    ensures { (d : ResultTree) → IsTrue result
-        → has_alike same_but_keyword (forest_of (take count trees.now)) (get_or trees.now index d).root
-        (get_or trees.now index d).below ≡ true }
+    ensures sound { (d : ResultTree) → IsTrue result → comes_again trees.now count index d ≡ true }
+    ensures exact { (d : ResultTree) → by_mark ≡ false → result ≡ comes_again trees.now count index d }
+{
+    if by_mark {
+        return comes_again_at_mark(trees, count, index);
+    }
+    comes_again(trees, count, index)
+}
+
+/// Whether the tree at `index` is alike to the tree that its mark names, and that one is among the first `count`.
+fn comes_again_at_mark(trees: &[Tree], count: usize, index: usize) -> bool
+    requires { (count ≤ index) × (index < length trees.now) }
+    ensures { (d : ResultTree) → IsTrue result → comes_again trees.now count index d ≡ true }
 {
     let tree = &trees[index];
     let place = tree.last_mark();

@@ -1,16 +1,17 @@
 //! Condensing with a third rule: a node goes if an earlier sibling is alike.
-ghost use Rattle.std.specs.Prelude.{◌≡◌, ◌≤◌, ◌↔◌, ◌&&◌, IsTrue, if◌then◌else◌, length, take};
+ghost use Rattle.std.specs.Prelude.{◌≡◌, ◌≤◌, ◌↔◌, ◌&&◌, IsTrue, false, length, take};
 ghost use Rattle.js_tree.specs.Alike.{same_but_keyword};
-ghost use Rattle.js_tree.specs.Forest.{empty, tree as node, forest_of};
-ghost use Rattle.js_tree.specs.Merged.{all_merged, firsts, given_trees, merged_below, none_alike};
+ghost use Rattle.js_tree.specs.Forest.{empty, forest_of};
+ghost use Rattle.js_tree.specs.Merged.{all_merged, firsts, none_alike};
 ghost use Rattle.js_tree.specs.MergedResult.{merged, NormalOfThree, RunOfThree};
 ghost use Rattle.js_tree.specs.OutputUnit.{noted};
 ghost use Rattle.js_tree.specs.Result.{units};
 ghost use Rattle.js_tree.specs.Sublist.{Sublist, none_lost};
 
-use crate::reducing::likeness::{comes_again, comes_again_at_mark};
+use crate::reducing::likeness::{comes_again, is_found};
+use crate::reducing::reduction::{Reduction, reduce_children};
 use crate::reducing::sorting::{are_shown_to_differ, differ_by_list, list_in_order, mark_alike};
-use crate::tree::{Tree, Trees};
+use crate::tree::Tree;
 
 /// From this number of siblings on, they are sorted before they are compared.
 const MANY: usize = 32;
@@ -32,55 +33,19 @@ pub fn merge_condense(tree: Tree) -> Tree
     ensures none_lost { IsTrue (none_lost same_but_keyword (units result) (units tree.entry)) }
 {
     let mut whole = tree;
-    merge_children(&mut whole.children);
+    reduce_children(&mut whole.children, Reduction::Merge);
     whole
 }
 
-#[cycle(merge)]
-fn merge_children(children: &mut Trees)
-    ensures { forest_of children.new ≡ merged_below noted same_but_keyword (forest_of children.old) }
-{
-    let trees = &mut children.trees;
-    let given = merge_all(trees);
-    trees.truncate(given);
-    keep_firsts(trees);
-}
-
-/// Merges below each tree, moves what is left to the front, and returns the number of trees there.
-#[cycle(merge)]
-fn merge_all(trees: &mut [Tree]) -> usize
-    ensures at_most { result ≤ length trees.old }
-    ensures given { forest_of (take result trees.new) ≡ given_trees noted same_but_keyword (forest_of trees.old) }
-{
-    let mut count = 0;
-    for i in 0..trees.len() {
-        if merge_one(&mut trees[i]) {
-            trees.swap(count, i);
-            count += 1;
-        }
-    }
-    count
-}
-
-/// Merges below the root, and then replaces a root without a note by its only child. Returns whether a tree is left.
-#[cycle(merge)]
-fn merge_one(tree: &mut Tree) -> bool
-    ensures { given_trees noted same_but_keyword (node tree.old.root tree.old.below empty)
-        ≡ (if result then node tree.new.root tree.new.below empty else empty) }
-{
-    merge_children(&mut tree.children);
-    // After the children are merged, because some may be gone.
-    tree.lift()
-}
-
-/// Drops each tree that is alike to an earlier one.
-fn keep_firsts(trees: &mut Vec<Tree>)
+/// Drops each tree that is alike to an earlier one. It isn't inlined, so that the walk takes little stack on each level.
+#[inline(never)]
+pub(crate) fn keep_firsts(trees: &mut Vec<Tree>)
     ensures { forest_of trees.new.items ≡ firsts same_but_keyword (forest_of trees.old.items) }
 {
     if trees.len() >= MANY && keep_firsts_by_list(trees) {
         return;
     }
-    let count = keep_firsts_of_few(trees);
+    let count = drop_found(trees, false);
     trees.truncate(count);
 }
 
@@ -95,37 +60,24 @@ fn keep_firsts_by_list(trees: &mut Vec<Tree>) -> bool
         return true;
     }
     mark_alike(trees, first);
-    let count = drop_marked(trees);
+    let count = drop_found(trees, true);
     trees.truncate(count);
     let first = list_in_order(trees, 0, trees.len());
     are_shown_to_differ(trees, first)
 }
 
-/// Moves the trees to the front that aren't alike to the one that their mark names, and returns their number. They keep
-/// their order.
-fn drop_marked(trees: &mut [Tree]) -> usize
+/// Moves the trees to the front that aren't found to be alike to an earlier one, and returns their number. They keep
+/// their order. By marks, each is compared only with the tree that its mark names.
+fn drop_found(trees: &mut [Tree], by_marks: bool) -> usize
     ensures at_most { result ≤ length trees.old }
     ensures left { firsts same_but_keyword (forest_of (take result trees.new))
         ≡ firsts same_but_keyword (forest_of trees.old) }
+    ensures firsts { by_marks ≡ false
+        → forest_of (take result trees.new) ≡ firsts same_but_keyword (forest_of trees.old) }
 {
     let mut count = 0;
     for i in 0..trees.len() {
-        if !comes_again_at_mark(trees, count, i) {
-            trees.swap(count, i);
-            count += 1;
-        }
-    }
-    count
-}
-
-/// Moves the trees to the front that aren't alike to an earlier one, and returns their number. They keep their order.
-fn keep_firsts_of_few(trees: &mut [Tree]) -> usize
-    ensures at_most { result ≤ length trees.old }
-    ensures firsts { forest_of (take result trees.new) ≡ firsts same_but_keyword (forest_of trees.old) }
-{
-    let mut count = 0;
-    for i in 0..trees.len() {
-        if !comes_again(trees, count, i) {
+        if !is_found(trees, count, i, by_marks) {
             trees.swap(count, i);
             count += 1;
         }

@@ -1,13 +1,12 @@
 //! Single steps by the rules that condense and merge, and runs of them.
 ghost use Rattle.std.specs.Prelude.{false, ◌≡◌, ◌+◌, ◌<◌, ◌≤◌, if◌then◌else◌, length, take, vec_len, MatchResult, IfOk};
 ghost use Rattle.std.specs.Prelude.{IsTrue};
-ghost use Rattle.js_tree.specs.Alike.{same_but_keyword};
 ghost use Rattle.js_tree.specs.Forest.{forest_of, node_count, empty, tree as node};
 ghost use Rattle.js_tree.specs.MergedResult.{merged, NormalOfThree, StepOfThree};
-ghost use Rattle.js_tree.specs.Moves.{all_of_two, of_two, with_only_child, moved_at};
+ghost use Rattle.js_tree.specs.Moves.{all_of_two, of_two, with_only_child};
 ghost use Rattle.js_tree.specs.OutputUnit.{noted};
 ghost use Rattle.js_tree.specs.Result.{kept, Normal, ResultStep, moved, replayed};
-ghost use Rattle.js_tree.specs.code.Search.{Searched};
+ghost use Rattle.js_tree.specs.code.Search.{Searched, moved_tree};
 ghost use Rattle.js_tree.specs.declared.reducing.moves.Rule.TheVariants.{Drop, Merge};
 
 use crate::reducing::likeness::comes_again;
@@ -140,9 +139,7 @@ fn move_among(trees: &mut Vec<Tree>, rule: Rule, position: usize) -> Search
 /// Drops the tree at the index, if it is a leaf without a note. Returns whether it did.
 fn drop_leaf(trees: &mut Vec<Tree>, i: usize) -> bool
     requires { i < vec_len trees.old }
-    ensures dropped { moved_at noted same_but_keyword Drop empty (forest_of trees.old.items)
-        (node_count (forest_of (take i trees.old.items)))
-        ≡ (if result then Some (forest_of trees.new.items) else None) }
+    ensures dropped { moved_tree Drop trees.old.items i ≡ (if result then Some (forest_of trees.new.items) else None) }
     ensures unchanged { result ≡ false → trees.new.items ≡ trees.old.items }
 {
     let tree = &trees[i];
@@ -156,9 +153,7 @@ fn drop_leaf(trees: &mut Vec<Tree>, i: usize) -> bool
 /// Drops the tree at the index, if an earlier one is alike. Returns whether it did.
 fn drop_alike(trees: &mut Vec<Tree>, i: usize) -> bool
     requires { i < vec_len trees.old }
-    ensures merged { moved_at noted same_but_keyword Merge empty (forest_of trees.old.items)
-        (node_count (forest_of (take i trees.old.items)))
-        ≡ (if result then Some (forest_of trees.new.items) else None) }
+    ensures merged { moved_tree Merge trees.old.items i ≡ (if result then Some (forest_of trees.new.items) else None) }
     ensures unchanged { result ≡ false → trees.new.items ≡ trees.old.items }
 {
     if !comes_again(trees.as_slice(), i, i) {

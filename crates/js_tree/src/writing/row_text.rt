@@ -1,7 +1,7 @@
 //! The JSON text of a flat form, written piece by piece.
 ghost use Rattle.std.specs.Prelude.{◌≡◌, ◌++◌, [], codes, false, map};
 ghost use Rattle.js_doc.specs.BytesOut.{Puts};
-ghost use Rattle.js_doc.specs.Compact.{compact, compact_items};
+ghost use Rattle.js_doc.specs.Compact.{compact_items};
 ghost use Rattle.js_doc.specs.Value.{items};
 ghost use Rattle.js_tree.specs.Flat.{flat_form, flat_of};
 ghost use Rattle.js_tree.specs.FlatState.{noted_of, row_of};
@@ -10,6 +10,7 @@ ghost use Rattle.js_tree.specs.Form.{node_value, node_values, unit_list, verbose
 ghost use Rattle.js_tree.specs.NodeText.{list_start};
 ghost use Rattle.js_tree.specs.OutputUnit.{OutputUnit};
 ghost use Rattle.js_tree.specs.Result.{ResultTree};
+ghost use Rattle.js_tree.specs.code.PutTrees.{PutsTree};
 
 use crate::collecting::flat::Row;
 use crate::writing::node_text::{put_back, put_comma, put_front, put_leaf, put_valid};
@@ -19,8 +20,7 @@ use js_doc::{Out, Stopped};
 #[cycle(put_root)]
 pub(crate) fn put_root<O: Out>(rows: &[Row], out: &mut O) -> Result<(), Stopped>
     requires { (t : ResultTree) × (map row_of rows.now ≡ flat_form t) }
-    ensures { (t : ResultTree) → map row_of rows.now ≡ flat_form t
-        → Puts (O.progress out.old) (O.progress out.new) (compact (verbose t)) result }
+    ensures { PutsTree rows.now verbose (O.progress out.old) (O.progress out.new) result }
 {
     let row = &rows[0];
     let unit = &row.unit;
@@ -56,8 +56,7 @@ fn put_roots<O: Out>(rows: &[Row], out: &mut O) -> Result<(), Stopped>
 /// Writes an object with the verdict and with the noted units, each without children.
 pub(crate) fn put_units<O: Out>(rows: &[Row], out: &mut O) -> Result<(), Stopped>
     requires { (t : ResultTree) × (map row_of rows.now ≡ flat_form t) }
-    ensures { (t : ResultTree) → map row_of rows.now ≡ flat_form t
-        → Puts (O.progress out.old) (O.progress out.new) (compact (unit_list t)) result }
+    ensures { PutsTree rows.now unit_list (O.progress out.old) (O.progress out.new) result }
 {
     let row = &rows[0];
     let root = &row.unit;

@@ -1,13 +1,13 @@
 use Rattle.std.proofs.Common.{◌+◌, ◌-◌, ◌++◌, drop, map, sym, ap, subst, ◌∙◌, refl, arith}
 use Rattle.js_tree.proofs.ChildTexts.{rest_of}
-use Rattle.js_tree.proofs.FlatRows.{root_row, rows_below, shorter}
+use Rattle.js_tree.proofs.FlatRows.{rows_below, shorter}
 use Rattle.js_rows.specs.Locations.{HasRoom}
 use Rattle.js_rows.specs.Relative.{escaped_tree}
 use Rattle.js_rows.specs.RelativeState.{relative_row}
 use Rattle.js_rows.specs.code.Listing.{AllListed, AreListed, if_noted, listed}
 use Rattle.js_rows.specs.code.RelativeText.{unit_there}
-use Rattle.js_rows.proofs.EscapedRows.{at_below, is_absolute, next_tree, still_at, slice_of_next}
-use Rattle.js_rows.proofs.ListedRows.{both_listed, list_ends, list_goes_on, list_passes, list_starts, list_stops, listed_err, may_agree, next_listed, next_passed, stops_first, stops_rest, tree_listed}
+use Rattle.js_rows.proofs.EscapedRows.{entered, next_tree, still_at, slice_of_next}
+use Rattle.js_rows.proofs.ListedRows.{both_listed, list_ends, list_goes_on, list_passes, list_starts, list_stops, listed_err, lists_go_on, may_agree, next_listed, next_passed, stops_first, stops_rest, tree_listed}
 use Rattle.js_rows.proofs.RelativeTexts.{back_again, room_for_part, room_still, stays_there}
 use Rattle.js_rows.proofs.RoomLeft.{fewer_below, room_below, some_row}
 use Rattle.js_rows.proofs.basic_text.+put_trees.Goals as goal
@@ -16,19 +16,14 @@ pub put_tree-returns-in_err-later-clause-listed : goal.put_tree-returns-in_err-l
 put_tree-returns-in_err-later-clause-listed g t c =
     λ r k i at e.
     let o = g.O.Out.progress in
-    let v = c.args.verdict in
     let x = c.index-rows-0.result in
-    let old = c.args.locations.now in
-    let new = c.go_to_node.new.self in
-    let root = root_row relative_row c.args.rows.now (escaped_tree r) x e c.index-rows-0.is in
-    let down = at_below old new x r.root k i at c.go_to_node.ensures root in
-    let abs = is_absolute x r.root root in
+    let n = entered c.args.rows.now r x c.args.locations.now c.go_to_node.new.self k i e c.index-rows-0.is at c.go_to_node.ensures in
     let these = if_noted (unit_there x (k ++ r.root.keyword) r.root.absolute (i ++ r.root.instance)) in
-    let below = listed v (k ++ r.root.keyword) (i ++ r.root.instance) r.below in
+    let below = listed c.args.verdict (k ++ r.root.keyword) (i ++ r.root.instance) r.below in
     let res = c.from_residual.result in
-    subst (λ us. AreListed (o c.args.out.now) (o c.put_noted.new.out) c.args.later us res) (tree_listed v k i x r root)
+    subst (λ us. AreListed (o c.args.out.now) (o c.put_noted.new.out) c.args.later us res) (tree_listed c.args.verdict k i x r n.root)
     (listed_err (o c.args.out.now) (o c.put_noted.new.out) c.args.later (these ++ below) res c.from_residual.ensures.0
-    (stops_first (o c.args.out.now) (o c.put_noted.new.out) c.args.later these below (c.in_err-later.ensures.listed (k ++ r.root.keyword) r.root.absolute (i ++ r.root.instance) down abs)))
+    (stops_first (o c.args.out.now) (o c.put_noted.new.out) c.args.later these below (c.in_err-later.ensures.listed (k ++ r.root.keyword) r.root.absolute (i ++ r.root.instance) n.down n.absolute)))
 
 pub put_tree-put_trees-requires : goal.put_tree-put_trees-requires
 put_tree-put_trees-requires g t c κs within =
@@ -46,35 +41,19 @@ put_tree-put_trees-requires g t c κs within =
 pub put_tree-returns-in_err-later-2-clause-listed : goal.put_tree-returns-in_err-later-2-clause-listed
 put_tree-returns-in_err-later-2-clause-listed g t c =
     λ r k i at e.
-    let o = g.O.Out.progress in
-    let rows = c.args.rows.now in
-    let x = c.index-rows-0.result in
-    let root = root_row relative_row rows (escaped_tree r) x e c.index-rows-0.is in
-    let down = at_below _ _ x r.root k i at c.go_to_node.ensures root in
-    let there = still_at _ _ _ _ down c.in_ok-later.ensures.back in
-    let below = ap (map relative_row) (rest_of rows) ∙ rows_below relative_row rows (escaped_tree r) e in
-    let noted = c.in_ok-later.ensures.listed _ r.root.absolute _ down (is_absolute x r.root root) in
-    let res = c.from_residual-in_err-later-2.result in
-    subst (λ us. AreListed (o c.args.out.now) (o c.put_trees.new.out) c.args.later us res)
-    (tree_listed c.args.verdict k i x r root)
+    let n = entered c.args.rows.now r c.index-rows-0.result c.args.locations.now c.go_to_node.new.self k i e c.index-rows-0.is at c.go_to_node.ensures in
+    subst (λ us. AreListed (g.O.Out.progress c.args.out.now) (g.O.Out.progress c.put_trees.new.out) c.args.later us c.from_residual-in_err-later-2.result) (tree_listed c.args.verdict k i c.index-rows-0.result r n.root)
     (listed_err _ _ _ _ _ c.from_residual-in_err-later-2.ensures.0
-    (stops_rest _ _ _ _ _ _ _ noted (c.in_err-later-2.ensures.listed r.below _ _ there below)))
+    (stops_rest _ _ _ _ _ _ _ (c.in_ok-later.ensures.listed _ r.root.absolute _ n.down n.absolute)
+    (c.in_err-later-2.ensures.listed r.below _ _ (still_at _ _ _ _ n.down c.in_ok-later.ensures.back) n.below)))
 
 pub put_tree-returns-clause-listed : goal.put_tree-returns-clause-listed
 put_tree-returns-clause-listed g t c =
     λ r k i at e.
-    let o = g.O.Out.progress in
-    let rows = c.args.rows.now in
-    let x = c.index-rows-0.result in
-    let root = root_row relative_row rows (escaped_tree r) x e c.index-rows-0.is in
-    let down = at_below _ _ x r.root k i at c.go_to_node.ensures root in
-    let there = still_at _ _ _ _ down c.in_ok-later.ensures.back in
-    let below = ap (map relative_row) (rest_of rows) ∙ rows_below relative_row rows (escaped_tree r) e in
-    let noted = c.in_ok-later.ensures.listed _ r.root.absolute _ down (is_absolute x r.root root) in
-    let later = c.in_ok-later-2.later in
-    subst (λ us. AllListed (o c.args.out.now) (o c.put_trees.new.out) c.args.later us later)
-    (tree_listed c.args.verdict k i x r root)
-    (both_listed _ _ _ _ _ _ _ _ noted (c.in_ok-later-2.ensures.listed r.below _ _ there below))
+    let n = entered c.args.rows.now r c.index-rows-0.result c.args.locations.now c.go_to_node.new.self k i e c.index-rows-0.is at c.go_to_node.ensures in
+    subst (λ us. AllListed (g.O.Out.progress c.args.out.now) (g.O.Out.progress c.put_trees.new.out) c.args.later us c.in_ok-later-2.later) (tree_listed c.args.verdict k i c.index-rows-0.result r n.root)
+    (both_listed _ _ _ _ _ _ _ _ (c.in_ok-later.ensures.listed _ r.root.absolute _ n.down n.absolute)
+    (c.in_ok-later-2.ensures.listed r.below _ _ (still_at _ _ _ _ n.down c.in_ok-later.ensures.back) n.below))
 
 pub put_trees-loop-next-init : goal.put_trees-loop-next-init
 put_trees-loop-next-init g t c = (
@@ -97,20 +76,13 @@ put_trees-loop-next-smaller-then-not-may_list g t c =
 
 pub put_trees-loop-next-preserved-then-not-may_list : goal.put_trees-loop-next-preserved-then-not-may_list
 put_trees-loop-next-preserved-then-not-may_list g t c =
+    let o = g.O.Out.progress in
     let l = c.loop-next in
-    let w = l.invariant.2 c.requires.0 c.requires.1 in (
-      (next_tree _ _ _ _ w.1 c.loop-next-test.true c.index-rows-first.is).fits,
-      l.invariant.1,
-      λ f e.
-          let w = l.invariant.2 f e in
-          let t = next_tree _ _ _ _ w.1 c.loop-next-test.true c.index-rows-first.is in
-          (t.after, t.more),
-      λ f k i at e.
-          let w = l.invariant.3 f k i at e in
-          let t = next_tree _ _ _ _ w.left_is c.loop-next-test.true c.index-rows-first.is in
-          let silent = sym c.may_list.ensures ∙ c.if-not-may_list.true in
-          list_passes _ _ _ _ _ _ _ _ _ w t (next_passed c.args.verdict k i _ _ _ _ t silent),
-    )
+    lists_go_on (o c.args.out.now) (o l.out) (o l.out) c.args.later l.later l.later c.args.verdict c.args.rows.now l.next c.args.locations.now l.locations l.locations _ _ l.invariant c.requires.1 c.loop-next-test.true c.index-rows-first.is l.invariant.1
+    (λ f k i at e.
+    let w = l.invariant.3 f k i at e in
+    let t = next_tree _ _ _ _ w.left_is c.loop-next-test.true c.index-rows-first.is in
+    list_passes _ _ _ _ _ _ _ _ _ w t (next_passed c.args.verdict k i _ _ _ _ t (sym c.may_list.ensures ∙ c.if-not-may_list.true)))
 
 pub put_trees-slice_bounds-put_tree-end : goal.put_trees-slice_bounds-put_tree-end
 put_trees-slice_bounds-put_tree-end g t c =
@@ -145,22 +117,16 @@ put_trees-loop-next-smaller g t c =
 
 pub put_trees-loop-next-preserved : goal.put_trees-loop-next-preserved
 put_trees-loop-next-preserved g t c =
+    let o = g.O.Out.progress in
     let l = c.loop-next in
-    let w = l.invariant.2 c.requires.0 c.requires.1 in (
-      (next_tree _ _ _ _ w.1 c.loop-next-test.true c.index-rows-first.is).fits,
-      back_again c.args.locations.now l.locations c.put_tree.new.locations l.invariant.1 c.in_ok-later.ensures.back,
-      λ f e.
-          let w = l.invariant.2 f e in
-          let t = next_tree _ _ _ _ w.1 c.loop-next-test.true c.index-rows-first.is in
-          (t.after, t.more),
-      λ f k i at e.
-          let w = l.invariant.3 f k i at e in
-          let t = next_tree _ _ _ _ w.left_is c.loop-next-test.true c.index-rows-first.is in
-          let may = sym c.may_list.ensures ∙ c.if-not-may_list.false in
-          let has = may_agree c.args.verdict c.index-rows-first.result may in
-          let told = c.in_ok-later.ensures.listed _ k i (still_at _ _ k i at l.invariant.1) (slice_of_next _ _ _ _ t) in
-          list_goes_on _ _ _ _ _ _ _ _ _ _ _ _ w t (next_listed c.args.verdict k i _ _ _ _ t has) told,
-    )
+    let back = back_again c.args.locations.now l.locations c.put_tree.new.locations l.invariant.1 c.in_ok-later.ensures.back in
+    lists_go_on (o c.args.out.now) (o l.out) (o c.put_tree.new.out) c.args.later l.later c.in_ok-later.later c.args.verdict c.args.rows.now l.next c.args.locations.now l.locations c.put_tree.new.locations _ _ l.invariant c.requires.1 c.loop-next-test.true c.index-rows-first.is back
+    (λ f k i at e.
+    let w = l.invariant.3 f k i at e in
+    let t = next_tree _ _ _ _ w.left_is c.loop-next-test.true c.index-rows-first.is in
+    let has = may_agree c.args.verdict c.index-rows-first.result (sym c.may_list.ensures ∙ c.if-not-may_list.false) in
+    let told = c.in_ok-later.ensures.listed _ k i (still_at _ _ k i at l.invariant.1) (slice_of_next _ _ _ _ t) in
+    list_goes_on _ _ _ _ _ _ _ _ _ _ _ _ w t (next_listed c.args.verdict k i _ _ _ _ t has) told)
 
 pub put_trees-returns-clause-listed : goal.put_trees-returns-clause-listed
 put_trees-returns-clause-listed g t c =

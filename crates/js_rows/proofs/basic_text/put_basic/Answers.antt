@@ -1,24 +1,18 @@
-use Rattle.std.proofs.Common.{[], ap, sym, subst}
+use Rattle.std.proofs.Common.{[], sym, subst}
 use Rattle.js_doc.specs.BytesOut.{Puts}
-use Rattle.js_tree.proofs.FlatRows.{root_row}
 use Rattle.js_tree.proofs.Pieces.{then_puts, stops_in}
 use Rattle.js_rows.specs.Locations.{HasRoom}
 use Rattle.js_rows.specs.Marks.{whole_of}
-use Rattle.js_rows.specs.Relative.{escaped_tree, relative_tree}
 use Rattle.js_rows.proofs.EscapedRows.{at_root, still_at}
-use Rattle.js_rows.proofs.ListedRows.{basic_in_parts, whole_rows, whole_rows_of}
+use Rattle.js_rows.proofs.ListedRows.{basic_by_first, whole_rows_of}
 use Rattle.js_rows.proofs.RelativeTexts.{room_still}
-use Rattle.js_rows.specs.RelativeState.{relative_row}
 use Rattle.js_rows.proofs.basic_text.put_basic.Goals as goal
 
 pub returns-in_err-put_units_start : goal.returns-in_err-put_units_start
 returns-in_err-put_units_start g c =
     λ t h.
     let o = g.O.Out.progress in
-    let rows = whole_rows c.args.rows.now t _ c.as_slice-rows.ensures.value h in
-    let v_is = ap (λ u. u.valid) (root_row relative_row _ (escaped_tree (relative_tree t)) _ rows c.index-rows-0.is) in
-    subst (λ l. Puts (o c.args.out.now) (o c.put_units_start.new.out) l c.from_residual.result)
-    (basic_in_parts c.args.rows.now t c.index-rows-0.result.valid h v_is)
+    subst (λ l. Puts (o c.args.out.now) (o c.put_units_start.new.out) l c.from_residual.result) (basic_by_first c.args.rows.now t _ _ c.as_slice-rows.ensures.value c.index-rows-0.is h)
     (stops_in _ _ _ _ _ c.from_residual.ensures.0 c.in_err-put_units_start.ensures)
 
 pub put_trees-requires : goal.put_trees-requires
@@ -32,27 +26,17 @@ pub returns-in_err-put_trees : goal.returns-in_err-put_trees
 returns-in_err-put_trees g c =
     λ t h.
     let o = g.O.Out.progress in
-    let root =
-    still_at _ _ [] [] (at_root c.args.locations c.args.rows.now c.requires.room) c.take_gathered-gathered.ensures in
-    let rows = whole_rows c.args.rows.now t _ c.as_slice-rows.ensures.value h in
-    let v_is = ap (λ u. u.valid) (root_row relative_row _ (escaped_tree (relative_tree t)) _ rows c.index-rows-0.is) in
-    subst (λ l. Puts (o c.args.out.now) (o c.put_trees.new.out) l c.from_residual-in_err-put_trees.result)
-    (basic_in_parts c.args.rows.now t c.index-rows-0.result.valid h v_is)
-    (then_puts _ _ _ _ _ _ c.in_ok-put_units_start.ensures
-    (stops_in _ _ _ _ _ c.from_residual-in_err-put_trees.ensures.0
-    (c.in_err-put_trees.ensures.listed (whole_of t) [] [] root
-    (whole_rows_of c.args.rows.now t _ c.as_slice-rows.ensures.value h))))
+    let root = still_at _ _ [] [] (at_root c.args.locations c.args.rows.now c.requires.room) c.take_gathered-gathered.ensures in
+    let told = c.in_err-put_trees.ensures.listed (whole_of t) [] [] root (whole_rows_of c.args.rows.now t _ c.as_slice-rows.ensures.value h) in
+    subst (λ l. Puts (o c.args.out.now) (o c.put_trees.new.out) l c.from_residual-in_err-put_trees.result) (basic_by_first c.args.rows.now t _ _ c.as_slice-rows.ensures.value c.index-rows-0.is h)
+    (then_puts _ _ _ _ _ _ c.in_ok-put_units_start.ensures (stops_in _ _ _ _ _ c.from_residual-in_err-put_trees.ensures.0 told))
 
 pub returns : goal.returns
 returns g c =
     λ t h.
     let o = g.O.Out.progress in
-    let root =
-    still_at _ _ [] [] (at_root c.args.locations c.args.rows.now c.requires.room) c.take_gathered-gathered.ensures in
-    let rows = whole_rows c.args.rows.now t _ c.as_slice-rows.ensures.value h in
-    let v_is = ap (λ u. u.valid) (root_row relative_row _ (escaped_tree (relative_tree t)) _ rows c.index-rows-0.is) in
-    subst (λ l. Puts (o c.args.out.now) (o c.put_list_end.new.out) l c.put_list_end.result)
-    (basic_in_parts c.args.rows.now t c.index-rows-0.result.valid h v_is)
+    let root = still_at _ _ [] [] (at_root c.args.locations c.args.rows.now c.requires.room) c.take_gathered-gathered.ensures in
+    subst (λ l. Puts (o c.args.out.now) (o c.put_list_end.new.out) l c.put_list_end.result) (basic_by_first c.args.rows.now t _ _ c.as_slice-rows.ensures.value c.index-rows-0.is h)
     (then_puts _ _ _ _ _ _ c.in_ok-put_units_start.ensures
     (then_puts _ _ _ _ _ _
     (c.in_ok-put_trees.ensures.listed (whole_of t) [] [] root

@@ -1,36 +1,20 @@
 use Rattle.std.proofs.Common.{refl, arith}
 use Rattle.js_rows.specs.RelativeState.{relative_row}
-use Rattle.js_rows.proofs.SiblingsDiffer.{pairs_step, see_end, see_next, tree_there}
+use Rattle.js_rows.proofs.SiblingsDiffer.{more_at, pairs_step, see_end, see_next, tree_there}
 use Rattle.js_rows.proofs.differing.pairs_differ.Goals as goal
-
-pub overflow_add-next : goal.overflow_add-next
-overflow_add-next c =
-    let w = c.loop-next.invariant c.requires.0 c.requires.1 in
-    omega (arith, (tree_there _ _ _ w c.loop-next-test.true c.index-rows-first.is).fits)
-
-pub loop-next-smaller : goal.loop-next-smaller
-loop-next-smaller c =
-    let w = c.loop-next.invariant c.requires.0 c.requires.1 in
-    let t = tree_there _ _ _ w c.loop-next-test.true c.index-rows-first.is in
-    omega (arith, t.size, t.fits)
-
-pub stands_alone-requires : goal.stands_alone-requires
-stands_alone-requires c =
-    let w = c.loop-next.invariant c.requires.0 c.requires.1 in
-    let t = tree_there _ _ _ w c.loop-next-test.true c.index-rows-first.is in
-    (t.after, t.more)
 
 pub loop-next-preserved : goal.loop-next-preserved
 loop-next-preserved c =
-    λ f e.
-    let l = c.loop-next in
-    let x = c.index-rows-first.result in
-    let w = l.invariant f e in
-    let t = tree_there _ _ _ w c.loop-next-test.true c.index-rows-first.is in
-    let alone = c.stands_alone.ensures t.after t.more c.if-not-stands_alone.false in
-    see_next _ _ _ w t (pairs_step (relative_row x).0 t.unit t.below t.after t.unit_is alone)
+    let size = c.tree_end-next.ensures.size c.index-rows-first.result c.index-rows-first.is in (
+      c.tree_end-next.ensures.rest,
+      λ f e.
+          let w = c.loop-next.invariant.1 f e in
+          let t = tree_there _ _ _ w c.loop-next-test.true c.index-rows-first.is in
+          let alone = c.stands_alone.ensures t.after (more_at _ _ _ _ _ t size) c.if-not-stands_alone.false in
+          see_next _ _ _ _ w t size (pairs_step (relative_row c.index-rows-first.result).0 t.unit t.below t.after t.unit_is alone),
+    )
 
 pub returns : goal.returns
 returns c =
     λ f e i.
-    see_end _ _ (c.loop-next.invariant f e) (omega (arith, c.loop-next-test.false)) refl
+    see_end _ _ (c.loop-next.invariant.1 f e) (omega (arith, c.loop-next-test.false)) refl

@@ -1,16 +1,10 @@
-use Rattle.std.proofs.Common.{◌≡◌, ◌-◌, length, map}
-use Rattle.js_tree.specs.Flat.{flat_of}
-use Rattle.js_tree.specs.Forest.{Forest}
-use Rattle.js_tree.specs.OutputUnit.{OutputUnit}
-use Rattle.js_rows.specs.RelativeState.{relative_row}
+use Rattle.std.proofs.Common.{◌-◌, length}
 use Rattle.js_rows.specs.code.PartOrder.{ascend_behind, roots_differ}
-use Rattle.js_rows.proofs.SiblingsDiffer.{LeftToSee}
+use Rattle.js_rows.proofs.SiblingsDiffer.{SeesUpTo}
 use Rattle.js_rows.proofs.differing.roots_ascend.Given as goal
 
 abbrev pub invariant-loop-next : goal.invariant-loop-next
-invariant-loop-next l =
-    (f : Forest OutputUnit) → map relative_row l.rows ≡ flat_of f
-    → LeftToSee l.rows l.next (ascend_behind (l.rank, l.last)) (roots_differ f)
+invariant-loop-next l = SeesUpTo l.rows l.next l.rows (ascend_behind (l.rank, l.last)) roots_differ
 
 abbrev pub decreases-loop-next : goal.decreases-loop-next
 decreases-loop-next l = length l.rows - l.next

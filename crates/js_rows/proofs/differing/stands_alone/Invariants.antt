@@ -1,16 +1,11 @@
-use Rattle.std.proofs.Common.{◌≡◌, ◌-◌, drop, length, map}
-use Rattle.js_tree.specs.Flat.{flat_of}
-use Rattle.js_tree.specs.Forest.{Forest}
-use Rattle.js_tree.specs.OutputUnit.{OutputUnit}
+use Rattle.std.proofs.Common.{◌-◌, drop, length}
 use Rattle.js_rows.specs.RelativeState.{relative_row}
 use Rattle.js_rows.specs.code.Differing.{none_there}
-use Rattle.js_rows.proofs.SiblingsDiffer.{LeftToSee}
+use Rattle.js_rows.proofs.SiblingsDiffer.{SeesUpTo}
 use Rattle.js_rows.proofs.differing.stands_alone.Given as goal
 
 abbrev pub invariant-loop-next : goal.invariant-loop-next
-invariant-loop-next l =
-    (f : Forest OutputUnit) → map relative_row (drop l.start l.rows) ≡ flat_of f
-    → LeftToSee l.rows l.next (none_there (relative_row l.row).0) (none_there (relative_row l.row).0 f)
+invariant-loop-next l = SeesUpTo l.rows l.next (drop l.start l.rows) (none_there (relative_row l.row).0) (none_there (relative_row l.row).0)
 
 abbrev pub decreases-loop-next : goal.decreases-loop-next
 decreases-loop-next l = length l.rows - l.next

@@ -17,7 +17,7 @@ returns c =
       marks_are = c.as_slice-marks.ensures.value ∙ c.requires.marks t h;
     } in
     let told = c.in_ok-keep_node.ensures.rows t.root.valid r.root r.below [] [] (none_pending _ c.end-start.result c.end-start.ensures) marked_rows in
-    let rows_are = whole_rows_kept t c.in_ok-kept.kept.items c.keep_node.new.kept.items h.located c.in_ok-kept.ensures.items told in
+    let rows_are = whole_rows_kept t c.in_ok-kept.kept.items c.keep_node.new.self.kept.items h.located c.in_ok-kept.ensures.items told in
     record {
       rows_are = ap₂ (λ rs os. record { rows = rs; nodes = os; trims = c.args.rows.trims }) rows_are (ap (λ s. s.nodes) h.rows_are);
       located = kept_located t h.located;

@@ -1,9 +1,5 @@
-use Rattle.std.proofs.Common.{◌≡◌, ◌≤◌, ◌+◌, ◌-◌, ◌*◌, length, map}
-use Rattle.js_tree.specs.Flat.{flat_of}
-use Rattle.js_tree.specs.Forest.{Forest}
-use Rattle.js_tree.specs.OutputUnit.{OutputUnit}
-use Rattle.js_rows.specs.RelativeState.{relative_row}
-use Rattle.js_rows.proofs.MarkedRows.{LeftToMark}
+use Rattle.std.proofs.Common.{◌+◌, ◌-◌, ◌*◌, length}
+use Rattle.js_rows.proofs.MarkedRows.{MarksUpTo}
 use Rattle.js_rows.proofs.marks.+mark_trees.Given as goal
 
 abbrev pub decreases-mark_tree : goal.decreases-mark_tree
@@ -13,9 +9,7 @@ abbrev pub decreases-mark_trees : goal.decreases-mark_trees
 decreases-mark_trees l = 2 * length l.rows.now + 1
 
 abbrev pub invariant-mark_trees-loop-next : goal.invariant-mark_trees-loop-next
-invariant-mark_trees-loop-next l =
-    (l.next ≤ length l.rows)
-    × ((f : Forest OutputUnit) → map relative_row l.rows ≡ flat_of f → LeftToMark l.verdict l.rows l.next l.fn.marks.items l.marks.items l.trees f)
+invariant-mark_trees-loop-next l = MarksUpTo l.verdict l.rows l.next l.fn.marks.items l.marks.items l.trees
 
 abbrev pub decreases-mark_trees-loop-next : goal.decreases-mark_trees-loop-next
 decreases-mark_trees-loop-next l = length l.rows - l.next

@@ -4,13 +4,13 @@ use borrow.Rule.Slice.PartMut.{put_mid}
 use Rattle.js_tree.specs.Forest.{forest_of, ◌⊹◌}
 use Rattle.js_tree.specs.Result.{ResultTree}
 use Rattle.js_tree.proofs.ChildTexts.{rest_of}
-use Rattle.js_tree.proofs.FlatRows.{root_row, shorter}
+use Rattle.js_tree.proofs.FlatRows.{shorter}
 use Rattle.js_rows.specs.Locations.{HasRoom}
 use Rattle.js_rows.specs.Relative.{escaped_tree, placed}
 use Rattle.js_rows.specs.RelativeState.{relative_row}
 use Rattle.js_rows.proofs.AddedRows.{still_there}
-use Rattle.js_rows.proofs.EscapedRows.{at_below, is_absolute, next_tree, still_at}
-use Rattle.js_rows.proofs.PlacedRows.{first_again, node_placed, room_for_rest, rows_of_next, rows_of_one, rows_under, take_ends, take_goes_on, take_starts, there_and_back}
+use Rattle.js_rows.proofs.EscapedRows.{next_tree, still_at}
+use Rattle.js_rows.proofs.PlacedRows.{first_again, node_placed, room_for_rest, rows_of_next, rows_of_one, rows_under, still_entered, take_ends, take_goes_on, take_starts, there_and_back}
 use Rattle.js_rows.proofs.RelativeTexts.{back_again, room_for_part, stays_there}
 use Rattle.js_rows.proofs.RoomLeft.{fewer_below, room_below, some_row}
 use Rattle.js_rows.proofs.rows_tree.+take_trees.Goals as goal
@@ -33,23 +33,12 @@ pub take_tree-returns-clause-trees : goal.take_tree-returns-clause-trees
 take_tree-returns-clause-trees t c =
     λ u below k i at e.
     let rows = c.args.rows.now in
-    let these = c.take_trees.new.rows in
-    let one : ResultTree = record { root = u; below = below } in
     let h = rows_of_one rows u below e in
-    let some = some_row rows (escaped_tree one) h in
-    let x = slice_index_or rows 0 c.index-rows-0.result in
-    let y = slice_index_or (put_mid 1 (length rows - 1) rows these) 0 c.index-rows-0-2.result in
-    let same : x ≡ y = first_again rows these (length rows - 1) c.index-rows-0.result c.index-rows-0-2.result some in
-    let first = root_row relative_row rows (escaped_tree one) x h (ap (slice_index_or rows 0) c.index-rows-0.is) in
-    let root = ap (λ r. (relative_row r).0) (sym same) ∙ first in
-    let k1 = k ++ u.keyword in
-    let i1 = i ++ u.instance in
-    let down = at_below c.args.locations.now c.go_to_node.new.self x u k i at c.go_to_node.ensures first in
-    let still = still_at c.go_to_node.new.self c.take_trees.new.locations k1 i1 down c.in_ok-take_trees.ensures.back in
-    let told = c.in_ok-take_trees.ensures.trees below k1 i1 down (rows_under rows u below h) ∙ ap (λ ts. forest_of ts ⊹ placed k1 i1 below) c.new-below.ensures.items in
+    let n = still_entered rows c.take_trees.new.rows (record { root = u; below = below }) c.index-rows-0.result c.index-rows-0-2.result c.args.locations.now c.go_to_node.new.self c.take_trees.new.locations k i h c.index-rows-0.is at c.go_to_node.ensures c.in_ok-take_trees.ensures.back in
+    let told = c.in_ok-take_trees.ensures.trees below (k ++ u.keyword) (i ++ u.instance) n.down (rows_under rows u below h) ∙ ap (λ ts. forest_of ts ⊹ placed (k ++ u.keyword) (i ++ u.instance) below) c.new-below.ensures.items in
     subst (λ g. OnOk c.add_node.result (forest_of c.add_node.new.trees.items ≡ (forest_of c.args.trees.now.items ⊹ g)))
-    (node_placed k i y u (forest_of c.take_trees.new.trees.items) below root told)
-    (c.add_node.ensures.trees k1 u.absolute i1 still (is_absolute y u root))
+    (node_placed k i (slice_index_or (put_mid 1 (length rows - 1) rows c.take_trees.new.rows) 0 c.index-rows-0-2.result) u (forest_of c.take_trees.new.trees.items) below n.root told)
+    (c.add_node.ensures.trees (k ++ u.keyword) u.absolute (i ++ u.instance) n.still n.absolute)
 
 pub take_tree-returns-clause-back : goal.take_tree-returns-clause-back
 take_tree-returns-clause-back t c =

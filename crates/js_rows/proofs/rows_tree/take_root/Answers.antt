@@ -1,14 +1,11 @@
-use Rattle.std.proofs.Common.{◌≡◌, ◌-◌, ◌++◌, length, slice_index_or, ap, ap₂, sym, subst, ◌∙◌}
+use Rattle.std.proofs.Common.{◌-◌, ◌++◌, length, slice_index_or, ap, ap₂, sym, subst, ◌∙◌}
 use borrow.Rule.Slice.PartMut.{put_mid}
 use Rattle.js_tree.specs.Forest.{forest_of, ◌⊹◌}
 use Rattle.js_tree.specs.Seen.{note_of}
 use Rattle.js_tree.proofs.ChildTexts.{rest_of}
-use Rattle.js_tree.proofs.FlatRows.{root_row}
 use Rattle.js_rows.specs.Locations.{HasRoom}
 use Rattle.js_rows.specs.Relative.{escaped_tree, placed}
-use Rattle.js_rows.specs.RelativeState.{relative_row}
-use Rattle.js_rows.proofs.EscapedRows.{at_below, is_absolute, still_at}
-use Rattle.js_rows.proofs.PlacedRows.{first_again, rows_under, with_head}
+use Rattle.js_rows.proofs.PlacedRows.{rows_under, still_entered, with_head}
 use Rattle.js_rows.proofs.RelativeTexts.{unit_is_there}
 use Rattle.js_rows.proofs.RoomLeft.{room_below, some_row}
 use Rattle.js_rows.proofs.rows_tree.take_root.Goals as goal
@@ -27,19 +24,10 @@ pub returns : goal.returns
 returns c =
     λ r k i at h.
     let rows = c.args.rows.now in
-    let these = c.take_trees.new.rows in
     let u = r.root in
-    let some = some_row rows (escaped_tree r) h in
-    let x = slice_index_or rows 0 c.index-rows-0.result in
-    let y = slice_index_or (put_mid 1 (length rows - 1) rows these) 0 c.index-rows-0-2.result in
-    let same : x ≡ y = first_again rows these (length rows - 1) c.index-rows-0.result c.index-rows-0-2.result some in
-    let first = root_row relative_row rows (escaped_tree r) x h (ap (slice_index_or rows 0) c.index-rows-0.is) in
-    let root = ap (λ r. (relative_row r).0) (sym same) ∙ first in
-    let k1 = k ++ u.keyword in
-    let i1 = i ++ u.instance in
-    let down = at_below c.args.locations.now c.go_to_node.new.self x u k i at c.go_to_node.ensures first in
-    let still = still_at c.go_to_node.new.self c.take_trees.new.locations k1 i1 down c.in_ok-take_trees.ensures.back in
-    let told = c.in_ok-take_trees.ensures.trees r.below k1 i1 down (rows_under rows u r.below h) ∙ ap (λ ts. forest_of ts ⊹ placed k1 i1 r.below) c.new-below.ensures.items in
-    let h = c.in_ok-head.ensures k1 u.absolute i1 still (is_absolute y u root) in
-    let moved = with_head y k1 u.absolute i1 _ _ _ (forest_of c.take_trees.new.trees.items) _ h.0 h.1 h.2 (ap note_of c.replace-note.ensures.value) in
-    c.of_node.ensures ∙ (moved ∙ ap₂ (λ v g. record { root = v; below = g }) (unit_is_there k i y u root) told)
+    let n = still_entered rows c.take_trees.new.rows r c.index-rows-0.result c.index-rows-0-2.result c.args.locations.now c.go_to_node.new.self c.take_trees.new.locations k i h c.index-rows-0.is at c.go_to_node.ensures c.in_ok-take_trees.ensures.back in
+    let told = c.in_ok-take_trees.ensures.trees r.below (k ++ u.keyword) (i ++ u.instance) n.down (rows_under rows u r.below h) ∙ ap (λ ts. forest_of ts ⊹ placed (k ++ u.keyword) (i ++ u.instance) r.below) c.new-below.ensures.items in
+    let head = c.in_ok-head.ensures (k ++ u.keyword) u.absolute (i ++ u.instance) n.still n.absolute in
+    let y = slice_index_or (put_mid 1 (length rows - 1) rows c.take_trees.new.rows) 0 c.index-rows-0-2.result in
+    let moved = with_head y (k ++ u.keyword) u.absolute (i ++ u.instance) _ _ _ (forest_of c.take_trees.new.trees.items) _ head.0 head.1 head.2 (ap note_of c.replace-note.ensures.value) in
+    c.of_node.ensures ∙ (moved ∙ ap₂ (λ v g. record { root = v; below = g }) (unit_is_there k i y u n.root) told)

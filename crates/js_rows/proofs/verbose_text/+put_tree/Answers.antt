@@ -1,47 +1,32 @@
-use Rattle.std.proofs.Common.{◌≡◌, ◌+◌, ◌-◌, ◌++◌, false, length, map, ap, subst, ◌∙◌, arith}
+use Rattle.std.proofs.Common.{◌≡◌, ◌+◌, ◌-◌, ◌++◌, length, ap, subst, arith}
 use Rattle.js_tree.specs.Form.{node_values}
-use Rattle.js_tree.proofs.ChildTexts.{rest_of}
-use Rattle.js_tree.proofs.FlatRows.{root_row, rows_below, shorter}
+use Rattle.js_tree.proofs.FlatRows.{shorter}
 use Rattle.js_tree.proofs.Nested.{is_none, not_none}
-use Rattle.js_rows.specs.Relative.{escaped_tree, placed}
-use Rattle.js_rows.specs.RelativeState.{relative_row}
+use Rattle.js_rows.specs.Relative.{placed}
 use Rattle.js_rows.specs.code.Gathering.{GathersOrStops, Gathers}
 use Rattle.js_rows.specs.code.Listing.{values_text}
-use Rattle.js_rows.specs.code.RelativeText.{after_children, before_children, unit_there}
-use Rattle.js_rows.proofs.EscapedRows.{at_below, is_absolute, next_tree, no_trees, some_trees, still_at, slice_of_next}
-use Rattle.js_rows.proofs.Gathering.{all_passed, none_passed, one_passed, pass_stops, same_to_pass, stopped_in, stopped_last, then_passed}
-use Rattle.js_rows.proofs.RelativeTexts.{back_again, parent_pieces, root_there, room_for_part, stays_there, tree_next, without_trees}
+use Rattle.js_rows.specs.code.RelativeText.{unit_there}
+use Rattle.js_rows.proofs.EscapedRows.{entered, next_tree, no_trees, still_at, slice_of_next}
+use Rattle.js_rows.proofs.Gathering.{all_passed, none_passed, one_passed, pass_stops, same_to_pass, stopped_last}
+use Rattle.js_rows.proofs.RelativeTexts.{back_again, gathers_whole, root_there, room_for_part, stays_there, stops_in_children, stops_in_front, tree_next, without_trees}
 use Rattle.js_rows.proofs.verbose_text.+put_tree.Goals as goal
 
 pub put_tree-returns-in_err-put_node-clause-text : goal.put_tree-returns-in_err-put_node-clause-text
 put_tree-returns-in_err-put_node-clause-text g t c =
     λ t' k i at e.
     let o = g.O.Out.progress in
-    let p = c.args.gathered.now.text.items in
-    let q = c.put_node.new.gathered.text.items in
-    let rows = c.args.rows.now in
-    let x = c.index-rows-0.result in
-    let below = ap (map relative_row) (rest_of rows) ∙ rows_below relative_row rows (escaped_tree t') e in
-    let root = root_row relative_row rows (escaped_tree t') x e c.index-rows-0.is in
-    let down = at_below c.args.locations.now c.go_to_node.new.self x t'.root k i at c.go_to_node.ensures root in
-    let is = root_there c.args.later k i x t' root in
-    let r = c.from_residual.result in
-    subst (λ l. GathersOrStops (o c.args.out.now) (o c.put_node.new.out) p q l r) is
-    (stopped_last (o c.args.out.now) (o c.put_node.new.out) p q _ r c.from_residual.ensures.0 (c.in_err-put_node.ensures.text t'.below (k ++ t'.root.keyword) t'.root.absolute (i ++ t'.root.instance) down (is_absolute x t'.root root) below))
+    let n = entered c.args.rows.now t' c.index-rows-0.result c.args.locations.now c.go_to_node.new.self k i e c.index-rows-0.is at c.go_to_node.ensures in
+    let told = c.in_err-put_node.ensures.text t'.below (k ++ t'.root.keyword) t'.root.absolute (i ++ t'.root.instance) n.down n.absolute n.below in
+    subst (λ l. GathersOrStops (o c.args.out.now) (o c.put_node.new.out) c.args.gathered.now.text.items c.put_node.new.gathered.text.items l c.from_residual.result) (root_there c.args.later k i c.index-rows-0.result t' n.root)
+    (stopped_last _ _ c.args.gathered.now.text.items c.put_node.new.gathered.text.items _ _ c.from_residual.ensures.0 told)
 
 pub put_tree-returns-clause-text : goal.put_tree-returns-clause-text
 put_tree-returns-clause-text g t c =
     λ t' k i at e.
     let o = g.O.Out.progress in
-    let p = c.args.gathered.now.text.items in
-    let q = c.put_node.new.gathered.text.items in
-    let rows = c.args.rows.now in
-    let x = c.index-rows-0.result in
-    let below = ap (map relative_row) (rest_of rows) ∙ rows_below relative_row rows (escaped_tree t') e in
-    let root = root_row relative_row rows (escaped_tree t') x e c.index-rows-0.is in
-    let down = at_below c.args.locations.now c.go_to_node.new.self x t'.root k i at c.go_to_node.ensures root in
-    let is = root_there c.args.later k i x t' root in
-    subst (Gathers (o c.args.out.now) (o c.put_node.new.out) p q) is (c.in_ok-put_node.ensures.text t'.below (k ++ t'.root.keyword) t'.root.absolute (i ++ t'.root.instance) down (is_absolute x t'.root root) below)
+    let n = entered c.args.rows.now t' c.index-rows-0.result c.args.locations.now c.go_to_node.new.self k i e c.index-rows-0.is at c.go_to_node.ensures in
+    subst (Gathers (o c.args.out.now) (o c.put_node.new.out) c.args.gathered.now.text.items c.put_node.new.gathered.text.items) (root_there c.args.later k i c.index-rows-0.result t' n.root)
+    (c.in_ok-put_node.ensures.text t'.below (k ++ t'.root.keyword) t'.root.absolute (i ++ t'.root.instance) n.down n.absolute n.below)
 
 pub put_node-returns-then-is_empty-clause-text : goal.put_node-returns-then-is_empty-clause-text
 put_node-returns-then-is_empty-clause-text g t c =
@@ -57,58 +42,26 @@ pub put_node-returns-in_err-add_front-clause-text : goal.put_node-returns-in_err
 put_node-returns-in_err-add_front-clause-text g t c =
     λ f k a i at abs e.
     let o = g.O.Out.progress in
-    let p = c.args.gathered.now.text.items in
-    let q = c.add_front.new.gathered.text.items in
-    let x = c.args.row.now in
-    let u = unit_there x k a i in
-    let some = some_trees c.args.below.now f e (not_none (length c.args.below.now) c.if-is_empty.ensures) in
-    let p1 = before_children c.args.later a u.note u.valid in
-    let p2 = values_text false (node_values (placed k i f)) in
-    let p3 = after_children i k u.note u.valid in
-    let r = c.from_residual.result in
-    subst (λ l. GathersOrStops (o c.args.out.now) (o c.add_front.new.out) p q l r) (parent_pieces c.args.later x k a i f some)
-    (stopped_in (o c.args.out.now) (o c.add_front.new.out) p q p1 (p2 ++ p3) r c.from_residual.ensures.0 (c.in_err-add_front.ensures.text a abs))
+    let some = not_none (length c.args.below.now) c.if-is_empty.ensures in
+    stops_in_front c.args.later c.args.row.now k a i c.args.below.now f e some (o c.args.out.now) (o c.add_front.new.out) c.args.gathered.now.text.items c.add_front.new.gathered.text.items c.from_residual.result c.from_residual.ensures.0 (c.in_err-add_front.ensures.text a abs)
 
 pub put_node-returns-in_err-put_trees-clause-text : goal.put_node-returns-in_err-put_trees-clause-text
 put_node-returns-in_err-put_trees-clause-text g t c =
     λ f k a i at abs e.
     let o = g.O.Out.progress in
-    let p = c.args.gathered.now.text.items in
-    let q = c.add_front.new.gathered.text.items in
-    let s = c.put_trees.new.gathered.text.items in
-    let x = c.args.row.now in
-    let u = unit_there x k a i in
-    let some = some_trees c.args.below.now f e (not_none (length c.args.below.now) c.if-is_empty.ensures) in
-    let p1 = before_children c.args.later a u.note u.valid in
-    let p2 = values_text false (node_values (placed k i f)) in
-    let p3 = after_children i k u.note u.valid in
-    let there = still_at c.args.locations.now c.add_front.new.locations k i at c.in_ok-add_front.ensures.back in
-    let r = c.from_residual-in_err-put_trees.result in
-    subst (λ l. GathersOrStops (o c.args.out.now) (o c.put_trees.new.out) p s l r) (parent_pieces c.args.later x k a i f some)
-    (then_passed (o c.args.out.now) (o c.add_front.new.out) (o c.put_trees.new.out) p q s p1 (p2 ++ p3) r (c.in_ok-add_front.ensures.text a abs)
-    (stopped_in (o c.add_front.new.out) (o c.put_trees.new.out) q s p2 p3 r c.from_residual-in_err-put_trees.ensures.0 (c.in_err-put_trees.ensures.text f k i there e)))
+    let some = not_none (length c.args.below.now) c.if-is_empty.ensures in
+    stops_in_children c.args.later c.args.row.now k a i c.args.below.now f e some (o c.args.out.now) (o c.add_front.new.out) (o c.put_trees.new.out) c.args.gathered.now.text.items c.add_front.new.gathered.text.items c.put_trees.new.gathered.text.items c.from_residual-in_err-put_trees.result (c.in_ok-add_front.ensures.text a abs)
+    c.from_residual-in_err-put_trees.ensures.0 (c.in_err-put_trees.ensures.text f k i (still_at c.args.locations.now c.add_front.new.locations k i at c.in_ok-add_front.ensures.back) e)
 
 pub put_node-returns-clause-text : goal.put_node-returns-clause-text
 put_node-returns-clause-text g t c =
     λ f k a i at abs e.
     let o = g.O.Out.progress in
-    let p = c.args.gathered.now.text.items in
-    let q = c.add_front.new.gathered.text.items in
-    let s = c.put_trees.new.gathered.text.items in
-    let z = c.add_back.new.gathered.text.items in
-    let x = c.args.row.now in
-    let u = unit_there x k a i in
-    let some = some_trees c.args.below.now f e (not_none (length c.args.below.now) c.if-is_empty.ensures) in
-    let p1 = before_children c.args.later a u.note u.valid in
-    let p2 = values_text false (node_values (placed k i f)) in
-    let p3 = after_children i k u.note u.valid in
+    let some = not_none (length c.args.below.now) c.if-is_empty.ensures in
     let there = still_at c.args.locations.now c.add_front.new.locations k i at c.in_ok-add_front.ensures.back in
     let last = still_at c.add_front.new.locations c.put_trees.new.locations k i there c.in_ok-put_trees.ensures.back in
-    let r = c.add_back.result in
-    subst (λ l. GathersOrStops (o c.args.out.now) (o c.add_back.new.out) p z l r) (parent_pieces c.args.later x k a i f some)
-    (then_passed (o c.args.out.now) (o c.add_front.new.out) (o c.add_back.new.out) p q z p1 (p2 ++ p3) r (c.in_ok-add_front.ensures.text a abs)
-    (then_passed (o c.add_front.new.out) (o c.put_trees.new.out) (o c.add_back.new.out) q s z p2 p3 r (c.in_ok-put_trees.ensures.text f k i there e)
-    (c.add_back.ensures k i last)))
+    gathers_whole c.args.later c.args.row.now k a i c.args.below.now f e some (o c.args.out.now) (o c.add_front.new.out) (o c.put_trees.new.out) (o c.add_back.new.out) c.args.gathered.now.text.items c.add_front.new.gathered.text.items c.put_trees.new.gathered.text.items c.add_back.new.gathered.text.items c.add_back.result
+    (c.in_ok-add_front.ensures.text a abs) (c.in_ok-put_trees.ensures.text f k i there e) (c.add_back.ensures k i last)
 
 pub put_trees-loop-next-init : goal.put_trees-loop-next-init
 put_trees-loop-next-init g t c = (omega arith, stays_there c.args.locations.now, λ f e. (f, e, λ k i at. none_passed (g.O.Out.progress c.args.out.now) c.args.gathered.now.text.items _))

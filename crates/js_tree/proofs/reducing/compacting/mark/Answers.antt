@@ -1,10 +1,34 @@
-use Rattle.std.proofs.Common.{◌≡◌, ◌<◌, ◌+◌, ◌-◌, length, drop, get_or, refl, ap, ◌∙◌, arith, suc}
+use Rattle.std.proofs.Common.{◌≡◌, ℕ, ◌<◌, ◌≤◌, ◌+◌, ◌-◌, List, ◌++◌, length, drop, get_or, map, refl, ap, ◌∙◌, arith, suc}
 use Rattle.js_tree.specs.code.Compacting.{left, left_tree_count, marked_rows, stays, room}
+use Rattle.js_tree.specs.Flat.{flat_of}
 use Rattle.js_tree.specs.FlatState.{row_of}
-use Rattle.js_tree.specs.Forest.{node_count}
+use Rattle.js_tree.specs.Forest.{Forest, node_count}
+use Rattle.js_tree.specs.OutputUnit.{OutputUnit}
+use Rattle.js_tree.specs.declared.reducing.compacting.Keep.{Keep}
 use Rattle.js_tree.specs.declared.collecting.flat.Row.{Row}
 use Rattle.js_tree.proofs.Marks.{from, node_at, row_at, rows_of, marked_after, marks_one, tells_same, mark_start, tree_fits, fewer_left}
 use Rattle.js_tree.proofs.reducing.compacting.mark.Goals as goal
+
+-- the node of the row before i, where the rows from i on are marked
+record NodeThere (keep : Keep) (rows : List Row) (i : ℕ) (x : Row) : Type 0 where
+  below : Forest OutputUnit
+  after : Forest OutputUnit
+  size : (get_or rows (i - 1) x).size ≡ suc (node_count below)
+  later : drop (i - 1 + 1) rows ≡ marked_rows keep below ++ marked_rows keep after
+
+node_there : (keep : Keep) (rows : List Row) (f : Forest OutputUnit) (i : ℕ) (x : Row) → map row_of rows ≡ flat_of f → 0 < i → i ≤ length rows → drop i rows ≡ marked_rows keep (from i f) → NodeThere keep rows i x
+node_there keep rows f i x e some most marked =
+    let n = i - 1 in
+    let h : n < length rows = omega arith in
+    let next : suc n ≡ i = omega arith in
+    let later : n + 1 ≡ suc n = omega arith in
+    let a = node_at n f (let m = rows_of rows f e in omega (arith, m, h)) in
+    record {
+      below = a.below;
+      after = a.after;
+      size = ap (λ y. y.1) (row_at rows f n x e h a);
+      later = ap (λ m. drop m rows) later ∙ marked_after keep rows f n a (rw (← next) at marked);
+    }
 
 pub loop-i-init : goal.loop-i-init
 loop-i-init c = record { same = refl; marked = λ f e. mark_start c.args.keep c.args.rows.now f e }
@@ -18,32 +42,20 @@ overflow_add-i-in-loop-i c =
 pub children-remaining-requires : goal.children-remaining-requires
 children-remaining-requires c =
     let l = c.loop-i in
-    let n = l.i - 1 in
-    let f = c.requires.0 in
     let e = l.invariant.same ∙ c.requires.1 in
-    let h : n < length l.rows = omega arith in
-    let next : suc n ≡ l.i = omega arith in
-    let later : n + 1 ≡ suc n = omega arith in
-    let a = node_at n f (let m = rows_of l.rows f e in omega (arith, m, h)) in
-    let s : (get_or l.rows n c.index-rows-i.result).size ≡ suc (node_count a.below) = ap (λ y. y.1) (row_at l.rows f n c.index-rows-i.result e h a) in
+    let a = node_there c.args.keep l.rows c.requires.0 l.i c.index-rows-i.result e (omega arith) (omega arith) (l.invariant.marked c.requires.0 c.requires.1) in
     record {
-      within = tree_fits l.rows f n c.index-rows-i.result e h;
-      marked = (c.args.keep, a.below, marked_rows c.args.keep a.after, ap (λ m. drop m l.rows) later ∙ marked_after c.args.keep l.rows f n a (rw (← next) at (l.invariant.marked f c.requires.1)), omega (arith, s));
+      within = tree_fits l.rows c.requires.0 (l.i - 1) c.index-rows-i.result e (omega arith);
+      marked = (c.args.keep, a.below, marked_rows c.args.keep a.after, a.later, omega (arith, a.size));
     }
 
 pub room-room-requires : goal.room-room-requires
 room-room-requires c =
     let l = c.loop-i in
-    let n = l.i - 1 in
-    let f = c.requires.0 in
     let e = l.invariant.same ∙ c.requires.1 in
-    let h : n < length l.rows = omega arith in
-    let next : suc n ≡ l.i = omega arith in
-    let later : n + 1 ≡ suc n = omega arith in
-    let a = node_at n f (let m = rows_of l.rows f e in omega (arith, m, h)) in
-    let s : (get_or l.rows n c.index-rows-i.result).size ≡ suc (node_count a.below) = ap (λ y. y.1) (row_at l.rows f n c.index-rows-i.result e h a) in
-    let t = c.children-remaining.ensures c.args.keep a.below (marked_rows c.args.keep a.after) (ap (λ m. drop m l.rows) later ∙ marked_after c.args.keep l.rows f n a (rw (← next) at (l.invariant.marked f c.requires.1))) (omega (arith, s)) in
-    omega (arith, t.1, fewer_left c.args.keep a.below, s, c.index-rows-i.element_fits)
+    let a = node_there c.args.keep l.rows c.requires.0 l.i c.index-rows-i.result e (omega arith) (omega arith) (l.invariant.marked c.requires.0 c.requires.1) in
+    let t = c.children-remaining.ensures c.args.keep a.below (marked_rows c.args.keep a.after) a.later (omega (arith, a.size)) in
+    omega (arith, t.1, fewer_left c.args.keep a.below, a.size, c.index-rows-i.element_fits)
 
 pub loop-i-preserved : goal.loop-i-preserved
 loop-i-preserved c =

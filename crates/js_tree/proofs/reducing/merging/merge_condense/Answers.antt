@@ -13,8 +13,8 @@ use Rattle.js_tree.proofs.reducing.merging.merge_condense.Goals as goal
 pub returns : goal.returns
 returns c =
     let t = c.args.tree in
-    let u : ResultTree = record { root = c.whole.inside.unit; below = forest_of c.merge_children.new.children } in
-    let e : u ≡ merged t = ap (λ f. record { root = c.whole.inside.unit; below = f }) c.merge_children.ensures ∙ ap merged c.whole.view_is in
+    let u : ResultTree = record { root = c.whole.inside.unit; below = forest_of c.reduce_children.new.children } in
+    let e : u ≡ merged t = ap (λ f. record { root = c.whole.inside.unit; below = f }) c.reduce_children.ensures ∙ ap merged c.whole.view_is in
     record {
       merged = e;
       normal = subst NormalOfThree (sym e) (merged_is_normal t);

@@ -12,14 +12,13 @@ use Rattle.js_tree.proofs.reducing.moves.+moves.Goals.{move_among-in-Drop, move_
 pub move_among-returns-then-made : goal.move_among-returns-then-made
 move_among-returns-then-made t c =
     let same = c.loop-i.invariant.same in
-    let passed = rw (← same) at c.loop-i.invariant.passed in
-    let p : c.args.position ≡ node_count (forest_of (take c.loop-i.i c.loop-i.trees.items)) = omega (arith, passed, c.if-position-eq0.true) in
-    let h : c.loop-i.i < length c.loop-i.trees.items = rw same (omega (arith, c.args.trees.now.ok.0)) in
+    let p : c.args.position ≡ node_count (forest_of (take c.loop-i.i c.loop-i.trees.items)) = omega (arith, rw (← same) at c.loop-i.invariant.passed, c.if-position-eq0.true) in
     elim c.match-rule.branch [
       | move_among-in-Drop w ↦ rw (w.in-Drop.is, ← same, p, w.trees-is) (rw (sym w.made-is ∙ c.if-made.true) at w.drop_leaf-made.ensures.dropped)
       | move_among-in-Merge w ↦ rw (w.in-Merge.is, ← same, p, w.trees-is) (rw (sym w.made-is ∙ c.if-made.true) at w.drop_alike-made.ensures.merged)
       | move_among-in-Lift w ↦
           let e = rw (sym w.made-is ∙ c.if-made.true) at w.lift_child-made.ensures.lifted in
+          let h : c.loop-i.i < length c.loop-i.trees.items = rw same (omega (arith, c.args.trees.now.ok.0)) in
           rw (w.in-Lift.is, ← same, p, w.trees-is)
           (lifted noted same_but_keyword c.loop-i.trees.items c.loop-i.i w.index_mut.result.now w.lift_child-made.new.tree h (rw (← w.index_mut.ensures.value) e))
     ]
@@ -27,8 +26,7 @@ move_among-returns-then-made t c =
 pub move_among-returns-else-made : goal.move_among-returns-else-made
 move_among-returns-else-made t c =
     let same = c.loop-i.invariant.same in
-    let passed = rw (← same) at c.loop-i.invariant.passed in
-    let p : c.args.position ≡ node_count (forest_of (take c.loop-i.i c.loop-i.trees.items)) = omega (arith, passed, c.if-position-eq0.true) in
+    let p : c.args.position ≡ node_count (forest_of (take c.loop-i.i c.loop-i.trees.items)) = omega (arith, rw (← same) at c.loop-i.invariant.passed, c.if-position-eq0.true) in
     let h : c.loop-i.i < length c.loop-i.trees.items = rw same (omega (arith, c.args.trees.now.ok.0)) in
     elim c.match-rule.branch [
       | move_among-in-Drop w ↦

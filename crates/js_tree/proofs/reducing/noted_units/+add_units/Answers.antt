@@ -1,11 +1,8 @@
-use Rattle.std.proofs.Common.{◌≡◌, ◌<◌, ◌∙◌, ap, length, get_or, arith}
-use Rattle.js_tree.specs.Forest.{forest_of, node_count}
-use Rattle.js_tree.proofs.Forests.{fewer_nodes}
+use Rattle.std.proofs.Common.{◌∙◌, arith}
+use Rattle.js_tree.proofs.Forests.{fewer_children}
 use Rattle.js_tree.proofs.reducing.noted_units.+add_units.Goals as goal
 
 pub add_units-requires : goal.add_units-requires
 add_units-requires t c =
-    let h : c.loop-tree.tree-index < length c.args.trees.now = omega arith in
-    let e : node_count (forest_of c.as_slice.result.now) ≡ node_count (get_or c.args.trees.now c.loop-tree.tree-index c.tree-item.result).below =
-    ap (λ ts. node_count (forest_of ts)) c.as_slice.ensures ∙ ap (λ t. node_count t.below) (c.tree.view_is ∙ c.tree-item.is) in
-    (omega (arith, e, fewer_nodes c.args.trees.now c.loop-tree.tree-index c.tree-item.result h, c.decreases), tt)
+    let fewer = fewer_children c.args.trees.now c.loop-tree.tree-index c.tree-item.result c.tree.inside.unit _ _ c.as_slice.ensures (c.tree.view_is ∙ c.tree-item.is) (omega arith) in
+    (omega (arith, fewer, c.decreases), tt)

@@ -2,11 +2,11 @@ use Rattle.std.proofs.Common.{◌≡◌, ◌≤◌, ◌+◌, ◌-◌, ◌*◌, B
 use Rattle.js_tree.specs.Forest.{Forest}
 use Rattle.js_tree.specs.OutputUnit.{OutputUnit}
 use Rattle.js_rows.specs.Marks.{marked}
-use Rattle.js_rows.specs.code.KeptBetween.{AreSame, IsPending}
+use Rattle.js_rows.specs.code.KeptBetween.{IsPending, StaysPending}
 use Rattle.js_rows.specs.code.Listing.{AreMarkedRows}
 use Rattle.js_rows.specs.code.RelativeText.{AreRowsOfTrees}
 use Rattle.js_rows.proofs.AddedRows.{LeftToAdd}
-use Rattle.js_rows.proofs.keeping.+keep_trees.Given as goal
+use Rattle.js_rows.proofs.keeping.Keeper.+keep_trees.Given as goal
 
 abbrev pub decreases-keep_below : goal.decreases-keep_below
 decreases-keep_below l = 3 * length l.rows.now
@@ -23,11 +23,11 @@ decreases-keep_trees l = 3 * length l.rows.now + 2
 abbrev pub invariant-keep_trees-loop-next : goal.invariant-keep_trees-loop-next
 invariant-keep_trees-loop-next l =
     (l.next ≤ length l.rows)
-    × AreSame l.fn.between l.between
+    × StaysPending l.fn.self l.self
     × ((v : Bool) (f : Forest OutputUnit) → AreMarkedRows l.fn.rows l.marks v f
     → (left : Forest OutputUnit) × AreRowsOfTrees (drop l.next l.rows) left × (drop l.next l.marks ≡ marked v left))
-    × ((v : Bool) (f : Forest OutputUnit) (keyword instance : List ℕ) → IsPending l.fn.between l.start keyword instance → AreMarkedRows l.fn.rows l.marks v f
-    → LeftToAdd v keyword instance l.fn.kept.items l.kept.items l.rows l.marks l.next f)
+    × ((v : Bool) (f : Forest OutputUnit) (keyword instance : List ℕ) → IsPending l.fn.self.between l.fn.self.start keyword instance → AreMarkedRows l.fn.rows l.marks v f
+    → LeftToAdd v keyword instance l.fn.self.kept.items l.self.kept.items l.rows l.marks l.next f)
 
 abbrev pub decreases-keep_trees-loop-next : goal.decreases-keep_trees-loop-next
 decreases-keep_trees-loop-next l = length l.rows - l.next

@@ -4,12 +4,12 @@ use Rattle.js_tree.proofs.FlatRows.{none_below, root_row, shorter}
 use Rattle.js_rows.specs.Relative.{escaped_tree, placed_unit}
 use Rattle.js_rows.specs.RelativeState.{relative_row}
 use Rattle.js_rows.specs.code.KeptBetween.{AreAdded, kept_between}
-use Rattle.js_rows.proofs.AddedRows.{add_ends, add_goes_on, add_starts, below_set, fewer_set, node_added, none_pending, same_parts, so_many, still_pending, still_there}
+use Rattle.js_rows.proofs.AddedRows.{add_ends, add_goes_on, add_starts, below_set, fewer_set, node_added, none_pending, same_parts, so_many, still_pending_at, still_there}
 use Rattle.js_rows.proofs.EscapedRows.{next_tree, none_of}
 use Rattle.js_rows.proofs.KeptBetween.{node_goes}
 use Rattle.js_rows.proofs.MarkedRows.{as_many, first_mark, flat_rows, marked_below, marked_next, next_marks, root_mark}
 use Rattle.js_rows.proofs.RoomLeft.{fewer_below, some_row}
-use Rattle.js_rows.proofs.keeping.+keep_trees.Goals as goal
+use Rattle.js_rows.proofs.keeping.Keeper.+keep_trees.Goals as goal
 
 pub keep_below-keep_trees-requires : goal.keep_below-keep_trees-requires
 keep_below-keep_trees-requires t c =
@@ -28,15 +28,15 @@ pub keep_node-overflow_sub-size : goal.keep_node-overflow_sub-size
 keep_node-overflow_sub-size t c =
     let marked = below_set _ c.add_row-2.new.row _ _ _ _ c.requires.3 in
     let told = c.in_ok-keep_trees.ensures.rows _ _ [] [] (none_pending _ _ c.end-end.ensures) marked in
-    let count = so_many _ c.keep_trees.new.kept.items (kept_between c.requires.0 [] [] c.requires.2) told in
-    omega (arith, count, c.in_ok-add_row.ensures.count, c.len-number.ensures, c.len.ensures, c.args.kept.now.ok.0, c.keep_trees.new.kept.ok.0)
+    let count = so_many _ c.keep_trees.new.self.kept.items (kept_between c.requires.0 [] [] c.requires.2) told in
+    omega (arith, count, c.in_ok-add_row.ensures.count, c.len-number.ensures, c.len.ensures, c.args.self.now.kept.ok.0, c.keep_trees.new.self.kept.ok.0)
 
 pub keep_node-index_mut-row-requires : goal.keep_node-index_mut-row-requires
 keep_node-index_mut-row-requires t c =
     let marked = below_set _ c.add_row-2.new.row _ _ _ _ c.requires.3 in
     let told = c.in_ok-keep_trees.ensures.rows _ _ [] [] (none_pending _ _ c.end-end.ensures) marked in
-    let count = so_many _ c.keep_trees.new.kept.items (kept_between c.requires.0 [] [] c.requires.2) told in
-    omega (arith, count, c.in_ok-add_row.ensures.count, c.len-number.ensures, c.args.kept.now.ok.0, c.keep_trees.new.kept.ok.0)
+    let count = so_many _ c.keep_trees.new.self.kept.items (kept_between c.requires.0 [] [] c.requires.2) told in
+    omega (arith, count, c.in_ok-add_row.ensures.count, c.len-number.ensures, c.args.self.now.kept.ok.0, c.keep_trees.new.self.kept.ok.0)
 
 pub keep_node-returns-then-count-eq1-clause-rows : goal.keep_node-returns-then-count-eq1-clause-rows
 keep_node-returns-then-count-eq1-clause-rows t c =
@@ -47,7 +47,7 @@ keep_node-returns-then-count-eq1-clause-rows t c =
     let first = slice_index_or rows 0 c.index-rows-0.result in
     let root = root_row relative_row rows one first flat (ap (slice_index_or rows 0) c.index-rows-0.is) in
     let none = none_of below (none_below relative_row rows one flat (omega (arith, c.if-count-eq1.true))) in
-    subst (λ f. OnOk c.add_row.result (AreAdded c.args.kept.now.items c.add_row.new.kept.items (tree (placed_unit k i u) (kept_between v [] [] f) empty)))
+    subst (λ f. OnOk c.add_row.result (AreAdded c.args.self.now.kept.items c.add_row.new.kept.items (tree (placed_unit k i u) (kept_between v [] [] f) empty)))
     (sym none) (c.add_row.ensures.row u k i p root)
 
 pub keep_node-returns-clause-rows : goal.keep_node-returns-clause-rows
@@ -55,15 +55,15 @@ keep_node-returns-clause-rows t c =
     λ v u below k i p h.
     let rows = c.args.rows.now in
     let marks = c.args.marks.now in
-    let old = c.args.kept.now.items in
+    let old = c.args.self.now.kept.items in
     let mid = c.add_row-2.new.kept.items in
-    let new = c.keep_trees.new.kept.items in
+    let new = c.keep_trees.new.self.kept.items in
     let first = slice_index_or rows 0 c.index-rows-0-2.result in
     let root = root_row relative_row rows (escaped_tree (record { root = u; below = below })) first (flat_rows rows marks v u below h) (ap (slice_index_or rows 0) c.index-rows-0-2.is) in
     let row = c.in_ok-add_row.ensures.row u k i p root in
     let told = c.in_ok-keep_trees.ensures.rows v below [] [] (none_pending c.add_row-2.new.self c.end-end.result c.end-end.ensures) (below_set rows c.add_row-2.new.row marks v u below h) in
-    let number : c.len-number.result ≡ length old = c.len-number.ensures ∙ c.args.kept.now.ok.0 in
-    let size : c.len.result - c.len-number.result ≡ length new - c.len-number.result = ap (λ n. n - c.len-number.result) (c.len.ensures ∙ c.keep_trees.new.kept.ok.0) in
+    let number : c.len-number.result ≡ length old = c.len-number.ensures ∙ c.args.self.now.kept.ok.0 in
+    let size : c.len.result - c.len-number.result ≡ length new - c.len-number.result = ap (λ n. n - c.len-number.result) (c.len.ensures ∙ c.keep_trees.new.self.kept.ok.0) in
     let same = ap (λ r. (relative_row r).0) c.index_mut-row.ensures.value in
     node_added old mid new _ _ c.len-number.result (placed_unit k i u) (kept_between v [] [] below) row c.in_ok-add_row.ensures.count told number same size
 
@@ -78,16 +78,16 @@ keep_tree-returns-then-some-clause-rows t c =
     λ v u below k i p h.
     let rows = c.args.rows.now in
     let marks = c.args.marks.now in
-    subst (λ f. OnOk c.keep_below.result (AreAdded c.args.kept.now.items c.keep_below.new.kept.items f))
+    subst (λ f. OnOk c.keep_below.result (AreAdded c.args.self.now.kept.items c.keep_below.new.self.kept.items f))
     (sym (node_goes v k i u below (first_mark marks) (root_mark rows marks v u below h) c.if-stays.false c.if-some.true))
     (c.keep_below.ensures.rows v u below k i p h)
 
 pub keep_trees-loop-next-init : goal.keep_trees-loop-next-init
 keep_trees-loop-next-init t c = (
   omega arith,
-  record { keyword = refl; instance = refl },
+  record { parts = record { keyword = refl; instance = refl }; start = refl },
   λ v f h. (f, h.rows_are, h.marks_are),
-  λ v f k i p h. add_starts v k i c.args.kept.now.items c.args.rows.now c.args.marks.now f h,
+  λ v f k i p h. add_starts v k i c.args.self.now.kept.items c.args.rows.now c.args.marks.now f h,
 )
 
 pub keep_trees-overflow_add-next : goal.keep_trees-overflow_add-next
@@ -133,14 +133,17 @@ pub keep_trees-loop-next-preserved : goal.keep_trees-loop-next-preserved
 keep_trees-loop-next-preserved t' c =
     let l = c.loop-next in
     let marks = c.args.marks.now in
-    let old = c.args.between.now in
+    let old = c.args.self.now.between in
     let x = slice_index_or l.rows l.next c.index-rows-first.result in
     let is = ap (slice_index_or l.rows l.next) c.index-rows-first.is in
     let w0 = l.invariant.2 c.requires.0 c.requires.1 c.requires.2 in
     let t0 = next_tree l.rows l.next w0.0 x w0.1 c.loop-next-test.true is in
     let s0 = still_there l.rows l.next w0.0 x c.keep_tree.new.rows t0 c.keep_tree.auto.rows in (
       omega (arith, s0.count, t0.fits),
-      same_parts old l.between c.keep_tree.new.between l.invariant.1 c.in_ok-keep_tree.ensures.same,
+      record {
+        parts = same_parts old l.self.between c.keep_tree.new.self.between l.invariant.1.parts c.in_ok-keep_tree.ensures.same.parts;
+        start = c.in_ok-keep_tree.ensures.same.start ∙ l.invariant.1.start;
+      },
       λ v f h.
           let w = l.invariant.2 v f h in
           let t = next_tree l.rows l.next w.0 x w.1 c.loop-next-test.true is in
@@ -148,15 +151,15 @@ keep_trees-loop-next-preserved t' c =
       λ v f k i p h.
           let w = l.invariant.3 v f k i p h in
           let t = next_tree l.rows l.next w.left x w.left_is c.loop-next-test.true is in
-          let told = c.in_ok-keep_tree.ensures.rows v t.unit t.below k i (still_pending old l.between c.args.start k i p l.invariant.1) (marked_next v marks l.rows l.next w.left x t w.marks_are) in
-          add_goes_on v k i c.args.kept.now.items l.kept.items c.keep_tree.new.kept.items l.rows _ marks l.next f x w t told s0.after,
+          let told = c.in_ok-keep_tree.ensures.rows v t.unit t.below k i (still_pending_at old l.self.between c.args.self.now.start l.self.start k i p l.invariant.1.parts l.invariant.1.start) (marked_next v marks l.rows l.next w.left x t w.marks_are) in
+          add_goes_on v k i c.args.self.now.kept.items l.self.kept.items c.keep_tree.new.self.kept.items l.rows _ marks l.next f x w t told s0.after,
     )
 
 pub keep_trees-returns-clause-rows : goal.keep_trees-returns-clause-rows
 keep_trees-returns-clause-rows t c =
     λ v f k i p h.
     let l = c.loop-next in
-    add_ends v k i c.args.kept.now.items l.kept.items l.rows c.args.marks.now l.next f (l.invariant.3 v f k i p h) (omega (arith, c.loop-next-test.false))
+    add_ends v k i c.args.self.now.kept.items l.self.kept.items l.rows c.args.marks.now l.next f (l.invariant.3 v f k i p h) (omega (arith, c.loop-next-test.false))
 
 pub keep_trees-returns-clause-same : goal.keep_trees-returns-clause-same
 keep_trees-returns-clause-same t c = c.loop-next.invariant.1
