@@ -10,4 +10,5 @@ pub mod NodeTelling
 pub mod Before
 pub mod Counted
 pub mod Stepping
+pub mod Leaf
 pub mod Ends

@@ -4,6 +4,7 @@
 mod dynamic_scope;
 mod fault;
 mod keeping;
+mod leaf;
 mod path;
 mod pointer_text;
 mod recursion;

@@ -45,7 +45,7 @@ map_cut : {A B : Type 0} (f : A → B) (b : Bool) (n : ℕ) (xs ys : List A) →
 map_cut f true n xs ys e = ap (map f) e
 map_cut f false n xs ys e = ap (map f) e ∙ sym (take-map f n xs)
 
-kept_whole : {A : Type 0} (b : Bool) (xs : List A) → xs ≡ cond b xs (take (length xs) xs)
+pub kept_whole : {A : Type 0} (b : Bool) (xs : List A) → xs ≡ cond b xs (take (length xs) xs)
 kept_whole true xs = refl
 kept_whole false xs = sym (take-length xs)
 

@@ -36,6 +36,10 @@ module _ {Place : Type 0} (S : SchemaSet Place) (place : Place) where
   AreJudgedIf true v matching o = AreJudged v matching o.pass o.count
   AreJudgedIf false v matching o = (o.pass ≡ true) × (o.count ≡ 0)
 
+  -- no keyword of the place may apply schemas, so that a quiet walk visits none
+  unfoldable pub AppliesNone : Type 0
+  AppliesNone = filter (is_visited true) (keywords_at S place) ≡ []
+
   -- it is one of the keywords that have a node
   abbrev pub IsListed : Keyword → Type 0
   IsListed k = (before : List Keyword) × (after : List Keyword) × (before ++ k ∷ after ≡ keywords (S.schema place))

@@ -48,6 +48,21 @@ impl<'a> Keywords<'a> {
         }
     }
 
+    /// Whether a keyword of a schema may apply schemas. `names`: which keyword of the standard each of its members is.
+    pub fn may_apply(names: &[KeywordName], schema: &Doc) -> bool
+        requires { names.now ≡ keyword_names_of (entries (value_of schema.now)) }
+        ensures none { result ≡ false → filter (is_visited true) (table.keywords (value_of schema.now)) ≡ [] }
+        ensures ascending { IsAscending (entries (value_of schema.now)) }
+    {
+        match object_in(schema) {
+            Some(members) => {
+                names_ascend(members);
+                has_applicator(names)
+            }
+            None => false,
+        }
+    }
+
     fn among(names: &'a [KeywordName], members: &'a Members, quiet: bool) -> Keywords<'a>
         requires { names.now ≡ keyword_names_of members.now }
         ensures all { keywords_in result ≡ in_order (filter (is_visited quiet) members.now) }

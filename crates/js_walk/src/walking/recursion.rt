@@ -1,4 +1,4 @@
-//! The recursion of a walk. Three functions evaluate a schema, a keyword, and the applications of a keyword.
+//! The recursion of a walk. Its functions evaluate a schema, a keyword, and the applications of a keyword.
 //!
 //! No bound names a lifetime, so that they may be recursive. A nested schema application takes one call of each.
 ghost use Rattle.std.specs.Prelude.{◌≡◌, ◌≤◌, ◌<◌, true, map, length, nat_eq, MatchResult, OnOk};
@@ -11,6 +11,7 @@ ghost use Rattle.js_walk.specs.Fault.{OnTooLarge};
 
 use crate::keywords::kind::Kind;
 use crate::walking::fault::WalkFault;
+use crate::walking::leaf::leaf_schema;
 use crate::walking::pointer_text::PointerText;
 use crate::walking::reporter::Reporter;
 use crate::walking::steps::{
@@ -98,6 +99,40 @@ pub(crate) fn node<W: World, H: PointerText + Drop, R: Reporter<W, H>>(
     let valid = known.valid & others.pass;
     close_schema(alloc, world, way, into, place, schema, start, valid)?;
     Ok(valid)
+}
+
+/// The same, without a visit where nothing would be reported and no keyword of the schema may apply schemas.
+///
+/// # Errors
+/// As for `node`.
+#[cycle(walk)]
+#[inline(always)]
+fn applied_node<W: World, H: PointerText + Drop, R: Reporter<W, H>>(
+    alloc: Global,
+    world: &W,
+    way: &mut Way<W::Name, H>,
+    into: &mut R,
+    depth: usize,
+    place: Place,
+    schema: W::Schema,
+    value: W::Value,
+) -> Result<bool, WalkFault>
+    requires path { list_all (W.is_place world.now) way.old.path ≡ true }
+    requires scope { way.old.scope ≡ dedup nat_eq (map (W.resource world.now) way.old.path) }
+    requires place { W.is_place world.now place ≡ true }
+    requires schema { W.stands_at world.now place schema }
+    ensures { MatchResult result
+        (λ valid. NodeDone (W.schemas world.now) W.text_of R.takes depth (map (W.site world.now) way.old.path)
+        (W.site world.now place) (W.value_of value) valid way.old way.new into.old into.new)
+        (λ e. OnTooLarge e (HasNone (W.schemas world.now) depth (map (W.site world.now) way.old.path)
+        (W.site world.now place) (W.value_of value) way.old.left)) }
+{
+    if into.is_quiet() {
+        if !world.may_apply(place, schema) {
+            return leaf_schema::<W, H, R>(alloc, world, way, depth, place, schema, value);
+        }
+    }
+    node(alloc, world, way, into, depth, place, schema, value)
 }
 
 /// Evaluates a keyword, and reports its node and the nodes below it. `start`: how much was evaluated when the schema's
@@ -219,7 +254,7 @@ pub(crate) fn applications<W: World, H: PointerText + Drop, R: Reporter<W, H>>(
     'each: while let Some(application) = world.next(alloc, asking)? {
         let here = way.current_marks();
         go_down(world, way, application)?;
-        let holds = node(
+        let holds = applied_node(
             alloc,
             world,
             way,

@@ -11,7 +11,7 @@ ghost use Rattle.js_walk.specs.Evaluated.{name_in_step, index_in_step};
 ghost use Rattle.js_walk.specs.Keywords as table;
 ghost use Rattle.js_walk.specs.Passes.{how_many};
 ghost use Rattle.js_walk.specs.SchemaSet.{Text as Bytes, SchemaSet};
-ghost use Rattle.js_walk.specs.Walk.Visited.{AreJudged, is_visited};
+ghost use Rattle.js_walk.specs.Walk.Visited.{AppliesNone, AreJudged, is_visited};
 ghost use Rattle.js_walk.specs.Walk.Told.{IsKeywordAt, asked_by, accepts_at, keywords_at, kind_at, passes_at, at_name};
 ghost use Rattle.js_walk.specs.Walk.Told.{at_step};
 
@@ -83,6 +83,13 @@ pub trait World {
         requires place { is_place self.now place ≡ true }
         requires schema { stands_at self.now place schema }
         ensures { result ≡ accepts_at (schemas self.now) (site self.now place) };
+
+    /// Whether a keyword of the schema may apply schemas. If none may, a quiet walk visits none.
+    fn may_apply(&self, place: Place, schema: Self::Schema) -> bool
+        requires place { is_place self.now place ≡ true }
+        requires schema { stands_at self.now place schema }
+        ensures none { result ≡ false → AppliesNone (schemas self.now) (site self.now place) }
+        ensures ascending { IsAscending (entries ((schemas self.now).schema (site self.now place))) };
 
     /// The number of the schema resource that a place is in.
     fn resource(&self, place: Place) -> usize

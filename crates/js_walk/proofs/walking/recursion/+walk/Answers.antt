@@ -34,11 +34,11 @@ applications-each-init g t c =
 
 pub applications-come_back-requires-clause-keyword : goal.applications-come_back-requires-clause-keyword
 applications-come_back-requires-clause-keyword g t c =
-    split_at_step c.each.way.keyword c.node.new.way.keyword (g.W.World.application_of c.args.world.now c.in-Some.application).step (g.H.PointerText.length_at c.current_marks-here.result.keyword) c.current_marks-here.ensures.keyword (c.in_ok-holds.ensures.back.keyword ∙ c.in_ok-go_down.ensures.keyword)
+    split_at_step c.each.way.keyword c.applied_node.new.way.keyword (g.W.World.application_of c.args.world.now c.in-Some.application).step (g.H.PointerText.length_at c.current_marks-here.result.keyword) c.current_marks-here.ensures.keyword (c.in_ok-holds.ensures.back.keyword ∙ c.in_ok-go_down.ensures.keyword)
 
 pub applications-come_back-requires-clause-instance : goal.applications-come_back-requires-clause-instance
 applications-come_back-requires-clause-instance g t c =
-    split_at_step c.each.way.instance c.node.new.way.instance (g.W.World.application_of c.args.world.now c.in-Some.application).at (g.H.PointerText.length_at c.current_marks-here.result.instance) c.current_marks-here.ensures.instance (c.in_ok-holds.ensures.back.instance ∙ c.in_ok-go_down.ensures.instance)
+    split_at_step c.each.way.instance c.applied_node.new.way.instance (g.W.World.application_of c.args.world.now c.in-Some.application).at (g.H.PointerText.length_at c.current_marks-here.result.instance) c.current_marks-here.ensures.instance (c.in_ok-holds.ensures.back.instance ∙ c.in_ok-go_down.ensures.instance)
 
 pub applications-with_application-tally-requires-clause-few : goal.applications-with_application-tally-requires-clause-few
 applications-with_application-tally-requires-clause-few g t c =
@@ -54,13 +54,13 @@ applications-each-preserved g t c =
     let same : c.go_down.new.way.path ≡ c.args.way.now.path = down.path ∙ c.each.invariant.back.path in
     record {
       so = rw (c.with_application-tally.ensures.asked, c.with_application-tally.ensures.held) (each_step S g.W.World.text_of g.R.Reporter.takes c.args.depth path c.args.kind (g.W.World.asked c.args.world.now c.args.asking.now) rest a (map g.W.World.text_of c.args.way.now.names.items) c.args.way.now.indexes.items c.args.way.now.left c.args.way.now.keyword c.args.way.now.instance
-          g.H.PointerText.length_at c.each.tally c.each.way c.go_down.new.way c.node.new.way c.come_back.new.way c.current_marks-here.result (g.W.World.site c.args.world.now c.place.result) (map (g.W.World.site c.args.world.now) c.go_down.new.way.path) (g.W.World.value_of c.value.result) c.in_ok-holds.holds c.args.into.now c.each.into c.node.new.into
+          g.H.PointerText.length_at c.each.tally c.each.way c.go_down.new.way c.applied_node.new.way c.come_back.new.way c.current_marks-here.result (g.W.World.site c.args.world.now c.place.result) (map (g.W.World.site c.args.world.now) c.go_down.new.way.path) (g.W.World.value_of c.value.result) c.in_ok-holds.holds c.args.into.now c.each.into c.applied_node.new.into
           so c.each.invariant.back.keyword c.each.invariant.back.instance c.current_marks-here.ensures down (ap (map (g.W.World.site c.args.world.now)) same) c.place.ensures.site c.value.ensures done back);
       back = record {
         path = back.path ∙ (done.back.path ∙ same);
         scope = back.scope ∙ (done.back.scope ∙ (down.scope ∙ c.each.invariant.back.scope));
-        keyword = back.keyword ∙ (step_back c.each.way.keyword c.node.new.way.keyword a.step (g.H.PointerText.length_at c.current_marks-here.result.keyword) c.current_marks-here.ensures.keyword (done.back.keyword ∙ down.keyword) ∙ c.each.invariant.back.keyword);
-        instance = back.instance ∙ (step_back c.each.way.instance c.node.new.way.instance a.at (g.H.PointerText.length_at c.current_marks-here.result.instance) c.current_marks-here.ensures.instance (done.back.instance ∙ down.instance) ∙ c.each.invariant.back.instance);
+        keyword = back.keyword ∙ (step_back c.each.way.keyword c.applied_node.new.way.keyword a.step (g.H.PointerText.length_at c.current_marks-here.result.keyword) c.current_marks-here.ensures.keyword (done.back.keyword ∙ down.keyword) ∙ c.each.invariant.back.keyword);
+        instance = back.instance ∙ (step_back c.each.way.instance c.applied_node.new.way.instance a.at (g.H.PointerText.length_at c.current_marks-here.result.instance) c.current_marks-here.ensures.instance (done.back.instance ∙ down.instance) ∙ c.each.invariant.back.instance);
       };
       asking = c.in_ok-application.ensures.asking;
       few = let e = c.with_application-tally.ensures.asked in let f = done.falls in let l = down.left in let m = back.left in let i = c.each.invariant.few in omega (arith, e, f, l, m, i);

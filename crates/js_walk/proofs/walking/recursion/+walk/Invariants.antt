@@ -7,16 +7,19 @@ use Rattle.js_walk.proofs.Recursion.NodeTelling.{KeywordsLoop}
 use Rattle.js_walk.proofs.walking.recursion.+walk.Given as goal
 
 abbrev pub decreases-applications : goal.decreases-applications
-decreases-applications g l = 4 * l.depth + 1
+decreases-applications g l = 5 * l.depth + 2
 
 abbrev pub decreases-keyword_node : goal.decreases-keyword_node
-decreases-keyword_node g l = 4 * l.depth + 3
+decreases-keyword_node g l = 5 * l.depth + 4
 
 abbrev pub decreases-applicator_node : goal.decreases-applicator_node
-decreases-applicator_node g l = 4 * l.depth + 2
+decreases-applicator_node g l = 5 * l.depth + 3
 
 abbrev pub decreases-node : goal.decreases-node
-decreases-node g l = 4 * l.depth
+decreases-node g l = 5 * l.depth
+
+abbrev pub decreases-applied_node : goal.decreases-applied_node
+decreases-applied_node g l = 5 * l.depth + 1
 
 abbrev pub invariant-applications-each : goal.invariant-applications-each
 invariant-applications-each g l =
