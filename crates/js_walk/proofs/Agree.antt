@@ -141,23 +141,24 @@ module _ {Place : Type 0} (S : SchemaSet Place) (w x : Known Place) (agree : Agr
   others_settled : KeywordsSettled → list_all (λ k. verdict.keyword_settled S w above place v k && is_other k) (verdict.other_keywords S w above place v) ≡ true
   others_settled h = all_filtered (verdict.keyword_settled S w above place v) is_other (keywords (S.schema place)) h
 
-  evaluated_names_same : KeywordsSettled → verdict.evaluated_names S w above place v ≡ verdict.evaluated_names S x above place v
-  evaluated_names_same h =
-      flat_map_same (λ k. verdict.keyword_settled S w above place v k && is_other k) (λ k. verdict.names_by S w above place v (verdict.matching S w above place v) k (verdict.others_ask S w above place v k))
-      (λ k. verdict.names_by S x above place v (verdict.matching S x above place v) k (verdict.others_ask S x above place v k))
+  -- what they have evaluated, if each of them has evaluated alike
+  evaluated_same : {A : Type 0} (f g : ℕ → Keyword → List (Application Place) → List A)
+      → ((m n : ℕ) (k : Keyword) (apps apps' : List (Application Place)) → m ≡ n → apps ≡ apps' → list_all done apps ≡ true → f m k apps ≡ g n k apps') → KeywordsSettled
+      → flat_map (λ k. f (verdict.matching S w above place v) k (verdict.others_ask S w above place v k)) (verdict.other_keywords S w above place v)
+      ≡ flat_map (λ k. g (verdict.matching S x above place v) k (verdict.others_ask S x above place v k)) (verdict.other_keywords S x above place v)
+  evaluated_same f g alike h =
+      flat_map_same (λ k. verdict.keyword_settled S w above place v k && is_other k) (λ k. f (verdict.matching S w above place v) k (verdict.others_ask S w above place v k))
+      (λ k. g (verdict.matching S x above place v) k (verdict.others_ask S x above place v k))
       (λ k s. let p = and_parts _ _ s in
-      names_alike (verdict.matching S w above place v) (verdict.matching S x above place v) k (verdict.others_ask S w above place v k) (verdict.others_ask S x above place v k)
+      alike (verdict.matching S w above place v) (verdict.matching S x above place v) k (verdict.others_ask S w above place v k) (verdict.others_ask S x above place v k)
       (matching_same h) (others_ask_same h k) (other_settled k p.0 (not_true (is_unevaluated (kind k.0)) p.1)))
       (verdict.other_keywords S w above place v) (others_settled h)
 
+  evaluated_names_same : KeywordsSettled → verdict.evaluated_names S w above place v ≡ verdict.evaluated_names S x above place v
+  evaluated_names_same h = evaluated_same (verdict.names_by S w above place v) (verdict.names_by S x above place v) names_alike h
+
   evaluated_indexes_same : KeywordsSettled → verdict.evaluated_indexes S w above place v ≡ verdict.evaluated_indexes S x above place v
-  evaluated_indexes_same h =
-      flat_map_same (λ k. verdict.keyword_settled S w above place v k && is_other k) (λ k. verdict.indexes_by S w above place v (verdict.matching S w above place v) k (verdict.others_ask S w above place v k))
-      (λ k. verdict.indexes_by S x above place v (verdict.matching S x above place v) k (verdict.others_ask S x above place v k))
-      (λ k s. let p = and_parts _ _ s in
-      indexes_alike (verdict.matching S w above place v) (verdict.matching S x above place v) k (verdict.others_ask S w above place v k) (verdict.others_ask S x above place v k)
-      (matching_same h) (others_ask_same h k) (other_settled k p.0 (not_true (is_unevaluated (kind k.0)) p.1)))
-      (verdict.other_keywords S w above place v) (others_settled h)
+  evaluated_indexes_same h = evaluated_same (verdict.indexes_by S w above place v) (verdict.indexes_by S x above place v) indexes_alike h
 
   -- ---- every keyword
 

@@ -120,64 +120,39 @@ module _ {Place : Type 0} (S : SchemaSet Place) where
           let l = low_below_schema below m path a.place (at_application at a) a.value (keywords (S.schema a.place)) i r.1 (omega arith) in
           and_true (met n m path a.place a.value i l) (low_below_keyword after (suc m) path at apps p.1 r.2 (omega arith))
 
-    -- ---- it is settled within no less
+    -- ---- it is settled within no less, and how many nodes it has
 
     mutual
-      high_below_schema : (f : Forest OutputUnit) (m : ℕ) (above : List Place) (place : Place) (at : Location) (v : Value) → Every n above place v → Every m above place v → (ks : List Keyword) → KeywordsSettled S n above place v ks → KeywordsSettled S m above place v ks → AreKeywordNodes S n above place at v ks f → depth_below_schema f ≤ m
-      high_below_schema empty m above place at v x y ks h g r = omega arith
-      high_below_schema (tree t below after) m above place at v x y [] h g r = absurd r
-      high_below_schema (tree t below after) m above place at v x y (k ∷ ks) h g r =
-          let p = and_parts _ _ h in
-          let q = and_parts _ _ g in
-          let s : AllSettled S m (above ++ place ∷ []) (asks S (within S n) above place v k) = subst (λ apps. AllSettled S m (above ++ place ∷ []) apps) (sym (asks_both n m above place v x y k)) q.0 in
-          let b = high_below_keyword below m (above ++ place ∷ []) (at_keyword_named at k.0) (asks S (within S n) above place v k) p.0 s r.1 in
-          let a = high_below_schema after m above place at v x y ks p.1 q.1 r.2 in
-          omega (arith, b, a)
-
-      high_below_keyword : (f : Forest OutputUnit) (m : ℕ) (path : List Place) (at : Location) (apps : List (Application Place)) → AllSettled S n path apps → AllSettled S m path apps → AreSchemaNodes S n path at apps f → depth_of_schemas f ≤ m
-      high_below_keyword empty m path at apps h g r = omega arith
-      high_below_keyword (tree t below after) m path at [] h g r = absurd r
-      high_below_keyword (tree t below after) zero path at (a ∷ apps) h g r = absurd (not_within_zero path a.place a.value ((and_parts _ _ g).0))
-      high_below_keyword (tree t below after) (suc m) path at (a ∷ apps) h g r =
-          let p = and_parts _ _ h in
-          let q = and_parts _ _ g in
-          let i = inner S n path a.place a.value p.0 in
-          let j = opened m path a.place a.value q.0 in
-          let b = high_below_schema below m path a.place (at_application at a) a.value i j (keywords (S.schema a.place)) i j r.1 in
-          let c = high_below_keyword after (suc m) path at apps p.1 q.1 r.2 in
-          omega (arith, b, c)
-
-    -- ---- how many nodes
-
-    mutual
-      count_below_schema : (f : Forest OutputUnit) (m : ℕ) (above : List Place) (place : Place) (at : Location) (v : Value) → Every n above place v → Every m above place v → (ks : List Keyword) → KeywordsSettled S n above place v ks → KeywordsSettled S m above place v ks → AreKeywordNodes S n above place at v ks f → node_count f ≡ sum_by (nodes_of_keyword S (within S m) (node_total S m) above place v) ks
-      count_below_schema empty m above place at v x y [] h g r = refl
-      count_below_schema empty m above place at v x y (k ∷ ks) h g r = absurd r
-      count_below_schema (tree t below after) m above place at v x y [] h g r = absurd r
-      count_below_schema (tree t below after) m above place at v x y (k ∷ ks) h g r =
+      met_below_schema : (f : Forest OutputUnit) (m : ℕ) (above : List Place) (place : Place) (at : Location) (v : Value) → Every n above place v → Every m above place v → (ks : List Keyword) → KeywordsSettled S n above place v ks → KeywordsSettled S m above place v ks → AreKeywordNodes S n above place at v ks f
+          → (depth_below_schema f ≤ m) × (node_count f ≡ sum_by (nodes_of_keyword S (within S m) (node_total S m) above place v) ks)
+      met_below_schema empty m above place at v x y [] h g r = (omega arith, refl)
+      met_below_schema empty m above place at v x y (k ∷ ks) h g r = absurd r
+      met_below_schema (tree t below after) m above place at v x y [] h g r = absurd r
+      met_below_schema (tree t below after) m above place at v x y (k ∷ ks) h g r =
           let p = and_parts _ _ h in
           let q = and_parts _ _ g in
           let e = asks_both n m above place v x y k in
           let s : AllSettled S m (above ++ place ∷ []) (asks S (within S n) above place v k) = subst (λ apps. AllSettled S m (above ++ place ∷ []) apps) (sym e) q.0 in
-          let b = count_below_keyword below m (above ++ place ∷ []) (at_keyword_named at k.0) (asks S (within S n) above place v k) p.0 s r.1
-          ∙ ap (sum_by (nodes_of_application (node_total S m) (above ++ place ∷ []))) e in
-          let a = count_below_schema after m above place at v x y ks p.1 q.1 r.2 in
-          omega (arith, b, a, sum_by-cons (nodes_of_keyword S (within S m) (node_total S m) above place v) k ks)
+          let b = met_below_keyword below m (above ++ place ∷ []) (at_keyword_named at k.0) (asks S (within S n) above place v k) p.0 s r.1 in
+          let a = met_below_schema after m above place at v x y ks p.1 q.1 r.2 in
+          let c = b.1 ∙ ap (sum_by (nodes_of_application (node_total S m) (above ++ place ∷ []))) e in
+          (omega (arith, b.0, a.0), omega (arith, c, a.1, sum_by-cons (nodes_of_keyword S (within S m) (node_total S m) above place v) k ks))
 
-      count_below_keyword : (f : Forest OutputUnit) (m : ℕ) (path : List Place) (at : Location) (apps : List (Application Place)) → AllSettled S n path apps → AllSettled S m path apps → AreSchemaNodes S n path at apps f → node_count f ≡ sum_by (nodes_of_application (node_total S m) path) apps
-      count_below_keyword empty m path at [] h g r = refl
-      count_below_keyword empty m path at (a ∷ apps) h g r = absurd r
-      count_below_keyword (tree t below after) m path at [] h g r = absurd r
-      count_below_keyword (tree t below after) zero path at (a ∷ apps) h g r = absurd (not_within_zero path a.place a.value ((and_parts _ _ g).0))
-      count_below_keyword (tree t below after) (suc m) path at (a ∷ apps) h g r =
+      met_below_keyword : (f : Forest OutputUnit) (m : ℕ) (path : List Place) (at : Location) (apps : List (Application Place)) → AllSettled S n path apps → AllSettled S m path apps → AreSchemaNodes S n path at apps f
+          → (depth_of_schemas f ≤ m) × (node_count f ≡ sum_by (nodes_of_application (node_total S m) path) apps)
+      met_below_keyword empty m path at [] h g r = (omega arith, refl)
+      met_below_keyword empty m path at (a ∷ apps) h g r = absurd r
+      met_below_keyword (tree t below after) m path at [] h g r = absurd r
+      met_below_keyword (tree t below after) zero path at (a ∷ apps) h g r = absurd (not_within_zero path a.place a.value ((and_parts _ _ g).0))
+      met_below_keyword (tree t below after) (suc m) path at (a ∷ apps) h g r =
           let p = and_parts _ _ h in
           let q = and_parts _ _ g in
           let i = inner S n path a.place a.value p.0 in
           let j = opened m path a.place a.value q.0 in
-          let b = count_below_schema below m path a.place (at_application at a) a.value i j (keywords (S.schema a.place)) i j r.1 in
-          let c = count_below_keyword after (suc m) path at apps p.1 q.1 r.2 in
+          let b = met_below_schema below m path a.place (at_application at a) a.value i j (keywords (S.schema a.place)) i j r.1 in
+          let c = met_below_keyword after (suc m) path at apps p.1 q.1 r.2 in
           let d = total_opened m path a.place a.value in
-          omega (arith, b, c, d, sum_by-cons (nodes_of_application (node_total S (suc m)) path) a apps)
+          (omega (arith, b.0, c.0), omega (arith, b.1, c.1, d, sum_by-cons (nodes_of_application (node_total S (suc m)) path) a apps))
 
   -- ---- of a whole result
 
@@ -187,18 +162,17 @@ module _ {Place : Type 0} (S : SchemaSet Place) where
       let i = inner S n above place v h in
       met n m above place v i (low_below_schema n t.below m above place at v (keywords (S.schema place)) i r.1 (omega arith))
 
-  pub depth_from_settled : (n m : ℕ) (above : List Place) (place : Place) (at : Location) (v : Value) (t : ResultTree) → Settled S n above place v → IsNode S n above place at v t → Settled S m above place v → depth t ≤ m
-  depth_from_settled n zero above place at v t h r g = absurd (not_within_zero above place v g)
-  depth_from_settled n (suc m) above place at v t h r g =
+  from_settled : (n m : ℕ) (above : List Place) (place : Place) (at : Location) (v : Value) (t : ResultTree) → Settled S n above place v → IsNode S n above place at v t → Settled S m above place v
+      → (depth t ≤ m) × (size t ≡ node_total S m above place v)
+  from_settled n zero above place at v t h r g = absurd (not_within_zero above place v g)
+  from_settled n (suc m) above place at v t h r g =
       let i = inner S n above place v h in
       let j = opened m above place v g in
-      let b = high_below_schema n t.below m above place at v i j (keywords (S.schema place)) i j r.1 in
-      omega (arith, b, total_opened m above place v)
+      let b = met_below_schema n t.below m above place at v i j (keywords (S.schema place)) i j r.1 in
+      (omega (arith, b.0), omega (arith, b.1, total_opened m above place v))
+
+  pub depth_from_settled : (n m : ℕ) (above : List Place) (place : Place) (at : Location) (v : Value) (t : ResultTree) → Settled S n above place v → IsNode S n above place at v t → Settled S m above place v → depth t ≤ m
+  depth_from_settled n m above place at v t h r g = (from_settled n m above place at v t h r g).0
 
   pub size_from_settled : (n m : ℕ) (above : List Place) (place : Place) (at : Location) (v : Value) (t : ResultTree) → Settled S n above place v → IsNode S n above place at v t → Settled S m above place v → size t ≡ node_total S m above place v
-  size_from_settled n zero above place at v t h r g = absurd (not_within_zero above place v g)
-  size_from_settled n (suc m) above place at v t h r g =
-      let i = inner S n above place v h in
-      let j = opened m above place v g in
-      let b = count_below_schema n t.below m above place at v i j (keywords (S.schema place)) i j r.1 in
-      omega (arith, b, total_opened m above place v)
+  size_from_settled n m above place at v t h r g = (from_settled n m above place at v t h r g).1

@@ -143,9 +143,9 @@ impl<'a, C: Collector<'a>> Collecting<'a, C> {
             self.new.collector) }
     {
         let head = Head {
-            keyword: keyword.copy()?,
+            keyword: keyword.copy_text()?,
             absolute,
-            instance: instance.copy()?,
+            instance: instance.copy_text()?,
         };
         self.collector.enter(head)
     }

@@ -19,7 +19,7 @@ use Rattle.js_assert.specs.Assertion as assertion
 use Rattle.js_assert.specs.Assertion.{asserted}
 use Rattle.js_assert.specs.ErrorText as text
 use Rattle.js_walk.specs.Applications.{Application, application, asks_of}
-use Rattle.js_walk.specs.Evaluated.{names_of, indexes_of}
+use Rattle.js_walk.specs.Evaluated.{names_of, indexes_of, names_origin, indexes_origin}
 use Rattle.js_walk.specs.Keywords.{Keyword, keywords, keywords_that, comes_before_else, comes_after_else, is_else}
 use Rattle.js_walk.specs.Kind.{kind, is_unevaluated_items, is_unevaluated_properties}
 use Rattle.js_doc.specs.Pointer.{pointer_text}
@@ -34,7 +34,6 @@ use Rattle.js_walk.specs.declared.keywords.kind.Kind.{Kind}
 use Rattle.js_walk.specs.declared.keywords.kind.Kind.TheVariants.{Then, Else, Assertion, Annotation, UnevaluatedItems, UnevaluatedProperties}
 use Rattle.js_walk.proofs.FoundByName.{IsAmong, AreAmong, all_of_filter, keywords_among}
 use Rattle.js_walk.proofs.NoCircle.{names_in_no_circle, indexes_in_no_circle}
-use Rattle.js_walk.specs.Walk.Keeping.{names_origin, indexes_origin}
 use Rattle.js_walk.specs.declared.walking.keeping.Origin.{Origin}
 use Rattle.js_walk.specs.declared.walking.keeping.Origin.TheVariants.{Nowhere}
 use Rattle.js_walk.specs.Walk.Told.{IsKeywordAt, asked_by, passes_by, unit_by, passes_at}

@@ -10,14 +10,14 @@ use Rattle.std.proofs.lemmas.List.Sums.{sum_by-append, sum_by-cons}
 use Rattle.js_doc.specs.Pointer.{pointer_text}
 use Rattle.js_tree.specs.Forest.{empty, tree, ◌⊹◌}
 use Rattle.js_walk.specs.Applications.{Application}
-use Rattle.js_walk.specs.Evaluated.{name_in_step, index_in_step}
+use Rattle.js_walk.specs.Evaluated.{name_in_step, index_in_step, names_origin, indexes_origin}
 use Rattle.js_walk.specs.Location.{Location, at_application, step_tokens}
 use Rattle.js_walk.specs.SchemaSet.{Text, SchemaSet}
 use Rattle.js_walk.specs.Verdict.{within}
 use Rattle.js_walk.specs.declared.keywords.kind.Kind.{Kind}
 use Rattle.js_walk.proofs.Lists.{and_true}
 use Rattle.js_tree.specs.Events.{Event, Passes, events, events_of}
-use Rattle.js_walk.specs.Walk.Keeping.{names_origin, indexes_origin, keeps}
+use Rattle.js_walk.specs.Walk.Keeping.{keeps}
 use Rattle.js_walk.specs.Walk.Told.{IsAt, at_step, EachWalked, EachTold, SomeHasNone, NodeWalked, NodeTold, HasNone, settled_at, holds_at, nodes_at, names_given, indexes_given}
 use Rattle.js_walk.proofs.Recursion.Sources.{names_of_none, indexes_of_none, names_more, indexes_more}
 use Rattle.js_tree.proofs.Telling.{passes-append}

@@ -6,43 +6,28 @@ use Rattle.std.proofs.lemmas.List.Elements.{filter-append}
 use Rattle.std.proofs.lemmas.List.Concat.{flat_map-append}
 use Rattle.js_doc.specs.Value.{Value}
 use Rattle.js_walk.specs.Applications.{Application}
-use Rattle.js_walk.specs.Evaluated.{names_of, indexes_of, names_applied, indexes_applied, name_in_step, index_in_step}
+use Rattle.js_walk.specs.Evaluated.{from_origin, names_origin, indexes_origin, names_of, indexes_of, names_applied, indexes_applied, name_in_step, index_in_step}
 use Rattle.js_walk.specs.SchemaSet.{Text, SchemaSet}
 use Rattle.js_walk.specs.Verdict.{within, schema_settled, schema_passes}
 use Rattle.js_walk.specs.declared.keywords.kind.Kind.{Kind}
-use Rattle.js_walk.specs.declared.keywords.kind.Kind.TheVariants.{PrefixItems, Properties}
-use Rattle.js_walk.specs.Walk.Keeping.{names_origin, indexes_origin, keeps}
+use Rattle.js_walk.specs.Walk.Keeping.{keeps}
 use Rattle.js_walk.specs.declared.walking.keeping.Origin.{Origin}
 use Rattle.js_walk.specs.declared.walking.keeping.Origin.TheVariants.{Applied, Holding, Below, Nowhere}
 use Rattle.js_walk.specs.Walk.Told.{names_given, indexes_given, holds_at, settled_at}
 
-abbrev pub from_source : {A : Type 0} → Origin → List A → List A → List A → List A
-from_source Applied applied holding below = applied
-from_source Holding applied holding below = holding
-from_source Below applied holding below = below
-from_source Nowhere applied holding below = []
-
-pub names_by_source : {P : Type 0} (apps holding : List (Application P)) (below : List Text) (κ : Kind) → names_of apps holding below κ ≡ from_source (names_origin κ) (names_applied apps) (names_applied holding) below
-names_by_source apps holding below Properties = refl
-names_by_source apps holding below _ = refl
-
-pub indexes_by_source : {P : Type 0} (apps holding : List (Application P)) (below : List ℕ) (κ : Kind) → indexes_of apps holding below κ ≡ from_source (indexes_origin κ) (indexes_applied apps) (indexes_applied holding) below
-indexes_by_source apps holding below PrefixItems = refl
-indexes_by_source apps holding below _ = refl
-
 pub silent_names : {P : Type 0} (apps holding : List (Application P)) (below : List Text) (κ : Kind) → names_origin κ ≡ Nowhere → names_of apps holding below κ ≡ []
-silent_names apps holding below κ h = names_by_source apps holding below κ ∙ ap (λ s. from_source s (names_applied apps) (names_applied holding) below) h
+silent_names apps holding below κ h = ap (λ s. from_origin s (names_applied apps) (names_applied holding) below) h
 
 pub silent_indexes : {P : Type 0} (apps holding : List (Application P)) (below : List ℕ) (κ : Kind) → indexes_origin κ ≡ Nowhere → indexes_of apps holding below κ ≡ []
-silent_indexes apps holding below κ h = indexes_by_source apps holding below κ ∙ ap (λ s. from_source s (indexes_applied apps) (indexes_applied holding) below) h
+silent_indexes apps holding below κ h = ap (λ s. from_origin s (indexes_applied apps) (indexes_applied holding) below) h
 
-source_more : {A : Type 0} (s : Origin) (xs ys zs : List A) (b : Bool) (own given : List A) → from_source s (xs ++ own) (ys ++ cond b own []) (zs ++ given) ≡ from_source s xs ys zs ++ keeps s b own given
+source_more : {A : Type 0} (s : Origin) (xs ys zs : List A) (b : Bool) (own given : List A) → from_origin s (xs ++ own) (ys ++ cond b own []) (zs ++ given) ≡ from_origin s xs ys zs ++ keeps s b own given
 source_more Applied xs ys zs b own given = refl
 source_more Holding xs ys zs b own given = refl
 source_more Below xs ys zs b own given = refl
 source_more Nowhere xs ys zs b own given = refl
 
-from_none : {A : Type 0} (s : Origin) → from_source {A = A} s [] [] [] ≡ []
+from_none : {A : Type 0} (s : Origin) → from_origin {A = A} s [] [] [] ≡ []
 from_none Applied = refl
 from_none Holding = refl
 from_none Below = refl
@@ -77,34 +62,29 @@ module _ {P : Type 0} (S : SchemaSet P) where
   module _ (n : ℕ) (path : List P) (κ : Kind) where
     pub names_of_none : names_given S n path κ [] ≡ []
     unfolding names_given
-    names_of_none = names_by_source {P = P} [] [] [] κ ∙ from_none (names_origin κ)
+    names_of_none = from_none (names_origin κ)
 
     pub indexes_of_none : indexes_given S n path κ [] ≡ []
     unfolding indexes_given
-    indexes_of_none = indexes_by_source {P = P} [] [] [] κ ∙ from_none (indexes_origin κ)
+    indexes_of_none = from_none (indexes_origin κ)
+
+    -- what an origin gives of the applications, of which each gives `own` itself and its schema `below`, with one more
+    given_more : {A : Type 0} (s : Origin) (own below : Application P → List A) (apps : List (Application P)) (a : Application P) → cond (holds_at S n path a) (below a) [] ≡ below a
+        → from_origin s (flat_map own (apps ++ a ∷ [])) (flat_map own (filter (holds_at S n path) (apps ++ a ∷ []))) (flat_map below (filter (holds_at S n path) (apps ++ a ∷ [])))
+        ≡ from_origin s (flat_map own apps) (flat_map own (filter (holds_at S n path) apps)) (flat_map below (filter (holds_at S n path) apps)) ++ keeps s (holds_at S n path a) (own a) (below a)
+    given_more s own below apps a e4 =
+        let e1 = flat_more own apps a in
+        let e2 = flat_filter_more own (holds_at S n path) apps a in
+        let e3 = flat_filter_more below (holds_at S n path) apps a in
+        let e5 = source_more s (flat_map own apps) (flat_map own (filter (holds_at S n path) apps)) (flat_map below (filter (holds_at S n path) apps)) (holds_at S n path a) (own a) (below a) in
+        cc
 
     pub names_more : (apps : List (Application P)) (a : Application P) → settled_at S n path a ≡ true
         → names_given S n path κ (apps ++ a ∷ []) ≡ names_given S n path κ apps ++ keeps (names_origin κ) (holds_at S n path a) (name_in_step a.at) ((within S n).names path a.place a.value)
     unfolding names_given
-    names_more apps a h =
-        let e1 = flat_more (λ x. name_in_step x.at) apps a in
-        let e2 = flat_filter_more (λ x. name_in_step x.at) (holds_at S n path) apps a in
-        let e3 = flat_filter_more (λ x. (within S n).names path x.place x.value) (holds_at S n path) apps a in
-        let e4 = names_if_holds n path a.place a.value h in
-        let e5 = names_by_source (apps ++ a ∷ []) (filter (holds_at S n path) (apps ++ a ∷ [])) (flat_map (λ x. (within S n).names path x.place x.value) (filter (holds_at S n path) (apps ++ a ∷ []))) κ in
-        let e6 = names_by_source apps (filter (holds_at S n path) apps) (flat_map (λ x. (within S n).names path x.place x.value) (filter (holds_at S n path) apps)) κ in
-        let e7 = source_more (names_origin κ) (names_applied apps) (names_applied (filter (holds_at S n path) apps)) (flat_map (λ x. (within S n).names path x.place x.value) (filter (holds_at S n path) apps)) (holds_at S n path a) (name_in_step a.at) ((within S n).names path a.place a.value) in
-        cc
+    names_more apps a h = given_more (names_origin κ) (λ x. name_in_step x.at) (λ x. (within S n).names path x.place x.value) apps a (names_if_holds n path a.place a.value h)
 
     pub indexes_more : (apps : List (Application P)) (a : Application P) → settled_at S n path a ≡ true
         → indexes_given S n path κ (apps ++ a ∷ []) ≡ indexes_given S n path κ apps ++ keeps (indexes_origin κ) (holds_at S n path a) (index_in_step a.at) ((within S n).indexes path a.place a.value)
     unfolding indexes_given
-    indexes_more apps a h =
-        let e1 = flat_more (λ x. index_in_step x.at) apps a in
-        let e2 = flat_filter_more (λ x. index_in_step x.at) (holds_at S n path) apps a in
-        let e3 = flat_filter_more (λ x. (within S n).indexes path x.place x.value) (holds_at S n path) apps a in
-        let e4 = indexes_if_holds n path a.place a.value h in
-        let e5 = indexes_by_source (apps ++ a ∷ []) (filter (holds_at S n path) (apps ++ a ∷ [])) (flat_map (λ x. (within S n).indexes path x.place x.value) (filter (holds_at S n path) (apps ++ a ∷ []))) κ in
-        let e6 = indexes_by_source apps (filter (holds_at S n path) apps) (flat_map (λ x. (within S n).indexes path x.place x.value) (filter (holds_at S n path) apps)) κ in
-        let e7 = source_more (indexes_origin κ) (indexes_applied apps) (indexes_applied (filter (holds_at S n path) apps)) (flat_map (λ x. (within S n).indexes path x.place x.value) (filter (holds_at S n path) apps)) (holds_at S n path a) (index_in_step a.at) ((within S n).indexes path a.place a.value) in
-        cc
+    indexes_more apps a h = given_more (indexes_origin κ) (λ x. index_in_step x.at) (λ x. (within S n).indexes path x.place x.value) apps a (indexes_if_holds n path a.place a.value h)

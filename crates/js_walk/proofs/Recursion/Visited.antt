@@ -16,7 +16,8 @@ use Rattle.js_walk.specs.Size.{nodes_of_keyword}
 use Rattle.js_walk.specs.Verdict.{Known, asks, passes, gives_names, gives_indexes, passes_by}
 use Rattle.js_walk.specs.declared.keywords.kind.Kind.{Kind}
 use Rattle.js_walk.specs.declared.keywords.kind.Kind.TheVariants.{Assertion, Annotation}
-use Rattle.js_walk.specs.Walk.Keeping.{condition_step, matching_step, names_origin, indexes_origin}
+use Rattle.js_walk.specs.Evaluated.{names_origin, indexes_origin}
+use Rattle.js_walk.specs.Walk.Keeping.{condition_step, matching_step}
 use Rattle.js_walk.specs.declared.walking.keeping.Origin.TheVariants.{Nowhere}
 use Rattle.js_walk.specs.Walk.Told.{passes_at}
 use Rattle.js_walk.specs.Walk.Visited.{may_apply, is_visited}

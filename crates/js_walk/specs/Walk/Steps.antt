@@ -2,14 +2,14 @@
 use Rattle.std.specs.Prelude.{◌≡◌, ℕ, ◌+◌, ◌<◌, ◌≤◌, Bool, cond, List, [], ◌∷◌, ◌++◌, Some, None, map, take, drop, length}
 use Rattle.js_doc.specs.Value.{Value}
 use Rattle.js_walk.specs.Applications.{Application}
-use Rattle.js_walk.specs.Evaluated.{name_in_step, index_in_step}
+use Rattle.js_walk.specs.Evaluated.{name_in_step, index_in_step, names_origin, indexes_origin}
 use Rattle.js_walk.specs.Keywords.{Keyword}
 use Rattle.js_walk.specs.Location.{Location}
 use Rattle.js_walk.specs.Passes.{how_many}
 use Rattle.js_walk.specs.SchemaSet.{Text, SchemaSet}
 use Rattle.js_walk.specs.declared.keywords.kind.Kind.{Kind}
 use Rattle.js_tree.specs.Events.{Event, opening, closing}
-use Rattle.js_walk.specs.Walk.Keeping.{keeps, names_origin, indexes_origin}
+use Rattle.js_walk.specs.Walk.Keeping.{keeps}
 use Rattle.js_walk.specs.Walk.Told.{IsAt, IsWayRestored, NodeWalked, NodeTold, KeywordWalked, KeywordTold, EachWalked, EachTold, passes_at, says_at, schema_says, at_name, at_step}
 use Rattle.js_walk.specs.Walk.Scope.{HasGrown}
 use Rattle.js_walk.specs.declared.walking.way.Mark.{Mark}

@@ -1,6 +1,7 @@
 //! What a keyword has evaluated, given what its applications have.
 ghost use Rattle.std.specs.Prelude.{◌≡◌, ◌++◌, OnOk, take, drop, cond, option_to_list};
-ghost use Rattle.js_walk.specs.Walk.Keeping.{keeps, names_origin, indexes_origin};
+ghost use Rattle.js_walk.specs.Evaluated.{origins};
+ghost use Rattle.js_walk.specs.Walk.Keeping.{keeps};
 
 use crate::keywords::kind::Kind;
 use js_doc::Memory;
@@ -66,46 +67,28 @@ pub(crate) fn cut_unless<M: Copy>(list: &mut Vec<M>, from: usize, stays: bool)
     }
 }
 
-/// Which members a keyword of this kind has evaluated.
-pub(crate) fn names_origin(kind: Kind) -> Origin
-    ensures { result ≡ names_origin kind }
+/// Which members, and which items, a keyword of this kind has evaluated.
+pub(crate) fn origins_of(kind: Kind) -> (Origin, Origin)
+    ensures { result ≡ origins kind }
 {
     match kind {
-        Kind::Properties => Origin::Applied,
-        Kind::PatternProperties => Origin::Applied,
-        Kind::AdditionalProperties => Origin::Applied,
-        Kind::UnevaluatedProperties => Origin::Applied,
-        Kind::Reference => Origin::Below,
-        Kind::DynamicReference => Origin::Below,
-        Kind::AllOf => Origin::Below,
-        Kind::AnyOf => Origin::Below,
-        Kind::OneOf => Origin::Below,
-        Kind::If => Origin::Below,
-        Kind::Then => Origin::Below,
-        Kind::Else => Origin::Below,
-        Kind::DependentSchemas => Origin::Below,
-        _ => Origin::Nowhere,
-    }
-}
-
-/// Which items a keyword of this kind has evaluated.
-pub(crate) fn indexes_origin(kind: Kind) -> Origin
-    ensures { result ≡ indexes_origin kind }
-{
-    match kind {
-        Kind::PrefixItems => Origin::Applied,
-        Kind::Items => Origin::Applied,
-        Kind::UnevaluatedItems => Origin::Applied,
-        Kind::Contains => Origin::Holding,
-        Kind::Reference => Origin::Below,
-        Kind::DynamicReference => Origin::Below,
-        Kind::AllOf => Origin::Below,
-        Kind::AnyOf => Origin::Below,
-        Kind::OneOf => Origin::Below,
-        Kind::If => Origin::Below,
-        Kind::Then => Origin::Below,
-        Kind::Else => Origin::Below,
-        Kind::DependentSchemas => Origin::Below,
-        _ => Origin::Nowhere,
+        Kind::Properties
+        | Kind::PatternProperties
+        | Kind::AdditionalProperties
+        | Kind::UnevaluatedProperties => (Origin::Applied, Origin::Nowhere),
+        Kind::PrefixItems | Kind::Items | Kind::UnevaluatedItems => {
+            (Origin::Nowhere, Origin::Applied)
+        }
+        Kind::Contains => (Origin::Nowhere, Origin::Holding),
+        Kind::Reference
+        | Kind::DynamicReference
+        | Kind::AllOf
+        | Kind::AnyOf
+        | Kind::OneOf
+        | Kind::If
+        | Kind::Then
+        | Kind::Else
+        | Kind::DependentSchemas => (Origin::Below, Origin::Below),
+        _ => (Origin::Nowhere, Origin::Nowhere),
     }
 }

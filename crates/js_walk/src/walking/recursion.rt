@@ -15,8 +15,8 @@ use crate::walking::leaf::leaf_schema;
 use crate::walking::pointer_text::PointerText;
 use crate::walking::reporter::Reporter;
 use crate::walking::steps::{
-    asked, close_keyword, close_schema, come_back, go_down, leaf_node, next_keyword, open_keyword,
-    open_schema, others_of,
+    begin_asking, close_keyword, close_schema, come_back, go_down, leaf_node, next_keyword,
+    open_keyword, open_schema, others_of,
 };
 use crate::walking::tally::{Case, Judged, Judging, Known, Tally, Together};
 use crate::walking::way::{Start, Way};
@@ -206,7 +206,7 @@ fn applicator_node<W: World, H: PointerText + Drop, R: Reporter<W, H>>(
         (W.site world.now case.place) (W.value_of case.value) (W.keyword_of case.keyword) known start result
         way.old way.new into.old into.new }
 {
-    let mut asking = asked(alloc, world, way, case, start, known.condition)?;
+    let mut asking = begin_asking(alloc, world, way, case, start, known.condition)?;
     let here = way.current_marks();
     open_keyword(alloc, world, way, into, case.place, case.keyword)?;
     let tally = applications(

@@ -15,7 +15,7 @@ ghost use Rattle.js_walk.specs.Walk.Visited.{AreJudged, AreJudgedIf, AreTogether
 ghost use Rattle.js_walk.specs.declared.keywords.kind.Kind.TheVariants.{Assertion};
 
 use crate::keywords::kind::Kind;
-use crate::walking::keeping::{cut_unless, indexes_origin, keep, names_origin};
+use crate::walking::keeping::{cut_unless, keep, origins_of};
 use crate::walking::pointer_text::PointerText;
 use crate::walking::reporter::Reporter;
 use crate::walking::tally::{Case, Judged, Judging, Others, Tally, Together};
@@ -104,7 +104,7 @@ pub(crate) fn open_keyword<W: World, H: PointerText + Drop, R: Reporter<W, H>>(
 /// The applications that a keyword asks for, given what has been evaluated since the schema's node opened. It isn't
 /// inlined, to keep its locals out of the recursive function's stack frame.
 #[inline(never)]
-pub(crate) fn asked<W: World, H: PointerText + Drop>(
+pub(crate) fn begin_asking<W: World, H: PointerText + Drop>(
     alloc: Global,
     world: &W,
     way: &Way<W::Name, H>,
@@ -175,49 +175,15 @@ pub(crate) fn close_keyword<W: World, H: PointerText + Drop, R: Reporter<W, H>>(
         passes,
         held: tally.held,
     };
-    close_judged(alloc, world, way, into, case, here, judged, matching)?;
-    Ok(passes)
-}
-
-// Closes the node of a keyword that is judged. If it fails, drops what it has evaluated.
-#[inline(always)]
-fn close_judged<W: World, H: PointerText + Drop, R: Reporter<W, H>>(
-    alloc: Global,
-    world: &W,
-    way: &mut Way<W::Name, H>,
-    into: &mut R,
-    case: Case<W::Schema, W::Value, W::Keyword>,
-    here: Mark<H::Mark>,
-    judged: Judged,
-    matching: u64,
-) -> Result<(), Memory>
-    requires place { W.is_place world.now case.place ≡ true }
-    requires names { here.names ≤ length way.old.names.items }
-    requires indexes { here.indexes ≤ length way.old.indexes.items }
-    requires trail { IsSplitPoint way.old.keyword (H.length_at here.keyword) }
-    requires keyword { IsKeywordAt (W.schemas world.now) (W.site world.now case.place) (W.keyword_of case.keyword) }
-    ensures { OnOk result ((tally : Tally) → tally.held ≡ judged.held
-        → IsJudged (W.schemas world.now) (W.site world.now case.place) (W.value_of case.value)
-        (W.keyword_of case.keyword) matching tally judged.passes
-        → KeywordClosed (W.schemas world.now) W.text_of R.takes H.length_at (W.site world.now case.place)
-        (W.value_of case.value) (W.keyword_of case.keyword) matching tally here judged.passes way.old way.new
-        into.old into.new) }
-{
-    let Case {
-        place,
-        schema: _,
-        value,
-        keyword,
-    } = case;
     let names = &way.names[here.names..];
     let indexes = &way.indexes[here.indexes..];
     into.close_keyword(
         alloc, world, place, value, keyword, judged, matching, names, indexes,
     )?;
-    cut_unless(&mut way.names, here.names, judged.passes);
-    cut_unless(&mut way.indexes, here.indexes, judged.passes);
+    cut_unless(&mut way.names, here.names, passes);
+    cut_unless(&mut way.indexes, here.indexes, passes);
     way.keyword.cut(here.keyword);
-    Ok(())
+    Ok(passes)
 }
 
 /// Evaluates a keyword that applies no schema, and reports its node, unless the reporter would keep nothing of it. It
@@ -430,20 +396,11 @@ pub(crate) fn come_back<W: World, H: PointerText + Drop>(
 {
     way.keyword.cut(here.keyword);
     way.instance.cut(here.instance);
-    keep(
-        &mut way.names,
-        here.names,
-        names_origin(kind),
-        holds,
-        world.member(application),
-    )?;
-    keep(
-        &mut way.indexes,
-        here.indexes,
-        indexes_origin(kind),
-        holds,
-        world.item(application),
-    )
+    let (names, indexes) = origins_of(kind);
+    let member = world.member(application);
+    let item = world.item(application);
+    keep(&mut way.names, here.names, names, holds, member)?;
+    keep(&mut way.indexes, here.indexes, indexes, holds, item)
 }
 
 /// What the keywords show that the walk hasn't visited: all those that apply no schemas, if it is quiet. `matching`:

@@ -97,7 +97,7 @@ impl Trail<HeldText> {
     ///
     /// # Errors
     /// `Memory` if an allocation fails.
-    pub fn copy(&self) -> Result<Text, Memory>
+    pub fn copy_text(&self) -> Result<Text, Memory>
         ensures { IfOk result (λ t. t ≡ self.now) }
     {
         let text = self.held.text.clone()?;
