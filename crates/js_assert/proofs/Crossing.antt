@@ -1,4 +1,4 @@
--- What threads may be sent, and what they may share: from the parts of a type to the type, for both laws at once.
+-- What threads may be sent, and what they may share: one proof serves for both laws.
 use denote.RattleType.{RattleType}
 use denote.Hole.{as_row}
 use denote.Struct.Field.{Field}
@@ -12,6 +12,7 @@ use Rattle.std.specs.contracts.boxed.Box as Box
 use Rattle.std.specs.contracts.impls.GlobalAllocator.TheImpl.{ghosts}
 use Rattle.std.specs.contracts.vec.Vec as Vec
 
+-- a law of types, and how it comes from the parts of a type
 pub record Law : Type 2 where
   pub Holds : RattleType → Type 0
   pub box : (T : RattleType) → Holds T → Holds (Box.the_row T Global.the_row ghosts)
@@ -20,8 +21,8 @@ pub record Law : Type 2 where
   pub fields : (T : structs.Declared) → FieldsHave Holds T.parts → Holds (structs.row T)
   pub variants : (N : enums.Record) → VariantsHave Holds N.parts → Holds (enums.row (enums.declared N))
 
-abbrev pub sent : Law
-sent = record { Holds = IsSend; box = Box-send; vec = Vec-send; field = as_row_send; fields = declared_send; variants = variants_send }
+abbrev pub sending : Law
+sending = record { Holds = IsSend; box = Box-send; vec = Vec-send; field = as_row_send; fields = declared_send; variants = variants_send }
 
-abbrev pub shared : Law
-shared = record { Holds = IsSync; box = Box-sync; vec = Vec-sync; field = as_row_sync; fields = declared_sync; variants = variants_sync }
+abbrev pub sharing : Law
+sharing = record { Holds = IsSync; box = Box-sync; vec = Vec-sync; field = as_row_sync; fields = declared_sync; variants = variants_sync }

@@ -1,5 +1,5 @@
--- A name that is none of the keywords'.
-use Rattle.std.proofs.Common.{codes, ◌≡◌, ℕ, List, [], ◌∷◌, Bool, true, false, cond, Some, None, refl, sym, ap, ◌∙◌}
+-- Keywords and their names.
+use Rattle.std.proofs.Common.{codes, ◌≡◌, ℕ, List, [], ◌∷◌, Bool, true, false, Some, refl, ap, ◌∙◌}
 use Rattle.std.specs.List.{AllByRecursion}
 use Rattle.std.specs.Str.{bytes_eq}
 use Rattle.std.proofs.lemmas.Slice.Eq.{bytes_eq-Decides}
@@ -10,21 +10,6 @@ use Rattle.js_assert.specs.declared.fault.KeywordFault.{KeywordFault}
 use Rattle.js_assert.specs.declared.fault.KeywordFault.TheVariants.{Memory, BadKeyword, NotAPattern, PatternTooLarge}
 use Rattle.js_assert.specs.declared.keyword.Keyword.{Keyword}
 use Rattle.js_assert.specs.declared.keyword.Keyword.TheVariants.{Pattern}
-
-not_true : (b : Bool) → (b ≡ true → ⊥) → b ≡ false
-not_true true h = absurd (h refl)
-not_true false h = refl
-
-none_named : (rows : List NamedKeyword) (name : List ℕ) → AllByRecursion (λ row. name ≡ row.0 → ⊥) rows → None ≡ row_named rows name
-none_named [] name h = refl
-none_named (row ∷ rows) name h =
-    let apart : bytes_eq name row.0 ≡ false = not_true (bytes_eq name row.0) (λ e. h.0 ((bytes_eq-Decides name row.0).0 e)) in
-    none_named rows name h.1 ∙ sym (ap (λ b. cond b (Some row.1) (row_named rows name)) apart)
-
-pub other_name : (name : List ℕ) → AllByRecursion (λ row. name ≡ row.0 → ⊥) assertion_keywords
-    → None ≡ keyword_named name
-unfolding keyword_named
-other_name name h = none_named assertion_keywords name h
 
 -- ---- the name of a keyword is the one that it was named by
 

@@ -1,7 +1,6 @@
 -- Pieces that went out one after the other.
-use Rattle.std.proofs.Common.{◌≡◌, ℕ, ◌+◌, ◌≤◌, List, [], ◌++◌, length, take, drop, true, Result, Ok, Err, refl, sym, ap, ◌∙◌, subst, append_assoc, append-nil, arith}
-use Rattle.std.proofs.lemmas.List.{length-append, take-append-drop}
-use Rattle.std.specs.Io.KnownBytes.{Appends}
+use Rattle.std.proofs.Common.{◌≡◌, ℕ, ◌+◌, ◌≤◌, List, [], ◌++◌, length, true, Result, Ok, Err, refl, sym, ap, ◌∙◌, subst, append_assoc, append-nil, arith}
+use Rattle.std.proofs.lemmas.List.{length-append}
 use Rattle.std.proofs.KnownBytes.{Appends-nil, Appends-trans}
 use Rattle.std.specs.Result.{IsErr}
 use Rattle.js_doc.specs.BytesOut.{Progress, CallsOnce, Goes, Stops, Puts}
@@ -57,11 +56,6 @@ stops a b c piece left all w h = (
 pub stops_at_once : {T E : Type 0} (a : Progress) (all : List ℕ) (r : Result T E) → IsErr r → a.stopped ≡ true → Puts a a all r
 stops_at_once a all (Ok x) h s = absurd (cc)
 stops_at_once a all (Err e) h s = ([], all, refl, Appends-nil a.gone, (omega arith, omega arith), s)
-
--- so many of them have gone out
-pub stops_after : {T E : Type 0} (a b : Progress) (n : ℕ) (all : List ℕ) (r : Result T E) → IsErr r → Appends a.gone b.gone (take n all) → CallsOnce a b all → b.stopped ≡ true → Puts a b all r
-stops_after a b n all (Ok x) h went calls s = absurd (cc)
-stops_after a b n all (Err e) h went calls s = (take n all, drop n all, take-append-drop n all, went, calls, s)
 
 -- what is left may be written otherwise
 pub same_left : (a b : Progress) (left more all : List ℕ) → Wrote a b left all → left ≡ more → Wrote a b more all

@@ -136,11 +136,6 @@ members_stop (first ∷ done) e more ms p is h =
 
 -- ---- a fault, one level up
 
-abbrev place_or : List (List ℕ) → ReadFault → List (List ℕ)
-place_or d Memory = d
-place_or d NotJson = d
-place_or d (NotWhole p) = p
-
 pub lifted_stops : {A : Type 0} (found : Found A) (d : Found doc.Value) (token : List ℕ) (old new : ReadFault) → IsConversionFault d old → Lifts token old new
     → ((p : List (List ℕ)) → d ≡ Err p → found ≡ Err (token ∷ p)) → IsConversionFault found new
 lifted_stops found d token old Memory s l up = tt

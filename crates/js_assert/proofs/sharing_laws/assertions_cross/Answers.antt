@@ -13,11 +13,11 @@ use Rattle.js_assert.specs.contracts.objects.Dependence as Dependence
 use Rattle.js_assert.specs.contracts.pattern.Pattern as Pattern
 use Rattle.js_assert.specs.contracts.assertion.Assertion.TheInside as Inside
 use Rattle.js_assert.specs.contracts.assertion.Test as Test
-use Rattle.js_assert.proofs.Crossing.{Law, sent, shared}
+use Rattle.js_assert.proofs.Crossing.{Law, sending, sharing}
 use Rattle.js_assert.proofs.sharing_laws.assertions_cross.Goals as goal
 
 -- what an assertion is made of
-record Parts (L : Law) : Type 0 where
+record AssertionParts (L : Law) : Type 0 where
   types : L.Holds Types.the_row
   choices : L.Holds Choices.the_row
   doc : L.Holds Doc.the_row
@@ -29,7 +29,7 @@ record Parts (L : Law) : Type 0 where
   count : L.Holds (as_row u64-field)
   truth : L.Holds (as_row bool-field)
 
-inside : (L : Law) → Parts L → L.Holds Inside.the_row
+inside : (L : Law) → AssertionParts L → L.Holds Inside.the_row
 inside L parts =
     let limit = L.box Whole.the_row parts.whole in
     L.fields Inside.the_type (
@@ -40,10 +40,10 @@ inside L parts =
 
 pub returns-clause-send : goal.returns-clause-send
 returns-clause-send c =
-    let parts : Parts sent = search (sendable, c.patterns_cross.ensures.send, c.crosses.ensures.send.owned, c.crosses.ensures.send.leaving yes, c.crosses-2.ensures.send.owned, c.crosses-2.ensures.send.leaving yes, c.crosses-3.ensures.send.owned, c.crosses-3.ensures.send.leaving yes, c.crosses-4.ensures.send.owned, c.crosses-4.ensures.send.leaving yes, c.crosses-5.ensures.send.owned, c.crosses-5.ensures.send.leaving yes, c.crosses-6.ensures.send.owned, c.crosses-7.ensures.send.owned, c.crosses-7.ensures.send.leaving yes) in
-    view_send Inside.the_row _ _ _ _ (inside sent parts)
+    let parts : AssertionParts sending = search (sendable, c.patterns_cross.ensures.send, c.crosses.ensures.send.owned, c.crosses.ensures.send.leaving yes, c.crosses-2.ensures.send.owned, c.crosses-2.ensures.send.leaving yes, c.crosses-3.ensures.send.owned, c.crosses-3.ensures.send.leaving yes, c.crosses-4.ensures.send.owned, c.crosses-4.ensures.send.leaving yes, c.crosses-5.ensures.send.owned, c.crosses-5.ensures.send.leaving yes, c.crosses-6.ensures.send.owned, c.crosses-7.ensures.send.owned, c.crosses-7.ensures.send.leaving yes) in
+    view_send Inside.the_row _ _ _ _ (inside sending parts)
 
 pub returns-clause-sync : goal.returns-clause-sync
 returns-clause-sync c =
-    let parts : Parts shared = search (sendable, c.patterns_cross.ensures.sync, c.crosses.ensures.sync.shared, c.crosses-2.ensures.sync.shared, c.crosses-3.ensures.sync.shared, c.crosses-4.ensures.sync.shared, c.crosses-5.ensures.sync.shared, c.crosses-6.ensures.sync.shared, c.crosses-7.ensures.sync.shared) in
-    view_sync Inside.the_row _ _ _ _ (inside shared parts)
+    let parts : AssertionParts sharing = search (sendable, c.patterns_cross.ensures.sync, c.crosses.ensures.sync.shared, c.crosses-2.ensures.sync.shared, c.crosses-3.ensures.sync.shared, c.crosses-4.ensures.sync.shared, c.crosses-5.ensures.sync.shared, c.crosses-6.ensures.sync.shared, c.crosses-7.ensures.sync.shared) in
+    view_sync Inside.the_row _ _ _ _ (inside sharing parts)

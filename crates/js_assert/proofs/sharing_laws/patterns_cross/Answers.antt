@@ -22,11 +22,11 @@ use Rattle.regex_meta.specs.contracts.program.Program as Program
 use Rattle.regex_meta.specs.contracts.signs.Signs as Signs
 use Rattle.regex_syntax.specs.contracts.Config as Config
 use Rattle.js_assert.specs.contracts.pattern.Pattern.TheInside as Inside
-use Rattle.js_assert.proofs.Crossing.{Law, sent, shared}
+use Rattle.js_assert.proofs.Crossing.{Law, sending, sharing}
 use Rattle.js_assert.proofs.sharing_laws.patterns_cross.Goals as goal
 
 -- what a compiled pattern is made of
-record Parts (L : Law) : Type 0 where
+record PatternParts (L : Law) : Type 0 where
   source : L.Holds (String.the_row Global.the_row ghosts)
   config : L.Holds Config.the_row
   names : L.Holds (Vec.the_row (Option.the_row (String.the_row Global.the_row ghosts)) Global.the_row ghosts)
@@ -41,7 +41,7 @@ record Parts (L : Law) : Type 0 where
   truth : L.Holds (as_row bool-field)
   shortest : L.Holds (as_row usize-field)
 
-regex : (L : Law) → Parts L → L.Holds (Box.the_row Regex.the_row Global.the_row ghosts)
+regex : (L : Law) → PatternParts L → L.Holds (Box.the_row Regex.the_row Global.the_row ghosts)
 regex L parts =
     let trees = L.vec Hir.the_row parts.hir in
     let signs : L.Holds Signs.the_row = L.fields Signs.the_type (parts.caseless, (L.vec u32 parts.number, (trees, (trees, (parts.owners, tt))))) in
@@ -53,10 +53,10 @@ regex L parts =
 
 pub returns-clause-send : goal.returns-clause-send
 returns-clause-send c =
-    let parts : Parts sent = search (sendable, c.crosses.ensures.send.owned, c.crosses.ensures.send.leaving yes, c.crosses-2.ensures.send.owned, c.crosses-2.ensures.send.leaving yes, c.crosses-3.ensures.send.owned, c.crosses-3.ensures.send.leaving yes, c.crosses-4.ensures.send.owned, c.crosses-4.ensures.send.leaving yes, c.crosses-5.ensures.send.owned, c.crosses-5.ensures.send.leaving yes, c.crosses-6.ensures.send.owned, c.crosses-6.ensures.send.leaving yes, c.crosses-7.ensures.send.owned, c.crosses-7.ensures.send.leaving yes, c.crosses-8.ensures.send.owned, c.crosses-8.ensures.send.leaving yes, c.crosses-9.ensures.send.owned, c.crosses-9.ensures.send.leaving yes, c.crosses-10.ensures.send.owned, c.crosses-10.ensures.send.leaving yes) in
-    view_send Inside.the_row _ _ _ _ (sent.fields Inside.the_type (regex sent parts, tt))
+    let parts : PatternParts sending = search (sendable, c.crosses.ensures.send.owned, c.crosses.ensures.send.leaving yes, c.crosses-2.ensures.send.owned, c.crosses-2.ensures.send.leaving yes, c.crosses-3.ensures.send.owned, c.crosses-3.ensures.send.leaving yes, c.crosses-4.ensures.send.owned, c.crosses-4.ensures.send.leaving yes, c.crosses-5.ensures.send.owned, c.crosses-5.ensures.send.leaving yes, c.crosses-6.ensures.send.owned, c.crosses-6.ensures.send.leaving yes, c.crosses-7.ensures.send.owned, c.crosses-7.ensures.send.leaving yes, c.crosses-8.ensures.send.owned, c.crosses-8.ensures.send.leaving yes, c.crosses-9.ensures.send.owned, c.crosses-9.ensures.send.leaving yes, c.crosses-10.ensures.send.owned, c.crosses-10.ensures.send.leaving yes) in
+    view_send Inside.the_row _ _ _ _ (sending.fields Inside.the_type (regex sending parts, tt))
 
 pub returns-clause-sync : goal.returns-clause-sync
 returns-clause-sync c =
-    let parts : Parts shared = search (sendable, c.crosses.ensures.sync.shared, c.crosses-2.ensures.sync.shared, c.crosses-3.ensures.sync.shared, c.crosses-4.ensures.sync.shared, c.crosses-5.ensures.sync.shared, c.crosses-6.ensures.sync.shared, c.crosses-7.ensures.sync.shared, c.crosses-8.ensures.sync.shared, c.crosses-9.ensures.sync.shared, c.crosses-10.ensures.sync.shared) in
-    view_sync Inside.the_row _ _ _ _ (shared.fields Inside.the_type (regex shared parts, tt))
+    let parts : PatternParts sharing = search (sendable, c.crosses.ensures.sync.shared, c.crosses-2.ensures.sync.shared, c.crosses-3.ensures.sync.shared, c.crosses-4.ensures.sync.shared, c.crosses-5.ensures.sync.shared, c.crosses-6.ensures.sync.shared, c.crosses-7.ensures.sync.shared, c.crosses-8.ensures.sync.shared, c.crosses-9.ensures.sync.shared, c.crosses-10.ensures.sync.shared) in
+    view_sync Inside.the_row _ _ _ _ (sharing.fields Inside.the_type (regex sharing parts, tt))
