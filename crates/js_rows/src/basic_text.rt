@@ -157,8 +157,8 @@ fn put_unit<O: Out>(
     out.put(gathered.as_slice())
 }
 
-/// Gathers what stands before the children of a node, or all of a node without any; or writes it behind what was gathered
-/// if there is no room for it.
+/// Gathers what stands before the children of a node, or all of a node without any. If there is no room for it, it is
+/// written behind what was gathered.
 #[inline(never)]
 pub(crate) fn add_start<O: Out>(
     later: bool,
