@@ -14,12 +14,12 @@ ghost use Rattle.js_rows.specs.Locations.{AreAt, HasRoom, HasRoomFor, IsBack};
 ghost use Rattle.js_rows.specs.RelativeState.{AreRowsOf, AreWhole, relative_row};
 ghost use Rattle.js_rows.specs.code.Gathering.{GathersOrStops};
 ghost use Rattle.js_rows.specs.code.Listing.{AreListed, if_noted, listed, listed_tree, may_list};
-ghost use Rattle.js_rows.specs.code.RelativeText.{AreRowsOfTree, AreRowsOfTrees, IsAbsolute, unit_there};
+ghost use Rattle.js_rows.specs.code.RelativeText.{AreRowsOfTree, AreRowsOfTrees, IsAbsolute, start_text, unit_there};
 
 use crate::gathered::Gathered;
 use crate::locations::Locations;
 use crate::rows::{RelativeRow, RelativeRows};
-use crate::verbose_text::put_opening;
+use crate::verbose_text::{put_before_list, put_opening};
 use js_doc::{Out, Stopped, put_escaped};
 use js_tree::Note;
 use js_tree::parts::{put_closed_annotation, put_units_start};
@@ -153,15 +153,17 @@ fn put_unit<O: Out>(
     ensures back { IsBack locations.old locations.new }
 {
     gathered.clear();
-    add_unit(later, row, locations, gathered, out)?;
+    add_start(later, row, false, locations, gathered, out)?;
     out.put(gathered.as_slice())
 }
 
-/// Gathers the unit's text, or writes it behind what was gathered if there is no room for it.
+/// Gathers what stands before the children of a node, or all of a node without any. If there is no room for it, it is
+/// written behind what was gathered.
 #[inline(never)]
-pub(crate) fn add_unit<O: Out>(
+pub(crate) fn add_start<O: Out>(
     later: bool,
     row: &RelativeRow,
+    has_children: bool,
     locations: &mut Locations,
     gathered: &mut Gathered,
     out: &mut O,
@@ -169,33 +171,37 @@ pub(crate) fn add_unit<O: Out>(
     ensures text { (keyword absolute instance : List ℕ) → AreAt locations.old keyword instance
         → IsAbsolute row.now absolute
         → GathersOrStops (O.progress out.old) (O.progress out.new) gathered.old.text.items gathered.new.text.items
-        (comma_if later ++ compact (node_value (unit_there row.now keyword absolute instance) [])) result }
+        (start_text has_children later row.now keyword absolute instance) result }
     ensures back { IsBack locations.old locations.new }
 {
     let before = gathered.len();
-    match put_pieces(later, row, locations, gathered) {
+    match put_start(later, row, has_children, locations, gathered) {
         Ok(()) => Ok(()),
         Err(Stopped) => {
             gathered.put_out(before, out)?;
-            put_pieces(later, row, locations, out)
+            put_start(later, row, has_children, locations, out)
         }
     }
 }
 
-/// Writes the unit piece by piece.
-fn put_pieces<O: Out>(
+/// Writes the same piece by piece.
+fn put_start<O: Out>(
     later: bool,
     row: &RelativeRow,
+    has_children: bool,
     locations: &mut Locations,
     out: &mut O,
 ) -> Result<(), Stopped>
     ensures text { (keyword absolute instance : List ℕ) → AreAt locations.old keyword instance
         → IsAbsolute row.now absolute
         → Puts (O.progress out.old) (O.progress out.new)
-        (comma_if later ++ compact (node_value (unit_there row.now keyword absolute instance) [])) result }
+        (start_text has_children later row.now keyword absolute instance) result }
     ensures back { IsBack locations.old locations.new }
 {
     put_opening(later, row, locations, out)?;
+    if has_children {
+        return put_before_list(&row.note, row.valid, out);
+    }
     put_rest(&row.note, row.valid, locations, out)
 }
 

@@ -15,10 +15,10 @@ ghost use Rattle.js_rows.specs.RelativeState.{AreRowsOf, AreWhole, part};
 ghost use Rattle.js_rows.specs.code.Gathering.{GathersOrStops};
 ghost use Rattle.js_rows.specs.code.Listing.{values_text};
 ghost use Rattle.js_rows.specs.code.RelativeText.{AreRowsOfTree, AreRowsOfTrees, IsAbsolute, after_children};
-ghost use Rattle.js_rows.specs.code.RelativeText.{before_children, opening_text};
+ghost use Rattle.js_rows.specs.code.RelativeText.{opening_text};
 ghost use Rattle.js_rows.specs.code.RelativeText.{unit_there};
 
-use crate::basic_text::add_unit;
+use crate::basic_text::add_start;
 use crate::gathered::Gathered;
 use crate::locations::Locations;
 use crate::opening::from_comma;
@@ -95,9 +95,9 @@ fn put_node<O: Out>(
     ensures back { OnOk result (IsBack locations.old locations.new) }
 {
     if below.is_empty() {
-        return add_unit(later, row, locations, gathered, out);
+        return add_start(later, row, false, locations, gathered, out);
     }
-    add_front(later, row, locations, gathered, out)?;
+    add_start(later, row, true, locations, gathered, out)?;
     put_trees(below, locations, gathered, out)?;
     add_back(row, locations, gathered, out)
 }
@@ -129,49 +129,8 @@ fn put_trees<O: Out>(
     Ok(())
 }
 
-/// Gathers what stands before the children of a node that has some, or writes it behind what was gathered if there is
-/// no room for it.
-#[inline(never)]
-fn add_front<O: Out>(
-    later: bool,
-    row: &RelativeRow,
-    locations: &mut Locations,
-    gathered: &mut Gathered,
-    out: &mut O,
-) -> Result<(), Stopped>
-    ensures text { (absolute : List ℕ) → IsAbsolute row.now absolute
-        → GathersOrStops (O.progress out.old) (O.progress out.new) gathered.old.text.items gathered.new.text.items
-        (before_children later absolute (note_of row.now.note) row.now.valid) result }
-    ensures back { IsBack locations.old locations.new }
-{
-    let before = gathered.len();
-    match put_front(later, row, locations, gathered) {
-        Ok(()) => Ok(()),
-        Err(Stopped) => {
-            gathered.put_out(before, out)?;
-            put_front(later, row, locations, out)
-        }
-    }
-}
-
-/// Writes what stands before the children of a node that has some.
-fn put_front<O: Out>(
-    later: bool,
-    row: &RelativeRow,
-    locations: &mut Locations,
-    out: &mut O,
-) -> Result<(), Stopped>
-    ensures text { (absolute : List ℕ) → IsAbsolute row.now absolute
-        → Puts (O.progress out.old) (O.progress out.new)
-        (before_children later absolute (note_of row.now.note) row.now.valid) result }
-    ensures back { IsBack locations.old locations.new }
-{
-    put_opening(later, row, locations, out)?;
-    put_before_list(&row.note, row.valid, out)
-}
-
 /// Writes the closing quotation mark of the absolute location and what stands between that and the children.
-fn put_before_list<O: Out>(note: &Note, valid: bool, out: &mut O) -> Result<(), Stopped>
+pub(crate) fn put_before_list<O: Out>(note: &Note, valid: bool, out: &mut O) -> Result<(), Stopped>
     ensures { Puts (O.progress out.old) (O.progress out.new)
         ((34 ∷ annotation_part (note_of note.now)) ++ children_start (note_of note.now) valid) result }
 {

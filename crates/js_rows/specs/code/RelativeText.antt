@@ -1,9 +1,10 @@
 -- The text of a node whose row has only what its locations add, in pieces (of private functions).
-use Rattle.std.specs.Prelude.{◌≡◌, ℕ, Bool, List, ◌∷◌, ◌++◌, codes, map}
+use Rattle.std.specs.Prelude.{◌≡◌, ℕ, Bool, true, false, List, [], ◌∷◌, ◌++◌, codes, map}
 use Rattle.json.specs.Print.{escape}
-use Rattle.js_doc.specs.Compact.{comma_if}
+use Rattle.js_doc.specs.Compact.{comma_if, compact}
 use Rattle.js_tree.specs.Flat.{flat_form, flat_of}
 use Rattle.js_tree.specs.Forest.{Forest}
+use Rattle.js_tree.specs.Form.{node_value}
 use Rattle.js_tree.specs.Note.{Note}
 use Rattle.js_tree.specs.OutputUnit.{OutputUnit}
 use Rattle.js_tree.specs.Result.{ResultTree}
@@ -41,3 +42,8 @@ before_children later absolute note valid =
 -- and what stands after them
 abbrev pub after_children : List ℕ → List ℕ → Note → Bool → List ℕ
 after_children instance keyword note valid = 93 ∷ (error_behind note valid ++ end_text instance keyword valid)
+
+-- what goes before the children of a node, or all of a node without any
+abbrev pub start_text : Bool → Bool → RelativeRow → List ℕ → List ℕ → List ℕ → List ℕ
+start_text true later r keyword absolute instance = before_children later absolute (note_of r.note) r.valid
+start_text false later r keyword absolute instance = comma_if later ++ compact (node_value (unit_there r keyword absolute instance) [])

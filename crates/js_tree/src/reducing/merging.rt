@@ -37,7 +37,7 @@ pub fn merge_condense(tree: Tree) -> Tree
     whole
 }
 
-/// Drops each tree that is alike to an earlier one. It isn't inlined, so that the walk takes little stack on each level.
+/// Drops each tree that is alike to an earlier one. It isn't inlined, so that the walk takes less stack on each level.
 #[inline(never)]
 pub(crate) fn keep_firsts(trees: &mut Vec<Tree>)
     ensures { forest_of trees.new.items ≡ firsts same_but_keyword (forest_of trees.old.items) }

@@ -33,35 +33,35 @@ put_node-returns-then-is_empty-clause-text g t c =
     λ f k a i at abs e.
     let o = g.O.Out.progress in
     let p = c.args.gathered.now.text.items in
-    let q = c.add_unit.new.gathered.text.items in
+    let q = c.add_start.new.gathered.text.items in
     let below = c.args.below.now in
     let none : length below ≡ 0 = is_none (length below) c.if-is_empty.ensures in
-    subst (λ l. GathersOrStops (o c.args.out.now) (o c.add_unit.new.out) p q l c.add_unit.result) (without_trees c.args.later (unit_there c.args.row.now k a i) k i below f none e) (c.add_unit.ensures.text k a i at abs)
+    subst (λ l. GathersOrStops (o c.args.out.now) (o c.add_start.new.out) p q l c.add_start.result) (without_trees c.args.later (unit_there c.args.row.now k a i) k i below f none e) (c.add_start.ensures.text k a i at abs)
 
-pub put_node-returns-in_err-add_front-clause-text : goal.put_node-returns-in_err-add_front-clause-text
-put_node-returns-in_err-add_front-clause-text g t c =
+pub put_node-returns-in_err-add_start-clause-text : goal.put_node-returns-in_err-add_start-clause-text
+put_node-returns-in_err-add_start-clause-text g t c =
     λ f k a i at abs e.
     let o = g.O.Out.progress in
     let some = not_none (length c.args.below.now) c.if-is_empty.ensures in
-    stops_in_front c.args.later c.args.row.now k a i c.args.below.now f e some (o c.args.out.now) (o c.add_front.new.out) c.args.gathered.now.text.items c.add_front.new.gathered.text.items c.from_residual.result c.from_residual.ensures.0 (c.in_err-add_front.ensures.text a abs)
+    stops_in_front c.args.later c.args.row.now k a i c.args.below.now f e some (o c.args.out.now) (o c.add_start-2.new.out) c.args.gathered.now.text.items c.add_start-2.new.gathered.text.items c.from_residual.result c.from_residual.ensures.0 (c.in_err-add_start.ensures.text k a i at abs)
 
 pub put_node-returns-in_err-put_trees-clause-text : goal.put_node-returns-in_err-put_trees-clause-text
 put_node-returns-in_err-put_trees-clause-text g t c =
     λ f k a i at abs e.
     let o = g.O.Out.progress in
     let some = not_none (length c.args.below.now) c.if-is_empty.ensures in
-    stops_in_children c.args.later c.args.row.now k a i c.args.below.now f e some (o c.args.out.now) (o c.add_front.new.out) (o c.put_trees.new.out) c.args.gathered.now.text.items c.add_front.new.gathered.text.items c.put_trees.new.gathered.text.items c.from_residual-in_err-put_trees.result (c.in_ok-add_front.ensures.text a abs)
-    c.from_residual-in_err-put_trees.ensures.0 (c.in_err-put_trees.ensures.text f k i (still_at c.args.locations.now c.add_front.new.locations k i at c.in_ok-add_front.ensures.back) e)
+    stops_in_children c.args.later c.args.row.now k a i c.args.below.now f e some (o c.args.out.now) (o c.add_start-2.new.out) (o c.put_trees.new.out) c.args.gathered.now.text.items c.add_start-2.new.gathered.text.items c.put_trees.new.gathered.text.items c.from_residual-in_err-put_trees.result (c.in_ok-add_start.ensures.text k a i at abs)
+    c.from_residual-in_err-put_trees.ensures.0 (c.in_err-put_trees.ensures.text f k i (still_at c.args.locations.now c.add_start-2.new.locations k i at c.in_ok-add_start.ensures.back) e)
 
 pub put_node-returns-clause-text : goal.put_node-returns-clause-text
 put_node-returns-clause-text g t c =
     λ f k a i at abs e.
     let o = g.O.Out.progress in
     let some = not_none (length c.args.below.now) c.if-is_empty.ensures in
-    let there = still_at c.args.locations.now c.add_front.new.locations k i at c.in_ok-add_front.ensures.back in
-    let last = still_at c.add_front.new.locations c.put_trees.new.locations k i there c.in_ok-put_trees.ensures.back in
-    gathers_whole c.args.later c.args.row.now k a i c.args.below.now f e some (o c.args.out.now) (o c.add_front.new.out) (o c.put_trees.new.out) (o c.add_back.new.out) c.args.gathered.now.text.items c.add_front.new.gathered.text.items c.put_trees.new.gathered.text.items c.add_back.new.gathered.text.items c.add_back.result
-    (c.in_ok-add_front.ensures.text a abs) (c.in_ok-put_trees.ensures.text f k i there e) (c.add_back.ensures k i last)
+    let there = still_at c.args.locations.now c.add_start-2.new.locations k i at c.in_ok-add_start.ensures.back in
+    let last = still_at c.add_start-2.new.locations c.put_trees.new.locations k i there c.in_ok-put_trees.ensures.back in
+    gathers_whole c.args.later c.args.row.now k a i c.args.below.now f e some (o c.args.out.now) (o c.add_start-2.new.out) (o c.put_trees.new.out) (o c.add_back.new.out) c.args.gathered.now.text.items c.add_start-2.new.gathered.text.items c.put_trees.new.gathered.text.items c.add_back.new.gathered.text.items c.add_back.result
+    (c.in_ok-add_start.ensures.text k a i at abs) (c.in_ok-put_trees.ensures.text f k i there e) (c.add_back.ensures k i last)
 
 pub put_trees-loop-next-init : goal.put_trees-loop-next-init
 put_trees-loop-next-init g t c = (omega arith, stays_there c.args.locations.now, λ f e. (f, e, λ k i at. none_passed (g.O.Out.progress c.args.out.now) c.args.gathered.now.text.items _))
