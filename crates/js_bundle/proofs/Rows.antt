@@ -16,7 +16,7 @@ use Rattle.js_places.specs.Url.{printed, without_fragment, parsed}
 use Rattle.js_places.specs.Place.{holding}
 use Rattle.js_places.specs.Resource.{Site, sites}
 use Rattle.js_places.specs.Names.{named}
-use Rattle.js_places.specs.Location.{absolute}
+use Rattle.js_places.specs.Location.{absolute_location}
 use Rattle.js_places.specs.Target.{target, dynamic_target}
 use Rattle.js_bundle.specs.Refusals.{refusals}
 
@@ -38,20 +38,20 @@ abbrev first_refusal : Documents → Option Refusal
 first_refusal ds = head (refusals ds)
 
 abbrev locations : Documents → List Text
-locations ds = map (λ p. absolute p []) (sites ds)
+locations ds = map (λ p. absolute_location p []) (sites ds)
 
 abbrev at_location : Documents → Text → Option Site
 at_location ds t = option_and_then (named (sites ds)) (parsed (parse_url None t))
 
 -- the location of the place that a URI names
 abbrev location_of : Documents → Text → Option Text
-location_of ds t = option_map (λ p. absolute p []) (at_location ds t)
+location_of ds t = option_map (λ p. absolute_location p []) (at_location ds t)
 
 -- that of the dynamic target of the last place of a path
 abbrev dynamic_location : Documents → List Text → Option Text
 dynamic_location ds ts =
     let path = filter_map (at_location ds) ts in
-    option_and_then (λ place. option_map (λ t. absolute t []) (dynamic_target (sites ds) path place)) (last_or None path)
+    option_and_then (λ place. option_map (λ t. absolute_location t []) (dynamic_target (sites ds) path place)) (last_or None path)
 
 -- ---- places, names and targets
 
@@ -125,7 +125,7 @@ unfolding url_on_literals holding printed without_fragment
 dynamic_targets_are = refl
 
 -- `$ref` leads to one place
-pub target_of_ref : option_and_then (λ place. option_map (λ t. absolute t []) (target (sites trees) place)) (at_location trees (codes "https://example.com/strict-tree")) ≡ Some (codes "https://example.com/tree#")
+pub target_of_ref : option_and_then (λ place. option_map (λ t. absolute_location t []) (target (sites trees) place)) (at_location trees (codes "https://example.com/strict-tree")) ≡ Some (codes "https://example.com/tree#")
 unfolding url_on_literals holding printed without_fragment
 target_of_ref = refl
 

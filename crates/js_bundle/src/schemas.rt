@@ -2,7 +2,7 @@
 ghost use Rattle.std.specs.Prelude.{◌≡◌, ◌++◌, Some, true, map, option_map, IfOk, string_bytes};
 ghost use Rattle.js_doc.specs.Seen.{value_of};
 ghost use Rattle.js_places.specs.Finding.{tokens_of};
-ghost use Rattle.js_places.specs.Location.{absolute, canonical, location};
+ghost use Rattle.js_places.specs.Location.{absolute_location, canonical, location};
 ghost use Rattle.js_places.specs.PlaceNumber.{is_place, place_at};
 ghost use Rattle.js_bundle.specs.Schemas.{place_numbers};
 ghost use Rattle.js_places.specs.Seen.{document_of};
@@ -119,7 +119,7 @@ impl Schemas {
         keyword: Option<&str>,
     ) -> Result<String, Memory>
         requires { is_place self.now place ≡ true }
-        ensures { IfOk result (λ t. option_map (λ s. absolute s (tokens_of keyword.entry)) (place_at self.now place)
+        ensures { IfOk result (λ t. option_map (λ s. absolute_location s (tokens_of keyword.entry)) (place_at self.now place)
             ≡ Some (string_bytes t)) }
     {
         let site = self.kept_site(place);

@@ -5,7 +5,7 @@ use Rattle.std.proofs.lemmas.Option.{slice_get_within, get_or_from_slice_get, sl
 use Rattle.std.proofs.lemmas.List.{append-nil, drop_all, drop_more}
 use Rattle.std.proofs.lemmas.List.FromFn.{length-range_with_len, get_or-range_with_len}
 use Rattle.js_bundle.specs.Document.{Documents}
-use Rattle.js_bundle.specs.Location.{absolute}
+use Rattle.js_bundle.specs.Location.{absolute_location}
 use Rattle.js_bundle.specs.Resource.{Site, sites}
 use Rattle.js_bundle.specs.Schemas.{is_place, place_at, place_numbers, StandsFor}
 use Rattle.js_doc.specs.Value.{Value}
@@ -50,9 +50,9 @@ place_there docs items i p is within at =
     let n = number_is docs items i p is within at in
     ap (is_place docs) n.1 ∙ lt-ltb i (length (sites docs)) n.0
 
-located : (o : Option Site) (location : List ℕ) → option_map (λ s. absolute s []) o ≡ Some location → (s : Site) × (o ≡ Some s) × (absolute s [] ≡ location)
+located : (o : Option Site) (location : List ℕ) → option_map (λ s. absolute_location s []) o ≡ Some location → (s : Site) × (o ≡ Some s) × (absolute_location s [] ≡ location)
 located None location e = absurd (cc)
-located (Some s) location e = (s, refl, some_is (absolute s []) location e)
+located (Some s) location e = (s, refl, some_is (absolute_location s []) location e)
 
 one_line : (before location rest : List ℕ) → ((before ++ location) ++ 10 ∷ []) ++ rest ≡ before ++ ((location ++ 10 ∷ []) ++ rest)
 one_line before location rest =
@@ -60,7 +60,7 @@ one_line before location rest =
 
 -- one place more was told
 pub told_more : (docs : Documents) (items : List ℕ) (i p : ℕ) (before location between after : List ℕ) → items ≡ place_numbers docs → i < length items → p ≡ get_or items i p
-    → option_map (λ s. absolute s []) (place_at docs p) ≡ Some location → between ≡ before ++ location → after ≡ between ++ 10 ∷ []
+    → option_map (λ s. absolute_location s []) (place_at docs p) ≡ Some location → between ≡ before ++ location → after ≡ between ++ 10 ∷ []
     → before ++ lines_of (drop i (sites docs)) ≡ lines_of (sites docs) → after ++ lines_of (drop (i + 1) (sites docs)) ≡ lines_of (sites docs)
 told_more docs items i p before location between after is within at told grows ends whole =
     let n = number_is docs items i p is within at in

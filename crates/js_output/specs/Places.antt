@@ -1,6 +1,6 @@
 -- The list of the places of documents: their absolute locations (JSON Schema Core, section 12.3.2), in scan order.
 use Rattle.std.specs.Prelude.{◌≡◌, ℕ, List, [], ◌∷◌, ◌++◌, length, flat_map, Result, Ok, Err, ⊤}
-use Rattle.js_bundle.specs.Location.{absolute}
+use Rattle.js_bundle.specs.Location.{absolute_location}
 use Rattle.js_bundle.specs.Resource.{Site, sites}
 use Rattle.js_output.specs.Cause.{MayGoOn, IsFirstFault}
 use Rattle.js_output.specs.Documents.{DocumentTexts, documents_causes, bundle_of}
@@ -9,7 +9,7 @@ use Rattle.js_output.specs.declared.fault.Fault.TheVariants as fault
 
 -- a line each
 abbrev pub place_line : Site → List ℕ
-place_line place = absolute place [] ++ 10 ∷ []
+place_line place = absolute_location place [] ++ 10 ∷ []
 
 abbrev pub lines_of : List Site → List ℕ
 lines_of places = flat_map place_line places

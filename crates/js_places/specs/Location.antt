@@ -16,9 +16,9 @@ abbrev pub way : Site → Tokens
 way place = drop (length place.own.resource) place.pointer
 
 -- with a keyword's name, the location of that keyword; with none, the place's own
-abbrev pub absolute : Site → Tokens → Text
-absolute place keyword = canonical place ++ (codes "#" ++ fragment_text (way place ++ keyword))
+abbrev pub absolute_location : Site → Tokens → Text
+absolute_location place keyword = canonical place ++ (codes "#" ++ fragment_text (way place ++ keyword))
 
 -- the place's own
 abbrev pub location : Site → Text
-location place = absolute place []
+location place = absolute_location place []

@@ -110,5 +110,5 @@ places_from n [] = []
 places_from n (d ∷ ds) = places_at n d.uri [] [] d.root ++ places_from (suc n) ds
 
 -- all places, document by document
-abbrev pub places : Documents → List Place
-places documents = places_from 0 documents
+abbrev pub all_places : Documents → List Place
+all_places documents = places_from 0 documents

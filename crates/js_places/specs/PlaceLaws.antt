@@ -7,7 +7,7 @@ use Rattle.js_doc.specs.Pointer.{Tokens}
 use Rattle.js_doc.specs.Short.{IsShort}
 use Rattle.js_doc.specs.Value.{Value}
 use Rattle.js_places.specs.Document.{Document, Documents}
-use Rattle.js_places.specs.Place.{IsPlace, Place, places_at, places}
+use Rattle.js_places.specs.Place.{IsPlace, Place, places_at, all_places}
 use Rattle.js_places.specs.Seen.{AreRead}
 
 -- the list has a place at the pointer, with this schema
@@ -54,11 +54,11 @@ AreDistinct [] = Unit {0}
 AreDistinct (t ∷ ts) = AllByRecursion (λ s. Differ t s) ts × AreDistinct ts
 
 pub record ListsAll (documents : Documents) : Type 0 where
-  pub sound : AllByRecursion (IsPlaceOf documents) (places documents)
-  pub complete : (n : ℕ) (d : Document) (p : Tokens) (v : Value) → slice_get documents n ≡ Some d → IsPlace d.root p v → ListsIn n p v (places documents)
+  pub sound : AllByRecursion (IsPlaceOf documents) (all_places documents)
+  pub complete : (n : ℕ) (d : Document) (p : Tokens) (v : Value) → slice_get documents n ≡ Some d → IsPlace d.root p v → ListsIn n p v (all_places documents)
 
 abbrev pub ListsTheirPlaces : Type 0
 ListsTheirPlaces = (documents : Documents) → ListsAll documents
 
 abbrev pub ListsTheirsOnce : Type 0
-ListsTheirsOnce = (documents : Documents) → AreRead documents → AreDistinct (places documents)
+ListsTheirsOnce = (documents : Documents) → AreRead documents → AreDistinct (all_places documents)

@@ -10,7 +10,7 @@ use Rattle.js_doc.specs.Value.{Value}
 use Rattle.js_places.specs.declared.scan.scope.Scope.{Scope}
 use Rattle.js_places.specs.Keyword.{Text, argument, as_text, has_argument}
 use Rattle.js_places.specs.Document.{Documents}
-use Rattle.js_places.specs.Place.{Place, Located, places}
+use Rattle.js_places.specs.Place.{Place, Located, all_places}
 use Rattle.js_places.specs.Url.{longest_uri, without_fragment, parsed}
 
 -- a text joined with a base; none if it is too long, or `url` can't join it
@@ -49,8 +49,8 @@ base place = (scope_below (scope_above place) place.spot).base
 
 -- The root of a place's resource, by its pointer: the nearest place upward, itself included, that has an `$id` or is a
 -- root. An `$id` that can't be joined makes no resource for what stands below it, but one for its own place.
-abbrev pub resource : Place → Tokens
-resource place =
+abbrev pub resource_root : Place → Tokens
+resource_root place =
     if has_argument (codes "$id") place.spot.schema then place.spot.pointer else (scope_above place).resource
 
 -- ---- what the rules look at of a place
@@ -71,11 +71,11 @@ site place =
       document = place.document;
       pointer = place.spot.pointer;
       above = scope_above place;
-      own = record { resource = resource place; base = base place };
+      own = record { resource = resource_root place; base = base place };
       identifies = is_some (identified (scope_above place).base place.spot.schema);
       schema = place.spot.schema;
     }
 
 -- the sites of all places, in scan order
 abbrev pub sites : Documents → List Site
-sites documents = map site (places documents)
+sites documents = map site (all_places documents)

@@ -10,7 +10,7 @@ use Rattle.js_doc.specs.Fragment.{fragment_text, fragment_token}
 use Rattle.js_doc.proofs.TokenBytes.{fragment_text-push}
 use Rattle.js_doc.specs.Value.{Value}
 use Rattle.js_bundle.specs.Document.{Documents}
-use Rattle.js_bundle.specs.Location.{absolute, canonical, location, way}
+use Rattle.js_bundle.specs.Location.{absolute_location, canonical, location, way}
 use Rattle.js_bundle.specs.Resource.{Site, sites}
 use Rattle.js_bundle.specs.Schemas.{is_place, place_at, path_at}
 use Rattle.js_walk.specs.Sited.{numbered_site, nowhere}
@@ -25,21 +25,21 @@ its_schema (Some s) v e = cc
 pub schema_is : (documents : Documents) (n : ℕ) (v : Value) → option_map (λ s. s.schema) (place_at documents n) ≡ Some v → v ≡ (numbered_site documents n).schema
 schema_is documents n v e = its_schema (place_at documents n) v e
 
-its_location : (o : Option Site) (t : List ℕ) → option_map location o ≡ Some t → t ≡ absolute (unwrap_or o nowhere) []
+its_location : (o : Option Site) (t : List ℕ) → option_map location o ≡ Some t → t ≡ absolute_location (unwrap_or o nowhere) []
 its_location None t e = absurd (cc)
 its_location (Some s) t e = cc
 
-pub location_is : (documents : Documents) (n : ℕ) (t : List ℕ) → option_map location (place_at documents n) ≡ Some t → t ≡ absolute (numbered_site documents n) []
+pub location_is : (documents : Documents) (n : ℕ) (t : List ℕ) → option_map location (place_at documents n) ≡ Some t → t ≡ absolute_location (numbered_site documents n) []
 location_is documents n t e = its_location (place_at documents n) t e
 
 -- a keyword's location is its place's, one token further
-one_further : (s : Site) (keyword : List ℕ) → absolute s [] ++ fragment_token keyword ≡ absolute s (keyword ∷ [])
+one_further : (s : Site) (keyword : List ℕ) → absolute_location s [] ++ fragment_token keyword ≡ absolute_location s (keyword ∷ [])
 one_further s keyword =
     append_assoc (canonical s) (codes "#" ++ fragment_text (way s ++ [])) (fragment_token keyword)
     ∙ ap (λ x. canonical s ++ (codes "#" ++ x)) (ap (λ w. fragment_text w ++ fragment_token keyword) (append-nil (way s)) ∙ sym (fragment_text-push (way s) keyword))
 
 pub keyword_location_is : (documents : Documents) (n : ℕ) (keyword t u : List ℕ) → option_map location (place_at documents n) ≡ Some t → u ≡ t ++ fragment_token keyword
-    → u ≡ absolute (numbered_site documents n) (keyword ∷ [])
+    → u ≡ absolute_location (numbered_site documents n) (keyword ∷ [])
 keyword_location_is documents n keyword t u e f =
     f ∙ ap (λ x. x ++ fragment_token keyword) (location_is documents n t e) ∙ one_further (numbered_site documents n) keyword
 

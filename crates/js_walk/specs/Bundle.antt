@@ -3,7 +3,7 @@
 -- happens to a keyword that asks (`NothingStandsIn` in Laws).
 use Rattle.std.specs.Prelude.{unwrap_or, option_to_list}
 use Rattle.js_bundle.specs.Document.{Documents}
-use Rattle.js_bundle.specs.Location.{absolute}
+use Rattle.js_bundle.specs.Location.{absolute_location}
 use Rattle.js_bundle.specs.Resource.{Site, sites}
 use Rattle.js_bundle.specs.Schemas as bundle
 use Rattle.js_bundle.specs.Target.{target, dynamic_target}
@@ -16,5 +16,5 @@ schemas_of documents =
       below = λ place keyword step. unwrap_or (bundle.below documents place keyword step) place;
       target = λ place. unwrap_or (target (sites documents) place) place;
       dynamic_target = λ path place. unwrap_or (dynamic_target (sites documents) path place) place;
-      absolute = λ place keyword. absolute place (option_to_list keyword);
+      absolute = λ place keyword. absolute_location place (option_to_list keyword);
     }

@@ -4,7 +4,7 @@ use Rattle.std.specs.List.{AllByRecursion}
 use Rattle.js_doc.specs.Pointer.{Tokens}
 use Rattle.js_doc.specs.Value.{Value}
 use Rattle.js_places.specs.Document.{Document, Documents}
-use Rattle.js_places.specs.Place.{IsPlace, at_root, Place, places_at, places_from, places}
+use Rattle.js_places.specs.Place.{IsPlace, at_root, Place, places_at, places_from, all_places}
 use Rattle.js_places.specs.PlaceLaws.{ListsPlace, IsPlaceOf, ListsIn, AreDistinct, ListsAll}
 use Rattle.js_places.specs.Seen.{AreRead}
 use Rattle.js_places.proofs.Listing.PlacesApart.{all_as}
@@ -65,9 +65,9 @@ place_of documents t o =
 pub lists_all_places : (documents : Documents) → ListsAll documents
 lists_all_places documents =
     record {
-      sound = all_as (IsFrom 0 documents) (IsPlaceOf documents) (place_of documents) (places documents) (sound_from 0 documents);
+      sound = all_as (IsFrom 0 documents) (IsPlaceOf documents) (place_of documents) (all_places documents) (sound_from 0 documents);
       complete = λ n d p v e h. listed_from 0 documents n n d p v (omega arith) e h;
     }
 
-pub each_once : (documents : Documents) → AreRead documents → AreDistinct (places documents)
+pub each_once : (documents : Documents) → AreRead documents → AreDistinct (all_places documents)
 each_once documents h = all_distinct 0 documents h.ordered h.short

@@ -86,7 +86,7 @@ pub(crate) fn comes_again(trees: &[Tree], count: usize, index: usize) -> bool
 
 /// Whether the tree at `index` is found to be alike to one of the first `count` trees. By its mark, it is compared only
 /// with the one that the mark names.
-pub(crate) fn is_found(trees: &[Tree], count: usize, index: usize, by_mark: bool) -> bool
+pub(crate) fn is_found_again(trees: &[Tree], count: usize, index: usize, by_mark: bool) -> bool
     requires { (count ≤ index) × (index < length trees.now) }
     ensures sound { (d : ResultTree) → IsTrue result → comes_again trees.now count index d ≡ true }
     ensures exact { (d : ResultTree) → by_mark ≡ false → result ≡ comes_again trees.now count index d }

@@ -8,7 +8,7 @@ ghost use Rattle.js_tree.specs.OutputUnit.{noted};
 ghost use Rattle.js_tree.specs.Result.{units};
 ghost use Rattle.js_tree.specs.Sublist.{Sublist, none_lost};
 
-use crate::reducing::likeness::{comes_again, is_found};
+use crate::reducing::likeness::{comes_again, is_found_again};
 use crate::reducing::reduction::{Reduction, reduce_children};
 use crate::reducing::sorting::{are_shown_to_differ, differ_by_list, list_in_order, mark_alike};
 use crate::tree::Tree;
@@ -77,7 +77,7 @@ fn drop_found(trees: &mut [Tree], by_marks: bool) -> usize
 {
     let mut count = 0;
     for i in 0..trees.len() {
-        if !is_found(trees, count, i, by_marks) {
+        if !is_found_again(trees, count, i, by_marks) {
             trees.swap(count, i);
             count += 1;
         }
