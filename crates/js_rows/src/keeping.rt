@@ -6,7 +6,7 @@ ghost use Rattle.js_tree.specs.Result.{ResultTree, kept, pruned};
 ghost use Rattle.js_rows.specs.Marks.{AreMarksOf};
 ghost use Rattle.js_rows.specs.Relative.{escaped_unit, placed_unit};
 ghost use Rattle.js_rows.specs.RelativeState.{AreRowsOf, AreWhole, part, relative_row};
-ghost use Rattle.js_rows.specs.code.KeptBetween.{AreLonger, AreMarkedTrees, AreSame, IsEnd, IsMarked, IsPending, KeepsTree};
+ghost use Rattle.js_rows.specs.code.KeptBetween.{AreLonger, AreMarksOfTrees, AreSame, IsEnd, IsMarked, IsPending, KeepsTree};
 ghost use Rattle.js_rows.specs.code.KeptBetween.{KeepsTrees, StaysPending, left_below, left_of_tree, over_what_is_left};
 
 use crate::marks::{Left, RelativeMarks};
@@ -204,7 +204,7 @@ impl<'a> Keeper<'a> {
     // Adds the rows of what is left of the trees of the rows.
     #[cycle(keep_trees)]
     fn keep_trees(&mut self, rows: &mut [RelativeRow<'a>], marks: &[Left]) -> Result<(), Memory>
-        requires { AreMarkedTrees rows.old marks.now }
+        requires { AreMarksOfTrees rows.old marks.now }
         ensures rows { KeepsTrees self.old rows.old marks.now self.new result }
         ensures same { OnOk result (StaysPending self.old self.new) }
     {

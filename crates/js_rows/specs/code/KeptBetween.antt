@@ -60,8 +60,8 @@ abbrev pub AreAdded : List RelativeRow → List RelativeRow → Forest OutputUni
 AreAdded old new f = map relative_row new ≡ map relative_row old ++ flat_of (escaped f)
 
 -- the rows and the marks are those of trees
-abbrev pub AreMarkedTrees : List RelativeRow → List Left → Type 0
-AreMarkedTrees rows marks = (v : Bool) × (f : Forest OutputUnit) × AreMarkedRows rows marks v f
+abbrev pub AreMarksOfTrees : List RelativeRow → List Left → Type 0
+AreMarksOfTrees rows marks = (v : Bool) × (f : Forest OutputUnit) × AreMarkedRows rows marks v f
 
 -- and those of one tree
 abbrev pub IsMarked : List RelativeRow → List Left → Type 0
