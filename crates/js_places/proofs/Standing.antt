@@ -14,7 +14,7 @@ use Rattle.js_places.specs.declared.scan.holding.Holding.{Holding}
 use Rattle.js_places.specs.declared.scan.holding.Holding.TheVariants.{One, Listed, Named, Nothing}
 use Rattle.js_places.specs.Document.{Document, Documents}
 use Rattle.js_places.specs.Keyword.{Text}
-use Rattle.js_places.specs.Place.{holding, values, items_in, IsPlace, at_root, in_keyword, in_list, in_object, Located, Place, places_held, places_at, places_of_keywords, places_in_list, places_of_items, places_in_object, places_of_members, places_from}
+use Rattle.js_places.specs.Place.{holding, values, items_in, IsPlace, at_root, in_keyword, in_list, in_object, Located, SchemaPlace, places_held, places_at, places_of_keywords, places_in_list, places_of_items, places_in_object, places_of_members, places_from}
 use Rattle.js_places.specs.Resource.{Site, site, sites}
 use Rattle.js_places.specs.Seen.{AreOrdered, AreShort}
 use Rattle.js_places.proofs.Listing.LeastSetListed.{Among, is-among, all_append, sound}
@@ -155,10 +155,10 @@ place_stands root p v a s (in_object p' v' k l n u q h e m b is) =
 -- ---- over all documents
 
 module _ (number : ℕ) (uri : Parts) where
-  abbrev pub OfThis : Place → Type 0
+  abbrev pub OfThis : SchemaPlace → Type 0
   OfThis t = (t.document ≡ number) × (t.uri ≡ uri)
 
-  chosen_of : (h : Holding) (a b c : List Place) → AllByRecursion OfThis a → AllByRecursion OfThis b → AllByRecursion OfThis c → AllByRecursion OfThis (places_held h a b c)
+  chosen_of : (h : Holding) (a b c : List SchemaPlace) → AllByRecursion OfThis a → AllByRecursion OfThis b → AllByRecursion OfThis c → AllByRecursion OfThis (places_held h a b c)
   chosen_of One a b c f g k = f
   chosen_of Listed a b c f g k = g
   chosen_of Named a b c f g k = k
@@ -203,7 +203,7 @@ pub of_document : (number : ℕ) (uri : Parts) (v : Value) (above : List Located
 of_document number uri v above p = all_as (OfThis number uri) (λ t. t.document ≡ number) (λ t e. e.0) (places_at number uri above p v) (of_source number uri v above p)
 
 -- the place is one of its document, which stands among these, where the first has the number n
-pub record IsOf (n : ℕ) (ds : Documents) (t : Place) : Type 0 where
+pub record IsOf (n : ℕ) (ds : Documents) (t : SchemaPlace) : Type 0 where
   pub index : ℕ
   pub numbered : t.document ≡ n + index
   pub document : Document
@@ -212,7 +212,7 @@ pub record IsOf (n : ℕ) (ds : Documents) (t : Place) : Type 0 where
   pub ascends : NamesAscend document.root
   pub short : IsShort document.root
 
-pub both_all : (P Q R : Place → Type 0) → ((t : Place) → P t → Q t → R t) → (xs : List Place) → AllByRecursion P xs → AllByRecursion Q xs → AllByRecursion R xs
+pub both_all : (P Q R : SchemaPlace → Type 0) → ((t : SchemaPlace) → P t → Q t → R t) → (xs : List SchemaPlace) → AllByRecursion P xs → AllByRecursion Q xs → AllByRecursion R xs
 both_all P Q R f [] h g = tt
 both_all P Q R f (x ∷ xs) h g = (f x h.0 g.0, both_all P Q R f xs h.1 g.1)
 
@@ -254,7 +254,7 @@ pub record Standing (documents : Documents) (s : Site) : Type 0 where
   pub ascends : NamesAscend s.schema
   pub short : IsShort s.schema
 
-place_standing : (documents : Documents) (t : Place) → IsOf 0 documents t → Standing documents (site t)
+place_standing : (documents : Documents) (t : SchemaPlace) → IsOf 0 documents t → Standing documents (site t)
 place_standing documents t o =
     let number : t.document ≡ o.index = omega (arith, o.numbered) in
     let there = place_stands o.document.root t.spot.pointer t.spot.schema o.ascends o.short o.place in

@@ -61,13 +61,13 @@ pub record Located : Type 0 where
   pub schema : Value
 
 -- a place: the number and the URI of its document, the places above it from the root on, and where it stands
-pub record Place : Type 0 where
+pub record SchemaPlace : Type 0 where
   pub document : ℕ
   pub uri : Parts
   pub above : List Located
   pub spot : Located
 
-abbrev pub places_held : Holding → List Place → List Place → List Place → List Place
+abbrev pub places_held : Holding → List SchemaPlace → List SchemaPlace → List SchemaPlace → List SchemaPlace
 places_held One one listed named = one
 places_held Listed one listed named = listed
 places_held Named one listed named = named
@@ -76,39 +76,39 @@ places_held Nothing one listed named = []
 module _ (number : ℕ) (uri : Parts) where
   abbrev mutual
     -- The place at p and those below it: itself first, then by keyword ascending, and by index or by name ascending.
-    pub places_at : List Located → Tokens → Value → List Place
+    pub places_at : List Located → Tokens → Value → List SchemaPlace
     places_at above p (object ms) =
         record { document = number; uri = uri; above = above; spot = record { pointer = p; schema = object ms } }
         ∷ places_of_keywords (above ++ record { pointer = p; schema = object ms } ∷ []) p ms
     places_at above p v = record { document = number; uri = uri; above = above; spot = record { pointer = p; schema = v } } ∷ []
 
-    pub places_of_keywords : List Located → Tokens → Members → List Place
+    pub places_of_keywords : List Located → Tokens → Members → List SchemaPlace
     places_of_keywords above p no_members = []
     places_of_keywords above p (member k v ms) =
         places_held (holding k) (places_at above (p ++ k ∷ []) v) (places_in_list above (p ++ k ∷ []) v) (places_in_object above (p ++ k ∷ []) v)
         ++ places_of_keywords above p ms
 
-    pub places_in_list : List Located → Tokens → Value → List Place
+    pub places_in_list : List Located → Tokens → Value → List SchemaPlace
     places_in_list above p (list vs) = places_of_items above p 0 vs
     places_in_list above p _ = []
 
-    pub places_of_items : List Located → Tokens → ℕ → Items → List Place
+    pub places_of_items : List Located → Tokens → ℕ → Items → List SchemaPlace
     places_of_items above p i no_items = []
     places_of_items above p i (item v vs) = places_at above (p ++ decimal i ∷ []) v ++ places_of_items above p (suc i) vs
 
-    pub places_in_object : List Located → Tokens → Value → List Place
+    pub places_in_object : List Located → Tokens → Value → List SchemaPlace
     places_in_object above p (object ms) = places_of_members above p ms
     places_in_object above p _ = []
 
-    pub places_of_members : List Located → Tokens → Members → List Place
+    pub places_of_members : List Located → Tokens → Members → List SchemaPlace
     places_of_members above p no_members = []
     places_of_members above p (member n v ms) = places_at above (p ++ n ∷ []) v ++ places_of_members above p ms
 
 -- the places of the documents, the first of which has the number n
-abbrev pub places_from : ℕ → Documents → List Place
+abbrev pub places_from : ℕ → Documents → List SchemaPlace
 places_from n [] = []
 places_from n (d ∷ ds) = places_at n d.uri [] [] d.root ++ places_from (suc n) ds
 
 -- all places, document by document
-abbrev pub all_places : Documents → List Place
+abbrev pub all_places : Documents → List SchemaPlace
 all_places documents = places_from 0 documents

@@ -7,20 +7,20 @@ use Rattle.js_doc.specs.Pointer.{Tokens}
 use Rattle.js_doc.specs.Short.{IsShort}
 use Rattle.js_doc.specs.Value.{Value}
 use Rattle.js_places.specs.Document.{Document, Documents}
-use Rattle.js_places.specs.Place.{IsPlace, Place, places_at, all_places}
+use Rattle.js_places.specs.Place.{IsPlace, SchemaPlace, places_at, all_places}
 use Rattle.js_places.specs.Seen.{AreRead}
 
 -- the list has a place at the pointer, with this schema
-abbrev pub ListsPlace : Tokens → Value → List Place → Type 0
+abbrev pub ListsPlace : Tokens → Value → List SchemaPlace → Type 0
 ListsPlace p v [] = ⊥
 ListsPlace p v (t ∷ ts) = ((t.spot.pointer ≡ p) × (t.spot.schema ≡ v)) ⊎ ListsPlace p v ts
 
 -- no two of the places stand at one pointer
-abbrev pub AreApart : List Place → Type 0
+abbrev pub AreApart : List SchemaPlace → Type 0
 AreApart [] = Unit {0}
 AreApart (t ∷ ts) = AllByRecursion (λ s. ¬ (t.spot.pointer ≡ s.spot.pointer)) ts × AreApart ts
 
-pub record IsListOf (root : Value) (listed : List Place) : Type 0 where
+pub record IsListOf (root : Value) (listed : List SchemaPlace) : Type 0 where
   pub sound : AllByRecursion (λ t. IsPlace root t.spot.pointer t.spot.schema) listed
   pub complete : (p : Tokens) (v : Value) → IsPlace root p v → ListsPlace p v listed
 
@@ -36,20 +36,20 @@ ListsEachOnce = (number : ℕ) (uri : Parts) (root : Value) → NamesAscend root
 -- ---- over a whole bundle
 
 -- the place is one of the document that has its number
-abbrev pub IsPlaceOf : Documents → Place → Type 0
+abbrev pub IsPlaceOf : Documents → SchemaPlace → Type 0
 IsPlaceOf documents t =
     (d : Document) × (slice_get documents t.document ≡ Some d) × (t.uri ≡ d.uri) × IsPlace d.root t.spot.pointer t.spot.schema
 
 -- the list has a place of the document with this number at the pointer, with this schema
-abbrev pub ListsIn : ℕ → Tokens → Value → List Place → Type 0
+abbrev pub ListsIn : ℕ → Tokens → Value → List SchemaPlace → Type 0
 ListsIn n p v [] = ⊥
 ListsIn n p v (t ∷ ts) = ((t.document ≡ n) × (t.spot.pointer ≡ p) × (t.spot.schema ≡ v)) ⊎ ListsIn n p v ts
 
 -- no two of the places stand at one pointer of one document
-abbrev pub Differ : Place → Place → Type 0
+abbrev pub Differ : SchemaPlace → SchemaPlace → Type 0
 Differ t s = t.document ≡ s.document → ¬ (t.spot.pointer ≡ s.spot.pointer)
 
-abbrev pub AreDistinct : List Place → Type 0
+abbrev pub AreDistinct : List SchemaPlace → Type 0
 AreDistinct [] = Unit {0}
 AreDistinct (t ∷ ts) = AllByRecursion (λ s. Differ t s) ts × AreDistinct ts
 

@@ -10,7 +10,7 @@ use Rattle.js_doc.specs.Value.{Value}
 use Rattle.js_places.specs.declared.scan.scope.Scope.{Scope}
 use Rattle.js_places.specs.Keyword.{Text, argument, as_text, has_argument}
 use Rattle.js_places.specs.Document.{Documents}
-use Rattle.js_places.specs.Place.{Place, Located, all_places}
+use Rattle.js_places.specs.Place.{SchemaPlace, Located, all_places}
 use Rattle.js_places.specs.Url.{longest_uri, without_fragment, parsed}
 
 -- a text joined with a base; none if it is too long, or `url` can't join it
@@ -40,16 +40,16 @@ abbrev pub root_scope : Parts → Scope
 root_scope uri = record { resource = []; base = uri }
 
 -- the scope that a place is in: the places above it, from the root on, make it
-abbrev pub scope_above : Place → Scope
+abbrev pub scope_above : SchemaPlace → Scope
 scope_above place = fold scope_below (root_scope place.uri) place.above
 
 -- the base of a place (section 8.2.1)
-abbrev pub base : Place → Parts
+abbrev pub base : SchemaPlace → Parts
 base place = (scope_below (scope_above place) place.spot).base
 
 -- The root of a place's resource, by its pointer: the nearest place upward, itself included, that has an `$id` or is a
 -- root. An `$id` that can't be joined makes no resource for what stands below it, but one for its own place.
-abbrev pub resource_root : Place → Tokens
+abbrev pub resource_root : SchemaPlace → Tokens
 resource_root place =
     if has_argument (codes "$id") place.spot.schema then place.spot.pointer else (scope_above place).resource
 
@@ -65,7 +65,7 @@ pub record Site : Type 0 where
   pub identifies : Bool
   pub schema : Value
 
-abbrev pub site : Place → Site
+abbrev pub site : SchemaPlace → Site
 site place =
     record {
       document = place.document;

@@ -18,7 +18,7 @@ use Rattle.js_bundle.specs.Form.{is_formed, is_schema}
 use Rattle.js_places.specs.Keyword.{Text, argument, as_text}
 use Rattle.js_bundle.specs.NameLaws.{AreOne}
 use Rattle.js_places.specs.Names.{same_tokens, is_root, is_known_as, root_named, stands_at, belongs_to, makes, by_pointer, by_anchor, by_dynamic_anchor, is_pointer, is_named_by, names, is_anchor_name}
-use Rattle.js_places.specs.Place.{Place, places_from}
+use Rattle.js_places.specs.Place.{SchemaPlace, places_from}
 use Rattle.js_bundle.specs.Refusals.{when, decided, is_taken, is_made, text_rules, name_rules, assertion_rules, at_joined_id, at_id, at_place, at_member, at_site, first_pass, second_pass, candidates, most_places}
 use Rattle.js_places.specs.Url.{is_empty}
 use Rattle.js_places.specs.Resource.{Site, site, sites, joined, identified_by, identified, scope_or}
@@ -185,7 +185,7 @@ base_is : (o : Option Parts) (p : Tokens) (t : Site) → o ≡ identified t.abov
 base_is None p t e s is = absurd (cc)
 base_is (Some b) p t e s is = sym e ∙ ap Some (sym is)
 
-identifies_place : (place : Place) → (site place).identifies ≡ true → identified (site place).above.base (site place).schema ≡ Some (site place).own.base
+identifies_place : (place : SchemaPlace) → (site place).identifies ≡ true → identified (site place).above.base (site place).schema ≡ Some (site place).own.base
 identifies_place place i = base_is (identified (site place).above.base (site place).schema) place.spot.pointer (site place) refl i refl
 
 identifies_is : (documents : Documents) (m : ℕ) (t : Site) → slice_get (sites documents) m ≡ Some t → t.identifies ≡ true → identified t.above.base t.schema ≡ Some t.own.base

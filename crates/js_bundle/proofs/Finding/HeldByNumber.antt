@@ -17,7 +17,7 @@ use Rattle.js_places.specs.Document.{Documents}
 use Rattle.js_places.specs.Keyword.{Text, argument}
 use Rattle.js_places.specs.KeywordName.{keyword_name}
 use Rattle.js_places.specs.Names.{stands_at}
-use Rattle.js_places.specs.Place.{holding, items_in, Located, Place, places_held, places_at, places_in_list, places_in_object, places_of_members, places_from, places_of_keywords}
+use Rattle.js_places.specs.Place.{holding, items_in, Located, SchemaPlace, places_held, places_at, places_in_list, places_in_object, places_of_members, places_from, places_of_keywords}
 use Rattle.js_places.specs.Resource.{Site, site, sites}
 use Rattle.js_places.specs.PlaceNumber.{place_at}
 use Rattle.js_bundle.specs.Schemas.{Finds, Holds, Step, Alone, Index, Name, step_tokens, below}
@@ -50,14 +50,14 @@ two_tokens p k n = append_assoc p (k ∷ []) (n ∷ [])
 -- ---- the rank of a name
 
 -- what stands at a number is before a name as its own name is
-by_name : (all : List Place) (kept_sites : List KeptSite) (d : ℕ) (p : Tokens) (k n name : Text) (m : ℕ) → kept_sites ≡ map (λ t. kept_site (site t)) all → StandsAt all d (p ++ k ∷ n ∷ []) m
+by_name : (all : List SchemaPlace) (kept_sites : List KeptSite) (d : ℕ) (p : Tokens) (k n name : Text) (m : ℕ) → kept_sites ≡ map (λ t. kept_site (site t)) all → StandsAt all d (p ++ k ∷ n ∷ []) m
     → stands_before kept_sites name m ≡ is_lt (name_cmp n name)
 by_name all kept_sites d p k n name m are s =
     let there : slice_get kept_sites m ≡ Some (kept_site (site s.place)) = ap (λ xs. slice_get xs m) are ∙ slice_get-map (λ t. kept_site (site t)) all m ∙ ap (option_map (λ t. kept_site (site t))) s.found in
     ap (λ o. option_map_or (λ x. ends_before name x.pointer) o false) there ∙ ap (ends_before name) s.pointer ∙ last_token p k n name
 
 -- a list of numbers, one for each member, each of the place with its name
-pub record AreNamed (all : List Place) (d : ℕ) (p : Tokens) (k : Text) (ms : Members) (numbers : List ℕ) : Type 0 where
+pub record AreNamed (all : List SchemaPlace) (d : ℕ) (p : Tokens) (k : Text) (ms : Members) (numbers : List ℕ) : Type 0 where
   pub many : length numbers ≡ length (member_list ms)
   pub named : (r : ℕ) (name : Text) (u : Value) → slice_get (member_list ms) r ≡ Some (name, u) → (m : ℕ) × (slice_get numbers r ≡ Some m) × StandsAt all d (p ++ k ∷ name ∷ []) m
 
@@ -65,7 +65,7 @@ numbers_many : (n : ℕ) (ms : Members) → length (numbers_of_members n ms) ≡
 numbers_many n no_members = refl
 numbers_many n (member name v ms) = ap suc (numbers_many (n + count v) ms)
 
-pub are_named : (all : List Place) (d : ℕ) (uri : Parts) (ms : Members) (above : List Located) (p : Tokens) (k : Text) (n : ℕ) → StandsFrom (places_of_members d uri above (p ++ k ∷ []) ms) n all
+pub are_named : (all : List SchemaPlace) (d : ℕ) (uri : Parts) (ms : Members) (above : List Located) (p : Tokens) (k : Text) (n : ℕ) → StandsFrom (places_of_members d uri above (p ++ k ∷ []) ms) n all
     → AreNamed all d p k ms (numbers_of_members n ms)
 are_named all d uri ms above p k n s = record {
   many = numbers_many n ms;
@@ -79,7 +79,7 @@ get_within [] i low = absurd (omega (arith, low))
 get_within (x ∷ xs) zero low = (x, refl)
 get_within (x ∷ xs) (suc i) low = get_within xs i (omega (arith, low))
 
-pub rank_of_name : (all : List Place) (kept_sites : List KeptSite) (d : ℕ) (p : Tokens) (k name : Text) (u : Value) (ms : Members) (numbers : List ℕ) (r : ℕ) → kept_sites ≡ map (λ t. kept_site (site t)) all
+pub rank_of_name : (all : List SchemaPlace) (kept_sites : List KeptSite) (d : ℕ) (p : Tokens) (k name : Text) (u : Value) (ms : Members) (numbers : List ℕ) (r : ℕ) → kept_sites ≡ map (λ t. kept_site (site t)) all
     → NamesAscendInMembers ms → AreNamed all d p k ms numbers → slice_get (member_list ms) r ≡ Some (name, u) → IsRankOf kept_sites name numbers r
 rank_of_name all kept_sites d p k name u ms numbers r are up h here = (
   omega (arith, h.many, slice_get_within (member_list ms) r (name, u) here),
@@ -114,12 +114,12 @@ argument_ascends (object ms) k l a e = let r = rank_there k l ms e in ascends_at
 
 -- ---- what a keyword holds at a step
 
-pub record IsLed (all : List Place) (kept_sites : List KeptSite) (d : ℕ) (p : Tokens) (k : Text) (step : Step) (numbers : List ℕ) : Type 0 where
+pub record IsLed (all : List SchemaPlace) (kept_sites : List KeptSite) (d : ℕ) (p : Tokens) (k : Text) (step : Step) (numbers : List ℕ) : Type 0 where
   pub number : ℕ
   pub stands : StandsAt all d (p ++ k ∷ step_tokens step) number
   pub is : IsNumberAt kept_sites numbers step number
 
-module _ (all : List Place) (kept_sites : List KeptSite) (d : ℕ) (uri : Parts) (are : kept_sites ≡ map (λ t. kept_site (site t)) all) where
+module _ (all : List SchemaPlace) (kept_sites : List KeptSite) (d : ℕ) (uri : Parts) (are : kept_sites ≡ map (λ t. kept_site (site t)) all) where
   -- where the keyword's argument is known
   led_alone : (above : List Located) (p : Tokens) (k : Text) (u : Value) (numbers : List ℕ) → holding k ≡ One → KeywordThere all d uri above p k u numbers → IsLed all kept_sites d p k Alone numbers
   led_alone above p k u numbers e h =
@@ -203,7 +203,7 @@ pub record IsFound (documents : Documents) (kept_sites : List KeptSite) (s : Sit
 pub kept_sites_are : (documents : Documents) → map kept_site (sites documents) ≡ map (λ t. kept_site (site t)) (places_from 0 documents)
 kept_sites_are documents = map-twice (places_from 0 documents)
   where
-    map-twice : (xs : List Place) → map kept_site (map site xs) ≡ map (λ t. kept_site (site t)) xs
+    map-twice : (xs : List SchemaPlace) → map kept_site (map site xs) ≡ map (λ t. kept_site (site t)) xs
     map-twice [] = refl
     map-twice (x ∷ xs) = ap (λ ys. kept_site (site x) ∷ ys) (map-twice xs)
 

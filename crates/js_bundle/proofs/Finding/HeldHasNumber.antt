@@ -15,7 +15,7 @@ use Rattle.js_places.specs.declared.scan.holding.Holding.{Holding}
 use Rattle.js_places.specs.declared.scan.holding.Holding.TheVariants.{One, Listed, Named, Nothing}
 use Rattle.js_places.specs.Keyword.{Text}
 use Rattle.js_places.specs.KeywordName.{keyword_name}
-use Rattle.js_places.specs.Place.{one_schema, list_of_schemas, object_of_schemas, holding, values, Located, Place, places_held, places_at, places_of_keywords, places_in_list, places_of_items, places_in_object, places_of_members}
+use Rattle.js_places.specs.Place.{one_schema, list_of_schemas, object_of_schemas, holding, values, Located, SchemaPlace, places_held, places_at, places_of_keywords, places_in_list, places_of_items, places_in_object, places_of_members}
 use Rattle.js_places.specs.code.Edges.{HeldNumbers, count, count_of_keyword, one_entry, numbers_held, numbers_of_items, numbers_of_members, held_by_keywords}
 use Rattle.js_bundle.specs.code.PlaceBelow.{numbers_of_keyword}
 use Rattle.js_places.proofs.Listing.PlacesCounted.{StandsFrom, first_there, front_there, back_there, place_count, keyword_count}
@@ -109,13 +109,13 @@ other_way k l false e n = e
 -- ---- where it stands
 
 -- a place with this number stands at the pointer of the document
-pub record StandsAt (all : List Place) (d : ℕ) (q : Tokens) (n : ℕ) : Type 0 where
-  pub place : Place
+pub record StandsAt (all : List SchemaPlace) (d : ℕ) (q : Tokens) (n : ℕ) : Type 0 where
+  pub place : SchemaPlace
   pub found : slice_get all n ≡ Some place
   pub document : place.document ≡ d
   pub pointer : place.spot.pointer ≡ q
 
-module _ (all : List Place) (d : ℕ) (uri : Parts) where
+module _ (all : List SchemaPlace) (d : ℕ) (uri : Parts) where
   pub head_there : (v : Value) (above : List Located) (p : Tokens) (n : ℕ) → StandsFrom (places_at d uri above p v) n all → StandsAt all d p n
   head_there null above p n s = record { place = record { document = d; uri = uri; above = above; spot = record { pointer = p; schema = null } }; found = first_there _ _ n all s; document = refl; pointer = refl }
   head_there (truth b) above p n s = record { place = record { document = d; uri = uri; above = above; spot = record { pointer = p; schema = truth b } }; found = first_there _ _ n all s; document = refl; pointer = refl }

@@ -11,7 +11,7 @@ use Rattle.js_doc.proofs.Named.{is_text-sound}
 use Rattle.js_places.specs.Document.{Document, Documents}
 use Rattle.js_places.specs.Keyword.{Text}
 use Rattle.js_places.specs.Names.{stands_at}
-use Rattle.js_places.specs.Place.{holding, IsPlace, in_keyword, in_list, in_object, Place, places_at, places_from}
+use Rattle.js_places.specs.Place.{holding, IsPlace, in_keyword, in_list, in_object, SchemaPlace, places_at, places_from}
 use Rattle.js_places.specs.PlaceLaws.{ListsPlace}
 use Rattle.js_places.specs.Resource.{Site, site, sites}
 use Rattle.js_places.specs.PlaceNumber.{place_at}
@@ -24,14 +24,14 @@ use Rattle.js_places.proofs.Listing.EachListedOnce.{number_of, found_there}
 
 -- ---- each place of a document has a number
 
-pub record IsListed (xs : List Place) (p : Tokens) (v : Value) : Type 0 where
+pub record IsListed (xs : List SchemaPlace) (p : Tokens) (v : Value) : Type 0 where
   pub index : ℕ
-  pub place : Place
+  pub place : SchemaPlace
   pub stands : slice_get xs index ≡ Some place
   pub pointer : place.spot.pointer ≡ p
   pub schema : place.spot.schema ≡ v
 
-listed_at : (xs : List Place) (p : Tokens) (v : Value) → ListsPlace p v xs → IsListed xs p v
+listed_at : (xs : List SchemaPlace) (p : Tokens) (v : Value) → ListsPlace p v xs → IsListed xs p v
 listed_at [] p v h = absurd h
 listed_at (x ∷ xs) p v (inl e) = record { index = 0; place = x; stands = refl; pointer = e.0; schema = e.1 }
 listed_at (x ∷ xs) p v (inr h) = let m = listed_at xs p v h in record { index = suc m.index; place = m.place; stands = m.stands; pointer = m.pointer; schema = m.schema }
@@ -49,7 +49,7 @@ right_at [] ys i x e = (i, e)
 right_at (y ∷ xs) ys i x e = let r = right_at xs ys i x e in (suc r.0, r.1)
 
 -- a place of a document is one of all
-among_all : (n : ℕ) (ds : Documents) (j m : ℕ) (d : Document) (i : ℕ) (t : Place) → m ≡ n + j → slice_get ds j ≡ Some d → slice_get (places_at m d.uri [] [] d.root) i ≡ Some t
+among_all : (n : ℕ) (ds : Documents) (j m : ℕ) (d : Document) (i : ℕ) (t : SchemaPlace) → m ≡ n + j → slice_get ds j ≡ Some d → slice_get (places_at m d.uri [] [] d.root) i ≡ Some t
     → (k : ℕ) × (slice_get (places_from n ds) k ≡ Some t)
 among_all n [] j m d i t is e h = absurd (none_at j d e)
 among_all n (c ∷ ds) zero m d i t is e h =

@@ -13,7 +13,7 @@ use Rattle.js_places.specs.declared.keyword_name.KeywordName.{KeywordName}
 use Rattle.js_places.specs.Document.{Documents}
 use Rattle.js_places.specs.Keyword.{Text, argument}
 use Rattle.js_places.specs.KeywordName.{keyword_name}
-use Rattle.js_places.specs.Place.{holding, Located, Place, places_held, places_at, places_in_list, places_in_object, places_from}
+use Rattle.js_places.specs.Place.{holding, Located, SchemaPlace, places_held, places_at, places_in_list, places_in_object, places_from}
 use Rattle.js_bundle.specs.Ranked.{HoldsAtRank}
 use Rattle.js_places.specs.Resource.{Site, site, sites}
 use Rattle.js_places.specs.PlaceNumber.{place_at}
@@ -71,7 +71,7 @@ two_tokens : (p : Tokens) (k n : Text) → (p ++ k ∷ []) ++ n ∷ [] ≡ p ++ 
 two_tokens [] k n = refl
 two_tokens (x ∷ p) k n = ap (λ q. x ∷ q) (two_tokens p k n)
 
-module _ (all : List Place) (kept_sites : List KeptSite) (d : ℕ) (uri : Parts) (are : kept_sites ≡ map (λ t. kept_site (site t)) all) where
+module _ (all : List SchemaPlace) (kept_sites : List KeptSite) (d : ℕ) (uri : Parts) (are : kept_sites ≡ map (λ t. kept_site (site t)) all) where
   member_ranked : (above : List Located) (p : Tokens) (k name : Text) (l u : Value) (r : ℕ) (numbers : List ℕ) → holding k ≡ Named → slice_get (members_of l) r ≡ Some (name, u)
       → KeywordThere all d uri above p k l numbers → (m : ℕ) × (slice_get numbers r ≡ Some m) × StandsAt all d (p ++ k ∷ name ∷ []) m
   member_ranked above p k name null u r numbers e g h = absurd (cc)

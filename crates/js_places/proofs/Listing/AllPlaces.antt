@@ -4,7 +4,7 @@ use Rattle.std.specs.List.{AllByRecursion}
 use Rattle.js_doc.specs.Pointer.{Tokens}
 use Rattle.js_doc.specs.Value.{Value}
 use Rattle.js_places.specs.Document.{Document, Documents}
-use Rattle.js_places.specs.Place.{IsPlace, at_root, Place, places_at, places_from, all_places}
+use Rattle.js_places.specs.Place.{IsPlace, at_root, SchemaPlace, places_at, places_from, all_places}
 use Rattle.js_places.specs.PlaceLaws.{ListsPlace, IsPlaceOf, ListsIn, AreDistinct, ListsAll}
 use Rattle.js_places.specs.Seen.{AreRead}
 use Rattle.js_places.proofs.Listing.PlacesApart.{all_as}
@@ -12,16 +12,16 @@ use Rattle.js_places.proofs.Listing.EachListedOnce.{all_distinct}
 use Rattle.js_places.proofs.Listing.LeastSetListed.{all_append, sound, complete}
 use Rattle.js_places.proofs.Standing.{both_all, of_document, of_source}
 
-in_left : (n : ℕ) (p : Tokens) (v : Value) (xs ys : List Place) → ListsIn n p v xs → ListsIn n p v (xs ++ ys)
+in_left : (n : ℕ) (p : Tokens) (v : Value) (xs ys : List SchemaPlace) → ListsIn n p v xs → ListsIn n p v (xs ++ ys)
 in_left n p v [] ys h = absurd h
 in_left n p v (x ∷ xs) ys (inl e) = inl e
 in_left n p v (x ∷ xs) ys (inr h) = inr (in_left n p v xs ys h)
 
-in_right : (n : ℕ) (p : Tokens) (v : Value) (xs ys : List Place) → ListsIn n p v ys → ListsIn n p v (xs ++ ys)
+in_right : (n : ℕ) (p : Tokens) (v : Value) (xs ys : List SchemaPlace) → ListsIn n p v ys → ListsIn n p v (xs ++ ys)
 in_right n p v [] ys h = h
 in_right n p v (x ∷ xs) ys h = inr (in_right n p v xs ys h)
 
-in_document : (n : ℕ) (p : Tokens) (v : Value) (xs : List Place) → AllByRecursion (λ t. t.document ≡ n) xs → ListsPlace p v xs → ListsIn n p v xs
+in_document : (n : ℕ) (p : Tokens) (v : Value) (xs : List SchemaPlace) → AllByRecursion (λ t. t.document ≡ n) xs → ListsPlace p v xs → ListsIn n p v xs
 in_document n p v [] a h = absurd h
 in_document n p v (x ∷ xs) a (inl e) = inl (a.0, e.0, e.1)
 in_document n p v (x ∷ xs) a (inr h) = inr (in_document n p v xs a.1 h)
@@ -38,7 +38,7 @@ listed_from k (c ∷ ds) zero n d p v is e h =
 listed_from k (c ∷ ds) (suc j) n d p v is e h =
     in_right n p v (places_at k c.uri [] [] c.root) (places_from (suc k) ds) (listed_from (suc k) ds j n d p v (omega (arith, is)) e h)
 
-pub record IsFrom (k : ℕ) (ds : Documents) (t : Place) : Type 0 where
+pub record IsFrom (k : ℕ) (ds : Documents) (t : SchemaPlace) : Type 0 where
   pub index : ℕ
   pub number : t.document ≡ k + index
   pub document : Document
@@ -57,7 +57,7 @@ sound_from k (d ∷ ds) =
     (λ t o. record { index = suc o.index; number = omega (arith, o.number); document = o.document; found = o.found; uri = o.uri; place = o.place }) (places_from (suc k) ds)
     (sound_from (suc k) ds))
 
-place_of : (documents : Documents) (t : Place) → IsFrom 0 documents t → IsPlaceOf documents t
+place_of : (documents : Documents) (t : SchemaPlace) → IsFrom 0 documents t → IsPlaceOf documents t
 place_of documents t o =
     let number : o.index ≡ t.document = omega (arith, o.number) in
     (o.document, subst (λ i. slice_get documents i ≡ Some o.document) number o.found, o.uri, o.place)

@@ -6,7 +6,7 @@ use Rattle.js_doc.specs.Pointer.{Tokens}
 use Rattle.js_doc.proofs.Named.{is_text-refl, is_text-sound}
 use Rattle.js_places.specs.Document.{Documents}
 use Rattle.js_places.specs.Names.{same_tokens, stands_at}
-use Rattle.js_places.specs.Place.{Place, places_at, places_from}
+use Rattle.js_places.specs.Place.{SchemaPlace, places_at, places_from}
 use Rattle.js_places.specs.PlaceLaws.{AreApart, AreDistinct, Differ}
 use Rattle.js_places.specs.Resource.{Site, site, sites}
 use Rattle.js_places.specs.Seen.{AreOrdered, AreShort}
@@ -42,11 +42,11 @@ stands_itself s = rw (nat_eq-refl s.document, tokens-refl s.pointer) refl
 
 -- ---- no two of the listed places stand at one pointer of one document
 
-distinct_apart : (xs : List Place) → AreApart xs → AreDistinct xs
+distinct_apart : (xs : List SchemaPlace) → AreApart xs → AreDistinct xs
 distinct_apart [] h = tt
 distinct_apart (x ∷ xs) h = (all_as (λ s. ¬ (x.spot.pointer ≡ s.spot.pointer)) (λ s. Differ x s) (λ s n d. n) xs h.0, distinct_apart xs h.1)
 
-distinct_append : (n : ℕ) (xs ys : List Place) → AllByRecursion (λ t. t.document ≡ n) xs → AllByRecursion (λ t. suc n ≤ t.document) ys → AreDistinct xs → AreDistinct ys → AreDistinct (xs ++ ys)
+distinct_append : (n : ℕ) (xs ys : List SchemaPlace) → AllByRecursion (λ t. t.document ≡ n) xs → AllByRecursion (λ t. suc n ≤ t.document) ys → AreDistinct xs → AreDistinct ys → AreDistinct (xs ++ ys)
 distinct_append n [] ys h g a b = b
 distinct_append n (x ∷ xs) ys h g a b =
     (all_append (λ s. Differ x s) xs ys a.0 (all_as (λ t. suc n ≤ t.document) (λ s. Differ x s) (λ s low same. absurd (omega (arith, low, same, h.0))) ys g), distinct_append n xs ys h.1 g a.1 b)
@@ -66,11 +66,11 @@ all_distinct n (d ∷ ds) a s =
 
 -- ---- so where a place stands finds it
 
-fails_by : (x t : Place) (b : Bool) → stands_at t.document t.spot.pointer (site x) ≡ b → Differ x t → stands_at t.document t.spot.pointer (site x) ≡ false
+fails_by : (x t : SchemaPlace) (b : Bool) → stands_at t.document t.spot.pointer (site x) ≡ b → Differ x t → stands_at t.document t.spot.pointer (site x) ≡ false
 fails_by x t true e n = let a = at_place t.document t.spot.pointer (site x) e in absurd (n a.document a.pointer)
 fails_by x t false e n = e
 
-number_from : (t : Place) (xs : List Place) (n k m : ℕ) → m ≡ k + n → AreDistinct xs → slice_get xs n ≡ Some t → position_from (stands_at t.document t.spot.pointer) k (map site xs) ≡ Some m
+number_from : (t : SchemaPlace) (xs : List SchemaPlace) (n k m : ℕ) → m ≡ k + n → AreDistinct xs → slice_get xs n ≡ Some t → position_from (stands_at t.document t.spot.pointer) k (map site xs) ≡ Some m
 number_from t [] n k m is h e = absurd (cc)
 number_from t (x ∷ xs) zero k m is h e =
     let same : x ≡ t = cc in

@@ -8,7 +8,7 @@ use Rattle.js_doc.specs.Parts.{member_list, members_of}
 use Rattle.js_places.specs.declared.scan.holding.Holding.{Holding}
 use Rattle.js_places.specs.declared.scan.holding.Holding.TheVariants.{One, Listed, Named, Nothing}
 use Rattle.js_places.specs.Keyword.{Text}
-use Rattle.js_places.specs.Place.{holding, values, items_in, IsPlace, at_root, in_keyword, in_list, in_object, Located, Place, places_held, places_at, places_of_keywords, places_in_list, places_of_items, places_in_object, places_of_members}
+use Rattle.js_places.specs.Place.{holding, values, items_in, IsPlace, at_root, in_keyword, in_list, in_object, Located, SchemaPlace, places_held, places_at, places_of_keywords, places_in_list, places_of_items, places_in_object, places_of_members}
 use Rattle.js_places.specs.PlaceLaws.{ListsPlace, IsListOf}
 
 abbrev pub Among : {A : Type 0} → A → List A → Type 0
@@ -33,12 +33,12 @@ two_tokens : (p : Tokens) (k n : Text) → (p ++ k ∷ []) ++ n ∷ [] ≡ p ++ 
 two_tokens p k n = append_assoc p (k ∷ []) (n ∷ [])
 
 module _ (number : ℕ) (uri : Parts) (root : Value) where
-  abbrev Is : Place → Type 0
+  abbrev Is : SchemaPlace → Type 0
   Is t = IsPlace root t.spot.pointer t.spot.schema
 
   -- ---- what is listed is a place
 
-  by_holding : (h : Holding) (a b c : List Place) → (h ≡ One → AllByRecursion Is a) → (h ≡ Listed → AllByRecursion Is b) → (h ≡ Named → AllByRecursion Is c) → AllByRecursion Is (places_held h a b c)
+  by_holding : (h : Holding) (a b c : List SchemaPlace) → (h ≡ One → AllByRecursion Is a) → (h ≡ Listed → AllByRecursion Is b) → (h ≡ Named → AllByRecursion Is c) → AllByRecursion Is (places_held h a b c)
   by_holding One a b c f g k = f refl
   by_holding Listed a b c f g k = g refl
   by_holding Named a b c f g k = k refl
@@ -97,20 +97,20 @@ module _ (number : ℕ) (uri : Parts) (root : Value) where
 
 -- ---- what a place holds is listed with it
 
-lists_left : (q : Tokens) (w : Value) (xs ys : List Place) → ListsPlace q w xs → ListsPlace q w (xs ++ ys)
+lists_left : (q : Tokens) (w : Value) (xs ys : List SchemaPlace) → ListsPlace q w xs → ListsPlace q w (xs ++ ys)
 lists_left q w [] ys h = absurd h
 lists_left q w (x ∷ xs) ys (inl e) = inl e
 lists_left q w (x ∷ xs) ys (inr h) = inr (lists_left q w xs ys h)
 
-lists_right : (q : Tokens) (w : Value) (xs ys : List Place) → ListsPlace q w ys → ListsPlace q w (xs ++ ys)
+lists_right : (q : Tokens) (w : Value) (xs ys : List SchemaPlace) → ListsPlace q w ys → ListsPlace q w (xs ++ ys)
 lists_right q w [] ys h = h
 lists_right q w (x ∷ xs) ys h = inr (lists_right q w xs ys h)
 
-abbrev pub Within : List Place → List Place → Type 0
+abbrev pub Within : List SchemaPlace → List SchemaPlace → Type 0
 Within xs all = (q : Tokens) (w : Value) → ListsPlace q w xs → ListsPlace q w all
 
 -- the list has what each keyword of the schema at p holds
-pub record HasBelow (all : List Place) (p : Tokens) (v : Value) : Type 0 where
+pub record HasBelow (all : List SchemaPlace) (p : Tokens) (v : Value) : Type 0 where
   pub one : (k : Text) (u : Value) → holding k ≡ One → Among (k, u) (members_of v) → ListsPlace (p ++ k ∷ []) u all
   pub listed : (k : Text) (l : Value) (i : ℕ) (u : Value) → holding k ≡ Listed → Among (k, l) (members_of v) → slice_get (items_in l) i ≡ Some u → ListsPlace (p ++ k ∷ decimal i ∷ []) u all
   pub named : (k : Text) (l : Value) (n : Text) (u : Value) → holding k ≡ Named → Among (k, l) (members_of v) → Among (n, u) (members_of l) → ListsPlace (p ++ k ∷ n ∷ []) u all
@@ -167,7 +167,7 @@ module _ (number : ℕ) (uri : Parts) where
   in_object_at (text s) n above p u h = absurd h
   in_object_at (list vs) n above p u h = absurd h
 
-  chosen_lists : (h : Holding) (a b c xs : List Place) (q : Tokens) (w : Value) → places_held h a b c ≡ xs → ListsPlace q w xs → ListsPlace q w (places_held h a b c)
+  chosen_lists : (h : Holding) (a b c xs : List SchemaPlace) (q : Tokens) (w : Value) → places_held h a b c ≡ xs → ListsPlace q w xs → ListsPlace q w (places_held h a b c)
   chosen_lists h a b c xs q w e l = subst (λ ys. ListsPlace q w ys) (sym e) l
 
   -- what is listed of a keyword
@@ -182,7 +182,7 @@ module _ (number : ℕ) (uri : Parts) where
       lists_right q u (places_held (holding k') (places_at number uri above (p ++ k' ∷ []) l') (places_in_list number uri above (p ++ k' ∷ []) l') (places_in_object number uri above (p ++ k' ∷ []) l')) (places_of_keywords number uri above p ms)
       (keyword_at ms k l above p q u h f)
 
-  has_below : (ms : Members) (above : List Located) (p : Tokens) (all : List Place) → Within (places_of_keywords number uri above p ms) all → HasBelow all p (object ms)
+  has_below : (ms : Members) (above : List Located) (p : Tokens) (all : List SchemaPlace) → Within (places_of_keywords number uri above p ms) all → HasBelow all p (object ms)
   has_below ms above p all w =
       record {
         one = λ k u e a. w (p ++ k ∷ []) u (keyword_at ms k u above p (p ++ k ∷ []) u a
@@ -195,7 +195,7 @@ module _ (number : ℕ) (uri : Parts) where
             (subst (λ r. ListsPlace r u (places_in_object number uri above at l)) (ap (λ c. c ++ n ∷ []) is ∙ two_tokens p k n) (in_object_at l n above at u b))));
       }
 
-  nothing_below : (v : Value) (p : Tokens) (all : List Place) → members_of v ≡ [] → HasBelow all p v
+  nothing_below : (v : Value) (p : Tokens) (all : List SchemaPlace) → members_of v ≡ [] → HasBelow all p v
   nothing_below v p all e =
       record {
         one = λ k u h a. absurd (subst (λ ms. Among (k, u) ms) e a);
@@ -203,11 +203,11 @@ module _ (number : ℕ) (uri : Parts) where
         named = λ k l n u h a b. absurd (subst (λ ms. Among (k, l) ms) e a);
       }
 
-  module _ (all : List Place) where
-    abbrev Has : Place → Type 0
+  module _ (all : List SchemaPlace) where
+    abbrev Has : SchemaPlace → Type 0
     Has t = HasBelow all t.spot.pointer t.spot.schema
 
-    closed_by : (h : Holding) (a b c : List Place) → Within (places_held h a b c) all → (Within a all → AllByRecursion Has a) → (Within b all → AllByRecursion Has b) → (Within c all → AllByRecursion Has c) → AllByRecursion Has (places_held h a b c)
+    closed_by : (h : Holding) (a b c : List SchemaPlace) → Within (places_held h a b c) all → (Within a all → AllByRecursion Has a) → (Within b all → AllByRecursion Has b) → (Within c all → AllByRecursion Has c) → AllByRecursion Has (places_held h a b c)
     closed_by One a b c w f g k = f w
     closed_by Listed a b c w f g k = g w
     closed_by Named a b c w f g k = k w
@@ -256,13 +256,13 @@ module _ (number : ℕ) (uri : Parts) where
           let ys = places_of_members number uri above p ms in
           all_append Has xs ys (closed v above (p ++ n ∷ []) (λ r u h. w r u (lists_left r u xs ys h))) (closed_members ms above p (λ r u h. w r u (lists_right r u xs ys h)))
 
-  has_at : (all xs : List Place) (p : Tokens) (v : Value) → AllByRecursion (λ t. HasBelow all t.spot.pointer t.spot.schema) xs → ListsPlace p v xs → HasBelow all p v
+  has_at : (all xs : List SchemaPlace) (p : Tokens) (v : Value) → AllByRecursion (λ t. HasBelow all t.spot.pointer t.spot.schema) xs → ListsPlace p v xs → HasBelow all p v
   has_at all [] p v c h = absurd h
   has_at all (t ∷ xs) p v c (inl e) = subst (λ q. HasBelow all q v) e.0 (subst (λ w. HasBelow all t.spot.pointer w) e.1 c.0)
   has_at all (t ∷ xs) p v c (inr h) = has_at all xs p v c.1 h
 
   module _ (root : Value) where
-    abbrev listed_of : List Place
+    abbrev listed_of : List SchemaPlace
     listed_of = places_at number uri [] [] root
 
     has_in : (p : Tokens) (v : Value) → ListsPlace p v listed_of → HasBelow listed_of p v

@@ -14,7 +14,7 @@ use Rattle.js_doc.specs.Parts.{member_list}
 use Rattle.js_places.specs.declared.scan.holding.Holding.{Holding}
 use Rattle.js_places.specs.declared.scan.holding.Holding.TheVariants.{One, Listed, Named, Nothing}
 use Rattle.js_places.specs.Keyword.{Text}
-use Rattle.js_places.specs.Place.{holding, Located, Place, places_held, places_at, places_of_keywords, places_in_list, places_of_items, places_in_object, places_of_members}
+use Rattle.js_places.specs.Place.{holding, Located, SchemaPlace, places_held, places_at, places_of_keywords, places_in_list, places_of_items, places_in_object, places_of_members}
 use Rattle.js_places.specs.PlaceLaws.{AreApart}
 use Rattle.js_places.proofs.Listing.LeastSetListed.{Among, all_append}
 
@@ -67,10 +67,10 @@ starts_itself : (p : Tokens) → Starts p p
 starts_itself p = record { rest = []; is = sym (append-nil p) }
 
 module _ (number : ℕ) (uri : Parts) where
-  abbrev At : Tokens → Place → Type 0
+  abbrev At : Tokens → SchemaPlace → Type 0
   At p t = Starts p t.spot.pointer
 
-  chosen_all : (P : Place → Type 0) (h : Holding) (a b c : List Place) → AllByRecursion P a → AllByRecursion P b → AllByRecursion P c → AllByRecursion P (places_held h a b c)
+  chosen_all : (P : SchemaPlace → Type 0) (h : Holding) (a b c : List SchemaPlace) → AllByRecursion P a → AllByRecursion P b → AllByRecursion P c → AllByRecursion P (places_held h a b c)
   chosen_all P One a b c f g k = f
   chosen_all P Listed a b c f g k = g
   chosen_all P Named a b c f g k = k
@@ -131,34 +131,34 @@ module _ (number : ℕ) (uri : Parts) where
 
   -- ---- so they stand apart
 
-  apart_from : (P Q : Place → Type 0) → ((x y : Place) → P x → Q y → ¬ (x.spot.pointer ≡ y.spot.pointer)) → (x : Place) (ys : List Place) → P x → AllByRecursion Q ys
+  apart_from : (P Q : SchemaPlace → Type 0) → ((x y : SchemaPlace) → P x → Q y → ¬ (x.spot.pointer ≡ y.spot.pointer)) → (x : SchemaPlace) (ys : List SchemaPlace) → P x → AllByRecursion Q ys
       → AllByRecursion (λ y. ¬ (x.spot.pointer ≡ y.spot.pointer)) ys
   apart_from P Q f x [] h g = tt
   apart_from P Q f x (y ∷ ys) h g = (f x y h g.0, apart_from P Q f x ys h g.1)
 
-  apart_append : (P Q : Place → Type 0) → ((x y : Place) → P x → Q y → ¬ (x.spot.pointer ≡ y.spot.pointer)) → (xs ys : List Place) → AllByRecursion P xs → AllByRecursion Q ys → AreApart xs → AreApart ys
+  apart_append : (P Q : SchemaPlace → Type 0) → ((x y : SchemaPlace) → P x → Q y → ¬ (x.spot.pointer ≡ y.spot.pointer)) → (xs ys : List SchemaPlace) → AllByRecursion P xs → AllByRecursion Q ys → AreApart xs → AreApart ys
       → AreApart (xs ++ ys)
   apart_append P Q f [] ys h g a b = b
   apart_append P Q f (x ∷ xs) ys h g a b =
       (all_append (λ y. ¬ (x.spot.pointer ≡ y.spot.pointer)) xs ys a.0 (apart_from P Q f x ys h.0 g), apart_append P Q f xs ys h.1 g a.1 b)
 
-  names_apart : (k : Text) (ms : Members) (p : Tokens) → IsBelowFirst k ms → NamesAscendInMembers ms → (x y : Place) → At (p ++ k ∷ []) x → UnderName ms p y.spot.pointer → ¬ (x.spot.pointer ≡ y.spot.pointer)
+  names_apart : (k : Text) (ms : Members) (p : Tokens) → IsBelowFirst k ms → NamesAscendInMembers ms → (x y : SchemaPlace) → At (p ++ k ∷ []) x → UnderName ms p y.spot.pointer → ¬ (x.spot.pointer ≡ y.spot.pointer)
   names_apart k ms p b a x y s u e =
       tokens_apart p k u.name s.rest u.starts.rest (less_apart k u.name (below_all k ms b a u.name u.value u.among)) (sym s.is ∙ e ∙ u.starts.is)
 
-  items_apart : (i most : ℕ) (p : Tokens) → most ≤ 2 ^ 64 → (x y : Place) → At (p ++ decimal i ∷ []) x → UnderItem (suc i) most p y.spot.pointer → ¬ (x.spot.pointer ≡ y.spot.pointer)
+  items_apart : (i most : ℕ) (p : Tokens) → most ≤ 2 ^ 64 → (x y : SchemaPlace) → At (p ++ decimal i ∷ []) x → UnderItem (suc i) most p y.spot.pointer → ¬ (x.spot.pointer ≡ y.spot.pointer)
   items_apart i most p short x y s u e =
       tokens_apart p (decimal i) (decimal u.index) s.rest u.starts.rest
       (λ same. absurd (let j : i ≡ u.index = decimal_injective i u.index (omega (arith, u.low, u.high, short)) (omega (arith, u.high, short)) same in omega (arith, j, u.low)))
       (sym s.is ∙ e ∙ u.starts.is)
 
-  chosen_apart : (h : Holding) (a b c : List Place) → AreApart a → AreApart b → AreApart c → AreApart (places_held h a b c)
+  chosen_apart : (h : Holding) (a b c : List SchemaPlace) → AreApart a → AreApart b → AreApart c → AreApart (places_held h a b c)
   chosen_apart One a b c f g k = f
   chosen_apart Listed a b c f g k = g
   chosen_apart Named a b c f g k = k
   chosen_apart Nothing a b c f g k = tt
 
-  first_apart : (p : Tokens) (ms : Members) (x : Place) → x.spot.pointer ≡ p → (xs : List Place) → AllByRecursion (λ t. UnderName ms p t.spot.pointer) xs → AllByRecursion (λ y. ¬ (x.spot.pointer ≡ y.spot.pointer)) xs
+  first_apart : (p : Tokens) (ms : Members) (x : SchemaPlace) → x.spot.pointer ≡ p → (xs : List SchemaPlace) → AllByRecursion (λ t. UnderName ms p t.spot.pointer) xs → AllByRecursion (λ y. ¬ (x.spot.pointer ≡ y.spot.pointer)) xs
   first_apart p ms x at [] h = tt
   first_apart p ms x at (y ∷ xs) h = (λ e. itself_apart p h.0.name h.0.starts.rest (sym at ∙ e ∙ h.0.starts.is), first_apart p ms x at xs h.1)
 
@@ -171,7 +171,7 @@ module _ (number : ℕ) (uri : Parts) where
     apart_at (list vs) above p a s = (tt, tt)
     apart_at (object ms) above p a s =
         let below = above ++ record { pointer = p; schema = object ms } ∷ [] in
-        let place : Place = record { document = number; uri = uri; above = above; spot = record { pointer = p; schema = object ms } } in
+        let place : SchemaPlace = record { document = number; uri = uri; above = above; spot = record { pointer = p; schema = object ms } } in
         (first_apart p ms place refl (places_of_keywords number uri below p ms) (starts_keywords ms below p), apart_keywords ms below p a s)
 
     apart_keywords : (ms : Members) (above : List Located) (p : Tokens) → NamesAscendInMembers ms → AreShortMembers ms → AreApart (places_of_keywords number uri above p ms)

@@ -7,7 +7,7 @@ use Rattle.js_doc.specs.Value.{Value, null, truth, whole, text, list, object, It
 use Rattle.js_places.specs.declared.scan.holding.Holding.{Holding}
 use Rattle.js_places.specs.declared.scan.holding.Holding.TheVariants.{One, Listed, Named, Nothing}
 use Rattle.js_places.specs.Document.{Documents}
-use Rattle.js_places.specs.Place.{holding, Located, Place, places_held, places_at, places_of_keywords, places_in_list, places_of_items, places_in_object, places_of_members, places_from}
+use Rattle.js_places.specs.Place.{holding, Located, SchemaPlace, places_held, places_at, places_of_keywords, places_in_list, places_of_items, places_in_object, places_of_members, places_from}
 use Rattle.js_places.specs.code.Edges.{HeldNumbers, by_holding, count, count_of_keywords, count_in_list, count_of_items, count_in_object, count_of_members, count_of_keyword, held_by_place, edges_at, edges_of_keywords, edges_in_list, edges_of_items, edges_in_object, edges_of_members, edges_held, edges_from}
 
 -- ---- a list that stands in another one from a number on
@@ -82,7 +82,7 @@ from_at P n m (suc i) (y ∷ xs) x is h e = from_at P (suc n) m i xs x (omega (a
 -- ---- how many
 
 module _ (number : ℕ) (uri : Parts) where
-  chosen_count : (h : Holding) (a b c : List Place) (x y z : ℕ) → length a ≡ x → length b ≡ y → length c ≡ z → length (places_held h a b c) ≡ by_holding 0 h x y z
+  chosen_count : (h : Holding) (a b c : List SchemaPlace) (x y z : ℕ) → length a ≡ x → length b ≡ y → length c ≡ z → length (places_held h a b c) ≡ by_holding 0 h x y z
   chosen_count One a b c x y z e f g = e
   chosen_count Listed a b c x y z e f g = f
   chosen_count Named a b c x y z e f g = g
@@ -172,14 +172,14 @@ keyword_edges h n v = edges_chosen h _ _ _ _ _ _ (edge_count n v) (list_edges n 
 -- ---- where each place stands
 
 -- the place with this number stands there with all that it holds, and so do the numbers of those
-pub record IsRoot (all : List Place) (edges : List (List HeldNumbers)) (n : ℕ) (t : Place) : Type 0 where
+pub record IsRoot (all : List SchemaPlace) (edges : List (List HeldNumbers)) (n : ℕ) (t : SchemaPlace) : Type 0 where
   pub above : List Located
   pub places : StandsFrom (places_at t.document t.uri above t.spot.pointer t.spot.schema) n all
   pub held : slice_get edges n ≡ Some (held_by_place n t.spot.schema)
 
-module _ (all : List Place) (edges : List (List HeldNumbers)) where
+module _ (all : List SchemaPlace) (edges : List (List HeldNumbers)) where
   module _ (number : ℕ) (uri : Parts) where
-    chosen_roots : (h : Holding) (n : ℕ) (a b c : List Place) (x y z : List (List HeldNumbers)) → (StandsFrom a n all → StandsFrom x n edges → AllFrom (IsRoot all edges) n a)
+    chosen_roots : (h : Holding) (n : ℕ) (a b c : List SchemaPlace) (x y z : List (List HeldNumbers)) → (StandsFrom a n all → StandsFrom x n edges → AllFrom (IsRoot all edges) n a)
         → (StandsFrom b n all → StandsFrom y n edges → AllFrom (IsRoot all edges) n b) → (StandsFrom c n all → StandsFrom z n edges → AllFrom (IsRoot all edges) n c)
         → StandsFrom (places_held h a b c) n all → StandsFrom (by_holding [] h x y z) n edges → AllFrom (IsRoot all edges) n (places_held h a b c)
     chosen_roots One n a b c x y z f g k p e = f p e
@@ -187,7 +187,7 @@ module _ (all : List Place) (edges : List (List HeldNumbers)) where
     chosen_roots Named n a b c x y z f g k p e = k p e
     chosen_roots Nothing n a b c x y z f g k p e = tt
 
-    both_roots : (n c : ℕ) (xs ys : List Place) (es fs : List (List HeldNumbers)) → length xs ≡ c → length es ≡ c
+    both_roots : (n c : ℕ) (xs ys : List SchemaPlace) (es fs : List (List HeldNumbers)) → length xs ≡ c → length es ≡ c
         → (StandsFrom xs n all → StandsFrom es n edges → AllFrom (IsRoot all edges) n xs)
         → (StandsFrom ys (n + c) all → StandsFrom fs (n + c) edges → AllFrom (IsRoot all edges) (n + c) ys)
         → StandsFrom (xs ++ ys) n all → StandsFrom (es ++ fs) n edges → AllFrom (IsRoot all edges) n (xs ++ ys)
@@ -256,7 +256,7 @@ whole_list : {A : Type 0} (all : List A) → StandsFrom all 0 all
 whole_list all = record { after = []; is = sym (append-nil all) }
 
 -- each place of the documents stands so
-pub root_of : (documents : Documents) (n : ℕ) (t : Place) → slice_get (places_from 0 documents) n ≡ Some t → IsRoot (places_from 0 documents) (edges_from 0 documents) n t
+pub root_of : (documents : Documents) (n : ℕ) (t : SchemaPlace) → slice_get (places_from 0 documents) n ≡ Some t → IsRoot (places_from 0 documents) (edges_from 0 documents) n t
 root_of documents n t e =
     let all = places_from 0 documents in
     let edges = edges_from 0 documents in

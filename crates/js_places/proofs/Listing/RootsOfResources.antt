@@ -11,7 +11,7 @@ use Rattle.js_places.specs.declared.scan.scope.Scope.{Scope}
 use Rattle.js_places.specs.Document.{Documents}
 use Rattle.js_places.specs.Keyword.{has_argument, argument}
 use Rattle.js_places.specs.Names.{same_tokens, stands_at}
-use Rattle.js_places.specs.Place.{Place, holding, places_from}
+use Rattle.js_places.specs.Place.{SchemaPlace, holding, places_from}
 use Rattle.js_places.specs.PlaceLaws.{AreDistinct, Differ}
 use Rattle.js_places.specs.Resource.{Site, site, sites, identified_by, root_scope, scope_or}
 use Rattle.js_places.specs.ResourceNumber.{begins_resource, roots}
@@ -180,11 +180,11 @@ from_rooted n (d ∷ ds) =
 
 -- ---- each once
 
-apart_by : (xs : List Place) → AreDistinct xs → StandApart (map site xs)
+apart_by : (xs : List SchemaPlace) → AreDistinct xs → StandApart (map site xs)
 apart_by [] h = tt
 apart_by (t ∷ xs) h = (differ xs h.0, apart_by xs h.1)
   where
-    differ : (ys : List Place) → AllByRecursion (λ s. Differ t s) ys → AllByRecursion (λ s. ¬ (stands_at t.document t.spot.pointer s ≡ true)) (map site ys)
+    differ : (ys : List SchemaPlace) → AllByRecursion (λ s. Differ t s) ys → AllByRecursion (λ s. ¬ (stands_at t.document t.spot.pointer s ≡ true)) (map site ys)
     differ [] h = tt
     differ (y ∷ ys) h = ((λ e. let a = at_place t.document t.spot.pointer (site y) e in h.0 (sym a.document) (sym a.pointer)), differ ys h.1)
 

@@ -9,7 +9,7 @@ use Rattle.js_places.specs.declared.scan.holding.Holding.{Holding}
 use Rattle.js_places.specs.declared.scan.holding.Holding.TheVariants.{One, Listed, Named, Nothing}
 use Rattle.js_places.specs.declared.scan.scope.Scope.{Scope}
 use Rattle.js_places.specs.Document.{Documents}
-use Rattle.js_places.specs.Place.{Located, Place, holding, places_held, places_at, places_of_keywords, places_in_list, places_of_items, places_in_object, places_of_members, places_from}
+use Rattle.js_places.specs.Place.{Located, SchemaPlace, holding, places_held, places_at, places_of_keywords, places_in_list, places_of_items, places_in_object, places_of_members, places_from}
 use Rattle.js_places.specs.Resource.{Site, site, scope_below, root_scope}
 use Rattle.js_places.specs.code.Scan.{site_scanned, sites_held, sites_at, sites_of_keywords, sites_in_list, sites_of_items, sites_in_object, sites_of_members, sites_from}
 
@@ -17,13 +17,13 @@ fold_last : {A B : Type 0} (f : B → A → B) (b : B) (xs : List A) (x : A) →
 fold_last f b [] x = refl
 fold_last f b (y ∷ xs) x = fold_last f (f b y) xs x
 
-held-map : (h : Holding) (a b c : List Site) (p q r : List Place) → a ≡ map site p → b ≡ map site q → c ≡ map site r → sites_held h a b c ≡ map site (places_held h p q r)
+held-map : (h : Holding) (a b c : List Site) (p q r : List SchemaPlace) → a ≡ map site p → b ≡ map site q → c ≡ map site r → sites_held h a b c ≡ map site (places_held h p q r)
 held-map One a b c p q r e f g = e
 held-map Listed a b c p q r e f g = f
 held-map Named a b c p q r e f g = g
 held-map Nothing a b c p q r e f g = refl
 
-both : (a b : List Site) (p q : List Place) → a ≡ map site p → b ≡ map site q → a ++ b ≡ map site (p ++ q)
+both : (a b : List Site) (p q : List SchemaPlace) → a ≡ map site p → b ≡ map site q → a ++ b ≡ map site (p ++ q)
 both a b p q e f = ap₂ (λ x y. x ++ y) e f ∙ sym (map-append site p q)
 
 module _ (d : ℕ) (uri : Parts) where
