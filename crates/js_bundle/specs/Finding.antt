@@ -39,7 +39,7 @@ dynamic_at all place = option_map (dynamic_as (goes_by_name all place)) (number_
 abbrev pub scope_name : Bool → Site → Option Text
 scope_name by_name first = if by_name then text_argument (codes "$dynamicAnchor") first.schema else None
 
--- what the `$dynamicRef` of a place leads to: to its first target, unless a resource of the scope has the name
+-- where the `$dynamicRef` of a place leads: to this first target, unless a resource of the scope has the name
 pub record IsFirstTarget (documents : Documents) (place first : ℕ) (name : Option Text) : Type 0 where
   pub target : Site
   pub stands : place_at documents first ≡ Some target
