@@ -17,7 +17,7 @@ use Rattle.js_places.specs.Place.{holding}
 use Rattle.js_places.specs.Resource.{Site, sites}
 use Rattle.js_places.specs.Names.{named}
 use Rattle.js_places.specs.Location.{absolute_location}
-use Rattle.js_places.specs.Target.{target, dynamic_target}
+use Rattle.js_places.specs.Target.{ref_target, dynamic_ref_target}
 use Rattle.js_bundle.specs.Refusals.{refusals}
 
 abbrev at_uri : Option Parts → Value → Documents
@@ -51,7 +51,7 @@ location_of ds t = option_map (λ p. absolute_location p []) (at_location ds t)
 abbrev dynamic_location : Documents → List Text → Option Text
 dynamic_location ds ts =
     let path = filter_map (at_location ds) ts in
-    option_and_then (λ place. option_map (λ t. absolute_location t []) (dynamic_target (sites ds) path place)) (last_or None path)
+    option_and_then (λ place. option_map (λ t. absolute_location t []) (dynamic_ref_target (sites ds) path place)) (last_or None path)
 
 -- ---- places, names and targets
 
@@ -125,7 +125,7 @@ unfolding url_on_literals holding printed without_fragment
 dynamic_targets_are = refl
 
 -- `$ref` leads to one place
-pub target_of_ref : option_and_then (λ place. option_map (λ t. absolute_location t []) (target (sites trees) place)) (at_location trees (codes "https://example.com/strict-tree")) ≡ Some (codes "https://example.com/tree#")
+pub target_of_ref : option_and_then (λ place. option_map (λ t. absolute_location t []) (ref_target (sites trees) place)) (at_location trees (codes "https://example.com/strict-tree")) ≡ Some (codes "https://example.com/tree#")
 unfolding url_on_literals holding printed without_fragment
 target_of_ref = refl
 

@@ -12,7 +12,7 @@ use Rattle.std.specs.Option.{option_map_or}
 use Rattle.js_places.specs.Document.{Documents}
 use Rattle.js_places.specs.PlaceNumber.{place_at}
 use Rattle.js_places.specs.Resource.{Site, sites}
-use Rattle.js_places.specs.Target.{reference, first_target, is_dynamic, outermost, dynamic_target}
+use Rattle.js_places.specs.Target.{reference, first_target, is_dynamic, outermost, dynamic_ref_target}
 
 -- that of a reference's first target
 abbrev pub number_of_target : List Site → Text → Site → Option ℕ
@@ -43,7 +43,7 @@ scope_name by_name first = if by_name then text_argument (codes "$dynamicAnchor"
 pub record IsFirstTarget (documents : Documents) (place first : ℕ) (name : Option Text) : Type 0 where
   pub target : Site
   pub stands : place_at documents first ≡ Some target
-  pub decides : (scope : List Site) → option_and_then (dynamic_target (sites documents) scope) (place_at documents place)
+  pub decides : (scope : List Site) → option_and_then (dynamic_ref_target (sites documents) scope) (place_at documents place)
       ≡ Some (unwrap_or (option_and_then (λ n. outermost (sites documents) n scope) name) target)
 
 -- ---- a refusal, or want of memory

@@ -10,13 +10,13 @@ use Rattle.js_places.specs.Resource.{Site, sites}
 use Rattle.js_places.specs.PlaceNumber.{place_at}
 use Rattle.js_bundle.specs.Schemas.{below, Holds, Step}
 use Rattle.js_places.specs.Seen.{AreRead}
-use Rattle.js_places.specs.Target.{target, dynamic_target}
+use Rattle.js_places.specs.Target.{ref_target, dynamic_ref_target}
 
 pub record FindsAll (documents : Documents) (place : Site) : Type 0 where
   -- the place below it has the schema that is held
   pub below : (k : Text) (step : Step) (u : Value) → Holds place.schema k step u → (t : Site) × (below documents place k step ≡ Some t) × (t.schema ≡ u)
-  pub target : has_argument (codes "$ref") place.schema ≡ true → (t : Site) × (target (sites documents) place ≡ Some t)
-  pub dynamic_target : (path : List Site) → has_argument (codes "$dynamicRef") place.schema ≡ true → (t : Site) × (dynamic_target (sites documents) path place ≡ Some t)
+  pub target : has_argument (codes "$ref") place.schema ≡ true → (t : Site) × (ref_target (sites documents) place ≡ Some t)
+  pub dynamic_target : (path : List Site) → has_argument (codes "$dynamicRef") place.schema ≡ true → (t : Site) × (dynamic_ref_target (sites documents) path place ≡ Some t)
 
 abbrev pub EachIsFound : Type 0
 EachIsFound = (documents : Documents) → AreRead documents → IsClear (candidates documents) → (n : ℕ) (place : Site) → place_at documents n ≡ Some place → FindsAll documents place

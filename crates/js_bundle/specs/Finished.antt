@@ -11,7 +11,7 @@ use Rattle.js_bundle.specs.Finding.{dynamic_at, number_of_target}
 use Rattle.js_places.specs.Finding.{under_number}
 use Rattle.js_places.specs.code.PartsByPlace.{ArePartsByPlace}
 use Rattle.js_places.specs.code.Index.{IsIndexOf}
-use Rattle.js_places.specs.KeywordName.{keyword_names}
+use Rattle.js_places.specs.KeywordName.{member_keywords}
 use Rattle.js_bundle.specs.Refusals.{candidates}
 use Rattle.js_places.specs.Resource.{sites}
 use Rattle.js_places.specs.ResourceTable.{IsResourceTable}
@@ -25,7 +25,7 @@ pub record IsCheckOf (documents : Documents) (kept : Checked) : Type 0 where
   pub kept_sites : map kept_site_of kept.sites.items ≡ map kept_site (sites documents)
   pub assertions : ArePartsByPlace assertions_at (sites documents) kept.built.all.assertions.items kept.built.assertion_ends.items
   pub patterns : ArePartsByPlace patterns_at (sites documents) kept.built.all.patterns.items kept.built.pattern_ends.items
-  pub keywords : ArePartsByPlace keyword_names (sites documents) kept.keywords.names.items kept.keywords.ends.items
+  pub keywords : ArePartsByPlace member_keywords (sites documents) kept.keywords.names.items kept.keywords.ends.items
   pub dynamic : IsSparseList (get nat_eq kept.references.dynamic) (dynamic_at (sites documents)) (sites documents)
   pub plain : IsSparseList (under_number kept.references.plain.items) (number_of_target (sites documents) (codes "$ref")) (sites documents)
   pub locations : kept.locations.items ≡ map kept_location (sites documents)

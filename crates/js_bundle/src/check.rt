@@ -10,7 +10,7 @@ ghost use Rattle.js_places.specs.Finding.{under_number};
 ghost use Rattle.js_places.specs.code.PartsByPlace.{ArePartsByPlace};
 ghost use Rattle.js_places.specs.code.Index.{IsIndexOf};
 ghost use Rattle.js_places.specs.code.Positions.{ArePositionsOf};
-ghost use Rattle.js_places.specs.KeywordName.{keyword_names};
+ghost use Rattle.js_places.specs.KeywordName.{member_keywords};
 ghost use Rattle.js_bundle.specs.Refusals.{candidates, second_pass};
 ghost use Rattle.js_places.specs.Resource.{sites};
 ghost use Rattle.js_places.specs.ResourceTable.{AreRooted, IsResourceTable};
@@ -85,7 +85,7 @@ fn look_up(
     passed: &Passed,
 ) -> Result<LookedUp, CheckFault>
     requires positions { ArePositionsOf passed.now.positions (map site_of sites.now) }
-    requires keywords { ArePartsByPlace keyword_names (map site_of sites.now)
+    requires keywords { ArePartsByPlace member_keywords (map site_of sites.now)
         passed.now.keywords.names.items passed.now.keywords.ends.items }
     requires rooted { AreRooted (map site_of sites.now) }
     ensures clear { OnOk result (IsClear (second_pass (map site_of sites.now))) }
@@ -121,7 +121,7 @@ pub(crate) fn check_whole(alloc: Global, documents: &[Document]) -> Result<Check
         c.built.all.assertions.items c.built.assertion_ends.items) }
     ensures patterns { IfOk result (λ c. ArePartsByPlace patterns_at (sites (map document_of documents.now))
         c.built.all.patterns.items c.built.pattern_ends.items) }
-    ensures keywords { IfOk result (λ c. ArePartsByPlace keyword_names (sites (map document_of documents.now))
+    ensures keywords { IfOk result (λ c. ArePartsByPlace member_keywords (sites (map document_of documents.now))
         c.keywords.names.items c.keywords.ends.items) }
     ensures dynamic { IfOk result (λ c. IsSparseList (get nat_eq c.references.dynamic)
         (dynamic_at (sites (map document_of documents.now))) (sites (map document_of documents.now))) }

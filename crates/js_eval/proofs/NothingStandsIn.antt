@@ -25,7 +25,7 @@ use Rattle.js_bundle.specs.Names.{named, names as are_named, stands_at}
 use Rattle.js_bundle.specs.Place.{holding}
 use Rattle.js_bundle.specs.Resource.{Site, sites}
 use Rattle.js_bundle.specs.Schemas.{below, fits, step_tokens, Holds, Step, Alone, Index, Name}
-use Rattle.js_bundle.specs.Target.{reference, first_target, target, dynamic_anchor, outermost, is_dynamic, dynamic_of, dynamic_target}
+use Rattle.js_bundle.specs.Target.{reference, first_target, ref_target, dynamic_anchor, outermost, is_dynamic, dynamic_of, dynamic_ref_target}
 use Rattle.js_bundle.specs.Url.{decoded_fragment}
 use Rattle.js_bundle.proofs.SchemaBelow.{is_one, is_listed, is_named}
 use Rattle.js_places.proofs.Standing.{standing}
@@ -278,11 +278,11 @@ module _ (documents : Documents) (place : Site) (finds : FindsAll documents plac
     found_by : (κ : Kind) → kind k.0 ≡ κ → AllByRecursion (Found κ) (asked κ)
     found_by Reference e =
         let t = finds.target (has_named (codes "$ref") (reference_named k.0 (ap is_reference e))) in
-        (is_found (target (sites documents) place) t.0 t.1 (named_among (sites documents) (reference (codes "$ref") place)), tt)
+        (is_found (ref_target (sites documents) place) t.0 t.1 (named_among (sites documents) (reference (codes "$ref") place)), tt)
     found_by DynamicReference e =
         let t = finds.dynamic_target path (has_named (codes "$dynamicRef") (dynamic_reference_named k.0 (ap is_dynamic_reference e))) in
         let uri = reference (codes "$dynamicRef") place in (
-          is_found (dynamic_target (sites documents) path place) t.0 t.1
+          is_found (dynamic_ref_target (sites documents) path place) t.0 t.1
               (λ u. dynamic_among (sites documents) path uri (first_target (sites documents) (codes "$dynamicRef") place) u (named_among (sites documents) uri)),
           tt,
         )

@@ -9,7 +9,7 @@ use Rattle.js_bundle.specs.Refusals.{candidates}
 use Rattle.js_bundle.specs.Resource.{Site, sites}
 use Rattle.js_bundle.specs.Schemas.{place_at, below}
 use Rattle.js_bundle.specs.Seen.{AreRead}
-use Rattle.js_bundle.specs.Target.{target, dynamic_target}
+use Rattle.js_bundle.specs.Target.{ref_target, dynamic_ref_target}
 use Rattle.js_rows.specs.Relative.{IsLocated}
 use Rattle.js_walk.specs.Applications.{Application, asks_of, among_indexes, indexed}
 use Rattle.js_walk.specs.Bundle.{schemas_of}
@@ -101,8 +101,8 @@ module _ {Place : Type 0} (S : SchemaSet Place) (path : List Place) (place : Pla
 -- where the place of an application is looked for: the reference names it (8.2.3), or the keyword holds it at the step
 -- (10, 11)
 abbrev pub looked_for : Documents → List Site → Site → Text → Step → Kind → Option Site
-looked_for documents path place keyword step Reference = target (sites documents) place
-looked_for documents path place keyword step DynamicReference = dynamic_target (sites documents) path place
+looked_for documents path place keyword step Reference = ref_target (sites documents) place
+looked_for documents path place keyword step DynamicReference = dynamic_ref_target (sites documents) path place
 looked_for documents path place keyword step _ = below documents place keyword step
 
 -- this place is found, and it is one of the documents'

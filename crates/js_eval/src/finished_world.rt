@@ -87,10 +87,7 @@ impl<'a> World for Here<'a> {
         is_accepting(schema)
     }
 
-    #[tactic(
-        auto,
-        unfolding(js_walk::specs::Walk::Visited::AppliesNone, js_walk::specs::Walk::Told::keywords_at)
-    )]
+    #[tactic(auto, unfolding(js_walk::specs::Walk::Visited::AppliesNone, js_walk::specs::Walk::Told::keywords_at))]
     fn may_apply(&self, place: Place, schema: &'a Doc) -> bool {
         Keywords::may_apply(names_at(self.schemas, place), schema)
     }

@@ -58,5 +58,5 @@ unfoldable pub keyword_name : Text → KeywordName
 keyword_name name = name_in applying (not_applying name) name
 
 -- of each of a place's keywords, by name ascending
-abbrev pub keyword_names : Site → List KeywordName
-keyword_names place = map (λ m. keyword_name m.0) (members_of place.schema)
+abbrev pub member_keywords : Site → List KeywordName
+member_keywords place = map (λ m. keyword_name m.0) (members_of place.schema)

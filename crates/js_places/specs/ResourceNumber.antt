@@ -6,7 +6,7 @@ use Rattle.js_places.specs.Document.{Documents}
 use Rattle.js_places.specs.Names.{same_tokens, stands_at}
 use Rattle.js_places.specs.Resource.{Site, sites}
 use Rattle.js_places.specs.PlaceNumber.{place_at, path_at}
-use Rattle.js_places.specs.Target.{dynamic_target}
+use Rattle.js_places.specs.Target.{dynamic_ref_target}
 
 -- the place is the root of its own resource
 abbrev pub begins_resource : Site → Bool
@@ -17,11 +17,11 @@ abbrev pub roots : List Site → List Site
 roots all = filter begins_resource all
 
 -- the number of a place's resource: how many roots stand before its own
-abbrev pub resource_number : List Site → Site → Option ℕ
-resource_number all place = position_from (stands_at place.document place.own.resource) 0 (roots all)
+abbrev pub number_of_resource : List Site → Site → Option ℕ
+number_of_resource all place = position_from (stands_at place.document place.own.resource) 0 (roots all)
 
-abbrev pub resource_count : List Site → ℕ
-resource_count all = length (roots all)
+abbrev pub count_of_resources : List Site → ℕ
+count_of_resources all = length (roots all)
 
 -- ---- a dynamic scope by numbers
 
@@ -32,22 +32,22 @@ roots_at all (n ∷ numbers) = option_to_list (slice_get (roots all) n) ++ roots
 
 -- What a place's `$dynamicRef` leads to: where its first target has the name by `$dynamicAnchor`, the first of the numbers
 -- whose resource has it so gives the target.
-abbrev pub dynamic_target_in : List Site → List ℕ → Site → Option Site
-dynamic_target_in all numbers place = dynamic_target all (roots_at all numbers) place
+abbrev pub dynamic_ref_target_in : List Site → List ℕ → Site → Option Site
+dynamic_ref_target_in all numbers place = dynamic_ref_target all (roots_at all numbers) place
 
 -- the numbers of the resources of a path, of equal neighbours one
 abbrev pub numbers_on : List Site → List Site → List ℕ
-numbers_on all path = dedup nat_eq (flat_map (λ place. option_to_list (resource_number all place)) path)
+numbers_on all path = dedup nat_eq (flat_map (λ place. option_to_list (number_of_resource all place)) path)
 
 -- ---- the laws
 
 -- each place has the number of its resource, and two have the same number exactly where they are of one resource: their
 -- document is the same, and the root in it
 pub record IsNumbering (all : List Site) : Type 0 where
-  pub numbered : (n : ℕ) (place : Site) → slice_get all n ≡ Some place → (m : ℕ) × (resource_number all place ≡ Some m)
-  pub apart : (n m : ℕ) (s t : Site) → slice_get all n ≡ Some s → slice_get all m ≡ Some t → resource_number all s ≡ resource_number all t
+  pub numbered : (n : ℕ) (place : Site) → slice_get all n ≡ Some place → (m : ℕ) × (number_of_resource all place ≡ Some m)
+  pub apart : (n m : ℕ) (s t : Site) → slice_get all n ≡ Some s → slice_get all m ≡ Some t → number_of_resource all s ≡ number_of_resource all t
       → (s.document ≡ t.document) × (s.own.resource ≡ t.own.resource)
-  pub together : (s t : Site) → s.document ≡ t.document → s.own.resource ≡ t.own.resource → resource_number all s ≡ resource_number all t
+  pub together : (s t : Site) → s.document ≡ t.document → s.own.resource ≡ t.own.resource → number_of_resource all s ≡ number_of_resource all t
 
 abbrev pub NumbersResources : Type 0
 NumbersResources = (documents : Documents) → IsNumbering (sites documents)
@@ -57,5 +57,5 @@ NumbersResources = (documents : Documents) → IsNumbering (sites documents)
 abbrev pub ScopeByNumbers : Type 0
 ScopeByNumbers =
     (documents : Documents) (path : List ℕ) (place : ℕ)
-    → option_and_then (dynamic_target_in (sites documents) (numbers_on (sites documents) (path_at documents path))) (place_at documents place)
-    ≡ option_and_then (dynamic_target (sites documents) (path_at documents path)) (place_at documents place)
+    → option_and_then (dynamic_ref_target_in (sites documents) (numbers_on (sites documents) (path_at documents path))) (place_at documents place)
+    ≡ option_and_then (dynamic_ref_target (sites documents) (path_at documents path)) (place_at documents place)

@@ -7,7 +7,7 @@ use Rattle.js_places.specs.code.Index.{AreInserted, FindsFirst}
 use Rattle.js_places.specs.Keyword.{Text, text_argument}
 use Rattle.js_places.specs.Names.{belongs_to, stands_at}
 use Rattle.js_places.specs.Resource.{Site}
-use Rattle.js_places.specs.ResourceNumber.{begins_resource, roots, resource_number}
+use Rattle.js_places.specs.ResourceNumber.{begins_resource, roots, number_of_resource}
 
 -- the names that `$dynamicAnchor` makes at a place, in the resource with this root
 abbrev pub dynamic_names : Site → Site → List Text
@@ -19,7 +19,7 @@ pub record AreAnchors (roots : List Site) (anchors : List Numbering) (places : L
   pub first : (n : ℕ) (root : Site) (names : Numbering) → slice_get roots n ≡ Some root → slice_get anchors n ≡ Some names → FindsFirst (dynamic_names root) names places
 
 pub record IsResourceTable (table : Resources) (all : List Site) : Type 0 where
-  pub numbers : map Some table.numbers.items ≡ map (resource_number all) all
+  pub numbers : map Some table.numbers.items ≡ map (number_of_resource all) all
   pub anchors : AreAnchors (roots all) table.anchors.items all
 
 -- ---- words for how it is made

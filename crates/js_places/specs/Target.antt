@@ -17,8 +17,8 @@ first_target all keyword place = option_and_then (named all) (reference keyword 
 
 -- ---- `$ref` (section 8.2.3.1)
 
-abbrev pub target : List Site → Site → Option Site
-target all place = first_target all (codes "$ref") place
+abbrev pub ref_target : List Site → Site → Option Site
+ref_target all place = first_target all (codes "$ref") place
 
 -- ---- `$dynamicRef` (section 8.2.3.2)
 -- The dynamic scope (section 7.1) is a path: the places applied, from the entry to the present one, both included.
@@ -43,6 +43,6 @@ dynamic_of all path uri first =
     if is_dynamic uri first then unwrap_or (option_and_then (λ u. outermost all (decoded_fragment u) path) uri) first
     else first
 
-abbrev pub dynamic_target : List Site → List Site → Site → Option Site
-dynamic_target all path place =
+abbrev pub dynamic_ref_target : List Site → List Site → Site → Option Site
+dynamic_ref_target all path place =
     option_map (dynamic_of all path (reference (codes "$dynamicRef") place)) (first_target all (codes "$dynamicRef") place)

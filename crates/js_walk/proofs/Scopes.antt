@@ -9,9 +9,9 @@ use Rattle.std.specs.List.{dedup, dedup_from, flat_map, list_all}
 use Rattle.std.specs.Option.{option_map_or}
 use Rattle.js_bundle.specs.Document.{Documents}
 use Rattle.js_bundle.specs.Resource.{Site, sites}
-use Rattle.js_bundle.specs.ResourceNumber.{resource_number, dynamic_target_in, NumbersResources, ScopeByNumbers}
+use Rattle.js_bundle.specs.ResourceNumber.{number_of_resource, dynamic_ref_target_in, NumbersResources, ScopeByNumbers}
 use Rattle.js_bundle.specs.Schemas.{is_place, place_at, path_at}
-use Rattle.js_bundle.specs.Target.{dynamic_target}
+use Rattle.js_bundle.specs.Target.{dynamic_ref_target}
 use Rattle.js_walk.specs.Sited.{nowhere, resource_of}
 use Rattle.js_walk.specs.Walk.Scope.{HasGrown, ends_with}
 
@@ -93,21 +93,21 @@ one_number : (o : Option Site) (s : Site) (number : Site → Option ℕ) (m : �
 one_number o s number m ns e f = rw (e, f) refl
 
 pub numbers_are : NumbersResources → (documents : Documents) (path : List ℕ) → list_all (is_place documents) path ≡ true
-    → flat_map (λ place. option_to_list (resource_number (sites documents) place)) (path_at documents path) ≡ map (resource_of documents) path
+    → flat_map (λ place. option_to_list (number_of_resource (sites documents) place)) (path_at documents path) ≡ map (resource_of documents) path
 numbers_are law documents [] h = refl
 numbers_are law documents (n ∷ path) h =
     let p = and_parts _ _ h in
     let s = get_or (sites documents) n nowhere in
     let e : place_at documents n ≡ Some s = slice_get-get_or (sites documents) n nowhere (ltb-true n (length (sites documents)) p.0) in
     let m = (law documents).numbered n s e in
-    ap (λ (o : Option Site). flat_map (λ place. option_to_list (resource_number (sites documents) place)) (option_to_list o ++ path_at documents path)) e
-    ∙ ap (λ (ns : List ℕ). option_to_list (resource_number (sites documents) s) ++ ns) (numbers_are law documents path p.1)
-    ∙ one_number (place_at documents n) s (resource_number (sites documents)) m.0 (map (resource_of documents) path) e m.1
+    ap (λ (o : Option Site). flat_map (λ place. option_to_list (number_of_resource (sites documents) place)) (option_to_list o ++ path_at documents path)) e
+    ∙ ap (λ (ns : List ℕ). option_to_list (number_of_resource (sites documents) s) ++ ns) (numbers_are law documents path p.1)
+    ∙ one_number (place_at documents n) s (number_of_resource (sites documents)) m.0 (map (resource_of documents) path) e m.1
 
 pub led_alike : NumbersResources → ScopeByNumbers → (documents : Documents) (path resources : List ℕ) (place : ℕ) → list_all (is_place documents) path ≡ true
     → resources ≡ dedup nat_eq (map (resource_of documents) path)
-    → option_and_then (dynamic_target_in (sites documents) resources) (place_at documents place)
-    ≡ option_and_then (dynamic_target (sites documents) (path_at documents path)) (place_at documents place)
+    → option_and_then (dynamic_ref_target_in (sites documents) resources) (place_at documents place)
+    ≡ option_and_then (dynamic_ref_target (sites documents) (path_at documents path)) (place_at documents place)
 led_alike law scope documents path resources place h e =
-    ap (λ (ns : List ℕ). option_and_then (dynamic_target_in (sites documents) ns) (place_at documents place)) (e ∙ ap (dedup nat_eq) (sym (numbers_are law documents path h)))
+    ap (λ (ns : List ℕ). option_and_then (dynamic_ref_target_in (sites documents) ns) (place_at documents place)) (e ∙ ap (dedup nat_eq) (sym (numbers_are law documents path h)))
     ∙ scope documents path place

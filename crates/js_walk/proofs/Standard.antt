@@ -7,7 +7,7 @@ use Rattle.std.proofs.lemmas.Slice.Eq.{bytes_eq-Decides}
 use Rattle.js_assert.specs.Keyword.{keyword_named}
 use Rattle.js_assert.specs.Argument.{entries}
 use Rattle.js_bundle.specs.Document.{Documents}
-use Rattle.js_bundle.specs.KeywordName.{TableOfNames, applying, identifying, name_in, stands_behind_if, by_side, not_applying, keyword_name, keyword_names}
+use Rattle.js_bundle.specs.KeywordName.{TableOfNames, applying, identifying, name_in, stands_behind_if, by_side, not_applying, keyword_name, member_keywords}
 use Rattle.js_bundle.specs.Schemas.{is_place, place_at}
 use Rattle.js_walk.specs.Sited.{numbered_site}
 use Rattle.js_walk.proofs.AssertionThere.{place_is, same_members}
@@ -143,9 +143,9 @@ turn_if_named which name t e h = h ∙ (ap turn_by_name e ∙ sym (turn_is name)
 
 -- ---- of a place's keywords
 
-pub names_are : (documents : Documents) (n : ℕ) (names : List KeywordName) → is_place documents n ≡ true → option_map keyword_names (place_at documents n) ≡ Some names
+pub names_are : (documents : Documents) (n : ℕ) (names : List KeywordName) → is_place documents n ≡ true → option_map member_keywords (place_at documents n) ≡ Some names
     → names ≡ keyword_names_of (entries (numbered_site documents n).schema)
 names_are documents n names h e =
-    let q : Some names ≡ Some (keyword_names (numbered_site documents n)) = sym e ∙ ap (option_map keyword_names) (place_is documents n h) in
-    let s : names ≡ keyword_names (numbered_site documents n) = cc in
+    let q : Some names ≡ Some (member_keywords (numbered_site documents n)) = sym e ∙ ap (option_map member_keywords) (place_is documents n h) in
+    let s : names ≡ member_keywords (numbered_site documents n) = cc in
     s ∙ ap keyword_names_of (same_members (numbered_site documents n).schema)

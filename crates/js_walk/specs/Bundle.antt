@@ -6,7 +6,7 @@ use Rattle.js_bundle.specs.Document.{Documents}
 use Rattle.js_bundle.specs.Location.{absolute_location}
 use Rattle.js_bundle.specs.Resource.{Site, sites}
 use Rattle.js_bundle.specs.Schemas as bundle
-use Rattle.js_bundle.specs.Target.{target, dynamic_target}
+use Rattle.js_bundle.specs.Target.{ref_target, dynamic_ref_target}
 use Rattle.js_walk.specs.SchemaSet.{SchemaSet}
 
 abbrev pub schemas_of : Documents → SchemaSet Site
@@ -14,7 +14,7 @@ schemas_of documents =
     record {
       schema = λ place. place.schema;
       below = λ place keyword step. unwrap_or (bundle.below documents place keyword step) place;
-      target = λ place. unwrap_or (target (sites documents) place) place;
-      dynamic_target = λ path place. unwrap_or (dynamic_target (sites documents) path place) place;
+      target = λ place. unwrap_or (ref_target (sites documents) place) place;
+      dynamic_target = λ path place. unwrap_or (dynamic_ref_target (sites documents) path place) place;
       absolute = λ place keyword. absolute_location place (option_to_list keyword);
     }

@@ -4,9 +4,9 @@
 ghost use Rattle.std.specs.Prelude.{◌≡◌, codes, map, nat_eq, option_and_then, true};
 ghost use Rattle.std.specs.List.{dedup, list_all};
 ghost use Rattle.js_bundle.specs.Resource.{sites};
-ghost use Rattle.js_bundle.specs.ResourceNumber.{dynamic_target_in};
+ghost use Rattle.js_bundle.specs.ResourceNumber.{dynamic_ref_target_in};
 ghost use Rattle.js_bundle.specs.Schemas.{StandsFor, has_keyword, is_place, path_at, place_at};
-ghost use Rattle.js_bundle.specs.Target.{dynamic_target};
+ghost use Rattle.js_bundle.specs.Target.{dynamic_ref_target};
 ghost use Rattle.js_bundle.specs.Ranked.{HoldsAtRank};
 ghost use Rattle.js_walk.specs.code.Standard.{keyword_names_of};
 ghost use Rattle.js_walk.specs.code.Starting.{HoldsOne};
@@ -148,7 +148,7 @@ fn led_by_numbers(schemas: &Schemas, place: Place, _path: &Path, resources: &[us
     requires path { list_all (is_place schemas.now) _path.now ≡ true }
     requires resources { resources.now ≡ dedup nat_eq (map (resource_of schemas.now) _path.now) }
     ensures { StandsFor schemas.now result (option_and_then
-        (dynamic_target (sites schemas.now) (path_at schemas.now _path.now)) (place_at schemas.now place)) }
+        (dynamic_ref_target (sites schemas.now) (path_at schemas.now _path.now)) (place_at schemas.now place)) }
 {
     a_number_tells_a_resource();
     numbers_tell_the_dynamic_scope();
@@ -158,7 +158,7 @@ fn led_by_numbers(schemas: &Schemas, place: Place, _path: &Path, resources: &[us
 fn led_in(schemas: &Schemas, place: Place, resources: &[usize]) -> Place
     requires { has_keyword (codes "$dynamicRef") schemas.now place ≡ true }
     ensures { StandsFor schemas.now result (option_and_then
-        (dynamic_target_in (sites schemas.now) resources.now) (place_at schemas.now place)) }
+        (dynamic_ref_target_in (sites schemas.now) resources.now) (place_at schemas.now place)) }
 {
     schemas.dynamic_target_in(place, resources)
 }

@@ -8,7 +8,7 @@ use Rattle.js_places.specs.declared.keyword_name.KeywordName.{KeywordName}
 use Rattle.js_places.specs.declared.keyword_name.KeywordName.TheVariants.{Ref, DynamicRef}
 use Rattle.js_places.specs.contracts.keyword_name.KeywordNamePartialEq.TheImpl.{ghosts}
 use Rattle.js_places.specs.Keyword.{Text, text_argument}
-use Rattle.js_places.specs.KeywordName.{keyword_name, keyword_names}
+use Rattle.js_places.specs.KeywordName.{keyword_name, member_keywords}
 use Rattle.js_bundle.specs.Refusals.{at_reference_text, at_references}
 use Rattle.js_places.specs.Resource.{Site, joined}
 use Rattle.js_places.proofs.Indexing.NoKeyword.{no_text}
@@ -21,10 +21,10 @@ named_dynamic_ref : ghosts.eq (keyword_name (codes "$dynamicRef")) DynamicRef �
 unfolding keyword_name
 named_dynamic_ref = refl
 
-pub no_ref : (place : Site) (names : List KeywordName) (found : Bool) → names ≡ keyword_names place → found ≡ list_any (λ y. ghosts.eq y Ref) names → found ≡ false → None ≡ text_argument (codes "$ref") place.schema
+pub no_ref : (place : Site) (names : List KeywordName) (found : Bool) → names ≡ member_keywords place → found ≡ list_any (λ y. ghosts.eq y Ref) names → found ≡ false → None ≡ text_argument (codes "$ref") place.schema
 no_ref place names found same told h = no_text (codes "$ref") Ref place names found named_ref same told h
 
-pub no_dynamic_ref : (place : Site) (names : List KeywordName) (found : Bool) → names ≡ keyword_names place → found ≡ list_any (λ y. ghosts.eq y DynamicRef) names → found ≡ false
+pub no_dynamic_ref : (place : Site) (names : List KeywordName) (found : Bool) → names ≡ member_keywords place → found ≡ list_any (λ y. ghosts.eq y DynamicRef) names → found ≡ false
     → None ≡ text_argument (codes "$dynamicRef") place.schema
 no_dynamic_ref place names found same told h = no_text (codes "$dynamicRef") DynamicRef place names found named_dynamic_ref same told h
 

@@ -17,7 +17,7 @@ use Rattle.js_places.specs.Resource.{Site, joined, sites}
 use Rattle.js_places.specs.PlaceNumber.{place_at}
 use Rattle.js_bundle.specs.Schemas.{has_keyword, assertion, pattern, StandsFor}
 use Rattle.js_places.specs.Seen.{AreRead}
-use Rattle.js_places.specs.Target.{target}
+use Rattle.js_places.specs.Target.{ref_target}
 use Rattle.js_bundle.proofs.Finding.FoundByTest.{assertion_found, pattern_found}
 use Rattle.js_places.proofs.Standing.{standing}
 use Rattle.js_bundle.proofs.Checking.TargetsFound.{target_there, number_is_target}
@@ -61,12 +61,12 @@ abbrev pub plain_at : Documents → Site → Option ℕ
 plain_at documents = number_of_target (sites documents) (codes "$ref")
 
 target_by : (documents : Documents) (place : ℕ) (o : Option Site) (t : ℕ) → place_at documents place ≡ o → option_and_then (plain_at documents) o ≡ Some t
-    → StandsFor documents t (option_and_then (target (sites documents)) o)
+    → StandsFor documents t (option_and_then (ref_target (sites documents)) o)
 target_by documents place None t is e = absurd (cc)
 target_by documents place (Some s) t is e = let found = number_is_target (sites documents) (codes "$ref") s t e in (found.place, found.target, found.stands)
 
 pub target_is : (docs documents : Documents) (kept : ℕ → Option ℕ) (n place t : ℕ) → docs ≡ documents → n ≡ place → IsSparseList kept (plain_at docs) (sites docs) → Some t ≡ kept n
-    → StandsFor documents t (option_and_then (target (sites documents)) (place_at documents place))
+    → StandsFor documents t (option_and_then (ref_target (sites documents)) (place_at documents place))
 target_is docs documents kept n place t same number e h =
     target_by documents place (place_at documents place) t refl (sym (kept_under plain_at docs documents kept n place (Some t) same number e h))
 

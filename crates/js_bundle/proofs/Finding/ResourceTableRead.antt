@@ -8,7 +8,7 @@ use Rattle.js_places.specs.code.Index.{number_of_key}
 use Rattle.js_places.specs.Keyword.{Text, text_argument}
 use Rattle.js_places.specs.Names.{belongs_to, makes}
 use Rattle.js_places.specs.Resource.{Site, sites}
-use Rattle.js_places.specs.ResourceNumber.{roots, resource_number}
+use Rattle.js_places.specs.ResourceNumber.{roots, number_of_resource}
 use Rattle.js_places.specs.ResourceTable.{AreAnchors, dynamic_names}
 use Rattle.js_places.specs.PlaceNumber.{is_place, place_at}
 use Rattle.js_bundle.specs.Schemas.{Finds}
@@ -23,11 +23,11 @@ one_some : {A B : Type 0} (f : A → Option B) (o : Option A) (x : B) → option
 one_some f None x e = absurd (cc)
 one_some f (Some y) x e = cc
 
-pub kept_number : (docs documents : Documents) (numbers : List ℕ) (n place x : ℕ) → docs ≡ documents → n ≡ place → map Some numbers ≡ map (resource_number (sites docs)) (sites docs)
-    → is_place documents place ≡ true → x ≡ get_or numbers n x → option_and_then (resource_number (sites documents)) (place_at documents place) ≡ Some x
+pub kept_number : (docs documents : Documents) (numbers : List ℕ) (n place x : ℕ) → docs ≡ documents → n ≡ place → map Some numbers ≡ map (number_of_resource (sites docs)) (sites docs)
+    → is_place documents place ≡ true → x ≡ get_or numbers n x → option_and_then (number_of_resource (sites documents)) (place_at documents place) ≡ Some x
 kept_number docs documents numbers n place x same number e there is =
-    subst (λ ds. option_and_then (resource_number (sites ds)) (place_at documents place) ≡ Some x) same
-    (one_some (resource_number (sites docs)) (place_at documents place) x (kept_of Some (resource_number (sites docs)) docs documents numbers n place x same number e there is))
+    subst (λ ds. option_and_then (number_of_resource (sites ds)) (place_at documents place) ≡ Some x) same
+    (one_some (number_of_resource (sites docs)) (place_at documents place) x (kept_of Some (number_of_resource (sites docs)) docs documents numbers n place x same number e there is))
 
 -- ---- what is named in the resource with a number
 
@@ -73,13 +73,13 @@ anchored_in docs documents anchors name n o same h e =
 
 -- ---- the same by a place
 
-by_number : (all : List Site) (name : Text) (n : ℕ) (o : Option Site) → option_and_then (resource_number all) o ≡ Some n
+by_number : (all : List Site) (name : Text) (n : ℕ) (o : Option Site) → option_and_then (number_of_resource all) o ≡ Some n
     → option_and_then (dynamic_anchor all name) (slice_get (roots all) n) ≡ option_and_then (dynamic_anchor all name) o
 by_number all name n None e = absurd (cc)
 by_number all name n (Some place) e =
     let r = root_of_number all place n e in
     ap (option_and_then (dynamic_anchor all name)) r.found ∙ same_anchor all name r.root place r.document r.resource
 
-pub anchored_by : (documents : Documents) (name : Text) (n place : ℕ) (o : Option ℕ) → option_and_then (resource_number (sites documents)) (place_at documents place) ≡ Some n
+pub anchored_by : (documents : Documents) (name : Text) (n place : ℕ) (o : Option ℕ) → option_and_then (number_of_resource (sites documents)) (place_at documents place) ≡ Some n
     → Finds documents o (option_and_then (dynamic_anchor (sites documents) name) (slice_get (roots (sites documents)) n)) → Finds documents o (option_and_then (dynamic_anchor (sites documents) name) (place_at documents place))
 anchored_by documents name n place o e h = subst (Finds documents o) (by_number (sites documents) name n (place_at documents place) e) h

@@ -13,7 +13,7 @@ ghost use Rattle.js_places.specs.code.PartsByPlace.{ArePartsByPlace};
 ghost use Rattle.js_places.specs.code.Index.{IsIndexOf};
 ghost use Rattle.js_places.specs.code.Positions.{BeginTexts, IsLast, ArePositionsOf, HasPositionAdded};
 ghost use Rattle.js_places.specs.Keyword as words;
-ghost use Rattle.js_places.specs.KeywordName.{keyword_names};
+ghost use Rattle.js_places.specs.KeywordName.{member_keywords};
 ghost use Rattle.js_bundle.specs.Refusals.{when, decided, on_text, text_rules, at_member, at_site, first_pass};
 ghost use Rattle.js_places.specs.code.Scan.{site_of};
 
@@ -214,7 +214,7 @@ impl Passed {
         ensures positions { OnOk result
             (HasPositionAdded self.old.positions (map site_of earlier.now) (site_of site.now) self.new.positions) }
         ensures names { OnOk result (self.new.keywords.names.items
-            ≡ self.old.keywords.names.items ++ keyword_names (site_of site.now)) }
+            ≡ self.old.keywords.names.items ++ member_keywords (site_of site.now)) }
         ensures ends { OnOk result (self.new.keywords.ends.items
             ≡ self.old.keywords.ends.items ++ length self.new.keywords.names.items ∷ []) }
         ensures err { IfErr result (IsStopped (at_site (map site_of earlier.now) (site_of site.now))) }
@@ -242,7 +242,7 @@ pub(crate) fn first_pass(alloc: Global, sites: &[Site<'_>]) -> Result<Passed, Ch
         p.built.all.patterns.items p.built.pattern_ends.items) }
     ensures positions { IfOk result (λ p. ArePositionsOf p.positions (map site_of sites.now)) }
     ensures keywords { IfOk result
-        (λ p. ArePartsByPlace keyword_names (map site_of sites.now) p.keywords.names.items p.keywords.ends.items) }
+        (λ p. ArePartsByPlace member_keywords (map site_of sites.now) p.keywords.names.items p.keywords.ends.items) }
     ensures err { IfErr result (IsStopped (first_pass [] (map site_of sites.now))) }
 {
     let mut passed = Passed::with_capacity(alloc, sites.len())?;

@@ -10,7 +10,7 @@ ghost use Rattle.js_places.specs.Finding.{under_number};
 ghost use Rattle.js_places.specs.code.SparseList.{IsSparseList, HasEntryAdded};
 ghost use Rattle.js_places.specs.code.PartsByPlace.{ArePartsByPlace};
 ghost use Rattle.js_places.specs.code.Index.{IsIndexOf};
-ghost use Rattle.js_places.specs.KeywordName.{keyword_names};
+ghost use Rattle.js_places.specs.KeywordName.{member_keywords};
 ghost use Rattle.js_places.specs.Names.{makes};
 ghost use Rattle.js_bundle.specs.Refusals.{at_joined_reference, at_reference_text, at_reference, at_references};
 ghost use Rattle.js_bundle.specs.Refusals.{second_pass};
@@ -193,7 +193,7 @@ fn targets_of(
     names: &[KeywordName],
 ) -> Result<Targets, CheckFault>
     requires index { IsIndexOf known.index.now (map site_of known.sites.now) }
-    requires names { names.now ≡ keyword_names (site_of site.now) }
+    requires names { names.now ≡ member_keywords (site_of site.now) }
     ensures clear { OnOk result (IsClear (at_references (map site_of known.entry.sites.now) (site_of site.now))) }
     ensures dynamic { IfOk result (λ t. t.dynamic ≡ dynamic_at (map site_of known.entry.sites.now) (site_of site.now)) }
     ensures plain { IfOk result
@@ -250,7 +250,7 @@ pub(crate) fn resolve_all(
     keywords: &KeywordTable,
 ) -> Result<References, CheckFault>
     requires index { IsIndexOf known.index.now (map site_of known.sites.now) }
-    requires keywords { ArePartsByPlace keyword_names (map site_of known.sites.now)
+    requires keywords { ArePartsByPlace member_keywords (map site_of known.sites.now)
         keywords.now.names.items keywords.now.ends.items }
     ensures clear { OnOk result (IsClear (second_pass (map site_of known.entry.sites.now))) }
     ensures dynamic { IfOk result (λ r. IsSparseList (get nat_eq r.dynamic)

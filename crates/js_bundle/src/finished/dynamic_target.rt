@@ -4,10 +4,10 @@ ghost use Rattle.indexmap.specs.IndexMap.{get};
 ghost use Rattle.js_bundle.specs.Finding.{scope_name, IsFirstTarget};
 ghost use Rattle.js_places.specs.code.Index.{number_of_key};
 ghost use Rattle.js_places.specs.Resource.{sites};
-ghost use Rattle.js_places.specs.ResourceNumber.{dynamic_target_in, roots, roots_at};
+ghost use Rattle.js_places.specs.ResourceNumber.{dynamic_ref_target_in, roots, roots_at};
 ghost use Rattle.js_places.specs.PlaceNumber.{is_place, place_at, path_at};
 ghost use Rattle.js_bundle.specs.Schemas.{has_keyword, StandsFor, Finds};
-ghost use Rattle.js_places.specs.Target.{dynamic_anchor, dynamic_target, outermost};
+ghost use Rattle.js_places.specs.Target.{dynamic_anchor, dynamic_ref_target, outermost};
 
 use crate::check::references::DynamicReference;
 use crate::place::Place;
@@ -30,7 +30,7 @@ impl Schemas {
     pub fn dynamic_target(&self, place: Place, path: &[Place]) -> Place
         requires { has_keyword (codes "$dynamicRef") self.now place ≡ true }
         ensures { StandsFor self.now result (option_and_then
-            (dynamic_target (sites self.now) (path_at self.now path.now)) (place_at self.now place)) }
+            (dynamic_ref_target (sites self.now) (path_at self.now path.now)) (place_at self.now place)) }
     {
         let first = self.find_first_target(place);
         match first.name {
@@ -45,7 +45,7 @@ impl Schemas {
     pub fn dynamic_target_in(&self, place: Place, resources: &[usize]) -> Place
         requires { has_keyword (codes "$dynamicRef") self.now place ≡ true }
         ensures { StandsFor self.now result (option_and_then
-            (dynamic_target_in (sites self.now) resources.now) (place_at self.now place)) }
+            (dynamic_ref_target_in (sites self.now) resources.now) (place_at self.now place)) }
     {
         let first = self.find_first_target(place);
         match first.name {

@@ -2,7 +2,7 @@
 ghost use Rattle.std.specs.Prelude.{◌≡◌, Some, true, codes, find, bytes_eq, option_map, option_and_then};
 ghost use Rattle.js_assert.specs.Keyword.{name_of};
 ghost use Rattle.js_bundle.specs.AssertionsAndPatterns.{assertions_at, patterns_at};
-ghost use Rattle.js_places.specs.KeywordName.{keyword_names};
+ghost use Rattle.js_places.specs.KeywordName.{member_keywords};
 ghost use Rattle.js_places.specs.PlaceNumber.{is_place, place_at};
 ghost use Rattle.js_bundle.specs.Schemas.{has_keyword, assertion, pattern};
 ghost use Rattle.js_places.specs.Seen.{AreRead};
@@ -56,7 +56,7 @@ impl Schemas {
     /// ascending. A schema that is `true` or `false` has none.
     pub fn keyword_names(&self, place: Place) -> &[KeywordName]
         requires { is_place self.now place ≡ true }
-        ensures { option_map keyword_names (place_at self.now place) ≡ Some result.now }
+        ensures { option_map member_keywords (place_at self.now place) ≡ Some result.now }
     {
         let table = &self.kept.keywords;
         part_of_place(table.names.as_slice(), table.ends.as_slice(), place.number)

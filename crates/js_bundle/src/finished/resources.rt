@@ -2,7 +2,7 @@
 ghost use Rattle.std.specs.Prelude.{◌≡◌, ◌++◌, ◌&&◌, [], ◌∷◌, Some, true, map, bytes_eq, option_copied};
 ghost use Rattle.std.specs.Prelude.{option_and_then, IfOk, OnOk};
 ghost use Rattle.js_places.specs.Resource.{sites};
-ghost use Rattle.js_places.specs.ResourceNumber.{resource_count, resource_number};
+ghost use Rattle.js_places.specs.ResourceNumber.{count_of_resources, number_of_resource};
 ghost use Rattle.js_places.specs.PlaceNumber.{is_place, place_at};
 ghost use Rattle.js_bundle.specs.Schemas.{resources, lent};
 ghost use Rattle.js_bundle.specs.code.KeptSite.{kept_site_of, document_uri, base_made, resource_listed};
@@ -37,14 +37,14 @@ impl Schemas {
     /// The number of the place's resource: how many resources have their root before its own in scan order.
     pub fn resource_number(&self, place: Place) -> usize
         requires { is_place self.now place ≡ true }
-        ensures { option_and_then (resource_number (sites self.now)) (place_at self.now place) ≡ Some result }
+        ensures { option_and_then (number_of_resource (sites self.now)) (place_at self.now place) ≡ Some result }
     {
         self.kept.resources.numbers[place.number]
     }
 
     /// How many resources there are. Each number is below.
     pub fn resource_count(&self) -> usize
-        ensures { result ≡ resource_count (sites self.now) }
+        ensures { result ≡ count_of_resources (sites self.now) }
     {
         self.kept.resources.anchors.len()
     }

@@ -4,7 +4,7 @@ ghost use Rattle.js_places.specs.Finding.{under_number};
 ghost use Rattle.js_places.specs.Resource.{sites};
 ghost use Rattle.js_bundle.specs.Schemas.{has_keyword, StandsFor};
 ghost use Rattle.js_places.specs.PlaceNumber.{place_at};
-ghost use Rattle.js_places.specs.Target.{target};
+ghost use Rattle.js_places.specs.Target.{ref_target};
 
 use crate::place::Place;
 use crate::schemas::Schemas;
@@ -15,7 +15,7 @@ impl Schemas {
     pub fn target(&self, place: Place) -> Place
         requires { has_keyword (codes "$ref") self.now place ≡ true }
         ensures { StandsFor self.now result
-            (option_and_then (target (sites self.now)) (place_at self.now place)) }
+            (option_and_then (ref_target (sites self.now)) (place_at self.now place)) }
     {
         match target_under(self.kept.references.plain.as_slice(), place.number) {
             Some(number) => Place { number },

@@ -5,7 +5,7 @@ use Rattle.js_places.specs.code.PartsByPlace.{ArePartsByPlace, IsPart}
 use Rattle.js_places.specs.declared.index.keyword_table.KeywordTable.{KeywordTable}
 use Rattle.js_places.specs.declared.keyword_name.KeywordName.{KeywordName}
 use Rattle.js_places.specs.declared.scan.site.Site as rust
-use Rattle.js_places.specs.KeywordName.{keyword_names}
+use Rattle.js_places.specs.KeywordName.{member_keywords}
 use Rattle.js_places.specs.code.Scan.{site_of}
 use Rattle.js_places.proofs.Indexing.PartsOfPlaces.{part_lent, part_there}
 
@@ -13,8 +13,8 @@ there_at : {A B : Type 0} (f : A → B) (xs : List A) (i : ℕ) (x : A) → i < 
 there_at f xs i x low is = slice_get-map f xs i ∙ ap (option_map f) (slice_get-get_or xs i x low ∙ ap Some (sym is))
 
 pub names_are : (ss : List rust.Site) (i : ℕ) (x : rust.Site) (table : KeywordTable) (found names : List KeywordName) (ends : List ℕ)
-    → ArePartsByPlace keyword_names (map site_of ss) table.names.items table.ends.items → i < length ss → x ≡ get_or ss i x → names ≡ table.names.items → ends ≡ table.ends.items
-    → IsPart names (unwrap_or (slice_get (0 ∷ ends) i) 0) (unwrap_or (slice_get ends i) 0) found → found ≡ keyword_names (site_of x)
+    → ArePartsByPlace member_keywords (map site_of ss) table.names.items table.ends.items → i < length ss → x ≡ get_or ss i x → names ≡ table.names.items → ends ≡ table.ends.items
+    → IsPart names (unwrap_or (slice_get (0 ∷ ends) i) 0) (unwrap_or (slice_get ends i) 0) found → found ≡ member_keywords (site_of x)
 names_are ss i x table found names ends grouped low is same_names same_ends part =
-    sym (part_there keyword_names (map site_of ss) table.names.items table.ends.items i (site_of x) found grouped (there_at site_of ss i x low is)
+    sym (part_there member_keywords (map site_of ss) table.names.items table.ends.items i (site_of x) found grouped (there_at site_of ss i x low is)
     (part_lent table.names.items names table.ends.items ends i found same_names same_ends part))

@@ -11,7 +11,7 @@ use Rattle.js_places.specs.declared.keyword_name.KeywordName.{KeywordName}
 use Rattle.js_places.specs.declared.keyword_name.KeywordName.TheVariants.{DynamicAnchor}
 use Rattle.js_places.specs.contracts.keyword_name.KeywordNamePartialEq.TheImpl.{ghosts}
 use Rattle.js_places.specs.Keyword.{Text, text_argument, as_text}
-use Rattle.js_places.specs.KeywordName.{keyword_name, keyword_names}
+use Rattle.js_places.specs.KeywordName.{keyword_name, member_keywords}
 use Rattle.js_places.specs.Resource.{Site}
 use Rattle.js_places.proofs.Indexing.FirstFound.{get_first}
 
@@ -37,12 +37,12 @@ named_dynamic_anchor : ghosts.eq (keyword_name (codes "$dynamicAnchor")) Dynamic
 unfolding keyword_name assertion.keyword_named
 named_dynamic_anchor = refl
 
-pub no_text : (k : Text) (w : KeywordName) (place : Site) (names : List KeywordName) (found : Bool) → ghosts.eq (keyword_name k) w ≡ true → names ≡ keyword_names place
+pub no_text : (k : Text) (w : KeywordName) (place : Site) (names : List KeywordName) (found : Bool) → ghosts.eq (keyword_name k) w ≡ true → names ≡ member_keywords place
     → found ≡ list_any (λ y. ghosts.eq y w) names → found ≡ false → None ≡ text_argument k place.schema
 no_text k w place names found is same told h =
     sym (ap (option_and_then as_text) (absent k w is (members_of place.schema) (ap (list_any (λ y. ghosts.eq y w)) (sym same) ∙ sym told ∙ h)))
 
 -- a place that makes no name by `$dynamicAnchor`
-pub no_dynamic_anchor : (place : Site) (names : List KeywordName) (found : Bool) → names ≡ keyword_names place → found ≡ list_any (λ y. ghosts.eq y DynamicAnchor) names → found ≡ false
+pub no_dynamic_anchor : (place : Site) (names : List KeywordName) (found : Bool) → names ≡ member_keywords place → found ≡ list_any (λ y. ghosts.eq y DynamicAnchor) names → found ≡ false
     → None ≡ text_argument (codes "$dynamicAnchor") place.schema
 no_dynamic_anchor place names found same told h = no_text (codes "$dynamicAnchor") DynamicAnchor place names found named_dynamic_anchor same told h

@@ -8,9 +8,9 @@ use Rattle.js_places.specs.Document.{Documents}
 use Rattle.js_places.specs.Keyword.{Text}
 use Rattle.js_places.specs.Names.{stands_at}
 use Rattle.js_places.specs.Resource.{Site, sites}
-use Rattle.js_places.specs.ResourceNumber.{begins_resource, roots, resource_number, roots_at, dynamic_target_in, numbers_on, IsNumbering}
+use Rattle.js_places.specs.ResourceNumber.{begins_resource, roots, number_of_resource, roots_at, dynamic_ref_target_in, numbers_on, IsNumbering}
 use Rattle.js_places.specs.PlaceNumber.{place_at, path_at}
-use Rattle.js_places.specs.Target.{reference, first_target, dynamic_anchor, outermost, is_dynamic, dynamic_of, dynamic_target}
+use Rattle.js_places.specs.Target.{reference, first_target, dynamic_anchor, outermost, is_dynamic, dynamic_of, dynamic_ref_target}
 use Rattle.js_places.specs.Url.{decoded_fragment}
 use Rattle.js_places.proofs.Listing.EachListedOnce.{tokens-sound, at_place}
 use Rattle.js_places.proofs.Indexing.IndexFinds.{any_first}
@@ -35,7 +35,7 @@ pub record IsRootOf (all : List Site) (place : Site) (n : ℕ) : Type 0 where
   pub document : root.document ≡ place.document
   pub resource : root.own.resource ≡ place.own.resource
 
-pub root_of_number : (all : List Site) (place : Site) (n : ℕ) → resource_number all place ≡ Some n → IsRootOf all place n
+pub root_of_number : (all : List Site) (place : Site) (n : ℕ) → number_of_resource all place ≡ Some n → IsRootOf all place n
 root_of_number all place n e =
     let test = stands_at place.document place.own.resource in
     let found = number_finds test (roots all) n e in
@@ -53,10 +53,10 @@ some_of None e = absurd (cc)
 some_of (Some x) e = (x, refl)
 
 -- where its root is among the places, it has a number
-pub number_there : (all : List Site) (place : Site) → list_any (stands_at place.document place.own.resource) (roots all) ≡ true → (n : ℕ) × (resource_number all place ≡ Some n)
-number_there all place h = some_of (resource_number all place) (any_first (stands_at place.document place.own.resource) 0 (roots all) ∙ h)
+pub number_there : (all : List Site) (place : Site) → list_any (stands_at place.document place.own.resource) (roots all) ≡ true → (n : ℕ) × (number_of_resource all place ≡ Some n)
+number_there all place h = some_of (number_of_resource all place) (any_first (stands_at place.document place.own.resource) 0 (roots all) ∙ h)
 
-pub numbered : (documents : Documents) (n : ℕ) (place : Site) → slice_get (sites documents) n ≡ Some place → (m : ℕ) × (resource_number (sites documents) place ≡ Some m)
+pub numbered : (documents : Documents) (n : ℕ) (place : Site) → slice_get (sites documents) n ≡ Some place → (m : ℕ) × (number_of_resource (sites documents) place ≡ Some m)
 numbered documents n place e =
     let all = sites documents in
     number_there all place (all_at (λ s. list_any (stands_at s.document s.own.resource) (roots all) ≡ true) all n place (are_rooted documents) e)
@@ -129,7 +129,7 @@ module _ (all : List Site) (name : Text) where
   all_without_doubles (n ∷ numbers) = without_doubles n numbers ∙ sym (one_more n numbers)
 
   -- the number of a place's resource gives what the place gives
-  of_place : (place : Site) (n : ℕ) → resource_number all place ≡ Some n → of_number n ≡ dynamic_anchor all name place
+  of_place : (place : Site) (n : ℕ) → number_of_resource all place ≡ Some n → of_number n ≡ dynamic_anchor all name place
   of_place place n e =
       let root = root_of_number all place n e in
       ap (λ o. outermost all name (option_to_list o)) root.found ∙ or_none (dynamic_anchor all name root.root) ∙ same_anchor all name root.root place root.document root.resource
@@ -138,7 +138,7 @@ module _ (all : List Site) (name : Text) where
 
 module _ (documents : Documents) (name : Text) where
   abbrev pub numbers_of : List Site → List ℕ
-  numbers_of path = flat_map (λ place. option_to_list (resource_number (sites documents) place)) path
+  numbers_of path = flat_map (λ place. option_to_list (number_of_resource (sites documents) place)) path
 
   place_first : (n : ℕ) (place : Site) (path : List Site) → place_at documents n ≡ Some place
       → of_numbers (sites documents) name (numbers_of path) ≡ outermost (sites documents) name path → of_numbers (sites documents) name (numbers_of (place ∷ path)) ≡ outermost (sites documents) name (place ∷ path)
@@ -174,12 +174,12 @@ module _ (all one other : List Site) (same : (name : Text) → outermost all nam
   same_targets uri None = refl
   same_targets uri (Some first) = ap Some (same_led uri first)
 
-  pub same_scope : (o : Option Site) → option_and_then (dynamic_target all one) o ≡ option_and_then (dynamic_target all other) o
+  pub same_scope : (o : Option Site) → option_and_then (dynamic_ref_target all one) o ≡ option_and_then (dynamic_ref_target all other) o
   same_scope None = refl
   same_scope (Some place) = same_targets (reference (codes "$dynamicRef") place) (first_target all (codes "$dynamicRef") place)
 
 pub scope_by_numbers : (documents : Documents) (path : List ℕ) (place : ℕ)
-    → option_and_then (dynamic_target_in (sites documents) (numbers_on (sites documents) (path_at documents path))) (place_at documents place)
-    ≡ option_and_then (dynamic_target (sites documents) (path_at documents path)) (place_at documents place)
+    → option_and_then (dynamic_ref_target_in (sites documents) (numbers_on (sites documents) (path_at documents path))) (place_at documents place)
+    ≡ option_and_then (dynamic_ref_target (sites documents) (path_at documents path)) (place_at documents place)
 scope_by_numbers documents path place =
     same_scope (sites documents) (roots_at (sites documents) (numbers_on (sites documents) (path_at documents path))) (path_at documents path) (outermost_by_numbers documents path) (place_at documents place)

@@ -14,7 +14,7 @@ use Rattle.js_places.specs.code.Index.{AreInserted, FindsFirst}
 use Rattle.js_places.specs.Keyword.{text_argument}
 use Rattle.js_places.specs.Names.{belongs_to, same_tokens, stands_at}
 use Rattle.js_places.specs.Resource.{Site}
-use Rattle.js_places.specs.ResourceNumber.{begins_resource, roots, resource_number}
+use Rattle.js_places.specs.ResourceNumber.{begins_resource, roots, number_of_resource}
 use Rattle.js_places.specs.ResourceTable.{AreAnchors, AreEmpty, AreNamed, AreRooted, IsOpened, StandApart, count_begun, dynamic_names, rank_of_root, ranks_by, ranks_from}
 use Rattle.js_places.specs.code.Scan.{site_of}
 use Rattle.js_places.proofs.Listing.PlacesApart.{all_as}
@@ -87,7 +87,7 @@ ranked : (f : Site → Bool) (xs : List Site) (k c : ℕ) → IsOnce f xs → li
 ranked f [] k c once h = absurd (cc)
 ranked f (x ∷ xs) k c once h = ranked_by f x xs k c (f x) (begins_resource x) refl refl (λ m g. ranked f xs (k + 1) m once.1 g) once.0 h
 
-rank_is : (all : List Site) → StandApart all → (place : Site) → list_any (stands_at place.document place.own.resource) (roots all) ≡ true → Some (rank_of_root all place) ≡ resource_number all place
+rank_is : (all : List Site) → StandApart all → (place : Site) → list_any (stands_at place.document place.own.resource) (roots all) ≡ true → Some (rank_of_root all place) ≡ number_of_resource all place
 rank_is all apart place h =
     let test = stands_at place.document place.own.resource in
     let r = ranked test all 0 0 (once_apart place.document place.own.resource all apart) h in
@@ -99,10 +99,10 @@ mapped : {A : Type 0} (f : Site → A) (g : Site → Option A) (xs : List Site) 
 mapped f g [] h = refl
 mapped f g (x ∷ xs) h = ap₂ (λ y ys. y ∷ ys) h.0 (mapped f g xs h.1)
 
-pub ranks_are_numbers : (all : List Site) → AreRooted all → map Some (map (rank_of_root all) all) ≡ map (resource_number all) all
+pub ranks_are_numbers : (all : List Site) → AreRooted all → map Some (map (rank_of_root all) all) ≡ map (number_of_resource all) all
 ranks_are_numbers all h =
-    mapped (rank_of_root all) (resource_number all) all
-    (all_as (λ s. list_any (stands_at s.document s.own.resource) (roots all) ≡ true) (λ s. Some (rank_of_root all s) ≡ resource_number all s) (rank_is all h.apart) all h.rooted)
+    mapped (rank_of_root all) (number_of_resource all) all
+    (all_as (λ s. list_any (stands_at s.document s.own.resource) (roots all) ≡ true) (λ s. Some (rank_of_root all s) ≡ number_of_resource all s) (rank_is all h.apart) all h.rooted)
 
 -- ---- the roots, one place further on
 
@@ -206,7 +206,7 @@ same_rank all before place e =
     (eqb-true before.document place.document parts.0) (tokens-sound before.own.resource place.own.resource parts.1)
 
 -- each root's resource has the root's number
-pub number_of_root : (all : List Site) (n : ℕ) (root : Site) → StandApart all → slice_get (roots all) n ≡ Some root → resource_number all root ≡ Some n
+pub number_of_root : (all : List Site) (n : ℕ) (root : Site) → StandApart all → slice_get (roots all) n ≡ Some root → number_of_resource all root ≡ Some n
 number_of_root all n root h e =
     let begins = all_at (λ x. begins_resource x ≡ true) (roots all) n root (filtered begins_resource all) e in
     ap (λ p. position_from (stands_at root.document p) 0 (roots all)) (sym (tokens-sound root.pointer root.own.resource begins))
@@ -225,7 +225,7 @@ belongs_is root place e g =
     ap₂ (λ d r. belongs_to d r place) e g ∙ rw (nat_eq-refl place.document, tokens-refl place.own.resource) refl
 
 module _ (all : List Site) (rooted : AreRooted all) (old new : List Numbering) (before : List Site) (place : Site) (i m : ℕ) (count : i ≡ length before)
-    (number : resource_number all place ≡ Some m) (put : AreNamed old m (option_to_list (text_argument (codes "$dynamicAnchor") place.schema)) i new) (h : AreAnchors (roots all) old before) where
+    (number : number_of_resource all place ≡ Some m) (put : AreNamed old m (option_to_list (text_argument (codes "$dynamicAnchor") place.schema)) i new) (h : AreAnchors (roots all) old before) where
   -- in the place's own resource
   named_here : (root : Site) (b : Numbering) → slice_get (roots all) m ≡ Some root → slice_get new m ≡ Some b → FindsFirst (dynamic_names root) b (before ++ place ∷ [])
   named_here root b e g =
@@ -251,7 +251,7 @@ module _ (all : List Site) (rooted : AreRooted all) (old new : List Numbering) (
       apart false f = f
       apart true f =
           let parts = and_parts (place.document == root.document) (same_tokens place.own.resource root.own.resource) f in
-          let same : resource_number all place ≡ resource_number all root = ap₂ (λ d r. position_from (stands_at d r) 0 (roots all)) (eqb-true place.document root.document parts.0) (tokens-sound place.own.resource root.own.resource parts.1) in
+          let same : number_of_resource all place ≡ number_of_resource all root = ap₂ (λ d r. position_from (stands_at d r) 0 (roots all)) (eqb-true place.document root.document parts.0) (tokens-sound place.own.resource root.own.resource parts.1) in
           let numbers : Some n ≡ Some m = sym (number_of_root all n root rooted.apart e) ∙ sym same ∙ number in
           absurd (other cc)
 
@@ -265,27 +265,27 @@ module _ (all : List Site) (rooted : AreRooted all) (old new : List Numbering) (
   named_more = record { many = put.many ∙ h.many; first = λ n root b e g. named_at n root b (nat_eq n m) refl e g }
 
 -- the same of the code's lists
-pub number_under : (ss : List rust.Site) (numbers : List ℕ) (i : ℕ) (x : rust.Site) → map Some numbers ≡ map (resource_number (map site_of ss)) (map site_of ss) → i < length ss → x ≡ get_or ss i x
-    → resource_number (map site_of ss) (site_of x) ≡ Some (get_or numbers i 0)
+pub number_under : (ss : List rust.Site) (numbers : List ℕ) (i : ℕ) (x : rust.Site) → map Some numbers ≡ map (number_of_resource (map site_of ss)) (map site_of ss) → i < length ss → x ≡ get_or ss i x
+    → number_of_resource (map site_of ss) (site_of x) ≡ Some (get_or numbers i 0)
 number_under ss numbers i x e low is =
     let all = map site_of ss in
     let n = get_or numbers i 0 in
-    let many : length numbers ≡ length ss = sym (length-map numbers Some) ∙ ap length e ∙ length-map all (resource_number all) ∙ length-map ss site_of in
+    let many : length numbers ≡ length ss = sym (length-map numbers Some) ∙ ap length e ∙ length-map all (number_of_resource all) ∙ length-map ss site_of in
     let within : i < length numbers = omega (arith, low, many) in
     let left : slice_get (map Some numbers) i ≡ Some (Some n) = slice_get-map Some numbers i ∙ ap (option_map Some) (slice_get-get_or numbers i 0 within) in
-    let right : slice_get (map (resource_number all) all) i ≡ Some (resource_number all (site_of x)) =
-    slice_get-map (resource_number all) all i ∙ ap (option_map (resource_number all)) (slice_get-map site_of ss i ∙ ap (option_map site_of) (slice_get-get_or ss i x low ∙ ap Some (sym is))) in
-    let both : Some (resource_number all (site_of x)) ≡ Some (Some n) = sym right ∙ ap (λ l. slice_get l i) (sym e) ∙ left in
+    let right : slice_get (map (number_of_resource all) all) i ≡ Some (number_of_resource all (site_of x)) =
+    slice_get-map (number_of_resource all) all i ∙ ap (option_map (number_of_resource all)) (slice_get-map site_of ss i ∙ ap (option_map site_of) (slice_get-get_or ss i x low ∙ ap Some (sym is))) in
+    let both : Some (number_of_resource all (site_of x)) ≡ Some (Some n) = sym right ∙ ap (λ l. slice_get l i) (sym e) ∙ left in
     cc
 
-pub resource_there : (ss : List rust.Site) (i n : ℕ) (x : rust.Site) (anchors : List Numbering) → resource_number (map site_of ss) (site_of x) ≡ Some n → length anchors ≡ length (roots (map site_of ss)) → n < length anchors
+pub resource_there : (ss : List rust.Site) (i n : ℕ) (x : rust.Site) (anchors : List Numbering) → number_of_resource (map site_of ss) (site_of x) ≡ Some n → length anchors ≡ length (roots (map site_of ss)) → n < length anchors
 resource_there ss i n x anchors e many =
     let r = root_of_number (map site_of ss) (site_of x) n e in
     let low = slice_get_within (roots (map site_of ss)) n r.root r.found in
     omega (arith, low, many)
 
 pub named_next : (ss : List rust.Site) (numbers : List ℕ) (i : ℕ) (x : rust.Site) (old new : List Numbering) → AreRooted (map site_of ss)
-    → map Some numbers ≡ map (resource_number (map site_of ss)) (map site_of ss) → i < length ss → x ≡ get_or ss i x
+    → map Some numbers ≡ map (number_of_resource (map site_of ss)) (map site_of ss) → i < length ss → x ≡ get_or ss i x
     → AreNamed old (get_or numbers i 0) (option_to_list (text_argument (codes "$dynamicAnchor") (site_of x).schema)) i new → AreAnchors (roots (map site_of ss)) old (map site_of (take i ss))
     → AreAnchors (roots (map site_of ss)) new (map site_of (take (i + 1) ss))
 named_next ss numbers i x old new rooted e low is put h =

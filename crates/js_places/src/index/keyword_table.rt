@@ -1,6 +1,6 @@
 //! Which keyword of the standard each keyword of each place is.
 ghost use Rattle.std.specs.Prelude.{◌≡◌, ◌++◌, ◌∷◌, [], length, map, OnOk, IfOk};
-ghost use Rattle.js_places.specs.KeywordName.{keyword_name, keyword_names};
+ghost use Rattle.js_places.specs.KeywordName.{keyword_name, member_keywords};
 ghost use Rattle.js_places.specs.code.Scan.{site_of};
 
 use crate::keyword_name::KeywordName;
@@ -32,7 +32,7 @@ fn push_members(names: &mut Vec<KeywordName>, members: &Members) -> Result<(), M
 }
 
 fn push_names(names: &mut Vec<KeywordName>, site: &Site<'_>) -> Result<(), Memory>
-    ensures { OnOk result (names.new.items ≡ names.old.items ++ keyword_names (site_of site.now)) }
+    ensures { OnOk result (names.new.items ≡ names.old.items ++ member_keywords (site_of site.now)) }
 {
     match site.schema {
         Doc::Members(members) => push_members(names, members),
@@ -54,7 +54,7 @@ impl KeywordTable {
 
     /// Adds the next place.
     pub fn add_names(&mut self, site: &Site<'_>) -> Result<(), Memory>
-        ensures names { OnOk result (self.new.names.items ≡ self.old.names.items ++ keyword_names (site_of site.now)) }
+        ensures names { OnOk result (self.new.names.items ≡ self.old.names.items ++ member_keywords (site_of site.now)) }
         ensures ends { OnOk result (self.new.ends.items ≡ self.old.ends.items ++ length self.new.names.items ∷ []) }
     {
         push_names(&mut self.names, site)?;

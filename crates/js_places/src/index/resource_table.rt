@@ -5,9 +5,9 @@ ghost use Rattle.js_places.specs.code.PartsByPlace.{ArePartsByPlace};
 ghost use Rattle.js_places.specs.code.Index.{IsIndexOf};
 ghost use Rattle.js_places.specs.code.Positions.{ArePositionsOf};
 ghost use Rattle.js_places.specs.Keyword.{text_argument};
-ghost use Rattle.js_places.specs.KeywordName.{keyword_names};
+ghost use Rattle.js_places.specs.KeywordName.{member_keywords};
 ghost use Rattle.js_places.specs.Names.{belongs_to, same_tokens};
-ghost use Rattle.js_places.specs.ResourceNumber.{begins_resource, roots, resource_number};
+ghost use Rattle.js_places.specs.ResourceNumber.{begins_resource, roots, number_of_resource};
 ghost use Rattle.js_places.specs.ResourceTable.{AreAnchors, AreEmpty, AreNamed, AreRooted, IsOpened, IsResourceTable};
 ghost use Rattle.js_places.specs.ResourceTable.{StandApart, count_begun, rank_of_root, ranks_by, ranks_from};
 ghost use Rattle.js_places.specs.code.Scan.{site_of};
@@ -190,7 +190,7 @@ fn numbers_of(
 
 // The name that a place with these keywords makes by `$dynamicAnchor`. Few do: nothing is looked up for the others.
 fn dynamic_name<'s>(site: &'s Site<'_>, names: &[KeywordName]) -> Option<&'s str>
-    requires { names.now ≡ keyword_names (site_of site.now) }
+    requires { names.now ≡ member_keywords (site_of site.now) }
     ensures { option_copied result ≡ text_argument (codes "$dynamicAnchor") (site_of site.now).schema }
 {
     if names.contains(&KeywordName::DynamicAnchor) {
@@ -209,7 +209,7 @@ fn name(
     number: usize,
 ) -> Result<(), Memory>
     requires resource { resource < length anchors.now.items }
-    requires names { names.now ≡ keyword_names (site_of site.now) }
+    requires names { names.now ≡ member_keywords (site_of site.now) }
     ensures { OnOk result (AreNamed anchors.old.items resource
         (option_to_list (text_argument (codes "$dynamicAnchor") (site_of site.now).schema)) number anchors.new.items) }
 {
@@ -224,10 +224,10 @@ fn name_all(
     keywords: &KeywordTable,
     numbers: &[usize],
 ) -> Result<(), Memory>
-    requires keywords { ArePartsByPlace keyword_names (map site_of sites.now)
+    requires keywords { ArePartsByPlace member_keywords (map site_of sites.now)
         keywords.now.names.items keywords.now.ends.items }
     requires rooted { AreRooted (map site_of sites.now) }
-    requires numbers { map Some numbers.now ≡ map (resource_number (map site_of sites.now)) (map site_of sites.now) }
+    requires numbers { map Some numbers.now ≡ map (number_of_resource (map site_of sites.now)) (map site_of sites.now) }
     requires many { length anchors.now.items ≡ length (roots (map site_of sites.now)) }
     requires empty { AreEmpty anchors.now.items }
     ensures { OnOk result (AreAnchors (roots (map site_of sites.now)) anchors.new.items (map site_of sites.now)) }
@@ -247,7 +247,7 @@ pub fn resources_of(
     keywords: &KeywordTable,
 ) -> Result<Resources, Memory>
     requires positions { ArePositionsOf positions.now (map site_of sites.now) }
-    requires keywords { ArePartsByPlace keyword_names (map site_of sites.now)
+    requires keywords { ArePartsByPlace member_keywords (map site_of sites.now)
         keywords.now.names.items keywords.now.ends.items }
     requires rooted { AreRooted (map site_of sites.now) }
     ensures { IfOk result (λ r. IsResourceTable r (map site_of sites.now)) }

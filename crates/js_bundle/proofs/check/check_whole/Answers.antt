@@ -7,7 +7,7 @@ use Rattle.js_bundle.specs.AssertionsAndPatterns.{assertions_at, patterns_at}
 use Rattle.js_bundle.specs.Candidate.{IsClear}
 use Rattle.js_bundle.specs.Finding.{dynamic_at, number_of_target}
 use Rattle.js_places.specs.Finding.{under_number}
-use Rattle.js_places.specs.KeywordName.{keyword_names}
+use Rattle.js_places.specs.KeywordName.{member_keywords}
 use Rattle.js_places.specs.code.KeptLocation.{kept_location}
 use Rattle.js_bundle.specs.Refusals.{first_pass}
 use Rattle.js_places.specs.Resource.{sites}
@@ -58,7 +58,7 @@ look_up-requires-clause-positions c =
 
 pub look_up-requires-clause-keywords : goal.look_up-requires-clause-keywords
 look_up-requires-clause-keywords c =
-    subst (λ ss. ArePartsByPlace keyword_names (map site_of ss) c.in_ok-passed.passed.keywords.names.items c.in_ok-passed.passed.keywords.ends.items) (c.as_slice.ensures.value ∙ sym c.as_slice-2.ensures.value) c.in_ok-passed.ensures.keywords
+    subst (λ ss. ArePartsByPlace member_keywords (map site_of ss) c.in_ok-passed.passed.keywords.names.items c.in_ok-passed.passed.keywords.ends.items) (c.as_slice.ensures.value ∙ sym c.as_slice-2.ensures.value) c.in_ok-passed.ensures.keywords
 
 pub look_up-requires-clause-rooted : goal.look_up-requires-clause-rooted
 look_up-requires-clause-rooted c =
@@ -92,7 +92,7 @@ returns-clause-patterns c =
 
 pub returns-clause-keywords : goal.returns-clause-keywords
 returns-clause-keywords c =
-    subst (λ ss. ArePartsByPlace keyword_names ss c.in_ok-passed.passed.keywords.names.items c.in_ok-passed.passed.keywords.ends.items)
+    subst (λ ss. ArePartsByPlace member_keywords ss c.in_ok-passed.passed.keywords.names.items c.in_ok-passed.passed.keywords.ends.items)
     (first c.args.documents.now c.in_ok-sites.sites.items c.as_slice.result.now c.as_slice.ensures.value c.in_ok-sites.ensures c.in_ok-passed.ensures.clear)
     c.in_ok-passed.ensures.keywords
 

@@ -1,7 +1,7 @@
 use Rattle.std.proofs.Common.{◌+◌, [], map, take, drop, arith}
 use Rattle.std.proofs.lemmas.Result.{err_from_is_err_and}
 use Rattle.js_bundle.specs.AssertionsAndPatterns.{assertions_at, patterns_at}
-use Rattle.js_places.specs.KeywordName.{keyword_names}
+use Rattle.js_places.specs.KeywordName.{member_keywords}
 use Rattle.js_bundle.specs.Refusals.{at_site, first_pass}
 use Rattle.js_places.specs.code.Scan.{site_of}
 use Rattle.js_places.proofs.Indexing.PartsOfPlaces.{grouped_next}
@@ -37,7 +37,7 @@ loop-i-preserved c =
           e.assertions e.assertion_ends l.invariant.assertions;
       patterns = grouped_next patterns_at ss l.i x old.built.all.patterns.items new.built.all.patterns.items old.built.pattern_ends.items new.built.pattern_ends.items (omega arith) c.index-sites-i.is
           e.patterns e.pattern_ends l.invariant.patterns;
-      keywords = grouped_next keyword_names ss l.i x old.keywords.names.items new.keywords.names.items old.keywords.ends.items new.keywords.ends.items (omega arith) c.index-sites-i.is
+      keywords = grouped_next member_keywords ss l.i x old.keywords.names.items new.keywords.names.items old.keywords.ends.items new.keywords.ends.items (omega arith) c.index-sites-i.is
           e.names e.ends l.invariant.keywords;
       positions = positions_next ss l.i x old.positions new.positions (omega arith) c.index-sites-i.is e.positions l.invariant.positions;
       before = last_more ss l.i x (omega arith) c.index-sites-i.is;
