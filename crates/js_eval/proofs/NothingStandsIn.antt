@@ -323,12 +323,8 @@ ascending_members no_members a = tt
 ascending_members (member k v ms) a = (below_first k ms a.0, ascending_members ms a.2)
 
 ascending : (v : Value) → NamesAscend v → IsAscending (entries v)
-ascending null a = tt
-ascending (truth b) a = tt
-ascending (whole z) a = tt
-ascending (text s) a = tt
-ascending (list vs) a = tt
 ascending (object ms) a = ascending_members ms a
+ascending _ a = tt
 
 module _ (documents : Documents) (place : Site) (finds : FindsAll documents place) (path : List Site) (v : Value) (condition : Option Bool) (names : List Text) (indexes : List ℕ) where
   each_found : (ks : List Keyword) → AllByRecursion (IsIn place.schema) ks
