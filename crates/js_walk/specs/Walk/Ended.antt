@@ -1,12 +1,12 @@
--- What the walk of a keyword ends with: the keyword is evaluated, or no result of it is within the limits.
+-- What the walk of a keyword, or of a schema, ends with: it is evaluated, or no result of it is within the limits.
 use Rattle.std.specs.Prelude.{ℕ, Bool, List, Option, Result, MatchResult, map, drop}
 use Rattle.js_doc.specs.Value.{Value}
 use Rattle.js_tree.specs.Events.{Event}
 use Rattle.js_walk.specs.Applications.{Application}
 use Rattle.js_walk.specs.Keywords.{Keyword}
 use Rattle.js_walk.specs.SchemaSet.{Text, SchemaSet}
-use Rattle.js_walk.specs.Walk.Steps.{KeywordDone}
-use Rattle.js_walk.specs.Walk.Told.{KeywordHasNone, asked_by}
+use Rattle.js_walk.specs.Walk.Steps.{KeywordDone, NodeDone}
+use Rattle.js_walk.specs.Walk.Told.{HasNone, KeywordHasNone, asked_by}
 use Rattle.js_walk.specs.Fault.{OnTooLarge}
 use Rattle.js_walk.specs.declared.walking.fault.WalkFault.{WalkFault}
 use Rattle.js_walk.specs.declared.walking.tally.Judged.{Judged}
@@ -25,3 +25,9 @@ module _ {M H K C P : Type 0} (S : SchemaSet P) (text_of : M → Text) (takes : 
       MatchResult result
       (λ j. KeywordDone S text_of takes n path place v k known.matching (asked_since S text_of n path place v k known.condition start w) j w w' c d)
       (λ e. OnTooLarge e (KeywordHasNone S n path place v k (asked_since S text_of n path place v k known.condition start w) w.left))
+
+  abbrev pub NodeEnds : (n : ℕ) (above : List P) (place : P) (v : Value) (result : Result Bool WalkFault) (w w' : Way M H K) (c d : C) → Type 0
+  NodeEnds n above place v result w w' c d =
+      MatchResult result
+      (λ valid. NodeDone S text_of takes n above place v valid w w' c d)
+      (λ e. OnTooLarge e (HasNone S n above place v w.left))

@@ -1,12 +1,10 @@
 //! The leaves of a quiet walk: schemas none of whose keywords may apply schemas.
-ghost use Rattle.std.specs.Prelude.{◌≡◌, List, MatchResult, true};
+ghost use Rattle.std.specs.Prelude.{◌≡◌, List, true};
 ghost use Rattle.js_assert.specs.Argument.{entries};
 ghost use Rattle.js_bundle.specs.Resource.{Site};
 ghost use Rattle.js_doc.specs.Members.{IsAscending};
 ghost use Rattle.js_tree.specs.Events.{Event};
-ghost use Rattle.js_walk.specs.Fault.{OnTooLarge};
-ghost use Rattle.js_walk.specs.Walk.Steps.{NodeDone};
-ghost use Rattle.js_walk.specs.Walk.Told.{HasNone};
+ghost use Rattle.js_walk.specs.Walk.Ended.{NodeEnds};
 ghost use Rattle.js_walk.specs.Walk.Visited.{AppliesNone};
 
 use crate::walking::fault::WalkFault;
@@ -37,11 +35,8 @@ pub(crate) fn leaf_schema<W: World, H: PointerText + Drop, R: Reporter<W, H>>(
     requires ascending { IsAscending (entries ((W.schemas world.now).schema (W.site world.now place))) }
     requires applies { AppliesNone (W.schemas world.now) (W.site world.now place) }
     requires ignores { (c d : R) (e : Event) → R.takes c e d }
-    ensures { (above : List Site) (c : R) → MatchResult result
-        (λ valid. NodeDone (W.schemas world.now) W.text_of R.takes depth above (W.site world.now place)
-        (W.value_of value) valid way.old way.new c c)
-        (λ e. OnTooLarge e (HasNone (W.schemas world.now) depth above (W.site world.now place)
-        (W.value_of value) way.old.left)) }
+    ensures { (above : List Site) (c : R) → NodeEnds (W.schemas world.now) W.text_of R.takes depth above
+        (W.site world.now place) (W.value_of value) result way.old way.new c c }
 {
     if depth == 0 {
         return Err(WalkFault::TooLarge);

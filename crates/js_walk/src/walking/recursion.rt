@@ -3,9 +3,9 @@
 //! No bound names a lifetime, so that they may be recursive. A nested schema application takes one call of each.
 ghost use Rattle.std.specs.Prelude.{◌≡◌, ◌≤◌, ◌<◌, true, map, length, nat_eq, MatchResult, OnOk};
 ghost use Rattle.std.specs.List.{dedup, list_all};
-ghost use Rattle.js_walk.specs.Walk.Ended.{KeywordEnds};
-ghost use Rattle.js_walk.specs.Walk.Steps.{NodeDone, EachDone};
-ghost use Rattle.js_walk.specs.Walk.Told.{IsKeywordAt, HasNone, SomeHasNone};
+ghost use Rattle.js_walk.specs.Walk.Ended.{KeywordEnds, NodeEnds};
+ghost use Rattle.js_walk.specs.Walk.Steps.{EachDone};
+ghost use Rattle.js_walk.specs.Walk.Told.{IsKeywordAt, SomeHasNone};
 ghost use Rattle.js_walk.specs.Walk.Visited.{AreTogether, IsListed};
 ghost use Rattle.js_walk.specs.Fault.{OnTooLarge};
 
@@ -44,11 +44,8 @@ pub(crate) fn node<W: World, H: PointerText + Drop, R: Reporter<W, H>>(
     requires scope { way.old.scope ≡ dedup nat_eq (map (W.resource world.now) way.old.path) }
     requires place { W.is_place world.now place ≡ true }
     requires schema { W.stands_at world.now place schema }
-    ensures { MatchResult result
-        (λ valid. NodeDone (W.schemas world.now) W.text_of R.takes depth (map (W.site world.now) way.old.path)
-        (W.site world.now place) (W.value_of value) valid way.old way.new into.old into.new)
-        (λ e. OnTooLarge e (HasNone (W.schemas world.now) depth (map (W.site world.now) way.old.path)
-        (W.site world.now place) (W.value_of value) way.old.left)) }
+    ensures { NodeEnds (W.schemas world.now) W.text_of R.takes depth (map (W.site world.now) way.old.path)
+        (W.site world.now place) (W.value_of value) result way.old way.new into.old into.new }
 {
     if depth == 0 {
         return Err(WalkFault::TooLarge);
@@ -121,11 +118,8 @@ fn applied_node<W: World, H: PointerText + Drop, R: Reporter<W, H>>(
     requires scope { way.old.scope ≡ dedup nat_eq (map (W.resource world.now) way.old.path) }
     requires place { W.is_place world.now place ≡ true }
     requires schema { W.stands_at world.now place schema }
-    ensures { MatchResult result
-        (λ valid. NodeDone (W.schemas world.now) W.text_of R.takes depth (map (W.site world.now) way.old.path)
-        (W.site world.now place) (W.value_of value) valid way.old way.new into.old into.new)
-        (λ e. OnTooLarge e (HasNone (W.schemas world.now) depth (map (W.site world.now) way.old.path)
-        (W.site world.now place) (W.value_of value) way.old.left)) }
+    ensures { NodeEnds (W.schemas world.now) W.text_of R.takes depth (map (W.site world.now) way.old.path)
+        (W.site world.now place) (W.value_of value) result way.old way.new into.old into.new }
 {
     if into.is_quiet() {
         if !world.may_apply(place, schema) {
