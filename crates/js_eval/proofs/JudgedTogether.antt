@@ -125,15 +125,11 @@ module _ (test : Keyword → Bool) where
   unfolding turn_of
   three_counted [] = refl
   three_counted (m ∷ ms) =
-      let t = test m in
-      let node = has_node m.0 in
-      let after = is_after_if m.0 in
-      let otherwise = is_else m.0 in
-      ap₂ (λ x y. x + y) (one_counted test (comes_before_else m.0) t m (filter (λ k. comes_before_else k.0) ms) refl)
-      (ap₂ (λ x y. x + y) (one_counted test otherwise t m (filter (λ k. is_else k.0) ms) refl) (one_counted test (comes_after_else m.0) t m (filter (λ k. comes_after_else k.0) ms) refl))
-      ∙ (one_turn node after otherwise t (length (firsts ms)) (length (seconds ms)) (length (lasts ms)) (else_has_node m.0) (else_before m.0)
-      ∙ (ap (λ n. cond (is_ever (turn_by node after otherwise) && t) 1 0 + n) (three_counted ms)
-      ∙ more (is_ever (turn_by node after otherwise) && t) m (filter with_turn ms)))
+      ap₂ (λ x y. x + y) (one_counted test (comes_before_else m.0) (test m) m (filter (λ k. comes_before_else k.0) ms) refl)
+      (ap₂ (λ x y. x + y) (one_counted test (is_else m.0) (test m) m (filter (λ k. is_else k.0) ms) refl) (one_counted test (comes_after_else m.0) (test m) m (filter (λ k. comes_after_else k.0) ms) refl))
+      ∙ (one_turn (has_node m.0) (is_after_if m.0) (is_else m.0) (test m) (length (firsts ms)) (length (seconds ms)) (length (lasts ms)) (else_has_node m.0) (else_before m.0)
+      ∙ (ap (λ n. cond (with_turn m) 1 0 + n) (three_counted ms)
+      ∙ more (with_turn m) m (filter with_turn ms)))
     where
       more : (b : Bool) (m : Keyword) (ks : List Keyword) → cond b 1 0 + length ks ≡ length (cond b (m ∷ ks) ks)
       more true m ks = omega arith
@@ -180,14 +176,10 @@ module _ (says : Keyword → Bool) (test : Keyword → Bool) where
   unfolding turn_of
   three_hold [] = refl
   three_hold (m ∷ ms) =
-      let t = test m in
-      let node = has_node m.0 in
-      let after = is_after_if m.0 in
-      let otherwise = is_else m.0 in
-      ap₂ (λ x y. x && y) (one_holds says test (comes_before_else m.0) t m (filter (λ k. comes_before_else k.0) ms) refl)
-      (ap₂ (λ x y. x && y) (one_holds says test otherwise t m (filter (λ k. is_else k.0) ms) refl) (one_holds says test (comes_after_else m.0) t m (filter (λ k. comes_after_else k.0) ms) refl))
-      ∙ (one_turn_holds node after otherwise t (says m) (list_all says (firsts test ms)) (list_all says (seconds test ms)) (list_all says (lasts test ms)) (else_has_node m.0) (else_before m.0)
-      ∙ ap (λ b. cond (is_ever (turn_by node after otherwise) && t) (says m) true && b) (three_hold ms))
+      ap₂ (λ x y. x && y) (one_holds says test (comes_before_else m.0) (test m) m (filter (λ k. comes_before_else k.0) ms) refl)
+      (ap₂ (λ x y. x && y) (one_holds says test (is_else m.0) (test m) m (filter (λ k. is_else k.0) ms) refl) (one_holds says test (comes_after_else m.0) (test m) m (filter (λ k. comes_after_else k.0) ms) refl))
+      ∙ (one_turn_holds (has_node m.0) (is_after_if m.0) (is_else m.0) (test m) (says m) (list_all says (firsts test ms)) (list_all says (seconds test ms)) (list_all says (lasts test ms)) (else_has_node m.0) (else_before m.0)
+      ∙ ap (λ b. cond (with_turn test m) (says m) true && b) (three_hold ms))
 
   all_hold : (ms : Named) → list_all says (filter test (in_order ms)) ≡ list_all (λ m. cond (with_turn test m) (says m) true) ms
   all_hold ms =

@@ -14,7 +14,7 @@ use Rattle.url.specs.Parts.{Parts}
 use Rattle.js_doc.proofs.FiniteMaps.{get_here}
 use Rattle.js_doc.specs.Members.{get, name_cmp, IsAscending, IsBelowFirst, IsBelowHead, NamesAscend, NamesAscendInMembers}
 use Rattle.js_doc.specs.Parts.{member_list}
-use Rattle.js_doc.specs.Value.{Value, null, truth, whole, text, list, object, Members, no_members, member, Named}
+use Rattle.js_doc.specs.Value.{Value, null, object, Members, no_members, member, Named}
 use Rattle.js_assert.specs.Argument.{entries, values, has}
 use Rattle.js_assert.specs.Keyword.{keyword_named}
 use Rattle.js_assert.specs.Pattern.{matches}
@@ -323,12 +323,8 @@ ascending_members no_members a = tt
 ascending_members (member k v ms) a = (below_first k ms a.0, ascending_members ms a.2)
 
 ascending : (v : Value) → NamesAscend v → IsAscending (entries v)
-ascending null a = tt
-ascending (truth b) a = tt
-ascending (whole z) a = tt
-ascending (text s) a = tt
-ascending (list vs) a = tt
 ascending (object ms) a = ascending_members ms a
+ascending _ a = tt
 
 module _ (documents : Documents) (place : Site) (finds : FindsAll documents place) (path : List Site) (v : Value) (condition : Option Bool) (names : List Text) (indexes : List ℕ) where
   each_found : (ks : List Keyword) → AllByRecursion (IsIn place.schema) ks

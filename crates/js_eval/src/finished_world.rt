@@ -1,22 +1,18 @@
 //! Finished schemas and their patterns, as a walk uses them.
-ghost use Rattle.std.specs.Prelude.{◌≡◌, ◌++◌, IfOk, None, OnOk, Some, map, option_to_list, string_bytes, true};
-ghost use Rattle.js_doc.specs.Seen.{value_of as schema_value};
+ghost use Rattle.std.specs.Prelude.{◌≡◌, None, OnOk, Some, map, option_to_list};
 ghost use Rattle.js_walk.specs.Evaluated.{index_in_step, name_in_step};
-ghost use Rattle.js_walk.specs.Walk.Told.{at_step, schema_says};
-ghost use Rattle.js_tree.specs.Seen.{note_of};
-ghost use Rattle.js_walk.specs.code.Terms.{IsSchemaAt, instance_of, is_place, numbered_site, schemas_of, step_of};
+ghost use Rattle.js_walk.specs.Walk.Told.{at_step};
+ghost use Rattle.js_walk.specs.code.Terms.{instance_of, is_place, numbered_site, schemas_of, step_of};
 
 use crate::cursors::asking::{Asking, next_asked};
 use crate::cursors::start_by_kind::{Facts, Scene, asking_of_keyword};
-use crate::judging::notes::schema_note;
-use crate::judging::others::others_at;
-use crate::judging::passing;
+use crate::judging::others::judge_others;
+use crate::judging::passing::judge_keyword;
 use crate::schema::is_accepting;
 use crate::searching::pattern_answers::keep_all;
 use crate::searching::searchers::Searchers;
 use js_bundle::{Place, Schemas, Step};
-use js_doc::{Doc, Memory, Text, push_fragment_token};
-use js_tree::Note;
+use js_doc::{Doc, Memory};
 use js_walk::{
     Applied, Instance, Keyword, KeywordAt, Keywords, Kind, Others, Path, PointerText, Tally, Trail,
     World, is_written_as_it_is, names_at,
@@ -98,7 +94,7 @@ impl<'a> World for Here<'a> {
         value: Instance<'a>,
         matching: u64,
     ) -> Result<Others, Memory> {
-        others_at(alloc, self.schemas, &self.searchers, place, value, matching)
+        judge_others(alloc, self.schemas, &self.searchers, place, value, matching)
     }
 
     #[tactic(auto, unfolding(js_walk::specs::Walk::Told::keywords_at))]
@@ -193,7 +189,7 @@ impl<'a> World for Here<'a> {
         tally: Tally,
         matching: u64,
     ) -> Result<bool, Memory> {
-        passing::passes(
+        judge_keyword(
             alloc,
             self.schemas,
             &self.searchers,
@@ -262,8 +258,7 @@ fn member_at<'a>(at: Step<'a>, _doc: Option<&'a Doc>) -> Option<&'a str>
 {
     match at {
         Step::Name(name) => Some(name),
-        Step::Alone => None,
-        Step::Index(_) => None,
+        Step::Alone | Step::Index(_) => None,
     }
 }
 
@@ -272,8 +267,7 @@ fn item_at<'a>(at: Step<'a>, _doc: Option<&'a Doc>) -> Option<usize>
 {
     match at {
         Step::Index(index) => Some(index),
-        Step::Alone => None,
-        Step::Name(_) => None,
+        Step::Alone | Step::Name(_) => None,
     }
 }
 
@@ -290,25 +284,5 @@ fn go<'a, H: PointerText + Drop>(
         Step::Alone => Ok(()),
         Step::Index(index) => trail.push_index(index),
         Step::Name(name) => trail.push_name(name),
-    }
-}
-
-impl Here<'_> {
-    /// The note of a schema's node.
-    ///
-    /// # Errors
-    /// `Memory` if an allocation fails.
-    #[tactic(auto, unfolding(js_walk::specs::Walk::Told::schema_says))]
-    pub fn schema_says<'n>(
-        &self,
-        alloc: Global,
-        _place: Place,
-        schema: &Doc,
-    ) -> Result<Note<'n>, Memory>
-        requires { IsSchemaAt self.now.schemas.now _place (schema_value schema.now) }
-        ensures { IfOk result (λ n. note_of n
-            ≡ schema_says (schemas_of self.now.schemas.now) (numbered_site self.now.schemas.now _place)) }
-    {
-        schema_note(alloc, schema)
     }
 }

@@ -1,13 +1,13 @@
 //! Applications member by member (Core, sections 10.2.2.4, 10.3.2 and 11.3): a schema on each member that the keyword
 //! chooses by name, or on the value itself for each of the keyword's names that a member has.
-ghost use Rattle.std.specs.Prelude.{◌≡◌, ◌||◌, ◌∷◌, [], IfOk, MatchOption};
+ghost use Rattle.std.specs.Prelude.{◌≡◌, ◌∷◌, [], IfOk, MatchOption};
 ghost use Rattle.std.specs.List.{list_any};
 ghost use Rattle.std.specs.Option.{option_map_or};
 ghost use Rattle.js_assert.specs.Pattern.{matches};
 ghost use Rattle.js_doc.specs.Members.{get};
 ghost use Rattle.js_eval.specs.code.Applied.{IsHeld, applied_of};
 ghost use Rattle.js_eval.specs.code.Asked.{IsApplied};
-ghost use Rattle.js_eval.specs.code.Cursors.{is_chosen, is_matched, is_named, members_asked, chosen_members, named_in};
+ghost use Rattle.js_eval.specs.code.Cursors.{is_chosen, is_named, members_asked, chosen_members, named_in};
 ghost use Rattle.js_walk.specs.code.Terms.{entries, value_of};
 
 use crate::cursors::application::{Held, To, apply_to_part};
@@ -126,34 +126,17 @@ fn is_chosen<'a>(
     match choice {
         Choice::All => Ok(true),
         Choice::Named(named) => Ok(named.get(name).is_some()),
-        Choice::Additional(adjacent) => Ok(!is_spoken_of(
-            alloc, schemas, searchers, adjacent, name,
-        )?),
+        Choice::Additional(adjacent) => {
+            if is_named(adjacent.properties, name) {
+                return Ok(false);
+            }
+            let Some(patterns) = adjacent.patterns else {
+                return Ok(true);
+            };
+            let place = adjacent.place;
+            Ok(!matches_any(alloc, schemas, searchers, place, patterns, name)?)
+        }
         Choice::Except(names) => Ok(!is_in(names, name)),
-    }
-}
-
-// Whether one of the adjacent keywords covers the name.
-fn is_spoken_of<'a>(
-    alloc: Global,
-    schemas: &'a Schemas,
-    searchers: &Searchers<'a>,
-    adjacent: &Adjacent<'a>,
-    name: &str,
-) -> Result<bool, Memory>
-    ensures { IfOk result (λ b. b ≡ (is_named adjacent.now.properties name.now
-        || is_matched adjacent.now.patterns name.now)) }
-{
-    if is_named(adjacent.properties, name) {
-        return Ok(true);
-    }
-    let place = adjacent.place;
-    match adjacent.patterns {
-        Some(patterns) => match searchers.any_kept(patterns, name) {
-            Some(answer) => Ok(answer),
-            None => matches_any(alloc, schemas, searchers, place, patterns, name),
-        },
-        None => Ok(false),
     }
 }
 
@@ -166,6 +149,7 @@ fn is_named(properties: Option<&Members>, name: &str) -> bool
     }
 }
 
+// Whether one of the patterns of `patternProperties` at the place matches the name, as stored or by searches.
 fn matches_any<'a>(
     alloc: Global,
     schemas: &'a Schemas,
@@ -176,6 +160,9 @@ fn matches_any<'a>(
 ) -> Result<bool, Memory>
     ensures { IfOk result (λ b. b ≡ list_any (λ p. matches p.0 name.now) patterns.now) }
 {
+    if let Some(answer) = searchers.any_kept(patterns, name) {
+        return Ok(answer);
+    }
     for (pattern, _) in patterns.pairs() {
         let built = pattern_of(schemas, place, pattern.as_str())?;
         if searchers.matches_name(alloc, built, name)? {

@@ -154,8 +154,9 @@ fn is_match<'a>(
     ensures { IfOk result (λ b. b ≡ matches pattern.entry.text.now name.now) }
 {
     if is_kept {
-        searchers.matches_as_kept(alloc, pattern, name)
-    } else {
-        searchers.matches_name(alloc, pattern, name)
+        if let Some(answer) = searchers.kept_answer(pattern.text, name) {
+            return Ok(answer);
+        }
     }
+    searchers.matches_name(alloc, pattern, name)
 }

@@ -1,5 +1,5 @@
 //! The notes of keywords and of schemas: annotations and errors (Core, sections 7.7, 10, 11 and 12.3.4).
-ghost use Rattle.std.specs.Prelude.{◌≡◌, ◌++◌, ◌∷◌, [], ℕ, true, false, IfOk, List, None, OnOk, codes, cond, decimal};
+ghost use Rattle.std.specs.Prelude.{◌≡◌, ◌++◌, [], ℕ, true, false, IfOk, List, None, codes, decimal};
 ghost use Rattle.std.specs.Prelude.{filter, map, option_map, string_bytes};
 ghost use Rattle.std.specs.Option.{option_map_or};
 ghost use Rattle.js_assert.specs.Assertion.{asserted};
@@ -7,17 +7,17 @@ ghost use Rattle.js_assert.specs.ErrorText as texts;
 ghost use Rattle.js_doc.specs.Value.{Named, Value as JsonValue};
 ghost use Rattle.js_walk.specs.Applications.{among_names};
 ghost use Rattle.js_eval.specs.code.Cursors.{is_key};
-ghost use Rattle.js_walk.specs.code.Terms.{entries, instance_of, is_place, keyword_of};
+ghost use Rattle.js_walk.specs.code.Terms.{IsSchemaAt, instance_of, is_place, keyword_of};
 ghost use Rattle.js_walk.specs.code.Terms.{numbered_site, schemas_of, texts_of, value_of};
 ghost use Rattle.js_walk.specs.Keywords as table;
 ghost use Rattle.js_walk.specs.Note as spec;
 ghost use Rattle.js_walk.specs.SchemaSet.{Text as Bytes};
 ghost use Rattle.js_walk.specs.Walk.Said.{keyword_says};
-ghost use Rattle.js_walk.specs.Walk.Told.{IsKeywordAt, says_at};
+ghost use Rattle.js_walk.specs.Walk.Told.{IsKeywordAt, says_at, schema_says};
 ghost use Rattle.js_tree.specs.Seen.{note_of};
 
 use crate::finished_world::Here;
-use crate::judging::passing::holds;
+use crate::judging::passing::{look_up_assertion, satisfies};
 use crate::searching::name_set::{is_in, set_of};
 use crate::searching::searchers::Searchers;
 use itoa::Buffer;
@@ -29,46 +29,87 @@ use js_walk::{Instance, Judged, Keyword, Kind};
 use std::alloc::Global;
 use std::collections::BTreeSet;
 
-/// The note of a keyword. `judged`: whether it passes, and how many of its applications succeed; `matching`: the number
-/// of items that match the adjacent `contains`; `names`, `indexes`: the members and items that it has evaluated if it
-/// passes.
+/// What the walk of a keyword has found.
+#[derive(Clone, Copy)]
+pub(crate) struct Findings<'n, 'a> {
+    /// Whether the keyword passes, and how many of its applications succeed.
+    pub judged: Judged,
+    /// The number of items that match the adjacent `contains`.
+    pub matching: u64,
+    /// The names of the members that the keyword has evaluated if it passes.
+    pub names: &'n [&'a str],
+    /// The indexes of the items that it has evaluated then.
+    pub indexes: &'n [usize],
+}
+
+impl<'n, 'a> Findings<'n, 'a> {
+    /// Those of a keyword that applies no schema.
+    pub fn of_leaf(judged: Judged, matching: u64) -> Findings<'n, 'a>
+        ensures judged { result.judged ≡ judged }
+        ensures matching { result.matching ≡ matching }
+        ensures names { texts_of result.names.now ≡ [] }
+        ensures indexes { result.indexes.now ≡ [] }
+    {
+        Findings {
+            judged,
+            matching,
+            names: &[],
+            indexes: &[],
+        }
+    }
+}
+
+/// The note of a keyword.
 ///
 /// # Errors
 /// `Memory` if an allocation fails.
 #[tactic(auto, unfolding(js_walk::specs::Walk::Told::says_at))]
-pub(crate) fn keyword_note<'a>(
+pub(crate) fn make_keyword_note<'a>(
     alloc: Global,
     here: &Here<'a>,
     place: Place,
     value: Instance<'a>,
     keyword: Keyword<'a>,
-    judged: Judged,
-    matching: u64,
-    names: &[&'a str],
-    indexes: &[usize],
+    findings: Findings<'_, 'a>,
 ) -> Result<Note<'a>, Memory>
     requires place { is_place here.now.schemas.now place ≡ true }
     requires keyword { IsKeywordAt (schemas_of here.now.schemas.now) (numbered_site here.now.schemas.now place)
         (keyword_of keyword) }
     ensures { IfOk result (λ n. note_of n ≡ says_at (schemas_of here.now.schemas.now)
-        (numbered_site here.now.schemas.now place) (instance_of value.entry) matching (keyword_of keyword.entry)
-        judged.held (texts_of names.now) indexes.now judged.passes) }
+        (numbered_site here.now.schemas.now place) (instance_of value.entry) findings.entry.matching
+        (keyword_of keyword.entry) findings.entry.judged.held (texts_of findings.entry.names.now)
+        findings.entry.indexes.now findings.entry.judged.passes) }
 {
+    let Findings {
+        judged,
+        matching,
+        names,
+        indexes,
+    } = findings;
     let kind = keyword.kind;
     if judged.passes {
         annotation_of(alloc, kind, keyword, value, names, indexes)
     } else {
-        let error = error_at(alloc, here, place, value, keyword, matching)?;
+        let assertion = look_up_assertion(here.schemas, place, keyword);
+        let error = error_of(alloc, &here.searchers, assertion, value, matching)?;
         failure_of(alloc, kind, judged.held, error)
     }
 }
 
-/// The note of a schema: an error for the schema `false`, and none for any other.
+/// The note of the schema at a place: an error for the schema `false`, and none for any other.
 ///
 /// # Errors
 /// `Memory` if an allocation fails.
-pub(crate) fn schema_note<'a>(alloc: Global, schema: &Doc) -> Result<Note<'a>, Memory>
-    ensures { IfOk result (λ n. note_of n ≡ spec.schema_note (value_of schema.now)) }
+#[tactic(auto, unfolding(js_walk::specs::Walk::Told::schema_says))]
+pub(crate) fn make_schema_note<'a>(
+    alloc: Global,
+    _here: &Here<'_>,
+    _place: Place,
+    schema: &Doc,
+) -> Result<Note<'a>, Memory>
+    requires { IsSchemaAt _here.now.schemas.now _place (value_of schema.now) }
+    ensures { IfOk result (λ n. note_of n
+        ≡ schema_says (schemas_of _here.now.schemas.now) (numbered_site _here.now.schemas.now _place)) }
 {
     match schema {
         Doc::Truth(false) => words(alloc, "false schema"),
@@ -94,13 +135,14 @@ fn annotation_of<'a>(
 {
     match kind {
         Kind::PrefixItems => Ok(true_or_largest(value, indexes)),
-        Kind::Items => Ok(if_any(indexes)),
+        Kind::Items | Kind::UnevaluatedItems => Ok(if_any(indexes)),
         Kind::Contains => matching_items(alloc, value, indexes),
-        Kind::Properties => members_applied(alloc, value, names),
-        Kind::PatternProperties => members_in_order(alloc, value, names),
-        Kind::AdditionalProperties => members_applied(alloc, value, names),
-        Kind::UnevaluatedItems => Ok(if_any(indexes)),
-        Kind::UnevaluatedProperties => members_applied(alloc, value, names),
+        Kind::Properties | Kind::AdditionalProperties | Kind::UnevaluatedProperties => {
+            Ok(names_on_object(value, copies(alloc, names)?))
+        }
+        Kind::PatternProperties => {
+            Ok(names_on_object(value, member_names_among(alloc, value, names)?))
+        }
         Kind::Annotation => Ok(Note::Value(keyword.argument)),
         _ => Ok(Note::Silent),
     }
@@ -226,21 +268,6 @@ fn as_numbers(alloc: Global, indexes: &[usize]) -> Result<Vec<u64>, Memory>
     Ok(numbers)
 }
 
-// For an object: the names of the members that a schema was applied to, in that order.
-fn members_applied<'a>(
-    alloc: Global,
-    value: Instance<'a>,
-    names: &[&'a str],
-) -> Result<Note<'a>, Memory>
-    ensures { IfOk result (λ n. note_of n ≡ spec.said_of_object (instance_of value.entry)
-        (spec.names (texts_of names.now))) }
-{
-    match value {
-        Instance::Doc(Doc::Members(_)) => Ok(Note::Names(Names::new(copies(alloc, names)?))),
-        _ => Ok(Note::Silent),
-    }
-}
-
 fn copies<'a>(alloc: Global, names: &[&'a str]) -> Result<Vec<&'a str>, Memory>
     ensures { IfOk result (λ ns. texts_of ns.items ≡ texts_of names.now) }
 {
@@ -251,19 +278,7 @@ fn copies<'a>(alloc: Global, names: &[&'a str]) -> Result<Vec<&'a str>, Memory>
     Ok(all)
 }
 
-// For an object: the names of the members that a schema was applied to, ascending, each once.
-fn members_in_order<'a>(
-    alloc: Global,
-    value: Instance<'a>,
-    applied: &[&'a str],
-) -> Result<Note<'a>, Memory>
-    ensures { IfOk result (λ n. note_of n ≡ spec.said_of_object (instance_of value.entry)
-        (spec.names (spec.member_names_among (instance_of value.entry) (texts_of applied.now)))) }
-{
-    let names = member_names_among(alloc, value, applied)?;
-    Ok(names_on_object(value, names))
-}
-
+// For an object: these names.
 fn names_on_object<'a>(value: Instance<'a>, names: Vec<&'a str>) -> Note<'a>
     ensures { note_of result ≡ spec.said_of_object (instance_of value.entry) (spec.names (texts_of names.entry.items)) }
 {
@@ -273,7 +288,7 @@ fn names_on_object<'a>(value: Instance<'a>, names: Vec<&'a str>) -> Note<'a>
     }
 }
 
-// The names of a value's members that are among these.
+// The names of a value's members that are among these, ascending, each once.
 fn member_names_among<'a>(
     alloc: Global,
     value: Instance<'a>,
@@ -320,32 +335,6 @@ fn names_in<'a>(
     Ok(names)
 }
 
-// The error of the keyword's assertion, if it makes one and the value doesn't satisfy it.
-fn error_at(
-    alloc: Global,
-    here: &Here<'_>,
-    place: Place,
-    value: Instance<'_>,
-    keyword: Keyword<'_>,
-    matching: u64,
-) -> Result<Option<String>, Memory>
-    requires place { is_place here.now.schemas.now place ≡ true }
-    requires keyword { IsKeywordAt (schemas_of here.now.schemas.now) (numbered_site here.now.schemas.now place)
-        (keyword_of keyword) }
-    ensures { IfOk result (λ e. option_map string_bytes e
-        ≡ option_map_or (λ a. texts.error a (instance_of value.entry) matching)
-        (asserted keyword.entry.name.now (value_of keyword.entry.argument.now)
-        (entries (numbered_site here.now.schemas.now place).schema)) None) }
-{
-    error_of(
-        alloc,
-        &here.searchers,
-        here.schemas.assertion(place, keyword.name),
-        value,
-        matching,
-    )
-}
-
 // The error of an assertion, if there is one and the value doesn't satisfy it. This repeats the check that gave the
 // verdict; with a kept searcher that costs little.
 fn error_of<'a>(
@@ -362,25 +351,14 @@ fn error_of<'a>(
     let Some(assertion) = assertion else {
         return Ok(None);
     };
-    if holds(alloc, searchers, assertion, value, matching)? {
+    if satisfies(alloc, searchers, assertion, value, matching)? {
         return Ok(None);
     }
-    Ok(Some(error_text(alloc, assertion, value, matching)?))
-}
-
-fn error_text(
-    alloc: Global,
-    assertion: &Assertion,
-    value: Instance<'_>,
-    matching: u64,
-) -> Result<String, Memory>
-    ensures { IfOk result (λ s. string_bytes s ≡ texts.error_text assertion.now (instance_of value.entry) matching) }
-{
     match value {
-        Instance::Doc(doc) => assertion.error(alloc, doc, matching),
+        Instance::Doc(doc) => Ok(Some(assertion.error(alloc, doc, matching)?)),
         Instance::Name(name) => {
             let name = Doc::Text(Text::new(String::from_str(alloc, name)?));
-            assertion.error(alloc, &name, matching)
+            Ok(Some(assertion.error(alloc, &name, matching)?))
         }
     }
 }

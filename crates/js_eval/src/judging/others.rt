@@ -6,7 +6,7 @@ ghost use Rattle.js_walk.specs.Walk.Visited.{AreJudged};
 ghost use Rattle.js_eval.specs.code.Leaves.{has_leaf};
 ghost use Rattle.js_walk.specs.code.Terms.{instance_of, is_place, numbered_site, schemas_of};
 
-use crate::judging::passing::holds;
+use crate::judging::passing::satisfies;
 use crate::searching::searchers::Searchers;
 use js_assert::Assertion;
 use js_bundle::{KeywordName, Place, Schemas};
@@ -20,7 +20,7 @@ use std::alloc::Global;
 /// # Errors
 /// `Memory` if an allocation fails.
 #[inline(never)]
-pub(crate) fn others_at<'a>(
+pub(crate) fn judge_others<'a>(
     alloc: Global,
     schemas: &'a Schemas,
     searchers: &Searchers<'a>,
@@ -47,7 +47,7 @@ fn holds_each<'a>(
     ensures { IfOk result (λ b. b ≡ list_all (λ a. spec.says a (instance_of value.entry) matching) assertions.now) }
 {
     for assertion in assertions {
-        if !holds(alloc, searchers, assertion, value, matching)? {
+        if !satisfies(alloc, searchers, assertion, value, matching)? {
             return Ok(false);
         }
     }

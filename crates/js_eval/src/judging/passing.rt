@@ -26,7 +26,7 @@ use std::alloc::Global;
 /// # Errors
 /// `Memory` if an allocation fails.
 #[tactic(auto, unfolding(js_walk::specs::Walk::Told::passes_at))]
-pub(crate) fn passes<'a>(
+pub(crate) fn judge_keyword<'a>(
     alloc: Global,
     schemas: &'a Schemas,
     searchers: &Searchers<'a>,
@@ -45,7 +45,10 @@ pub(crate) fn passes<'a>(
 {
     let kind = keyword.kind;
     let said = match kind {
-        Kind::Assertion => says_at(alloc, schemas, searchers, place, value, keyword, matching)?,
+        Kind::Assertion => match look_up_assertion(schemas, place, keyword) {
+            Some(assertion) => satisfies(alloc, searchers, assertion, value, matching)?,
+            None => true,
+        },
         _ => true,
     };
     Ok(passes_by_count(kind, schema, value, said, tally))
@@ -113,53 +116,25 @@ fn may_hold_none(schema: &Doc) -> bool
     }
 }
 
-// Whether the value satisfies the keyword's assertion; true if it makes none.
-fn says_at<'a>(
-    alloc: Global,
+/// The keyword's assertion, if it makes one.
+pub(crate) fn look_up_assertion<'a>(
     schemas: &'a Schemas,
-    searchers: &Searchers<'a>,
     place: Place,
-    value: Instance<'_>,
     keyword: Keyword<'_>,
-    matching: u64,
-) -> Result<bool, Memory>
+) -> Option<&'a Assertion>
     requires place { is_place schemas.now place ≡ true }
     requires keyword { IsKeywordAt (schemas_of schemas.now) (numbered_site schemas.now place) (keyword_of keyword) }
-    ensures { IfOk result (λ b. b ≡ option_map_or (λ a. spec.says a (instance_of value.entry) matching)
-        (asserted keyword.entry.name.now (value_of keyword.entry.argument.now)
-        (entries (numbered_site schemas.now place).schema)) true) }
+    ensures { option_map (λ a. a.now) result ≡ asserted keyword.entry.name.now
+        (value_of keyword.entry.argument.now) (entries (numbered_site schemas.now place).schema) }
 {
-    says(
-        alloc,
-        searchers,
-        schemas.assertion(place, keyword.name),
-        value,
-        matching,
-    )
-}
-
-// Whether the value satisfies the assertion; true if there is none.
-fn says<'a>(
-    alloc: Global,
-    searchers: &Searchers<'a>,
-    assertion: Option<&'a Assertion>,
-    value: Instance<'_>,
-    matching: u64,
-) -> Result<bool, Memory>
-    ensures { IfOk result (λ b. b ≡ option_map_or (λ a. spec.says a (instance_of value.entry) matching)
-        (option_map (λ a. a.now) assertion.entry) true) }
-{
-    match assertion {
-        Some(assertion) => holds(alloc, searchers, assertion, value, matching),
-        None => Ok(true),
-    }
+    schemas.assertion(place, keyword.name)
 }
 
 /// Whether a value satisfies an assertion. A pattern uses a kept searcher, if there is one.
 ///
 /// # Errors
 /// `Memory` if an allocation fails.
-pub(crate) fn holds<'a>(
+pub(crate) fn satisfies<'a>(
     alloc: Global,
     searchers: &Searchers<'a>,
     assertion: &'a Assertion,

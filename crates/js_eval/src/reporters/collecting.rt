@@ -3,7 +3,7 @@ ghost use Rattle.std.specs.Prelude.{OnOk};
 ghost use Rattle.js_tree.specs.Events.{opening};
 
 use crate::finished_world::Here;
-use crate::judging::notes::keyword_note;
+use crate::judging::notes::{Findings, make_keyword_note, make_schema_note};
 use js_bundle::Place;
 use js_doc::{Doc, Memory, Text};
 use js_tree::{Collector, Head};
@@ -73,9 +73,13 @@ impl<'a, C: Collector<'a>> Reporter<Here<'a>, HeldText> for Collecting<'a, C> {
         names: &[&'a str],
         indexes: &[usize],
     ) -> Result<(), Memory> {
-        let note = keyword_note(
-            alloc, world, place, value, keyword, judged, matching, names, indexes,
-        )?;
+        let findings = Findings {
+            judged,
+            matching,
+            names,
+            indexes,
+        };
+        let note = make_keyword_note(alloc, world, place, value, keyword, findings)?;
         self.collector.leave(judged.passes, note)
     }
 
@@ -92,6 +96,8 @@ impl<'a, C: Collector<'a>> Reporter<Here<'a>, HeldText> for Collecting<'a, C> {
         keyword_location: &mut Trail<HeldText>,
         instance_location: &Trail<HeldText>,
     ) -> Result<(), Memory> {
+        let findings = Findings::of_leaf(judged, matching);
+        let note = make_keyword_note(alloc, world, place, value, keyword, findings)?;
         let here = keyword_location.mark();
         world.go_to_keyword(keyword, keyword_location)?;
         self.open_keyword(
@@ -102,17 +108,7 @@ impl<'a, C: Collector<'a>> Reporter<Here<'a>, HeldText> for Collecting<'a, C> {
             keyword_location,
             instance_location,
         )?;
-        self.close_keyword(
-            alloc,
-            world,
-            place,
-            value,
-            keyword,
-            judged,
-            matching,
-            &[],
-            &[],
-        )?;
+        self.collector.leave(judged.passes, note)?;
         keyword_location.cut(here);
         Ok(())
     }
@@ -126,7 +122,7 @@ impl<'a, C: Collector<'a>> Reporter<Here<'a>, HeldText> for Collecting<'a, C> {
         schema: &'a Doc,
         valid: bool,
     ) -> Result<(), Memory> {
-        let note = world.schema_says(alloc, place, schema)?;
+        let note = make_schema_note(alloc, world, place, schema)?;
         self.collector.leave(valid, note)
     }
 }

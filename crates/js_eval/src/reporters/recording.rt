@@ -5,7 +5,7 @@ ghost use Rattle.js_rows.specs.RelativeState.{TakesLeafAt, relative_after, relat
 ghost use Rattle.js_walk.specs.code.Standard.{IsWrittenAsItIs};
 
 use crate::finished_world::Here;
-use crate::judging::notes::keyword_note;
+use crate::judging::notes::{Findings, make_keyword_note, make_schema_note};
 use js_bundle::Place;
 use js_doc::{Doc, Memory, push_fragment_token};
 use js_rows::RelativeRows;
@@ -94,9 +94,13 @@ impl<'a> Reporter<Here<'a>, HeldText> for Recording<'a> {
         names: &[&'a str],
         indexes: &[usize],
     ) -> Result<(), Memory> {
-        let note = keyword_note(
-            alloc, world, place, value, keyword, judged, matching, names, indexes,
-        )?;
+        let findings = Findings {
+            judged,
+            matching,
+            names,
+            indexes,
+        };
+        let note = make_keyword_note(alloc, world, place, value, keyword, findings)?;
         self.rows.leave(judged.passes, note);
         Ok(())
     }
@@ -114,20 +118,11 @@ impl<'a> Reporter<Here<'a>, HeldText> for Recording<'a> {
         keyword_location: &mut Trail<HeldText>,
         instance_location: &Trail<HeldText>,
     ) -> Result<(), Memory> {
+        let findings = Findings::of_leaf(judged, matching);
+        let note = make_keyword_note(alloc, world, place, value, keyword, findings)?;
         let (schema, rest) = world.schemas.location_of(place);
         if rest.is_empty() && self.takes_leaf(keyword, keyword_location, instance_location) {
             let name = keyword.name;
-            let note = keyword_note(
-                alloc,
-                world,
-                place,
-                value,
-                keyword,
-                judged,
-                matching,
-                &[],
-                &[],
-            )?;
             return self.rows.add_leaf(schema, name, judged.passes, note);
         }
         let here = keyword_location.mark();
@@ -140,17 +135,7 @@ impl<'a> Reporter<Here<'a>, HeldText> for Recording<'a> {
             keyword_location,
             instance_location,
         )?;
-        self.close_keyword(
-            alloc,
-            world,
-            place,
-            value,
-            keyword,
-            judged,
-            matching,
-            &[],
-            &[],
-        )?;
+        self.rows.leave(judged.passes, note);
         keyword_location.cut(here);
         Ok(())
     }
@@ -164,7 +149,7 @@ impl<'a> Reporter<Here<'a>, HeldText> for Recording<'a> {
         schema: &'a Doc,
         valid: bool,
     ) -> Result<(), Memory> {
-        let note = world.schema_says(alloc, place, schema)?;
+        let note = make_schema_note(alloc, world, place, schema)?;
         self.rows.leave(valid, note);
         Ok(())
     }

@@ -88,7 +88,7 @@ pub(crate) struct AllAnswers<'p> {
 impl<'p> AllAnswers<'p> {
     /// Whether one of the patterns matches the name, or None if that isn't known. `patterns`: all patterns of the
     /// schema.
-    pub fn any(&mut self, patterns: &Members, name: &str) -> Option<bool>
+    pub fn find_any(&mut self, patterns: &Members, name: &str) -> Option<bool>
         ensures { MatchOption result (Unit {0}) (λ b. b ≡ list_any (λ p. matches p.0 name.now) patterns.now) }
     {
         for (index, (pattern, _)) in patterns.pairs().enumerate() {

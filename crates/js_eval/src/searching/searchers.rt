@@ -78,7 +78,10 @@ impl<'p> Searchers<'p> {
     {
         let NamedPattern { pattern, text } = named;
         match self.kept.try_borrow_mut() {
-            Ok(mut kept) => search(alloc, &mut kept, pattern, text, name),
+            Ok(mut kept) => match search_again(&mut kept, text, name) {
+                Some(found) => Ok(found),
+                None => search_first(alloc, &mut kept, pattern, text, name),
+            },
             Err(_) => pattern.holds(alloc, name),
         }
     }
@@ -108,7 +111,7 @@ impl<'p> Searchers<'p> {
         ensures { MatchOption result (Unit {0}) (λ b. b ≡ list_any (λ p. matches p.0 name.now) patterns.now) }
     {
         match self.answers.try_borrow_mut() {
-            Ok(mut kept) => kept.last_mut()?.any(patterns, name),
+            Ok(mut kept) => kept.last_mut()?.find_any(patterns, name),
             Err(_) => None,
         }
     }
@@ -122,49 +125,14 @@ impl<'p> Searchers<'p> {
         }
     }
 
-    /// Whether the pattern matches the name, by the entry stored last or, if it doesn't tell, by a search.
-    ///
-    /// # Errors
-    /// `Memory` if an allocation fails.
-    pub fn matches_as_kept(
-        &self,
-        alloc: Global,
-        named: NamedPattern<'p>,
-        name: &str,
-    ) -> Result<bool, Memory>
-        ensures { IfOk result (λ b. b ≡ matches named.entry.text.now name.now) }
-    {
-        match self.kept_answer(named.text, name) {
-            Some(answer) => Ok(answer),
-            None => self.matches_name(alloc, named, name),
-        }
-    }
-
-    fn kept_answer(&self, pattern: &str, name: &str) -> Option<bool>
+    /// Whether the pattern matches the name, by the entry stored last; None if it doesn't tell.
+    pub fn kept_answer(&self, pattern: &str, name: &str) -> Option<bool>
         ensures { MatchOption result (Unit {0}) (λ b. b ≡ matches pattern.now name.now) }
     {
         match self.answers.try_borrow_mut() {
             Ok(mut kept) => kept.last_mut()?.find(pattern, name),
             Err(_) => None,
         }
-    }
-}
-
-// Searches with the kept searcher, or with a new one.
-fn search<'p>(
-    alloc: Global,
-    kept: &mut Kept<'p>,
-    pattern: &'p Pattern,
-    text: &'p str,
-    name: &str,
-) -> Result<bool, Memory>
-    requires { pattern.now ≡ text.now }
-    ensures { IfOk result (λ b. b ≡ matches text.now name.now) }
-{
-    count(kept, name.len());
-    match search_again(kept.all.as_mut_slice(), text, name) {
-        Some(found) => Ok(found),
-        None => search_first(alloc, kept, pattern, text, name),
     }
 }
 
@@ -178,11 +146,12 @@ fn count(kept: &mut Kept<'_>, bytes: usize) {
 }
 
 // Searches with the kept searcher for the pattern with this text, if there is one.
-fn search_again(kept: &mut [Marked<'_>], text: &str, name: &str) -> Option<bool>
+fn search_again(kept: &mut Kept<'_>, text: &str, name: &str) -> Option<bool>
     ensures { MatchOption result (Unit {0}) (λ b. b ≡ matches text.now name.now) }
 {
-    let index = place_of(kept, text);
-    let marked = kept.get_mut(index)?;
+    count(kept, name.len());
+    let index = place_of(kept.all.as_slice(), text);
+    let marked = kept.all.get_mut(index)?;
     if marked.text == text {
         return Some(marked.searcher.holds(name));
     }

@@ -1,8 +1,10 @@
-use Rattle.std.proofs.Common.{◌∙◌, Some, refl, subst}
-use Rattle.js_tree.specs.Events.{opening}
+use Rattle.std.proofs.Common.{◌≡◌, ◌∙◌, [], Some, refl, subst}
+use Rattle.js_tree.specs.Events.{closing, opening}
+use Rattle.js_tree.specs.Seen.{note_of}
 use Rattle.js_walk.specs.Bundle.{schemas_of}
-use Rattle.js_walk.specs.Seen.{keyword_of}
+use Rattle.js_walk.specs.Seen.{instance_of, keyword_of}
 use Rattle.js_walk.specs.Sited.{numbered_site}
+use Rattle.js_walk.specs.Walk.Told.{says_at}
 use Rattle.js_walk.proofs.Recursion.Splits.{split_at_name}
 use Rattle.js_walk.proofs.Recursion.Stepping.{trail_back}
 use Rattle.js_eval.proofs.reporters.collecting.CollectingReporterHereHeldText.leaf_keyword.Goals as goal
@@ -13,10 +15,17 @@ cut-requires g c =
 
 pub returns-clause-told : goal.returns-clause-told
 returns-clause-told g c =
+    let findings = c.of_leaf-findings.ensures in
+    let said : note_of c.in_ok-note.note ≡ says_at (schemas_of c.args.world.now.schemas.now) (numbered_site c.args.world.now.schemas.now c.args.place) (instance_of c.args.value) c.args.matching (keyword_of c.args.keyword) c.args.judged.held [] [] c.args.judged.passes =
+    rw (findings.judged, findings.matching, findings.names, findings.indexes) at c.in_ok-note.ensures in
     let absolute = (schemas_of c.args.world.now.schemas.now).absolute (numbered_site c.args.world.now.schemas.now c.args.place) (Some c.args.keyword.name.now) in (
       c.open_keyword.new.self,
       subst (λ text. g.C.Collector.takes c.args.self.now.collector (opening text absolute c.args.instance_location.now) c.open_keyword.new.self.collector) c.in_ok-go_to_keyword.ensures c.in_ok-open_keyword.ensures,
-      (c.close_keyword.new.self, c.in_ok-close_keyword.ensures, refl),
+      (
+        record { collector = c.leave.new.self; notes = c.open_keyword.new.self.notes },
+        subst (λ note. g.C.Collector.takes c.open_keyword.new.self.collector (closing c.args.judged.passes note) c.leave.new.self) said c.in_ok-leave.ensures,
+        refl,
+      ),
     )
 
 pub returns-clause-back : goal.returns-clause-back

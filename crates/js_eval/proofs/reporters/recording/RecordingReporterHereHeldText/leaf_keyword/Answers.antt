@@ -1,11 +1,14 @@
 use Rattle.std.specs.Prelude.{◌++◌}
-use Rattle.std.proofs.Common.{◌∙◌, ap, sym}
+use Rattle.std.proofs.Common.{◌≡◌, ◌∙◌, [], ap, subst, sym}
 use Rattle.std.proofs.lemmas.Result.{on_ok_weaker}
 use Rattle.js_doc.specs.Fragment.{fragment_token}
+use Rattle.js_tree.specs.Events.{closing}
+use Rattle.js_tree.specs.Seen.{note_of}
 use Rattle.js_walk.specs.Bundle.{schemas_of}
 use Rattle.js_walk.specs.Seen.{instance_of, keyword_of}
 use Rattle.js_walk.specs.Sited.{numbered_site}
-use Rattle.js_eval.specs.code.Recorded.{TakesEvent}
+use Rattle.js_walk.specs.Walk.Told.{says_at}
+use Rattle.js_eval.specs.code.Recorded.{AddsRow, TakesEvent}
 use Rattle.js_eval.proofs.LeavesTold.{leaf_of_steps, leaf_recorded, name_as_it_is}
 use Rattle.js_walk.proofs.Paths.{in_one_piece, keyword_location_is}
 use Rattle.js_walk.proofs.Recursion.Splits.{split_at_name}
@@ -14,6 +17,9 @@ use Rattle.js_eval.proofs.reporters.recording.RecordingReporterHereHeldText.leaf
 
 pub returns-then-takes_leaf-clause-told : goal.returns-then-takes_leaf-clause-told
 returns-then-takes_leaf-clause-told c =
+    let findings = c.of_leaf-findings.ensures in
+    let said : note_of c.in_ok-note.note ≡ says_at (schemas_of c.args.world.now.schemas.now) (numbered_site c.args.world.now.schemas.now c.args.place) (instance_of c.args.value) c.args.matching (keyword_of c.args.keyword) c.args.judged.held [] [] c.args.judged.passes =
+    rw (findings.judged, findings.matching, findings.names, findings.indexes) at c.in_ok-note.ensures in
     let yes = c.if-takes_leaf.true in
     let above = c.args.keyword_location.now in
     let schema = c.location_of.result.0.now in
@@ -25,7 +31,7 @@ returns-then-takes_leaf-clause-told c =
     let token = in_one_piece schema rest (fragment_token name) _ none added in
     let absolute = keyword_location_is c.args.world.now.schemas.now c.args.place name (schema ++ rest) _ c.location_of.ensures token in
     on_ok_weaker c.add_leaf.result
-    (λ leaf. leaf_recorded c.args.self.now _ above schema name c.args.instance_location.now _ _ c.args.judged.passes _ _ leaf (name_as_it_is above (keyword_of c.args.keyword) written.in_pointer) absolute c.in_ok-note.ensures)
+    (λ leaf. leaf_recorded c.args.self.now _ above schema name c.args.instance_location.now _ _ c.args.judged.passes _ _ leaf (name_as_it_is above (keyword_of c.args.keyword) written.in_pointer) absolute said)
     (c.add_leaf.ensures above c.args.instance_location.now (c.takes_leaf.ensures.at yes))
 
 pub cut-requires : goal.cut-requires
@@ -34,8 +40,12 @@ cut-requires c =
 
 pub returns-clause-told : goal.returns-clause-told
 returns-clause-told c =
+    let findings = c.of_leaf-findings.ensures in
+    let said : note_of c.in_ok-note.note ≡ says_at (schemas_of c.args.world.now.schemas.now) (numbered_site c.args.world.now.schemas.now c.args.place) (instance_of c.args.value) c.args.matching (keyword_of c.args.keyword) c.args.judged.held [] [] c.args.judged.passes =
+    rw (findings.judged, findings.matching, findings.names, findings.indexes) at c.in_ok-note.ensures in
     leaf_of_steps (schemas_of c.args.world.now.schemas.now) TakesEvent (numbered_site c.args.world.now.schemas.now c.args.place) (instance_of c.args.value) (keyword_of c.args.keyword) c.args.matching c.args.judged.passes c.args.judged.held c.args.keyword_location.now c.args.instance_location.now c.go_to_keyword.new.trail
-    c.args.self.now c.open_keyword.new.self c.close_keyword.new.self c.in_ok-go_to_keyword.ensures c.in_ok-open_keyword.ensures c.in_ok-close_keyword.ensures
+    c.args.self.now c.open_keyword.new.self (record { rows = c.leave.new.self; token = c.open_keyword.new.self.token }) c.in_ok-go_to_keyword.ensures c.in_ok-open_keyword.ensures
+    (subst (λ note. AddsRow c.open_keyword.new.self.rows (closing c.args.judged.passes note) c.leave.new.self) said c.leave.ensures)
 
 pub returns-clause-back : goal.returns-clause-back
 returns-clause-back c =

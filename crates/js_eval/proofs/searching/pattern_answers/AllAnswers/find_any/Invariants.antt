@@ -2,7 +2,7 @@ use Rattle.std.proofs.Common.{◌≡◌, map}
 use Rattle.std.specs.List.{list_any}
 use Rattle.js_assert.specs.Pattern.{matches}
 use Rattle.js_doc.specs.Seen.{pair_of}
-use Rattle.js_eval.proofs.searching.pattern_answers.AllAnswers.any.Given as goal
+use Rattle.js_eval.proofs.searching.pattern_answers.AllAnswers.find_any.Given as goal
 
 abbrev pub invariant-loop-index : goal.invariant-loop-index
 invariant-loop-index l =

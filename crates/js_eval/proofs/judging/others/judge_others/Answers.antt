@@ -1,6 +1,6 @@
 use Rattle.js_walk.specs.Seen.{instance_of}
 use Rattle.js_eval.proofs.JudgedTogether.{judged_together}
-use Rattle.js_eval.proofs.judging.others.others_at.Goals as goal
+use Rattle.js_eval.proofs.judging.others.judge_others.Goals as goal
 
 pub returns : goal.returns
 returns c =
