@@ -14,7 +14,7 @@ use Rattle.url.specs.Parts.{Parts}
 use Rattle.js_doc.proofs.FiniteMaps.{get_here}
 use Rattle.js_doc.specs.Members.{get, name_cmp, IsAscending, IsBelowFirst, IsBelowHead, NamesAscend, NamesAscendInMembers}
 use Rattle.js_doc.specs.Parts.{member_list}
-use Rattle.js_doc.specs.Value.{Value, null, truth, whole, text, list, object, Members, no_members, member, Named}
+use Rattle.js_doc.specs.Value.{Value, null, object, Members, no_members, member, Named}
 use Rattle.js_assert.specs.Argument.{entries, values, has}
 use Rattle.js_assert.specs.Keyword.{keyword_named}
 use Rattle.js_assert.specs.Pattern.{matches}
