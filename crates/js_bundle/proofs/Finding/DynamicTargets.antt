@@ -75,20 +75,20 @@ scope_is all path (Some u) first =
     same_name all path (decoded_fragment u) (text_argument (codes "$dynamicAnchor") first.schema) first (makes (codes "$dynamicAnchor") (decoded_fragment u) first) refl
 
 pub leads_first : (documents : Documents) (scope : List Site) (place first : ℕ) (name : Option Text) → IsFirstTarget documents place first name → name ≡ None
-    → StandsFor documents first (option_and_then (spec.dynamic_target (sites documents) scope) (place_at documents place))
+    → StandsFor documents first (option_and_then (spec.dynamic_ref_target (sites documents) scope) (place_at documents place))
 leads_first documents scope place first name h none =
     (h.target, h.decides scope ∙ ap (λ o. Some (unwrap_or (option_and_then (λ n. spec.outermost (sites documents) n scope) o) h.target)) none, h.stands)
 
 pub leads_by_name : (documents : Documents) (scope : List Site) (place first n : ℕ) (name : Option Text) (text : Text) (found : Option ℕ) → IsFirstTarget documents place first name → name ≡ Some text
     → Finds documents found (spec.outermost (sites documents) text scope) → n ≡ unwrap_or found first
-    → StandsFor documents n (option_and_then (spec.dynamic_target (sites documents) scope) (place_at documents place))
+    → StandsFor documents n (option_and_then (spec.dynamic_ref_target (sites documents) scope) (place_at documents place))
 leads_by_name documents scope place first n name text found h some = by_found found
   where
-    decided : option_and_then (spec.dynamic_target (sites documents) scope) (place_at documents place) ≡ Some (unwrap_or (spec.outermost (sites documents) text scope) h.target)
+    decided : option_and_then (spec.dynamic_ref_target (sites documents) scope) (place_at documents place) ≡ Some (unwrap_or (spec.outermost (sites documents) text scope) h.target)
     decided = h.decides scope ∙ ap (λ o. Some (unwrap_or (option_and_then (λ t. spec.outermost (sites documents) t scope) o) h.target)) some
 
     by_found : (o : Option ℕ) → Finds documents o (spec.outermost (sites documents) text scope) → n ≡ unwrap_or o first
-        → StandsFor documents n (option_and_then (spec.dynamic_target (sites documents) scope) (place_at documents place))
+        → StandsFor documents n (option_and_then (spec.dynamic_ref_target (sites documents) scope) (place_at documents place))
     by_found None none is = (h.target, decided ∙ ap (λ o. Some (unwrap_or o h.target)) none, ap (place_at documents) is ∙ h.stands)
     by_found (Some m) one is = (one.0, decided ∙ ap (λ o. Some (unwrap_or o h.target)) one.1, ap (place_at documents) is ∙ one.2)
 
@@ -145,7 +145,7 @@ leads documents place r name h is =
       stands = h.target;
       decides = λ scope.
           let by_name = ap (λ o. unwrap_or (option_and_then (λ n. spec.outermost all n scope) o) h.first) same ∙ scope_is all scope u h.first in
-          ap (option_and_then (spec.dynamic_target all scope)) h.stands ∙ ap (option_map (spec.dynamic_of all scope u)) h.named ∙ ap Some (sym by_name);
+          ap (option_and_then (spec.dynamic_ref_target all scope)) h.stands ∙ ap (option_map (spec.dynamic_of all scope u)) h.named ∙ ap Some (sym by_name);
     }
 
 -- ---- there is one
