@@ -153,11 +153,7 @@ IsInstanceFault f = IsLateOrMemory f
 
 -- ---- words for the parts
 
--- this is the verdict of the result within the limits
-abbrev pub IsVerdictOf : bundle.Documents → Option Site → Value → Bool → Type 0
-IsVerdictOf documents entry v valid = (t : ResultTree) × IsResultOf documents entry v t × IsWithinLimits t × (valid ≡ t.root.valid)
-
--- why there is none: none is within them, or lack of memory
+-- why there is no result: none is within the limits, or lack of memory
 abbrev pub IsWalkFault : bundle.Documents → Option Site → Value → Fault → Type 0
 IsWalkFault documents entry v fault.Memory = ⊤
 IsWalkFault documents entry v fault.TooLarge = NoResultStands documents entry v
