@@ -17,7 +17,8 @@ use Rattle.js_eval.specs.Walked.{OnTooLarge, IsResultThere, IsVerdict}
 use Rattle.js_eval.specs.Walked.{NoneStands as NoneStandsThere}
 use Rattle.js_walk.specs.declared.walking.fault.WalkFault.{WalkFault}
 use Rattle.js_walk.specs.declared.walking.fault.WalkFault.TheVariants as walk_fault
-use Rattle.js_output.specs.Outcome.{IsResultOf, NoResultStands, IsVerdictOf, IsWalkFault, walk_fault_of}
+use Rattle.js_output.specs.Outcome.{IsResultOf, NoResultStands, IsWalkFault, walk_fault_of}
+use Rattle.js_output.specs.Suite.{HasVerdict}
 use Rattle.js_output.specs.Places.{lines_of}
 
 -- ---- the entry
@@ -96,8 +97,8 @@ module _ (docs : Documents) (n : ℕ) (v : Value) (there : is_place docs n ≡ t
       none t (subst (λ s. IsResult (schemas_of docs) [] s at_root v t) is r.is_result) stands
 
   -- its verdict alone
-  pub judged-there : (valid : Bool) → IsVerdict docs n v valid → IsVerdictOf docs (place_at docs n) v valid
-  judged-there valid h = (h.result, result-there h.result h.within.is, h.within.stands, h.verdict)
+  pub judged-there : (valid : Bool) → IsVerdict docs n v valid → HasVerdict docs (place_at docs n) v valid
+  judged-there valid h = (h.result, result-there h.result h.within.is, h.within.stands, sym h.verdict)
 
   pub fault-there : (e : WalkFault) → OnTooLarge e (NoneStandsThere docs n v) → IsWalkFault docs (place_at docs n) v (walk_fault_of e)
   fault-there walk_fault.Memory h = tt

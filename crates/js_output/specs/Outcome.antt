@@ -1,6 +1,6 @@
 -- The outcome of a run: the first of its causes of a fault that applies; else the verdict of the standard's result,
 -- and the text of the form that was asked for.
-use Rattle.std.specs.Prelude.{◌≡◌, ℕ, List, [], ◌∷◌, ◌++◌, Option, Some, None, Result, Ok, Err, Bool, ◌==◌, ◌+◌, codes, take, drop, position, ⊤}
+use Rattle.std.specs.Prelude.{◌≡◌, ◌≤◌, ℕ, List, [], ◌∷◌, ◌++◌, Option, Some, None, Result, Ok, Err, IfErr, IsErrOf, Bool, true, ◌==◌, ◌+◌, codes, take, drop, position, ⊤}
 use Rattle.js_doc.specs.Compact.{compact}
 use Rattle.js_doc.specs.Value.{Value}
 use Rattle.js_doc.specs.declared.reading.ReadFault.{ReadFault}
@@ -15,6 +15,7 @@ use Rattle.js_eval.specs.Result.{ResultTree, IsResult, IsWithinLimits}
 use Rattle.js_walk.specs.declared.walking.fault.WalkFault.{WalkFault}
 use Rattle.js_walk.specs.declared.walking.fault.WalkFault.TheVariants as walk_fault
 use Rattle.js_output.specs.Cause.{Causes}
+use Rattle.js_output.specs.Device.{Tracked, input_limit}
 use Rattle.js_output.specs.Documents.{DocumentTexts, documents_causes, bundle_of}
 use Rattle.js_output.specs.Entry.{entry_causes, entry_place}
 use Rattle.js_output.specs.Reading.{reading}
@@ -129,6 +130,14 @@ IsReadOrEarly (Err fault.Read) = ⊤
 IsReadOrEarly (Err f) = IsEarly f
 IsReadOrEarly (Ok valid) = ⊥
 
+-- what becomes of a source that is read whole, unless a fault comes before
+pub record UsesSource {A D : Type 0} (old new : Tracked D) (result : Result A Fault) : Type 0 where
+  pub unread : IfErr result (λ e. IsEarly e → new ≡ old)
+  pub read : IsErrOf result fault.Read → new.failed ≡ true
+  pub failed : new.failed ≡ true → IsReadOrEarly result
+  pub reads : new.calls ≤ old.calls + (input_limit + 1)
+  pub stays : old.failed ≡ true → new ≡ old
+
 -- the faults from the instance's text on, or lack of memory
 abbrev pub IsLateOrMemory : Fault → Type 0
 IsLateOrMemory fault.Memory = ⊤
@@ -144,11 +153,7 @@ IsInstanceFault f = IsLateOrMemory f
 
 -- ---- words for the parts
 
--- this is the verdict of the result within the limits
-abbrev pub IsVerdictOf : bundle.Documents → Option Site → Value → Bool → Type 0
-IsVerdictOf documents entry v valid = (t : ResultTree) × IsResultOf documents entry v t × IsWithinLimits t × (valid ≡ t.root.valid)
-
--- why there is none: none is within them, or lack of memory
+-- why there is no result: none is within the limits, or lack of memory
 abbrev pub IsWalkFault : bundle.Documents → Option Site → Value → Fault → Type 0
 IsWalkFault documents entry v fault.Memory = ⊤
 IsWalkFault documents entry v fault.TooLarge = NoResultStands documents entry v

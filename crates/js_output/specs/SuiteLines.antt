@@ -20,25 +20,17 @@ line_text line =
 
 -- ---- how many there are of each status
 
-abbrev pub is_pass : TestStatus → Bool
-is_pass Pass = true
-is_pass _ = false
+abbrev pub is_status : TestStatus → TestStatus → Bool
+is_status Pass Pass = true
+is_status Fail Fail = true
+is_status Skip Skip = true
+is_status _ _ = false
 
-abbrev pub is_fail : TestStatus → Bool
-is_fail Fail = true
-is_fail _ = false
-
-abbrev pub is_skip : TestStatus → Bool
-is_skip Skip = true
-is_skip _ = false
+abbrev pub count_of : TestStatus → List TestLine → ℕ
+count_of status lines = count_by (λ line. is_status status line.status) lines
 
 abbrev pub counts_of : List TestLine → Counts
-counts_of lines =
-    record {
-      passed = count_by (λ line. is_pass line.status) lines;
-      failed = count_by (λ line. is_fail line.status) lines;
-      skipped = count_by (λ line. is_skip line.status) lines;
-    }
+counts_of lines = record { passed = count_of Pass lines; failed = count_of Fail lines; skipped = count_of Skip lines }
 
 abbrev pub counts_text : Counts → List ℕ
 counts_text counts =

@@ -16,8 +16,6 @@ use Rattle.js_output.specs.declared.fault.Fault.TheVariants as fault
 use Rattle.js_output.specs.declared.fault.SuiteFault.{SuiteFault}
 use Rattle.js_output.specs.declared.fault.SuiteFault.TheVariants as suite_fault
 use Rattle.js_output.specs.declared.suite_text.SuiteGroup as rust_group
-use Rattle.js_output.specs.declared.suite_text.Misfit.{Misfit}
-use Rattle.js_output.specs.declared.suite_text.Misfit.TheVariants as misfit
 use Rattle.js_output.specs.declared.suite_text.SuiteTest as rust_test
 
 -- a test: whether the instance is said to be valid. There is no instance where its numbers aren't whole
@@ -119,20 +117,24 @@ group_seen g = record { schema = option_map value_of g.schema; tests = tests_see
 abbrev pub groups_seen : List rust_group.SuiteGroup → List SuiteGroup
 groups_seen groups = map group_seen groups
 
--- lack of memory can come at any time
-abbrev pub IsMisfit : {A : Type 0} → Found A → Misfit → Type 0
-IsMisfit found misfit.Memory = ⊤
-IsMisfit found (misfit.At place) = found ≡ Err place
+-- a value is missing or of the wrong kind, at a place of which P holds; lack of memory can come at any time
+abbrev pub IsMisfitAt : (Tokens → Type 0) → Fault → Type 0
+IsMisfitAt P fault.Memory = ⊤
+IsMisfitAt P (fault.Suite (suite_fault.BadSuite place)) = P place
+IsMisfitAt P _ = ⊥
 
--- the new one is the old one, as seen from one level further up
-abbrev pub LiftsMisfit : List ℕ → Misfit → Misfit → Type 0
-LiftsMisfit token old misfit.Memory = ⊤
-LiftsMisfit token old (misfit.At place) = (inner : Tokens) × (old ≡ misfit.At inner) × (place ≡ token ∷ inner)
+abbrev pub IsMisfit : {A : Type 0} → Found A → Fault → Type 0
+IsMisfit found = IsMisfitAt (λ place. found ≡ Err place)
 
 -- the member of this name is missing or of the wrong kind
-abbrev pub IsMissing : List ℕ → Misfit → Type 0
-IsMissing name misfit.Memory = ⊤
-IsMissing name (misfit.At place) = place ≡ name ∷ []
+abbrev pub IsMissing : List ℕ → Fault → Type 0
+IsMissing name = IsMisfitAt (λ place. place ≡ name ∷ [])
+
+-- the new one is the old one, as seen from one level further up; no other fault comes of a part
+abbrev pub LiftsMisfit : List ℕ → Fault → Fault → Type 0
+LiftsMisfit token old fault.Memory = ⊤
+LiftsMisfit token old (fault.Suite (suite_fault.BadSuite place)) = (inner : Tokens) × (old ≡ fault.Suite (suite_fault.BadSuite inner)) × (place ≡ token ∷ inner)
+LiftsMisfit token old new = new ≡ old
 
 -- the value found is kept, where its numbers are whole
 abbrev pub Keeps : Found Data → Option Doc → Type 0

@@ -12,7 +12,6 @@ mod line;
 mod pair;
 mod places;
 mod prepared;
-mod rows;
 mod running;
 mod sink;
 mod source;

@@ -2,25 +2,20 @@
 ghost use Rattle.std.specs.Prelude.{◌≡◌, ◌∷◌, ◌++◌, [], Bool, IfErr, IfOk, true};
 ghost use Rattle.js_doc.specs.Compact.{compact};
 ghost use Rattle.js_doc.specs.Seen.{value_of};
-ghost use Rattle.js_doc.specs.Value.{Value};
 ghost use Rattle.js_bundle.specs.Schemas.{is_place, place_at};
-ghost use Rattle.js_tree.specs.Form.{form};
-ghost use Rattle.js_rows.specs.RelativeState.{AreRowsOf};
-ghost use Rattle.js_tree.specs.Result.{ResultTree};
-ghost use Rattle.js_tree.specs.declared.forms.Format.TheVariants.{Merged};
 ghost use Rattle.js_output.specs.Device.{SendsOrFails, Unflushed};
-ghost use Rattle.js_output.specs.Outcome.{IsVerdictOf, IsWalkFault};
-ghost use Rattle.js_output.specs.code.Prepared.{ArePrepared, IsPrepared, IsOfRows, IsPreparedFor, reduced, rows_form};
+ghost use Rattle.js_output.specs.Outcome.{IsWalkFault};
+ghost use Rattle.js_output.specs.code.Prepared.{AreRowsOf, Merged, ResultTree, Value, form, kept, pruned};
+ghost use Rattle.js_output.specs.code.Prepared.{ArePrepared, IsPrepared, IsPreparedFor, rows_form};
 
 use crate::fault::Fault;
-use crate::rows::rows_of;
 use crate::sink::Sink;
 use crate::writing::put_line;
 use bumpalo::Bump;
 use js_bundle::{Place, Schemas};
-use js_doc::{Doc, Memory};
-use js_eval::verdict;
-use js_rows::{Locations, RelativeRows, is_surely_merged, merged_tree};
+use js_doc::Doc;
+use js_eval::{verdict, walk_noted_rows, walk_rows};
+use js_rows::{Locations, RelativeRows, is_surely_merged, kept_rows, merged_tree};
 use js_tree::{Format, Tree};
 use std::alloc::Global;
 use std::io::Write;
@@ -37,7 +32,8 @@ pub(crate) enum Prepared<'a> {
 }
 
 impl<'a> Prepared<'a> {
-    /// Judges the instance at the place. What is shown may borrow from the arena.
+    /// Judges the instance at the place. For basic no rows are made of nodes of which it shows nothing, and for detailed
+    /// and merged only those of the nodes that condensing keeps. What is shown may borrow from the arena.
     pub(crate) fn new(
         alloc: Global,
         arena: &'a Bump,
@@ -54,13 +50,26 @@ impl<'a> Prepared<'a> {
     {
         match format {
             Format::Flag => {
-                let valid = verdict_of(alloc, schemas, place, instance)?;
+                let valid = verdict(alloc, schemas, place, instance)?;
                 Ok(Prepared::Verdict(valid))
             }
-            Format::Basic | Format::Detailed | Format::Merged | Format::Verbose => {
-                let rows = rows_of(alloc, arena, schemas, place, format, instance)?;
-                let prepared = prepared_rows(alloc, format, rows)?;
-                Ok(prepared)
+            Format::Basic => {
+                let rows = walk_noted_rows(alloc, arena, schemas, place, instance)?;
+                with_room(alloc, format, rows)
+            }
+            Format::Detailed => {
+                let noted = walk_noted_rows(alloc, arena, schemas, place, instance)?;
+                let rows = kept_rows(alloc, noted)?;
+                with_room(alloc, format, rows)
+            }
+            Format::Merged => {
+                let noted = walk_noted_rows(alloc, arena, schemas, place, instance)?;
+                let rows = kept_rows(alloc, noted)?;
+                prepared_merged(alloc, rows)
+            }
+            Format::Verbose => {
+                let rows = walk_rows(alloc, arena, schemas, place, instance)?;
+                with_room(alloc, format, rows)
             }
         }
     }
@@ -93,63 +102,30 @@ impl<'a> Prepared<'a> {
     }
 }
 
-// What is shown of the rows that the format is written from.
-fn prepared_rows<'a>(
-    alloc: Global,
-    format: Format,
-    rows: RelativeRows<'a>,
-) -> Result<Prepared<'a>, Memory>
-    requires format { IsOfRows format }
-    requires rows { (t : ResultTree) × AreRowsOf rows (reduced format t) }
-    ensures { (t : ResultTree) → AreRowsOf rows.entry (reduced format t)
-        → IfOk result (λ s. IsPrepared s t.root.valid (form format t)) }
-{
-    match format {
-        Format::Merged => prepared_merged(alloc, rows),
-        Format::Flag | Format::Basic | Format::Detailed | Format::Verbose => {
-            with_room(alloc, format, rows)
-        }
-    }
-}
-
 // The rows, with room for their locations.
 fn with_room<'a>(
     alloc: Global,
     format: Format,
     rows: RelativeRows<'a>,
-) -> Result<Prepared<'a>, Memory>
-    ensures { (t : ResultTree) → AreRowsOf rows.entry t
+) -> Result<Prepared<'a>, Fault>
+    ensures shown { (t : ResultTree) → AreRowsOf rows.entry t
         → IfOk result (λ s. IsPrepared s t.root.valid (rows_form format t)) }
+    ensures memory { IfErr result (λ e. e ≡ Fault.Memory) }
 {
     let locations = Locations::new(alloc, &rows)?;
     Ok(Prepared::Rows(format, rows, locations))
 }
 
-// The rows of the kept tree if merging leaves it as it is, which is the usual case; otherwise the merged tree.
-fn prepared_merged<'a>(alloc: Global, rows: RelativeRows<'a>) -> Result<Prepared<'a>, Memory>
-    requires { (t : ResultTree) × AreRowsOf rows (reduced Merged t) }
-    ensures { (t : ResultTree) → AreRowsOf rows.entry (reduced Merged t)
+// The rows of what condensing keeps if merging leaves it as it is, which is the usual case; otherwise the merged tree.
+fn prepared_merged<'a>(alloc: Global, rows: RelativeRows<'a>) -> Result<Prepared<'a>, Fault>
+    requires { (t : ResultTree) × AreRowsOf rows (kept (pruned t)) }
+    ensures shown { (t : ResultTree) → AreRowsOf rows.entry (kept (pruned t))
         → IfOk result (λ s. IsPrepared s t.root.valid (form Merged t)) }
+    ensures memory { IfErr result (λ e. e ≡ Fault.Memory) }
 {
     if is_surely_merged(&rows) {
         return with_room(alloc, Format::Merged, rows);
     }
     let tree = merged_tree(alloc, rows)?;
     Ok(Prepared::Tree(tree))
-}
-
-/// The verdict alone.
-pub(crate) fn verdict_of(
-    alloc: Global,
-    schemas: &Schemas,
-    place: Place,
-    instance: &Doc,
-) -> Result<bool, Fault>
-    requires { is_place schemas.now place ≡ true }
-    ensures judged { IfOk result (IsVerdictOf schemas.now
-        (place_at schemas.now place) (value_of instance.now)) }
-    ensures fault { IfErr result (IsWalkFault schemas.now
-        (place_at schemas.now place) (value_of instance.now)) }
-{
-    Ok(verdict(alloc, schemas, place, instance)?)
 }

@@ -1,10 +1,10 @@
 //! From documents and an instance to the output's text.
-ghost use Rattle.std.specs.Prelude.{◌≡◌, ◌≢◌, ◌≤◌, ◌+◌, true, ◌-◌, IfErr, IsErrOf};
-ghost use Rattle.js_output.specs.Device.{input_limit, Unflushed};
+ghost use Rattle.std.specs.Prelude.{◌≡◌, ◌≢◌, true, IfErr};
+ghost use Rattle.js_output.specs.Device.{Unflushed};
 ghost use Rattle.js_output.specs.Documents.{documents_of};
 ghost use Rattle.js_output.specs.Entry.{entry_causes};
 ghost use Rattle.js_output.specs.Outcome.{beginning_causes, Outcome, FinishedOutcome, telling_output};
-ghost use Rattle.js_output.specs.Outcome.{IsEarly, IsReadOrEarly};
+ghost use Rattle.js_output.specs.Outcome.{UsesSource};
 ghost use Rattle.js_output.specs.Telling.{Answers};
 
 use crate::documents::finished;
@@ -44,11 +44,7 @@ pub fn run<R: Read, W: Write>(
         (R.remaining instance.old.device) W.contents out.old out.new result }
 
     // The instance is read unless a fault comes first.
-    ensures unread { IfErr result (λ e. IsEarly e → instance.new ≡ instance.old) }
-    ensures read { IsErrOf result Fault.Read → instance.new.failed ≡ true }
-    ensures failed { instance.new.failed ≡ true → IsReadOrEarly result }
-    ensures reads { instance.new.calls ≤ instance.old.calls + (input_limit + 1) }
-    ensures source_stays { instance.old.failed ≡ true → instance.new ≡ instance.old }
+    ensures source { UsesSource instance.old instance.new result }
 
     // Without output nothing is written.
     ensures nothing { IfErr result (λ e. e ≢ Fault.Write → out.new ≡ out.old) }
@@ -71,11 +67,7 @@ fn run_read<R: Read, W: Write>(
     ensures answer { Answers telling_output (FinishedOutcome schemas.now entry.now format)
         (entry_causes schemas.now entry.now)
         (R.remaining instance.old.device) W.contents out.old out.new result }
-    ensures unread { IfErr result (λ e. IsEarly e → instance.new ≡ instance.old) }
-    ensures read { IsErrOf result Fault.Read → instance.new.failed ≡ true }
-    ensures failed { instance.new.failed ≡ true → IsReadOrEarly result }
-    ensures reads { instance.new.calls ≤ instance.old.calls + (input_limit + 1) }
-    ensures source_stays { instance.old.failed ≡ true → instance.new ≡ instance.old }
+    ensures source { UsesSource instance.old instance.new result }
     ensures nothing { IfErr result (λ e. e ≢ Fault.Write → out.new ≡ out.old) }
     ensures unflushed { Unflushed out.old out.new }
     ensures sink_stays { out.old.failed ≡ true → out.new ≡ out.old }

@@ -1,8 +1,8 @@
 //! A suite of tests, run over documents.
-ghost use Rattle.std.specs.Prelude.{◌≡◌, ◌≢◌, ◌≤◌, ◌+◌, true, ◌-◌, IfErr, IsErrOf};
-ghost use Rattle.js_output.specs.Device.{input_limit, Unflushed};
+ghost use Rattle.std.specs.Prelude.{◌≡◌, ◌≢◌, true, IfErr};
+ghost use Rattle.js_output.specs.Device.{Unflushed};
 ghost use Rattle.js_output.specs.Documents.{documents_of, documents_causes};
-ghost use Rattle.js_output.specs.Outcome.{IsEarly, IsReadOrEarly};
+ghost use Rattle.js_output.specs.Outcome.{UsesSource};
 ghost use Rattle.js_output.specs.Suite.{ReadLines, SuiteOutcome, telling_lines, SendsLines, IsSuiteLate};
 ghost use Rattle.js_output.specs.SuiteText.{suite_reading};
 ghost use Rattle.js_output.specs.Telling.{Answers, Tells};
@@ -48,11 +48,7 @@ pub fn run_suite<R: Read, W: Write>(
         W.contents out.old out.new result }
 
     // The suite is read unless a fault comes first.
-    ensures unread { IfErr result (λ e. IsEarly e → suite.new ≡ suite.old) }
-    ensures read { IsErrOf result Fault.Read → suite.new.failed ≡ true }
-    ensures failed { suite.new.failed ≡ true → IsReadOrEarly result }
-    ensures reads { suite.new.calls ≤ suite.old.calls + (input_limit + 1) }
-    ensures source_stays { suite.old.failed ≡ true → suite.new ≡ suite.old }
+    ensures source { UsesSource suite.old suite.new result }
 
     // Without lines nothing is written.
     ensures nothing { IfErr result (λ e. e ≢ Fault.Write → out.new ≡ out.old) }

@@ -15,11 +15,11 @@ ghost use Rattle.js_output.specs.declared.suite_lines.TestLine.{TestLine};
 use crate::documents::{bundled, finish_bundle};
 use crate::entry::{Entry, entry_place};
 use crate::fault::Fault;
-use crate::prepared::verdict_of;
 use crate::suite_lines::{TestLine, TestStatus};
 use crate::suite_text::{SuiteGroup, SuiteTest};
 use js_bundle::Bundle;
 use js_doc::{Doc, Memory};
+use js_eval::{WalkFault, verdict};
 use std::alloc::{AllocError, Global};
 
 /// A line for each test of the groups, in order. Each group has the documents to itself, with its
@@ -217,10 +217,10 @@ fn judged(alloc: Global, entry: &Entry, instance: &Doc, valid: bool) -> Result<T
     ensures { IfOk result (IsStatusOn entry.now.schemas
         (place_at entry.now.schemas entry.now.place) (value_of instance.now) valid) }
 {
-    match verdict_of(alloc, &entry.schemas, entry.place, instance) {
+    match verdict(alloc, &entry.schemas, entry.place, instance) {
         Ok(found) => Ok(compared(found, valid)),
-        Err(Fault::TooLarge) => Ok(TestStatus::Skip),
-        Err(_) => Err(Memory),
+        Err(WalkFault::TooLarge) => Ok(TestStatus::Skip),
+        Err(WalkFault::Memory) => Err(Memory),
     }
 }
 

@@ -10,7 +10,7 @@ ghost use Rattle.js_output.specs.SuiteText.{IsMissing, Keeps, LiftsMisfit, IsSui
 use crate::fault::{Fault, SuiteFault};
 use js_doc::{Doc, Memory, Pointer, ReadFault, Text, from_value};
 use serde_json::Value;
-use std::alloc::{AllocError, AllocFailed, Global};
+use std::alloc::Global;
 
 /// The tests of one schema, which is `None` if one of its numbers isn't whole.
 #[derive(Drop)]
@@ -28,99 +28,29 @@ pub(crate) struct SuiteTest {
     pub(crate) valid: bool,
 }
 
-/// Why a part of a suite can't be read.
-#[derive(Drop)]
-pub(crate) enum Misfit {
-    /// Out of memory.
-    Memory,
-    /// The location of the first value that is missing or of the wrong kind.
-    At(Pointer),
-}
-
-impl From<Memory> for Misfit {
-    ghost use Rattle.js_output.specs.declared.suite_text.Misfit.TheVariants.{Memory};
-
-    ghost from_gives = { λ _ e. e ≡ Memory };
-
-    fn from(_refused: Memory) -> Misfit {
-        Misfit::Memory
-    }
-}
-
-impl From<AllocError> for Misfit {
-    ghost use Rattle.js_output.specs.declared.suite_text.Misfit.TheVariants.{Memory};
-
-    ghost from_gives = { λ _ e. e ≡ Memory };
-
-    fn from(_refused: AllocError) -> Misfit {
-        Misfit::Memory
-    }
-}
-
-impl<T: Drop> From<AllocFailed<T>> for Misfit {
-    ghost use Rattle.js_output.specs.declared.suite_text.Misfit.TheVariants.{Memory};
-
-    ghost from_gives = { λ _ e. e ≡ Memory };
-
-    fn from(_refused: AllocFailed<T>) -> Misfit {
-        Misfit::Memory
-    }
-}
-
-impl Misfit {
-    // The same, located from one level further up.
-    fn lifted(self, alloc: Global, token: &str) -> Misfit
-        ensures { LiftsMisfit token.now self result }
-    {
-        match self {
-            Misfit::Memory => Misfit::Memory,
-            Misfit::At(place) => match below(alloc, token, &place) {
-                Ok(place) => Misfit::At(place),
-                Err(_) => Misfit::Memory,
-            },
-        }
-    }
-}
-
-// The pointer with the token in front of it.
-fn below(alloc: Global, token: &str, rest: &Pointer) -> Result<Pointer, Memory>
-    ensures { IfOk result (λ p. p ≡ token.now ∷ rest.now) }
-{
-    let mut place = Pointer::new(alloc);
-    place.push(token)?;
-    for next in rest.tokens() {
-        place.push(next.as_str())?;
-    }
-    Ok(place)
-}
-
 /// The groups of the suite with this text, or why it can't be read.
 pub(crate) fn suite_from(alloc: Global, bytes: &[u8]) -> Result<Vec<SuiteGroup>, Fault>
     ensures ok { IfOk result (λ v. suite_reading bytes.now ≡ Ok (groups_seen v.items)) }
     ensures err { IfErr result (IsSuiteFault (suite_reading bytes.now)) }
 {
     match Value::from_slice(alloc, bytes) {
-        Ok(suite) => match groups_in(alloc, &suite) {
-            Ok(groups) => Ok(groups),
-            Err(Misfit::At(place)) => Err(Fault::Suite(SuiteFault::BadSuite(place))),
-            Err(Misfit::Memory) => Err(Fault::Memory),
-        },
+        Ok(suite) => groups_in(alloc, &suite),
         Err(error) if error.is_memory() => Err(Fault::Memory),
         Err(_) => Err(Fault::Suite(SuiteFault::NotJson)),
     }
 }
 
-fn groups_in(alloc: Global, suite: &Value) -> Result<Vec<SuiteGroup>, Misfit>
+fn groups_in(alloc: Global, suite: &Value) -> Result<Vec<SuiteGroup>, Fault>
     ensures ok { IfOk result (λ v. groups_in (view suite.now) ≡ Ok (groups_seen v.items)) }
     ensures err { IfErr result (IsMisfit (groups_in (view suite.now))) }
 {
     match suite.as_array() {
         Some(values) => each_group(alloc, values),
-        None => Err(Misfit::At(Pointer::new(alloc))),
+        None => Err(Fault::Suite(SuiteFault::BadSuite(Pointer::new(alloc)))),
     }
 }
 
-fn each_group(alloc: Global, values: &Vec<Value>) -> Result<Vec<SuiteGroup>, Misfit>
+fn each_group(alloc: Global, values: &Vec<Value>) -> Result<Vec<SuiteGroup>, Fault>
     ensures ok { IfOk result
         (λ v. each_in group_in 0 (items_view values.now.items) ≡ Ok (groups_seen v.items)) }
     ensures err { IfErr result (IsMisfit (each_in group_in 0 (items_view values.now.items))) }
@@ -129,18 +59,18 @@ fn each_group(alloc: Global, values: &Vec<Value>) -> Result<Vec<SuiteGroup>, Mis
     for value in values {
         match group_in(alloc, value) {
             Ok(group) => groups.push(group)?,
-            Err(misfit) => return Err(lifted_at(alloc, groups.len(), misfit)),
+            Err(fault) => return Err(lifted_at(alloc, groups.len(), fault)),
         }
     }
     Ok(groups)
 }
 
-fn group_in(alloc: Global, value: &Value) -> Result<SuiteGroup, Misfit>
+fn group_in(alloc: Global, value: &Value) -> Result<SuiteGroup, Fault>
     ensures ok { IfOk result (λ g. group_in (view value.now) ≡ Ok (group_seen g)) }
     ensures err { IfErr result (IsMisfit (group_in (view value.now))) }
 {
     if !value.is_object() {
-        return Err(Misfit::At(Pointer::new(alloc)));
+        return Err(Fault::Suite(SuiteFault::BadSuite(Pointer::new(alloc))));
     }
     text_member(alloc, value, "description")?;
     let schema = whole_member(alloc, value, "schema")?;
@@ -148,7 +78,7 @@ fn group_in(alloc: Global, value: &Value) -> Result<SuiteGroup, Misfit>
     Ok(SuiteGroup { schema, tests })
 }
 
-fn tests_member(alloc: Global, value: &Value) -> Result<Vec<SuiteTest>, Misfit>
+fn tests_member(alloc: Global, value: &Value) -> Result<Vec<SuiteTest>, Fault>
     ensures ok { IfOk result (λ v. tests_from (member_in as_array (codes "tests") (view value.now))
         ≡ Ok (tests_seen v.items)) }
     ensures err { IfErr result
@@ -157,13 +87,13 @@ fn tests_member(alloc: Global, value: &Value) -> Result<Vec<SuiteTest>, Misfit>
     match value.get("tests").and_then(Value::as_array) {
         Some(values) => match each_test(alloc, values) {
             Ok(tests) => Ok(tests),
-            Err(misfit) => Err(misfit.lifted(alloc, "tests")),
+            Err(fault) => Err(lifted(alloc, "tests", fault)),
         },
         None => Err(missing(alloc, "tests")),
     }
 }
 
-fn each_test(alloc: Global, values: &Vec<Value>) -> Result<Vec<SuiteTest>, Misfit>
+fn each_test(alloc: Global, values: &Vec<Value>) -> Result<Vec<SuiteTest>, Fault>
     ensures ok { IfOk result
         (λ v. each_in test_in 0 (items_view values.now.items) ≡ Ok (tests_seen v.items)) }
     ensures err { IfErr result (IsMisfit (each_in test_in 0 (items_view values.now.items))) }
@@ -172,18 +102,18 @@ fn each_test(alloc: Global, values: &Vec<Value>) -> Result<Vec<SuiteTest>, Misfi
     for value in values {
         match test_in(alloc, value) {
             Ok(test) => tests.push(test)?,
-            Err(misfit) => return Err(lifted_at(alloc, tests.len(), misfit)),
+            Err(fault) => return Err(lifted_at(alloc, tests.len(), fault)),
         }
     }
     Ok(tests)
 }
 
-fn test_in(alloc: Global, value: &Value) -> Result<SuiteTest, Misfit>
+fn test_in(alloc: Global, value: &Value) -> Result<SuiteTest, Fault>
     ensures ok { IfOk result (λ t. test_in (view value.now) ≡ Ok (test_seen t)) }
     ensures err { IfErr result (IsMisfit (test_in (view value.now))) }
 {
     if !value.is_object() {
-        return Err(Misfit::At(Pointer::new(alloc)));
+        return Err(Fault::Suite(SuiteFault::BadSuite(Pointer::new(alloc))));
     }
     let instance = whole_member(alloc, value, "data")?;
     let description = text_member(alloc, value, "description")?;
@@ -195,7 +125,7 @@ fn test_in(alloc: Global, value: &Value) -> Result<SuiteTest, Misfit>
     })
 }
 
-fn text_member(alloc: Global, value: &Value, name: &str) -> Result<Text, Misfit>
+fn text_member(alloc: Global, value: &Value, name: &str) -> Result<Text, Fault>
     ensures ok { IfOk result (λ t. member_in as_str name.now (view value.now) ≡ Ok t) }
     ensures err { IfErr result (IsMisfit (member_in as_str name.now (view value.now))) }
 {
@@ -205,7 +135,7 @@ fn text_member(alloc: Global, value: &Value, name: &str) -> Result<Text, Misfit>
     }
 }
 
-fn truth_member(alloc: Global, value: &Value, name: &str) -> Result<bool, Misfit>
+fn truth_member(alloc: Global, value: &Value, name: &str) -> Result<bool, Fault>
     ensures ok { IfOk result (λ b. member_in as_bool name.now (view value.now) ≡ Ok b) }
     ensures err { IfErr result (IsMisfit (member_in as_bool name.now (view value.now))) }
 {
@@ -216,7 +146,7 @@ fn truth_member(alloc: Global, value: &Value, name: &str) -> Result<bool, Misfit
 }
 
 // The member, or `None` if one of its numbers isn't whole.
-fn whole_member(alloc: Global, value: &Value, name: &str) -> Result<Option<Doc>, Misfit>
+fn whole_member(alloc: Global, value: &Value, name: &str) -> Result<Option<Doc>, Fault>
     ensures ok { IfOk result (Keeps (member_in Some name.now (view value.now))) }
     ensures err { IfErr result (IsMisfit (member_in Some name.now (view value.now))) }
 {
@@ -236,21 +166,46 @@ fn whole_in(alloc: Global, value: &Value) -> Result<Option<Doc>, Memory>
     }
 }
 
-fn missing(alloc: Global, name: &str) -> Misfit
+fn missing(alloc: Global, name: &str) -> Fault
     ensures { IsMissing name.now result }
 {
     let mut place = Pointer::new(alloc);
     match place.push(name) {
-        Ok(()) => Misfit::At(place),
-        Err(_) => Misfit::Memory,
+        Ok(()) => Fault::Suite(SuiteFault::BadSuite(place)),
+        Err(_) => Fault::Memory,
     }
 }
 
-fn lifted_at(alloc: Global, index: usize, misfit: Misfit) -> Misfit
-    ensures { LiftsMisfit (decimal index) misfit result }
+// The same fault, located from one level further up.
+fn lifted(alloc: Global, token: &str, fault: Fault) -> Fault
+    ensures { LiftsMisfit token.now fault result }
+{
+    match fault {
+        Fault::Suite(SuiteFault::BadSuite(place)) => match below(alloc, token, &place) {
+            Ok(place) => Fault::Suite(SuiteFault::BadSuite(place)),
+            Err(_) => Fault::Memory,
+        },
+        fault => fault,
+    }
+}
+
+fn lifted_at(alloc: Global, index: usize, fault: Fault) -> Fault
+    ensures { LiftsMisfit (decimal index) fault result }
 {
     match index.to_string(alloc) {
-        Ok(token) => misfit.lifted(alloc, token.as_str()),
-        Err(_) => Misfit::Memory,
+        Ok(token) => lifted(alloc, token.as_str(), fault),
+        Err(_) => Fault::Memory,
     }
+}
+
+// The pointer with the token in front of it.
+fn below(alloc: Global, token: &str, rest: &Pointer) -> Result<Pointer, Memory>
+    ensures { IfOk result (λ p. p ≡ token.now ∷ rest.now) }
+{
+    let mut place = Pointer::new(alloc);
+    place.push(token)?;
+    for next in rest.tokens() {
+        place.push(next.as_str())?;
+    }
+    Ok(place)
 }

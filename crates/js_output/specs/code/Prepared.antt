@@ -1,43 +1,20 @@
 -- What is ready to be written of a result, for each format.
-use Rattle.std.specs.Prelude.{◌≡◌, Bool, Option, ⊤}
-use Rattle.js_doc.specs.Value.{Value}
-use Rattle.js_tree.specs.Form.{flag, form, verbose}
+use Rattle.std.specs.Prelude.{◌≡◌, Bool, Option}
+pub use Rattle.js_doc.specs.Value.{Value}
+pub use Rattle.js_tree.specs.Form.{form}
+pub use Rattle.js_tree.specs.Result.{ResultTree, kept, pruned}
+pub use Rattle.js_tree.specs.declared.forms.Format.TheVariants.{Merged}
+pub use Rattle.js_rows.specs.RelativeState.{AreRowsOf}
+use Rattle.js_tree.specs.Form.{flag, verbose}
 use Rattle.js_rows.specs.Locations.{HasRoomFor}
-use Rattle.js_rows.specs.RelativeState.{AreRowsOf}
-use Rattle.js_tree.specs.Result.{kept, pruned}
-use Rattle.js_tree.specs.Trimmed.{trimmed_tree}
 use Rattle.js_tree.specs.declared.forms.Format.{Format}
-use Rattle.js_tree.specs.declared.forms.Format.TheVariants.{Flag, Basic, Detailed, Merged, Verbose}
-use Rattle.js_rows.specs.declared.rows.RelativeRows.{RelativeRows}
+use Rattle.js_tree.specs.declared.forms.Format.TheVariants.{Basic}
 use Rattle.js_bundle.specs.Document as bundle
 use Rattle.js_bundle.specs.Resource.{Site}
-use Rattle.js_eval.specs.Result.{ResultTree, IsWithinLimits}
+use Rattle.js_eval.specs.Result.{IsWithinLimits}
 use Rattle.js_output.specs.Outcome.{IsResultOf}
 use Rattle.js_output.specs.declared.prepared.Prepared.{Prepared}
 use Rattle.js_output.specs.declared.prepared.Prepared.TheVariants as prepared
-
--- the tree whose rows a walk keeps for a format: no format but verbose shows anything of silent leaves
-abbrev pub recorded : Format → ResultTree → ResultTree
-recorded Verbose t = t
-recorded _ t = trimmed_tree t
-
--- the tree whose rows a format is written from: detailed and merged show nothing of what condensing leaves out
-abbrev pub reduced : Format → ResultTree → ResultTree
-reduced Flag t = trimmed_tree t
-reduced Basic t = trimmed_tree t
-reduced Detailed t = kept (pruned t)
-reduced Merged t = kept (pruned t)
-reduced Verbose t = t
-
--- the rows are those of this tree of the result within the limits
-abbrev pub AreRowsBy : (ResultTree → ResultTree) → bundle.Documents → Option Site → Value → RelativeRows → Type 0
-AreRowsBy tree documents entry v rows =
-    (t : ResultTree) × IsResultOf documents entry v t × IsWithinLimits t × AreRowsOf rows (tree t)
-
--- a format that is written from rows
-abbrev pub IsOfRows : Format → Type 0
-IsOfRows Flag = ⊥
-IsOfRows _ = ⊤
 
 -- what is written of a tree's rows: basic lists the noted units, the others show all nodes
 abbrev pub rows_form : Format → ResultTree → Value

@@ -1,11 +1,13 @@
-use Rattle.std.proofs.Common.{◌≡◌, ℕ, List, Bool, true, false, if◌then◌else◌, Some, None, Err, IsUtf8, refl, ap, ◌∙◌}
+use Rattle.std.proofs.Common.{◌≡◌, ℕ, List, Bool, true, false, if◌then◌else◌, Some, None, Result, Ok, Err, IfOk, IfErr, IsUtf8, refl, ap, ◌∙◌}
 use Rattle.std.specs.Str.{is_utf8}
 use Rattle.std.proofs.lemmas.Bool.{false≢true}
 use Rattle.std.proofs.lemmas.Str.{is_utf8-from_IsUtf8, IsUtf8-from_is_utf8}
 use Rattle.serde_json.specs.Data.{Data}
 use Rattle.serde_json.specs.Read.{read as read_json}
 use Rattle.serde_json.specs.View.{view}
-use Rattle.js_output.specs.SuiteText.{groups_in, suite_found, suite_read, suite_reading}
+use Rattle.js_output.specs.SuiteText.{SuiteGroup, groups_in, groups_seen, suite_found, suite_read, suite_reading, IsMisfit, IsSuiteFault}
+use Rattle.js_output.specs.declared.fault.Fault.{Fault}
+use Rattle.js_output.specs.declared.fault.Fault.TheVariants as fault
 use Rattle.js_output.specs.declared.fault.SuiteFault.TheVariants as suite_fault
 use Rattle.js_output.proofs.suite_text.suite_from.Goals as goal
 
@@ -21,12 +23,22 @@ reads_nothing : (bytes : List ℕ) → (IsUtf8 bytes → read_json bytes ≡ Non
 unfolding suite_reading
 reads_nothing bytes h = not_json bytes (is_utf8 bytes) refl h
 
-pub returns-in-Ok-groups_in-clause-ok : goal.returns-in-Ok-groups_in-clause-ok
-returns-in-Ok-groups_in-clause-ok c = reads c.args.bytes.now (view c.in-Ok.suite) c.in-Ok.ensures.ok ∙ ap suite_found c.in-Ok-groups_in.ensures.ok
+module _ (bytes : List ℕ) (d : Data) (is : IsUtf8 bytes × (read_json bytes ≡ Some d)) {R : Type 0} where
+  groups_read : (seen : R → List SuiteGroup) (result : Result R Fault) → IfOk result (λ r. groups_in d ≡ Ok (seen r)) → IfOk result (λ r. suite_reading bytes ≡ Ok (seen r))
+  groups_read seen (Ok r) h = reads bytes d is ∙ ap suite_found h
+  groups_read seen (Err f) h = tt
 
-pub returns-in-Err-At-clause-err : goal.returns-in-Err-At-clause-err
-returns-in-Err-At-clause-err c =
-    reads c.args.bytes.now (view c.in-Ok.suite) c.in-Ok.ensures.ok ∙ ap suite_found (rw c.in-Err-At.field-0-is at c.in-Err-At.ensures.err)
+  misfit_read : (result : Result R Fault) → IfErr result (IsMisfit (groups_in d)) → IfErr result (IsSuiteFault (suite_reading bytes))
+  misfit_read (Ok r) h = tt
+  misfit_read (Err fault.Memory) h = tt
+  misfit_read (Err (fault.Suite (suite_fault.BadSuite place))) h = reads bytes d is ∙ ap suite_found h
+  misfit_read (Err _) h = absurd h
 
-pub returns-clause-err : goal.returns-clause-err
-returns-clause-err c = reads_nothing c.args.bytes.now (c.in-Err.ensures.err (λ memory. absurd (false≢true (c.if-is_memory.ensures.1 memory))))
+pub returns-in-Ok-clause-ok : goal.returns-in-Ok-clause-ok
+returns-in-Ok-clause-ok c = groups_read c.args.bytes.now (view c.in-Ok.suite) c.in-Ok.ensures.ok (λ v. groups_seen v.items) c.groups_in.result c.groups_in.ensures.ok
+
+pub returns-in-Ok-clause-err : goal.returns-in-Ok-clause-err
+returns-in-Ok-clause-err c = misfit_read c.args.bytes.now (view c.in-Ok.suite) c.in-Ok.ensures.ok c.groups_in.result c.groups_in.ensures.err
+
+pub returns-in-Err-2-clause-err : goal.returns-in-Err-2-clause-err
+returns-in-Err-2-clause-err c = reads_nothing c.args.bytes.now (c.in-Err.ensures.err (λ memory. absurd (false≢true (c.if-is_memory.ensures.1 memory))))
