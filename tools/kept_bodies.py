@@ -56,14 +56,12 @@ class Kept:
             shutil.rmtree(work, ignore_errors=True)
 
     def refused(self, files):
-        """Of these edits, why each that the prover refuses for a contract is refused. None are where the crate isn't
-        proved without edits."""
+        """Of these edits, each that the prover refuses for a contract, and why, as soon as it is known. None are where
+        the crate isn't proved without edits."""
         if not self.kept.is_dir() or not self.check({}).rstrip("\n").rpartition("\n")[2].startswith("logic=proved"):
-            return {}
-        found = {}
+            return
         for file in files:
             texts = changed_texts(file, self.folder)
             why = texts and reason(self.check(texts), texts)
             if why:
-                found[file.name] = why
-        return found
+                yield file.name, why

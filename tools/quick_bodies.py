@@ -195,16 +195,14 @@ class Quick:
         return set(told)
 
     def refused(self, edits, proved):
-        """Of these edits, why each that the prover refuses for a contract is refused."""
-        found = {}
+        """Of these edits, each that the prover refuses for a contract, and why, as soon as it is known."""
         while edits:
             now, edits = apart(edits)
             self.blocked = set()
             seen = self.together(now, proved)
-            found |= seen
+            yield from seen.items()
             # What only calls a wrong body is judged beside right ones.
             edits += [it for it in now if it.name not in seen and it.name in self.blocked] if seen else []
-        return found
 
     def together(self, edits, proved):
         """The same of edits that don't touch each other. If they don't compile together, halves of them are tried."""
