@@ -28,3 +28,8 @@ pub holds_all : (held : HeldByPath) (documents : List DocumentFile) (at : ℕ) (
     → AreHeld held (pairs_seen documents) taken
 holds_all held documents at taken end h =
     subst (λ ds. AreHeld held (pairs_seen documents) ds) (append-nil taken) (h [] (subst (λ ds. AreHeld held (pairs_seen ds) []) (sym (drop_all at documents end)) tt))
+
+-- of the same files and documents
+pub holds_over : (held : HeldByPath) (named files : List DocumentFile) (taken documents : DocumentTexts) → named ≡ files → documents ≡ taken
+    → AreHeld held (pairs_seen named) taken → AreHeld held (pairs_seen files) documents
+holds_over held named files taken documents same is h = subst (AreHeld held (pairs_seen files)) (sym is) (subst (λ ds. AreHeld held (pairs_seen ds) taken) same h)

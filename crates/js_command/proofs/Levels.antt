@@ -42,6 +42,12 @@ few_of (x ∷ xs) = few_by x xs (bytes_eq x dashes) (is_flag x) (plain_of xs) (f
 abbrev pub level : Text → Shape
 level name = unwrap_or (find (λ s. answers_to name (label_of s)) (built grammar).subs) (built grammar).top
 
+-- it has no option, and what follows a positional begins with a hyphen only after `--`
+record HasPositionals (name : Text) : Type 0 where
+  long : (n : Text) → arg_by_long (level name).rules n ≡ None
+  short : (x : ℕ) → arg_by_short (level name).rules x ≡ None
+  fixed : (p : ℕ) → IsFixed (arg_by_index (level name).rules p)
+
 pub read_fault : (ks : Kinds) (found : Option (Text × List Row)) → IsFault ks → read_by ks found ≡ Err misuse.OtherForm
 read_fault [] found h = absurd h
 read_fault (k ∷ ks) found h = refl
@@ -59,18 +65,34 @@ start = walk_from nothing_held
 start_open : IsOpen start
 start_open = record { stopped = refl; ready = tt; skip = refl }
 
-module _ (name : Text) (long : (n : Text) → arg_by_long (level name).rules n ≡ None) (short : (x : ℕ) → arg_by_short (level name).rules x ≡ None)
-    (fixed : (p : ℕ) → IsFixed (arg_by_index (level name).rules p)) (form : List Text → Result Request Misuse) where
-  abbrev end : List Text → Held
-  end ps = (fold (taken (level name) long short fixed) start ps).held
+-- what is read where the words are held so
+abbrev final : Text → Kinds → Held → Result Request Misuse
+final name ks h = read_by (or_else ks (closing (level name) h)) (Some (name, finished (level name).rules h))
 
-  level_by : (ws : List Text) (taking : Option (List Text)) → Reads (level name) long short fixed start ws taking → Few (length ws) taking → IsShort ws
-      → ((ps : List Text) → IsShort ps → read_by (or_else (taken_fault (level name) long short fixed start ps) (closing (level name) (end ps))) (Some (name, finished (level name).rules (end ps))) ≡ form ps)
-      → level_read name ws ≡ asked_by form taking
-  level_by ws None h fewer few says = read_fault (level_fault (level name) [] nothing_held ws false []) (Some (name, rows_after (level name).rules [] ws))
-      (fault_before (walk_fault (level name) [] start ws) _ h)
-  level_by ws (Some ps) h fewer few says =
-      (λ i. read_by (or_else (h.1 i) (closing (level name) (h.0 i))) (Some (name, finished (level name).rules (h.0 i)))) ∙ says ps (omega (arith, fewer, few))
+module _ (name : Text) (has : HasPositionals name) where
+  abbrev walk_by : Walk → List Text → Walk
+  walk_by w ps = fold (taken (level name) has.long has.short has.fixed) w ps
+
+  abbrev fault_by : Walk → List Text → Kinds
+  fault_by w ps = taken_fault (level name) has.long has.short has.fixed w ps
+
+  -- what is read of the words after this walk
+  abbrev read_after : Walk → List Text → Result Request Misuse
+  read_after w ps = final name (fault_by w ps) (walk_by w ps).held
+
+  module _ (form : List Text → Result Request Misuse) where
+    -- of words that stand for themselves it is this form
+    abbrev Says : Type 0
+    Says = (ps : List Text) → IsShort ps → read_after start ps ≡ form ps
+
+    level_by : (ws : List Text) (taking : Option (List Text)) → Reads (level name) has.long has.short has.fixed start ws taking → Few (length ws) taking → IsShort ws → Says
+        → level_read name ws ≡ asked_by form taking
+    level_by ws None h fewer few says = read_fault (level_fault (level name) [] nothing_held ws false []) (Some (name, rows_after (level name).rules [] ws))
+        (fault_before (walk_fault (level name) [] start ws) _ h)
+    level_by ws (Some ps) h fewer few says = (λ i. final name (h.1 i) (h.0 i)) ∙ says ps (omega (arith, fewer, few))
+
+    level_says : Says → (ws : List Text) → IsShort ws → level_read name ws ≡ asked_by form (plain_of ws)
+    level_says says ws few = level_by ws (plain_of ws) (reads (level name) has.long has.short has.fixed start ws start_open refl) (few_of ws) few says
 
 -- ---- the words that are left over
 
@@ -91,20 +113,22 @@ values_fine [] = refl
 values_fine (w ∷ ws) = values_fine ws
 
 -- one level, of which the positional k takes all words that are left
-module _ (name : Text) (rows : List Row) (k : ℕ) (long : (n : Text) → arg_by_long (level name).rules n ≡ None) (short : (x : ℕ) → arg_by_short (level name).rules x ≡ None)
-    (fixed : (p : ℕ) → IsFixed (arg_by_index (level name).rules p)) (here : arg_by_index (level name).rules k ≡ Some (pairs_at k)) where
-  pub left_end : (words ps : List Text) → fold (taken (level name) long short fixed) (so_far rows k words) ps ≡ so_far rows k (words ++ ps)
+module _ (name : Text) (has : HasPositionals name) (rows : List Row) (k : ℕ) (here : arg_by_index (level name).rules k ≡ Some (pairs_at k)) where
+  left_end : (words ps : List Text) → walk_by name has (so_far rows k words) ps ≡ so_far rows k (words ++ ps)
   left_end words [] = ap (so_far rows k) (sym (append-nil words))
   left_end words (x ∷ xs) =
-      ap (λ u. fold (taken (level name) long short fixed) u xs) (rw here refl)
+      ap (λ u. walk_by name has u xs) (rw here refl)
       ∙ left_end (words ++ x ∷ []) xs ∙ ap (so_far rows k) (append_assoc words (x ∷ []) xs)
 
-  pub left_fine : (words ps : List Text) → taken_fault (level name) long short fixed (so_far rows k words) ps ≡ []
+  left_fine : (words ps : List Text) → fault_by name has (so_far rows k words) ps ≡ []
   left_fine words [] = refl
   left_fine words (x ∷ xs) =
-      let next : taken (level name) long short fixed (so_far rows k words) x ≡ so_far rows k (words ++ x ∷ []) = rw here refl in
+      let next : taken (level name) has.long has.short has.fixed (so_far rows k words) x ≡ so_far rows k (words ++ x ∷ []) = rw here refl in
       let turn : step_fault (level name) k (so_far rows k words).held value ≡ [] = rw here refl in
-      ap₂ or_else turn (ap (λ u. taken_fault (level name) long short fixed u xs) next ∙ left_fine (words ++ x ∷ []) xs)
+      ap₂ or_else turn (ap (λ u. fault_by name has u xs) next ∙ left_fine (words ++ x ∷ []) xs)
+
+  left_read : (words ps : List Text) → read_after name has (so_far rows k words) ps ≡ final name [] (so_far rows k (words ++ ps)).held
+  left_read words ps = ap₂ (final name) (left_fine words ps) (ap (λ u. u.held) (left_end words ps))
 
 -- ---- the three subcommands
 
@@ -114,91 +138,57 @@ not_less n = grind arith
 not_above : (n : ℕ) → n ≤ usize_max → nat_lt usize_max n ≡ false
 not_above n h = grind arith
 
--- what is read where the words are held so
-abbrev final : Text → Kinds → Held → Result Request Misuse
-final name ks h = read_by (or_else ks (closing (level name) h)) (Some (name, finished (level name).rules h))
-
 -- what was found for a positional
-abbrev row : Text → List Text → Row
-row id values = record { id = id; values = values; count = None; source = Some CommandLine; reading = AsWritten }
+abbrev pub row : Text → Text → Row
+row id word = record { id = id; values = word ∷ []; count = None; source = Some CommandLine; reading = AsWritten }
 
 -- `places`
 
-places_long : (n : Text) → arg_by_long (level (codes "places")).rules n ≡ None
-places_long n = refl
+places_has : HasPositionals (codes "places")
+places_has = record { long = λ n. refl; short = λ x. refl; fixed = λ p. fixed_at (level (codes "places")).rules p (refl, tt) }
 
-places_short : (x : ℕ) → arg_by_short (level (codes "places")).rules x ≡ None
-places_short x = refl
-
-places_fixed : (p : ℕ) → IsFixed (arg_by_index (level (codes "places")).rules p)
-places_fixed p = fixed_at (level (codes "places")).rules p (refl, tt)
-
-places_says : (ps : List Text) → IsShort ps → final (codes "places") (taken_fault (level (codes "places")) places_long places_short places_fixed start ps)
-    (end (codes "places") places_long places_short places_fixed places_asked ps) ≡ places_asked ps
+places_says : Says (codes "places") places_has places_asked
 unfolding clap_on_literals
 places_says [] few = refl
 places_says (p ∷ ps) few =
-    ap₂ (final (codes "places")) (left_fine (codes "places") [] 1 places_long places_short places_fixed refl (p ∷ []) ps)
-    (ap (λ u. u.held) (left_end (codes "places") [] 1 places_long places_short places_fixed refl (p ∷ []) ps))
+    left_read (codes "places") places_has [] 1 refl (p ∷ []) ps
     ∙ rw (not_less (length (p ∷ ps)), not_above (length (p ∷ ps)) (omega (arith, few)), values_fine (p ∷ ps)) refl
 
 -- `suite`
 
-suite_long : (n : Text) → arg_by_long (level (codes "suite")).rules n ≡ None
-suite_long n = refl
+suite_has : HasPositionals (codes "suite")
+suite_has = record { long = λ n. refl; short = λ x. refl; fixed = λ p. fixed_at (level (codes "suite")).rules p (refl, (refl, tt)) }
 
-suite_short : (x : ℕ) → arg_by_short (level (codes "suite")).rules x ≡ None
-suite_short x = refl
-
-suite_fixed : (p : ℕ) → IsFixed (arg_by_index (level (codes "suite")).rules p)
-suite_fixed p = fixed_at (level (codes "suite")).rules p (refl, (refl, tt))
-
-suite_says : (ps : List Text) → IsShort ps → final (codes "suite") (taken_fault (level (codes "suite")) suite_long suite_short suite_fixed start ps)
-    (end (codes "suite") suite_long suite_short suite_fixed suite_asked ps) ≡ suite_asked ps
+suite_says : Says (codes "suite") suite_has suite_asked
 unfolding clap_on_literals
 suite_says [] few = refl
 suite_says (file ∷ []) few = refl
 suite_says (file ∷ p ∷ ps) few =
-    ap₂ (final (codes "suite")) (left_fine (codes "suite") (row (codes "SUITE") (file ∷ []) ∷ []) 2 suite_long suite_short suite_fixed refl (p ∷ []) ps)
-    (ap (λ u. u.held) (left_end (codes "suite") (row (codes "SUITE") (file ∷ []) ∷ []) 2 suite_long suite_short suite_fixed refl (p ∷ []) ps))
+    left_read (codes "suite") suite_has (row (codes "SUITE") file ∷ []) 2 refl (p ∷ []) ps
     ∙ rw (not_less (length (p ∷ ps)), not_above (length (p ∷ ps)) (omega (arith, few)), values_fine (p ∷ ps)) refl
 
 -- `check`
 
-check_long : (n : Text) → arg_by_long (level (codes "check")).rules n ≡ None
-check_long n = refl
+check_has : HasPositionals (codes "check")
+check_has = record { long = λ n. refl; short = λ x. refl; fixed = λ p. fixed_at (level (codes "check")).rules p (refl, (refl, (refl, (refl, tt)))) }
 
-check_short : (x : ℕ) → arg_by_short (level (codes "check")).rules x ≡ None
-check_short x = refl
-
-check_fixed : (p : ℕ) → IsFixed (arg_by_index (level (codes "check")).rules p)
-check_fixed p = fixed_at (level (codes "check")).rules p (refl, (refl, (refl, (refl, tt))))
-
-check_says : (ps : List Text) → IsShort ps → final (codes "check") (taken_fault (level (codes "check")) check_long check_short check_fixed start ps)
-    (end (codes "check") check_long check_short check_fixed check_asked ps) ≡ check_asked ps
+check_says : Says (codes "check") check_has check_asked
 unfolding clap_on_literals
 check_says [] few = refl
 check_says (format ∷ []) few = refl
 check_says (format ∷ instance ∷ []) few = refl
 check_says (format ∷ instance ∷ entry ∷ []) few = refl
 check_says (format ∷ instance ∷ entry ∷ p ∷ ps) few =
-    ap₂ (final (codes "check")) (left_fine (codes "check") (row (codes "FORMAT") (format ∷ []) ∷ row (codes "INSTANCE") (instance ∷ []) ∷ row (codes "ENTRY") (entry ∷ []) ∷ []) 4 check_long check_short check_fixed refl (p ∷ []) ps)
-    (ap (λ u. u.held) (left_end (codes "check") (row (codes "FORMAT") (format ∷ []) ∷ row (codes "INSTANCE") (instance ∷ []) ∷ row (codes "ENTRY") (entry ∷ []) ∷ []) 4 check_long check_short check_fixed refl (p ∷ []) ps))
+    left_read (codes "check") check_has (row (codes "FORMAT") format ∷ row (codes "INSTANCE") instance ∷ row (codes "ENTRY") entry ∷ []) 4 refl (p ∷ []) ps
     ∙ rw (not_less (length (p ∷ ps)), not_above (length (p ∷ ps)) (omega (arith, few)), values_fine (p ∷ ps)) refl
 
 -- ---- what each reads
 
 pub check_read : (ws : List Text) → IsShort ws → level_read (codes "check") ws ≡ asked_by check_asked (plain_of ws)
-check_read ws few =
-    level_by (codes "check") check_long check_short check_fixed check_asked ws (plain_of ws) (reads (level (codes "check")) check_long check_short check_fixed start ws start_open refl)
-    (few_of ws) few check_says
+check_read = level_says (codes "check") check_has check_asked check_says
 
 pub suite_read : (ws : List Text) → IsShort ws → level_read (codes "suite") ws ≡ asked_by suite_asked (plain_of ws)
-suite_read ws few =
-    level_by (codes "suite") suite_long suite_short suite_fixed suite_asked ws (plain_of ws) (reads (level (codes "suite")) suite_long suite_short suite_fixed start ws start_open refl)
-    (few_of ws) few suite_says
+suite_read = level_says (codes "suite") suite_has suite_asked suite_says
 
 pub places_read : (ws : List Text) → IsShort ws → level_read (codes "places") ws ≡ asked_by places_asked (plain_of ws)
-places_read ws few =
-    level_by (codes "places") places_long places_short places_fixed places_asked ws (plain_of ws) (reads (level (codes "places")) places_long places_short places_fixed start ws start_open refl)
-    (few_of ws) few places_says
+places_read = level_says (codes "places") places_has places_asked places_says

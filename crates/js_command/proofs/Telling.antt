@@ -1,7 +1,8 @@
 -- What the program answers, by where it stops.
-use Rattle.std.proofs.Common.{◌≡◌, ◌≢◌, ℕ, List, [], ◌∷◌, ◌++◌, Option, Some, None, Result, Ok, Err, OnErr, IsErrOf, Bool, true, false, ◌⊎◌, inl, inr, refl, ap, subst, arith, ◌<◌}
+use Rattle.std.proofs.Common.{◌≡◌, ◌≢◌, ℕ, List, [], ◌∷◌, ◌++◌, Option, Some, None, Result, Ok, Err, OnErr, IsErrOf, Bool, true, false, ◌⊎◌, inl, inr, refl, sym, ap, subst, arith, ◌<◌}
+use Rattle.std.specs.Borrow.{Bor}
 use Rattle.std.specs.Io.KnownBytes.{Keeps}
-use Rattle.js_output.specs.Cause.{MayGoOn}
+use Rattle.js_output.specs.Cause.{Causes, MayGoOn}
 use Rattle.js_output.specs.Device.{Tracked, IsLeft, Sends, SendsBeginning}
 use Rattle.js_output.specs.Documents.{DocumentTexts, documents_causes}
 use Rattle.js_output.specs.Outcome.{Output, Outcome, PairOutcome, telling_output, beginning_causes}
@@ -13,13 +14,21 @@ use Rattle.js_output.specs.declared.suite_lines.Counts.{Counts}
 use Rattle.js_output.specs.declared.fault.Fault.{Fault}
 use Rattle.js_output.specs.declared.fault.Fault.TheVariants as fault
 use Rattle.js_tree.specs.declared.forms.Format.{Format}
-use Rattle.js_command.specs.Answer.{AreHeld, MayReadAgain, OverFiles, PlacesOutcome, RequestOutcome, SuiteTold, all_passed, suite_output, WordsOutcome, Performs, IsPartlyTold, IsReason}
+use Rattle.js_command.specs.Answer.{AreHeld, MayReadAgain, OverFiles, OverTexts, PlacesOutcome, RequestOutcome, SuiteTold, all_passed, suite_output, WordsOutcome, Performs, IsPartlyTold, IsReason}
 use Rattle.js_command.specs.Files.{HeldByPath, IsFirstFileFault}
 use Rattle.js_command.specs.Status.{misuse_status}
+use Rattle.js_command.specs.code.Taken.{documents_taken}
+use Rattle.js_command.specs.code.Tasks.{judging_seen, pairs_seen, request_by}
+use Rattle.js_command.specs.declared.documents.Texts.{Texts}
+use Rattle.js_command.specs.declared.words.DocumentFile.{DocumentFile}
+use Rattle.js_command.specs.declared.words.Judging.{Judging}
 use Rattle.js_command.specs.declared.words.Misuse.{Misuse}
 use Rattle.js_command.specs.declared.words.Misuse.TheVariants as misuse
+use Rattle.js_command.specs.declared.words.Subject.{Subject}
+use Rattle.js_command.specs.declared.words.Subject.TheVariants as subject
 use Rattle.js_command.specs.Words.{DocumentPairs, files_of, Request, pair, check, suite, places, request_of}
 use Rattle.js_command.proofs.FileFaults.{input_fault}
+use Rattle.js_command.proofs.Holding.{holds_over}
 
 -- a file isn't taken
 pub performs-fault : {D : Type 0} (held : HeldByPath) (paths : List (List ℕ)) (Unread : Type 0) (P : Result Output Fault → Type 0) (taken : D → Option (List ℕ)) (old new : Tracked D) (e : Fault)
@@ -43,68 +52,91 @@ module _ (words : List (List ℕ)) (held : HeldByPath) (input : Option (List ℕ
   words_reason fault.Write asks (stands, (output, h, out)) = (stands, (output, (request, asks, h), out))
   words_reason _ asks reason = (request, asks, reason)
 
--- ---- a check, and places
+-- ---- documents, and a file that is judged by them
 
-module _ {D : Type 0} (held : HeldByPath) (pairs : DocumentPairs) (documents : DocumentTexts) (taken : D → Option (List ℕ)) (old new : Tracked D) where
-  pub check_told : (format : Format) (instance entry bytes : List ℕ) (answer : Result Bool Fault) → AreHeld held pairs documents → IsLeft (held instance) bytes
-      → Answers telling_output (Outcome documents entry format) (beginning_causes documents entry) (Some bytes) taken old new answer
-      → Performs (RequestOutcome held None false (check format instance entry pairs)) taken old new answer
-  check_told format instance entry bytes (Ok valid) holds here (read, is, (output, h, same, sent)) =
-      (output, (documents, holds, (read, subst (IsLeft (held instance)) is here, h)), same, sent)
-  check_told format instance entry bytes (Err fault.Write) holds here (read, is, (output, h, begun)) =
-      (output, (documents, holds, (read, subst (IsLeft (held instance)) is here, h)), begun)
-  check_told format instance entry bytes (Err fault.Memory) holds here h = tt
-  check_told format instance entry bytes (Err fault.Read) holds here clear = inr (documents, holds, clear)
-  check_told format instance entry bytes (Err fault.InputTooLarge) holds here (read, is, h) = inr (documents, holds, (read, subst (IsLeft (held instance)) is here, h))
-  check_told format instance entry bytes (Err _) holds here (read, is, h) = (documents, holds, (read, subst (IsLeft (held instance)) is here, h))
+module _ {D : Type 0} (held : HeldByPath) (pairs : DocumentPairs) (file : List ℕ) (taken : D → Option (List ℕ)) (old new : Tracked D) where
+  -- they are taken
+  texts_told : (documents : DocumentTexts) (bytes : List ℕ) (causes : DocumentTexts → Causes) (Expected : DocumentTexts → List ℕ → Result Output Fault → Type 0) (answer : Result Bool Fault)
+      → AreHeld held pairs documents → IsLeft (held file) bytes → Answers telling_output (Expected documents) (causes documents) (Some bytes) taken old new answer
+      → Performs (OverTexts held pairs file causes Expected) taken old new answer
+  texts_told documents bytes causes Expected (Ok valid) holds here (read, is, (output, h, same, sent)) =
+      (output, (documents, holds, (read, subst (IsLeft (held file)) is here, h)), same, sent)
+  texts_told documents bytes causes Expected (Err fault.Write) holds here (read, is, (output, h, begun)) =
+      (output, (documents, holds, (read, subst (IsLeft (held file)) is here, h)), begun)
+  texts_told documents bytes causes Expected (Err fault.Memory) holds here h = tt
+  texts_told documents bytes causes Expected (Err fault.Read) holds here clear = inr (documents, holds, clear)
+  texts_told documents bytes causes Expected (Err fault.InputTooLarge) holds here (read, is, h) = inr (documents, holds, (read, subst (IsLeft (held file)) is here, h))
+  texts_told documents bytes causes Expected (Err _) holds here (read, is, h) = (documents, holds, (read, subst (IsLeft (held file)) is here, h))
 
-  pub places_told : AreHeld held pairs documents → MayGoOn (documents_causes documents) → Sends taken old new (places_text documents)
-      → Performs (RequestOutcome held None false (places pairs)) taken old new (Ok true)
-  places_told holds clear sent = (record { valid = true; text = places_text documents }, (documents, holds, (clear, refl)), refl, sent)
-
-  pub places_fault : (e : Fault) → AreHeld held pairs documents → TellsPlaces documents (Err e)
-      → (◌≡◌ {A = Result ℕ Fault} (Err e) (Err fault.Write) → SendsBeginning taken old new (places_text documents))
-      → Performs (RequestOutcome held None false (places pairs)) taken old new (Err e)
-  places_fault fault.Write holds tells begun = (record { valid = true; text = places_text documents }, (documents, holds, (tells, refl)), begun refl)
-  places_fault fault.Memory holds tells begun = tt
-  places_fault fault.Read holds tells begun = absurd tells
-  places_fault fault.InputTooLarge holds tells begun = inr (documents, holds, tells)
-  places_fault _ holds tells begun = (documents, holds, tells)
-
-  pub suite_told : (file bytes : List ℕ) (counts : Counts) → AreHeld held pairs documents → IsLeft (held file) bytes
-      → Answers telling_lines (SuiteOutcome documents) (documents_causes documents) (Some bytes) taken old new (Ok counts)
-      → Performs (RequestOutcome held None false (suite file pairs)) taken old new (Ok (all_passed counts))
-  suite_told file bytes counts holds here (read, is, (lines, h, same, sent)) =
-      (suite_output (counts_of lines) (lines_text lines), (documents, holds, (read, subst (IsLeft (held file)) is here, (lines, h, refl))), ap all_passed same, sent)
-
-  pub suite_fault : (file bytes : List ℕ) (e : Fault) → AreHeld held pairs documents → IsLeft (held file) bytes
-      → Answers telling_lines (SuiteOutcome documents) (documents_causes documents) (Some bytes) taken old new (Err e)
-      → Performs (RequestOutcome held None false (suite file pairs)) taken old new (Err e)
-  suite_fault file bytes fault.Write holds here (read, is, (lines, h, begun)) =
-      (suite_output (counts_of lines) (lines_text lines), (documents, holds, (read, subst (IsLeft (held file)) is here, (lines, h, refl))), begun)
-  suite_fault file bytes fault.Memory holds here h = tt
-  suite_fault file bytes fault.Read holds here clear = inr (documents, holds, clear)
-  suite_fault file bytes fault.InputTooLarge holds here (read, is, h) = inr (documents, holds, (read, subst (IsLeft (held file)) is here, h))
-  suite_fault file bytes _ holds here (read, is, h) = (documents, holds, (read, subst (IsLeft (held file)) is here, h))
-
--- ---- a file isn't taken
-
-module _ {D : Type 0} (held : HeldByPath) (pairs : DocumentPairs) (taken : D → Option (List ℕ)) (old new : Tracked D) where
-  pub check_untaken : (format : Format) (instance entry : List ℕ) (e : Fault) → (¬ (e ≡ fault.Memory) → IsFirstFileFault held (files_of pairs ++ instance ∷ []) e)
-      → Performs (RequestOutcome held None false (check format instance entry pairs)) taken old new (Err e)
-  check_untaken format instance entry e h =
-      performs-fault held (files_of pairs ++ instance ∷ []) (MayReadAgain held pairs (λ documents. beginning_causes documents entry))
-      (λ told. (documents : DocumentTexts) × AreHeld held pairs documents × ((bytes : List ℕ) × IsLeft (held instance) bytes × Outcome documents entry format bytes told)) taken old new e h
-
-  pub suite_untaken : (file : List ℕ) (e : Fault) → (¬ (e ≡ fault.Memory) → IsFirstFileFault held (files_of pairs ++ file ∷ []) e)
-      → Performs (RequestOutcome held None false (suite file pairs)) taken old new (Err e)
-  suite_untaken file e h =
+  -- one isn't
+  pub texts_untaken : (subject : Subject) (e : Fault) → (¬ (e ≡ fault.Memory) → IsFirstFileFault held (files_of pairs ++ file ∷ []) e)
+      → Performs (RequestOutcome held None false (request_by subject file pairs)) taken old new (Err e)
+  texts_untaken (subject.Instance format entry) e h =
+      performs-fault held (files_of pairs ++ file ∷ []) (MayReadAgain held pairs (λ documents. beginning_causes documents entry.now))
+      (λ told. (documents : DocumentTexts) × AreHeld held pairs documents × ((bytes : List ℕ) × IsLeft (held file) bytes × Outcome documents entry.now format bytes told)) taken old new e h
+  texts_untaken subject.Suite e h =
       performs-fault held (files_of pairs ++ file ∷ []) (MayReadAgain held pairs documents_causes)
       (λ told. (documents : DocumentTexts) × AreHeld held pairs documents × ((bytes : List ℕ) × IsLeft (held file) bytes × SuiteTold documents bytes told)) taken old new e h
 
+-- the named files hold these texts, of which the run took documents and bytes
+module _ (held : HeldByPath) (judging : Judging) (named : List DocumentFile) (texts : Texts) (documents : DocumentTexts) (bytes : List ℕ)
+    (same : named ≡ judging.documents.items) (docs : documents ≡ documents_taken texts.documents.items) (all : bytes ≡ texts.judged.items)
+    (holds : AreHeld held (pairs_seen named) (documents_taken texts.documents.items)) (here : IsLeft (held judging.file.now) texts.judged.items)
+    {D : Type 0} (taken : D → Option (List ℕ)) (old new : Tracked D) where
+  judged_told : (causes : DocumentTexts → Causes) (Expected : DocumentTexts → List ℕ → Result Output Fault → Type 0) (answer : Result Bool Fault)
+      → Answers telling_output (Expected documents) (causes documents) (Some bytes) taken old new answer
+      → Performs (OverTexts held (pairs_seen judging.documents.items) judging.file.now causes Expected) taken old new answer
+  judged_told causes Expected answer h =
+      texts_told held (pairs_seen judging.documents.items) judging.file.now taken old new documents bytes causes Expected answer
+      (holds_over held named judging.documents.items (documents_taken texts.documents.items) documents same docs holds) (subst (IsLeft (held judging.file.now)) (sym all) here) h
+
+  -- the answer to what this subject asks is the task's
+  of_subject : (s : Subject) (answer : Result Bool Fault) → judging.subject ≡ s
+      → Performs (RequestOutcome held None false (request_by s judging.file.now (pairs_seen judging.documents.items))) taken old new answer
+      → Performs (RequestOutcome held None false (judging_seen judging)) taken old new answer
+  of_subject s answer e h = subst (λ s. Performs (RequestOutcome held None false (request_by s judging.file.now (pairs_seen judging.documents.items))) taken old new answer) (sym e) h
+
+  pub check_told : (format : Format) (entry : Bor (List ℕ)) (answer : Result Bool Fault) → judging.subject ≡ subject.Instance format entry
+      → Answers telling_output (Outcome documents entry.now format) (beginning_causes documents entry.now) (Some bytes) taken old new answer
+      → Performs (RequestOutcome held None false (judging_seen judging)) taken old new answer
+  check_told format entry answer e h =
+      of_subject (subject.Instance format entry) answer e (judged_told (λ ds. beginning_causes ds entry.now) (λ ds. Outcome ds entry.now format) answer h)
+
+  pub suite_told : (counts : Counts) → judging.subject ≡ subject.Suite → Answers telling_lines (SuiteOutcome documents) (documents_causes documents) (Some bytes) taken old new (Ok counts)
+      → Performs (RequestOutcome held None false (judging_seen judging)) taken old new (Ok (all_passed counts))
+  suite_told counts e (read, is, (lines, h, passed, sent)) =
+      of_subject subject.Suite (Ok (all_passed counts)) e (judged_told documents_causes SuiteTold (Ok (all_passed counts))
+      (read, is, (suite_output (counts_of lines) (lines_text lines), (lines, h, refl), ap all_passed passed, sent)))
+
+  suite_output_fault : (f : Fault) → Answers telling_lines (SuiteOutcome documents) (documents_causes documents) (Some bytes) taken old new (Err f)
+      → Answers telling_output (SuiteTold documents) (documents_causes documents) (Some bytes) taken old new (Err f)
+  suite_output_fault fault.Write (read, is, (lines, h, begun)) = (read, is, (suite_output (counts_of lines) (lines_text lines), (lines, h, refl), begun))
+  suite_output_fault fault.Memory h = tt
+  suite_output_fault fault.Read h = h
+  suite_output_fault _ (read, is, h) = (read, is, h)
+
+  pub suite_fault : (f : Fault) → judging.subject ≡ subject.Suite → Answers telling_lines (SuiteOutcome documents) (documents_causes documents) (Some bytes) taken old new (Err f)
+      → Performs (RequestOutcome held None false (judging_seen judging)) taken old new (Err f)
+  suite_fault f e h = of_subject subject.Suite (Err f) e (judged_told documents_causes SuiteTold (Err f) (suite_output_fault f h))
+
+-- ---- places
+
+module _ {D : Type 0} (held : HeldByPath) (pairs : DocumentPairs) (taken : D → Option (List ℕ)) (old new : Tracked D) where
   pub places_untaken : (e : Fault) → (¬ (e ≡ fault.Memory) → IsFirstFileFault held (files_of pairs) e) → Performs (RequestOutcome held None false (places pairs)) taken old new (Err e)
   places_untaken e h =
       performs-fault held (files_of pairs) ⊥ (λ told. (documents : DocumentTexts) × AreHeld held pairs documents × PlacesOutcome documents told) taken old new e h
+
+  module _ (documents : DocumentTexts) (holds : AreHeld held pairs documents) where
+    pub places_told : MayGoOn (documents_causes documents) → Sends taken old new (places_text documents) → Performs (RequestOutcome held None false (places pairs)) taken old new (Ok true)
+    places_told clear sent = (record { valid = true; text = places_text documents }, (documents, holds, (clear, refl)), refl, sent)
+
+    pub places_fault : (e : Fault) → TellsPlaces documents (Err e) → (◌≡◌ {A = Result ℕ Fault} (Err e) (Err fault.Write) → SendsBeginning taken old new (places_text documents))
+        → Performs (RequestOutcome held None false (places pairs)) taken old new (Err e)
+    places_fault fault.Write tells begun = (record { valid = true; text = places_text documents }, (documents, holds, (tells, refl)), begun refl)
+    places_fault fault.Memory tells begun = tt
+    places_fault fault.Read tells begun = absurd tells
+    places_fault fault.InputTooLarge tells begun = inr (documents, holds, tells)
+    places_fault _ tells begun = (documents, holds, tells)
 
 -- ---- a pair
 

@@ -54,15 +54,18 @@ OverFiles held paths Unread Expected answer = Expected answer
 abbrev pub MayReadAgain : HeldByPath → DocumentPairs → (DocumentTexts → Causes) → Type 0
 MayReadAgain held pairs causes = (documents : DocumentTexts) × AreHeld held pairs documents × MayGoOn (causes documents)
 
+-- what comes of documents, and of a file that is judged by them
+abbrev pub OverTexts : HeldByPath → DocumentPairs → List ℕ → (DocumentTexts → Causes) → (DocumentTexts → List ℕ → Result Output Fault → Type 0) → Result Output Fault → Type 0
+OverTexts held pairs file causes Expected answer =
+    OverFiles held (files_of pairs ++ file ∷ []) (MayReadAgain held pairs causes)
+    (λ told. (documents : DocumentTexts) × AreHeld held pairs documents × ((bytes : List ℕ) × IsLeft (held file) bytes × Expected documents bytes told)) answer
+
 -- what comes of a request; `failed` if the standard input has failed at the end
 abbrev pub RequestOutcome : HeldByPath → Option (List ℕ) → Bool → Request → Result Output Fault → Type 0
 RequestOutcome held input failed pair answer = OverInput failed (λ told. (bytes : List ℕ) × IsLeft input bytes × PairOutcome bytes told) answer
 RequestOutcome held input failed (check format instance entry pairs) answer =
-    OverFiles held (files_of pairs ++ instance ∷ []) (MayReadAgain held pairs (λ documents. beginning_causes documents entry))
-    (λ told. (documents : DocumentTexts) × AreHeld held pairs documents × ((bytes : List ℕ) × IsLeft (held instance) bytes × Outcome documents entry format bytes told)) answer
-RequestOutcome held input failed (suite file pairs) answer =
-    OverFiles held (files_of pairs ++ file ∷ []) (MayReadAgain held pairs documents_causes)
-    (λ told. (documents : DocumentTexts) × AreHeld held pairs documents × ((bytes : List ℕ) × IsLeft (held file) bytes × SuiteTold documents bytes told)) answer
+    OverTexts held pairs instance (λ documents. beginning_causes documents entry) (λ documents. Outcome documents entry format) answer
+RequestOutcome held input failed (suite file pairs) answer = OverTexts held pairs file documents_causes SuiteTold answer
 RequestOutcome held input failed (places pairs) answer =
     OverFiles held (files_of pairs) ⊥ (λ told. (documents : DocumentTexts) × AreHeld held pairs documents × PlacesOutcome documents told) answer
 

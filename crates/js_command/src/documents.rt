@@ -1,5 +1,6 @@
 //! The schema documents that the words name, as their files hold them.
 ghost use Rattle.std.specs.Prelude.{◌≡◌, ◌≢◌, ◌∷◌, ◌++◌, [], IfOk, IfErr, OnOk};
+ghost use Rattle.js_output.specs.Device.{IsLeft};
 ghost use Rattle.js_output.specs.Documents.{documents_of};
 ghost use Rattle.js_command.specs.Answer.{AreHeld};
 ghost use Rattle.js_command.specs.Files.{IsFirstFileFault};
@@ -39,6 +40,35 @@ pub(crate) fn take_all<'a, F: Files>(
         append(&mut all, Taken { uri, text })?;
     }
     Ok(all)
+}
+
+/// Schema documents, and the file that is judged by them: what their files hold.
+#[derive(Drop)]
+pub(crate) struct Texts<'a> {
+    pub(crate) documents: Vec<Taken<'a>>,
+    pub(crate) judged: Vec<u8>,
+}
+
+/// Reads the files of the documents, and then the one that is judged. Returns the fault of the first
+/// that can't be read.
+pub(crate) fn take_texts<'a, F: Files>(
+    alloc: Global,
+    documents: &[DocumentFile<'a>],
+    file: &str,
+    files: &mut F,
+) -> Result<Texts<'a>, Fault>
+    ensures held { IfOk result (λ t. AreHeld (F.held files.old) (pairs_seen documents.now)
+        (documents_taken t.documents.items)) }
+    ensures judged { IfOk result (λ t. IsLeft (F.held files.old file.now) t.judged.items) }
+    ensures fault { IfErr result (λ e. e ≢ Fault.Memory → IsFirstFileFault (F.held files.old)
+        (files_of (pairs_seen documents.now) ++ file.now ∷ []) e) }
+{
+    let taken = take_all(alloc, documents, files)?;
+    let judged = files.take(alloc, file)?;
+    Ok(Texts {
+        documents: taken,
+        judged,
+    })
 }
 
 /// The documents as a run takes them.

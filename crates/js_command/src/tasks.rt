@@ -2,13 +2,12 @@
 ghost use Rattle.std.specs.Prelude.{◌≡◌, ◌≢◌, None, false, IfErr};
 ghost use Rattle.js_output.specs.Device.{Unflushed};
 ghost use Rattle.js_command.specs.Words.{places};
-ghost use Rattle.js_command.specs.declared.words.Task.{Task};
 ghost use Rattle.js_command.specs.Answer.{RequestOutcome, Performs, all_passed};
-ghost use Rattle.js_command.specs.code.Tasks.{ReadsInput, pairs_seen, request_seen};
+ghost use Rattle.js_command.specs.code.Tasks.{ReadsInput, judging_seen, pairs_seen, request_seen};
 
-use crate::documents::{handed_in, take_all};
+use crate::documents::{handed_in, take_all, take_texts};
 use crate::files::Files;
-use crate::words::{Check, DocumentFile, Suite, Task};
+use crate::words::{DocumentFile, Judging, Subject, Task};
 use js_output::{Counts, Fault, Sink, Source, run, run_pair, run_places, run_suite};
 use std::alloc::Global;
 use std::io::{Read, Write};
@@ -31,56 +30,35 @@ pub(crate) fn perform<F: Files, R: Read, W: Write>(
 {
     match task {
         Task::Pair => run_pair(alloc, input, out),
-        Task::Check(check) => perform_check(alloc, &check, files, out),
-        Task::Suite(suite) => perform_suite(alloc, &suite, files, out),
+        Task::Judge(judging) => perform_judging(alloc, &judging, files, out),
         Task::Places(documents) => perform_places(alloc, documents.as_slice(), files, out),
     }
 }
 
-fn perform_check<F: Files, W: Write>(
+fn perform_judging<F: Files, W: Write>(
     alloc: Global,
-    check: &Check,
+    judging: &Judging,
     files: &mut F,
     out: &mut Sink<W>,
 ) -> Result<bool, Fault>
     ensures answer { Performs
-        (RequestOutcome (F.held files.old) None false (request_seen (Task.Check check.now)))
+        (RequestOutcome (F.held files.old) None false (judging_seen judging.now))
         W.contents out.old out.new result }
     ensures nothing { IfErr result (λ e. e ≢ Fault.Write → out.new ≡ out.old) }
     ensures unflushed { Unflushed out.old out.new }
 {
-    let held = take_all(alloc, check.documents.as_slice(), files)?;
-    let docs = handed_in(alloc, held.as_slice())?;
-    let instance = files.take(alloc, check.instance)?;
-    let mut instance = Source::new(instance.as_slice());
-    run(
-        alloc,
-        docs.as_slice(),
-        check.entry,
-        &mut instance,
-        check.format,
-        out,
-    )
-}
-
-fn perform_suite<F: Files, W: Write>(
-    alloc: Global,
-    suite: &Suite,
-    files: &mut F,
-    out: &mut Sink<W>,
-) -> Result<bool, Fault>
-    ensures answer { Performs
-        (RequestOutcome (F.held files.old) None false (request_seen (Task.Suite suite.now)))
-        W.contents out.old out.new result }
-    ensures nothing { IfErr result (λ e. e ≢ Fault.Write → out.new ≡ out.old) }
-    ensures unflushed { Unflushed out.old out.new }
-{
-    let held = take_all(alloc, suite.documents.as_slice(), files)?;
-    let docs = handed_in(alloc, held.as_slice())?;
-    let text = files.take(alloc, suite.file)?;
-    let mut text = Source::new(text.as_slice());
-    let counts = run_suite(alloc, docs.as_slice(), &mut text, out)?;
-    Ok(all_passed(&counts))
+    let texts = take_texts(alloc, judging.documents.as_slice(), judging.file, files)?;
+    let docs = handed_in(alloc, texts.documents.as_slice())?;
+    let mut text = Source::new(texts.judged.as_slice());
+    match &judging.subject {
+        Subject::Instance(format, entry) => {
+            run(alloc, docs.as_slice(), entry, &mut text, *format, out)
+        }
+        Subject::Suite => {
+            let counts = run_suite(alloc, docs.as_slice(), &mut text, out)?;
+            Ok(all_passed(&counts))
+        }
+    }
 }
 
 // No test of a suite failed, and none was skipped.

@@ -24,29 +24,27 @@ pub(crate) const PAIRS_USAGE: &[u8] = b"usage: URI and FILE come in pairs\n";
 pub(crate) enum Task<'a> {
     /// Validate the pair on standard input.
     Pair,
-    /// Check an instance.
-    Check(Check<'a>),
-    /// Run a suite.
-    Suite(Suite<'a>),
+    /// Check an instance, or run a suite.
+    Judge(Judging<'a>),
     /// List the places of documents.
     Places(Vec<DocumentFile<'a>>),
 }
 
-/// The words of a check.
+/// A file that is judged by schema documents.
 #[derive(Drop)]
-pub(crate) struct Check<'a> {
-    pub(crate) format: Format,
-    /// The instance's file.
-    pub(crate) instance: &'a str,
-    pub(crate) entry: &'a str,
+pub(crate) struct Judging<'a> {
+    pub(crate) subject: Subject<'a>,
+    pub(crate) file: &'a str,
     pub(crate) documents: Vec<DocumentFile<'a>>,
 }
 
-/// The words of a suite.
+/// What a file that is judged holds.
 #[derive(Drop)]
-pub(crate) struct Suite<'a> {
-    pub(crate) file: &'a str,
-    pub(crate) documents: Vec<DocumentFile<'a>>,
+pub(crate) enum Subject<'a> {
+    /// An instance. The output has this format, and the entry has this URI.
+    Instance(Format, &'a str),
+    /// A suite.
+    Suite,
 }
 
 /// A schema document: its URI, and its file.
@@ -166,7 +164,7 @@ fn check_in<'a>(alloc: Global, found: &ArgMatches<'a>) -> Result<Task<'a>, Misus
     let Some(format) = word_in(found, "FORMAT") else {
         return Err(Misuse::OtherForm);
     };
-    let Some(instance) = word_in(found, "INSTANCE") else {
+    let Some(file) = word_in(found, "INSTANCE") else {
         return Err(Misuse::OtherForm);
     };
     let Some(entry) = word_in(found, "ENTRY") else {
@@ -176,10 +174,9 @@ fn check_in<'a>(alloc: Global, found: &ArgMatches<'a>) -> Result<Task<'a>, Misus
         return Err(Misuse::OtherForm);
     };
     let documents = documents_in(alloc, found)?;
-    Ok(Task::Check(Check {
-        format,
-        instance,
-        entry,
+    Ok(Task::Judge(Judging {
+        subject: Subject::Instance(format, entry),
+        file,
         documents,
     }))
 }
@@ -196,7 +193,11 @@ fn suite_in<'a>(alloc: Global, found: &ArgMatches<'a>) -> Result<Task<'a>, Misus
         return Err(Misuse::OtherForm);
     };
     let documents = documents_in(alloc, found)?;
-    Ok(Task::Suite(Suite { file, documents }))
+    Ok(Task::Judge(Judging {
+        subject: Subject::Suite,
+        file,
+        documents,
+    }))
 }
 
 fn places_in<'a>(alloc: Global, found: &ArgMatches<'a>) -> Result<Task<'a>, Misuse>

@@ -1,22 +1,32 @@
 -- Tasks, as the requests that they are, and why there is none.
 use Rattle.std.specs.Prelude.{◌≡◌, Bool, true, List, map, Option, None, Result, Ok, Err, ⊤}
+use Rattle.clap.specs.Words.{Text}
 use Rattle.js_output.specs.Device.{Tracked}
 use Rattle.js_output.specs.declared.fault.Fault.{Fault}
 use Rattle.js_output.specs.declared.fault.Fault.TheVariants as fault
 use Rattle.js_command.specs.Words.{DocumentPairs, Request, pair, check, suite, places}
 use Rattle.js_command.specs.declared.words.DocumentFile.{DocumentFile}
+use Rattle.js_command.specs.declared.words.Judging.{Judging}
 use Rattle.js_command.specs.declared.words.Misuse.{Misuse}
 use Rattle.js_command.specs.declared.words.Misuse.TheVariants as misuse
+use Rattle.js_command.specs.declared.words.Subject.{Subject}
+use Rattle.js_command.specs.declared.words.Subject.TheVariants as subject
 use Rattle.js_command.specs.declared.words.Task.{Task}
 use Rattle.js_command.specs.declared.words.Task.TheVariants as task
 
 abbrev pub pairs_seen : List DocumentFile → DocumentPairs
 pairs_seen ds = map (λ d. (d.uri.now, d.file.now)) ds
 
+abbrev pub request_by : Subject → Text → DocumentPairs → Request
+request_by (subject.Instance format entry) file pairs = check format file entry.now pairs
+request_by subject.Suite file pairs = suite file pairs
+
+abbrev pub judging_seen : Judging → Request
+judging_seen j = request_by j.subject j.file.now (pairs_seen j.documents.items)
+
 abbrev pub request_seen : Task → Request
 request_seen task.Pair = pair
-request_seen (task.Check c) = check c.format c.instance.now c.entry.now (pairs_seen c.documents.items)
-request_seen (task.Suite s) = suite s.file.now (pairs_seen s.documents.items)
+request_seen (task.Judge j) = judging_seen j
 request_seen (task.Places ds) = places (pairs_seen ds.items)
 
 -- why the words ask for nothing; lack of memory can come at any time

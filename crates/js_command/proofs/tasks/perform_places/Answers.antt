@@ -14,7 +14,7 @@ returns-in_err-run_places-clause-answer g c =
     let holds : AreHeld held (pairs_seen c.args.documents.now) documents = subst (AreHeld held (pairs_seen c.args.documents.now))
     (sym (ap documents_of c.as_slice-2.ensures.value ∙ c.in_ok-docs.ensures.docs ∙ ap documents_taken c.as_slice.ensures.value)) c.in_ok-held.ensures.held in
     let p = err_from_is_err_and c.from_residual-in_err-run_places.result c.from_residual-in_err-run_places.ensures.1 in
-    rw (p.1, p.2) (places_fault held (pairs_seen c.args.documents.now) documents g.W.Write.contents c.args.out.now c.run_places.new.out c.in_err-run_places.field-0.0 holds
+    rw (p.1, p.2) (places_fault held (pairs_seen c.args.documents.now) g.W.Write.contents c.args.out.now c.run_places.new.out documents holds c.in_err-run_places.field-0.0
     c.in_err-run_places.ensures.answer (λ w. (c.in_err-run_places.ensures.beginning w, c.in_err-run_places.ensures.write w, c.in_err-run_places.ensures.writes)))
 
 pub returns-clause-answer : goal.returns-clause-answer
@@ -23,7 +23,7 @@ returns-clause-answer g c =
     let documents = documents_of c.as_slice-2.result.now in
     let holds : AreHeld held (pairs_seen c.args.documents.now) documents = subst (AreHeld held (pairs_seen c.args.documents.now))
     (sym (ap documents_of c.as_slice-2.ensures.value ∙ c.in_ok-docs.ensures.docs ∙ ap documents_taken c.as_slice.ensures.value)) c.in_ok-held.ensures.held in
-    places_told held (pairs_seen c.args.documents.now) documents g.W.Write.contents c.args.out.now c.run_places.new.out holds
+    places_told held (pairs_seen c.args.documents.now) g.W.Write.contents c.args.out.now c.run_places.new.out documents holds
     c.in_ok-run_places.ensures.answer.0 (c.in_ok-run_places.ensures.text, c.in_ok-run_places.ensures.whole, c.in_ok-run_places.ensures.writes)
 
 -- a document's file isn't taken
