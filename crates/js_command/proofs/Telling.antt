@@ -26,7 +26,7 @@ use Rattle.js_command.specs.declared.words.Misuse.{Misuse}
 use Rattle.js_command.specs.declared.words.Misuse.TheVariants as misuse
 use Rattle.js_command.specs.declared.words.Subject.{Subject}
 use Rattle.js_command.specs.declared.words.Subject.TheVariants as subject
-use Rattle.js_command.specs.Words.{DocumentPairs, files_of, Request, pair, check, suite, places, request_of}
+use Rattle.js_command.specs.Words.{DocumentPairs, files_of, Request, pair, places, request_of}
 use Rattle.js_command.proofs.FileFaults.{input_fault}
 use Rattle.js_command.proofs.Holding.{holds_over}
 

@@ -10,54 +10,58 @@ use js_bundle::{Place, Schemas, Step};
 use js_doc::{Doc, read};
 use std::alloc::Global;
 
+/// A place of finished schemas.
+#[derive(Drop)]
+pub struct KnownPlace<'a> {
+    pub schemas: &'a Schemas,
+    pub place: Place,
+    ghost there: { is_place schemas.now place ≡ true },
+}
+
 pub fn answer_at_place(rt: &HostRuntime, schemas: &Schemas, words: &[&str], answers: &mut String) {
     mark_begin_if(rt, word_at(words, 1) == "entry");
     let found = schemas.entry(rt.alloc(), word_at(words, 0));
     mark_end(rt);
     match found {
-        Ok(place) if schemas.has(place) => asked(rt, schemas, place, words, answers),
+        Ok(place) if schemas.has(place) => asked(
+            rt,
+            &KnownPlace { schemas, place },
+            words,
+            answers,
+        ),
         Ok(_) => say(answers, "an entry is a place"),
         Err(fault) => tell(answers, fault),
     }
 }
 
-fn asked(rt: &HostRuntime, schemas: &Schemas, place: Place, words: &[&str], answers: &mut String)
-    requires { is_place schemas.now place ≡ true }
-{
+fn asked(rt: &HostRuntime, at: &KnownPlace, words: &[&str], answers: &mut String) {
     let first = word_at(words, 2);
     let second = word_at(words, 3);
     match word_at(words, 1) {
-        "entry" => tell_location(answers, schemas, Some(place)),
+        "entry" => tell_location(answers, at.schemas, Some(at.place)),
         "absolute" => {
             mark_begin(rt);
-            let made = schemas.absolute(rt.alloc(), place, Some(first));
+            let made = at.schemas.absolute(rt.alloc(), at.place, Some(first));
             mark_end(rt);
             tell_text(answers, made);
         }
-        "standing" => standing(rt, schemas, place, answers),
-        "alone" => below(rt, schemas, place, first, Step::Alone, answers),
-        "index" => below(
-            rt,
-            schemas,
-            place,
-            first,
-            Step::Index(number(second)),
-            answers,
-        ),
-        "name" => below(rt, schemas, place, first, Step::Name(second), answers),
+        "standing" => standing(rt, at, answers),
+        "alone" => below(rt, at, first, Step::Alone, answers),
+        "index" => below(rt, at, first, Step::Index(number(second)), answers),
+        "name" => below(rt, at, first, Step::Name(second), answers),
         "assertion" => {
             if let Ok(value) = read(rt.alloc(), second.as_bytes()) {
-                said(rt, schemas, place, first, &value, answers);
+                said(rt, at, first, &value, answers);
             }
         }
-        "pattern" => matched(rt, schemas, place, first, second, answers),
-        "target" => target(rt, schemas, place, answers),
+        "pattern" => matched(rt, at, first, second, answers),
+        "target" => target(rt, at, answers),
         "dynamic target" => {
-            let path = path_of(rt.alloc(), schemas, words.get(2..).unwrap_or(&[]));
-            dynamic_target(rt, schemas, place, path.as_slice(), answers);
+            let path = path_of(rt.alloc(), at.schemas, words.get(2..).unwrap_or(&[]));
+            dynamic_target(rt, at, path.as_slice(), answers);
         }
-        "places" => places(rt, schemas, answers),
-        _ => resources(rt, schemas, answers),
+        "places" => places(rt, at.schemas, answers),
+        _ => resources(rt, at.schemas, answers),
     }
 }
 
@@ -75,19 +79,17 @@ fn tell_location(answers: &mut String, schemas: &Schemas, place: Option<Place>) 
 }
 
 // The location of a place, its schema and its keywords.
-fn standing(rt: &HostRuntime, schemas: &Schemas, place: Place, answers: &mut String)
-    requires { is_place schemas.now place ≡ true }
-{
+fn standing(rt: &HostRuntime, at: &KnownPlace, answers: &mut String) {
     mark_begin(rt);
-    let has = schemas.has(place);
-    let (start, rest) = schemas.location_of(place);
-    let number = schemas.document(place);
-    let pointer = schemas.pointer(place);
-    let schema = schemas.schema(place);
-    let names = schemas.keyword_names(place);
-    let uri = schemas.resource(place);
-    let rank = schemas.resource_number(place);
-    let count = schemas.resource_count();
+    let has = at.schemas.has(at.place);
+    let (start, rest) = at.schemas.location_of(at.place);
+    let number = at.schemas.document(at.place);
+    let pointer = at.schemas.pointer(at.place);
+    let schema = at.schemas.schema(at.place);
+    let names = at.schemas.keyword_names(at.place);
+    let uri = at.schemas.resource(at.place);
+    let rank = at.schemas.resource_number(at.place);
+    let count = at.schemas.resource_count();
     mark_end(rt);
     let _ = write!(answers, "{has} {start}{rest}, document {number} at ");
     tell_text(answers, pointer.text(rt.alloc()));
@@ -97,42 +99,26 @@ fn standing(rt: &HostRuntime, schemas: &Schemas, place: Place, answers: &mut Str
 }
 
 // The place at a step, by both calls that find it, and its schema.
-fn below(
-    rt: &HostRuntime,
-    schemas: &Schemas,
-    place: Place,
-    keyword: &str,
-    step: Step<'_>,
-    answers: &mut String,
-)
-    requires { is_place schemas.now place ≡ true }
-{
+fn below(rt: &HostRuntime, at: &KnownPlace, keyword: &str, step: Step<'_>, answers: &mut String) {
     mark_begin(rt);
-    let next = schemas.below(place, keyword, step);
-    let with_schema = schemas.schema_below(place, schemas.schema(place), keyword, step);
+    let next = at.schemas.below(at.place, keyword, step);
+    let with_schema = at
+        .schemas
+        .schema_below(at.place, at.schemas.schema(at.place), keyword, step);
     mark_end(rt);
-    tell_location(answers, schemas, next);
+    tell_location(answers, at.schemas, next);
     if let Some((next_again, schema)) = with_schema {
         say(answers, " ");
-        tell_location(answers, schemas, Some(next_again));
+        tell_location(answers, at.schemas, Some(next_again));
         say(answers, ": ");
         show(answers, schema);
     }
 }
 
 // What the assertion of a keyword says of a value, one of whose items matches.
-fn said(
-    rt: &HostRuntime,
-    schemas: &Schemas,
-    place: Place,
-    keyword: &str,
-    value: &Doc,
-    answers: &mut String,
-)
-    requires { is_place schemas.now place ≡ true }
-{
+fn said(rt: &HostRuntime, at: &KnownPlace, keyword: &str, value: &Doc, answers: &mut String) {
     mark_begin(rt);
-    let assertion = schemas.assertion(place, keyword);
+    let assertion = at.schemas.assertion(at.place, keyword);
     mark_end(rt);
     match assertion {
         Some(assertion) => tell_error(answers, assertion.check(rt.alloc(), value, 1)),
@@ -141,18 +127,9 @@ fn said(
 }
 
 // Whether a pattern holds of a text.
-fn matched(
-    rt: &HostRuntime,
-    schemas: &Schemas,
-    place: Place,
-    name: &str,
-    text: &str,
-    answers: &mut String,
-)
-    requires { is_place schemas.now place ≡ true }
-{
+fn matched(rt: &HostRuntime, at: &KnownPlace, name: &str, text: &str, answers: &mut String) {
     mark_begin(rt);
-    let pattern = schemas.pattern(place, name);
+    let pattern = at.schemas.pattern(at.place, name);
     mark_end(rt);
     match pattern {
         Some(pattern) => tell(answers, pattern.holds(rt.alloc(), text)),
@@ -161,13 +138,11 @@ fn matched(
 }
 
 // Where `$ref` leads; without one, whether there is a `$dynamicRef`.
-fn target(rt: &HostRuntime, schemas: &Schemas, place: Place, answers: &mut String)
-    requires { is_place schemas.now place ≡ true }
-{
+fn target(rt: &HostRuntime, at: &KnownPlace, answers: &mut String) {
     mark_begin(rt);
-    let is_dynamic = schemas.has_dynamic_ref(place);
-    let led_to = if schemas.has_ref(place) {
-        Some(schemas.target(place))
+    let is_dynamic = at.schemas.has_dynamic_ref(at.place);
+    let led_to = if at.schemas.has_ref(at.place) {
+        Some(at.schemas.target(at.place))
     } else {
         None
     };
@@ -175,7 +150,7 @@ fn target(rt: &HostRuntime, schemas: &Schemas, place: Place, answers: &mut Strin
     if is_dynamic && led_to.is_none() {
         say(answers, "dynamic");
     } else {
-        tell_location(answers, schemas, led_to);
+        tell_location(answers, at.schemas, led_to);
     }
 }
 
@@ -204,24 +179,16 @@ fn numbers_of(alloc: Global, schemas: &Schemas, path: &[Place]) -> Vec<usize> {
 }
 
 // Where `$dynamicRef` leads at the end of a path of places: by the path, and by the numbers of its resources.
-fn dynamic_target(
-    rt: &HostRuntime,
-    schemas: &Schemas,
-    place: Place,
-    path: &[Place],
-    answers: &mut String,
-)
-    requires { is_place schemas.now place ≡ true }
-{
-    let numbers = numbers_of(rt.alloc(), schemas, path);
-    if schemas.has_dynamic_ref(place) {
+fn dynamic_target(rt: &HostRuntime, at: &KnownPlace, path: &[Place], answers: &mut String) {
+    let numbers = numbers_of(rt.alloc(), at.schemas, path);
+    if at.schemas.has_dynamic_ref(at.place) {
         mark_begin(rt);
-        let by_path = schemas.dynamic_target(place, path);
-        let by_numbers = schemas.dynamic_target_in(place, numbers.as_slice());
+        let by_path = at.schemas.dynamic_target(at.place, path);
+        let by_numbers = at.schemas.dynamic_target_in(at.place, numbers.as_slice());
         mark_end(rt);
-        tell_location(answers, schemas, Some(by_path));
+        tell_location(answers, at.schemas, Some(by_path));
         say(answers, " ");
-        tell_location(answers, schemas, Some(by_numbers));
+        tell_location(answers, at.schemas, Some(by_numbers));
     }
 }
 

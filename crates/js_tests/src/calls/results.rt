@@ -1,12 +1,11 @@
 //! Walks of a value at an entry, and calls on the result. The words of a question: the URI of the entry, the value's
 //! text, the call, and its argument.
-ghost use Rattle.std.specs.Prelude.{◌≡◌, true};
-ghost use Rattle.js_bundle.specs.Schemas.{is_place};
 
+use super::places::KnownPlace;
 use super::telling::{mark_begin, mark_begin_if, mark_end, say, tell};
 use super::{flat_lists, hand_made, number, trees};
 use crate::word_at;
-use js_bundle::{Place, Schemas};
+use js_bundle::Schemas;
 use js_doc::{Doc, Memory, read};
 use js_eval::{verdict, walk, walk_into};
 use js_tree::{Boxed, Collector, Flat, Head, Note, Verdict};
@@ -15,7 +14,7 @@ pub fn answer_on_result(rt: &HostRuntime, schemas: &Schemas, words: &[&str], ans
     match schemas.entry(rt.alloc(), word_at(words, 0)) {
         Ok(place) if schemas.has(place) => {
             if let Ok(value) = read(rt.alloc(), word_at(words, 1).as_bytes()) {
-                walked(rt, schemas, place, &value, words, answers);
+                walked(rt, &KnownPlace { schemas, place }, &value, words, answers);
             }
         }
         _ => say(answers, "an entry is a place"),
@@ -23,49 +22,25 @@ pub fn answer_on_result(rt: &HostRuntime, schemas: &Schemas, words: &[&str], ans
 }
 
 // `verdict`, and the calls that begin with `walk`, test the walk itself.
-fn walked<'a>(
-    rt: &HostRuntime,
-    schemas: &'a Schemas,
-    place: Place,
-    value: &'a Doc,
-    words: &[&str],
-    answers: &mut String,
-)
-    requires { is_place schemas.now place ≡ true }
-{
+fn walked(rt: &HostRuntime, at: &KnownPlace, value: &Doc, words: &[&str], answers: &mut String) {
     match word_at(words, 2) {
         "verdict" => {
             mark_begin(rt);
-            let made = verdict(rt.alloc(), schemas, place, value);
+            let made = verdict(rt.alloc(), at.schemas, at.place, value);
             mark_end(rt);
             tell(answers, made);
         }
-        "walk_into_verdict" => judged(rt, schemas, place, value, answers),
-        "walk_into_boxed" => boxed(rt, schemas, place, value, answers),
-        "refusing" => refused(
-            rt,
-            schemas,
-            place,
-            value,
-            number(word_at(words, 3)),
-            answers,
-        ),
-        call if call.contains("flat") => on_rows(rt, schemas, place, value, words, answers),
-        _ => on_tree(rt, schemas, place, value, words, answers),
+        "walk_into_verdict" => judged(rt, at, value, answers),
+        "walk_into_boxed" => boxed(rt, at, value, answers),
+        "refusing" => refused(rt, at, value, number(word_at(words, 3)), answers),
+        call if call.contains("flat") => on_rows(rt, at, value, words, answers),
+        _ => on_tree(rt, at, value, words, answers),
     }
 }
 
-fn judged<'a>(
-    rt: &HostRuntime,
-    schemas: &'a Schemas,
-    place: Place,
-    value: &'a Doc,
-    answers: &mut String,
-)
-    requires { is_place schemas.now place ≡ true }
-{
+fn judged(rt: &HostRuntime, at: &KnownPlace, value: &Doc, answers: &mut String) {
     mark_begin(rt);
-    let made = walk_into(rt.alloc(), schemas, place, value, Verdict::new());
+    let made = walk_into(rt.alloc(), at.schemas, at.place, value, Verdict::new());
     mark_end(rt);
     match made {
         Ok(verdict) => tell(answers, verdict.valid()),
@@ -73,17 +48,10 @@ fn judged<'a>(
     }
 }
 
-fn boxed<'a>(
-    rt: &HostRuntime,
-    schemas: &'a Schemas,
-    place: Place,
-    value: &'a Doc,
-    answers: &mut String,
-)
-    requires { is_place schemas.now place ≡ true }
-{
+fn boxed(rt: &HostRuntime, at: &KnownPlace, value: &Doc, answers: &mut String) {
     mark_begin(rt);
-    let made = walk_into(rt.alloc(), schemas, place, value, Boxed::new(rt.alloc()));
+    let boxed = Boxed::new(rt.alloc());
+    let made = walk_into(rt.alloc(), at.schemas, at.place, value, boxed);
     mark_end(rt);
     match made {
         Ok(boxed) => hand_made::answer_on_boxed(rt, "", "", boxed, answers),
@@ -91,19 +59,10 @@ fn boxed<'a>(
     }
 }
 
-fn on_tree<'a>(
-    rt: &HostRuntime,
-    schemas: &'a Schemas,
-    place: Place,
-    value: &'a Doc,
-    words: &[&str],
-    answers: &mut String,
-)
-    requires { is_place schemas.now place ≡ true }
-{
+fn on_tree(rt: &HostRuntime, at: &KnownPlace, value: &Doc, words: &[&str], answers: &mut String) {
     let call = word_at(words, 2);
     mark_begin_if(rt, call == "walk");
-    let made = walk(rt.alloc(), schemas, place, value);
+    let made = walk(rt.alloc(), at.schemas, at.place, value);
     mark_end(rt);
     match made {
         Ok(tree) => trees::answer_on_tree(rt, call, word_at(words, 3), tree, answers),
@@ -111,19 +70,11 @@ fn on_tree<'a>(
     }
 }
 
-fn on_rows<'a>(
-    rt: &HostRuntime,
-    schemas: &'a Schemas,
-    place: Place,
-    value: &'a Doc,
-    words: &[&str],
-    answers: &mut String,
-)
-    requires { is_place schemas.now place ≡ true }
-{
+fn on_rows(rt: &HostRuntime, at: &KnownPlace, value: &Doc, words: &[&str], answers: &mut String) {
     let call = word_at(words, 2);
     mark_begin_if(rt, call == "walk_into_flat");
-    let made = walk_into(rt.alloc(), schemas, place, value, Flat::new(rt.alloc()));
+    let flat = Flat::new(rt.alloc());
+    let made = walk_into(rt.alloc(), at.schemas, at.place, value, flat);
     mark_end(rt);
     match made {
         Ok(flat) => flat_lists::answer_on_flat_list(rt, call, word_at(words, 3), flat, answers),
@@ -154,17 +105,8 @@ impl<'a> Collector<'a> for Refusing {
 }
 
 // How many calls are left after the walk, or the fault.
-fn refused<'a>(
-    rt: &HostRuntime,
-    schemas: &'a Schemas,
-    place: Place,
-    value: &'a Doc,
-    left: usize,
-    answers: &mut String,
-)
-    requires { is_place schemas.now place ≡ true }
-{
-    match walk_into(rt.alloc(), schemas, place, value, Refusing { left }) {
+fn refused(rt: &HostRuntime, at: &KnownPlace, value: &Doc, left: usize, answers: &mut String) {
+    match walk_into(rt.alloc(), at.schemas, at.place, value, Refusing { left }) {
         Ok(refusing) => tell(answers, refusing.left),
         Err((fault, _refusing)) => tell(answers, fault),
     }
