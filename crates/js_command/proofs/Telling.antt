@@ -21,7 +21,7 @@ use Rattle.js_command.specs.code.Taken.{documents_taken}
 use Rattle.js_command.specs.code.Tasks.{judging_seen, pairs_seen, request_by}
 use Rattle.js_command.specs.declared.documents.Texts.{Texts}
 use Rattle.js_command.specs.declared.words.DocumentFile.{DocumentFile}
-use Rattle.js_command.specs.declared.words.Judging.{Judging}
+use Rattle.js_command.specs.declared.words.Judgement.{Judgement}
 use Rattle.js_command.specs.declared.words.Misuse.{Misuse}
 use Rattle.js_command.specs.declared.words.Misuse.TheVariants as misuse
 use Rattle.js_command.specs.declared.words.Subject.{Subject}
@@ -79,7 +79,7 @@ module _ {D : Type 0} (held : HeldByPath) (pairs : DocumentPairs) (file : List �
       (λ told. (documents : DocumentTexts) × AreHeld held pairs documents × ((bytes : List ℕ) × IsLeft (held file) bytes × SuiteTold documents bytes told)) taken old new e h
 
 -- the named files hold these texts, of which the run took documents and bytes
-module _ (held : HeldByPath) (judging : Judging) (named : List DocumentFile) (texts : Texts) (documents : DocumentTexts) (bytes : List ℕ)
+module _ (held : HeldByPath) (judging : Judgement) (named : List DocumentFile) (texts : Texts) (documents : DocumentTexts) (bytes : List ℕ)
     (same : named ≡ judging.documents.items) (docs : documents ≡ documents_taken texts.documents.items) (all : bytes ≡ texts.judged.items)
     (holds : AreHeld held (pairs_seen named) (documents_taken texts.documents.items)) (here : IsLeft (held judging.file.now) texts.judged.items)
     {D : Type 0} (taken : D → Option (List ℕ)) (old new : Tracked D) where

@@ -7,7 +7,7 @@ ghost use Rattle.js_command.specs.code.Tasks.{ReadsInput, judging_seen, pairs_se
 
 use crate::documents::{handed_in, take_all, take_texts};
 use crate::files::Files;
-use crate::words::{DocumentFile, Judging, Subject, Task};
+use crate::words::{DocumentFile, Judgement, Subject, Task};
 use js_output::{Counts, Fault, Sink, Source, run, run_pair, run_places, run_suite};
 use std::alloc::Global;
 use std::io::{Read, Write};
@@ -37,7 +37,7 @@ pub(crate) fn perform<F: Files, R: Read, W: Write>(
 
 fn perform_judging<F: Files, W: Write>(
     alloc: Global,
-    judging: &Judging,
+    judging: &Judgement,
     files: &mut F,
     out: &mut Sink<W>,
 ) -> Result<bool, Fault>

@@ -25,14 +25,14 @@ pub(crate) enum Task<'a> {
     /// Validate the pair on standard input.
     Pair,
     /// Check an instance, or run a suite.
-    Judge(Judging<'a>),
+    Judge(Judgement<'a>),
     /// List the places of documents.
     Places(Vec<DocumentFile<'a>>),
 }
 
-/// A file that is judged by schema documents.
+/// What is to be judged: a file, by schema documents.
 #[derive(Drop)]
-pub(crate) struct Judging<'a> {
+pub(crate) struct Judgement<'a> {
     pub(crate) subject: Subject<'a>,
     pub(crate) file: &'a str,
     pub(crate) documents: Vec<DocumentFile<'a>>,
@@ -174,7 +174,7 @@ fn check_in<'a>(alloc: Global, found: &ArgMatches<'a>) -> Result<Task<'a>, Misus
         return Err(Misuse::OtherForm);
     };
     let documents = documents_in(alloc, found)?;
-    Ok(Task::Judge(Judging {
+    Ok(Task::Judge(Judgement {
         subject: Subject::Instance(format, entry),
         file,
         documents,
@@ -193,7 +193,7 @@ fn suite_in<'a>(alloc: Global, found: &ArgMatches<'a>) -> Result<Task<'a>, Misus
         return Err(Misuse::OtherForm);
     };
     let documents = documents_in(alloc, found)?;
-    Ok(Task::Judge(Judging {
+    Ok(Task::Judge(Judgement {
         subject: Subject::Suite,
         file,
         documents,

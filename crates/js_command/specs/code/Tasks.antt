@@ -6,7 +6,7 @@ use Rattle.js_output.specs.declared.fault.Fault.{Fault}
 use Rattle.js_output.specs.declared.fault.Fault.TheVariants as fault
 use Rattle.js_command.specs.Words.{DocumentPairs, Request, pair, check, suite, places}
 use Rattle.js_command.specs.declared.words.DocumentFile.{DocumentFile}
-use Rattle.js_command.specs.declared.words.Judging.{Judging}
+use Rattle.js_command.specs.declared.words.Judgement.{Judgement}
 use Rattle.js_command.specs.declared.words.Misuse.{Misuse}
 use Rattle.js_command.specs.declared.words.Misuse.TheVariants as misuse
 use Rattle.js_command.specs.declared.words.Subject.{Subject}
@@ -21,7 +21,7 @@ abbrev pub request_by : Subject → Text → DocumentPairs → Request
 request_by (subject.Instance format entry) file pairs = check format file entry.now pairs
 request_by subject.Suite file pairs = suite file pairs
 
-abbrev pub judging_seen : Judging → Request
+abbrev pub judging_seen : Judgement → Request
 judging_seen j = request_by j.subject j.file.now (pairs_seen j.documents.items)
 
 abbrev pub request_seen : Task → Request
