@@ -17,12 +17,17 @@ def changed_texts(file, folder):
     return texts or None
 
 
+def verdict(printed):
+    """The last line of `rt check` itself: behind it, rt may say what to do next."""
+    return next((it for it in reversed(printed.split("\n")) if it and not it.startswith("rt: ")), "")
+
+
 def reason(printed, changed):
     """Why the prover refuses the crate: the first line that isn't about a name alone. None if it doesn't refuse it, or
     if it can't read an edited text or one that isn't a proof."""
-    lines = printed.rstrip("\n").split("\n")
-    if not lines[-1].startswith("logic=not-proved"):
+    if not verdict(printed).startswith("logic=not-proved"):
         return None
+    lines = printed.split("\n")
     located = [(found[1], it) for it in lines if (found := LOCATED.match(it))]
     if any(": error" in it and (path in changed or not path.startswith("proofs/")) for path, it in located):
         return None
@@ -58,7 +63,7 @@ class Kept:
     def refused(self, files):
         """Of these edits, each that the prover refuses for a contract, and why, as soon as it is known. None are where
         the crate isn't proved without edits."""
-        if not self.kept.is_dir() or not self.check({}).rstrip("\n").rpartition("\n")[2].startswith("logic=proved"):
+        if not self.kept.is_dir() or not verdict(self.check({})).startswith("logic=proved"):
             return
         for file in files:
             texts = changed_texts(file, self.folder)

@@ -118,7 +118,7 @@ def of_wrong_bodies(room):
         yield Check(f"{script} --quick, an rt that {name}", [script, "--quick"], says, homes[0], env)
     yield Check(f"{script} --quick, a crate that isn't proved", [script, "--quick"], "isn't proved without them",
                 homes[1], {"RT": room.executable("rt/refuses each", FAKE_RT % REFUSES)})
-    refuses, ends = "note: src/ends.rt:2:1: it is not proved", r"\nlogic=not-proved\n"
+    refuses, ends = "note: src/ends.rt:2:1: it is not proved", r"\nlogic=not-proved\nrt: what to do next\n"
     for name, says, printed in (("proves all", "NOT REFUSED", "logic=proved functions=2"),
                                 ("refuses each", "", refuses + ends),
                                 ("refuses answers", "", "./proofs/ends/Answers.antt:1:1: error: another type" + ends),
