@@ -119,8 +119,8 @@ impl Schemas {
         keyword: Option<&str>,
     ) -> Result<String, Memory>
         requires { is_place self.now place ≡ true }
-        ensures { IfOk result (λ t. option_map (λ s. absolute_location s (tokens_of keyword.entry)) (place_at self.now place)
-            ≡ Some (string_bytes t)) }
+        ensures { IfOk result (λ t. option_map (λ s. absolute_location s (tokens_of keyword.entry))
+            (place_at self.now place) ≡ Some (string_bytes t)) }
     {
         let site = self.kept_site(place);
         absolute_location(alloc, &site.own, &site.pointer, keyword)

@@ -32,8 +32,8 @@ pub(crate) enum Prepared<'a> {
 }
 
 impl<'a> Prepared<'a> {
-    /// Judges the instance at the place. For basic no rows are made of nodes of which it shows nothing, and for detailed
-    /// and merged only those of the nodes that condensing keeps. What is shown may borrow from the arena.
+    /// Judges the instance at the place. For basic no rows are made of nodes of which it shows nothing, and for
+    /// detailed and merged only those of the nodes that condensing keeps. What is shown may borrow from the arena.
     pub(crate) fn new(
         alloc: Global,
         arena: &'a Bump,

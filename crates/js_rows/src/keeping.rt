@@ -6,8 +6,9 @@ ghost use Rattle.js_tree.specs.Result.{ResultTree, kept, pruned};
 ghost use Rattle.js_rows.specs.Marks.{AreMarksOf};
 ghost use Rattle.js_rows.specs.Relative.{escaped_unit, placed_unit};
 ghost use Rattle.js_rows.specs.RelativeState.{AreRowsOf, AreWhole, part, relative_row};
-ghost use Rattle.js_rows.specs.code.KeptBetween.{AreLonger, AreMarksOfTrees, AreSame, IsEnd, IsMarked, IsPending, KeepsTree};
-ghost use Rattle.js_rows.specs.code.KeptBetween.{KeepsTrees, StaysPending, left_below, left_of_tree, over_what_is_left};
+ghost use Rattle.js_rows.specs.code.KeptBetween.{AreLonger, AreMarksOfTrees, AreSame, IsEnd, IsMarked, IsPending};
+ghost use Rattle.js_rows.specs.code.KeptBetween.{KeepsTree, KeepsTrees, StaysPending, left_below, left_of_tree};
+ghost use Rattle.js_rows.specs.code.KeptBetween.{over_what_is_left};
 
 use crate::marks::{Left, RelativeMarks};
 use crate::rows::{RelativeRow, RelativeRows, behind};

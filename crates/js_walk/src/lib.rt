@@ -1,5 +1,5 @@
-//! The walk that makes a result of JSON Schema (JSON Schema Core 2020-12), and the definitions of that result: what each
-//! keyword applies, verdicts, evaluated parts, notes, and the result tree.
+//! The walk that makes a result of JSON Schema (JSON Schema Core 2020-12), and the definitions of that result: what
+//! each keyword applies, verdicts, evaluated parts, notes, and the result tree.
 //!
 //! A *place* is a schema's position in the finished documents of `js_bundle`. An *application* is a subschema that a
 //! keyword applies to a value; a keyword *asks for* its applications one after another. A *walk* evaluates a value

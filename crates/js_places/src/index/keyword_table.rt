@@ -54,7 +54,8 @@ impl KeywordTable {
 
     /// Adds the next place.
     pub fn add_names(&mut self, site: &Site<'_>) -> Result<(), Memory>
-        ensures names { OnOk result (self.new.names.items ≡ self.old.names.items ++ member_keywords (site_of site.now)) }
+        ensures names { OnOk result (self.new.names.items
+            ≡ self.old.names.items ++ member_keywords (site_of site.now)) }
         ensures ends { OnOk result (self.new.ends.items ≡ self.old.ends.items ++ length self.new.names.items ∷ []) }
     {
         push_names(&mut self.names, site)?;
