@@ -46,14 +46,21 @@ pub fn edges_in(alloc: Global, documents: &[Document]) -> Result<Vec<Edges>, Mem
     Ok(edges)
 }
 
+// The place comes before those that it holds, and what it holds is known after them.
 #[cycle(edges)]
 fn link_schema(edges: &mut Vec<Edges>, schema: &Doc) -> Result<(), Memory>
     ensures { OnOk result (map edges_of edges.new.items ≡ map edges_of edges.old.items
         ++ edges_at (length edges.old.items) (value_of schema.now)) }
 {
+    let number = edges.len();
+    push_none(edges)?;
     match schema {
-        Doc::Members(members) => link_keywords(edges, members),
-        _ => push_none(edges),
+        Doc::Members(members) => {
+            let keywords = keywords_of(edges, members)?;
+            set_keywords(edges, number, keywords);
+            Ok(())
+        }
+        _ => Ok(()),
     }
 }
 
@@ -63,19 +70,6 @@ fn push_none(edges: &mut Vec<Edges>) -> Result<(), Memory>
 {
     let keywords = Vec::new(*edges.allocator());
     edges.push(Edges { keywords })?;
-    Ok(())
-}
-
-// The place comes before those that it holds, and what it holds is known after them.
-#[cycle(edges)]
-fn link_keywords(edges: &mut Vec<Edges>, members: &Members) -> Result<(), Memory>
-    ensures { OnOk result (map edges_of edges.new.items ≡ map edges_of edges.old.items
-        ++ edges_at (length edges.old.items) (spec.object (spec.members members.now))) }
-{
-    let number = edges.len();
-    push_none(edges)?;
-    let keywords = keywords_of(edges, members)?;
-    set_keywords(edges, number, keywords);
     Ok(())
 }
 
