@@ -121,7 +121,7 @@ pub fn push_fragment_token(out: &mut String, token: &str) -> Result<(), Memory>
     push_after_slash(out, Representation::Fragment, token)
 }
 
-// Puts a `/` and the token at the end, or nothing.
+// Puts a `/` and the token at the end, or nothing. It is inlined, so that no caller asks which form it is.
 #[inline(always)]
 fn push_after_slash(out: &mut String, form: Representation, token: &str) -> Result<(), Memory>
     ensures ok { OnOk result (string_bytes out.new ≡ string_bytes out.old ++ 47 ∷ written form token.now) }
@@ -136,6 +136,7 @@ fn push_after_slash(out: &mut String, form: Representation, token: &str) -> Resu
     pushed
 }
 
+#[inline(always)]
 fn push_written(out: &mut String, form: Representation, token: &str) -> Result<(), Memory>
     ensures ok { OnOk result (string_bytes out.new ≡ string_bytes out.old ++ written form token.now) }
     ensures grows { Extends (string_bytes out.old) (string_bytes out.new) }

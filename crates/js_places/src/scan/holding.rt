@@ -17,7 +17,7 @@ pub enum Holding {
 }
 
 /// What the members of an object are.
-#[derive(Clone, Copy, Drop)]
+#[derive(Clone, Copy)]
 pub(crate) enum Role {
     /// The keywords of a schema.
     Keywords,
