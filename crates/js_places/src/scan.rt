@@ -42,7 +42,8 @@ fn add_site<'a>(
     schema: &'a Doc,
 ) -> Result<Arc<Scope>, Memory>
     ensures added { OnOk result (map site_of out.new.items ≡ map site_of out.old.items
-        ++ site_scanned at.entry.document at.entry.above.now.value at.entry.pointer.now.value (value_of schema.now) ∷ []) }
+        ++ site_scanned at.entry.document at.entry.above.now.value at.entry.pointer.now.value
+        (value_of schema.now) ∷ []) }
     ensures below { IfOk result (λ s. s.value
         ≡ handed_down at.entry.above.now.value at.entry.pointer.now.value (value_of schema.now)) }
 {
