@@ -2,3 +2,4 @@
 pub mod Extends
 pub mod Kinds
 pub mod Places
+pub mod Representation

@@ -38,7 +38,7 @@ pub fn text_is_parsed_back(alloc: Global, pointer: &Pointer) -> Result<Pointer, 
     ensures same { IfOk result (λ p. p ≡ pointer.now) }
     ensures memory { result ≢ Err BadPointer }
 {
-    let text = pointer.text(alloc)?;
+    let text = pointer.text(alloc).map_err(|_| PointerFault::Memory)?;
     Pointer::parse(alloc, text.as_str())
 }
 
@@ -50,6 +50,6 @@ pub fn fragment_is_read_back(alloc: Global, pointer: &Pointer) -> Result<Pointer
     ensures same { IfOk result (λ p. p ≡ pointer.now) }
     ensures memory { result ≢ Err BadPointer }
 {
-    let fragment = pointer.fragment(alloc)?;
+    let fragment = pointer.fragment(alloc).map_err(|_| PointerFault::Memory)?;
     Pointer::from_fragment(alloc, fragment.as_str())
 }

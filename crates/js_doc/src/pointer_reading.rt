@@ -1,5 +1,5 @@
 //! From a pointer's text to the pointer (RFC 6901, sections 3 and 4).
-ghost use Rattle.std.specs.Prelude.{◌≡◌, Err, Some, None, IfOk};
+ghost use Rattle.std.specs.Prelude.{◌≡◌, Err, IfOk};
 ghost use Rattle.js_doc.specs.Pointer.{Tokens, pointer_text};
 ghost use Rattle.js_doc.specs.PointerReading.{pointer_of};
 ghost use Rattle.js_doc.specs.declared.pointer_reading.PointerFault.TheVariants.{BadPointer};
@@ -7,7 +7,7 @@ ghost use Rattle.js_doc.specs.declared.pointer_reading.PointerFault.TheVariants.
 use crate::memory::Memory;
 use crate::pointer::Pointer;
 use crate::string::Text;
-use std::alloc::{AllocError, Global};
+use std::alloc::Global;
 
 /// Why a text isn't read as a pointer.
 #[derive(Debug, PartialEq, Eq, Drop)]
@@ -17,26 +17,6 @@ pub enum PointerFault {
     /// 2: no pointer has this text: it neither is empty nor begins with `/`, or a `~` stands without a `0` or a
     /// `1` after it. Of a fragment also: what it decodes to isn't UTF-8.
     BadPointer,
-}
-
-impl From<AllocError> for PointerFault {
-    ghost use Rattle.js_doc.specs.declared.pointer_reading.PointerFault.TheVariants.{Memory};
-
-    ghost from_gives = { λ _ e. e ≡ Memory };
-
-    fn from(_refused: AllocError) -> PointerFault {
-        PointerFault::Memory
-    }
-}
-
-impl From<Memory> for PointerFault {
-    ghost use Rattle.js_doc.specs.declared.pointer_reading.PointerFault.TheVariants.{Memory};
-
-    ghost from_gives = { λ _ e. e ≡ Memory };
-
-    fn from(_refused: Memory) -> PointerFault {
-        PointerFault::Memory
-    }
 }
 
 impl Pointer {
@@ -49,21 +29,25 @@ impl Pointer {
         ensures bad { result ≡ Err BadPointer → (p : Tokens) → ¬ (pointer_text p ≡ text.now) }
         ensures back { (p : Tokens) → pointer_text p ≡ text.now → IfOk result (λ q. q ≡ p) }
     {
-        read_tokens(alloc, text)
+        match read_tokens(alloc, text) {
+            Ok(Some(pointer)) => Ok(pointer),
+            Ok(None) => Err(PointerFault::BadPointer),
+            Err(Memory) => Err(PointerFault::Memory),
+        }
     }
 }
 
-fn read_tokens(alloc: Global, text: &str) -> Result<Pointer, PointerFault>
-    ensures ok { IfOk result (λ p. pointer_of text.now ≡ Some p) }
-    ensures bad { result ≡ Err BadPointer → pointer_of text.now ≡ None }
+// The pointer that has this text, if there is one.
+fn read_tokens(alloc: Global, text: &str) -> Result<Option<Pointer>, Memory>
+    ensures { IfOk result (λ p. pointer_of text.now ≡ p) }
 {
     let mut pointer = Pointer::new(alloc);
     let mut rest = text.chars();
     let Some(first) = rest.next() else {
-        return Ok(pointer);
+        return Ok(Some(pointer));
     };
     if first != '/' {
-        return Err(PointerFault::BadPointer);
+        return Ok(None);
     }
     let mut token = String::new(alloc);
     let mut tilde = false;
@@ -73,7 +57,7 @@ fn read_tokens(alloc: Global, text: &str) -> Result<Pointer, PointerFault>
             match c {
                 '0' => token.push('~')?,
                 '1' => token.push('/')?,
-                _ => return Err(PointerFault::BadPointer),
+                _ => return Ok(None),
             }
         } else {
             match c {
@@ -87,8 +71,8 @@ fn read_tokens(alloc: Global, text: &str) -> Result<Pointer, PointerFault>
         }
     }
     if tilde {
-        return Err(PointerFault::BadPointer);
+        return Ok(None);
     }
     pointer.push_text(Text::new(token))?;
-    Ok(pointer)
+    Ok(Some(pointer))
 }

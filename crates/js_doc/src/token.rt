@@ -5,6 +5,7 @@ ghost use Rattle.js_doc.specs.Escapes.{stands};
 ghost use Rattle.js_doc.specs.Pointer.{escape, token_text};
 ghost use Rattle.js_doc.specs.Fragment.{fragment_byte, fragment_token};
 ghost use Rattle.js_doc.specs.code.Extends.{Extends};
+ghost use Rattle.js_doc.specs.code.Representation.{written};
 ghost use Rattle.js_doc.specs.Plain.{is_kept, is_plain};
 
 use crate::fragment::ESCAPED;
@@ -87,6 +88,15 @@ impl Eq for Token {
     ghost laws = { nat_list_eq_equiv };
 }
 
+// How a token is written (RFC 6901, sections 5 and 6).
+#[derive(Clone, Copy)]
+enum Representation {
+    // As in a pointer's text.
+    Plain,
+    // As in a URI's fragment.
+    Fragment,
+}
+
 /// Puts a `/` and the token at the end of a pointer's text, with `~` written `~0` and `/` written `~1` (RFC 6901,
 /// section 3).
 ///
@@ -96,13 +106,7 @@ pub fn push_token(out: &mut String, token: &str) -> Result<(), Memory>
     ensures ok { OnOk result (string_bytes out.new ≡ string_bytes out.old ++ token_text token.now) }
     ensures stays { OnErr result (string_bytes out.new ≡ string_bytes out.old) }
 {
-    let len = out.len();
-    out.push('/')?;
-    let pushed = push_escaped(out, token);
-    if pushed.is_err() {
-        out.truncate(len);
-    }
-    pushed
+    push_after_slash(out, Representation::Plain, token)
 }
 
 /// The same in a fragment of a URI: each byte of it but ASCII letters, digits and ``-._~!$&'()*+,;=:@/?`` is a `%`
@@ -114,13 +118,33 @@ pub fn push_fragment_token(out: &mut String, token: &str) -> Result<(), Memory>
     ensures ok { OnOk result (string_bytes out.new ≡ string_bytes out.old ++ fragment_token token.now) }
     ensures stays { OnErr result (string_bytes out.new ≡ string_bytes out.old) }
 {
+    push_after_slash(out, Representation::Fragment, token)
+}
+
+// Puts a `/` and the token at the end, or nothing. It is inlined, so that no caller asks which form it is.
+#[inline(always)]
+fn push_after_slash(out: &mut String, form: Representation, token: &str) -> Result<(), Memory>
+    ensures ok { OnOk result (string_bytes out.new ≡ string_bytes out.old ++ 47 ∷ written form token.now) }
+    ensures stays { OnErr result (string_bytes out.new ≡ string_bytes out.old) }
+{
     let len = out.len();
     out.push('/')?;
-    let pushed = push_pieces(out, token);
+    let pushed = push_written(out, form, token);
     if pushed.is_err() {
         out.truncate(len);
     }
     pushed
+}
+
+#[inline(always)]
+fn push_written(out: &mut String, form: Representation, token: &str) -> Result<(), Memory>
+    ensures ok { OnOk result (string_bytes out.new ≡ string_bytes out.old ++ written form token.now) }
+    ensures grows { Extends (string_bytes out.old) (string_bytes out.new) }
+{
+    match form {
+        Representation::Plain => push_escaped(out, token),
+        Representation::Fragment => push_pieces(out, token),
+    }
 }
 
 // The token's escapes in a pointer, each in turn percent-encoded. What stood there stays at the front.

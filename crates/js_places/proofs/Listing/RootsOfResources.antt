@@ -16,7 +16,8 @@ use Rattle.js_places.specs.PlaceLaws.{AreDistinct, Differ}
 use Rattle.js_places.specs.Resource.{Site, site, sites, identified_by, root_scope, scope_or}
 use Rattle.js_places.specs.ResourceNumber.{begins_resource, roots}
 use Rattle.js_places.specs.ResourceTable.{AreRooted, StandApart}
-use Rattle.js_places.specs.code.Scan.{handed_down, own_scope, site_scanned, sites_held, sites_at, sites_of_keywords, sites_in_list, sites_of_items, sites_in_object, sites_of_members, sites_from}
+use Rattle.js_places.specs.declared.scan.holding.Role.TheVariants.{Keywords, Schemas}
+use Rattle.js_places.specs.code.Scan.{handed_down, own_scope, site_scanned, sites_held, sites_at, sites_in_list, sites_of_items, sites_in_object, sites_of_members, sites_from}
 use Rattle.js_places.specs.Seen.{AreRead}
 use Rattle.js_places.proofs.Listing.PlacesApart.{all_as}
 use Rattle.js_places.proofs.Listing.EachListedOnce.{tokens-refl, at_place, all_distinct}
@@ -116,13 +117,13 @@ module _ (d : ℕ) where
     all_rooted (whole z) above p = under d above p (whole z) [] tt
     all_rooted (text s) above p = under d above p (text s) [] tt
     all_rooted (list vs) above p = under d above p (list vs) [] tt
-    all_rooted (object ms) above p = under d above p (object ms) (sites_of_keywords d (handed_down above p (object ms)) p ms) (keywords_rooted ms (handed_down above p (object ms)) p)
+    all_rooted (object ms) above p = under d above p (object ms) (sites_of_members Keywords d (handed_down above p (object ms)) p ms) (keywords_rooted ms (handed_down above p (object ms)) p)
 
-    keywords_rooted : (ms : Members) (above : Scope) (p : Tokens) → AreAll d above.resource (sites_of_keywords d above p ms)
+    keywords_rooted : (ms : Members) (above : Scope) (p : Tokens) → AreAll d above.resource (sites_of_members Keywords d above p ms)
     keywords_rooted no_members above p = tt
     keywords_rooted (member k v ms) above p =
         let q = p ++ k ∷ [] in
-        both d above.resource (sites_held (holding k) (sites_at d above q v) (sites_in_list d above q v) (sites_in_object d above q v)) (sites_of_keywords d above p ms)
+        both d above.resource (sites_held (holding k) (sites_at d above q v) (sites_in_list d above q v) (sites_in_object d above q v)) (sites_of_members Keywords d above p ms)
         (held d above.resource (holding k) (sites_at d above q v) (sites_in_list d above q v) (sites_in_object d above q v) (all_rooted v above q) (list_rooted v above q) (object_rooted v above q))
         (keywords_rooted ms above p)
 
@@ -139,10 +140,10 @@ module _ (d : ℕ) where
     object_rooted (object ms) above p = members_rooted ms above p
     object_rooted _ above p = tt
 
-    members_rooted : (ms : Members) (above : Scope) (p : Tokens) → AreAll d above.resource (sites_of_members d above p ms)
+    members_rooted : (ms : Members) (above : Scope) (p : Tokens) → AreAll d above.resource (sites_of_members Schemas d above p ms)
     members_rooted no_members above p = tt
     members_rooted (member n v ms) above p =
-        both d above.resource (sites_at d above (p ++ n ∷ []) v) (sites_of_members d above p ms) (all_rooted v above (p ++ n ∷ [])) (members_rooted ms above p)
+        both d above.resource (sites_at d above (p ++ n ∷ []) v) (sites_of_members Schemas d above p ms) (all_rooted v above (p ++ n ∷ [])) (members_rooted ms above p)
 
 -- ---- over all documents
 
@@ -159,7 +160,7 @@ has_root d uri (truth b) = document_root d uri (truth b) []
 has_root d uri (whole z) = document_root d uri (whole z) []
 has_root d uri (text s) = document_root d uri (text s) []
 has_root d uri (list vs) = document_root d uri (list vs) []
-has_root d uri (object ms) = document_root d uri (object ms) (sites_of_keywords d (handed_down (root_scope uri) [] (object ms)) [] ms)
+has_root d uri (object ms) = document_root d uri (object ms) (sites_of_members Keywords d (handed_down (root_scope uri) [] (object ms)) [] ms)
 
 abbrev IsRootedIn : List Site → Site → Type 0
 IsRootedIn xs x = HasRoot x.document x.own.resource xs

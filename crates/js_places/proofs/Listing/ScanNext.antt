@@ -5,8 +5,7 @@ use Rattle.js_doc.specs.Pointer.{Tokens}
 use Rattle.js_doc.specs.Value.{Value, items, Members, member}
 use Rattle.js_doc.specs.Seen.{value_of}
 use Rattle.js_doc.specs.declared.doc.Doc.{Doc}
-use Rattle.js_places.specs.declared.scan.holding.Holding.{Holding}
-use Rattle.js_places.specs.declared.scan.holding.Holding.TheVariants.{Nothing}
+use Rattle.js_places.specs.declared.scan.holding.Role.{Role}
 use Rattle.js_places.specs.declared.scan.scope.Scope.{Scope}
 use Rattle.std.specs.List.{take-map}
 use Rattle.js_places.specs.declared.document.Document as rust
@@ -15,8 +14,7 @@ use Rattle.js_places.specs.Keyword.{Text}
 use Rattle.js_places.specs.Resource.{Site, root_scope}
 use Rattle.js_places.specs.Seen.{document_of}
 use Rattle.js_places.proofs.Listing.Scanned.{kept_from}
-use Rattle.js_places.specs.Place.{holding}
-use Rattle.js_places.specs.code.Scan.{SameFront, most_sites, sites_held, sites_at, sites_of_keyword, sites_of_keywords, sites_in_list, sites_in_object, sites_of_items, sites_of_members, sites_from, site_of, scanned}
+use Rattle.js_places.specs.code.Scan.{SameFront, most_sites, sites_at, sites_of_items, sites_of_member, sites_of_members, sites_from, site_of, scanned}
 
 take_append : {A : Type 0} (n : ℕ) (xs zs ys : List A) → take n xs ≡ take n zs → take n (xs ++ ys) ≡ take n (zs ++ ys)
 take_append zero xs zs ys e = refl
@@ -39,9 +37,6 @@ front_append xs zs ys h = record { front = take_append most_sites xs zs ys h.fro
 pub front_trans : (xs ys zs : List Site) → SameFront xs ys → SameFront ys zs → SameFront xs zs
 front_trans xs ys zs h g = record { front = h.front ∙ g.front }
 
-pub front_same : (xs ys : List Site) → xs ≡ ys → SameFront xs ys
-front_same xs ys e = record { front = ap (take most_sites) e }
-
 -- nothing more is listed
 pub front_full : (xs ys : List Site) → most_sites ≤ length xs → SameFront xs (xs ++ ys)
 front_full xs ys h = record { front = take_full most_sites xs ys h }
@@ -51,31 +46,11 @@ pub front_next : (old new piece rest whole : List Site) → SameFront new (old +
 front_next old new piece rest whole h g =
     front_trans (new ++ rest) ((old ++ piece) ++ rest) whole (front_append new (old ++ piece) rest h) (subst (λ x. SameFront x whole) (sym (append_assoc old piece rest)) g)
 
--- a site, and what its keywords hold
-pub site_then : (old mid new : List Site) (s : Site) (rest : List Site) → mid ≡ old ++ s ∷ [] → SameFront new (mid ++ rest) → SameFront new (old ++ s ∷ rest)
-site_then old mid new s rest e h = subst (λ x. SameFront new x) (ap (λ m. m ++ rest) e ∙ append_assoc old (s ∷ []) rest) h
-
--- what a keyword holds, under its pointer
-pub keyword_held : (d : ℕ) (a : Scope) (p : Tokens) (k : Text) (u : Value) (h : Holding) (at : Tokens) (old new : List Site) → h ≡ holding k → at ≡ p ++ k ∷ []
-    → SameFront new (old ++ sites_held h (sites_at d a at u) (sites_in_list d a at u) (sites_in_object d a at u)) → SameFront new (old ++ sites_of_keyword d a p k u)
-keyword_held d a p k u h at old new eh ea n =
-    let piece = λ (g : Holding) (q : Tokens). sites_held g (sites_at d a q u) (sites_in_list d a q u) (sites_in_object d a q u) in
-    subst (λ x. SameFront new (old ++ x)) (ap (λ g. piece g at) eh ∙ ap (piece (holding k)) ea) n
-
-pub nothing_held : (d : ℕ) (a : Scope) (p : Tokens) (k : Text) (u : Value) (old : List Site) → Nothing ≡ holding k → SameFront old (old ++ sites_of_keyword d a p k u)
-nothing_held d a p k u old e = keyword_held d a p k u Nothing (p ++ k ∷ []) old old e refl (front_same old (old ++ []) (sym (append-nil old)))
-
-pub keyword_next : (d : ℕ) (a : Scope) (p : Tokens) (k l : Text) (u : Value) (ms : Members) (old new whole : List Site) → l ≡ k
-    → SameFront new (old ++ sites_of_keyword d a p l u)
-    → SameFront (old ++ sites_of_keywords d a p (member k u ms)) whole → SameFront (new ++ sites_of_keywords d a p ms) whole
-keyword_next d a p k l u ms old new whole e n w =
-    front_next old new (sites_of_keyword d a p k u) (sites_of_keywords d a p ms) whole (subst (λ m. SameFront new (old ++ sites_of_keyword d a p m u)) e n) w
-
-pub member_next : (d : ℕ) (a : Scope) (p : Tokens) (k : Text) (u : Value) (ms : Members) (at : Tokens) (old new whole : List Site)
-    → at ≡ p ++ k ∷ [] → SameFront new (old ++ sites_at d a at u)
-    → SameFront (old ++ sites_of_members d a p (member k u ms)) whole → SameFront (new ++ sites_of_members d a p ms) whole
-member_next d a p k u ms at old new whole ea n w =
-    front_next old new (sites_at d a (p ++ k ∷ []) u) (sites_of_members d a p ms) whole (subst (λ q. SameFront new (old ++ sites_at d a q u)) ea n) w
+pub member_next : (r : Role) (d : ℕ) (a : Scope) (p : Tokens) (k l : Text) (u : Value) (ms : Members) (old new whole : List Site) → l ≡ k
+    → SameFront new (old ++ sites_of_member r d a p l u)
+    → SameFront (old ++ sites_of_members r d a p (member k u ms)) whole → SameFront (new ++ sites_of_members r d a p ms) whole
+member_next r d a p k l u ms old new whole e n w =
+    front_next old new (sites_of_member r d a p k u) (sites_of_members r d a p ms) whole (subst (λ m. SameFront new (old ++ sites_of_member r d a p m u)) e n) w
 
 pub item_next : (d : ℕ) (a : Scope) (p : Tokens) (ds : List Doc) (i : ℕ) (x : Doc) (at : Tokens) (old new whole : List Site)
     → i < length ds → x ≡ get_or ds i x → at ≡ p ++ decimal i ∷ [] → SameFront new (old ++ sites_at d a at (value_of x))

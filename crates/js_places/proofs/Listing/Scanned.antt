@@ -11,7 +11,8 @@ use Rattle.js_places.specs.declared.scan.scope.Scope.{Scope}
 use Rattle.js_places.specs.Document.{Documents}
 use Rattle.js_places.specs.Place.{Located, SchemaPlace, holding, places_held, places_at, places_of_keywords, places_in_list, places_of_items, places_in_object, places_of_members, places_from}
 use Rattle.js_places.specs.Resource.{Site, site, scope_below, root_scope}
-use Rattle.js_places.specs.code.Scan.{site_scanned, sites_held, sites_at, sites_of_keywords, sites_in_list, sites_of_items, sites_in_object, sites_of_members, sites_from}
+use Rattle.js_places.specs.declared.scan.holding.Role.TheVariants.{Keywords, Schemas}
+use Rattle.js_places.specs.code.Scan.{site_scanned, sites_held, sites_at, sites_in_list, sites_of_items, sites_in_object, sites_of_members, sites_from}
 
 fold_last : {A B : Type 0} (f : B → A → B) (b : B) (xs : List A) (x : A) → fold f b (xs ++ x ∷ []) ≡ f (fold f b xs) x
 fold_last f b [] x = refl
@@ -39,14 +40,14 @@ module _ (d : ℕ) (uri : Parts) where
     kept_at (list vs) above p = refl
     kept_at (object ms) above p =
         ap (λ r. site_scanned d (scope above) p (object ms) ∷ r)
-        (ap (λ a. sites_of_keywords d a p ms) (sym (fold_last scope_below (root_scope uri) above (record { pointer = p; schema = object ms }))) ∙ kept_keywords ms (above ++ record { pointer = p; schema = object ms } ∷ []) p)
+        (ap (λ a. sites_of_members Keywords d a p ms) (sym (fold_last scope_below (root_scope uri) above (record { pointer = p; schema = object ms }))) ∙ kept_keywords ms (above ++ record { pointer = p; schema = object ms } ∷ []) p)
 
-    kept_keywords : (ms : Members) (above : List Located) (p : Tokens) → sites_of_keywords d (scope above) p ms ≡ map site (places_of_keywords d uri above p ms)
+    kept_keywords : (ms : Members) (above : List Located) (p : Tokens) → sites_of_members Keywords d (scope above) p ms ≡ map site (places_of_keywords d uri above p ms)
     kept_keywords no_members above p = refl
     kept_keywords (member k v ms) above p =
         let q = p ++ k ∷ [] in
         both
-        (sites_held (holding k) (sites_at d (scope above) q v) (sites_in_list d (scope above) q v) (sites_in_object d (scope above) q v)) (sites_of_keywords d (scope above) p ms)
+        (sites_held (holding k) (sites_at d (scope above) q v) (sites_in_list d (scope above) q v) (sites_in_object d (scope above) q v)) (sites_of_members Keywords d (scope above) p ms)
         (places_held (holding k) (places_at d uri above q v) (places_in_list d uri above q v) (places_in_object d uri above q v)) (places_of_keywords d uri above p ms)
         (held-map (holding k) _ _ _ _ _ _ (kept_at v above q) (kept_list v above q) (kept_object v above q)) (kept_keywords ms above p)
 
@@ -62,7 +63,7 @@ module _ (d : ℕ) (uri : Parts) where
     kept_object (object ms) above p = kept_members ms above p
     kept_object _ above p = refl
 
-    kept_members : (ms : Members) (above : List Located) (p : Tokens) → sites_of_members d (scope above) p ms ≡ map site (places_of_members d uri above p ms)
+    kept_members : (ms : Members) (above : List Located) (p : Tokens) → sites_of_members Schemas d (scope above) p ms ≡ map site (places_of_members d uri above p ms)
     kept_members no_members above p = refl
     kept_members (member n v ms) above p = both _ _ _ _ (kept_at v above (p ++ n ∷ [])) (kept_members ms above p)
 

@@ -6,6 +6,8 @@ use Rattle.js_doc.specs.Seen.{value_of}
 use Rattle.js_doc.specs.Value.{Value, list, object, Items, no_items, item, Members, no_members, member}
 use Rattle.js_places.specs.declared.scan.holding.Holding.{Holding}
 use Rattle.js_places.specs.declared.scan.holding.Holding.TheVariants.{One, Listed, Named, Nothing}
+use Rattle.js_places.specs.declared.scan.holding.Role.{Role}
+use Rattle.js_places.specs.declared.scan.holding.Role.TheVariants.{Keywords, Schemas}
 use Rattle.js_places.specs.declared.scan.scope.Scope.{Scope}
 use Rattle.js_places.specs.declared.scan.site.Site as rust
 use Rattle.js_places.specs.Document.{Documents}
@@ -27,6 +29,11 @@ own_scope above p v = record { resource = if has_argument (codes "$id") v then p
 abbrev pub site_scanned : ℕ → Scope → Tokens → Value → Site
 site_scanned d above p v = record { document = d; pointer = p; above = above; own = own_scope above p v; identifies = is_some (identified above.base v); schema = v }
 
+-- how a member holds schemas: by its name if it is a keyword
+abbrev pub holding_as : Role → Text → Holding
+holding_as Keywords name = holding name
+holding_as Schemas name = One
+
 abbrev pub sites_held : Holding → List Site → List Site → List Site → List Site
 sites_held One one listed named = one
 sites_held Listed one listed named = listed
@@ -35,14 +42,14 @@ sites_held Nothing one listed named = []
 
 abbrev mutual
   pub sites_at : ℕ → Scope → Tokens → Value → List Site
-  sites_at d above p (object ms) = site_scanned d above p (object ms) ∷ sites_of_keywords d (handed_down above p (object ms)) p ms
+  sites_at d above p (object ms) = site_scanned d above p (object ms) ∷ sites_of_members Keywords d (handed_down above p (object ms)) p ms
   sites_at d above p v = site_scanned d above p v ∷ []
 
-  pub sites_of_keywords : ℕ → Scope → Tokens → Members → List Site
-  sites_of_keywords d above p no_members = []
-  sites_of_keywords d above p (member k v ms) =
-      sites_held (holding k) (sites_at d above (p ++ k ∷ []) v) (sites_in_list d above (p ++ k ∷ []) v) (sites_in_object d above (p ++ k ∷ []) v)
-      ++ sites_of_keywords d above p ms
+  pub sites_of_members : Role → ℕ → Scope → Tokens → Members → List Site
+  sites_of_members r d above p no_members = []
+  sites_of_members r d above p (member k v ms) =
+      sites_held (holding_as r k) (sites_at d above (p ++ k ∷ []) v) (sites_in_list d above (p ++ k ∷ []) v) (sites_in_object d above (p ++ k ∷ []) v)
+      ++ sites_of_members r d above p ms
 
   pub sites_in_list : ℕ → Scope → Tokens → Value → List Site
   sites_in_list d above p (list vs) = sites_of_items d above p 0 vs
@@ -53,16 +60,12 @@ abbrev mutual
   sites_of_items d above p i (item v vs) = sites_at d above (p ++ decimal i ∷ []) v ++ sites_of_items d above p (suc i) vs
 
   pub sites_in_object : ℕ → Scope → Tokens → Value → List Site
-  sites_in_object d above p (object ms) = sites_of_members d above p ms
+  sites_in_object d above p (object ms) = sites_of_members Schemas d above p ms
   sites_in_object d above p _ = []
 
-  pub sites_of_members : ℕ → Scope → Tokens → Members → List Site
-  sites_of_members d above p no_members = []
-  sites_of_members d above p (member n v ms) = sites_at d above (p ++ n ∷ []) v ++ sites_of_members d above p ms
-
--- the sites of what one keyword holds
-abbrev pub sites_of_keyword : ℕ → Scope → Tokens → Text → Value → List Site
-sites_of_keyword d above p k v = sites_held (holding k) (sites_at d above (p ++ k ∷ []) v) (sites_in_list d above (p ++ k ∷ []) v) (sites_in_object d above (p ++ k ∷ []) v)
+-- the sites of what one member holds
+abbrev pub sites_of_member : Role → ℕ → Scope → Tokens → Text → Value → List Site
+sites_of_member r d above p k v = sites_held (holding_as r k) (sites_at d above (p ++ k ∷ []) v) (sites_in_list d above (p ++ k ∷ []) v) (sites_in_object d above (p ++ k ∷ []) v)
 
 abbrev pub sites_from : ℕ → Documents → List Site
 sites_from n [] = []

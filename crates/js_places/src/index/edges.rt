@@ -41,42 +41,35 @@ pub fn edges_in(alloc: Global, documents: &[Document]) -> Result<Vec<Edges>, Mem
 {
     let mut edges = Vec::new(alloc);
     for number in 0..documents.len() {
-        link_schema(alloc, &mut edges, &documents[number].root)?;
+        link_schema(&mut edges, &documents[number].root)?;
     }
     Ok(edges)
 }
 
+// The place comes before those that it holds, and what it holds is known after them.
 #[cycle(edges)]
-fn link_schema(alloc: Global, edges: &mut Vec<Edges>, schema: &Doc) -> Result<(), Memory>
+fn link_schema(edges: &mut Vec<Edges>, schema: &Doc) -> Result<(), Memory>
     ensures { OnOk result (map edges_of edges.new.items ≡ map edges_of edges.old.items
         ++ edges_at (length edges.old.items) (value_of schema.now)) }
 {
+    let number = edges.len();
+    push_none(edges)?;
     match schema {
-        Doc::Members(members) => link_keywords(alloc, edges, members),
-        _ => push_none(alloc, edges),
+        Doc::Members(members) => {
+            let keywords = keywords_of(edges, members)?;
+            set_keywords(edges, number, keywords);
+            Ok(())
+        }
+        _ => Ok(()),
     }
 }
 
 // A place of which no keyword is known to hold any.
-fn push_none(alloc: Global, edges: &mut Vec<Edges>) -> Result<(), Memory>
+fn push_none(edges: &mut Vec<Edges>) -> Result<(), Memory>
     ensures { OnOk result (map edges_of edges.new.items ≡ map edges_of edges.old.items ++ [] ∷ []) }
 {
-    edges.push(Edges {
-        keywords: Vec::new(alloc),
-    })?;
-    Ok(())
-}
-
-// The place comes before those that it holds, and what it holds is known after them.
-#[cycle(edges)]
-fn link_keywords(alloc: Global, edges: &mut Vec<Edges>, members: &Members) -> Result<(), Memory>
-    ensures { OnOk result (map edges_of edges.new.items ≡ map edges_of edges.old.items
-        ++ edges_at (length edges.old.items) (spec.object (spec.members members.now))) }
-{
-    let number = edges.len();
-    push_none(alloc, edges)?;
-    let keywords = keywords_of(alloc, edges, members)?;
-    set_keywords(edges, number, keywords);
+    let keywords = Vec::new(*edges.allocator());
+    edges.push(Edges { keywords })?;
     Ok(())
 }
 
@@ -91,26 +84,21 @@ fn set_keywords(edges: &mut Vec<Edges>, number: usize, keywords: Vec<HeldPlaces>
 }
 
 #[cycle(edges)]
-fn keywords_of(
-    alloc: Global,
-    edges: &mut Vec<Edges>,
-    members: &Members,
-) -> Result<Vec<HeldPlaces>, Memory>
+fn keywords_of(edges: &mut Vec<Edges>, members: &Members) -> Result<Vec<HeldPlaces>, Memory>
     ensures edges { OnOk result (map edges_of edges.new.items ≡ map edges_of edges.old.items
         ++ edges_of_keywords (length edges.old.items) (spec.members members.now)) }
     ensures held { IfOk result
         (λ v. map held_of v.items ≡ held_by_keywords (length edges.old.items) (spec.members members.now)) }
 {
-    let mut held = Vec::new(alloc);
+    let mut held = Vec::new(*edges.allocator());
     for (keyword, argument) in members.pairs() {
-        link_keyword(alloc, edges, &mut held, keyword.as_str(), argument)?;
+        link_keyword(edges, &mut held, keyword.as_str(), argument)?;
     }
     Ok(held)
 }
 
 #[cycle(edges)]
 fn link_keyword(
-    alloc: Global,
     edges: &mut Vec<Edges>,
     held: &mut Vec<HeldPlaces>,
     keyword: &str,
@@ -128,8 +116,8 @@ fn link_keyword(
     if matches!(holding, Holding::Nothing) {
         return Ok(());
     }
-    let mut places = Vec::new(alloc);
-    link_held(alloc, edges, &mut places, holding, argument)?;
+    let mut places = Vec::new(*edges.allocator());
+    link_held(edges, &mut places, holding, argument)?;
     held.push(HeldPlaces {
         keyword: KeywordName::of(keyword),
         places,
@@ -139,7 +127,6 @@ fn link_keyword(
 
 #[cycle(edges)]
 fn link_held(
-    alloc: Global,
     edges: &mut Vec<Edges>,
     places: &mut Vec<usize>,
     holding: Holding,
@@ -150,23 +137,16 @@ fn link_held(
     ensures places { OnOk result (places.new.items ≡ places.old.items
         ++ numbers_held holding (length edges.old.items) (value_of argument.now)) }
 {
-    match holding {
-        Holding::One => link_one(alloc, edges, places, argument),
-        Holding::Listed => match argument {
-            Doc::List(items) => link_items(alloc, edges, places, items.as_slice()),
-            _ => Ok(()),
-        },
-        Holding::Named => match argument {
-            Doc::Members(members) => link_members(alloc, edges, places, members),
-            _ => Ok(()),
-        },
-        Holding::Nothing => Ok(()),
+    match (holding, argument) {
+        (Holding::One, schema) => link_one(edges, places, schema),
+        (Holding::Listed, Doc::List(items)) => link_items(edges, places, items.as_slice()),
+        (Holding::Named, Doc::Members(members)) => link_members(edges, places, members),
+        _ => Ok(()),
     }
 }
 
 #[cycle(edges)]
 fn link_items(
-    alloc: Global,
     edges: &mut Vec<Edges>,
     places: &mut Vec<usize>,
     schemas: &[Doc],
@@ -177,14 +157,13 @@ fn link_items(
         ++ numbers_of_items (length edges.old.items) (spec.items (map value_of schemas.now))) }
 {
     for i in 0..schemas.len() {
-        link_one(alloc, edges, places, &schemas[i])?;
+        link_one(edges, places, &schemas[i])?;
     }
     Ok(())
 }
 
 #[cycle(edges)]
 fn link_members(
-    alloc: Global,
     edges: &mut Vec<Edges>,
     places: &mut Vec<usize>,
     members: &Members,
@@ -195,23 +174,18 @@ fn link_members(
         ++ numbers_of_members (length edges.old.items) (spec.members members.now)) }
 {
     for (_, schema) in members.pairs() {
-        link_one(alloc, edges, places, schema)?;
+        link_one(edges, places, schema)?;
     }
     Ok(())
 }
 
 // A schema is a place, with the next number.
 #[cycle(edges)]
-fn link_one(
-    alloc: Global,
-    edges: &mut Vec<Edges>,
-    places: &mut Vec<usize>,
-    schema: &Doc,
-) -> Result<(), Memory>
+fn link_one(edges: &mut Vec<Edges>, places: &mut Vec<usize>, schema: &Doc) -> Result<(), Memory>
     ensures edges { OnOk result (map edges_of edges.new.items ≡ map edges_of edges.old.items
         ++ edges_at (length edges.old.items) (value_of schema.now)) }
     ensures places { OnOk result (places.new.items ≡ places.old.items ++ length edges.old.items ∷ []) }
 {
     places.push(edges.len())?;
-    link_schema(alloc, edges, schema)
+    link_schema(edges, schema)
 }

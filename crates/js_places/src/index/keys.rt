@@ -5,8 +5,7 @@ ghost use Rattle.js_places.specs.code.TextPrefix.{BeginsKey, shared_with};
 ghost use Rattle.js_places.specs.code.Index.{place_key, name_key};
 ghost use Rattle.js_places.specs.code.Scan.{site_of};
 
-use crate::index::text_prefix::{Representation, TextPrefix, push_tokens, room_for};
-use crate::scan::site::Site;
+use crate::index::text_prefix::{Representation, Step, TextPrefix, push_tokens, room_for};
 use js_doc::{Memory, Pointer, push_token};
 use std::alloc::Global;
 
@@ -45,38 +44,29 @@ fn push_document(key: &mut String, document: usize) -> Result<(), Memory>
 }
 
 /// Makes the key of a place, and its prefix, from the prefix of the key before it.
-pub(crate) fn next_key(
-    alloc: Global,
-    prefix: &mut TextPrefix,
-    before: Option<&Site<'_>>,
-    site: &Site<'_>,
-    shared: usize,
-) -> Result<String, Memory>
-    requires before { MatchOption before (Unit {0}) (λ b. BeginsKey prefix.old (site_of b.now)) }
-    requires shared { shared ≡ shared_with (option_map (λ b. site_of b.now) before) (site_of site.now) }
-    ensures begins { OnOk result (BeginsKey prefix.new (site_of site.now)) }
-    ensures key { IfOk result (λ t. string_bytes t ≡ place_key site.now.document site.now.pointer.value) }
+pub(crate) fn next_key(prefix: &mut TextPrefix, step: Step<'_>) -> Result<String, Memory>
+    requires before { MatchOption step.before (Unit {0}) (λ b. BeginsKey prefix.old (site_of b.now)) }
+    requires shared { step.shared ≡ shared_with (option_map (λ b. site_of b.now) step.before) (site_of step.site.now) }
+    ensures begins { OnOk result (BeginsKey prefix.new (site_of step.entry.site.now)) }
+    ensures key { IfOk result (λ t. string_bytes t
+        ≡ place_key step.entry.site.now.document step.entry.site.now.pointer.value) }
 {
-    let tokens = site.pointer.tokens();
+    let tokens = step.site.pointer.tokens();
     let count = tokens.len().saturating_sub(1);
-    begin_key(prefix, before, site, shared.min(count))?;
-    prefix.extend(alloc, Representation::Plain, tokens, count)
+    begin_key(prefix, step, step.shared.min(count))?;
+    prefix.extend(step.alloc, Representation::Plain, tokens, count)
 }
 
 // Leaves the prefix as it is where it is one of the place's key too, with no more tokens than that. Else it begins
 // with no token.
-fn begin_key(
-    prefix: &mut TextPrefix,
-    before: Option<&Site<'_>>,
-    site: &Site<'_>,
-    most: usize,
-) -> Result<(), Memory>
-    requires before { MatchOption before (Unit {0}) (λ b. BeginsKey prefix.old (site_of b.now)) }
-    requires most { most ≤ shared_with (option_map (λ b. site_of b.now) before) (site_of site.now) }
-    ensures begins { OnOk result (BeginsKey prefix.new (site_of site.now)) }
+fn begin_key(prefix: &mut TextPrefix, step: Step<'_>, most: usize) -> Result<(), Memory>
+    requires before { MatchOption step.before (Unit {0}) (λ b. BeginsKey prefix.old (site_of b.now)) }
+    requires most { most ≤ shared_with (option_map (λ b. site_of b.now) step.before) (site_of step.site.now) }
+    ensures begins { OnOk result (BeginsKey prefix.new (site_of step.entry.site.now)) }
     ensures within { OnOk result (prefix.new.tokens ≤ most) }
 {
-    match before {
+    let site = step.site;
+    match step.before {
         Some(before) if before.document == site.document && prefix.tokens <= most => Ok(()),
         _ => begin_key_anew(prefix, site.document),
     }

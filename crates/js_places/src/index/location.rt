@@ -9,7 +9,7 @@ ghost use Rattle.js_places.specs.code.Scan.{site_of};
 ghost use Rattle.js_places.specs.Url.{printed};
 
 use crate::index::kept_location::{KeptLocation, is_long, repeated};
-use crate::index::text_prefix::{Representation, TextPrefix, push_tokens};
+use crate::index::text_prefix::{Representation, Step, TextPrefix, push_tokens};
 use crate::scan::scope::Scope;
 use crate::scan::site::Site;
 use crate::uri;
@@ -53,23 +53,18 @@ fn push_keyword(text: &mut String, keyword: Option<&str>) -> Result<(), Memory>
 }
 
 /// Makes what is kept of the location of a place, and its prefix, from the prefix of that of the place before it.
-pub(crate) fn next_location(
-    alloc: Global,
-    prefix: &mut TextPrefix,
-    before: Option<&Site<'_>>,
-    site: &Site<'_>,
-    shared: usize,
-) -> Result<KeptLocation, Memory>
-    requires before { MatchOption before (Unit {0}) (λ b. BeginsLocation prefix.old (site_of b.now)) }
-    requires shared { shared ≡ shared_with (option_map (λ b. site_of b.now) before) (site_of site.now) }
-    ensures begins { OnOk result (BeginsLocation prefix.new (site_of site.now)) }
-    ensures location { IfOk result (λ l. l ≡ kept_location (site_of site.now)) }
+pub(crate) fn next_location(prefix: &mut TextPrefix, step: Step<'_>) -> Result<KeptLocation, Memory>
+    requires before { MatchOption step.before (Unit {0}) (λ b. BeginsLocation prefix.old (site_of b.now)) }
+    requires shared { step.shared ≡ shared_with (option_map (λ b. site_of b.now) step.before) (site_of step.site.now) }
+    ensures begins { OnOk result (BeginsLocation prefix.new (site_of step.entry.site.now)) }
+    ensures location { IfOk result (λ l. l ≡ kept_location (site_of step.entry.site.now)) }
 {
+    let site = step.site;
     let root = site.own.resource.tokens().len();
     let way = way_from(site.pointer.tokens(), root);
     let count = way.len().saturating_sub(1);
-    begin_location(prefix, before, site, shared.saturating_sub(root).min(count))?;
-    let text = prefix.extend(alloc, Representation::Fragment, way, count)?;
+    begin_location(prefix, step, step.shared.saturating_sub(root).min(count))?;
+    let text = prefix.extend(step.alloc, Representation::Fragment, way, count)?;
     Ok(KeptLocation {
         text: Text::new(text),
         is_fragment: is_long(uri::printed(&site.own.base)),
@@ -88,19 +83,15 @@ fn way_from(tokens: &[Token], root: usize) -> &[Token]
 
 // Leaves the prefix as it is where it is one of the place's location too, with no more tokens than that. Else it
 // begins with no token.
-fn begin_location(
-    prefix: &mut TextPrefix,
-    before: Option<&Site<'_>>,
-    site: &Site<'_>,
-    most: usize,
-) -> Result<(), Memory>
-    requires before { MatchOption before (Unit {0}) (λ b. BeginsLocation prefix.old (site_of b.now)) }
-    requires most { most ≤ shared_with (option_map (λ b. site_of b.now) before) (site_of site.now)
-        - length site.now.own.value.resource }
-    ensures begins { OnOk result (BeginsLocation prefix.new (site_of site.now)) }
+fn begin_location(prefix: &mut TextPrefix, step: Step<'_>, most: usize) -> Result<(), Memory>
+    requires before { MatchOption step.before (Unit {0}) (λ b. BeginsLocation prefix.old (site_of b.now)) }
+    requires most { most ≤ shared_with (option_map (λ b. site_of b.now) step.before) (site_of step.site.now)
+        - length step.site.now.own.value.resource }
+    ensures begins { OnOk result (BeginsLocation prefix.new (site_of step.entry.site.now)) }
     ensures within { OnOk result (prefix.new.tokens ≤ most) }
 {
-    match before {
+    let site = step.site;
+    match step.before {
         Some(before) if begins_as(before, site) && prefix.tokens <= most => Ok(()),
         _ => begin_location_anew(prefix, &site.own),
     }

@@ -24,6 +24,16 @@ pub(crate) struct TextPrefix {
     pub(crate) tokens: usize,
 }
 
+/// A place, and the one before it. Memory comes from `alloc`.
+#[derive(Clone, Copy)]
+pub(crate) struct Step<'s> {
+    pub(crate) alloc: Global,
+    pub(crate) before: Option<&'s Site<'s>>,
+    pub(crate) site: &'s Site<'s>,
+    /// With how many tokens alike their pointers begin.
+    pub(crate) shared: usize,
+}
+
 impl TextPrefix {
     pub(crate) fn new(alloc: Global) -> TextPrefix {
         TextPrefix {

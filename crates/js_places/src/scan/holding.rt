@@ -1,6 +1,7 @@
 //! How the arguments of keywords hold schemas.
 ghost use Rattle.std.specs.Prelude.{◌≡◌};
 ghost use Rattle.js_places.specs.Place.{holding};
+ghost use Rattle.js_places.specs.code.Scan.{holding_as};
 
 /// How a keyword's argument holds schemas.
 #[derive(Clone, Copy, Drop)]
@@ -13,6 +14,15 @@ pub enum Holding {
     Named,
     /// It holds none.
     Nothing,
+}
+
+/// What the members of an object are.
+#[derive(Clone, Copy)]
+pub(crate) enum Role {
+    /// The keywords of a schema.
+    Keywords,
+    /// Schemas, under names.
+    Schemas,
 }
 
 /// How the argument of the keyword with this name holds them.
@@ -36,5 +46,15 @@ pub fn holding_of(keyword: &str) -> Holding
             Holding::Named
         }
         _ => Holding::Nothing,
+    }
+}
+
+/// How a member with this name holds schemas.
+pub(crate) fn holding_as(role: Role, name: &str) -> Holding
+    ensures { result ≡ holding_as role name.now }
+{
+    match role {
+        Role::Keywords => holding_of(name),
+        Role::Schemas => Holding::One,
     }
 }

@@ -1,10 +1,10 @@
-use Rattle.std.proofs.Common.{◌≤◌, [], ◌∷◌, ◌++◌, map, length, string_bytes, ap, ◌∙◌, arith}
+use Rattle.std.proofs.Common.{◌≤◌, [], ◌∷◌, ◌++◌, map, decimal, length, string_bytes, ap, ◌∙◌, arith}
 use Rattle.std.proofs.lemmas.List.{length-map}
 use Rattle.js_doc.specs.Value.{members}
 use Rattle.js_doc.specs.Seen.{value_of, pair_of}
 use Rattle.js_places.specs.code.Scan.{site_of, most_sites}
 use Rattle.js_places.proofs.MemberLoops.{loop_next, next_item_smaller, next_smaller}
-use Rattle.js_places.proofs.Listing.ScanNext.{front_full, item_next, keyword_next, member_next}
+use Rattle.js_places.proofs.Listing.ScanNext.{front_full, item_next, member_next}
 use Rattle.js_places.proofs.scan.+scan.Goals as goal
 
 pub scan_schema-returns-then-len-ge-MOST_SITES : goal.scan_schema-returns-then-len-ge-MOST_SITES
@@ -19,25 +19,18 @@ scan_items-scan_schema-requires t c = (omega (arith, next_item_smaller c.args.sc
 pub scan_items-loop-i-preserved : goal.scan_items-loop-i-preserved
 scan_items-loop-i-preserved t c =
     let l = c.loop-i in
-    item_next c.args.document c.args.above.now.value c.args.pointer.now c.args.schemas.now l.i c.index-schemas-i.result c.in_ok-at.at.value (map site_of l.out.items) (map site_of c.scan_schema.new.out.items) _
+    let at = c.args.at in
+    item_next at.document at.above.now.value at.pointer.now.value c.args.schemas.now l.i c.index-schemas-i.result c.in_ok-pointer.pointer.value (map site_of l.out.items) (map site_of c.scan_schema.new.out.items) _
     (omega arith) c.index-schemas-i.is
-    (c.in_ok-at.ensures ∙ ap (λ k. c.args.pointer.now ++ k ∷ []) c.format.ensures.text)
+    (c.in_ok-pointer.ensures ∙ ap (λ k. c.deref.result.now ++ k ∷ []) c.format.ensures.text ∙ ap (λ q. q ++ decimal l.i ∷ []) c.deref.ensures)
     c.in_ok-scan_schema.ensures l.invariant
 
-pub scan_keywords-scan_keyword-requires : goal.scan_keywords-scan_keyword-requires
-scan_keywords-scan_keyword-requires t c = (omega (arith, next_smaller c.pairs-keyword-items.ensures.pairs c.into_iter-keyword-iterator.ensures.into_iter_gives c.loop-keyword.invariant.split c.in-Some.ensures.steps, c.decreases), tt)
-
-pub scan_keywords-loop-keyword-preserved : goal.scan_keywords-loop-keyword-preserved
-scan_keywords-loop-keyword-preserved t c =
-    loop_next c.loop-keyword.invariant c.in-Some.ensures.steps
-    (keyword_next c.args.document c.args.above.now.value c.args.pointer.now (string_bytes c.in-Some.keyword.now) c.as_str.result.now (value_of c.in-Some.argument.now) (members (map pair_of c.next.new.self)) (map site_of c.loop-keyword.out.items) (map site_of c.scan_keyword.new.out.items) _
-    c.as_str.ensures.value c.in_ok-scan_keyword.ensures)
-
-pub scan_members-scan_schema-requires : goal.scan_members-scan_schema-requires
-scan_members-scan_schema-requires t c = (omega (arith, next_smaller c.pairs-name-items.ensures.pairs c.into_iter-name-iterator.ensures.into_iter_gives c.loop-name.invariant.split c.in-Some.ensures.steps, c.decreases), tt)
+pub scan_members-scan_member-requires : goal.scan_members-scan_member-requires
+scan_members-scan_member-requires t c = (omega (arith, next_smaller c.pairs-name-items.ensures.pairs c.into_iter-name-iterator.ensures.into_iter_gives c.loop-name.invariant.split c.in-Some.ensures.steps, c.decreases), tt)
 
 pub scan_members-loop-name-preserved : goal.scan_members-loop-name-preserved
 scan_members-loop-name-preserved t c =
+    let at = c.args.at in
     loop_next c.loop-name.invariant c.in-Some.ensures.steps
-    (member_next c.args.document c.args.above.now.value c.args.pointer.now (string_bytes c.in-Some.name.now) (value_of c.in-Some.schema.now) (members (map pair_of c.next.new.self)) c.in_ok-at.at.value (map site_of c.loop-name.out.items) (map site_of c.scan_schema.new.out.items) _
-    (c.in_ok-at.ensures ∙ ap (λ k. c.args.pointer.now ++ k ∷ []) c.as_str.ensures.value) c.in_ok-scan_schema.ensures)
+    (member_next c.args.role at.document at.above.now.value at.pointer.now.value (string_bytes c.in-Some.name.now) c.as_str.result.now (value_of c.in-Some.value.now) (members (map pair_of c.next.new.self)) (map site_of c.loop-name.out.items) (map site_of c.scan_member.new.out.items) _
+    c.as_str.ensures.value c.in_ok-scan_member.ensures)

@@ -1,7 +1,7 @@
-use Rattle.std.proofs.Common.{map, string_bytes, arith}
+use Rattle.std.proofs.Common.{◌++◌, map, length, string_bytes, sym, ap, ◌∙◌, arith}
 use Rattle.js_doc.specs.Value.{members}
 use Rattle.js_doc.specs.Seen.{value_of, pair_of}
-use Rattle.js_places.specs.code.Edges.{held_of}
+use Rattle.js_places.specs.code.Edges.{edges_at, edges_of, held_of}
 use Rattle.js_places.proofs.MemberLoops.{loop_next, next_item_smaller, next_smaller}
 use Rattle.js_places.proofs.Indexing.EdgesNext.{item_edges, item_numbers, keyword_edges_next, keyword_held_next, keywords_put, member_edges, member_numbers, put_within}
 use Rattle.js_places.proofs.index.edges.+edges.Goals as goal
@@ -50,12 +50,13 @@ keywords_of-loop-keyword-preserved t c =
       keyword_held_next c.as_str.result.now name value rest l.edges.items c.link_keyword.new.edges.items (map held_of l.held.items) (map held_of c.link_keyword.new.held.items) _ same e.edges e.held told.1,
     ))
 
-pub link_keywords-set_keywords-requires : goal.link_keywords-set_keywords-requires
-link_keywords-set_keywords-requires t c =
-    put_within c.args.edges.now.items c.push_none.new.edges.items c.keywords_of.new.edges.items (members c.args.members.now) c.len-number.result (omega (arith, c.len-number.ensures, c.args.edges.now.ok.0))
-    c.in_ok-push_none.ensures c.in_ok-keywords.ensures.edges
+pub link_schema-set_keywords-requires : goal.link_schema-set_keywords-requires
+link_schema-set_keywords-requires t c =
+    put_within c.args.edges.now.items c.push_none.new.edges.items c.keywords_of.new.edges.items (members c.in-Members.members) c.len-number.result (omega (arith, c.len-number.ensures, c.args.edges.now.ok.0))
+    c.in_ok-push_none.ensures c.in_ok-keywords-in-Members.ensures.edges
 
-pub link_keywords-returns : goal.link_keywords-returns
-link_keywords-returns t c =
-    keywords_put c.args.edges.now.items c.push_none.new.edges.items c.keywords_of.new.edges.items c.set_keywords.new.edges.items (map held_of c.in_ok-keywords.keywords.items) (members c.args.members.now) c.len-number.result
-    (omega (arith, c.len-number.ensures, c.args.edges.now.ok.0)) c.in_ok-push_none.ensures c.in_ok-keywords.ensures.edges c.in_ok-keywords.ensures.held c.set_keywords.ensures
+pub link_schema-returns-in_ok-keywords-in-Members : goal.link_schema-returns-in_ok-keywords-in-Members
+link_schema-returns-in_ok-keywords-in-Members t c =
+    keywords_put c.args.edges.now.items c.push_none.new.edges.items c.keywords_of.new.edges.items c.set_keywords.new.edges.items (map held_of c.in_ok-keywords-in-Members.keywords.items) (members c.in-Members.members) c.len-number.result
+    (omega (arith, c.len-number.ensures, c.args.edges.now.ok.0)) c.in_ok-push_none.ensures c.in_ok-keywords-in-Members.ensures.edges c.in_ok-keywords-in-Members.ensures.held c.set_keywords.ensures
+    ∙ ap (λ d. map edges_of c.args.edges.now.items ++ edges_at (length c.args.edges.now.items) (value_of d)) (sym c.in-Members.is)

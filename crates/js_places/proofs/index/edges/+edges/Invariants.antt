@@ -18,9 +18,6 @@ decreases-link_held l = 6 * depth (value_of l.argument.now) + 4
 abbrev pub decreases-link_keyword : goal.decreases-link_keyword
 decreases-link_keyword l = 6 * depth (value_of l.argument.now) + 5
 
-abbrev pub decreases-link_keywords : goal.decreases-link_keywords
-decreases-link_keywords l = 6 * depth (object (members l.members.now)) + 1
-
 abbrev pub decreases-keywords_of : goal.decreases-keywords_of
 decreases-keywords_of l = 6 * depth (object (members l.members.now))
 
