@@ -81,22 +81,22 @@ there_and_back a b c d x y down back up e = record {
 
 -- ---- room for the rows that come later
 
-rest_le : (f : RelativeRow → ℕ) (rows : List RelativeRow) (n k : ℕ) → sum_by f (drop (n + k) rows) ≤ sum_by f (drop n rows)
-rest_le f rows n k = omega (arith, ap (sum_by f) (drop-drop n k rows), sum_by-take-drop f (drop n rows) k)
+rest_le : (f : RelativeRow → ℕ) (rows : List RelativeRow) (n end : ℕ) → n ≤ end → sum_by f (drop end rows) ≤ sum_by f (drop n rows)
+rest_le f rows n end h =
+    let is : end ≡ n + (end - n) = omega (arith, h) in
+    omega (arith, ap (λ m. sum_by f (drop m rows)) is, ap (sum_by f) (drop-drop n (end - n) rows), sum_by-take-drop f (drop n rows) (end - n))
 
-pub room_for_rest : (l : Locations) (rows : List RelativeRow) (n k : ℕ) → HasRoom l (drop n rows) → HasRoom l (drop (n + k) rows)
-room_for_rest l rows n k h = record {
-  for_keyword = omega (arith, h.for_keyword, rest_le (λ r. length (keyword_part r)) rows n k);
-  for_instance = omega (arith, h.for_instance, rest_le (λ r. length r.instance.now) rows n k);
+pub room_for_rest : (l : Locations) (rows : List RelativeRow) (n end : ℕ) → n ≤ end → HasRoom l (drop n rows) → HasRoom l (drop end rows)
+room_for_rest l rows n end e h = record {
+  for_keyword = omega (arith, h.for_keyword, rest_le (λ r. length (keyword_part r)) rows n end e);
+  for_instance = omega (arith, h.for_instance, rest_le (λ r. length r.instance.now) rows n end e);
 }
 
 -- ---- tree by tree
 
-pub rows_of_next : (rows : List RelativeRow) (next : ℕ) (f : Forest OutputUnit) (x : RelativeRow) (t : NextTree rows next f x)
-    → AreRowsOfTrees (take (next + x.size - next) (drop next rows)) (tree t.unit t.below empty)
-rows_of_next rows next f x t =
-    let size : next + x.size - next ≡ x.size = omega arith in
-    ap (λ n. map relative_row (take n (drop next rows))) size ∙ (t.all ∙ flat_form-flat_of (escaped_tree (record { root = t.unit; below = t.below })))
+pub rows_of_next : (rows : List RelativeRow) (next : ℕ) (f : Forest OutputUnit) (end : ℕ) (t : NextTree rows next f end)
+    → AreRowsOfTrees (take (end - next) (drop next rows)) (tree t.unit t.below empty)
+rows_of_next rows next f end t = t.all ∙ flat_form-flat_of (escaped_tree (record { root = t.unit; below = t.below }))
 
 -- with the trees that the rows from the next on are of, they are all
 pub record LeftToTake (k : List ℕ) (i : List ℕ) (old : Forest OutputUnit) (new : Forest OutputUnit) (rows : List RelativeRow) (next : ℕ) (f : Forest OutputUnit) : Type 0 where
@@ -119,11 +119,11 @@ pub take_starts : (k i : List ℕ) (old : Forest OutputUnit) (rows : List Relati
     → LeftToTake k i old old rows 0 f
 take_starts k i old rows f h = record { left = f; left_is = h; all = refl }
 
-pub take_goes_on : (k i : List ℕ) (old mid new : Forest OutputUnit) (rows more : List RelativeRow) (next : ℕ) (f : Forest OutputUnit) (x : RelativeRow)
-    (w : LeftToTake k i old mid rows next f) (t : NextTree rows next w.left x)
-    → new ≡ (mid ⊹ placed k i (tree t.unit t.below empty)) → drop (next + x.size) more ≡ drop (next + x.size) rows
-    → LeftToTake k i old new more (next + x.size) f
-take_goes_on k i old mid new rows more next f x w t e d = record {
+pub take_goes_on : (k i : List ℕ) (old mid new : Forest OutputUnit) (rows more : List RelativeRow) (next : ℕ) (f : Forest OutputUnit) (end : ℕ)
+    (w : LeftToTake k i old mid rows next f) (t : NextTree rows next w.left end)
+    → new ≡ (mid ⊹ placed k i (tree t.unit t.below empty)) → drop end more ≡ drop end rows
+    → LeftToTake k i old new more end f
+take_goes_on k i old mid new rows more next f end w t e d = record {
   left = t.after;
   left_is = ap (map relative_row) d ∙ t.more;
   all =

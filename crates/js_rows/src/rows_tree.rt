@@ -11,6 +11,7 @@ ghost use Rattle.js_rows.specs.code.RelativeText.{AreRowsOfTree, AreRowsOfTrees,
 
 use crate::locations::Locations;
 use crate::rows::{RelativeRow, RelativeRows};
+use crate::trees::tree_end;
 use js_doc::Memory;
 use js_tree::{Note, Tree};
 use std::alloc::Global;
@@ -65,8 +66,7 @@ fn take_trees<'a>(
     let mut next = 0;
     while next < rows.len() {
         let first = next;
-        let row = &rows[first];
-        next = first + row.size;
+        next = tree_end(rows, first);
         take_tree(alloc, &mut rows[first..next], locations, trees)?;
     }
     Ok(())

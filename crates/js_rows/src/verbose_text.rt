@@ -23,6 +23,7 @@ use crate::gathered::Gathered;
 use crate::locations::Locations;
 use crate::opening::from_comma;
 use crate::rows::{RelativeRow, RelativeRows};
+use crate::trees::tree_end;
 use js_doc::{Out, Stopped, put_escaped};
 use js_tree::Note;
 use js_tree::parts::{put_closed_annotation, put_error_behind, put_list_start};
@@ -121,8 +122,7 @@ fn put_trees<O: Out>(
     let mut next = 0;
     while next < rows.len() {
         let first = next;
-        let row = &rows[first];
-        next = first + row.size;
+        next = tree_end(rows, first);
         put_tree(later, &rows[first..next], locations, gathered, out)?;
         later = true;
     }

@@ -1,4 +1,4 @@
-use Rattle.std.proofs.Common.{◌≡◌, ◌+◌, ◌-◌, ◌++◌, length, ap, subst, arith}
+use Rattle.std.proofs.Common.{◌≡◌, ◌-◌, ◌++◌, length, ap, subst, arith}
 use Rattle.js_tree.specs.Form.{node_values}
 use Rattle.js_tree.proofs.FlatRows.{shorter}
 use Rattle.js_tree.proofs.Nested.{is_none, not_none}
@@ -6,7 +6,7 @@ use Rattle.js_rows.specs.Relative.{placed}
 use Rattle.js_rows.specs.code.Gathering.{GathersOrStops, Gathers}
 use Rattle.js_rows.specs.code.Listing.{values_text}
 use Rattle.js_rows.specs.code.RelativeText.{unit_there}
-use Rattle.js_rows.proofs.EscapedRows.{entered, next_tree, no_trees, still_at, slice_of_next}
+use Rattle.js_rows.proofs.EscapedRows.{are_trees, entered, next_tree, no_trees, still_at}
 use Rattle.js_rows.proofs.Gathering.{all_passed, none_passed, one_passed, pass_stops, same_to_pass, stopped_last}
 use Rattle.js_rows.proofs.RelativeTexts.{back_again, gathers_whole, root_there, room_for_part, stays_there, stops_in_children, stops_in_front, tree_next, without_trees}
 use Rattle.js_rows.proofs.verbose_text.+put_tree.Goals as goal
@@ -66,57 +66,45 @@ put_node-returns-clause-text g t c =
 pub put_trees-loop-next-init : goal.put_trees-loop-next-init
 put_trees-loop-next-init g t c = (omega arith, stays_there c.args.locations.now, λ f e. (f, e, λ k i at. none_passed (g.O.Out.progress c.args.out.now) c.args.gathered.now.text.items _))
 
-pub put_trees-overflow_add-next : goal.put_trees-overflow_add-next
-put_trees-overflow_add-next g t c =
+pub put_trees-tree_end-next-requires-clause-trees : goal.put_trees-tree_end-next-requires-clause-trees
+put_trees-tree_end-next-requires-clause-trees g t c =
     let w = c.loop-next.invariant.2 c.requires.0 c.requires.1 in
-    omega (arith, (next_tree _ _ _ _ w.1 c.loop-next-test.true c.index-rows-first.is).fits)
-
-pub put_trees-slice_bounds-put_tree-end : goal.put_trees-slice_bounds-put_tree-end
-put_trees-slice_bounds-put_tree-end g t c =
-    let w = c.loop-next.invariant.2 c.requires.0 c.requires.1 in
-    (next_tree _ _ _ _ w.1 c.loop-next-test.true c.index-rows-first.is).fits
+    are_trees _ w.0 w.1
 
 pub put_trees-put_tree-requires : goal.put_trees-put_tree-requires
 put_trees-put_tree-requires g t c κs within =
     let l = c.loop-next in
     let w = l.invariant.2 c.requires.0 c.requires.1 in
-    let t = next_tree _ _ _ _ w.1 c.loop-next-test.true c.index-rows-first.is in
+    let t = next_tree _ _ _ _ w.1 c.loop-next-test.true c.tree_end-next.ensures.size in
     let room = room_for_part _ l.locations c.args.rows.now l.next _ c.requires.2 l.invariant.1 in
-    let few = shorter (l.next + c.index-rows-first.result.size - l.next) l.next c.args.rows.now in
-    (omega (arith, few, c.decreases), (within, (_, slice_of_next _ _ _ _ t, room)))
-
-pub put_trees-loop-next-smaller : goal.put_trees-loop-next-smaller
-put_trees-loop-next-smaller g t c =
-    let w = c.loop-next.invariant.2 c.requires.0 c.requires.1 in
-    let t = next_tree _ _ _ _ w.1 c.loop-next-test.true c.index-rows-first.is in
-    omega (arith, t.size, t.fits)
+    let few = shorter (c.tree_end-next.result - l.next) l.next c.args.rows.now in
+    (omega (arith, few, c.decreases), (within, (_, t.all, room)))
 
 pub put_trees-returns-in_err-put_tree-clause-text : goal.put_trees-returns-in_err-put_tree-clause-text
 put_trees-returns-in_err-put_tree-clause-text g t c =
     λ f k i at e.
     let l = c.loop-next in
     let w = l.invariant.2 f e in
-    let t = next_tree _ _ _ _ w.1 c.loop-next-test.true c.index-rows-first.is in
+    let t = next_tree _ _ _ _ w.1 c.loop-next-test.true c.tree_end-next.ensures.size in
     let there = still_at _ _ k i at l.invariant.1 in
     let next = tree_next _ _ _ _ l.later k i _ t.unit t.below t.after _ (w.2 k i at) t.is in
     pass_stops _ _ _ _ _ _ _ _ _ _ c.from_residual.ensures.0 next
-    (c.in_err-put_tree.ensures.text _ k i there (slice_of_next _ _ _ _ t))
+    (c.in_err-put_tree.ensures.text _ k i there t.all)
 
 pub put_trees-loop-next-preserved : goal.put_trees-loop-next-preserved
 put_trees-loop-next-preserved g t c =
-    let l = c.loop-next in
-    let w = l.invariant.2 c.requires.0 c.requires.1 in (
-      omega (arith, (next_tree _ _ _ _ w.1 c.loop-next-test.true c.index-rows-first.is).fits),
+    let l = c.loop-next in (
+      c.tree_end-next.ensures.fits,
       back_again c.args.locations.now l.locations c.put_tree.new.locations l.invariant.1 c.in_ok-put_tree.ensures.back,
       λ f e.
           let w = l.invariant.2 f e in
-          let t = next_tree _ _ _ _ w.1 c.loop-next-test.true c.index-rows-first.is in (
+          let t = next_tree _ _ _ _ w.1 c.loop-next-test.true c.tree_end-next.ensures.size in (
             t.after,
             t.more,
             λ k i at.
                 let there = still_at _ _ k i at l.invariant.1 in
                 let next = tree_next _ _ _ _ l.later k i _ t.unit t.below t.after _ (w.2 k i at) t.is in
-                one_passed _ _ _ _ _ _ _ _ _ next (c.in_ok-put_tree.ensures.text _ k i there (slice_of_next _ _ _ _ t)),
+                one_passed _ _ _ _ _ _ _ _ _ next (c.in_ok-put_tree.ensures.text _ k i there t.all),
           ),
     )
 
