@@ -182,6 +182,10 @@ still_there rows next f end these t e =
       count = all_as_many rows these all next end (omega (arith, t.size)) t.fits long front after;
     }
 
+pub fewer_left : (rows : List RelativeRow) (next : ℕ) (f : Forest OutputUnit) (end : ℕ) (these : List RelativeRow) (t : NextTree rows next f end)
+    → length these ≡ length (take (end - next) (drop next rows)) → length (put_mid next (end - next) rows these) - end < length rows - next
+fewer_left rows next f end these t e = omega (arith, (still_there rows next f end these t e).count, t.size, t.fits)
+
 -- ---- what is left, tree by tree
 
 -- with the rows of what is left of the trees from the next row on, they are all

@@ -4,7 +4,7 @@ use Rattle.js_tree.proofs.FlatRows.{none_below, root_row, shorter}
 use Rattle.js_rows.specs.Relative.{escaped_tree, placed_unit}
 use Rattle.js_rows.specs.RelativeState.{relative_row}
 use Rattle.js_rows.specs.code.KeptBetween.{AreAdded, kept_between}
-use Rattle.js_rows.proofs.AddedRows.{add_ends, add_goes_on, add_starts, below_set, fewer_set, node_added, none_pending, same_parts, so_many, still_pending_at, still_there}
+use Rattle.js_rows.proofs.AddedRows.{add_ends, add_goes_on, add_starts, below_set, fewer_left, fewer_set, node_added, none_pending, same_parts, so_many, still_pending_at, still_there}
 use Rattle.js_rows.proofs.EscapedRows.{are_trees, next_tree, none_of}
 use Rattle.js_rows.proofs.KeptBetween.{node_goes}
 use Rattle.js_rows.proofs.MarkedRows.{as_many, first_mark, flat_rows, marked_below, marked_next, next_marks, root_mark}
@@ -109,8 +109,7 @@ keep_trees-keep_tree-requires t' c =
 pub keep_trees-loop-next-smaller : goal.keep_trees-loop-next-smaller
 keep_trees-loop-next-smaller t' c =
     let w = c.loop-next.invariant.2 c.requires.0 c.requires.1 c.requires.2 in
-    let there = still_there _ _ _ _ c.keep_tree.new.rows (next_tree _ _ _ _ w.1 c.loop-next-test.true c.tree_end-next.ensures.size) c.keep_tree.auto.rows in
-    omega (arith, there.count, c.tree_end-next.ensures.further, c.tree_end-next.ensures.fits)
+    fewer_left _ _ _ _ c.keep_tree.new.rows (next_tree _ _ _ _ w.1 c.loop-next-test.true c.tree_end-next.ensures.size) c.keep_tree.auto.rows
 
 pub keep_trees-loop-next-preserved : goal.keep_trees-loop-next-preserved
 keep_trees-loop-next-preserved t' c =
