@@ -84,8 +84,7 @@ put_trees-put_tree-requires g t c κs within =
     let w = l.invariant.2 c.requires.0 c.requires.1 in
     let t = next_tree _ _ _ _ w.1 c.loop-next-test.true c.tree_end-next.ensures.size in
     let room = room_for_part _ l.locations c.args.rows.now l.next _ c.requires.2 l.invariant.1 in
-    let few = shorter (c.tree_end-next.result - l.next) l.next c.args.rows.now in
-    (omega (arith, few, c.decreases), (within, (_, t.all, room)))
+    (omega (arith, shorter (c.tree_end-next.result - l.next) l.next c.args.rows.now, c.decreases), (within, (_, t.all, room)))
 
 pub put_trees-returns-in_err-later-clause-listed : goal.put_trees-returns-in_err-later-clause-listed
 put_trees-returns-in_err-later-clause-listed g t c =
