@@ -155,33 +155,36 @@ whole_rows_kept t old new l e h =
 -- ---- tree by tree
 
 -- the rows after the next tree are still there when those of the tree have changed
-pub record StillThere (rows : List RelativeRow) (next : ℕ) (x : RelativeRow) (these : List RelativeRow) : Type 0 where
-  pub after : drop (next + x.size) (put_mid next (next + x.size - next) rows these) ≡ drop (next + x.size) rows
-  pub count : length (put_mid next (next + x.size - next) rows these) ≡ length rows
+pub record StillThere (rows : List RelativeRow) (next : ℕ) (end : ℕ) (these : List RelativeRow) : Type 0 where
+  pub after : drop end (put_mid next (end - next) rows these) ≡ drop end rows
+  pub count : length (put_mid next (end - next) rows these) ≡ length rows
 
-so_long : (rows : List RelativeRow) (next size : ℕ) → next + size ≤ length rows → length (take size (drop next rows)) ≡ size
-so_long rows next size h = omega (arith, h, length-take size (drop next rows), length-drop next rows)
+so_long : (rows : List RelativeRow) (next end : ℕ) → end ≤ length rows → length (take (end - next) (drop next rows)) ≡ end - next
+so_long rows next end h = omega (arith, h, length-take (end - next) (drop next rows), length-drop next rows)
 
-all_as_many : (rows these all : List RelativeRow) (next size : ℕ) → next + size ≤ length rows → length these ≡ size → take (next + size) all ≡ take next rows ++ these → drop (next + size) all ≡ drop (next + size) rows
+all_as_many : (rows these all : List RelativeRow) (next end : ℕ) → next ≤ end → end ≤ length rows → length these ≡ end - next → take end all ≡ take next rows ++ these → drop end all ≡ drop end rows
     → length all ≡ length rows
-all_as_many rows these all next size fits long front after =
-    omega (arith, fits, long, ap length (take-append-drop (next + size) all), length-append (take (next + size) all) (drop (next + size) all), ap length front, ap length after, length-append (take next rows) these, length-take next rows, length-drop (next + size) rows)
+all_as_many rows these all next end within fits long front after =
+    omega (arith, within, fits, long, ap length (take-append-drop end all), length-append (take end all) (drop end all), ap length front, ap length after, length-append (take next rows) these, length-take next rows, length-drop end rows)
 
-pub still_there : (rows : List RelativeRow) (next : ℕ) (f : Forest OutputUnit) (x : RelativeRow) (these : List RelativeRow) (t : NextTree rows next f x)
-    → length these ≡ length (take (next + x.size - next) (drop next rows)) → StillThere rows next x these
-still_there rows next f x these t e =
-    let size : next + x.size - next ≡ x.size = omega arith in
-    let most : next ≤ length rows = omega (arith, t.fits) in
-    let long : length these ≡ x.size = e ∙ (ap (λ n. length (take n (drop next rows))) size ∙ so_long rows next x.size t.fits) in
-    let all = put_mid next (next + x.size - next) rows these in
-    let end : next + x.size ≡ next + length these = omega (arith, long) in
-    let within : next + (next + x.size - next) ≤ next + x.size = omega arith in
-    let after = drop-put_mid next (next + x.size - next) rows these (next + x.size) within most (long ∙ sym size) in
-    let front = take-put_mid next (next + x.size - next) rows these (next + x.size) end most in
+pub still_there : (rows : List RelativeRow) (next : ℕ) (f : Forest OutputUnit) (end : ℕ) (these : List RelativeRow) (t : NextTree rows next f end)
+    → length these ≡ length (take (end - next) (drop next rows)) → StillThere rows next end these
+still_there rows next f end these t e =
+    let most : next ≤ length rows = omega (arith, t.size, t.fits) in
+    let long : length these ≡ end - next = e ∙ so_long rows next end t.fits in
+    let all = put_mid next (end - next) rows these in
+    let last : end ≡ next + length these = omega (arith, long, t.size) in
+    let within : next + (end - next) ≤ end = omega (arith, t.size) in
+    let after = drop-put_mid next (end - next) rows these end within most long in
+    let front = take-put_mid next (end - next) rows these end last most in
     record {
       after = after;
-      count = all_as_many rows these all next x.size t.fits long front after;
+      count = all_as_many rows these all next end (omega (arith, t.size)) t.fits long front after;
     }
+
+pub fewer_left : (rows : List RelativeRow) (next : ℕ) (f : Forest OutputUnit) (end : ℕ) (these : List RelativeRow) (t : NextTree rows next f end)
+    → length these ≡ length (take (end - next) (drop next rows)) → length (put_mid next (end - next) rows these) - end < length rows - next
+fewer_left rows next f end these t e = omega (arith, (still_there rows next f end these t e).count, t.size, t.fits)
 
 -- ---- what is left, tree by tree
 
@@ -196,17 +199,17 @@ pub add_starts : (v : Bool) (k i : List ℕ) (old : List RelativeRow) (rows : Li
     → AreMarkedRows rows marks v f → LeftToAdd v k i old old rows marks 0 f
 add_starts v k i old rows marks f h = record { left = f; left_is = h.rows_are; marks_are = h.marks_are; all = refl }
 
-pub add_goes_on : (v : Bool) (k i : List ℕ) (old mid new rows more : List RelativeRow) (marks : List Left) (next : ℕ) (f : Forest OutputUnit) (x : RelativeRow)
-    (w : LeftToAdd v k i old mid rows marks next f) (t : NextTree rows next w.left x)
-    → AreAdded mid new (kept_between v k i (tree t.unit t.below empty)) → drop (next + x.size) more ≡ drop (next + x.size) rows
-    → LeftToAdd v k i old new more marks (next + x.size) f
-add_goes_on v k i old mid new rows more marks next f x w t e d =
+pub add_goes_on : (v : Bool) (k i : List ℕ) (old mid new rows more : List RelativeRow) (marks : List Left) (next : ℕ) (f : Forest OutputUnit) (end : ℕ)
+    (w : LeftToAdd v k i old mid rows marks next f) (t : NextTree rows next w.left end)
+    → AreAdded mid new (kept_between v k i (tree t.unit t.below empty)) → drop end more ≡ drop end rows
+    → LeftToAdd v k i old new more marks end f
+add_goes_on v k i old mid new rows more marks next f end w t e d =
     let these = kept_between v k i (tree t.unit t.below empty) in
     let rest = kept_between v k i t.after in
     record {
       left = t.after;
       left_is = ap (map relative_row) d ∙ t.more;
-      marks_are = (next_marks v marks rows next w.left x t w.marks_are).more;
+      marks_are = (next_marks v marks rows next w.left end t w.marks_are).more;
       all =
           ap (λ rs. rs ++ flat_of (escaped rest)) e
           ∙ (append_assoc (map relative_row mid) (flat_of (escaped these)) (flat_of (escaped rest))

@@ -2,22 +2,22 @@
 use Rattle.std.proofs.Common.{◌≡◌, ℕ, suc, ◌+◌, ◌-◌, ◌≤◌, ◌<◌, Bool, true, false, List, [], ◌∷◌, ◌++◌, length, take, drop, get_or, map, refl, ap, ap₂, sym, ◌∙◌, append_assoc, append-nil}
 use Rattle.std.proofs.lemmas.Grind.{flat_map-append}
 use Rattle.json.specs.Print.{escape, escape_byte}
-use Rattle.js_tree.specs.Flat.{flat_of}
+use Rattle.js_tree.specs.Flat.{flat_form, flat_of}
 use Rattle.js_tree.specs.Forest.{Forest, empty, tree, node_count}
 use Rattle.js_tree.specs.OutputUnit.{OutputUnit}
 use Rattle.js_tree.specs.Result.{ResultTree, has_verdict}
 use Rattle.js_tree.proofs.ChildTexts.{rest_of}
-use Rattle.js_tree.proofs.FlatRows.{SomeTree, all_gone, first_tree, root_row, rows_below, some_tree}
-use Rattle.js_tree.proofs.Marks.{flat_form-flat_of}
-use Rattle.js_tree.proofs.NextRows.{slice_size}
+use Rattle.js_tree.proofs.FlatRows.{SomeTree, all_gone, root_row, rows_below, some_tree}
 use Rattle.js_rows.specs.Marks.{left_trees, mark_of, marked}
 use Rattle.js_rows.specs.Locations.{AreAt, HasRoomFor, IsBack, IsDown, instance_start, keyword_start}
 use Rattle.js_rows.specs.Relative.{escaped, escaped_tree, escaped_unit}
 use Rattle.js_rows.specs.RelativeState.{keyword_part, relative_row}
+use Rattle.js_rows.specs.code.Differing.{AreTrees}
 use Rattle.js_rows.specs.code.RelativeText.{AreRowsOfTree, AreRowsOfTrees, IsAbsolute}
 use Rattle.js_rows.specs.declared.locations.Locations.{Locations}
 use Rattle.js_rows.specs.declared.rows.RelativeRow.{RelativeRow}
 use Rattle.js_rows.specs.declared.rows.RelativeRows.{RelativeRows}
+use Rattle.js_rows.proofs.NextTrees.{EndsAt, tree_up_to}
 
 -- ---- the trees of rows
 
@@ -32,17 +32,17 @@ pub some_trees : (rows : List RelativeRow) (f : Forest OutputUnit) → AreRowsOf
 some_trees rows empty e h = let t = some_tree relative_row rows 0 empty e h in let n = t.is in absurd cc
 some_trees rows (tree u below after) e h = record { unit = u; below = below; after = after; is = refl }
 
--- the tree whose rows come next
-pub record NextTree (rows : List RelativeRow) (n : ℕ) (f : Forest OutputUnit) (x : RelativeRow) : Type 0 where
+-- the tree whose rows come next, up to this end
+pub record NextTree (rows : List RelativeRow) (n : ℕ) (f : Forest OutputUnit) (end : ℕ) : Type 0 where
   pub unit : OutputUnit
   pub below : Forest OutputUnit
   pub after : Forest OutputUnit
   pub is : f ≡ tree unit below after
-  pub unit_is : (relative_row x).0 ≡ escaped_unit unit
-  pub size : x.size ≡ suc (node_count (escaped below))
-  pub fits : n + x.size ≤ length rows
-  pub all : AreRowsOfTree (take x.size (drop n rows)) (record { root = unit; below = below })
-  pub more : AreRowsOfTrees (drop (n + x.size) rows) after
+  pub unit_is : (x : RelativeRow) → x ≡ get_or rows n x → (relative_row x).0 ≡ escaped_unit unit
+  pub size : end ≡ n + suc (node_count (escaped below))
+  pub fits : end ≤ length rows
+  pub all : AreRowsOfTree (take (end - n) (drop n rows)) (record { root = unit; below = below })
+  pub more : AreRowsOfTrees (drop end rows) after
 
 same_unit : (u v : OutputUnit) (below f after g : Forest OutputUnit) → tree u below after ≡ tree v f g → u ≡ v
 same_unit u v below f after g e = cc
@@ -53,11 +53,10 @@ same_below u v below f after g e = cc
 same_after : (u v : OutputUnit) (below f after g : Forest OutputUnit) → tree u below after ≡ tree v f g → after ≡ g
 same_after u v below f after g e = cc
 
-pub next_tree : (rows : List RelativeRow) (n : ℕ) (f : Forest OutputUnit) (x : RelativeRow) → AreRowsOfTrees (drop n rows) f → n < length rows → x ≡ get_or rows n x → NextTree rows n f x
-next_tree rows n empty x e h is = let t = first_tree relative_row rows n empty x e h is in let d = t.is in absurd cc
-next_tree rows n (tree u below after) x e h is =
-    let t = first_tree relative_row rows n (escaped (tree u below after)) x e h is in
-    let one : ResultTree = record { root = u; below = below } in
+pub next_tree : (rows : List RelativeRow) (n : ℕ) (f : Forest OutputUnit) (end : ℕ) → AreRowsOfTrees (drop n rows) f → n < length rows → EndsAt rows n end → NextTree rows n f end
+next_tree rows n empty end e h ends = let t = tree_up_to rows n empty end e h ends in let d = t.is in absurd cc
+next_tree rows n (tree u below after) end e h ends =
+    let t = tree_up_to rows n (escaped (tree u below after)) end e h ends in
     let unit = same_unit t.unit (escaped_unit u) t.below (escaped below) t.after (escaped after) (sym t.is) in
     let forest = same_below t.unit (escaped_unit u) t.below (escaped below) t.after (escaped after) (sym t.is) in
     let rest = same_after t.unit (escaped_unit u) t.below (escaped below) t.after (escaped after) (sym t.is) in
@@ -66,17 +65,16 @@ next_tree rows n (tree u below after) x e h is =
       below = below;
       after = after;
       is = refl;
-      unit_is = t.unit_is ∙ unit;
-      size = t.size ∙ ap (λ f. suc (node_count f)) forest;
+      unit_is = λ x is. t.unit_is x is ∙ unit;
+      size = t.size ∙ ap (λ g. n + suc (node_count g)) forest;
       fits = t.fits;
-      all = t.all ∙ (ap (λ v. flat_of (tree v t.below empty)) unit ∙ (ap (λ f. flat_of (tree (escaped_unit u) f empty)) forest ∙ sym (flat_form-flat_of (escaped_tree one))));
+      all = t.all ∙ ap₂ (λ v g. flat_form (record { root = v; below = g })) unit forest;
       more = t.more ∙ ap flat_of rest;
     }
 
--- its rows, taken out of all rows as a slice
-pub slice_of_next : (rows : List RelativeRow) (n : ℕ) (f : Forest OutputUnit) (x : RelativeRow) (t : NextTree rows n f x)
-    → AreRowsOfTree (take (n + x.size - n) (drop n rows)) (record { root = t.unit; below = t.below })
-slice_of_next rows n f x t = ap (map relative_row) (slice_size rows n x.size) ∙ t.all
+-- what `tree_end` needs
+pub are_trees : (rows : List RelativeRow) (f : Forest OutputUnit) → AreRowsOfTrees rows f → AreTrees rows
+are_trees rows f e = (escaped f, e)
 
 -- ---- what has nothing to do with locations
 

@@ -11,6 +11,7 @@ pub mod LeftTrees
 pub mod ListedRows
 pub mod ListedUnits
 pub mod MarkedRows
+pub mod NextTrees
 pub mod OpeningKept
 pub mod PlacedRows
 pub mod Placing

@@ -27,6 +27,7 @@ use Rattle.js_rows.specs.declared.rows.RelativeRow.{RelativeRow}
 use Rattle.js_rows.specs.declared.rows.RelativeRows.{RelativeRows}
 use Rattle.js_rows.proofs.EscapedRows.{NextTree, next_tree, no_trees}
 use Rattle.js_rows.proofs.ListedUnits.{array_text, gone_through, later_after-append, listed_all, passed_over, values_text-append}
+use Rattle.js_rows.proofs.NextTrees.{EndsAt}
 use Rattle.js_rows.proofs.Placing.{placed_tree_again}
 use Rattle.js_rows.proofs.QuotedParts.{beginning_in_parts}
 use Rattle.js_rows.proofs.RelativeTexts.{unit_is_there}
@@ -114,18 +115,18 @@ ListsUpTo old new later now verdict rows next above at =
     × ((f : Forest OutputUnit) (keyword instance : List ℕ) → AreAt above keyword instance → AreRowsOfTrees rows f
     → LeftToList old new later now (listed verdict keyword instance) rows next f)
 
-pub lists_go_on : (a b d : Progress) (later now then verdict : Bool) (rows : List RelativeRow) (next : ℕ) (above mid at : Locations) (x : RelativeRow) (f : Forest OutputUnit)
-    → ListsUpTo a b later now verdict rows next above mid → AreRowsOfTrees rows f → next < length rows → x ≡ get_or rows next x → IsBack above at
+pub lists_go_on : (a b d : Progress) (later now then verdict : Bool) (rows : List RelativeRow) (next : ℕ) (above mid at : Locations) (end : ℕ) (f : Forest OutputUnit)
+    → ListsUpTo a b later now verdict rows next above mid → AreRowsOfTrees rows f → next < length rows → EndsAt rows next end → IsBack above at
     → ((g : Forest OutputUnit) (keyword instance : List ℕ) → AreAt above keyword instance → AreRowsOfTrees rows g
-    → LeftToList a d later then (listed verdict keyword instance) rows (next + x.size) g)
-    → ListsUpTo a d later then verdict rows (next + x.size) above at
-lists_go_on a b d later now then verdict rows next above mid at x f w are some is back gone =
+    → LeftToList a d later then (listed verdict keyword instance) rows end g)
+    → ListsUpTo a d later then verdict rows end above at
+lists_go_on a b d later now then verdict rows next above mid at end f w are some ends back gone =
     let here = w.2 f are in (
-      (next_tree rows next here.0 x here.1 some is).fits,
+      (next_tree rows next here.0 end here.1 some ends).fits,
       back,
       λ g e.
           let there = w.2 g e in
-          let t = next_tree rows next there.0 x there.1 some is in
+          let t = next_tree rows next there.0 end there.1 some ends in
           (t.after, t.more),
       gone,
     )
@@ -133,16 +134,16 @@ lists_go_on a b d later now then verdict rows next above mid at x f w are some i
 abbrev pub list_starts : (a : Progress) (later : Bool) (shown : Forest OutputUnit → List Value) (rows : List RelativeRow) (f : Forest OutputUnit) → AreRowsOfTrees rows f → LeftToList a a later later shown rows 0 f
 list_starts a later shown rows f e = record { done = []; left = f; left_is = e; all = refl; gone = none_listed a later }
 
-pub list_passes : (a b : Progress) (later now : Bool) (shown : Forest OutputUnit → List Value) (rows : List RelativeRow) (next : ℕ) (f : Forest OutputUnit) (x : RelativeRow)
-    → (l : LeftToList a b later now shown rows next f) → (t : NextTree rows next l.left x) → shown l.left ≡ shown t.after
-    → LeftToList a b later now shown rows (next + x.size) f
-list_passes a b later now shown rows next f x l t e =
+pub list_passes : (a b : Progress) (later now : Bool) (shown : Forest OutputUnit → List Value) (rows : List RelativeRow) (next : ℕ) (f : Forest OutputUnit) (end : ℕ)
+    → (l : LeftToList a b later now shown rows next f) → (t : NextTree rows next l.left end) → shown l.left ≡ shown t.after
+    → LeftToList a b later now shown rows end f
+list_passes a b later now shown rows next f end l t e =
     record { done = l.done; left = t.after; left_is = t.more; all = ap (λ us. l.done ++ us) (sym e) ∙ l.all; gone = l.gone }
 
-abbrev pub list_goes_on : (a b c : Progress) (later now then : Bool) (shown : Forest OutputUnit → List Value) (rows : List RelativeRow) (next : ℕ) (f : Forest OutputUnit) (x : RelativeRow) (these : List Value)
-    → (l : LeftToList a b later now shown rows next f) → (t : NextTree rows next l.left x) → shown l.left ≡ these ++ shown t.after → AllListed b c now these then
-    → LeftToList a c later then shown rows (next + x.size) f
-list_goes_on a b c later now then shown rows next f x these l t e w = record {
+abbrev pub list_goes_on : (a b c : Progress) (later now then : Bool) (shown : Forest OutputUnit → List Value) (rows : List RelativeRow) (next : ℕ) (f : Forest OutputUnit) (end : ℕ) (these : List Value)
+    → (l : LeftToList a b later now shown rows next f) → (t : NextTree rows next l.left end) → shown l.left ≡ these ++ shown t.after → AllListed b c now these then
+    → LeftToList a c later then shown rows end f
+list_goes_on a b c later now then shown rows next f end these l t e w = record {
   done = l.done ++ these;
   left = t.after;
   left_is = t.more;
@@ -150,10 +151,10 @@ list_goes_on a b c later now then shown rows next f x these l t e w = record {
   gone = both_listed a b c later now then l.done these l.gone w;
 }
 
-pub list_stops : (a b c : Progress) (later now : Bool) (shown : Forest OutputUnit → List Value) (rows : List RelativeRow) (next : ℕ) (f : Forest OutputUnit) (x : RelativeRow) (these : List Value)
-    → (l : LeftToList a b later now shown rows next f) → (t : NextTree rows next l.left x) → shown l.left ≡ these ++ shown t.after → Stops b c (values_text now these)
+pub list_stops : (a b c : Progress) (later now : Bool) (shown : Forest OutputUnit → List Value) (rows : List RelativeRow) (next : ℕ) (f : Forest OutputUnit) (end : ℕ) (these : List Value)
+    → (l : LeftToList a b later now shown rows next f) → (t : NextTree rows next l.left end) → shown l.left ≡ these ++ shown t.after → Stops b c (values_text now these)
     → Stops a c (values_text later (shown f))
-list_stops a b c later now shown rows next f x these l t e s =
+list_stops a b c later now shown rows next f end these l t e s =
     let rest = subst (λ us. Stops b c (values_text now us)) (sym e) (stops_first b c now these (shown t.after) s) in
     subst (λ us. Stops a c (values_text later us)) l.all (stops_rest a b c later now l.done (shown l.left) l.gone rest)
 
@@ -172,11 +173,11 @@ same_verdict true x u e = ap (λ y. y.valid) (sym e)
 same_verdict false x u e = ap (λ y. not y.valid) (sym e)
 
 -- of the tree that comes next, and of those after it
-pub next_listed : (verdict : Bool) (keyword instance : List ℕ) (rows : List RelativeRow) (next : ℕ) (f : Forest OutputUnit) (x : RelativeRow)
-    → (t : NextTree rows next f x) → has_verdict verdict (relative_row x).0 ≡ true
+pub next_listed : (verdict : Bool) (keyword instance : List ℕ) (rows : List RelativeRow) (next : ℕ) (f : Forest OutputUnit) (end : ℕ) (x : RelativeRow)
+    → (t : NextTree rows next f end) → x ≡ get_or rows next x → has_verdict verdict (relative_row x).0 ≡ true
     → listed verdict keyword instance f ≡ listed_tree verdict keyword instance t.unit t.below ++ listed verdict keyword instance t.after
-next_listed verdict keyword instance rows next f x t e =
-    let v : has_verdict verdict t.unit ≡ true = same_verdict verdict x t.unit t.unit_is ∙ e in
+next_listed verdict keyword instance rows next f end x t is e =
+    let v : has_verdict verdict t.unit ≡ true = same_verdict verdict x t.unit (t.unit_is x is) ∙ e in
     ap (listed verdict keyword instance) t.is ∙ gone_through verdict keyword instance t.unit t.below t.after v
 
 -- a node without a note and without children has none
@@ -190,24 +191,25 @@ no_more : (below : Forest OutputUnit) (size : ℕ) → size ≡ suc (node_count 
 no_more empty size e h = refl
 no_more (tree u below after) size e h = absurd (grind (arith, nat_tests, e, h))
 
-not_listed : (b long said : Bool) (verdict : Bool) (keyword instance : List ℕ) (rows : List RelativeRow) (next : ℕ) (f : Forest OutputUnit) (x : RelativeRow) → (t : NextTree rows next f x)
-    → has_verdict verdict t.unit ≡ b → nat_lt 1 x.size ≡ long → noted t.unit ≡ said → b && (long || said) ≡ false
+not_listed : (b long said : Bool) (verdict : Bool) (keyword instance : List ℕ) (rows : List RelativeRow) (next : ℕ) (f : Forest OutputUnit) (end size : ℕ) → (t : NextTree rows next f end)
+    → end ≡ next + size → has_verdict verdict t.unit ≡ b → nat_lt 1 size ≡ long → noted t.unit ≡ said → b && (long || said) ≡ false
     → listed verdict keyword instance f ≡ listed verdict keyword instance t.after
-not_listed false long said verdict keyword instance rows next f x t v l n h =
+not_listed false long said verdict keyword instance rows next f end size t s v l n h =
     ap (listed verdict keyword instance) t.is ∙ passed_over verdict keyword instance t.unit t.below t.after v
-not_listed true false false verdict keyword instance rows next f x t v l n h =
-    ap (listed verdict keyword instance) t.is ∙ alone_passed verdict keyword instance t.unit t.below t.after v n (no_more t.below x.size t.size l)
-not_listed true true said verdict keyword instance rows next f x t v l n h = absurd cc
-not_listed true false true verdict keyword instance rows next f x t v l n h = absurd cc
+not_listed true false false verdict keyword instance rows next f end size t s v l n h =
+    ap (listed verdict keyword instance) t.is ∙ alone_passed verdict keyword instance t.unit t.below t.after v n (no_more t.below size (omega (arith, s, t.size)) l)
+not_listed true true said verdict keyword instance rows next f end size t s v l n h = absurd cc
+not_listed true false true verdict keyword instance rows next f end size t s v l n h = absurd cc
 
 same_test : (verdict : Bool) (x : RelativeRow) (u : OutputUnit) → (relative_row x).0 ≡ escaped_unit u → may_list verdict (relative_row x) ≡ (has_verdict verdict u && (nat_lt 1 x.size || noted u))
 same_test verdict x u e =
     ap (λ b. b && (nat_lt 1 x.size || noted (relative_row x).0)) (sym (same_verdict verdict x u e)) ∙ ap (λ w. has_verdict verdict u && (nat_lt 1 x.size || noted w)) e
 
-pub next_passed : (verdict : Bool) (keyword instance : List ℕ) (rows : List RelativeRow) (next : ℕ) (f : Forest OutputUnit) (x : RelativeRow)
-    → (t : NextTree rows next f x) → may_list verdict (relative_row x) ≡ false → listed verdict keyword instance f ≡ listed verdict keyword instance t.after
-next_passed verdict keyword instance rows next f x t e =
-    not_listed (has_verdict verdict t.unit) (nat_lt 1 x.size) (noted t.unit) verdict keyword instance rows next f x t refl refl refl (sym (same_test verdict x t.unit t.unit_is) ∙ e)
+pub next_passed : (verdict : Bool) (keyword instance : List ℕ) (rows : List RelativeRow) (next : ℕ) (f : Forest OutputUnit) (end : ℕ) (x : RelativeRow)
+    → (t : NextTree rows next f end) → x ≡ get_or rows next x → end ≡ next + x.size → may_list verdict (relative_row x) ≡ false
+    → listed verdict keyword instance f ≡ listed verdict keyword instance t.after
+next_passed verdict keyword instance rows next f end x t is s e =
+    not_listed (has_verdict verdict t.unit) (nat_lt 1 x.size) (noted t.unit) verdict keyword instance rows next f end x.size t s refl refl refl (sym (same_test verdict x t.unit (t.unit_is x is)) ∙ e)
 
 pub may_agree : (verdict : Bool) (x : RelativeRow) → may_list verdict (relative_row x) ≡ true → has_verdict verdict (relative_row x).0 ≡ true
 may_agree verdict x e = (and_parts (has_verdict verdict (relative_row x).0) (nat_lt 1 x.size || noted (relative_row x).0) e).0

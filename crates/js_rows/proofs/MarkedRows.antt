@@ -6,7 +6,7 @@ use Rattle.js_tree.specs.Forest.{Forest, empty, tree, node_count}
 use Rattle.js_tree.specs.OutputUnit.{OutputUnit}
 use Rattle.js_tree.specs.Result.{ResultTree}
 use Rattle.js_tree.proofs.ChildTexts.{rest_of}
-use Rattle.js_tree.proofs.FlatRows.{FirstTree, all_gone, drop-append, drop-drop, rows_below}
+use Rattle.js_tree.proofs.FlatRows.{all_gone, drop-append, drop-drop, rows_below}
 use Rattle.js_tree.proofs.Marks.{flat_form-flat_of}
 use Rattle.js_tree.proofs.FlatTold.{length-flat_of}
 use Rattle.js_rows.specs.Marks.{left_trees, mark_of, marked}
@@ -18,6 +18,7 @@ use Rattle.js_rows.specs.declared.rows.RelativeRow.{RelativeRow}
 use Rattle.js_rows.specs.declared.marks.Left.{Left}
 use Rattle.js_rows.proofs.LeftTrees.{first_left}
 use Rattle.js_rows.proofs.EscapedRows.{NextTree, count-escaped}
+use Rattle.js_rows.proofs.NextTrees.{TreeUpTo}
 
 pub length-marked : (v : Bool) (f : Forest OutputUnit) → length (marked v f) ≡ node_count f
 length-marked v empty = refl
@@ -55,11 +56,11 @@ MarksUpTo verdict rows next old new trees =
 pub mark_starts : (verdict : Bool) (rows : List RelativeRow) (old : List Left) (f : Forest OutputUnit) → map relative_row rows ≡ flat_of f → LeftToMark verdict rows 0 old old 0 f
 mark_starts verdict rows old f e = record { done = []; left = f; left_is = e; new_is = sym (append-nil old); all = refl; count = omega arith }
 
-pub mark_goes_on : (verdict : Bool) (rows : List RelativeRow) (next : ℕ) (old mid new : List Left) (trees more : ℕ) (f : Forest OutputUnit) (x : RelativeRow)
-    → (l : LeftToMark verdict rows next old mid trees f) → (t : FirstTree relative_row rows next l.left x)
+pub mark_goes_on : (verdict : Bool) (rows : List RelativeRow) (next : ℕ) (old mid new : List Left) (trees more : ℕ) (f : Forest OutputUnit) (end : ℕ)
+    → (l : LeftToMark verdict rows next old mid trees f) → (t : TreeUpTo rows next l.left end)
     → new ≡ mid ++ marked verdict (tree t.unit t.below empty) → more ≡ left_trees verdict (tree t.unit t.below empty)
-    → LeftToMark verdict rows (next + x.size) old new (trees + more) f
-mark_goes_on verdict rows next old mid new trees more f x l t e m =
+    → LeftToMark verdict rows end old new (trees + more) f
+mark_goes_on verdict rows next old mid new trees more f end l t e m =
     let these = marked verdict (tree t.unit t.below empty) in
     let left_is = ap (marked verdict) t.is ∙ marked_first verdict t.unit t.below t.after in
     record {
@@ -81,10 +82,10 @@ mark_ends verdict rows next old new trees f l h =
     )
 
 -- the trees of which something is left are no more than the rows
-pub mark_fits : (verdict : Bool) (rows : List RelativeRow) (next : ℕ) (old mid : List Left) (trees more : ℕ) (f : Forest OutputUnit) (x : RelativeRow)
-    → (l : LeftToMark verdict rows next old mid trees f) → (t : FirstTree relative_row rows next l.left x) → map relative_row rows ≡ flat_of f
+pub mark_fits : (verdict : Bool) (rows : List RelativeRow) (next : ℕ) (old mid : List Left) (trees more : ℕ) (f : Forest OutputUnit) (end : ℕ)
+    → (l : LeftToMark verdict rows next old mid trees f) → (t : TreeUpTo rows next l.left end) → map relative_row rows ≡ flat_of f
     → more ≡ left_trees verdict (tree t.unit t.below empty) → trees + more ≤ length rows
-mark_fits verdict rows next old mid trees more f x l t e m =
+mark_fits verdict rows next old mid trees more f end l t e m =
     omega (arith, m, l.count, first_left verdict t.unit t.below t.after, first_left verdict t.unit t.below empty, ap (left_trees verdict) t.is, left_few verdict f, length-flat_of f, ap length e, length-map rows relative_row)
 
 set_at : (old : List Left) (p m : Left) (more : List Left) → slice_set ((old ++ p ∷ []) ++ more) (length old) m ≡ old ++ m ∷ more
@@ -115,19 +116,20 @@ take_front : {A : Type 0} (xs ys : List A) → take (length xs) (xs ++ ys) ≡ x
 take_front [] ys = refl
 take_front (x ∷ xs) ys = ap (λ zs. x ∷ zs) (take_front xs ys)
 
-pub record NextMarks (verdict : Bool) (marks : List Left) (next : ℕ) (size : ℕ) (unit : OutputUnit) (below : Forest OutputUnit) (after : Forest OutputUnit) : Type 0 where
-  pub these : take size (drop next marks) ≡ marked verdict (tree unit below empty)
-  pub more : drop (next + size) marks ≡ marked verdict after
+pub record NextMarks (verdict : Bool) (marks : List Left) (next : ℕ) (end : ℕ) (unit : OutputUnit) (below : Forest OutputUnit) (after : Forest OutputUnit) : Type 0 where
+  pub these : take (end - next) (drop next marks) ≡ marked verdict (tree unit below empty)
+  pub more : drop end marks ≡ marked verdict after
 
-pub next_marks : (verdict : Bool) (marks : List Left) (rows : List RelativeRow) (next : ℕ) (f : Forest OutputUnit) (x : RelativeRow) → (t : NextTree rows next f x) → drop next marks ≡ marked verdict f
-    → NextMarks verdict marks next x.size t.unit t.below t.after
-next_marks verdict marks rows next f x t e =
+pub next_marks : (verdict : Bool) (marks : List Left) (rows : List RelativeRow) (next : ℕ) (f : Forest OutputUnit) (end : ℕ) → (t : NextTree rows next f end) → drop next marks ≡ marked verdict f
+    → NextMarks verdict marks next end t.unit t.below t.after
+next_marks verdict marks rows next f end t e =
     let these = marked verdict (tree t.unit t.below empty) in
     let both : drop next marks ≡ these ++ marked verdict t.after = e ∙ (ap (marked verdict) t.is ∙ marked_first verdict t.unit t.below t.after) in
-    let size : x.size ≡ length these = omega (arith, t.size, count-escaped t.below, length-marked verdict (tree t.unit t.below empty)) in
+    let size : end - next ≡ length these = omega (arith, t.size, count-escaped t.below, length-marked verdict (tree t.unit t.below empty)) in
+    let is : end ≡ next + length these = omega (arith, t.size, count-escaped t.below, length-marked verdict (tree t.unit t.below empty)) in
     record {
-      these = ap (take x.size) both ∙ (ap (λ n. take n (these ++ marked verdict t.after)) size ∙ take_front these (marked verdict t.after));
-      more = drop-drop next x.size marks ∙ (ap (drop x.size) both ∙ (ap (λ n. drop n (these ++ marked verdict t.after)) size ∙ drop-append these (marked verdict t.after)));
+      these = ap (take (end - next)) both ∙ (ap (λ n. take n (these ++ marked verdict t.after)) size ∙ take_front these (marked verdict t.after));
+      more = ap (λ n. drop n marks) is ∙ (drop-drop next (length these) marks ∙ (ap (drop (length these)) both ∙ drop-append these (marked verdict t.after)));
     }
 
 -- ---- the rows and the marks of a tree
@@ -153,11 +155,9 @@ as_many rows marks v f h =
     omega (arith, ap length h.rows_are, length-map rows relative_row, length-flat_of (escaped f), count-escaped f, ap length h.marks_are, length-marked v f)
 
 -- the tree that comes next
-pub marked_next : (v : Bool) (marks : List Left) (rows : List RelativeRow) (next : ℕ) (f : Forest OutputUnit) (x : RelativeRow) → (t : NextTree rows next f x) → drop next marks ≡ marked v f
-    → AreMarkedRows (take (next + x.size - next) (drop next rows)) (take (next + x.size - next) (drop next marks)) v (tree t.unit t.below empty)
-marked_next v marks rows next f x t e =
-    let size : next + x.size - next ≡ x.size = omega arith in
-    record {
-      rows_are = ap (λ n. map relative_row (take n (drop next rows))) size ∙ (t.all ∙ flat_form-flat_of (escaped_tree (record { root = t.unit; below = t.below })));
-      marks_are = ap (λ n. take n (drop next marks)) size ∙ (next_marks v marks rows next f x t e).these;
-    }
+pub marked_next : (v : Bool) (marks : List Left) (rows : List RelativeRow) (next : ℕ) (f : Forest OutputUnit) (end : ℕ) → (t : NextTree rows next f end) → drop next marks ≡ marked v f
+    → AreMarkedRows (take (end - next) (drop next rows)) (take (end - next) (drop next marks)) v (tree t.unit t.below empty)
+marked_next v marks rows next f end t e = record {
+  rows_are = t.all ∙ flat_form-flat_of (escaped_tree (record { root = t.unit; below = t.below }));
+  marks_are = (next_marks v marks rows next f end t e).these;
+}

@@ -3,7 +3,7 @@ use Rattle.std.proofs.Common.{◌≡◌, ℕ, ◌+◌, ◌-◌, ◌<◌, ◌≤�
 use Rattle.std.specs.List.{sum_by}
 use Rattle.std.proofs.lemmas.List.Sums.{sum_by-take-drop}
 use borrow.Rule.Slice.PartMut.{put_mid}
-use Rattle.js_tree.specs.Forest.{Forest, empty, tree, ◌⊹◌}
+use Rattle.js_tree.specs.Forest.{Forest, empty, tree, ◌⊹◌, forest_of}
 use Rattle.js_tree.specs.Note.{Note}
 use Rattle.js_tree.specs.OutputUnit.{OutputUnit}
 use Rattle.js_tree.specs.Result.{ResultTree}
@@ -81,58 +81,58 @@ there_and_back a b c d x y down back up e = record {
 
 -- ---- room for the rows that come later
 
-rest_le : (f : RelativeRow → ℕ) (rows : List RelativeRow) (n k : ℕ) → sum_by f (drop (n + k) rows) ≤ sum_by f (drop n rows)
-rest_le f rows n k = omega (arith, ap (sum_by f) (drop-drop n k rows), sum_by-take-drop f (drop n rows) k)
+rest_le : (f : RelativeRow → ℕ) (rows : List RelativeRow) (n end : ℕ) → n ≤ end → sum_by f (drop end rows) ≤ sum_by f (drop n rows)
+rest_le f rows n end h =
+    let is : end ≡ n + (end - n) = omega (arith, h) in
+    omega (arith, ap (λ m. sum_by f (drop m rows)) is, ap (sum_by f) (drop-drop n (end - n) rows), sum_by-take-drop f (drop n rows) (end - n))
 
-pub room_for_rest : (l : Locations) (rows : List RelativeRow) (n k : ℕ) → HasRoom l (drop n rows) → HasRoom l (drop (n + k) rows)
-room_for_rest l rows n k h = record {
-  for_keyword = omega (arith, h.for_keyword, rest_le (λ r. length (keyword_part r)) rows n k);
-  for_instance = omega (arith, h.for_instance, rest_le (λ r. length r.instance.now) rows n k);
+pub room_for_rest : (l : Locations) (rows : List RelativeRow) (n end : ℕ) → n ≤ end → HasRoom l (drop n rows) → HasRoom l (drop end rows)
+room_for_rest l rows n end e h = record {
+  for_keyword = omega (arith, h.for_keyword, rest_le (λ r. length (keyword_part r)) rows n end e);
+  for_instance = omega (arith, h.for_instance, rest_le (λ r. length r.instance.now) rows n end e);
 }
 
 -- ---- tree by tree
 
-pub rows_of_next : (rows : List RelativeRow) (next : ℕ) (f : Forest OutputUnit) (x : RelativeRow) (t : NextTree rows next f x)
-    → AreRowsOfTrees (take (next + x.size - next) (drop next rows)) (tree t.unit t.below empty)
-rows_of_next rows next f x t =
-    let size : next + x.size - next ≡ x.size = omega arith in
-    ap (λ n. map relative_row (take n (drop next rows))) size ∙ (t.all ∙ flat_form-flat_of (escaped_tree (record { root = t.unit; below = t.below })))
+pub rows_of_next : (rows : List RelativeRow) (next : ℕ) (f : Forest OutputUnit) (end : ℕ) (t : NextTree rows next f end)
+    → AreRowsOfTrees (take (end - next) (drop next rows)) (tree t.unit t.below empty)
+rows_of_next rows next f end t = t.all ∙ flat_form-flat_of (escaped_tree (record { root = t.unit; below = t.below }))
 
 -- with the trees that the rows from the next on are of, they are all
-pub record LeftToTake (k : List ℕ) (i : List ℕ) (old : Forest OutputUnit) (new : Forest OutputUnit) (rows : List RelativeRow) (next : ℕ) (f : Forest OutputUnit) : Type 0 where
+pub record LeftToTake (k : List ℕ) (i : List ℕ) (taken : Forest OutputUnit) (rows : List RelativeRow) (next : ℕ) (f : Forest OutputUnit) : Type 0 where
   pub left : Forest OutputUnit
   pub left_is : AreRowsOfTrees (drop next rows) left
-  pub all : (new ⊹ placed k i left) ≡ (old ⊹ placed k i f)
+  pub all : (taken ⊹ placed k i left) ≡ placed k i f
 
 -- what has been taken of the trees of the rows `all` before the next, wherever their node stands, and where it is said to
 -- stand
-abbrev pub TakesUpTo : Forest OutputUnit → Forest OutputUnit → List RelativeRow → List RelativeRow → ℕ → Locations → Locations → Type 0
-TakesUpTo old new all rows next above at =
+abbrev pub TakesUpTo : Forest OutputUnit → List RelativeRow → List RelativeRow → ℕ → Locations → Locations → Type 0
+TakesUpTo taken all rows next above at =
     (next ≤ length rows)
     × IsBack above at
     × HasRoom above (drop next rows)
     × ((f : Forest OutputUnit) → AreRowsOfTrees all f → (left : Forest OutputUnit) × AreRowsOfTrees (drop next rows) left)
     × ((f : Forest OutputUnit) (keyword instance : List ℕ) → AreAt above keyword instance → AreRowsOfTrees all f
-    → LeftToTake keyword instance old new rows next f)
+    → LeftToTake keyword instance taken rows next f)
 
-pub take_starts : (k i : List ℕ) (old : Forest OutputUnit) (rows : List RelativeRow) (f : Forest OutputUnit) → AreRowsOfTrees rows f
-    → LeftToTake k i old old rows 0 f
-take_starts k i old rows f h = record { left = f; left_is = h; all = refl }
+pub take_starts : (k i : List ℕ) (trees : List ResultTree) (rows : List RelativeRow) (f : Forest OutputUnit) → trees ≡ [] → AreRowsOfTrees rows f
+    → LeftToTake k i (forest_of trees) rows 0 f
+take_starts k i trees rows f e h = record { left = f; left_is = h; all = ap (λ ts. forest_of ts ⊹ placed k i f) e }
 
-pub take_goes_on : (k i : List ℕ) (old mid new : Forest OutputUnit) (rows more : List RelativeRow) (next : ℕ) (f : Forest OutputUnit) (x : RelativeRow)
-    (w : LeftToTake k i old mid rows next f) (t : NextTree rows next w.left x)
-    → new ≡ (mid ⊹ placed k i (tree t.unit t.below empty)) → drop (next + x.size) more ≡ drop (next + x.size) rows
-    → LeftToTake k i old new more (next + x.size) f
-take_goes_on k i old mid new rows more next f x w t e d = record {
+pub take_goes_on : (k i : List ℕ) (taken now : Forest OutputUnit) (rows more : List RelativeRow) (next : ℕ) (f : Forest OutputUnit) (end : ℕ)
+    (w : LeftToTake k i taken rows next f) (t : NextTree rows next w.left end)
+    → now ≡ (taken ⊹ placed k i (tree t.unit t.below empty)) → drop end more ≡ drop end rows
+    → LeftToTake k i now more end f
+take_goes_on k i taken now rows more next f end w t e d = record {
   left = t.after;
   left_is = ap (map relative_row) d ∙ t.more;
   all =
       ap (λ g. g ⊹ placed k i t.after) e
-      ∙ (append-append mid (placed k i (tree t.unit t.below empty)) (placed k i t.after)
-      ∙ (ap (λ g. mid ⊹ placed k i g) (sym t.is) ∙ w.all));
+      ∙ (append-append taken (placed k i (tree t.unit t.below empty)) (placed k i t.after)
+      ∙ (ap (λ g. taken ⊹ placed k i g) (sym t.is) ∙ w.all));
 }
 
-pub take_ends : (k i : List ℕ) (old new : Forest OutputUnit) (rows : List RelativeRow) (next : ℕ) (f : Forest OutputUnit)
-    → LeftToTake k i old new rows next f → length rows ≤ next → new ≡ (old ⊹ placed k i f)
-take_ends k i old new rows next f w h =
-    sym (append-empty new) ∙ (ap (λ g. new ⊹ placed k i g) (sym (no_trees rows next w.left w.left_is h)) ∙ w.all)
+pub take_ends : (k i : List ℕ) (taken : Forest OutputUnit) (rows : List RelativeRow) (next : ℕ) (f : Forest OutputUnit)
+    → LeftToTake k i taken rows next f → length rows ≤ next → taken ≡ placed k i f
+take_ends k i taken rows next f w h =
+    sym (append-empty taken) ∙ (ap (λ g. taken ⊹ placed k i g) (sym (no_trees rows next w.left w.left_is h)) ∙ w.all)

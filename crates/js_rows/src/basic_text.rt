@@ -19,6 +19,7 @@ ghost use Rattle.js_rows.specs.code.RelativeText.{AreRowsOfTree, AreRowsOfTrees,
 use crate::gathered::Gathered;
 use crate::locations::Locations;
 use crate::rows::{RelativeRow, RelativeRows};
+use crate::trees::tree_end;
 use crate::verbose_text::{put_before_list, put_opening};
 use js_doc::{Out, Stopped, put_escaped};
 use js_tree::Note;
@@ -72,7 +73,7 @@ fn put_trees<O: Out>(
     while next < rows.len() {
         let first = next;
         let row = &rows[first];
-        next = first + row.size;
+        next = tree_end(rows, first);
         if !may_list(verdict, row) {
             continue;
         }

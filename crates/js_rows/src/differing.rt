@@ -1,6 +1,6 @@
 //! A quick test which shows that no two siblings of a tree are alike, so that merging drops nothing. It reads the
 //! locations of relative rows only.
-ghost use Rattle.std.specs.Prelude.{◌≡◌, ◌<◌, ◌≤◌, ◌+◌, IsTrue, drop, get_or, length, true, map};
+ghost use Rattle.std.specs.Prelude.{◌≡◌, IsTrue, drop, true, map};
 ghost use Rattle.std.specs.List.{prefix_len};
 ghost use Rattle.std.specs.Ordering.{is_lt};
 ghost use Rattle.js_tree.specs.Flat.{flat_of};
@@ -9,10 +9,10 @@ ghost use Rattle.js_tree.specs.OutputUnit.{OutputUnit};
 ghost use Rattle.js_rows.specs.RelativeState.{relative_row};
 ghost use Rattle.js_rows.specs.code.Differing.{AreTrees, none_there, siblings_differ};
 ghost use Rattle.js_rows.specs.code.PartOrder.{is_digit, part_order, part_rank, roots_differ};
-ghost use Rattle.js_rows.specs.declared.rows.RelativeRow.{RelativeRow as Row};
 
 use crate::apart::stand_apart;
 use crate::rows::RelativeRow;
+use crate::trees::tree_end;
 
 // More siblings that don't ascend aren't compared, since each is compared with each.
 const MOST_OTHERS: usize = 30;
@@ -49,20 +49,6 @@ fn roots_differ(rows: &[RelativeRow]) -> bool
         → roots_differ f ≡ true }
 {
     (may_ascend(rows) && roots_ascend(rows)) || pairs_differ(rows)
-}
-
-// Where the rows of the tree end whose root is the row at `first`.
-#[inline(always)]
-fn tree_end(rows: &[RelativeRow], first: usize) -> usize
-    requires trees { AreTrees (drop first rows.now) }
-    requires more { first < length rows.now }
-    ensures further { first < result }
-    ensures fits { result ≤ length rows.now }
-    ensures rest { AreTrees (drop result rows.now) }
-    ensures size { (row : Row) → row ≡ get_or rows.now first row → result ≡ first + row.size }
-{
-    let row = &rows[first];
-    first + row.size
 }
 
 // Whether the second root adds to the instance location. If it doesn't, it doesn't come after the first.

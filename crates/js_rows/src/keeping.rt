@@ -12,6 +12,7 @@ ghost use Rattle.js_rows.specs.code.KeptBetween.{over_what_is_left};
 
 use crate::marks::{Left, RelativeMarks};
 use crate::rows::{RelativeRow, RelativeRows, behind};
+use crate::trees::tree_end;
 use bumpalo::Bump;
 use js_doc::Memory;
 use js_tree::Note;
@@ -212,8 +213,7 @@ impl<'a> Keeper<'a> {
         let mut next = 0;
         while next < rows.len() {
             let first = next;
-            let row = &rows[first];
-            next = first + row.size;
+            next = tree_end(rows, first);
             self.keep_tree(&mut rows[first..next], &marks[first..next])?;
         }
         Ok(())

@@ -17,6 +17,7 @@ mod merging;
 mod opening;
 mod rows;
 mod rows_tree;
+mod trees;
 mod unescaping;
 mod verbose_text;
 

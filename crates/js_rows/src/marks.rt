@@ -8,6 +8,7 @@ ghost use Rattle.js_rows.specs.Marks.{AreMarksOf, left_trees, mark_of, marked};
 ghost use Rattle.js_rows.specs.RelativeState.{AreWhole, relative_row};
 
 use crate::rows::{RelativeRow, RelativeRows};
+use crate::trees::tree_end;
 use js_doc::Memory;
 use std::alloc::Global;
 
@@ -54,8 +55,7 @@ fn mark_trees(verdict: bool, rows: &[RelativeRow], marks: &mut Vec<Left>) -> Res
     let mut next = 0;
     while next < rows.len() {
         let first = next;
-        let row = &rows[first];
-        next = first + row.size;
+        next = tree_end(rows, first);
         trees += mark_tree(verdict, &rows[first..next], marks)?;
     }
     Ok(trees)

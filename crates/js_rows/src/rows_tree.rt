@@ -11,6 +11,7 @@ ghost use Rattle.js_rows.specs.code.RelativeText.{AreRowsOfTree, AreRowsOfTrees,
 
 use crate::locations::Locations;
 use crate::rows::{RelativeRow, RelativeRows};
+use crate::trees::tree_end;
 use js_doc::Memory;
 use js_tree::{Note, Tree};
 use std::alloc::Global;
@@ -39,37 +40,35 @@ fn take_root<'a>(
     ensures { (r : ResultTree) (keyword instance : List ℕ) → AreAt locations.old keyword instance
         → AreRowsOfTree rows.old r → IfOk result (λ t. t ≡ placed_tree keyword instance r) }
 {
-    let mut below = Vec::new(alloc);
     locations.go_to_node(&rows[0]);
-    take_trees(alloc, &mut rows[1..], locations, &mut below)?;
+    let below = take_trees(alloc, &mut rows[1..], locations)?;
     let root = &mut rows[0];
     let head = locations.head(alloc, root)?;
     let note = replace(&mut root.note, Note::Silent);
     Ok(Tree::of_node(head, root.valid, note, below))
 }
 
-// Adds the trees of the rows.
+// The trees of the rows.
 #[cycle(take_trees)]
 fn take_trees<'a>(
     alloc: Global,
     rows: &mut [RelativeRow<'a>],
     locations: &mut Locations,
-    trees: &mut Vec<Tree<'a>>,
-) -> Result<(), Memory>
+) -> Result<Vec<Tree<'a>>, Memory>
     requires { (f : Forest OutputUnit) × AreRowsOfTrees rows.old f × HasRoom locations.old rows.old }
     ensures trees { (f : Forest OutputUnit) (keyword instance : List ℕ)
         → AreAt locations.old keyword instance → AreRowsOfTrees rows.old f
-        → OnOk result (forest_of trees.new.items ≡ (forest_of trees.old.items ⊹ placed keyword instance f)) }
+        → IfOk result (λ trees. forest_of trees.items ≡ placed keyword instance f) }
     ensures back { OnOk result (IsBack locations.old locations.new) }
 {
+    let mut trees = Vec::new(alloc);
     let mut next = 0;
     while next < rows.len() {
         let first = next;
-        let row = &rows[first];
-        next = first + row.size;
-        take_tree(alloc, &mut rows[first..next], locations, trees)?;
+        next = tree_end(rows, first);
+        take_tree(alloc, &mut rows[first..next], locations, &mut trees)?;
     }
-    Ok(())
+    Ok(trees)
 }
 
 // Adds the tree of the rows. The trees below its root wait for it, so that the stack holds no tree on any level.
@@ -88,9 +87,8 @@ fn take_tree<'a>(
         ≡ (forest_of trees.old.items ⊹ placed keyword instance (tree u below empty))) }
     ensures back { OnOk result (IsBack locations.old locations.new) }
 {
-    let mut below = Vec::new(alloc);
     locations.go_to_node(&rows[0]);
-    take_trees(alloc, &mut rows[1..], locations, &mut below)?;
+    let below = take_trees(alloc, &mut rows[1..], locations)?;
     add_node(alloc, &mut rows[0], locations, below, trees)
 }
 

@@ -23,9 +23,19 @@ use crate::gathered::Gathered;
 use crate::locations::Locations;
 use crate::opening::from_comma;
 use crate::rows::{RelativeRow, RelativeRows};
+use crate::trees::tree_end;
 use js_doc::{Out, Stopped, put_escaped};
 use js_tree::Note;
 use js_tree::parts::{put_closed_annotation, put_error_behind, put_list_start};
+
+// What nodes are written with.
+#[derive(Drop)]
+struct Nodes {
+    // The locations of the node that is written, or of the one above it.
+    locations: Locations,
+    // Text that is gathered before it goes out.
+    gathered: Gathered,
+}
 
 /// Writes the rows' tree as compact text in the verbose format (JSON Schema Core, section 12.4.4), with whole
 /// locations. It allocates nothing.
@@ -46,87 +56,102 @@ pub fn put_verbose<O: Out>(
     let mut gathered = locations.take_gathered();
     let rows = rows.rows.as_slice();
     gathered.clear();
-    put_tree(false, rows, &mut locations, &mut gathered, out)?;
-    out.put(gathered.as_slice())
+    let mut nodes = Nodes {
+        locations,
+        gathered,
+    };
+    nodes.put_tree(false, rows, out)?;
+    out.put(nodes.gathered.as_slice())
 }
 
-/// Gathers and writes the tree of the rows, below a node with these locations; after a comma, if it isn't the first in
-/// its list.
-#[cycle(put_tree)]
-#[inline(always)]
-fn put_tree<O: Out>(
-    later: bool,
-    rows: &[RelativeRow],
-    locations: &mut Locations,
-    gathered: &mut Gathered,
-    out: &mut O,
-) -> Result<(), Stopped>
-    requires { (r : ResultTree) × AreRowsOfTree rows.now r × HasRoom locations.old rows.now }
-    ensures text { (r : ResultTree) (keyword instance : List ℕ) → AreAt locations.old keyword instance
-        → AreRowsOfTree rows.now r
-        → GathersOrStops (O.progress out.old) (O.progress out.new) gathered.old.text.items gathered.new.text.items
-        (comma_if later ++ compact (verbose (placed_tree keyword instance r))) result }
-    ensures back { OnOk result (IsBack locations.old locations.new) }
-{
-    let row = &rows[0];
-    locations.go_to_node(row);
-    put_node(later, row, &rows[1..], locations, gathered, out)?;
-    locations.go_back(row);
-    Ok(())
-}
-
-/// Writes a node with these locations, and the trees below it.
-#[cycle(put_tree)]
-#[inline(always)]
-fn put_node<O: Out>(
-    later: bool,
-    row: &RelativeRow,
-    below: &[RelativeRow],
-    locations: &mut Locations,
-    gathered: &mut Gathered,
-    out: &mut O,
-) -> Result<(), Stopped>
-    requires { (f : Forest OutputUnit) × AreRowsOfTrees below.now f × HasRoom locations.old below.now }
-    ensures text { (f : Forest OutputUnit) (keyword absolute instance : List ℕ) → AreAt locations.old keyword instance
-        → IsAbsolute row.now absolute → AreRowsOfTrees below.now f
-        → GathersOrStops (O.progress out.old) (O.progress out.new) gathered.old.text.items gathered.new.text.items
-        (comma_if later ++ compact (node_value (unit_there row.now keyword absolute instance)
-        (node_values (placed keyword instance f)))) result }
-    ensures back { OnOk result (IsBack locations.old locations.new) }
-{
-    if below.is_empty() {
-        return add_start(later, row, false, locations, gathered, out);
+impl Nodes {
+    /// Gathers and writes the tree of the rows, below a node with these locations; after a comma, if it isn't the first
+    /// in its list.
+    #[cycle(put_tree)]
+    #[inline(always)]
+    fn put_tree<O: Out>(
+        &mut self,
+        later: bool,
+        rows: &[RelativeRow],
+        out: &mut O,
+    ) -> Result<(), Stopped>
+        requires { (r : ResultTree) × AreRowsOfTree rows.now r × HasRoom self.old.locations rows.now }
+        ensures text { (r : ResultTree) (keyword instance : List ℕ) → AreAt self.old.locations keyword instance
+            → AreRowsOfTree rows.now r
+            → GathersOrStops (O.progress out.old) (O.progress out.new)
+            self.old.gathered.text.items self.new.gathered.text.items
+            (comma_if later ++ compact (verbose (placed_tree keyword instance r))) result }
+        ensures back { OnOk result (IsBack self.old.locations self.new.locations) }
+    {
+        let row = &rows[0];
+        self.locations.go_to_node(row);
+        self.put_node(later, row, &rows[1..], out)?;
+        self.locations.go_back(row);
+        Ok(())
     }
-    add_start(later, row, true, locations, gathered, out)?;
-    put_trees(below, locations, gathered, out)?;
-    add_back(row, locations, gathered, out)
-}
 
-/// Writes the trees of the rows, with commas between them.
-#[cycle(put_tree)]
-fn put_trees<O: Out>(
-    rows: &[RelativeRow],
-    locations: &mut Locations,
-    gathered: &mut Gathered,
-    out: &mut O,
-) -> Result<(), Stopped>
-    requires { (f : Forest OutputUnit) × AreRowsOfTrees rows.now f × HasRoom locations.old rows.now }
-    ensures text { (f : Forest OutputUnit) (keyword instance : List ℕ) → AreAt locations.old keyword instance
-        → AreRowsOfTrees rows.now f
-        → GathersOrStops (O.progress out.old) (O.progress out.new) gathered.old.text.items gathered.new.text.items
-        (values_text false (node_values (placed keyword instance f))) result }
-    ensures back { OnOk result (IsBack locations.old locations.new) }
-{
-    let mut later = false;
-    let mut next = 0;
-    while next < rows.len() {
-        let first = next;
-        let row = &rows[first];
-        next = first + row.size;
-        put_tree(later, &rows[first..next], locations, gathered, out)?;
-        later = true;
+    /// Writes a node with these locations, and the trees below it.
+    #[cycle(put_tree)]
+    #[inline(always)]
+    fn put_node<O: Out>(
+        &mut self,
+        later: bool,
+        row: &RelativeRow,
+        below: &[RelativeRow],
+        out: &mut O,
+    ) -> Result<(), Stopped>
+        requires { (f : Forest OutputUnit) × AreRowsOfTrees below.now f × HasRoom self.old.locations below.now }
+        ensures text { (f : Forest OutputUnit) (keyword absolute instance : List ℕ)
+            → AreAt self.old.locations keyword instance → IsAbsolute row.now absolute → AreRowsOfTrees below.now f
+            → GathersOrStops (O.progress out.old) (O.progress out.new)
+            self.old.gathered.text.items self.new.gathered.text.items
+            (comma_if later ++ compact (node_value (unit_there row.now keyword absolute instance)
+            (node_values (placed keyword instance f)))) result }
+        ensures back { OnOk result (IsBack self.old.locations self.new.locations) }
+    {
+        if below.is_empty() {
+            return add_start(
+                later,
+                row,
+                false,
+                &mut self.locations,
+                &mut self.gathered,
+                out,
+            );
+        }
+        add_start(
+            later,
+            row,
+            true,
+            &mut self.locations,
+            &mut self.gathered,
+            out,
+        )?;
+        self.put_trees(below, out)?;
+        add_back(row, &self.locations, &mut self.gathered, out)
     }
-    Ok(())
+
+    /// Writes the trees of the rows, with commas between them.
+    #[cycle(put_tree)]
+    fn put_trees<O: Out>(&mut self, rows: &[RelativeRow], out: &mut O) -> Result<(), Stopped>
+        requires { (f : Forest OutputUnit) × AreRowsOfTrees rows.now f × HasRoom self.old.locations rows.now }
+        ensures text { (f : Forest OutputUnit) (keyword instance : List ℕ) → AreAt self.old.locations keyword instance
+            → AreRowsOfTrees rows.now f
+            → GathersOrStops (O.progress out.old) (O.progress out.new)
+            self.old.gathered.text.items self.new.gathered.text.items
+            (values_text false (node_values (placed keyword instance f))) result }
+        ensures back { OnOk result (IsBack self.old.locations self.new.locations) }
+    {
+        let mut later = false;
+        let mut next = 0;
+        while next < rows.len() {
+            let first = next;
+            next = tree_end(rows, first);
+            self.put_tree(later, &rows[first..next], out)?;
+            later = true;
+        }
+        Ok(())
+    }
 }
 
 /// Writes the closing quotation mark of the absolute location and what stands between that and the children.

@@ -1,8 +1,10 @@
 -- The arrays of children, of trees and of rows.
-use Rattle.std.proofs.Common.{◌≡◌, ℕ, false, suc, ◌+◌, ◌-◌, ◌<◌, List, [], ◌∷◌, ◌++◌, length, take, drop, map, get_or, refl, ap, sym, ◌∙◌, arith}
+use Rattle.std.proofs.Common.{◌≡◌, ℕ, Bool, false, suc, ◌+◌, ◌-◌, ◌<◌, List, [], ◌∷◌, ◌++◌, length, take, drop, map, get_or, refl, ap, sym, ◌∙◌, arith}
 use Rattle.std.proofs.lemmas.List.{drop_more}
+use Rattle.js_doc.specs.BytesOut.{Progress}
 use Rattle.js_doc.specs.Compact.{compact, compact_items}
 use Rattle.js_doc.specs.Value.{items}
+use Rattle.js_doc.proofs.BytesGone.{Wrote}
 use Rattle.js_tree.specs.Flat.{flat_form, flat_of}
 use Rattle.js_tree.specs.FlatState.{FlatRow}
 use Rattle.js_tree.specs.Forest.{Forest, empty, tree, forest_of}
@@ -36,6 +38,11 @@ pub tree_next : (ts : List ResultTree) (i : ℕ) (t : ResultTree) → i < length
 tree_next ts i t h e = ap (λ us. node_values (forest_of us)) (drop_more ts i t h ∙ ap (λ u. u ∷ drop (i + 1) ts) (sym e))
 
 -- ---- of rows
+
+-- with the trees that are left, the array of all is written
+abbrev pub WroteTrees : Progress → Progress → Bool → Forest OutputUnit → Forest OutputUnit → Type 0
+WroteTrees old new later f left =
+    Wrote old new (compact_items later (items (node_values left))) (compact_items false (items (node_values f)))
 
 pub row_parent_text : {R : Type 0} (row_of : R → FlatRow) (u : OutputUnit) (rows : List R) (f : Forest OutputUnit) → 0 < length rows → map row_of rows ≡ flat_of f → front_text u ++ (compact_items false (items (node_values f)) ++ back_text u) ≡ compact (node_value u (node_values f))
 row_parent_text row_of u [] f h e = absurd (omega (arith, h))

@@ -44,10 +44,12 @@ stops_at_item a b c d later xs ys x all r w e g h s =
     (goes_on a b c (comma_if later) (compact x ++ compact_items true (items ys)) all (same_left a b _ _ all w (left_is later xs ys x e)) g) s
 
 -- the item went
-pub item_goes : (a b c d : Progress) (later : Bool) (xs ys : List Value) (x : Value) (all : List ℕ) → Wrote a b (compact_items later (items xs)) all → xs ≡ x ∷ ys → Goes b c (comma_if later) → Goes c d (compact x) → Wrote a d (compact_items true (items ys)) all
-item_goes a b c d later xs ys x all w e g h =
-    goes_on a c d (compact x) (compact_items true (items ys)) all
-    (goes_on a b c (comma_if later) (compact x ++ compact_items true (items ys)) all (same_left a b _ _ all w (left_is later xs ys x e)) g) h
+pub item_goes : (a b c d : Progress) (later now : Bool) (xs ys : List Value) (x : Value) (all : List ℕ) → Wrote a b (compact_items later (items xs)) all → xs ≡ x ∷ ys → Goes b c (comma_if later) → now ≡ true → Goes c d (compact x) → Wrote a d (compact_items now (items ys)) all
+item_goes a b c d later now xs ys x all w e g n h =
+    same_left a d _ _ all
+    (goes_on a c d (compact x) (compact_items true (items ys)) all
+    (goes_on a b c (comma_if later) (compact x ++ compact_items true (items ys)) all (same_left a b _ _ all w (left_is later xs ys x e)) g) h)
+    (ap (λ b. compact_items b (items ys)) (sym n))
 
 -- no item is left
 pub array_ends : {T E : Type 0} (a b c : Progress) (later : Bool) (xs : List Value) (all : List ℕ) (r : Result T E) → Wrote a b (compact_items later (items xs)) all → xs ≡ [] → Puts b c (93 ∷ []) r → Puts a c all r

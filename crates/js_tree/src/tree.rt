@@ -1,5 +1,5 @@
 //! Result trees.
-ghost use Rattle.std.specs.Prelude.{◌≡◌, ◌↔◌, IsTrue, [], if◌then◌else◌, length};
+ghost use Rattle.std.specs.Prelude.{◌≡◌, if◌then◌else◌, length};
 ghost use Rattle.js_tree.specs.Forest.{empty, tree as node};
 ghost use Rattle.js_tree.specs.OutputUnit.{noted};
 ghost use Rattle.js_tree.specs.Seen.{note_of};
@@ -94,13 +94,6 @@ impl<'a> Trees<'a> {
         ensures { result ≡ length self.now }
     {
         self.trees.len()
-    }
-
-    /// Whether there are no trees.
-    pub fn is_empty(&self) -> bool
-        ensures { IsTrue result ↔ (self.now ≡ []) }
-    {
-        self.trees.is_empty()
     }
 
     /// The vector that the trees were made from.

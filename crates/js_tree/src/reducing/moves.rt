@@ -143,7 +143,7 @@ fn drop_leaf(trees: &mut Vec<Tree>, i: usize) -> bool
     ensures unchanged { result ≡ false → trees.new.items ≡ trees.old.items }
 {
     let tree = &trees[i];
-    if tree.unit.is_noted() || !tree.children.is_empty() {
+    if tree.unit.is_noted() || tree.children.len() != 0 {
         return false;
     }
     drop(trees.remove(i));

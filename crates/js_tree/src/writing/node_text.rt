@@ -1,5 +1,5 @@
 //! The JSON text of a node, written piece by piece. Its members ascend by name (Core, section 12.3).
-ghost use Rattle.std.specs.Prelude.{◌++◌, ◌∷◌, [], codes, false, map, pos, true};
+ghost use Rattle.std.specs.Prelude.{◌≡◌, ◌++◌, ◌∷◌, [], codes, false, map, pos, true};
 ghost use Rattle.js_doc.specs.BytesOut.{Puts};
 ghost use Rattle.js_doc.specs.Compact.{comma_if, compact, compact_items, quoted};
 ghost use Rattle.js_doc.specs.Seen.{value_of};
@@ -12,6 +12,7 @@ ghost use Rattle.js_tree.specs.Seen.{note_of};
 use crate::note::Note;
 use crate::unit::Unit;
 use js_doc::{Doc, Out, Stopped, Whole, put_escaped, put_number, put_string, put_text};
+use std::mem::replace;
 
 /// Writes a node without children.
 pub(crate) fn put_leaf<O: Out>(unit: &Unit, out: &mut O) -> Result<(), Stopped>
@@ -150,9 +151,8 @@ fn put_names<O: Out>(start: &[u8], names: &[&str], out: &mut O) -> Result<(), St
     out.put(start)?;
     let mut later = false;
     for name in names {
-        put_comma(later, out)?;
+        put_comma(&mut later, out)?;
         put_string(name, out)?;
-        later = true;
     }
     out.put(b"]")
 }
@@ -164,9 +164,8 @@ fn put_indexes<O: Out>(start: &[u8], indexes: &[u64], out: &mut O) -> Result<(),
     out.put(start)?;
     let mut later = false;
     for index in indexes {
-        put_comma(later, out)?;
+        put_comma(&mut later, out)?;
         put_number(Whole::from_u64(*index), out)?;
-        later = true;
     }
     out.put(b"]")
 }
@@ -179,9 +178,13 @@ fn put_member<O: Out>(start: &[u8], value: &str, out: &mut O) -> Result<(), Stop
     put_string(value, out)
 }
 
-/// Writes a comma, unless this is the first item.
-pub(crate) fn put_comma<O: Out>(later: bool, out: &mut O) -> Result<(), Stopped>
-    ensures { Puts (O.progress out.old) (O.progress out.new) (comma_if later) result }
+/// Writes a comma, unless this is the first item. The next one comes later.
+pub(crate) fn put_comma<O: Out>(later: &mut bool, out: &mut O) -> Result<(), Stopped>
+    ensures comma { Puts (O.progress out.old) (O.progress out.new) (comma_if later.old) result }
+    ensures later { later.new ≡ true }
 {
-    if later { out.put(b",") } else { Ok(()) }
+    if replace(later, true) {
+        return out.put(b",");
+    }
+    Ok(())
 }

@@ -43,11 +43,10 @@ fn put_roots<O: Out>(rows: &[Row], out: &mut O) -> Result<(), Stopped>
     let mut later = false;
     let mut next = 0;
     while next < rows.len() {
-        put_comma(later, out)?;
+        put_comma(&mut later, out)?;
         let row = &rows[next];
         let end = next + row.size;
         put_root(&rows[next..end], out)?;
-        later = true;
         next = end;
     }
     out.put(b"]")
@@ -90,9 +89,8 @@ fn put_noted<O: Out>(rows: &[Row], out: &mut O) -> Result<(), Stopped>
         if !row.unit.is_noted() {
             continue;
         }
-        put_comma(later, out)?;
+        put_comma(&mut later, out)?;
         put_leaf(&row.unit, out)?;
-        later = true;
     }
     out.put(b"]")
 }

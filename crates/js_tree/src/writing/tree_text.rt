@@ -36,9 +36,8 @@ fn put_trees<O: Out>(trees: &[Tree], out: &mut O) -> Result<(), Stopped>
 {
     let mut later = false;
     for tree in trees {
-        put_comma(later, out)?;
+        put_comma(&mut later, out)?;
         put_tree(tree, out)?;
-        later = true;
     }
     out.put(b"]")
 }

@@ -1,4 +1,4 @@
-use Rattle.std.proofs.Common.{◌+◌, ◌-◌, ◌++◌, drop, map, sym, ap, subst, ◌∙◌, refl, arith}
+use Rattle.std.proofs.Common.{◌-◌, ◌++◌, drop, map, sym, ap, subst, ◌∙◌, refl, arith}
 use Rattle.js_tree.proofs.ChildTexts.{rest_of}
 use Rattle.js_tree.proofs.FlatRows.{rows_below, shorter}
 use Rattle.js_rows.specs.Locations.{HasRoom}
@@ -6,7 +6,7 @@ use Rattle.js_rows.specs.Relative.{escaped_tree}
 use Rattle.js_rows.specs.RelativeState.{relative_row}
 use Rattle.js_rows.specs.code.Listing.{AllListed, AreListed, if_noted, listed}
 use Rattle.js_rows.specs.code.RelativeText.{unit_there}
-use Rattle.js_rows.proofs.EscapedRows.{entered, next_tree, still_at, slice_of_next}
+use Rattle.js_rows.proofs.EscapedRows.{are_trees, entered, next_tree, still_at}
 use Rattle.js_rows.proofs.ListedRows.{both_listed, list_ends, list_goes_on, list_passes, list_starts, list_stops, listed_err, lists_go_on, may_agree, next_listed, next_passed, stops_first, stops_rest, tree_listed}
 use Rattle.js_rows.proofs.RelativeTexts.{back_again, room_for_part, room_still, stays_there}
 use Rattle.js_rows.proofs.RoomLeft.{fewer_below, room_below, some_row}
@@ -63,70 +63,52 @@ put_trees-loop-next-init g t c = (
   λ f k i at e. list_starts (g.O.Out.progress c.args.out.now) c.args.later (listed c.args.verdict k i) c.args.rows.now f e,
 )
 
-pub put_trees-overflow_add-next : goal.put_trees-overflow_add-next
-put_trees-overflow_add-next g t c =
+pub put_trees-tree_end-next-requires-clause-trees : goal.put_trees-tree_end-next-requires-clause-trees
+put_trees-tree_end-next-requires-clause-trees g t c =
     let w = c.loop-next.invariant.2 c.requires.0 c.requires.1 in
-    omega (arith, (next_tree _ _ _ _ w.1 c.loop-next-test.true c.index-rows-first.is).fits)
-
-pub put_trees-loop-next-smaller-then-not-may_list : goal.put_trees-loop-next-smaller-then-not-may_list
-put_trees-loop-next-smaller-then-not-may_list g t c =
-    let w = c.loop-next.invariant.2 c.requires.0 c.requires.1 in
-    let t = next_tree _ _ _ _ w.1 c.loop-next-test.true c.index-rows-first.is in
-    omega (arith, t.size, t.fits)
+    are_trees _ w.0 w.1
 
 pub put_trees-loop-next-preserved-then-not-may_list : goal.put_trees-loop-next-preserved-then-not-may_list
 put_trees-loop-next-preserved-then-not-may_list g t c =
     let o = g.O.Out.progress in
     let l = c.loop-next in
-    lists_go_on (o c.args.out.now) (o l.out) (o l.out) c.args.later l.later l.later c.args.verdict c.args.rows.now l.next c.args.locations.now l.locations l.locations _ _ l.invariant c.requires.1 c.loop-next-test.true c.index-rows-first.is l.invariant.1
+    lists_go_on (o c.args.out.now) (o l.out) (o l.out) c.args.later l.later l.later c.args.verdict c.args.rows.now l.next c.args.locations.now l.locations l.locations _ _ l.invariant c.requires.1 c.loop-next-test.true c.tree_end-next.ensures.size l.invariant.1
     (λ f k i at e.
     let w = l.invariant.3 f k i at e in
-    let t = next_tree _ _ _ _ w.left_is c.loop-next-test.true c.index-rows-first.is in
-    list_passes _ _ _ _ _ _ _ _ _ w t (next_passed c.args.verdict k i _ _ _ _ t (sym c.may_list.ensures ∙ c.if-not-may_list.true)))
-
-pub put_trees-slice_bounds-put_tree-end : goal.put_trees-slice_bounds-put_tree-end
-put_trees-slice_bounds-put_tree-end g t c =
-    let w = c.loop-next.invariant.2 c.requires.0 c.requires.1 in
-    (next_tree _ _ _ _ w.1 c.loop-next-test.true c.index-rows-first.is).fits
+    let t = next_tree _ _ _ _ w.left_is c.loop-next-test.true c.tree_end-next.ensures.size in
+    list_passes _ _ _ _ _ _ _ _ _ w t (next_passed c.args.verdict k i _ _ _ _ _ t c.index-rows-first.is (c.tree_end-next.ensures.size _ c.index-rows-first.is) (sym c.may_list.ensures ∙ c.if-not-may_list.true)))
 
 pub put_trees-put_tree-requires : goal.put_trees-put_tree-requires
 put_trees-put_tree-requires g t c κs within =
     let l = c.loop-next in
     let w = l.invariant.2 c.requires.0 c.requires.1 in
-    let t = next_tree _ _ _ _ w.1 c.loop-next-test.true c.index-rows-first.is in
+    let t = next_tree _ _ _ _ w.1 c.loop-next-test.true c.tree_end-next.ensures.size in
     let room = room_for_part _ l.locations c.args.rows.now l.next _ c.requires.2 l.invariant.1 in
-    let few = shorter (l.next + c.index-rows-first.result.size - l.next) l.next c.args.rows.now in
-    (omega (arith, few, c.decreases), (within, (_, slice_of_next _ _ _ _ t, room)))
+    (omega (arith, shorter (c.tree_end-next.result - l.next) l.next c.args.rows.now, c.decreases), (within, (_, t.all, room)))
 
 pub put_trees-returns-in_err-later-clause-listed : goal.put_trees-returns-in_err-later-clause-listed
 put_trees-returns-in_err-later-clause-listed g t c =
     λ f k i at e.
     let l = c.loop-next in
     let w = l.invariant.3 f k i at e in
-    let t = next_tree _ _ _ _ w.left_is c.loop-next-test.true c.index-rows-first.is in
+    let t = next_tree _ _ _ _ w.left_is c.loop-next-test.true c.tree_end-next.ensures.size in
     let has = may_agree c.args.verdict c.index-rows-first.result (sym c.may_list.ensures ∙ c.if-not-may_list.false) in
-    let told = c.in_err-later.ensures.listed _ k i (still_at _ _ k i at l.invariant.1) (slice_of_next _ _ _ _ t) in
+    let told = c.in_err-later.ensures.listed _ k i (still_at _ _ k i at l.invariant.1) t.all in
     listed_err _ _ _ _ _ c.from_residual.ensures.0
-    (list_stops _ _ _ _ _ _ _ _ _ _ _ w t (next_listed c.args.verdict k i _ _ _ _ t has) told)
-
-pub put_trees-loop-next-smaller : goal.put_trees-loop-next-smaller
-put_trees-loop-next-smaller g t c =
-    let w = c.loop-next.invariant.2 c.requires.0 c.requires.1 in
-    let t = next_tree _ _ _ _ w.1 c.loop-next-test.true c.index-rows-first.is in
-    omega (arith, t.size, t.fits)
+    (list_stops _ _ _ _ _ _ _ _ _ _ _ w t (next_listed c.args.verdict k i _ _ _ _ _ t c.index-rows-first.is has) told)
 
 pub put_trees-loop-next-preserved : goal.put_trees-loop-next-preserved
 put_trees-loop-next-preserved g t c =
     let o = g.O.Out.progress in
     let l = c.loop-next in
     let back = back_again c.args.locations.now l.locations c.put_tree.new.locations l.invariant.1 c.in_ok-later.ensures.back in
-    lists_go_on (o c.args.out.now) (o l.out) (o c.put_tree.new.out) c.args.later l.later c.in_ok-later.later c.args.verdict c.args.rows.now l.next c.args.locations.now l.locations c.put_tree.new.locations _ _ l.invariant c.requires.1 c.loop-next-test.true c.index-rows-first.is back
+    lists_go_on (o c.args.out.now) (o l.out) (o c.put_tree.new.out) c.args.later l.later c.in_ok-later.later c.args.verdict c.args.rows.now l.next c.args.locations.now l.locations c.put_tree.new.locations _ _ l.invariant c.requires.1 c.loop-next-test.true c.tree_end-next.ensures.size back
     (λ f k i at e.
     let w = l.invariant.3 f k i at e in
-    let t = next_tree _ _ _ _ w.left_is c.loop-next-test.true c.index-rows-first.is in
+    let t = next_tree _ _ _ _ w.left_is c.loop-next-test.true c.tree_end-next.ensures.size in
     let has = may_agree c.args.verdict c.index-rows-first.result (sym c.may_list.ensures ∙ c.if-not-may_list.false) in
-    let told = c.in_ok-later.ensures.listed _ k i (still_at _ _ k i at l.invariant.1) (slice_of_next _ _ _ _ t) in
-    list_goes_on _ _ _ _ _ _ _ _ _ _ _ _ w t (next_listed c.args.verdict k i _ _ _ _ t has) told)
+    let told = c.in_ok-later.ensures.listed _ k i (still_at _ _ k i at l.invariant.1) t.all in
+    list_goes_on _ _ _ _ _ _ _ _ _ _ _ _ w t (next_listed c.args.verdict k i _ _ _ _ _ t c.index-rows-first.is has) told)
 
 pub put_trees-returns-clause-listed : goal.put_trees-returns-clause-listed
 put_trees-returns-clause-listed g t c =

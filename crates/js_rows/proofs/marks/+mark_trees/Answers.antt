@@ -1,66 +1,48 @@
 use Rattle.std.proofs.lemmas.Result.{IfOk-weaker}
-use Rattle.std.proofs.Common.{◌-◌, ◌+◌, ◌++◌, ◌∷◌, append-nil, map, sym, ap, ◌∙◌, arith}
+use Rattle.std.proofs.Common.{◌-◌, ◌++◌, ◌∷◌, append-nil, map, sym, ap, ◌∙◌, arith}
 use Rattle.js_tree.proofs.ChildTexts.{rest_of}
-use Rattle.js_tree.proofs.FlatRows.{first_tree, none_below, root_row, rows_below, shorter}
-use Rattle.js_tree.proofs.NextRows.{slice_of_first}
+use Rattle.js_tree.proofs.FlatRows.{none_below, root_row, rows_below, shorter}
 use Rattle.js_rows.specs.Marks.{left_trees, mark_of, marked}
 use Rattle.js_rows.specs.RelativeState.{relative_row}
 use Rattle.js_rows.proofs.MarkedRows.{leaf_marked, mark_ends, mark_fits, mark_goes_on, mark_set, mark_starts, one_tree}
+use Rattle.js_rows.proofs.NextTrees.{tree_up_to}
 use Rattle.js_rows.proofs.marks.+mark_trees.Goals as goal
 
 pub mark_trees-loop-next-init : goal.mark_trees-loop-next-init
 mark_trees-loop-next-init t c = (omega arith, λ f e. mark_starts c.args.verdict c.args.rows.now c.args.marks.now.items f e)
 
-pub mark_trees-overflow_add-next : goal.mark_trees-overflow_add-next
-mark_trees-overflow_add-next t c =
+pub mark_trees-tree_end-next-requires-clause-trees : goal.mark_trees-tree_end-next-requires-clause-trees
+mark_trees-tree_end-next-requires-clause-trees t c =
     let w = c.loop-next.invariant.1 c.requires.0 c.requires.1 in
-    omega (arith, (first_tree relative_row _ _ _ _ w.left_is c.loop-next-test.true c.index-rows-first.is).fits)
+    (w.left, w.left_is)
 
 pub mark_trees-loop-next-preserved : goal.mark_trees-loop-next-preserved
-mark_trees-loop-next-preserved t' c =
-    let l = c.loop-next in
-    let w0 = l.invariant.1 c.requires.0 c.requires.1 in
-    let t0 = first_tree relative_row _ _ _ _ w0.left_is c.loop-next-test.true c.index-rows-first.is in (
-      t0.fits,
-      λ f e.
-          let w = l.invariant.1 f e in
-          let t = first_tree relative_row _ _ _ _ w.left_is c.loop-next-test.true c.index-rows-first.is in
-          let all_is = slice_of_first relative_row _ _ _ _ t in
-          let told = c.in_ok-trees.ensures _ all_is in
-          mark_goes_on _ _ _ _ _ _ _ _ _ _ w t told.0 told.1,
-    )
+mark_trees-loop-next-preserved t' c = (
+  c.tree_end-next.ensures.fits,
+  λ f e.
+      let w = c.loop-next.invariant.1 f e in
+      let t = tree_up_to _ _ _ _ w.left_is c.loop-next-test.true c.tree_end-next.ensures.size in
+      let told = c.in_ok-trees.ensures _ t.all in
+      mark_goes_on _ _ _ _ _ _ _ _ _ _ w t told.0 told.1,
+)
 
 pub mark_trees-returns : goal.mark_trees-returns
 mark_trees-returns t c =
     λ f e. mark_ends _ _ _ _ _ _ _ (c.loop-next.invariant.1 f e) (omega (arith, c.loop-next-test.false))
 
-pub mark_trees-slice_bounds-mark_tree-end : goal.mark_trees-slice_bounds-mark_tree-end
-mark_trees-slice_bounds-mark_tree-end t' c =
-    let w = c.loop-next.invariant.1 c.requires.0 c.requires.1 in
-    (first_tree relative_row _ _ _ _ w.left_is c.loop-next-test.true c.index-rows-first.is).fits
-
 pub mark_trees-mark_tree-requires : goal.mark_trees-mark_tree-requires
 mark_trees-mark_tree-requires t' c =
-    let w = c.loop-next.invariant.1 c.requires.0 c.requires.1 in
-    let t = first_tree relative_row _ _ _ _ w.left_is c.loop-next-test.true c.index-rows-first.is in
-    let all_is = slice_of_first relative_row _ _ _ _ t in
     let l = c.loop-next in
-    let few = shorter (l.next + c.index-rows-first.result.size - l.next) l.next c.args.rows.now in
-    (omega (arith, few, c.decreases), (_, all_is))
+    let w = l.invariant.1 c.requires.0 c.requires.1 in
+    let t = tree_up_to _ _ _ _ w.left_is c.loop-next-test.true c.tree_end-next.ensures.size in
+    (omega (arith, shorter (c.tree_end-next.result - l.next) l.next c.args.rows.now, c.decreases), (_, t.all))
 
 pub mark_trees-overflow_add-trees : goal.mark_trees-overflow_add-trees
 mark_trees-overflow_add-trees t' c =
     let w = c.loop-next.invariant.1 c.requires.0 c.requires.1 in
-    let t = first_tree relative_row _ _ _ _ w.left_is c.loop-next-test.true c.index-rows-first.is in
-    let all_is = slice_of_first relative_row _ _ _ _ t in
-    let told = c.in_ok-trees.ensures _ all_is in
+    let t = tree_up_to _ _ _ _ w.left_is c.loop-next-test.true c.tree_end-next.ensures.size in
+    let told = c.in_ok-trees.ensures _ t.all in
     omega (arith, mark_fits _ _ _ _ _ _ _ _ _ w t c.requires.1 told.1)
-
-pub mark_trees-loop-next-smaller : goal.mark_trees-loop-next-smaller
-mark_trees-loop-next-smaller t' c =
-    let w = c.loop-next.invariant.1 c.requires.0 c.requires.1 in
-    let t = first_tree relative_row _ _ _ _ w.left_is c.loop-next-test.true c.index-rows-first.is in
-    omega (arith, t.size, t.fits)
 
 pub mark_tree-returns-then-count-eq1 : goal.mark_tree-returns-then-count-eq1
 mark_tree-returns-then-count-eq1 t c =

@@ -39,4 +39,4 @@ returns g c =
     let r = c.put.result in
     let rest = subst (λ l. Puts (o c.put_tree.new.out) (o c.put.new.self) l r) c.as_slice.ensures c.put.ensures in
     subst (λ t. Puts (o c.args.out.now) (o c.put.new.self) (compact (verbose t)) r) (placed_tree_again t are.located)
-    (rest_goes (o c.args.out.now) (o c.put_tree.new.out) (o c.put.new.self) c.clear.new.self.text.items c.put_tree.new.gathered.text.items _ r c.clear.ensures (c.in_ok-put_tree.ensures.text (relative_tree t) [] [] at rows_are) rest)
+    (rest_goes (o c.args.out.now) (o c.put_tree.new.out) (o c.put.new.self) c.clear.new.self.text.items c.put_tree.new.self.gathered.text.items _ r c.clear.ensures (c.in_ok-put_tree.ensures.text (relative_tree t) [] [] at rows_are) rest)

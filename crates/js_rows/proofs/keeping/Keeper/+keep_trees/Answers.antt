@@ -1,11 +1,11 @@
-use Rattle.std.proofs.Common.{◌≡◌, ◌+◌, ◌-◌, [], OnOk, length, map, slice_index_or, refl, ap, sym, subst, ◌∙◌, arith}
+use Rattle.std.proofs.Common.{◌≡◌, ◌-◌, [], OnOk, length, map, slice_index_or, refl, ap, sym, subst, ◌∙◌, arith}
 use Rattle.js_tree.specs.Forest.{empty, tree}
 use Rattle.js_tree.proofs.FlatRows.{none_below, root_row, shorter}
 use Rattle.js_rows.specs.Relative.{escaped_tree, placed_unit}
 use Rattle.js_rows.specs.RelativeState.{relative_row}
 use Rattle.js_rows.specs.code.KeptBetween.{AreAdded, kept_between}
-use Rattle.js_rows.proofs.AddedRows.{add_ends, add_goes_on, add_starts, below_set, fewer_set, node_added, none_pending, same_parts, so_many, still_pending_at, still_there}
-use Rattle.js_rows.proofs.EscapedRows.{next_tree, none_of}
+use Rattle.js_rows.proofs.AddedRows.{add_ends, add_goes_on, add_starts, below_set, fewer_left, fewer_set, node_added, none_pending, same_parts, so_many, still_pending_at, still_there}
+use Rattle.js_rows.proofs.EscapedRows.{are_trees, next_tree, none_of}
 use Rattle.js_rows.proofs.KeptBetween.{node_goes}
 use Rattle.js_rows.proofs.MarkedRows.{as_many, first_mark, flat_rows, marked_below, marked_next, next_marks, root_mark}
 use Rattle.js_rows.proofs.RoomLeft.{fewer_below, some_row}
@@ -90,69 +90,48 @@ keep_trees-loop-next-init t c = (
   λ v f k i p h. add_starts v k i c.args.self.now.kept.items c.args.rows.now c.args.marks.now f h,
 )
 
-pub keep_trees-overflow_add-next : goal.keep_trees-overflow_add-next
-keep_trees-overflow_add-next t' c =
-    let l = c.loop-next in
-    let w = l.invariant.2 c.requires.0 c.requires.1 c.requires.2 in
-    let is = ap (slice_index_or l.rows l.next) c.index-rows-first.is in
-    omega (arith, (next_tree _ _ _ _ w.1 c.loop-next-test.true is).fits)
-
-pub keep_trees-slice_bounds-keep_tree-end : goal.keep_trees-slice_bounds-keep_tree-end
-keep_trees-slice_bounds-keep_tree-end t' c =
-    let l = c.loop-next in
-    let w = l.invariant.2 c.requires.0 c.requires.1 c.requires.2 in
-    let is = ap (slice_index_or l.rows l.next) c.index-rows-first.is in
-    (next_tree _ _ _ _ w.1 c.loop-next-test.true is).fits
+pub keep_trees-tree_end-next-requires-clause-trees : goal.keep_trees-tree_end-next-requires-clause-trees
+keep_trees-tree_end-next-requires-clause-trees t' c =
+    let w = c.loop-next.invariant.2 c.requires.0 c.requires.1 c.requires.2 in
+    are_trees _ w.0 w.1
 
 pub keep_trees-slice_bounds-keep_tree-end-in-loop-next : goal.keep_trees-slice_bounds-keep_tree-end-in-loop-next
 keep_trees-slice_bounds-keep_tree-end-in-loop-next t' c =
-    let l = c.loop-next in
-    let x = slice_index_or l.rows l.next c.index-rows-first.result in
-    let w = l.invariant.2 c.requires.0 c.requires.1 c.requires.2 in
-    let t = next_tree l.rows l.next w.0 x w.1 c.loop-next-test.true (ap (slice_index_or l.rows l.next) c.index-rows-first.is) in
-    omega (arith, t.fits, l.auto.rows, as_many c.args.rows.now c.args.marks.now c.requires.0 c.requires.1 c.requires.2)
+    omega (arith, c.tree_end-next.ensures.fits, c.loop-next.auto.rows, as_many c.args.rows.now c.args.marks.now c.requires.0 c.requires.1 c.requires.2)
 
 pub keep_trees-keep_tree-requires : goal.keep_trees-keep_tree-requires
 keep_trees-keep_tree-requires t' c =
     let l = c.loop-next in
-    let x = slice_index_or l.rows l.next c.index-rows-first.result in
     let w = l.invariant.2 c.requires.0 c.requires.1 c.requires.2 in
-    let t = next_tree l.rows l.next w.0 x w.1 c.loop-next-test.true (ap (slice_index_or l.rows l.next) c.index-rows-first.is) in
-    (omega (arith, shorter (l.next + x.size - l.next) l.next l.rows, l.auto.rows, c.decreases), (c.requires.0, t.unit, t.below, marked_next c.requires.0 c.args.marks.now l.rows l.next w.0 x t w.2))
+    let t = next_tree _ _ _ _ w.1 c.loop-next-test.true c.tree_end-next.ensures.size in
+    (omega (arith, shorter (c.tree_end-next.result - l.next) l.next l.rows, l.auto.rows, c.decreases), (c.requires.0, t.unit, t.below, marked_next c.requires.0 c.args.marks.now _ _ _ _ t w.2))
 
 pub keep_trees-loop-next-smaller : goal.keep_trees-loop-next-smaller
 keep_trees-loop-next-smaller t' c =
-    let l = c.loop-next in
-    let w = l.invariant.2 c.requires.0 c.requires.1 c.requires.2 in
-    let is = ap (slice_index_or l.rows l.next) c.index-rows-first.is in
-    let t = next_tree _ _ _ _ w.1 c.loop-next-test.true is in
-    let there = still_there _ _ _ _ c.keep_tree.new.rows t c.keep_tree.auto.rows in
-    omega (arith, there.count, t.size, t.fits)
+    let w = c.loop-next.invariant.2 c.requires.0 c.requires.1 c.requires.2 in
+    fewer_left _ _ _ _ c.keep_tree.new.rows (next_tree _ _ _ _ w.1 c.loop-next-test.true c.tree_end-next.ensures.size) c.keep_tree.auto.rows
 
 pub keep_trees-loop-next-preserved : goal.keep_trees-loop-next-preserved
 keep_trees-loop-next-preserved t' c =
     let l = c.loop-next in
     let marks = c.args.marks.now in
     let old = c.args.self.now.between in
-    let x = slice_index_or l.rows l.next c.index-rows-first.result in
-    let is = ap (slice_index_or l.rows l.next) c.index-rows-first.is in
-    let w0 = l.invariant.2 c.requires.0 c.requires.1 c.requires.2 in
-    let t0 = next_tree l.rows l.next w0.0 x w0.1 c.loop-next-test.true is in
-    let s0 = still_there l.rows l.next w0.0 x c.keep_tree.new.rows t0 c.keep_tree.auto.rows in (
-      omega (arith, s0.count, t0.fits),
+    let w = l.invariant.2 c.requires.0 c.requires.1 c.requires.2 in
+    let there = still_there _ _ _ _ c.keep_tree.new.rows (next_tree _ _ _ _ w.1 c.loop-next-test.true c.tree_end-next.ensures.size) c.keep_tree.auto.rows in (
+      omega (arith, there.count, c.tree_end-next.ensures.fits),
       record {
         parts = same_parts old l.self.between c.keep_tree.new.self.between l.invariant.1.parts c.in_ok-keep_tree.ensures.same.parts;
         start = c.in_ok-keep_tree.ensures.same.start ∙ l.invariant.1.start;
       },
       λ v f h.
           let w = l.invariant.2 v f h in
-          let t = next_tree l.rows l.next w.0 x w.1 c.loop-next-test.true is in
-          (t.after, ap (map relative_row) s0.after ∙ t.more, (next_marks v marks l.rows l.next w.0 x t w.2).more),
+          let t = next_tree _ _ _ _ w.1 c.loop-next-test.true c.tree_end-next.ensures.size in
+          (t.after, ap (map relative_row) there.after ∙ t.more, (next_marks v marks _ _ _ _ t w.2).more),
       λ v f k i p h.
           let w = l.invariant.3 v f k i p h in
-          let t = next_tree l.rows l.next w.left x w.left_is c.loop-next-test.true is in
-          let told = c.in_ok-keep_tree.ensures.rows v t.unit t.below k i (still_pending_at old l.self.between c.args.self.now.start l.self.start k i p l.invariant.1.parts l.invariant.1.start) (marked_next v marks l.rows l.next w.left x t w.marks_are) in
-          add_goes_on v k i c.args.self.now.kept.items l.self.kept.items c.keep_tree.new.self.kept.items l.rows _ marks l.next f x w t told s0.after,
+          let t = next_tree _ _ _ _ w.left_is c.loop-next-test.true c.tree_end-next.ensures.size in
+          let told = c.in_ok-keep_tree.ensures.rows v t.unit t.below k i (still_pending_at old l.self.between c.args.self.now.start l.self.start k i p l.invariant.1.parts l.invariant.1.start) (marked_next v marks _ _ _ _ t w.marks_are) in
+          add_goes_on v k i c.args.self.now.kept.items l.self.kept.items c.keep_tree.new.self.kept.items l.rows _ marks l.next f _ w t told there.after,
     )
 
 pub keep_trees-returns-clause-rows : goal.keep_trees-returns-clause-rows

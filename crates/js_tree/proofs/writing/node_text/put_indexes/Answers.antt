@@ -13,14 +13,14 @@ returns-in_err-put_comma g c =
     let l = c.loop-index in
     let next = seen_at (λ index. whole (pos index)) c.args.indexes.now l.index-index 0 c.loop-index-test.true in
     stops_at_comma _ _ _ _ _ _ _ _ _ l.invariant next
-    c.from_residual-in_err-put_comma.ensures.0 c.in_err-put_comma.ensures
+    c.from_residual-in_err-put_comma.ensures.0 c.in_err-put_comma.ensures.comma
 
 pub returns-in_err-put_number : goal.returns-in_err-put_number
 returns-in_err-put_number g c =
     let o = g.O.Out.progress in
     let l = c.loop-index in
     let next = seen_at (λ index. whole (pos index)) c.args.indexes.now l.index-index 0 c.loop-index-test.true in
-    stops_at_item _ _ _ _ _ _ _ _ _ _ l.invariant next c.in_ok-put_comma.ensures
+    stops_at_item _ _ _ _ _ _ _ _ _ _ l.invariant next c.in_ok-put_comma.ensures.comma
     c.from_residual-in_err-put_number.ensures.0
     (subst (λ z. Stops (o c.put_comma.new.out) (o c.put_number.new.out) (signed_decimal z)) c.from_u64.ensures
     c.in_err-put_number.ensures)
@@ -30,7 +30,7 @@ loop-index-preserved g c =
     let o = g.O.Out.progress in
     let l = c.loop-index in
     let next = seen_at (λ index. whole (pos index)) c.args.indexes.now l.index-index 0 c.loop-index-test.true in
-    item_goes _ _ _ _ _ _ _ _ _ l.invariant next c.in_ok-put_comma.ensures
+    item_goes _ _ _ _ _ _ _ _ _ _ l.invariant next c.in_ok-put_comma.ensures.comma c.in_ok-put_comma.ensures.later
     (subst (λ z. Goes (o c.put_comma.new.out) (o c.put_number.new.out) (signed_decimal z)) c.from_u64.ensures
     c.in_ok-put_number.ensures)
 

@@ -1,10 +1,8 @@
-use Rattle.std.proofs.Common.{◌≡◌, ◌≤◌, ◌+◌, ◌-◌, ◌*◌, ◌++◌, drop, length, map}
+use Rattle.std.proofs.Common.{◌≡◌, ◌+◌, ◌-◌, ◌*◌, ◌++◌, length, map}
 use Rattle.js_doc.specs.Seen.{value_of}
-use Rattle.js_tree.specs.Flat.{flat_of}
 use Rattle.js_tree.specs.FlatState.{row_of}
-use Rattle.js_tree.specs.Forest.{Forest}
 use Rattle.js_tree.specs.Form.{node_values}
-use Rattle.js_tree.specs.OutputUnit.{OutputUnit}
+use Rattle.js_tree.proofs.NextRows.{TreesLeft}
 use Rattle.js_tree.proofs.writing.row_docs.+root_doc.Given as goal
 
 abbrev pub decreases-root_doc : goal.decreases-root_doc
@@ -15,9 +13,7 @@ decreases-root_docs l = 2 * length l.rows.now + 1
 
 abbrev pub invariant-root_docs-loop-next : goal.invariant-root_docs-loop-next
 invariant-root_docs-loop-next l =
-    (l.next ≤ length l.rows)
-    × ((f : Forest OutputUnit) → map row_of l.rows ≡ flat_of f
-    → (left : Forest OutputUnit) × (map row_of (drop l.next l.rows) ≡ flat_of left) × (map value_of l.docs.items ++ node_values left ≡ node_values f))
+    TreesLeft row_of l.rows l.next (λ f left. map value_of l.docs.items ++ node_values left ≡ node_values f)
 
 abbrev pub decreases-root_docs-loop-next : goal.decreases-root_docs-loop-next
 decreases-root_docs-loop-next l = length l.rows - l.next

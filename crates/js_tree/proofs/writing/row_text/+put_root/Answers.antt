@@ -6,8 +6,8 @@ use Rattle.js_tree.specs.Form.{node_value, node_values}
 use Rattle.js_tree.proofs.Pieces.{then_puts, stops_in, stops_at_comma, stops_at_item, item_goes, array_ends}
 use Rattle.js_tree.proofs.FlatRows.{first_tree, root_row, all_gone, some_tree, shorter}
 use Rattle.js_tree.proofs.Nested.{not_none, is_none}
-use Rattle.js_tree.proofs.NextRows.{slice_of_first}
-use Rattle.js_tree.proofs.ChildTexts.{rest_below, row_leaf_text, rows_parent_text}
+use Rattle.js_tree.proofs.NextRows.{next_done, slice_of_first}
+use Rattle.js_tree.proofs.ChildTexts.{WroteTrees, rest_below, row_leaf_text, rows_parent_text}
 use Rattle.js_tree.proofs.writing.row_text.+put_root.Goals as goal
 
 pub put_root-returns-then-is_empty : goal.put_root-returns-then-is_empty
@@ -59,7 +59,7 @@ put_roots-returns-in_err-put_comma g t c =
     let w = c.loop-next.invariant.1 f e in
     let s = some_tree row_of _ _ _ w.1 c.loop-next-test.true in
     stops_at_comma _ _ _ _ _ (node_values s.after) (node_value s.unit (node_values s.below)) _ _ w.2
-    (ap node_values s.is) c.from_residual.ensures.0 c.in_err-put_comma.ensures
+    (ap node_values s.is) c.from_residual.ensures.0 c.in_err-put_comma.ensures.comma
 
 pub put_roots-overflow_add-end : goal.put_roots-overflow_add-end
 put_roots-overflow_add-end g t c =
@@ -86,7 +86,7 @@ put_roots-returns-in_err-put_root g t c =
     let w = c.loop-next.invariant.1 f e in
     let t = first_tree row_of _ _ _ _ w.1 c.loop-next-test.true c.index-rows-next.is in
     let all_is = slice_of_first row_of _ _ _ _ t in
-    stops_at_item _ _ _ _ _ _ (node_values t.after) _ _ _ w.2 (ap node_values t.is) c.in_ok-put_comma.ensures
+    stops_at_item _ _ _ _ _ _ (node_values t.after) _ _ _ w.2 (ap node_values t.is) c.in_ok-put_comma.ensures.comma
     c.from_residual-in_err-put_root.ensures.0 (c.in_err-put_root.ensures _ all_is)
 
 pub put_roots-loop-next-smaller : goal.put_roots-loop-next-smaller
@@ -97,19 +97,12 @@ put_roots-loop-next-smaller g t c =
 
 pub put_roots-loop-next-preserved : goal.put_roots-loop-next-preserved
 put_roots-loop-next-preserved g t c =
+    let o = g.O.Out.progress in
     let l = c.loop-next in
-    let w = l.invariant.1 c.requires.0 c.requires.1 in
-    let t = first_tree row_of _ _ _ _ w.1 c.loop-next-test.true c.index-rows-next.is in (
-      omega (arith, t.fits),
-      λ f e.
-          let w = l.invariant.1 f e in
-          let t = first_tree row_of _ _ _ _ w.1 c.loop-next-test.true c.index-rows-next.is in
-          let all_is = slice_of_first row_of _ _ _ _ t in
-          let goes =
-          item_goes _ _ _ _ _ _ (node_values t.after) _ _ w.2 (ap node_values t.is) c.in_ok-put_comma.ensures
-          (c.in_ok-put_root.ensures _ all_is) in
-          (t.after, t.more, goes),
-    )
+    next_done row_of c.args.rows.now l.next c.index-rows-next.result (WroteTrees (o c.args.out.now) (o l.out) l.later)
+    (WroteTrees (o c.args.out.now) (o c.put_root.new.out) c.put_comma.new.later) c.requires l.invariant c.loop-next-test.true c.index-rows-next.is
+    (λ f left t w. item_goes _ _ _ _ _ _ _ (node_values t.after) _ _ w (ap node_values t.is) c.in_ok-put_comma.ensures.comma c.in_ok-put_comma.ensures.later
+    (c.in_ok-put_root.ensures _ (slice_of_first row_of _ _ _ _ t)))
 
 pub put_roots-returns : goal.put_roots-returns
 put_roots-returns g t c =

@@ -19,20 +19,20 @@ returns-in_err-put_comma g c =
     let speaks = sym c.is_noted.ensures ∙ c.if-not-is_noted.false in
     let next = leaf_next row_of c.args.rows.now _ _ c.loop-row-test.true c.row-item.is speaks in
     stops_at_comma _ _ _ _ _ _ _ _ _ c.loop-row.invariant next
-    c.from_residual.ensures.0 c.in_err-put_comma.ensures
+    c.from_residual.ensures.0 c.in_err-put_comma.ensures.comma
 
 pub returns-in_err-put_leaf : goal.returns-in_err-put_leaf
 returns-in_err-put_leaf g c =
     let speaks = sym c.is_noted.ensures ∙ c.if-not-is_noted.false in
     let next = leaf_next row_of c.args.rows.now _ _ c.loop-row-test.true c.row-item.is speaks in
-    stops_at_item _ _ _ _ _ _ _ _ _ _ c.loop-row.invariant next c.in_ok-put_comma.ensures
+    stops_at_item _ _ _ _ _ _ _ _ _ _ c.loop-row.invariant next c.in_ok-put_comma.ensures.comma
     c.from_residual-in_err-put_leaf.ensures.0 c.in_err-put_leaf.ensures
 
 pub loop-row-preserved : goal.loop-row-preserved
 loop-row-preserved g c =
     let speaks = sym c.is_noted.ensures ∙ c.if-not-is_noted.false in
     let next = leaf_next row_of c.args.rows.now _ _ c.loop-row-test.true c.row-item.is speaks in
-    item_goes _ _ _ _ _ _ _ _ _ c.loop-row.invariant next c.in_ok-put_comma.ensures c.in_ok-put_leaf.ensures
+    item_goes _ _ _ _ _ _ _ _ _ _ c.loop-row.invariant next c.in_ok-put_comma.ensures.comma c.in_ok-put_comma.ensures.later c.in_ok-put_leaf.ensures
 
 pub returns : goal.returns
 returns g c =

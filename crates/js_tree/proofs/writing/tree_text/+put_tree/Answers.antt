@@ -49,7 +49,7 @@ pub put_trees-returns-in_err-put_comma : goal.put_trees-returns-in_err-put_comma
 put_trees-returns-in_err-put_comma g t c =
     let l = c.loop-tree in
     let next = tree_next c.args.trees.now l.tree-index _ c.loop-tree-test.true c.tree-item.is in
-    stops_at_comma _ _ _ _ _ _ _ _ _ l.invariant next c.from_residual.ensures.0 c.in_err-put_comma.ensures
+    stops_at_comma _ _ _ _ _ _ _ _ _ l.invariant next c.from_residual.ensures.0 c.in_err-put_comma.ensures.comma
 
 pub put_trees-put_tree-requires : goal.put_trees-put_tree-requires
 put_trees-put_tree-requires g t c κs within =
@@ -63,14 +63,14 @@ pub put_trees-returns-in_err-put_tree : goal.put_trees-returns-in_err-put_tree
 put_trees-returns-in_err-put_tree g t c =
     let l = c.loop-tree in
     let next = tree_next c.args.trees.now l.tree-index _ c.loop-tree-test.true c.tree-item.is in
-    stops_at_item _ _ _ _ _ _ _ _ _ _ l.invariant next c.in_ok-put_comma.ensures
+    stops_at_item _ _ _ _ _ _ _ _ _ _ l.invariant next c.in_ok-put_comma.ensures.comma
     c.from_residual-in_err-put_tree.ensures.0 c.in_err-put_tree.ensures
 
 pub put_trees-loop-tree-preserved : goal.put_trees-loop-tree-preserved
 put_trees-loop-tree-preserved g t c =
     let l = c.loop-tree in
     let next = tree_next c.args.trees.now l.tree-index _ c.loop-tree-test.true c.tree-item.is in
-    item_goes _ _ _ _ _ _ _ _ _ l.invariant next c.in_ok-put_comma.ensures c.in_ok-put_tree.ensures
+    item_goes _ _ _ _ _ _ _ _ _ _ l.invariant next c.in_ok-put_comma.ensures.comma c.in_ok-put_comma.ensures.later c.in_ok-put_tree.ensures
 
 pub put_trees-returns : goal.put_trees-returns
 put_trees-returns g t c =

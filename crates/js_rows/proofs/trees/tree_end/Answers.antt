@@ -2,7 +2,7 @@ use Rattle.std.proofs.Common.{◌+◌, ap, ◌∙◌, sym, arith}
 use Rattle.std.proofs.lemmas.List.{get_or_default}
 use Rattle.js_tree.proofs.FlatRows.{first_tree}
 use Rattle.js_rows.specs.RelativeState.{relative_row}
-use Rattle.js_rows.proofs.differing.tree_end.Goals as goal
+use Rattle.js_rows.proofs.trees.tree_end.Goals as goal
 
 pub overflow_add-result : goal.overflow_add-result
 overflow_add-result c =

@@ -7,7 +7,7 @@ use Rattle.js_rows.specs.Relative.{placed}
 use Rattle.js_rows.specs.code.Listing.{values_text}
 use Rattle.js_rows.specs.code.RelativeText.{AreRowsOfTrees}
 use Rattle.js_rows.proofs.Gathering.{LeftToPass}
-use Rattle.js_rows.proofs.verbose_text.+put_tree.Given as goal
+use Rattle.js_rows.proofs.verbose_text.Nodes.+put_tree.Given as goal
 
 abbrev pub decreases-put_tree : goal.decreases-put_tree
 decreases-put_tree g l = 3 * length l.rows.now
@@ -21,11 +21,11 @@ decreases-put_trees g l = 3 * length l.rows.now + 1
 abbrev pub invariant-put_trees-loop-next : goal.invariant-put_trees-loop-next
 invariant-put_trees-loop-next g l =
     (l.next ≤ length l.rows)
-    × IsBack l.fn.locations l.locations
+    × IsBack l.fn.self.locations l.self.locations
     × ((f : Forest OutputUnit) → AreRowsOfTrees l.rows f
     → (left : Forest OutputUnit) × AreRowsOfTrees (drop l.next l.rows) left
-    × ((keyword instance : List ℕ) → AreAt l.fn.locations keyword instance
-    → LeftToPass (g.O.Out.progress l.fn.out) (g.O.Out.progress l.out) l.fn.gathered.text.items l.gathered.text.items (values_text l.later (node_values (placed keyword instance left))) (values_text false (node_values (placed keyword instance f)))))
+    × ((keyword instance : List ℕ) → AreAt l.fn.self.locations keyword instance
+    → LeftToPass (g.O.Out.progress l.fn.out) (g.O.Out.progress l.out) l.fn.self.gathered.text.items l.self.gathered.text.items (values_text l.later (node_values (placed keyword instance left))) (values_text false (node_values (placed keyword instance f)))))
 
 abbrev pub decreases-put_trees-loop-next : goal.decreases-put_trees-loop-next
 decreases-put_trees-loop-next g l = length l.rows - l.next
