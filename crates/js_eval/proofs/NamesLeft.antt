@@ -1,11 +1,15 @@
 -- The names that are left of a keyword's, and the members that are left.
-use Rattle.std.proofs.Common.{◌≡◌, ℕ, zero, suc, ◌+◌, List, [], ◌∷◌, Some, None, Less, Equal, Greater, drop, filter, slice_get, ap, subst, sym, ◌∙◌, arith}
+use Rattle.std.proofs.Common.{◌≡◌, ℕ, zero, suc, ◌+◌, List, [], ◌∷◌, Some, None, String, Ordering, Less, Equal, Greater, drop, filter, map, slice_get, ap, ap₂, subst, sym, ◌∙◌, arith}
+use Rattle.std.specs.Global.{Global}
 use Rattle.std.proofs.lemmas.Cmp.{nat_list_cmp_total}
 use Rattle.std.specs.Ordering.{ordering_reverse}
 use Rattle.js_assert.specs.Argument.{has}
 use Rattle.js_doc.specs.Members.{get, name_cmp, IsAscending, IsBelowHead}
+use Rattle.js_doc.specs.Seen.{pair_of}
 use Rattle.js_doc.specs.Value.{Named, Value}
+use Rattle.js_doc.specs.declared.doc.Doc.{Doc}
 use Rattle.js_doc.proofs.FiniteMaps.{get_below, name_equal}
+use Rattle.js_eval.specs.code.NamesLeft.{names_left}
 use Rattle.js_eval.proofs.Shared.{later_names, member_first, one_more}
 
 -- the first that is left has the rank, and the others are left behind it
@@ -20,6 +24,10 @@ next_left (y ∷ ys) (suc r) x xs e =
     let more = next_left ys r x xs e in
     let number : suc (r + 1) ≡ suc r + 1 = omega arith in
     (subst (λ n. xs ≡ drop n (y ∷ ys)) number more.0, more.1)
+
+-- the others are left behind the rank after it
+pub left_behind : {A : Type 0} (all : List A) (r n : ℕ) (x : A) (xs : List A) → n ≡ r + 1 → x ∷ xs ≡ drop r all → xs ≡ drop n all
+left_behind all r n x xs e h = (next_left all r x xs h).0 ∙ ap (λ k. drop k all) (sym e)
 
 -- ---- of names and members that ascend, the first name looked up
 
@@ -47,6 +55,21 @@ pass_member n m ns ms e a =
     let below : name_cmp m.0 n.0 ≡ Less = nat_list_cmp_total.antisymm m.0 n.0 ∙ ap ordering_reverse e in
     let none : get m.0 (n ∷ ns) ≡ None = get_below m.0 (n ∷ ns) below a in
     cc
+
+-- so the first name may be passed over, or the first member, by the order that was found
+pub name_passed : (n m : String Global × Doc) (ns ms : List (String Global × Doc)) (whole : Named) (a b : List ℕ) (o : Ordering)
+    → o ≡ name_cmp a b → a ≡ (pair_of n).0 → b ≡ (pair_of m).0 → o ≡ Less → IsAscending (map pair_of (m ∷ ms))
+    → names_left (map pair_of (m ∷ ms)) (n ∷ ns) ≡ whole → names_left (map pair_of (m ∷ ms)) ns ≡ whole
+name_passed n m ns ms whole a b o found first second less ascend same =
+    let e : name_cmp (pair_of n).0 (pair_of m).0 ≡ Less = sym (found ∙ ap₂ name_cmp first second) ∙ less in
+    sym (pass_name (pair_of n) (pair_of m) (map pair_of ns) (map pair_of ms) e ascend) ∙ same
+
+pub member_passed : (n m : String Global × Doc) (ns ms : List (String Global × Doc)) (whole : Named) (a b : List ℕ) (o : Ordering)
+    → o ≡ name_cmp a b → a ≡ (pair_of n).0 → b ≡ (pair_of m).0 → o ≡ Greater → IsAscending (map pair_of (n ∷ ns))
+    → names_left (map pair_of (m ∷ ms)) (n ∷ ns) ≡ whole → names_left (map pair_of ms) (n ∷ ns) ≡ whole
+member_passed n m ns ms whole a b o found first second greater ascend same =
+    let e : name_cmp (pair_of n).0 (pair_of m).0 ≡ Greater = sym (found ∙ ap₂ name_cmp first second) ∙ greater in
+    sym (pass_member (pair_of n) (pair_of m) (map pair_of ns) (map pair_of ms) e ascend) ∙ same
 
 -- where both names are equal, it is the first to come
 pub take_both : (n m : List ℕ × Value) (ns ms : Named) → name_cmp n.0 m.0 ≡ Equal → IsAscending (m ∷ ms)

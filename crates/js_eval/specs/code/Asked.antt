@@ -1,5 +1,5 @@
 -- The applications that an `Asking` still has to ask for, of the schemas that it was made for.
-use Rattle.std.specs.Prelude.{[], ◌∷◌, Option, Some, None}
+use Rattle.std.specs.Prelude.{◌≡◌, [], ◌∷◌, MatchOption, Option, Some, None}
 use Rattle.std.specs.Prelude as prelude
 use Rattle.js_doc.specs.Seen.{value_of}
 use Rattle.js_bundle.specs.Document.{Documents}
@@ -26,6 +26,10 @@ asked documents (Names c) = names_asked documents c
 asked documents (Items c) = items_asked documents c
 asked documents (Members c) = members_asked documents c.value
 asked documents (Patterns c) = patterns_asked documents c.value
+
+-- of what was asked for before, this is the next, and the others are asked for afterwards
+abbrev pub IsNext : Documents → prelude.List (Application Site) → Option Applied → prelude.List (Application Site) → Type 0
+IsNext documents before o after = MatchOption o (before ≡ []) (λ a. before ≡ applied_of documents a ∷ after)
 
 -- ---- it was made for these
 

@@ -1,12 +1,14 @@
 //! Applications: which subschema of a keyword is applied to which part of a value.
 ghost use Rattle.std.specs.Prelude.{◌≡◌};
+ghost use Rattle.js_bundle.specs.Ranked.{HoldsAtRank};
 ghost use Rattle.js_eval.specs.code.Applied.{IsHeld, applied, applied_of, at_in, site_in, step_in, applied_value};
 ghost use Rattle.js_eval.specs.code.Asked.{IsApplied};
+ghost use Rattle.js_walk.specs.code.Starting.{IsAtPlace, by_keyword};
 ghost use Rattle.js_walk.specs.code.Terms.{IsSchemaAt, instance_of, numbered_site, step_of, value_of};
 
 use js_bundle::{Place, Schemas, Step};
 use js_doc::Doc;
-use js_walk::{Applied, Instance, subschema_at};
+use js_walk::{Applied, Instance, KeywordAt, below_at_rank, subschema_at};
 
 /// Where to find the subschemas that a keyword applies to the parts of a value.
 #[derive(Clone, Copy)]
@@ -85,6 +87,35 @@ pub(crate) fn apply_to_part<'a>(
         schema,
         step: via,
         at,
+        value,
+    }
+}
+
+/// The application of the schema that a keyword holds at this rank, behind `step`. `to`: the step from the keyword's
+/// value to this one.
+pub(crate) fn apply_at_rank<'a>(
+    schemas: &Schemas,
+    at: &KeywordAt<'a>,
+    step: Step<'a>,
+    rank: usize,
+    held: &'a Doc,
+    to: Step<'a>,
+    value: Instance<'a>,
+) -> Applied<'a>
+    requires place { IsAtPlace schemas.now at.now }
+    requires held { HoldsAtRank (value_of at.now.schema.now) at.now.keyword.name.now (step_of step) rank
+        (value_of held.now) }
+    ensures applied { applied_of schemas.now result
+        ≡ by_keyword schemas.now at.now (step_of step.entry) (step_of to.entry) (instance_of value.entry) }
+    ensures is { IsApplied schemas.now result }
+{
+    let keyword = at.keyword;
+    let (place, schema) = below_at_rank(schemas, at.place, at.schema, keyword, step, rank, held);
+    Applied {
+        place,
+        schema,
+        step,
+        at: to,
         value,
     }
 }

@@ -1,16 +1,15 @@
 //! The applications that a keyword asks for, one after another (Core, sections 8.2.3, 10 and 11).
 ghost use Rattle.std.specs.Prelude.{◌≡◌, ◌∷◌, [], IfOk, MatchOption};
-ghost use Rattle.js_eval.specs.code.Applied.{applied_of};
-ghost use Rattle.js_eval.specs.code.Asked.{IsApplied, IsAsking, IsOne, asked, one_asked};
+ghost use Rattle.js_eval.specs.code.Asked.{IsApplied, IsAsking, IsNext, IsOne, asked, one_asked};
 ghost use Rattle.js_walk.specs.code.Terms.{Documents, IsSchemaAt, instance_of, numbered_site, value_of};
 ghost use Rattle.js_walk.specs.SchemaSet as spec;
 
-use crate::cursors::item_cursor::{ItemCursor, next_on_item};
-use crate::cursors::list_cursor::{ListCursor, next_in_list};
-use crate::cursors::member_cursor::{MemberCursor, next_on_member};
-use crate::cursors::name_cursor::{NameCursor, next_of_names};
-use crate::cursors::pattern_cursor::{PatternCursor, next_matching};
-use crate::searching::searchers::Searchers;
+use crate::cursors::item_cursor::ItemCursor;
+use crate::cursors::list_cursor::ListCursor;
+use crate::cursors::member_cursor::MemberCursor;
+use crate::cursors::name_cursor::NameCursor;
+use crate::cursors::pattern_cursor::PatternCursor;
+use crate::searching::searchers::{Search, Searchers};
 use js_bundle::{Place, Schemas, Step};
 use js_doc::{Doc, Memory};
 use js_walk::{Applied, Instance};
@@ -73,26 +72,30 @@ pub(crate) fn next_asked<'a>(
     asking: &mut Asking<'a>,
 ) -> Result<Option<Applied<'a>>, Memory>
     requires { IsAsking schemas.now asking.old }
-    ensures next { IfOk result (λ o. MatchOption o (asked schemas.now asking.old ≡ [])
-        (λ a. asked schemas.now asking.old ≡ applied_of schemas.now a ∷ asked schemas.now asking.new)) }
+    ensures next { IfOk result (λ o. IsNext schemas.now (asked schemas.now asking.old) o
+        (asked schemas.now asking.new)) }
     ensures applied { IfOk result (λ o. MatchOption o (Unit {0}) (λ a. IsApplied schemas.now a)) }
     ensures is { IfOk result (λ _. IsAsking schemas.now asking.new) }
 {
+    let search = Search {
+        alloc,
+        schemas,
+        searchers,
+    };
     match asking {
         Asking::One(one) => Ok(next_alone(schemas, one)),
-        Asking::List(list) => Ok(next_in_list(schemas, list)),
-        Asking::Names(names) => Ok(next_of_names(schemas, names)),
-        Asking::Items(items) => Ok(next_on_item(schemas, items)),
-        Asking::Members(members) => next_on_member(alloc, schemas, searchers, members),
-        Asking::Patterns(patterns) => next_matching(alloc, schemas, searchers, patterns),
+        Asking::List(list) => Ok(list.next_application(schemas)),
+        Asking::Names(names) => Ok(names.next_application(schemas)),
+        Asking::Items(items) => Ok(items.next_application(schemas)),
+        Asking::Members(members) => members.next_application(&search),
+        Asking::Patterns(patterns) => patterns.next_application(&search),
     }
 }
 
 #[tactic(auto, using(crate::proofs::AskedNothing::taken, crate::proofs::AskedNothing::taken_applied))]
 fn next_alone<'a>(_schemas: &Schemas, one: &mut Option<Applied<'a>>) -> Option<Applied<'a>>
     requires { IsOne _schemas.now one.old }
-    ensures next { MatchOption result (one_asked _schemas.now one.old ≡ [])
-        (λ a. one_asked _schemas.now one.old ≡ applied_of _schemas.now a ∷ one_asked _schemas.now one.new) }
+    ensures next { IsNext _schemas.now (one_asked _schemas.now one.old) result (one_asked _schemas.now one.new) }
     ensures applied { MatchOption result (Unit {0}) (λ a. IsApplied _schemas.now a) }
     ensures is { IsOne _schemas.now one.new }
 {

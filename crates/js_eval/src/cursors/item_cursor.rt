@@ -1,8 +1,8 @@
 //! Applications item by item (Core, sections 10.2.1, 10.3.1 and 11.2): each schema of a list on the value, or a schema
 //! on each item of an array.
 ghost use Rattle.std.specs.Prelude.{◌≡◌, ◌∷◌, [], MatchOption};
-ghost use Rattle.js_eval.specs.code.Applied.{IsHeld, applied_of};
-ghost use Rattle.js_eval.specs.code.Asked.{IsApplied};
+ghost use Rattle.js_eval.specs.code.Applied.{IsHeld};
+ghost use Rattle.js_eval.specs.code.Asked.{IsApplied, IsNext};
 ghost use Rattle.js_eval.specs.code.Cursors.{is_marked, items_asked, items_left};
 ghost use Rattle.js_walk.specs.code.Terms.{value_of};
 
@@ -23,23 +23,17 @@ pub(crate) struct ItemCursor<'a> {
     pub passed_over: Vec<bool>,
 }
 
-/// The next application, or None after the last.
-pub(crate) fn next_on_item<'a>(
-    schemas: &'a Schemas,
-    cursor: &mut ItemCursor<'a>,
-) -> Option<Applied<'a>>
-    requires { IsHeld schemas.now cursor.old.held }
-    ensures next { MatchOption result (items_asked schemas.now cursor.old ≡ [])
-        (λ a. items_asked schemas.now cursor.old ≡ applied_of schemas.now a ∷ items_asked schemas.now cursor.new) }
-    ensures is { MatchOption result (Unit {0}) (λ a. IsApplied schemas.now a) }
-    ensures held { IsHeld schemas.now cursor.new.held }
-{
-    let (index, item) = next_item(
-        cursor.items,
-        cursor.passed_over.as_slice(),
-        &mut cursor.next,
-    )?;
-    Some(apply_to_part(schemas, &cursor.held, &cursor.to, Step::Index(index), item))
+impl<'a> ItemCursor<'a> {
+    /// The next application, or None after the last.
+    pub fn next_application(&mut self, schemas: &'a Schemas) -> Option<Applied<'a>>
+        requires { IsHeld schemas.now self.old.held }
+        ensures next { IsNext schemas.now (items_asked schemas.now self.old) result (items_asked schemas.now self.new) }
+        ensures is { MatchOption result (Unit {0}) (λ a. IsApplied schemas.now a) }
+        ensures held { IsHeld schemas.now self.new.held }
+    {
+        let (index, item) = next_item(self.items, self.passed_over.as_slice(), &mut self.next)?;
+        Some(apply_to_part(schemas, &self.held, &self.to, Step::Index(index), item))
+    }
 }
 
 // The next item that isn't skipped, and its index.

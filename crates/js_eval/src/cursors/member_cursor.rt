@@ -5,19 +5,18 @@ ghost use Rattle.std.specs.List.{list_any};
 ghost use Rattle.std.specs.Option.{option_map_or};
 ghost use Rattle.js_assert.specs.Pattern.{matches};
 ghost use Rattle.js_doc.specs.Members.{get};
-ghost use Rattle.js_eval.specs.code.Applied.{IsHeld, applied_of};
-ghost use Rattle.js_eval.specs.code.Asked.{IsApplied};
+ghost use Rattle.js_eval.specs.code.Applied.{IsHeld};
+ghost use Rattle.js_eval.specs.code.Asked.{IsApplied, IsNext};
 ghost use Rattle.js_eval.specs.code.Cursors.{is_chosen, is_named, members_asked, chosen_members, named_in};
 ghost use Rattle.js_walk.specs.code.Terms.{entries, value_of};
 
 use crate::cursors::application::{Held, To, apply_to_part};
 use crate::schema::argument_in;
 use crate::searching::name_set::is_in;
-use crate::searching::searchers::{NamedPattern, Searchers};
+use crate::searching::searchers::{NamedPattern, Search};
 use js_bundle::{Place, Schemas, Step};
 use js_doc::{Doc, Members, Memory, Pairs};
 use js_walk::{Applied, object_in};
-use std::alloc::Global;
 use std::collections::BTreeSet;
 
 /// Which members a keyword chooses, by their names.
@@ -59,45 +58,34 @@ pub(crate) fn object_at<'a>(schema: &'a Doc, keyword: &str) -> Option<&'a Member
     }
 }
 
-/// The next application, or None after the last.
-///
-/// # Errors
-/// `Memory` if an allocation fails; a search with a pattern may need one.
-pub(crate) fn next_on_member<'a>(
-    alloc: Global,
-    schemas: &'a Schemas,
-    searchers: &Searchers<'a>,
-    cursor: &mut MemberCursor<'a>,
-) -> Result<Option<Applied<'a>>, Memory>
-    requires { IsHeld schemas.now cursor.old.held }
-    ensures next { IfOk result (λ o. MatchOption o (members_asked schemas.now cursor.old ≡ [])
-        (λ a. members_asked schemas.now cursor.old ≡ applied_of schemas.now a ∷ members_asked schemas.now cursor.new)) }
-    ensures is { IfOk result (λ o. MatchOption o (Unit {0}) (λ a. IsApplied schemas.now a)) }
-    ensures held { cursor.new.held ≡ cursor.old.held }
-{
-    match next_member(
-        alloc,
-        schemas,
-        searchers,
-        &cursor.choice,
-        &mut cursor.members,
-    )? {
-        Some((name, member)) => Ok(Some(apply_to_part(
-            schemas,
-            &cursor.held,
-            &cursor.to,
-            Step::Name(name),
-            member,
-        ))),
-        None => Ok(None),
+impl<'a> MemberCursor<'a> {
+    /// The next application, or None after the last.
+    ///
+    /// # Errors
+    /// `Memory` if an allocation fails; a search with a pattern may need one.
+    pub fn next_application(
+        &mut self,
+        search: &Search<'_, 'a>,
+    ) -> Result<Option<Applied<'a>>, Memory>
+        requires { IsHeld search.now.schemas.now self.old.held }
+        ensures next { IfOk result (λ o. IsNext search.now.schemas.now
+            (members_asked search.now.schemas.now self.old) o (members_asked search.now.schemas.now self.new)) }
+        ensures is { IfOk result (λ o. MatchOption o (Unit {0}) (λ a. IsApplied search.now.schemas.now a)) }
+        ensures held { self.new.held ≡ self.old.held }
+    {
+        match next_member(search, &self.choice, &mut self.members)? {
+            Some((name, member)) => {
+                let step = Step::Name(name);
+                Ok(Some(apply_to_part(search.schemas, &self.held, &self.to, step, member)))
+            }
+            None => Ok(None),
+        }
     }
 }
 
 // The next chosen member.
 fn next_member<'a>(
-    alloc: Global,
-    schemas: &'a Schemas,
-    searchers: &Searchers<'a>,
+    search: &Search<'_, 'a>,
     choice: &Choice<'a>,
     members: &mut Pairs<'a>,
 ) -> Result<Option<(&'a str, &'a Doc)>, Memory>
@@ -107,20 +95,14 @@ fn next_member<'a>(
 {
     while let Some((name, member)) = members.next() {
         let name = name.as_str();
-        if is_chosen(alloc, schemas, searchers, choice, name)? {
+        if is_chosen(search, choice, name)? {
             return Ok(Some((name, member)));
         }
     }
     Ok(None)
 }
 
-fn is_chosen<'a>(
-    alloc: Global,
-    schemas: &'a Schemas,
-    searchers: &Searchers<'a>,
-    choice: &Choice<'a>,
-    name: &str,
-) -> Result<bool, Memory>
+fn is_chosen<'a>(search: &Search<'_, 'a>, choice: &Choice<'a>, name: &str) -> Result<bool, Memory>
     ensures { IfOk result (λ b. b ≡ is_chosen choice.now name.now) }
 {
     match choice {
@@ -134,7 +116,7 @@ fn is_chosen<'a>(
                 return Ok(true);
             };
             let place = adjacent.place;
-            Ok(!matches_any(alloc, schemas, searchers, place, patterns, name)?)
+            Ok(!matches_any(search, place, patterns, name)?)
         }
         Choice::Except(names) => Ok(!is_in(names, name)),
     }
@@ -151,21 +133,20 @@ fn is_named(properties: Option<&Members>, name: &str) -> bool
 
 // Whether one of the patterns of `patternProperties` at the place matches the name, as stored or by searches.
 fn matches_any<'a>(
-    alloc: Global,
-    schemas: &'a Schemas,
-    searchers: &Searchers<'a>,
+    search: &Search<'_, 'a>,
     place: Place,
     patterns: &'a Members,
     name: &str,
 ) -> Result<bool, Memory>
     ensures { IfOk result (λ b. b ≡ list_any (λ p. matches p.0 name.now) patterns.now) }
 {
+    let searchers = search.searchers;
     if let Some(answer) = searchers.any_kept(patterns, name) {
         return Ok(answer);
     }
     for (pattern, _) in patterns.pairs() {
-        let built = pattern_of(schemas, place, pattern.as_str())?;
-        if searchers.matches_name(alloc, built, name)? {
+        let built = pattern_of(search.schemas, place, pattern.as_str())?;
+        if searchers.matches_name(search.alloc, built, name)? {
             return Ok(true);
         }
     }

@@ -5,23 +5,21 @@ ghost use Rattle.std.specs.Prelude.{◌≡◌, ◌∷◌, ◌+◌, ◌<◌, ◌^
 ghost use Rattle.js_doc.specs.Members.{IsAscending};
 ghost use Rattle.js_doc.specs.Value as doc;
 ghost use Rattle.js_bundle.specs.Ranked.{is_name};
-ghost use Rattle.js_eval.specs.code.Applied.{applied_of};
-ghost use Rattle.js_eval.specs.code.Asked.{IsApplied};
+ghost use Rattle.js_eval.specs.code.Asked.{IsApplied, IsNext};
 ghost use Rattle.js_eval.specs.code.NamesLeft.{AreLeft, IsNames, members_among, names_asked, names_left};
 ghost use Rattle.js_walk.specs.code.Starting.{HoldsBy, IsAtPlace, on_namesakes};
 ghost use Rattle.js_walk.specs.code.Terms.{Documents, entries, has, pair_of, value_of};
 
-use js_bundle::{Place, Schemas, Step};
+use crate::cursors::application::apply_at_rank;
+use js_bundle::{Schemas, Step};
 use js_doc::{Doc, Members, Pairs, name_order};
-use js_walk::{Applied, Instance, Keyword, KeywordAt, below_at_rank};
+use js_walk::{Applied, Instance, KeywordAt};
 use std::cmp::Ordering;
 
 /// The names in `properties` that are still to come, and the members to find them among.
 #[derive(Drop)]
 pub(crate) struct NameCursor<'a> {
-    pub place: Place,
-    pub schema: &'a Doc,
-    pub keyword: Keyword<'a>,
+    pub at: KeywordAt<'a>,
     pub names: Pairs<'a>,
     /// The number of names before the next one.
     pub rank: usize,
@@ -37,83 +35,63 @@ pub(crate) enum Among<'a> {
     Left(Pairs<'a>),
 }
 
-/// The schema of each name that a member has, applied to the member.
-pub(crate) fn each_of_names<'a>(
-    at: &KeywordAt<'a>,
-    named: &'a Members,
-    among: Among<'a>,
-) -> NameCursor<'a>
-    requires at { HoldsBy is_name at.now }
-    requires named { named.now ≡ entries (value_of at.now.keyword.argument.now) }
-    requires ascend { IsAscending (members_among among) }
-    ensures asked { (documents : Documents) → names_asked documents result
-        ≡ on_namesakes documents at.now (filter (λ m. has m.0 named.now) (members_among among.entry)) }
-    ensures is { (documents : Documents) → IsAtPlace documents at.now → IsNames documents result }
-{
-    NameCursor {
-        place: at.place,
-        schema: at.schema,
-        keyword: at.keyword,
-        names: named.pairs(),
-        rank: 0,
-        among,
+impl<'a> NameCursor<'a> {
+    /// The schema of each name that a member has, applied to the member.
+    pub fn new(at: &KeywordAt<'a>, named: &'a Members, among: Among<'a>) -> NameCursor<'a>
+        requires at { HoldsBy is_name at.now }
+        requires named { named.now ≡ entries (value_of at.now.keyword.argument.now) }
+        requires ascend { IsAscending (members_among among) }
+        ensures asked { (documents : Documents) → names_asked documents result
+            ≡ on_namesakes documents at.now (filter (λ m. has m.0 named.now) (members_among among.entry)) }
+        ensures is { (documents : Documents) → IsAtPlace documents at.now → IsNames documents result }
+    {
+        NameCursor {
+            at: KeywordAt {
+                place: at.place,
+                schema: at.schema,
+                keyword: at.keyword,
+            },
+            names: named.pairs(),
+            rank: 0,
+            among,
+        }
+    }
+
+    /// The next application, or None after the last.
+    pub fn next_application(&mut self, schemas: &Schemas) -> Option<Applied<'a>>
+        requires { IsNames schemas.now self.old }
+        ensures next { IsNext schemas.now (names_asked schemas.now self.old) result (names_asked schemas.now self.new) }
+        ensures applied { MatchOption result (Unit {0}) (λ a. IsApplied schemas.now a) }
+        ensures is { IsNames schemas.now self.new }
+    {
+        let (rank, name, held, member) = self.among.next_name(&mut self.names, &mut self.rank)?;
+        let step = Step::Name(name);
+        let value = Instance::Doc(member);
+        Some(apply_at_rank(schemas, &self.at, step, rank, held, step, value))
     }
 }
 
-/// The next application, or None after the last.
-pub(crate) fn next_of_names<'a>(
-    schemas: &Schemas,
-    cursor: &mut NameCursor<'a>,
-) -> Option<Applied<'a>>
-    requires { IsNames schemas.now cursor.old }
-    ensures next { MatchOption result (names_asked schemas.now cursor.old ≡ [])
-        (λ a. names_asked schemas.now cursor.old ≡ applied_of schemas.now a ∷ names_asked schemas.now cursor.new) }
-    ensures applied { MatchOption result (Unit {0}) (λ a. IsApplied schemas.now a) }
-    ensures is { IsNames schemas.now cursor.new }
-{
-    let (rank, name, held, member) = next_name(
-        &mut cursor.names,
-        &mut cursor.rank,
-        &mut cursor.among,
-    )?;
-    let step = Step::Name(name);
-    let (place, schema) = below_at_rank(
-        schemas,
-        cursor.place,
-        cursor.schema,
-        cursor.keyword,
-        step,
-        rank,
-        held,
-    );
-    Some(Applied {
-        place,
-        schema,
-        step: Step::Name(name),
-        at: Step::Name(name),
-        value: Instance::Doc(member),
-    })
-}
-
-// The next name that a member has: its rank among all names, the name, its schema and the member.
-fn next_name<'a>(
-    names: &mut Pairs<'a>,
-    rank: &mut usize,
-    among: &mut Among<'a>,
-) -> Option<(usize, &'a str, &'a Doc, &'a Doc)>
-    requires few { rank.old + length names.old < 2 ^ 64 }
-    requires ascend { IsAscending (map pair_of names.old) × IsAscending (members_among among.old) }
-    ensures next { MatchOption result (names_left (members_among among.old) names.old ≡ [])
-        (λ f. names_left (members_among among.old) names.old
-        ≡ (f.1.now, value_of f.3.now) ∷ names_left (members_among among.new) names.new) }
-    ensures left { (all : doc.Named) → AreLeft all rank.old names.old → AreLeft all rank.new names.new
-        × MatchOption result (Unit {0}) (λ f. slice_get all f.0 ≡ Some (f.1.now, value_of f.2.now)) }
-    ensures few { rank.new + length names.new < 2 ^ 64 }
-    ensures ascend { IsAscending (map pair_of names.new) × IsAscending (members_among among.new) }
-{
-    match among {
-        Among::All(members) => next_looked_up(names, rank, members),
-        Among::Left(members) => next_in_step(names, rank, members),
+impl<'a> Among<'a> {
+    // The next name that a member has: its rank among all names, the name, its schema and the member.
+    fn next_name(
+        &mut self,
+        names: &mut Pairs<'a>,
+        rank: &mut usize,
+    ) -> Option<(usize, &'a str, &'a Doc, &'a Doc)>
+        requires few { rank.old + length names.old < 2 ^ 64 }
+        requires ascend { IsAscending (map pair_of names.old) × IsAscending (members_among self.old) }
+        ensures next { MatchOption result (names_left (members_among self.old) names.old ≡ [])
+            (λ f. names_left (members_among self.old) names.old
+            ≡ (f.1.now, value_of f.3.now) ∷ names_left (members_among self.new) names.new) }
+        ensures left { (all : doc.Named) → AreLeft all rank.old names.old → AreLeft all rank.new names.new
+            × MatchOption result (Unit {0}) (λ f. slice_get all f.0 ≡ Some (f.1.now, value_of f.2.now)) }
+        ensures few { rank.new + length names.new < 2 ^ 64 }
+        ensures ascend { IsAscending (map pair_of names.new) × IsAscending (members_among self.new) }
+    {
+        match self {
+            Among::All(members) => next_looked_up(names, rank, members),
+            Among::Left(members) => next_in_step(names, rank, members),
+        }
     }
 }
 

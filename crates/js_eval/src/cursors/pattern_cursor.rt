@@ -1,18 +1,20 @@
 //! The applications of `patternProperties` (Core, section 10.3.2.2): for each pattern, its schema on each member whose
 //! name it matches.
 ghost use Rattle.std.specs.Prelude.{◌≡◌, ◌∷◌, [], IfOk, MatchOption, filter, map};
+ghost use Rattle.std.specs.List.{flat_map};
 ghost use Rattle.js_assert.specs.Pattern.{matches};
-ghost use Rattle.js_eval.specs.code.Applied.{applied_of};
-ghost use Rattle.js_eval.specs.code.Asked.{ArePatterns, IsApplied};
+ghost use Rattle.js_eval.specs.code.Asked.{ArePatterns, IsApplied, IsNext};
 ghost use Rattle.js_eval.specs.code.Cursors.{IsBegun, on_matched_member, patterns_asked};
-ghost use Rattle.js_walk.specs.code.Terms.{IsSchemaAt, pair_of, value_of};
+ghost use Rattle.js_walk.specs.SchemaSet as spec;
+ghost use Rattle.js_walk.specs.code.Starting.{IsAtPlace, by_keyword};
+ghost use Rattle.js_walk.specs.code.Terms.{Documents, IsSchemaAt, pair_of, value_of};
 
 use crate::cursors::member_cursor::pattern_of;
-use crate::searching::searchers::{NamedPattern, Searchers};
-use js_bundle::{Place, Schemas, Step};
+use crate::schema::argument_in;
+use crate::searching::searchers::{NamedPattern, Search};
+use js_bundle::{Place, Step};
 use js_doc::{Doc, Members, Memory, Pairs};
-use js_walk::{Applied, Instance, subschema_at};
-use std::alloc::Global;
+use js_walk::{Applied, Instance, KeywordAt, subschema_at};
 
 /// The patterns that are still to come, and the members that are left for the present one.
 #[derive(Drop)]
@@ -33,64 +35,86 @@ pub(crate) struct PatternCursor<'a> {
     pub is_kept: bool,
 }
 
-/// The next application, or None after the last.
-///
-/// # Errors
-/// `Memory` if an allocation fails; a search with a pattern may need one.
-pub(crate) fn next_matching<'a>(
-    alloc: Global,
-    schemas: &'a Schemas,
-    searchers: &Searchers<'a>,
-    cursor: &mut PatternCursor<'a>,
-) -> Result<Option<Applied<'a>>, Memory>
-    requires { ArePatterns schemas.now cursor.old }
-    ensures next { IfOk result (λ o. MatchOption o (patterns_asked schemas.now cursor.old ≡ [])
-        (λ a. patterns_asked schemas.now cursor.old
-        ≡ applied_of schemas.now a ∷ patterns_asked schemas.now cursor.new)) }
-    ensures is { IfOk result (λ o. MatchOption o (Unit {0}) (λ a. IsApplied schemas.now a)) }
-    ensures are { IfOk result (λ _. ArePatterns schemas.now cursor.new) }
-{
-    match next_match(alloc, schemas, searchers, cursor)? {
-        Some((name, member)) => Ok(Some(Applied {
-            place: cursor.below,
-            schema: cursor.schema_below,
-            step: Step::Name(cursor.name),
-            at: Step::Name(name),
-            value: Instance::Doc(member),
-        })),
-        None => {
-            if cursor.is_kept {
-                searchers.drop_answers();
+impl<'a> PatternCursor<'a> {
+    /// The schema of each of the patterns, applied to each of the members whose names it matches.
+    #[inline(always)]
+    pub fn new(at: &KeywordAt<'a>, patterns: &'a Members, members: &'a Members) -> PatternCursor<'a>
+        ensures asked { (documents : Documents) → patterns_asked documents result
+            ≡ flat_map (λ p. map (λ m. by_keyword documents at.now (spec.Name p.0) (spec.Name m.0) m.1)
+            (filter (λ m. matches p.0 m.0) members.now)) patterns.now }
+        ensures are { (documents : Documents) → IsAtPlace documents at.now → ArePatterns documents result }
+    {
+        let schema = at.schema;
+        let keyword = at.keyword;
+        PatternCursor {
+            place: at.place,
+            schema,
+            keyword: keyword.name,
+            patterns: patterns.pairs(),
+            members,
+            present: None,
+            name: keyword.name,
+            below: at.place,
+            schema_below: schema,
+            left: members.pairs(),
+            is_kept: argument_in(schema, "additionalProperties").is_some(),
+        }
+    }
+
+    /// The next application, or None after the last.
+    ///
+    /// # Errors
+    /// `Memory` if an allocation fails; a search with a pattern may need one.
+    pub fn next_application(
+        &mut self,
+        search: &Search<'_, 'a>,
+    ) -> Result<Option<Applied<'a>>, Memory>
+        requires { ArePatterns search.now.schemas.now self.old }
+        ensures next { IfOk result (λ o. IsNext search.now.schemas.now
+            (patterns_asked search.now.schemas.now self.old) o (patterns_asked search.now.schemas.now self.new)) }
+        ensures is { IfOk result (λ o. MatchOption o (Unit {0}) (λ a. IsApplied search.now.schemas.now a)) }
+        ensures are { IfOk result (λ _. ArePatterns search.now.schemas.now self.new) }
+    {
+        match next_match(search, self)? {
+            Some((name, member)) => Ok(Some(Applied {
+                place: self.below,
+                schema: self.schema_below,
+                step: Step::Name(self.name),
+                at: Step::Name(name),
+                value: Instance::Doc(member),
+            })),
+            None => {
+                if self.is_kept {
+                    search.searchers.drop_answers();
+                }
+                Ok(None)
             }
-            Ok(None)
         }
     }
 }
 
 // The next member that a pattern matches. That pattern is then the present one.
 fn next_match<'a>(
-    alloc: Global,
-    schemas: &'a Schemas,
-    searchers: &Searchers<'a>,
+    search: &Search<'_, 'a>,
     cursor: &mut PatternCursor<'a>,
 ) -> Result<Option<(&'a str, &'a Doc)>, Memory>
-    requires { ArePatterns schemas.now cursor.old }
-    ensures next { IfOk result (λ o. MatchOption o (patterns_asked schemas.now cursor.old ≡ [])
-        (λ m. patterns_asked schemas.now cursor.old
-        ≡ on_matched_member schemas.now cursor.new.below cursor.new.name.now
-        (m.0.now, value_of m.1.now) ∷ patterns_asked schemas.now cursor.new)) }
-    ensures are { IfOk result (λ _. ArePatterns schemas.now cursor.new) }
+    requires { ArePatterns search.now.schemas.now cursor.old }
+    ensures next { IfOk result (λ o. MatchOption o (patterns_asked search.now.schemas.now cursor.old ≡ [])
+        (λ m. patterns_asked search.now.schemas.now cursor.old
+        ≡ on_matched_member search.now.schemas.now cursor.new.below cursor.new.name.now
+        (m.0.now, value_of m.1.now) ∷ patterns_asked search.now.schemas.now cursor.new)) }
+    ensures are { IfOk result (λ _. ArePatterns search.now.schemas.now cursor.new) }
 {
     if let Some(pattern) = cursor.present {
         let is_kept = cursor.is_kept;
-        if let Some(found) = next_member(alloc, searchers, pattern, is_kept, &mut cursor.left)? {
+        if let Some(found) = next_member(search, pattern, is_kept, &mut cursor.left)? {
             return Ok(Some(found));
         }
     }
     while let Some((name, _)) = cursor.patterns.next() {
-        let pattern = begin(schemas, searchers, cursor, name.as_str())?;
+        let pattern = begin(search, cursor, name.as_str())?;
         let is_kept = cursor.is_kept;
-        if let Some(found) = next_member(alloc, searchers, pattern, is_kept, &mut cursor.left)? {
+        if let Some(found) = next_member(search, pattern, is_kept, &mut cursor.left)? {
             return Ok(Some(found));
         }
     }
@@ -99,14 +123,14 @@ fn next_match<'a>(
 
 // Makes a pattern the present one.
 fn begin<'a>(
-    schemas: &'a Schemas,
-    searchers: &Searchers<'a>,
+    search: &Search<'_, 'a>,
     cursor: &mut PatternCursor<'a>,
     name: &'a str,
 ) -> Result<NamedPattern<'a>, Memory>
-    requires { IsSchemaAt schemas.now cursor.old.place (value_of cursor.old.schema.now) }
-    ensures { IfOk result (λ p. IsBegun schemas.now name.now p cursor.old cursor.new) }
+    requires { IsSchemaAt search.now.schemas.now cursor.old.place (value_of cursor.old.schema.now) }
+    ensures { IfOk result (λ p. IsBegun search.now.schemas.now name.now p cursor.old cursor.new) }
 {
+    let schemas = search.schemas;
     let pattern = pattern_of(schemas, cursor.place, name)?;
     cursor.present = Some(pattern);
     cursor.name = name;
@@ -116,15 +140,14 @@ fn begin<'a>(
     cursor.schema_below = schema;
     cursor.left = cursor.members.pairs();
     if cursor.is_kept {
-        searchers.begin_kept();
+        search.searchers.begin_kept();
     }
     Ok(pattern)
 }
 
 // The next member whose name the pattern matches.
 fn next_member<'a>(
-    alloc: Global,
-    searchers: &Searchers<'a>,
+    search: &Search<'_, 'a>,
     pattern: NamedPattern<'a>,
     is_kept: bool,
     members: &mut Pairs<'a>,
@@ -137,7 +160,7 @@ fn next_member<'a>(
 {
     while let Some((name, member)) = members.next() {
         let name = name.as_str();
-        if is_match(alloc, searchers, pattern, is_kept, name)? {
+        if is_match(search, pattern, is_kept, name)? {
             return Ok(Some((name, member)));
         }
     }
@@ -145,18 +168,18 @@ fn next_member<'a>(
 }
 
 fn is_match<'a>(
-    alloc: Global,
-    searchers: &Searchers<'a>,
+    search: &Search<'_, 'a>,
     pattern: NamedPattern<'a>,
     is_kept: bool,
     name: &str,
 ) -> Result<bool, Memory>
     ensures { IfOk result (λ b. b ≡ matches pattern.entry.text.now name.now) }
 {
+    let searchers = search.searchers;
     if is_kept {
         if let Some(answer) = searchers.kept_answer(pattern.text, name) {
             return Ok(answer);
         }
     }
-    searchers.matches_name(alloc, pattern, name)
+    searchers.matches_name(search.alloc, pattern, name)
 }

@@ -10,6 +10,7 @@ ghost use Rattle.js_walk.specs.code.Terms.{numbered_site, resource_of, schemas_o
 ghost use Rattle.js_walk.specs.SchemaSet as spec;
 
 use crate::cursors::asking::{Asking, alone};
+use crate::cursors::start::Start;
 use crate::cursors::{start_items, start_members};
 use js_bundle::{Place, Schemas};
 use js_doc::{Doc, Memory};
@@ -64,32 +65,34 @@ pub(crate) fn asking_of_keyword<'a>(
 {
     let Scene { path, scope, value } = scene;
     let condition = facts.condition;
+    let start = Start {
+        alloc,
+        schemas,
+        at,
+        value,
+    };
     match at.keyword.kind {
         Kind::Reference => Ok(referred(schemas, at.place, at.schema, value)),
         Kind::DynamicReference => Ok(referred_dynamically(
             schemas, at.place, at.schema, path, scope, value,
         )),
-        Kind::AllOf => Ok(start_items::each_in_list(at, value)),
-        Kind::AnyOf => Ok(start_items::each_in_list(at, value)),
-        Kind::OneOf => Ok(start_items::each_in_list(at, value)),
-        Kind::Not => Ok(held(schemas, at, value)),
-        Kind::If => Ok(held(schemas, at, value)),
-        Kind::Then => Ok(held_if(schemas, at, condition, true, value)),
-        Kind::Else => Ok(held_if(schemas, at, condition, false, value)),
-        Kind::DependentSchemas => start_members::dependent(alloc, schemas, at, value),
-        Kind::PrefixItems => Ok(start_items::prefix(alloc, schemas, at, value)),
-        Kind::Items => Ok(start_items::following(alloc, schemas, at, value)),
-        Kind::Contains => Ok(start_items::every(alloc, schemas, at, value)),
-        Kind::Properties => start_members::properties(alloc, at, value),
-        Kind::PatternProperties => start_members::patterns(alloc, schemas, at, value),
-        Kind::AdditionalProperties => start_members::additional(alloc, schemas, at, value),
-        Kind::PropertyNames => start_members::property_names(alloc, schemas, at, value),
-        Kind::UnevaluatedItems => {
-            start_items::unevaluated_items(alloc, schemas, at, facts.indexes, value)
-        }
-        Kind::UnevaluatedProperties => {
-            start_members::unevaluated_properties(alloc, schemas, at, facts.names, value)
-        }
+        Kind::AllOf => Ok(start_items::each_in_list(&start)),
+        Kind::AnyOf => Ok(start_items::each_in_list(&start)),
+        Kind::OneOf => Ok(start_items::each_in_list(&start)),
+        Kind::Not => Ok(held(&start)),
+        Kind::If => Ok(held(&start)),
+        Kind::Then => Ok(held_if(&start, condition, true)),
+        Kind::Else => Ok(held_if(&start, condition, false)),
+        Kind::DependentSchemas => start_members::dependent(&start),
+        Kind::PrefixItems => Ok(start_items::prefix(&start)),
+        Kind::Items => Ok(start_items::following(&start)),
+        Kind::Contains => Ok(start_items::every(&start)),
+        Kind::Properties => start_members::properties(&start),
+        Kind::PatternProperties => start_members::patterns(&start),
+        Kind::AdditionalProperties => start_members::additional(&start),
+        Kind::PropertyNames => start_members::property_names(&start),
+        Kind::UnevaluatedItems => start_items::unevaluated_items(&start, facts.indexes),
+        Kind::UnevaluatedProperties => start_members::unevaluated_properties(&start, facts.names),
         Kind::Assertion => Ok(Asking::One(None)),
         Kind::Annotation => Ok(Asking::One(None)),
     }
@@ -142,32 +145,26 @@ fn referred_dynamically<'a>(
 }
 
 // The keyword's schema, applied to the value itself.
-fn held<'a>(schemas: &'a Schemas, at: &KeywordAt<'a>, value: Instance<'a>) -> Asking<'a>
-    requires { HoldsOne schemas.now at.now }
-    ensures asked { asked schemas.now result
-        ≡ by_keyword schemas.now at.now spec.Alone spec.Alone (instance_of value.entry) ∷ [] }
-    ensures is { IsAsking schemas.now result }
+fn held<'a>(start: &Start<'_, 'a>) -> Asking<'a>
+    requires { HoldsOne start.now.schemas.now start.now.at.now }
+    ensures asked { asked start.now.schemas.now result ≡ by_keyword start.now.schemas.now start.now.at.now
+        spec.Alone spec.Alone (instance_of start.now.value) ∷ [] }
+    ensures is { IsAsking start.now.schemas.now result }
 {
-    let (place, schema) = held_below(schemas, at);
-    alone(place, schema, value)
+    let (place, schema) = held_below(start.schemas, start.at);
+    alone(place, schema, start.value)
 }
 
 // The keyword's schema, applied to the value itself if the adjacent `if` has the wanted verdict. `condition`: its
 // verdict, or None without an `if`.
-fn held_if<'a>(
-    schemas: &'a Schemas,
-    at: &KeywordAt<'a>,
-    condition: Option<bool>,
-    wanted: bool,
-    value: Instance<'a>,
-) -> Asking<'a>
-    requires { HoldsOne schemas.now at.now }
-    ensures asked { asked schemas.now result ≡ applied_if wanted condition
-        (by_keyword schemas.now at.now spec.Alone spec.Alone (instance_of value.entry) ∷ []) }
-    ensures is { IsAsking schemas.now result }
+fn held_if<'a>(start: &Start<'_, 'a>, condition: Option<bool>, wanted: bool) -> Asking<'a>
+    requires { HoldsOne start.now.schemas.now start.now.at.now }
+    ensures asked { asked start.now.schemas.now result ≡ applied_if wanted condition
+        (by_keyword start.now.schemas.now start.now.at.now spec.Alone spec.Alone (instance_of start.now.value) ∷ []) }
+    ensures is { IsAsking start.now.schemas.now result }
 {
     if applies_after_if(condition, wanted) {
-        held(schemas, at, value)
+        held(start)
     } else {
         Asking::One(None)
     }

@@ -13,54 +13,52 @@ use crate::cursors::application::{Held, To};
 use crate::cursors::asking::Asking;
 use crate::cursors::item_cursor::ItemCursor;
 use crate::cursors::list_cursor::ListCursor;
+use crate::cursors::start::Start;
 use crate::schema::argument_in;
-use js_bundle::Schemas;
 use js_doc::{Doc, Memory};
-use js_walk::{Instance, KeywordAt, array_in, held_below};
+use js_walk::{KeywordAt, array_in, held_below};
 use std::alloc::Global;
 
 /// Each schema of a keyword's list, applied to the value itself.
-pub(crate) fn each_in_list<'a>(at: &KeywordAt<'a>, value: Instance<'a>) -> Asking<'a>
-    requires { HoldsBy is_index at.now }
+pub(crate) fn each_in_list<'a>(start: &Start<'_, 'a>) -> Asking<'a>
+    requires { HoldsBy is_index start.now.at.now }
     ensures asked { (documents : Documents) → asked documents result
-        ≡ map (λ e. by_keyword documents at.now (spec.Index e.0) spec.Alone (instance_of value.entry))
-        (indexed (value_of at.now.keyword.argument.now)) }
-    ensures is { (documents : Documents) → IsAtPlace documents at.now → IsAsking documents result }
+        ≡ map (λ e. by_keyword documents start.now.at.now (spec.Index e.0) spec.Alone (instance_of start.now.value))
+        (indexed (value_of start.now.at.now.keyword.argument.now)) }
+    ensures is { (documents : Documents) → IsAtPlace documents start.now.at.now → IsAsking documents result }
 {
+    let at = start.at;
     let keyword = at.keyword;
     Asking::List(ListCursor {
-        place: at.place,
-        schema: at.schema,
-        keyword,
+        at: KeywordAt {
+            place: at.place,
+            schema: at.schema,
+            keyword,
+        },
         list: array_in(keyword.argument),
         next: 0,
-        value,
+        value: start.value,
     })
 }
 
 /// Each schema of `prefixItems`, applied to the item at the same index.
-pub(crate) fn prefix<'a>(
-    alloc: Global,
-    schemas: &'a Schemas,
-    at: &KeywordAt<'a>,
-    value: Instance<'a>,
-) -> Asking<'a>
-    requires { IsAtPlace schemas.now at.now }
-    ensures asked { asked schemas.now result
-        ≡ map (λ e. by_keyword schemas.now at.now (spec.Index e.0) (spec.Index e.0) e.1)
-        (filter (λ e. nat_lt e.0 (length (values (value_of at.now.keyword.argument.now))))
-        (indexed (instance_of value.entry))) }
-    ensures is { IsAsking schemas.now result }
+pub(crate) fn prefix<'a>(start: &Start<'_, 'a>) -> Asking<'a>
+    requires { IsAtPlace start.now.schemas.now start.now.at.now }
+    ensures asked { asked start.now.schemas.now result
+        ≡ map (λ e. by_keyword start.now.schemas.now start.now.at.now (spec.Index e.0) (spec.Index e.0) e.1)
+        (filter (λ e. nat_lt e.0 (length (values (value_of start.now.at.now.keyword.argument.now))))
+        (indexed (instance_of start.now.value))) }
+    ensures is { IsAsking start.now.schemas.now result }
 {
-    let schema = at.schema;
+    let at = start.at;
     let keyword = at.keyword;
     let list = array_in(keyword.argument);
     Asking::Items(ItemCursor {
-        held: Held::Each(at.place, schema, keyword.name),
+        held: Held::Each(at.place, at.schema, keyword.name),
         to: To::Part,
-        items: first_of(value.array(), list.len()),
+        items: first_of(start.value.array(), list.len()),
         next: 0,
-        passed_over: Vec::new(alloc),
+        passed_over: Vec::new(start.alloc),
     })
 }
 
@@ -76,55 +74,41 @@ fn first_of(items: &[Doc], count: usize) -> &[Doc]
 }
 
 /// The schema of `items`, applied to each item after those that the adjacent `prefixItems` has schemas for.
-pub(crate) fn following<'a>(
-    alloc: Global,
-    schemas: &'a Schemas,
-    at: &KeywordAt<'a>,
-    value: Instance<'a>,
-) -> Asking<'a>
-    requires { HoldsOne schemas.now at.now }
-    ensures asked { asked schemas.now result ≡ on_items schemas.now at.now
-        (filter (λ e. nat_le (prefix_length (entries (value_of at.now.schema.now))) e.0)
-        (indexed (instance_of value.entry))) }
-    ensures is { IsAsking schemas.now result }
+pub(crate) fn following<'a>(start: &Start<'_, 'a>) -> Asking<'a>
+    requires { HoldsOne start.now.schemas.now start.now.at.now }
+    ensures asked { asked start.now.schemas.now result ≡ on_items start.now.schemas.now start.now.at.now
+        (filter (λ e. nat_le (prefix_length (entries (value_of start.now.at.now.schema.now))) e.0)
+        (indexed (instance_of start.now.value))) }
+    ensures is { IsAsking start.now.schemas.now result }
 {
+    let at = start.at;
     let first = prefix_length_in(at.schema);
-    from_index(alloc, schemas, at, value, first)
+    from_index(start, first)
 }
 
 /// The schema of `contains`, applied to each item.
-pub(crate) fn every<'a>(
-    alloc: Global,
-    schemas: &'a Schemas,
-    at: &KeywordAt<'a>,
-    value: Instance<'a>,
-) -> Asking<'a>
-    requires { HoldsOne schemas.now at.now }
-    ensures asked { asked schemas.now result ≡ on_items schemas.now at.now (indexed (instance_of value.entry)) }
-    ensures is { IsAsking schemas.now result }
+pub(crate) fn every<'a>(start: &Start<'_, 'a>) -> Asking<'a>
+    requires { HoldsOne start.now.schemas.now start.now.at.now }
+    ensures asked { asked start.now.schemas.now result
+        ≡ on_items start.now.schemas.now start.now.at.now (indexed (instance_of start.now.value)) }
+    ensures is { IsAsking start.now.schemas.now result }
 {
-    from_index(alloc, schemas, at, value, 0)
+    from_index(start, 0)
 }
 
-fn from_index<'a>(
-    alloc: Global,
-    schemas: &'a Schemas,
-    at: &KeywordAt<'a>,
-    value: Instance<'a>,
-    first: usize,
-) -> Asking<'a>
-    requires { HoldsOne schemas.now at.now }
-    ensures asked { asked schemas.now result ≡ on_items schemas.now at.now
-        (filter (λ e. nat_le first e.0) (indexed (instance_of value.entry))) }
-    ensures is { IsAsking schemas.now result }
+fn from_index<'a>(start: &Start<'_, 'a>, first: usize) -> Asking<'a>
+    requires { HoldsOne start.now.schemas.now start.now.at.now }
+    ensures asked { asked start.now.schemas.now result ≡ on_items start.now.schemas.now start.now.at.now
+        (filter (λ e. nat_le first e.0) (indexed (instance_of start.now.value))) }
+    ensures is { IsAsking start.now.schemas.now result }
 {
-    let (below, held) = held_below(schemas, at);
+    let (below, held) = held_below(start.schemas, start.at);
     Asking::Items(ItemCursor {
         held: Held::One(below, held),
         to: To::Part,
-        items: value.array(),
+        items: start.value.array(),
         next: first,
-        passed_over: Vec::new(alloc),
+        passed_over: Vec::new(start.alloc),
     })
 }
 
@@ -143,20 +127,17 @@ fn prefix_length_in(schema: &Doc) -> usize
 /// # Errors
 /// `Memory` if an allocation fails.
 pub(crate) fn unevaluated_items<'a>(
-    alloc: Global,
-    schemas: &'a Schemas,
-    at: &KeywordAt<'a>,
+    start: &Start<'_, 'a>,
     indexes: &[usize],
-    value: Instance<'a>,
 ) -> Result<Asking<'a>, Memory>
-    requires { HoldsOne schemas.now at.now }
-    ensures asked { IfOk result (λ a. asked schemas.now a ≡ on_items schemas.now at.now
-        (filter (λ e. not (among_indexes e.0 indexes.now)) (indexed (instance_of value.entry)))) }
-    ensures is { IfOk result (λ a. IsAsking schemas.now a) }
+    requires { HoldsOne start.now.schemas.now start.now.at.now }
+    ensures asked { IfOk result (λ a. asked start.now.schemas.now a ≡ on_items start.now.schemas.now start.now.at.now
+        (filter (λ e. not (among_indexes e.0 indexes.now)) (indexed (instance_of start.now.value)))) }
+    ensures is { IfOk result (λ a. IsAsking start.now.schemas.now a) }
 {
-    let items = value.array();
-    let passed_over = marks_at(alloc, items.len(), indexes)?;
-    let (below, held) = held_below(schemas, at);
+    let items = start.value.array();
+    let passed_over = marks_at(start.alloc, items.len(), indexes)?;
+    let (below, held) = held_below(start.schemas, start.at);
     Ok(Asking::Items(ItemCursor {
         held: Held::One(below, held),
         to: To::Part,

@@ -8,7 +8,9 @@ ghost use Rattle.js_doc.specs.Members.{IsAscending};
 ghost use Rattle.js_doc.specs.Value.{text};
 ghost use Rattle.js_walk.specs.Applications.{among_names, is_property, matches_pattern};
 ghost use Rattle.js_walk.specs.SchemaSet as spec;
+ghost use Rattle.js_eval.specs.code.Applied.{IsHeld, applied_value, at_in};
 ghost use Rattle.js_eval.specs.code.Asked.{IsAsking, asked};
+ghost use Rattle.js_eval.specs.code.Cursors.{is_chosen, members_asked};
 ghost use Rattle.js_eval.specs.code.NamesLeft.{members_among};
 ghost use Rattle.js_walk.specs.code.Starting.{HoldsBy, HoldsOne, IsAtPlace, by_keyword, on_members, on_namesakes};
 ghost use Rattle.js_walk.specs.code.Terms.{Documents, entries, has, instance_of, texts_of, value_of};
@@ -16,13 +18,12 @@ ghost use Rattle.js_walk.specs.code.Terms.{Documents, entries, has, instance_of,
 use crate::cursors::application::{Held, To};
 use crate::cursors::asking::{Asking, in_box};
 use crate::cursors::member_cursor::{Adjacent, Choice, MemberCursor, object_at};
-use crate::cursors::name_cursor::{Among, each_of_names};
+use crate::cursors::name_cursor::{Among, NameCursor};
 use crate::cursors::pattern_cursor::PatternCursor;
-use crate::schema::argument_in;
+use crate::cursors::start::Start;
 use crate::searching::name_set::set_of;
-use js_bundle::Schemas;
 use js_doc::{Members, Memory};
-use js_walk::{Instance, KeywordAt, held_below, names_ascend, object_in};
+use js_walk::{KeywordAt, held_below, names_ascend};
 use std::alloc::Global;
 
 /// `properties` goes through the members and looks each up among its names, if it has more names than this number times
@@ -39,33 +40,29 @@ const PER_NAME: usize = 2;
 ///
 /// # Errors
 /// `Memory` if an allocation fails.
-pub(crate) fn dependent<'a>(
-    alloc: Global,
-    schemas: &'a Schemas,
-    at: &KeywordAt<'a>,
-    value: Instance<'a>,
-) -> Result<Asking<'a>, Memory>
-    requires { IsAtPlace schemas.now at.now }
-    ensures asked { IfOk result (λ a. asked schemas.now a
-        ≡ map (λ m. by_keyword schemas.now at.now (spec.Name m.0) spec.Alone (instance_of value.entry))
-        (filter (λ m. has m.0 (entries (instance_of value.entry)))
-        (entries (value_of at.now.keyword.argument.now)))) }
-    ensures is { IfOk result (λ a. IsAsking schemas.now a) }
+pub(crate) fn dependent<'a>(start: &Start<'_, 'a>) -> Result<Asking<'a>, Memory>
+    requires { IsAtPlace start.now.schemas.now start.now.at.now }
+    ensures asked { IfOk result (λ a. asked start.now.schemas.now a
+        ≡ map (λ m. by_keyword start.now.schemas.now start.now.at.now (spec.Name m.0) spec.Alone
+        (instance_of start.now.value))
+        (filter (λ m. has m.0 (entries (instance_of start.now.value)))
+        (entries (value_of start.now.at.now.keyword.argument.now)))) }
+    ensures is { IfOk result (λ a. IsAsking start.now.schemas.now a) }
 {
-    let schema = at.schema;
-    let keyword = at.keyword;
-    let Some(named) = object_in(keyword.argument) else {
+    let Some(named) = start.named() else {
         return Ok(Asking::One(None));
     };
-    match value.object() {
+    match start.value.object() {
         Some(members) => {
+            let at = start.at;
+            let keyword = at.keyword;
             let cursor = MemberCursor {
-                held: Held::Each(at.place, schema, keyword.name),
-                to: To::Whole(value),
+                held: Held::Each(at.place, at.schema, keyword.name),
+                to: To::Whole(start.value),
                 members: named.pairs(),
                 choice: Choice::Named(members),
             };
-            Ok(Asking::Members(in_box(alloc, cursor)?))
+            Ok(Asking::Members(in_box(start.alloc, cursor)?))
         }
         None => Ok(Asking::One(None)),
     }
@@ -75,23 +72,20 @@ pub(crate) fn dependent<'a>(
 ///
 /// # Errors
 /// `Memory` if an allocation fails.
-pub(crate) fn properties<'a>(
-    alloc: Global,
-    at: &KeywordAt<'a>,
-    value: Instance<'a>,
-) -> Result<Asking<'a>, Memory>
-    requires { HoldsBy is_name at.now }
+pub(crate) fn properties<'a>(start: &Start<'_, 'a>) -> Result<Asking<'a>, Memory>
+    requires { HoldsBy is_name start.now.at.now }
     ensures asked { IfOk result (λ a. (documents : Documents) → asked documents a
-        ≡ on_namesakes documents at.now (filter (λ m. has m.0 (entries (value_of at.now.keyword.argument.now)))
-        (entries (instance_of value.entry)))) }
-    ensures is { IfOk result (λ a. (documents : Documents) → IsAtPlace documents at.now → IsAsking documents a) }
+        ≡ on_namesakes documents start.now.at.now
+        (filter (λ m. has m.0 (entries (value_of start.now.at.now.keyword.argument.now)))
+        (entries (instance_of start.now.value)))) }
+    ensures is { IfOk result (λ a. (documents : Documents) → IsAtPlace documents start.now.at.now
+        → IsAsking documents a) }
 {
-    let keyword = at.keyword;
-    let Some(named) = object_in(keyword.argument) else {
+    let Some(named) = start.named() else {
         return Ok(Asking::One(None));
     };
-    match value.object() {
-        Some(members) => named_members(alloc, at, named, members),
+    match start.value.object() {
+        Some(members) => named_members(start.alloc, start.at, named, members),
         None => Ok(Asking::One(None)),
     }
 }
@@ -109,10 +103,9 @@ fn named_members<'a>(
     ensures is { IfOk result (λ a. (documents : Documents) → IsAtPlace documents at.now → IsAsking documents a) }
 {
     if named.len() / MANY_MORE > members.len() {
-        let schema = at.schema;
         let keyword = at.keyword;
         let cursor = MemberCursor {
-            held: Held::Each(at.place, schema, keyword.name),
+            held: Held::Each(at.place, at.schema, keyword.name),
             to: To::Part,
             members: members.pairs(),
             choice: Choice::Named(named),
@@ -120,9 +113,8 @@ fn named_members<'a>(
         return Ok(Asking::Members(in_box(alloc, cursor)?));
     }
     let among = among_members(named, members);
-    Ok(Asking::Names(each_of_names(at, named, among)))
+    Ok(Asking::Names(NameCursor::new(at, named, among)))
 }
-
 // The members, in the form in which the names are found among them faster.
 fn among_members<'a>(named: &'a Members, members: &'a Members) -> Among<'a>
     ensures members { members_among result ≡ members.now }
@@ -140,40 +132,21 @@ fn among_members<'a>(named: &'a Members, members: &'a Members) -> Among<'a>
 ///
 /// # Errors
 /// `Memory` if an allocation fails.
-pub(crate) fn patterns<'a>(
-    alloc: Global,
-    schemas: &'a Schemas,
-    at: &KeywordAt<'a>,
-    value: Instance<'a>,
-) -> Result<Asking<'a>, Memory>
-    requires { IsAtPlace schemas.now at.now }
-    ensures asked { IfOk result (λ a. asked schemas.now a
-        ≡ flat_map (λ p. map (λ m. by_keyword schemas.now at.now (spec.Name p.0) (spec.Name m.0) m.1)
-        (filter (λ m. matches p.0 m.0) (entries (instance_of value.entry))))
-        (entries (value_of at.now.keyword.argument.now))) }
-    ensures is { IfOk result (λ a. IsAsking schemas.now a) }
+pub(crate) fn patterns<'a>(start: &Start<'_, 'a>) -> Result<Asking<'a>, Memory>
+    requires { IsAtPlace start.now.schemas.now start.now.at.now }
+    ensures asked { IfOk result (λ a. asked start.now.schemas.now a
+        ≡ flat_map (λ p. map (λ m. by_keyword start.now.schemas.now start.now.at.now (spec.Name p.0) (spec.Name m.0)
+        m.1) (filter (λ m. matches p.0 m.0) (entries (instance_of start.now.value))))
+        (entries (value_of start.now.at.now.keyword.argument.now))) }
+    ensures is { IfOk result (λ a. IsAsking start.now.schemas.now a) }
 {
-    let schema = at.schema;
-    let keyword = at.keyword;
-    let Some(patterns) = object_in(keyword.argument) else {
+    let Some(patterns) = start.named() else {
         return Ok(Asking::One(None));
     };
-    match value.object() {
+    match start.value.object() {
         Some(members) => {
-            let cursor = PatternCursor {
-                place: at.place,
-                schema,
-                keyword: keyword.name,
-                patterns: patterns.pairs(),
-                members,
-                present: None,
-                name: keyword.name,
-                below: at.place,
-                schema_below: schema,
-                left: members.pairs(),
-                is_kept: argument_in(schema, "additionalProperties").is_some(),
-            };
-            Ok(Asking::Patterns(in_box(alloc, cursor)?))
+            let cursor = PatternCursor::new(start.at, patterns, members);
+            Ok(Asking::Patterns(in_box(start.alloc, cursor)?))
         }
         None => Ok(Asking::One(None)),
     }
@@ -183,69 +156,47 @@ pub(crate) fn patterns<'a>(
 ///
 /// # Errors
 /// `Memory` if an allocation fails.
-pub(crate) fn additional<'a>(
-    alloc: Global,
-    schemas: &'a Schemas,
-    at: &KeywordAt<'a>,
-    value: Instance<'a>,
-) -> Result<Asking<'a>, Memory>
-    requires { HoldsOne schemas.now at.now }
-    ensures asked { IfOk result (λ a. asked schemas.now a ≡ on_members schemas.now at.now
-        (filter (λ m. not (is_property (entries (value_of at.now.schema.now)) m.0
-        || matches_pattern (entries (value_of at.now.schema.now)) m.0)) (entries (instance_of value.entry)))) }
-    ensures is { IfOk result (λ a. IsAsking schemas.now a) }
+pub(crate) fn additional<'a>(start: &Start<'_, 'a>) -> Result<Asking<'a>, Memory>
+    requires { HoldsOne start.now.schemas.now start.now.at.now }
+    ensures asked { IfOk result (λ a. asked start.now.schemas.now a
+        ≡ on_members start.now.schemas.now start.now.at.now
+        (filter (λ m. not (is_property (entries (value_of start.now.at.now.schema.now)) m.0
+        || matches_pattern (entries (value_of start.now.at.now.schema.now)) m.0))
+        (entries (instance_of start.now.value)))) }
+    ensures is { IfOk result (λ a. IsAsking start.now.schemas.now a) }
 {
-    let (below, held) = held_below(schemas, at);
+    let Some(members) = start.value.object() else {
+        return Ok(Asking::One(None));
+    };
+    let at = start.at;
     let schema = at.schema;
     let properties = object_at(schema, "properties");
     let patterns = object_at(schema, "patternProperties");
-    match value.object() {
-        Some(members) => {
-            let cursor = MemberCursor {
-                held: Held::One(below, held),
-                to: To::Part,
-                members: members.pairs(),
-                choice: Choice::Additional(Adjacent {
-                    place: at.place,
-                    properties,
-                    patterns,
-                }),
-            };
-            Ok(Asking::Members(in_box(alloc, cursor)?))
-        }
-        None => Ok(Asking::One(None)),
-    }
+    let choice = Choice::Additional(Adjacent {
+        place: at.place,
+        properties,
+        patterns,
+    });
+    let cursor = on_chosen(start, To::Part, members, choice);
+    Ok(Asking::Members(in_box(start.alloc, cursor)?))
 }
 
 /// The applications of `propertyNames`.
 ///
 /// # Errors
 /// `Memory` if an allocation fails.
-pub(crate) fn property_names<'a>(
-    alloc: Global,
-    schemas: &'a Schemas,
-    at: &KeywordAt<'a>,
-    value: Instance<'a>,
-) -> Result<Asking<'a>, Memory>
-    requires { HoldsOne schemas.now at.now }
-    ensures asked { IfOk result (λ a. asked schemas.now a
-        ≡ map (λ m. by_keyword schemas.now at.now spec.Alone (spec.Name m.0) (text m.0))
-        (entries (instance_of value.entry))) }
-    ensures is { IfOk result (λ a. IsAsking schemas.now a) }
+pub(crate) fn property_names<'a>(start: &Start<'_, 'a>) -> Result<Asking<'a>, Memory>
+    requires { HoldsOne start.now.schemas.now start.now.at.now }
+    ensures asked { IfOk result (λ a. asked start.now.schemas.now a
+        ≡ map (λ m. by_keyword start.now.schemas.now start.now.at.now spec.Alone (spec.Name m.0) (text m.0))
+        (entries (instance_of start.now.value))) }
+    ensures is { IfOk result (λ a. IsAsking start.now.schemas.now a) }
 {
-    let (below, held) = held_below(schemas, at);
-    match value.object() {
-        Some(members) => {
-            let cursor = MemberCursor {
-                held: Held::One(below, held),
-                to: To::Name,
-                members: members.pairs(),
-                choice: Choice::All,
-            };
-            Ok(Asking::Members(in_box(alloc, cursor)?))
-        }
-        None => Ok(Asking::One(None)),
-    }
+    let Some(members) = start.value.object() else {
+        return Ok(Asking::One(None));
+    };
+    let cursor = on_chosen(start, To::Name, members, Choice::All);
+    Ok(Asking::Members(in_box(start.alloc, cursor)?))
 }
 
 /// The applications of `unevaluatedProperties`, if members with these names are evaluated.
@@ -253,27 +204,42 @@ pub(crate) fn property_names<'a>(
 /// # Errors
 /// `Memory` if an allocation fails.
 pub(crate) fn unevaluated_properties<'a>(
-    alloc: Global,
-    schemas: &'a Schemas,
-    at: &KeywordAt<'a>,
+    start: &Start<'_, 'a>,
     evaluated: &[&'a str],
-    value: Instance<'a>,
 ) -> Result<Asking<'a>, Memory>
-    requires { HoldsOne schemas.now at.now }
-    ensures asked { IfOk result (λ a. asked schemas.now a ≡ on_members schemas.now at.now
-        (filter (λ m. not (among_names m.0 (texts_of evaluated.now))) (entries (instance_of value.entry)))) }
-    ensures is { IfOk result (λ a. IsAsking schemas.now a) }
+    requires { HoldsOne start.now.schemas.now start.now.at.now }
+    ensures asked { IfOk result (λ a. asked start.now.schemas.now a
+        ≡ on_members start.now.schemas.now start.now.at.now
+        (filter (λ m. not (among_names m.0 (texts_of evaluated.now))) (entries (instance_of start.now.value)))) }
+    ensures is { IfOk result (λ a. IsAsking start.now.schemas.now a) }
 {
-    let Some(members) = value.object() else {
+    let Some(members) = start.value.object() else {
         return Ok(Asking::One(None));
     };
-    let set = set_of(alloc, evaluated)?;
-    let (below, held) = held_below(schemas, at);
-    let cursor = MemberCursor {
-        held: Held::One(below, held),
-        to: To::Part,
+    let set = set_of(start.alloc, evaluated)?;
+    let cursor = on_chosen(start, To::Part, members, Choice::Except(set));
+    Ok(Asking::Members(in_box(start.alloc, cursor)?))
+}
+
+// The keyword's schema, applied to each chosen member, or to its name.
+#[inline(always)]
+fn on_chosen<'a>(
+    start: &Start<'_, 'a>,
+    to: To<'a>,
+    members: &'a Members,
+    choice: Choice<'a>,
+) -> MemberCursor<'a>
+    requires { HoldsOne start.now.schemas.now start.now.at.now }
+    ensures asked { members_asked start.now.schemas.now result
+        ≡ map (λ m. by_keyword start.now.schemas.now start.now.at.now spec.Alone (at_in to.entry (spec.Name m.0))
+        (applied_value to.entry (spec.Name m.0) m.1)) (filter (λ m. is_chosen choice.entry m.0) members.now) }
+    ensures held { IsHeld start.now.schemas.now result.held }
+{
+    let (below, schema) = held_below(start.schemas, start.at);
+    MemberCursor {
+        held: Held::One(below, schema),
+        to,
         members: members.pairs(),
-        choice: Choice::Except(set),
-    };
-    Ok(Asking::Members(in_box(alloc, cursor)?))
+        choice,
+    }
 }

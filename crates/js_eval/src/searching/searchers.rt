@@ -5,6 +5,7 @@ ghost use Rattle.js_assert.specs.Pattern.{matches};
 
 use crate::searching::pattern_answers::AllAnswers;
 use js_assert::{Pattern, Searcher};
+use js_bundle::Schemas;
 use js_doc::{Members, Memory};
 use std::alloc::Global;
 use std::cell::RefCell;
@@ -22,6 +23,14 @@ pub(crate) struct NamedPattern<'p> {
     pub pattern: &'p Pattern,
     pub text: &'p str,
     ghost named: { pattern.now ≡ text.now },
+}
+
+/// What a search with a pattern of finished schemas takes.
+#[derive(Drop)]
+pub(crate) struct Search<'s, 'p> {
+    pub alloc: Global,
+    pub schemas: &'p Schemas,
+    pub searchers: &'s Searchers<'p>,
 }
 
 /// Searches with patterns. A searcher is kept for the next search with the same pattern, because making one takes

@@ -1,11 +1,11 @@
-use Rattle.std.proofs.Common.{◌≡◌, ◌∷◌, suc, Some, String, Less, Equal, Greater, drop, length, map, refl, ap, ap₂, subst, sym, ◌∙◌, arith}
+use Rattle.std.proofs.Common.{◌≡◌, ◌∷◌, suc, Some, String, Equal, drop, length, map, refl, ap, ap₂, subst, sym, ◌∙◌, arith}
 use Rattle.std.specs.Global.{Global}
 use Rattle.js_doc.specs.Members.{IsAscending, name_cmp}
 use Rattle.js_doc.specs.Seen.{pair_of, value_of}
 use Rattle.js_doc.specs.declared.doc.Doc.{Doc}
 use Rattle.js_eval.specs.code.NamesLeft.{names_left}
 use Rattle.js_eval.proofs.AskedNothing.{none_named}
-use Rattle.js_eval.proofs.NamesLeft.{next_left, pass_member, pass_name, take_both}
+use Rattle.js_eval.proofs.NamesLeft.{left_behind, member_passed, name_passed, next_left, take_both}
 use Rattle.js_eval.proofs.cursors.name_cursor.next_in_step.Goals as goal
 
 pub returns-in_err-name-clause-next : goal.returns-in_err-name-clause-next
@@ -21,26 +21,23 @@ returns-in_err-key-clause-left c = λ all h.
 pub returns-in_err-name-in-Less-clause-next : goal.returns-in_err-name-in-Less-clause-next
 returns-in_err-name-in-Less-clause-next c =
     let l = c.loop-names in let n : String Global × Doc = (l.name.now, l.schema.now) in let m : String Global × Doc = (l.key.now, l.member.now) in
-    let less : name_cmp (pair_of n).0 (pair_of m).0 ≡ Less = sym (c.name_order.ensures ∙ ap₂ name_cmp c.as_str.ensures.value c.as_str-in-loop-names.ensures.value) ∙ c.in-Less.is in
+    let passed = name_passed n m l.names l.members _ _ _ _ c.name_order.ensures c.as_str.ensures.value c.as_str-in-loop-names.ensures.value c.in-Less.is l.invariant.members l.invariant.same in
     rw c.from_residual-in_err-name-in-Less.ensures
-    (sym l.invariant.same ∙ pass_name (pair_of n) (pair_of m) (map pair_of l.names) (map pair_of l.members) less l.invariant.members
-    ∙ ap (names_left (map pair_of (m ∷ l.members))) c.in_err-name-in-Less.ensures.steps.0 ∙ none_named (map pair_of (m ∷ l.members)))
+    (sym passed ∙ ap (names_left (map pair_of (m ∷ l.members))) c.in_err-name-in-Less.ensures.steps.0 ∙ none_named (map pair_of (m ∷ l.members)))
 
 pub returns-in_err-name-in-Less-clause-left : goal.returns-in_err-name-in-Less-clause-left
 returns-in_err-name-in-Less-clause-left c = λ all h.
     let l = c.loop-names in let n : String Global × Doc = (l.name.now, l.schema.now) in
-    let more = next_left all l.at (pair_of n) (map pair_of l.names) (l.invariant.left all h) in
-    (ap (map pair_of) (c.in_err-name-in-Less.ensures.steps.1 ∙ sym c.in_err-name-in-Less.ensures.steps.0) ∙ more.0 ∙ ap (λ r. drop r all) (sym l.invariant.rank), rw c.from_residual-in_err-name-in-Less.ensures tt)
+    let behind = left_behind all l.at l.rank (pair_of n) (map pair_of l.names) l.invariant.rank (l.invariant.left all h) in
+    (ap (map pair_of) (c.in_err-name-in-Less.ensures.steps.1 ∙ sym c.in_err-name-in-Less.ensures.steps.0) ∙ behind, rw c.from_residual-in_err-name-in-Less.ensures tt)
 
 pub loop-names-preserved-in-Less : goal.loop-names-preserved-in-Less
 loop-names-preserved-in-Less c =
     let l = c.loop-names in let n : String Global × Doc = (l.name.now, l.schema.now) in let m : String Global × Doc = (l.key.now, l.member.now) in
-    let less : name_cmp (pair_of n).0 (pair_of m).0 ≡ Less = sym (c.name_order.ensures ∙ ap₂ name_cmp c.as_str.ensures.value c.as_str-in-loop-names.ensures.value) ∙ c.in-Less.is in
+    let passed = name_passed n m l.names l.members _ _ _ _ c.name_order.ensures c.as_str.ensures.value c.as_str-in-loop-names.ensures.value c.in-Less.is l.invariant.members l.invariant.same in
     let steps = c.in_ok-name-in-Less.ensures.steps in let many : length l.names ≡ suc (length c.next-in-Less.new.self) = ap length steps in
     record {
-      same = ap (names_left (map pair_of (m ∷ l.members))) (sym steps)
-          ∙ sym (pass_name (pair_of n) (pair_of m) (map pair_of l.names) (map pair_of l.members) less l.invariant.members)
-          ∙ l.invariant.same;
+      same = ap (names_left (map pair_of (m ∷ l.members))) (sym steps) ∙ passed;
       left = λ all h. sym (ap (map pair_of) steps) ∙ (next_left all l.at (pair_of n) (map pair_of l.names) (l.invariant.left all h)).0;
       rank = refl;
       few = omega (arith, many, l.invariant.rank, l.invariant.few);
@@ -64,26 +61,22 @@ returns-in-Equal-clause-left c = λ all h.
 pub returns-in_err-key-in-Greater-clause-next : goal.returns-in_err-key-in-Greater-clause-next
 returns-in_err-key-in-Greater-clause-next c =
     let l = c.loop-names in let n : String Global × Doc = (l.name.now, l.schema.now) in let m : String Global × Doc = (l.key.now, l.member.now) in
-    let greater : name_cmp (pair_of n).0 (pair_of m).0 ≡ Greater = sym (c.name_order.ensures ∙ ap₂ name_cmp c.as_str.ensures.value c.as_str-in-loop-names.ensures.value) ∙ c.in-Greater.is in
+    let passed = member_passed n m l.names l.members _ _ _ _ c.name_order.ensures c.as_str.ensures.value c.as_str-in-loop-names.ensures.value c.in-Greater.is l.invariant.names l.invariant.same in
     rw c.from_residual-in_err-key-in-Greater.ensures
-    (sym l.invariant.same ∙ pass_member (pair_of n) (pair_of m) (map pair_of l.names) (map pair_of l.members) greater l.invariant.names
-    ∙ ap (λ ms. names_left (map pair_of ms) (n ∷ l.names)) c.in_err-key-in-Greater.ensures.steps.0)
+    (sym passed ∙ ap (λ ms. names_left (map pair_of ms) (n ∷ l.names)) c.in_err-key-in-Greater.ensures.steps.0)
 
 pub returns-in_err-key-in-Greater-clause-left : goal.returns-in_err-key-in-Greater-clause-left
 returns-in_err-key-in-Greater-clause-left c = λ all h.
     let l = c.loop-names in let n : String Global × Doc = (l.name.now, l.schema.now) in
-    let more = next_left all l.at (pair_of n) (map pair_of l.names) (l.invariant.left all h) in
-    (more.0 ∙ ap (λ r. drop r all) (sym l.invariant.rank), rw c.from_residual-in_err-key-in-Greater.ensures tt)
+    (left_behind all l.at l.rank (pair_of n) (map pair_of l.names) l.invariant.rank (l.invariant.left all h), rw c.from_residual-in_err-key-in-Greater.ensures tt)
 
 pub loop-names-preserved : goal.loop-names-preserved
 loop-names-preserved c =
     let l = c.loop-names in let n : String Global × Doc = (l.name.now, l.schema.now) in let m : String Global × Doc = (l.key.now, l.member.now) in
-    let greater : name_cmp (pair_of n).0 (pair_of m).0 ≡ Greater = sym (c.name_order.ensures ∙ ap₂ name_cmp c.as_str.ensures.value c.as_str-in-loop-names.ensures.value) ∙ c.in-Greater.is in
+    let passed = member_passed n m l.names l.members _ _ _ _ c.name_order.ensures c.as_str.ensures.value c.as_str-in-loop-names.ensures.value c.in-Greater.is l.invariant.names l.invariant.same in
     let steps = c.in_ok-key-in-Greater.ensures.steps in
     record {
-      same = ap (λ ms. names_left (map pair_of ms) (n ∷ l.names)) (sym steps)
-          ∙ sym (pass_member (pair_of n) (pair_of m) (map pair_of l.names) (map pair_of l.members) greater l.invariant.names)
-          ∙ l.invariant.same;
+      same = ap (λ ms. names_left (map pair_of ms) (n ∷ l.names)) (sym steps) ∙ passed;
       left = l.invariant.left;
       rank = l.invariant.rank;
       few = l.invariant.few;

@@ -5,8 +5,8 @@ use Rattle.js_eval.proofs.cursors.pattern_cursor.next_match.Given as goal
 
 abbrev pub invariant-loop-name : goal.invariant-loop-name
 invariant-loop-name l = record {
-  asks : patterns_asked l.schemas l.fn.cursor ≡ coming_asked l.schemas l.cursor l.cursor.patterns;
-  are : ArePatterns l.schemas l.cursor;
+  asks : patterns_asked l.search.schemas.now l.fn.cursor ≡ coming_asked l.search.schemas.now l.cursor l.cursor.patterns;
+  are : ArePatterns l.search.schemas.now l.cursor;
 }
 
 abbrev pub decreases-loop-name : goal.decreases-loop-name
