@@ -14,8 +14,8 @@ use crate::searching::searchers::Searchers;
 use js_bundle::{Place, Schemas, Step};
 use js_doc::{Doc, Memory};
 use js_walk::{
-    Applied, Instance, Keyword, KeywordAt, Keywords, Kind, Others, Path, PointerText, Tally, Trail,
-    World, is_written_as_it_is, names_at,
+    Applied, Instance, Keyword, KeywordAt, Keywords, Kind, Others, PointerText, Scope, Tally,
+    Trail, World, is_written_as_it_is, names_at,
 };
 use std::alloc::Global;
 
@@ -125,8 +125,7 @@ impl<'a> World for Here<'a> {
     fn asking(
         &self,
         alloc: Global,
-        path: &Path,
-        resources: &[usize],
+        scope: Scope,
         place: Place,
         schema: &'a Doc,
         value: Instance<'a>,
@@ -144,8 +143,8 @@ impl<'a> World for Here<'a> {
             keyword,
         };
         let scene = Scene {
-            path,
-            scope: resources,
+            path: scope.path,
+            scope: scope.resources,
             value,
         };
         let facts = Facts {
@@ -220,20 +219,14 @@ impl<'a> World for Here<'a> {
         }
     }
 
-    fn go_to_schema<H: PointerText + Drop>(
+    fn go_to_application<H: PointerText + Drop>(
         &self,
         application: Applied<'a>,
-        trail: &mut Trail<H>,
+        keyword: &mut Trail<H>,
+        instance: &mut Trail<H>,
     ) -> Result<(), Memory> {
-        go(application.step, application.value.doc(), trail)
-    }
-
-    fn go_to_value<H: PointerText + Drop>(
-        &self,
-        application: Applied<'a>,
-        trail: &mut Trail<H>,
-    ) -> Result<(), Memory> {
-        go(application.at, application.value.doc(), trail)
+        go(application.step, application.value.doc(), keyword)?;
+        go(application.at, application.value.doc(), instance)
     }
 }
 

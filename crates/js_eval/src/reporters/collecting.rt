@@ -23,16 +23,6 @@ pub(crate) struct Collecting<'a, C> {
 impl<'a, C: Collector<'a>> Reporter<Here<'a>, HeldText> for Collecting<'a, C> {
     ghost takes = { λ c e d. C.takes c.collector e d.collector };
 
-    #[inline(always)]
-    fn is_quiet(&self) -> bool {
-        false
-    }
-
-    #[inline(always)]
-    fn drops_silent(&self) -> bool {
-        false
-    }
-
     #[inline(never)]
     fn open_schema(
         &mut self,

@@ -26,11 +26,6 @@ impl<'a> Reporter<Here<'a>, HeldText> for Recording<'a> {
     ghost takes = { λ c e d. relative_state d.rows ≡ relative_after (relative_state c.rows) e };
 
     #[inline(always)]
-    fn is_quiet(&self) -> bool {
-        false
-    }
-
-    #[inline(always)]
     fn drops_silent(&self) -> bool {
         self.rows.drops_silent()
     }

@@ -16,11 +16,6 @@ impl<W: World, H: PointerText + Drop> Reporter<W, H> for Silent {
         true
     }
 
-    #[inline(always)]
-    fn drops_silent(&self) -> bool {
-        false
-    }
-
     fn open_schema(
         &mut self,
         _alloc: Global,

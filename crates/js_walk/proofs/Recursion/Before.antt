@@ -2,8 +2,8 @@
 use Rattle.std.specs.Prelude.{◌≡◌, ℕ, Bool, true, false, not, ◌&&◌, ◌||◌, cond, List, [], ◌∷◌, ◌++◌, Some, None, option_map, map, filter, codes, refl}
 use Rattle.std.specs.List.{flat_map, AllByRecursion}
 use Rattle.std.specs.Option.{option_map_or}
+use Rattle.std.specs.Ordering.{is_lt}
 use Rattle.std.specs.Str.{bytes_eq}
-use Rattle.std.specs.declared.cmp.Ordering.{Ordering}
 use Rattle.std.specs.declared.cmp.Ordering.TheVariants.{Less, Equal}
 use Rattle.std.proofs.Common.{sym, ◌∙◌, ap, subst, append-nil}
 use Rattle.std.proofs.lemmas.Bool.{and_parts}
@@ -157,10 +157,6 @@ module _ (schema : Value) (ascending : IsAscending (entries schema)) (done more 
       ∙ (ap (λ l. flat_map f l ++ flat_map f (filter q (k ∷ more))) (filter_whole q done whole)
       ∙ (ap (λ l. flat_map f done ++ flat_map f l) gone ∙ (ap (λ l. flat_map f done ++ l) none ∙ append-nil (flat_map f done))))))
 
-abbrev is_less : Ordering → Bool
-is_less Less = true
-is_less _ = false
-
 abbrev is_nowhere : Origin → Bool
 is_nowhere Nowhere = true
 is_nowhere _ = false
@@ -173,7 +169,7 @@ abbrev placed : (Kind → Bool) → Text → Text → Kind → Bool
 placed is w n κ = not (is κ) || (not (comes_before_else n) && (not (is_else n) && bytes_eq n w))
 
 abbrev silent_after : (Kind → Origin) → Text → Text → Kind → Bool
-silent_after source w n κ = not (is_less (name_cmp w n)) || is_nowhere (source κ)
+silent_after source w n κ = not (is_lt (name_cmp w n)) || is_nowhere (source κ)
 
 implied : (a b : Bool) → (not a || b) ≡ true → a ≡ true → b ≡ true
 implied true b h e = h
@@ -206,7 +202,7 @@ module _ (is : Kind → Bool) (w : Text) (source : Kind → Origin)
   behind_silent : (k x : Keyword) → is (kind k.0) ≡ true → name_cmp k.0 x.0 ≡ Less → source (kind x.0) ≡ Nowhere
   behind_silent k x h l =
       let p = place_of k.0 h in
-      nowhere (source (kind x.0)) (implied (is_less (name_cmp w x.0)) (is_nowhere (source (kind x.0))) (silent_behind x.0) (ap is_less (ap (λ n. name_cmp n x.0) (sym p.2) ∙ l)))
+      nowhere (source (kind x.0)) (implied (is_lt (name_cmp w x.0)) (is_nowhere (source (kind x.0))) (silent_behind x.0) (ap is_lt (ap (λ n. name_cmp n x.0) (sym p.2) ∙ l)))
 
   module _ (schema : Value) (ascending : IsAscending (entries schema)) (done more : List Keyword) (k : Keyword) (split : done ++ k ∷ more ≡ keywords schema) (h : is (kind k.0) ≡ true)
       {A : Type 0} (f : Keyword → List A) (f_silent : (x : Keyword) → source (kind x.0) ≡ Nowhere → f x ≡ []) where

@@ -7,8 +7,8 @@ ghost use Rattle.js_walk.specs.Seen.{keyword_of};
 ghost use Rattle.js_walk.specs.Walk.Visited.{is_visited};
 
 use crate::keywords::keyword::Keyword;
-use crate::keywords::kind_by_name::kind_of_named;
-use crate::keywords::turn::{Turn, turn_of};
+use crate::keywords::kind_by_name::keyword_in_turn;
+use crate::keywords::turn::Turn;
 use js_bundle::KeywordName;
 use js_doc::Members;
 
@@ -50,27 +50,27 @@ impl<'a> Applying<'a> {
             let which = self.names[rank];
             self.rank = rank + 1;
             if applies(which) {
-                let keyword = keyword_at(self.members, rank, which)?;
-                return Some((turn_of(keyword.which, keyword.name), keyword));
+                let (turn, keyword) = keyword_at(self.members, rank, which)?;
+                return Some((turn, keyword));
             }
         }
         None
     }
 }
 
-// The member at the rank, as a keyword.
+// The member at the rank, as a keyword, and its turn.
 #[tactic(auto, using(crate::proofs::Applicators::named_at))]
-fn keyword_at<'a>(members: &'a Members, rank: usize, which: KeywordName) -> Option<Keyword<'a>>
+fn keyword_at<'a>(
+    members: &'a Members,
+    rank: usize,
+    which: KeywordName,
+) -> Option<(Turn, Keyword<'a>)>
     requires { slice_get (keyword_names_of members.now) rank ≡ Some which }
-    ensures { option_map keyword_of result ≡ slice_get members.now rank }
+    ensures keyword { option_map (λ m. keyword_of m.1) result ≡ slice_get members.now rank }
+    ensures turn { MatchOption result (Unit {0}) (λ m. m.0 ≡ turn_of m.1.name.now) }
 {
     let (name, argument) = members.nth(rank)?;
-    Some(Keyword {
-        name,
-        which,
-        kind: kind_of_named(which, name),
-        argument,
-    })
+    Some(keyword_in_turn(which, name, argument))
 }
 
 /// Whether one of them applies schemas.

@@ -6,8 +6,8 @@ ghost use Rattle.js_walk.specs.code.Standard.{keyword_names_of};
 
 use crate::keywords::applying::Applying;
 use crate::keywords::keyword::Keyword;
-use crate::keywords::kind_by_name::kind_of_named;
-use crate::keywords::turn::{Turn, turn_of};
+use crate::keywords::kind_by_name::keyword_in_turn;
+use crate::keywords::turn::Turn;
 use js_bundle::KeywordName;
 use js_doc::{Doc, Members, Pairs};
 
@@ -48,13 +48,7 @@ impl<'a> Every<'a> {
                 let name = name.as_str();
                 let (which, names) = first_name(self.names);
                 self.names = names;
-                let keyword = Keyword {
-                    name,
-                    which,
-                    kind: kind_of_named(which, name),
-                    argument,
-                };
-                Some((turn_of(which, name), keyword))
+                Some(keyword_in_turn(which, name, argument))
             }
             None => None,
         }

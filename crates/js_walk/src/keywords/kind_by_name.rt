@@ -1,56 +1,74 @@
-//! The kinds of keywords, by name.
+//! The kinds of keywords and their turns, by name.
 ghost use Rattle.std.specs.Prelude.{◌≡◌};
 ghost use Rattle.js_bundle.specs.KeywordName.{keyword_name};
-ghost use Rattle.js_walk.specs.Kind.{kind};
-ghost use Rattle.js_walk.specs.code.Standard.{kind_by};
+ghost use Rattle.js_walk.specs.code.Standard.{kind_and_turn_by};
+ghost use Rattle.js_walk.specs.code.Terms.{keyword_of, value_of};
+ghost use Rattle.js_walk.specs.code.Turns.{turn_of};
 
+use crate::keywords::keyword::Keyword;
 use crate::keywords::kind::Kind;
+use crate::keywords::turn::Turn;
 use js_bundle::KeywordName;
+use js_doc::Doc;
 
-/// The kind of the keyword with this name, given which keyword of the standard it is. A keyword that the standard
-/// doesn't define is an annotation (Core, section 4.3.1).
-#[tactic(auto, using(crate::proofs::Standard::kind_if_named))]
-pub(crate) fn kind_of_named(which: KeywordName, _name: &str) -> Kind
-    requires { which ≡ keyword_name _name.now }
-    ensures { result ≡ kind _name.now }
+/// The keyword with this name and argument, given which keyword of the standard it is, and its turn. A keyword that the
+/// standard doesn't define is an annotation (Core, section 4.3.1).
+#[inline(always)]
+#[tactic(auto, using(crate::proofs::Standard::kind_if_named, crate::proofs::Standard::turn_if_named))]
+pub(crate) fn keyword_in_turn<'a>(
+    which: KeywordName,
+    name: &'a str,
+    argument: &'a Doc,
+) -> (Turn, Keyword<'a>)
+    requires { which ≡ keyword_name name.now }
+    ensures turn { result.0 ≡ turn_of name.now }
+    ensures keyword { keyword_of result.1 ≡ (name.now, value_of argument.now) }
+    ensures name { result.1.name.now ≡ name.now }
 {
-    kind_by(which)
+    let (kind, turn) = kind_and_turn_by(which);
+    let keyword = Keyword {
+        name,
+        which,
+        kind,
+        argument,
+    };
+    (turn, keyword)
 }
 
-fn kind_by(which: KeywordName) -> Kind
-    ensures { result ≡ kind_by which }
+fn kind_and_turn_by(which: KeywordName) -> (Kind, Turn)
+    ensures { result ≡ kind_and_turn_by which }
 {
     match which {
-        KeywordName::Ref => Kind::Reference,
-        KeywordName::DynamicRef => Kind::DynamicReference,
-        KeywordName::AllOf => Kind::AllOf,
-        KeywordName::AnyOf => Kind::AnyOf,
-        KeywordName::OneOf => Kind::OneOf,
-        KeywordName::Not => Kind::Not,
-        KeywordName::If => Kind::If,
-        KeywordName::Then => Kind::Then,
-        KeywordName::Else => Kind::Else,
-        KeywordName::DependentSchemas => Kind::DependentSchemas,
-        KeywordName::PrefixItems => Kind::PrefixItems,
-        KeywordName::Items => Kind::Items,
-        KeywordName::Contains => Kind::Contains,
-        KeywordName::Properties => Kind::Properties,
-        KeywordName::PatternProperties => Kind::PatternProperties,
-        KeywordName::AdditionalProperties => Kind::AdditionalProperties,
-        KeywordName::PropertyNames => Kind::PropertyNames,
-        KeywordName::UnevaluatedItems => Kind::UnevaluatedItems,
-        KeywordName::UnevaluatedProperties => Kind::UnevaluatedProperties,
-        KeywordName::AssertionUpToIf => Kind::Assertion,
-        KeywordName::AssertionBehindIf => Kind::Assertion,
-        KeywordName::Schema => Kind::Annotation,
-        KeywordName::Id => Kind::Annotation,
-        KeywordName::Anchor => Kind::Annotation,
-        KeywordName::DynamicAnchor => Kind::Annotation,
-        KeywordName::Vocabulary => Kind::Annotation,
-        KeywordName::Comment => Kind::Annotation,
-        KeywordName::Defs => Kind::Annotation,
-        KeywordName::Definitions => Kind::Annotation,
-        KeywordName::OtherUpToIf => Kind::Annotation,
-        KeywordName::OtherBehindIf => Kind::Annotation,
+        KeywordName::Ref => (Kind::Reference, Turn::First),
+        KeywordName::DynamicRef => (Kind::DynamicReference, Turn::First),
+        KeywordName::AllOf => (Kind::AllOf, Turn::First),
+        KeywordName::AnyOf => (Kind::AnyOf, Turn::First),
+        KeywordName::OneOf => (Kind::OneOf, Turn::Last),
+        KeywordName::Not => (Kind::Not, Turn::Last),
+        KeywordName::If => (Kind::If, Turn::First),
+        KeywordName::Then => (Kind::Then, Turn::Last),
+        KeywordName::Else => (Kind::Else, Turn::Second),
+        KeywordName::DependentSchemas => (Kind::DependentSchemas, Turn::First),
+        KeywordName::PrefixItems => (Kind::PrefixItems, Turn::Last),
+        KeywordName::Items => (Kind::Items, Turn::Last),
+        KeywordName::Contains => (Kind::Contains, Turn::First),
+        KeywordName::Properties => (Kind::Properties, Turn::Last),
+        KeywordName::PatternProperties => (Kind::PatternProperties, Turn::Last),
+        KeywordName::AdditionalProperties => (Kind::AdditionalProperties, Turn::First),
+        KeywordName::PropertyNames => (Kind::PropertyNames, Turn::Last),
+        KeywordName::UnevaluatedItems => (Kind::UnevaluatedItems, Turn::Last),
+        KeywordName::UnevaluatedProperties => (Kind::UnevaluatedProperties, Turn::Last),
+        KeywordName::AssertionUpToIf => (Kind::Assertion, Turn::First),
+        KeywordName::AssertionBehindIf => (Kind::Assertion, Turn::Last),
+        KeywordName::Schema => (Kind::Annotation, Turn::Never),
+        KeywordName::Id => (Kind::Annotation, Turn::Never),
+        KeywordName::Anchor => (Kind::Annotation, Turn::Never),
+        KeywordName::DynamicAnchor => (Kind::Annotation, Turn::Never),
+        KeywordName::Vocabulary => (Kind::Annotation, Turn::Never),
+        KeywordName::Comment => (Kind::Annotation, Turn::Never),
+        KeywordName::Defs => (Kind::Annotation, Turn::Never),
+        KeywordName::Definitions => (Kind::Annotation, Turn::Never),
+        KeywordName::OtherUpToIf => (Kind::Annotation, Turn::First),
+        KeywordName::OtherBehindIf => (Kind::Annotation, Turn::Last),
     }
 }

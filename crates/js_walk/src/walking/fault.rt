@@ -1,6 +1,5 @@
 //! Why a walk fails.
 use js_doc::Memory;
-use std::alloc::{AllocError, AllocFailed};
 
 /// Why a walk fails.
 #[derive(Clone, Copy, Debug, PartialEq, Eq)]
@@ -19,28 +18,6 @@ impl From<Memory> for WalkFault {
     ghost from_gives = { λ _ e. e ≡ fault.Memory };
 
     fn from(_refused: Memory) -> WalkFault {
-        WalkFault::Memory
-    }
-}
-
-impl<T: Drop> From<AllocFailed<T>> for WalkFault {
-    ghost use Rattle.std.specs.Prelude.{◌≡◌};
-    ghost use Rattle.js_walk.specs.declared.walking.fault.WalkFault.TheVariants as fault;
-
-    ghost from_gives = { λ _ e. e ≡ fault.Memory };
-
-    fn from(_refused: AllocFailed<T>) -> WalkFault {
-        WalkFault::Memory
-    }
-}
-
-impl From<AllocError> for WalkFault {
-    ghost use Rattle.std.specs.Prelude.{◌≡◌};
-    ghost use Rattle.js_walk.specs.declared.walking.fault.WalkFault.TheVariants as fault;
-
-    ghost from_gives = { λ _ e. e ≡ fault.Memory };
-
-    fn from(_refused: AllocError) -> WalkFault {
         WalkFault::Memory
     }
 }

@@ -12,6 +12,15 @@ pub struct Path {
     places: Unseen,
 }
 
+/// The dynamic scope of a keyword (Core, section 7.1).
+#[derive(Clone, Copy)]
+pub struct Scope<'p> {
+    /// The places of the schemas being applied, from the root's to that of the keyword's schema.
+    pub path: &'p Path,
+    /// The numbers of their schema resources, without consecutive repeats.
+    pub resources: &'p [usize],
+}
+
 impl Model for Path {
     ghost use Rattle.std.specs.Prelude.{List, ℕ};
 

@@ -19,12 +19,20 @@ pub trait Reporter<W: World, H: PointerText + Drop> {
     ghost takes: { Self → Event → Self → Type 0 };
 
     /// Whether the reporter ignores all events, so that a walk needn't visit keywords that apply no schemas.
+    #[inline(always)]
     fn is_quiet(&self) -> bool
-        ensures { result ≡ true → (c d : Self) (e : Event) → takes c e d };
+        ensures { result ≡ true → (c d : Self) (e : Event) → takes c e d }
+    {
+        false
+    }
 
     /// Whether the reporter keeps nothing of a leaf that passes and has no note, so that a walk needn't report it.
+    #[inline(always)]
     fn drops_silent(&self) -> bool
-        ensures { result ≡ true → DropsSilent takes self.now };
+        ensures { result ≡ true → DropsSilent takes self.now }
+    {
+        false
+    }
 
     /// The node of a schema opens.
     fn open_schema(

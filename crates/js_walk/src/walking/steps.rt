@@ -16,6 +16,7 @@ ghost use Rattle.js_walk.specs.declared.keywords.kind.Kind.TheVariants.{Assertio
 
 use crate::keywords::kind::Kind;
 use crate::walking::keeping::{cut_unless, keep, origins_of};
+use crate::walking::path::Scope;
 use crate::walking::pointer_text::PointerText;
 use crate::walking::reporter::Reporter;
 use crate::walking::tally::{Case, Judged, Judging, Others, Tally, Together};
@@ -125,12 +126,15 @@ pub(crate) fn begin_asking<W: World, H: PointerText + Drop>(
         condition (map W.text_of (drop start.names way.now.names.items)) (drop start.indexes way.now.indexes.items)) }
     ensures is { IfOk result (λ a. W.is_asking world.now a) }
 {
+    let scope = Scope {
+        path: &way.path,
+        resources: way.scope.resource_numbers(),
+    };
     let names = &way.names[start.names..];
     let indexes = &way.indexes[start.indexes..];
     world.asking(
         alloc,
-        &way.path,
-        way.scope.resource_numbers(),
+        scope,
         case.place,
         case.schema,
         case.value,
@@ -376,8 +380,7 @@ pub(crate) fn go_down<W: World, H: PointerText + Drop>(
 ) -> Result<(), Memory>
     ensures { OnOk result (WentDown (W.application_of world.now application) way.old way.new) }
 {
-    world.go_to_schema(application, &mut way.keyword)?;
-    world.go_to_value(application, &mut way.instance)
+    world.go_to_application(application, &mut way.keyword, &mut way.instance)
 }
 
 /// Moves both trails back up, and replaces what the applied schema has evaluated by what the keyword has.

@@ -16,7 +16,7 @@ ghost use Rattle.js_walk.specs.Walk.Told.{IsKeywordAt, asked_by, accepts_at, key
 ghost use Rattle.js_walk.specs.Walk.Told.{at_step};
 
 use crate::keywords::kind::Kind;
-use crate::walking::path::Path;
+use crate::walking::path::Scope;
 use crate::walking::pointer_text::PointerText;
 use crate::walking::tally::{Others, Tally};
 use crate::walking::trail::Trail;
@@ -133,13 +133,11 @@ pub trait World {
             (keyword_of keyword) condition names indexes ≡ [] };
 
     /// The applications that a keyword asks for. `condition`, `names`, `indexes`: what the keywords before it have
-    /// shown, which is whether `if` succeeds, and the members and items evaluated; `resources`: the numbers of the
-    /// schema resources of the path, without consecutive repeats.
+    /// shown, which is whether `if` succeeds, and the members and items evaluated.
     fn asking(
         &self,
         alloc: Global,
-        path: &Path,
-        resources: &[usize],
+        scope: Scope,
         place: Place,
         schema: Self::Schema,
         value: Self::Value,
@@ -148,15 +146,14 @@ pub trait World {
         names: &[Self::Name],
         indexes: &[usize],
     ) -> Result<Self::Asking, Memory>
-        requires path { list_all (is_place self.now) path.now ≡ true }
-        requires resources { resources.now ≡ dedup nat_eq (map (resource self.now) path.now) }
+        requires path { list_all (is_place self.now) scope.path.now ≡ true }
+        requires resources { scope.resources.now ≡ dedup nat_eq (map (resource self.now) scope.path.now) }
         requires place { is_place self.now place ≡ true }
         requires schema { stands_at self.now place schema }
         requires keyword { IsKeywordAt (schemas self.now) (site self.now place) (keyword_of keyword) }
         ensures asked { IfOk result (λ a. asked self.now a
-            ≡ asked_by (schemas self.now) 0 (map (site self.now) path.now) (site self.now place) (value_of value)
-            (keyword_of keyword)
-            condition (map text_of names.now) indexes.now) }
+            ≡ asked_by (schemas self.now) 0 (map (site self.now) scope.entry.path.now) (site self.now place)
+            (value_of value) (keyword_of keyword) condition (map text_of names.now) indexes.now) }
         ensures is { IfOk result (λ a. is_asking self.now a) };
 
     /// The next application, or None after the last.
@@ -222,19 +219,15 @@ pub trait World {
     ) -> Result<(), Memory>
         ensures { OnOk result (trail.new ≡ at_name trail.old (keyword_of keyword)) };
 
-    /// Moves a trail from a keyword to the schema that it applies.
-    fn go_to_schema<H: PointerText + Drop>(
+    /// Moves both trails to an application: from the keyword to the schema that it applies, and from the keyword's value
+    /// to the value that the schema is applied to.
+    fn go_to_application<H: PointerText + Drop>(
         &self,
         application: Self::Application,
-        trail: &mut Trail<H>,
+        keyword: &mut Trail<H>,
+        instance: &mut Trail<H>,
     ) -> Result<(), Memory>
-        ensures { OnOk result (trail.new ≡ at_step trail.old (application_of self.now application).step) };
-
-    /// Moves a trail from the keyword's value to the value that the schema is applied to.
-    fn go_to_value<H: PointerText + Drop>(
-        &self,
-        application: Self::Application,
-        trail: &mut Trail<H>,
-    ) -> Result<(), Memory>
-        ensures { OnOk result (trail.new ≡ at_step trail.old (application_of self.now application).at) };
+        ensures keyword { OnOk result (keyword.new ≡ at_step keyword.old (application_of self.now application).step) }
+        ensures instance { OnOk result
+            (instance.new ≡ at_step instance.old (application_of self.now application).at) };
 }

@@ -6,8 +6,8 @@ pub returns-then-applies : goal.returns-then-applies
 returns-then-applies c =
     let l = c.loop-self.self in (
       sym c.loop-self.invariant
-          ∙ taken l.members.now l.names.now l.rank _ _ (sym c.applies.ensures ∙ c.if-applies.true) (sym c.in_ok-keyword.ensures) l.in_step c.loop-self-test.true (search rules),
-      c.turn_of.ensures,
+          ∙ taken l.members.now l.names.now l.rank _ _ (sym c.applies.ensures ∙ c.if-applies.true) (sym c.in_ok-turn.ensures.keyword) l.in_step c.loop-self-test.true (search rules),
+      c.in_ok-turn.ensures.turn,
     )
 
 pub loop-self-preserved : goal.loop-self-preserved
