@@ -1,5 +1,5 @@
 -- Values that go out in an array one after the other, and rows whose trees are gone through one after the other.
-use Rattle.std.proofs.Common.{◌≡◌, ℕ, ◌+◌, ◌≤◌, ◌<◌, suc, ◌&&◌, ◌||◌, nat_lt, Bool, true, false, not, List, [], ◌∷◌, ◌++◌, length, drop, get_or, map, codes, Result, Ok, Err, refl, ap, sym, subst, ◌∙◌, append_assoc, append-nil, arith}
+use Rattle.std.proofs.Common.{◌≡◌, ℕ, ◌+◌, ◌-◌, ◌≤◌, ◌<◌, suc, ◌&&◌, ◌||◌, nat_lt, Bool, true, false, not, List, [], ◌∷◌, ◌++◌, length, take, drop, get_or, map, codes, Result, Ok, Err, refl, ap, sym, subst, ◌∙◌, append_assoc, append-nil, arith}
 use Rattle.std.proofs.lemmas.Bool.{and_parts}
 use Rattle.std.proofs.lemmas.Bool.Decides.{nat_tests}
 use Rattle.std.specs.Result.{IsErr}
@@ -12,11 +12,11 @@ use Rattle.js_tree.specs.Form.{node_value, unit_list}
 use Rattle.js_tree.specs.OutputUnit.{OutputUnit, noted}
 use Rattle.js_tree.specs.Result.{ResultTree, has_verdict, pruned, units}
 use Rattle.js_tree.specs.NodeText.{annotation_part, error_part, head_text, list_start, tail_text, valid_text}
-use Rattle.js_tree.proofs.FlatRows.{root_row}
+use Rattle.js_tree.proofs.FlatRows.{root_row, shorter}
 use Rattle.js_tree.proofs.Marks.{flat_form-flat_of}
 use Rattle.js_tree.proofs.NodeTexts.{leaf_text_is, list_text_is}
 use Rattle.js_tree.proofs.Pieces.{nothing_goes}
-use Rattle.js_rows.specs.Locations.{AreAt, IsBack}
+use Rattle.js_rows.specs.Locations.{AreAt, HasRoom, IsBack}
 use Rattle.js_rows.specs.Marks.{whole_of}
 use Rattle.js_rows.specs.Relative.{escaped, escaped_tree, escaped_unit, relative_tree}
 use Rattle.js_rows.specs.RelativeState.{AreRowsOf, relative_row}
@@ -30,7 +30,7 @@ use Rattle.js_rows.proofs.ListedUnits.{array_text, gone_through, later_after-app
 use Rattle.js_rows.proofs.NextTrees.{EndsAt}
 use Rattle.js_rows.proofs.Placing.{placed_tree_again}
 use Rattle.js_rows.proofs.QuotedParts.{beginning_in_parts}
-use Rattle.js_rows.proofs.RelativeTexts.{unit_is_there}
+use Rattle.js_rows.proofs.RelativeTexts.{room_for_part, unit_is_there}
 
 -- ---- values after values
 
@@ -131,6 +131,21 @@ lists_go_on a b d later now then verdict rows next above mid at end f w are some
       gone,
     )
 
+-- the tree that comes next, with room for the locations of its nodes
+pub record PartToList (rows : List RelativeRow) (next : ℕ) (end : ℕ) (at : Locations) : Type 0 where
+  pub fewer : length (take (end - next) (drop next rows)) ≤ length rows
+  pub trees : (r : ResultTree) × AreRowsOfTree (take (end - next) (drop next rows)) r × HasRoom at (take (end - next) (drop next rows))
+
+pub part_to_list : (a b : Progress) (later now verdict : Bool) (rows : List RelativeRow) (next end : ℕ) (above at : Locations)
+    → ListsUpTo a b later now verdict rows next above at → (f : Forest OutputUnit) × AreRowsOfTrees rows f × HasRoom above rows → next < length rows → EndsAt rows next end
+    → PartToList rows next end at
+part_to_list a b later now verdict rows next end above at w are some ends =
+    let here = w.2 are.0 are.1 in
+    record {
+      fewer = shorter (end - next) next rows;
+      trees = (_, (next_tree rows next here.0 end here.1 some ends).all, room_for_part above at rows next (end - next) are.2 w.1);
+    }
+
 abbrev pub list_starts : (a : Progress) (later : Bool) (shown : Forest OutputUnit → List Value) (rows : List RelativeRow) (f : Forest OutputUnit) → AreRowsOfTrees rows f → LeftToList a a later later shown rows 0 f
 list_starts a later shown rows f e = record { done = []; left = f; left_is = e; all = refl; gone = none_listed a later }
 
@@ -172,13 +187,23 @@ same_verdict : (verdict : Bool) (x : RelativeRow) (u : OutputUnit) → (relative
 same_verdict true x u e = ap (λ y. y.valid) (sym e)
 same_verdict false x u e = ap (λ y. not y.valid) (sym e)
 
+is_false : (b : Bool) → not b ≡ true → b ≡ false
+is_false true e = absurd cc
+is_false false e = refl
+
+its_verdict : (verdict : Bool) (u : OutputUnit) → has_verdict verdict u ≡ true → u.valid ≡ verdict
+its_verdict true u e = e
+its_verdict false u e = is_false u.valid e
+
 -- of the tree that comes next, and of those after it
 pub next_listed : (verdict : Bool) (keyword instance : List ℕ) (rows : List RelativeRow) (next : ℕ) (f : Forest OutputUnit) (end : ℕ) (x : RelativeRow)
     → (t : NextTree rows next f end) → x ≡ get_or rows next x → has_verdict verdict (relative_row x).0 ≡ true
-    → listed verdict keyword instance f ≡ listed_tree verdict keyword instance t.unit t.below ++ listed verdict keyword instance t.after
+    → listed verdict keyword instance f ≡ listed_tree t.unit.valid keyword instance t.unit t.below ++ listed verdict keyword instance t.after
 next_listed verdict keyword instance rows next f end x t is e =
     let v : has_verdict verdict t.unit ≡ true = same_verdict verdict x t.unit (t.unit_is x is) ∙ e in
-    ap (listed verdict keyword instance) t.is ∙ gone_through verdict keyword instance t.unit t.below t.after v
+    ap (listed verdict keyword instance) t.is
+    ∙ (gone_through verdict keyword instance t.unit t.below t.after v
+    ∙ ap (λ b. listed_tree b keyword instance t.unit t.below ++ listed verdict keyword instance t.after) (sym (its_verdict verdict t.unit v)))
 
 -- a node without a note and without children has none
 alone_passed : (verdict : Bool) (keyword instance : List ℕ) (u : OutputUnit) (below after : Forest OutputUnit) → has_verdict verdict u ≡ true → noted u ≡ false → below ≡ empty

@@ -20,6 +20,7 @@ mod rows_tree;
 mod trees;
 mod unescaping;
 mod verbose_text;
+mod writer;
 
 pub use basic_text::put_basic;
 pub use keeping::kept_rows;

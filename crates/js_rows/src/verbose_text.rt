@@ -18,24 +18,15 @@ ghost use Rattle.js_rows.specs.code.RelativeText.{AreRowsOfTree, AreRowsOfTrees,
 ghost use Rattle.js_rows.specs.code.RelativeText.{opening_text};
 ghost use Rattle.js_rows.specs.code.RelativeText.{unit_there};
 
-use crate::basic_text::add_start;
 use crate::gathered::Gathered;
 use crate::locations::Locations;
 use crate::opening::from_comma;
 use crate::rows::{RelativeRow, RelativeRows};
 use crate::trees::tree_end;
+use crate::writer::Writer;
 use js_doc::{Out, Stopped, put_escaped};
 use js_tree::Note;
 use js_tree::parts::{put_closed_annotation, put_error_behind, put_list_start};
-
-// What nodes are written with.
-#[derive(Drop)]
-struct Nodes {
-    // The locations of the node that is written, or of the one above it.
-    locations: Locations,
-    // Text that is gathered before it goes out.
-    gathered: Gathered,
-}
 
 /// Writes the rows' tree as compact text in the verbose format (JSON Schema Core, section 12.4.4), with whole
 /// locations. It allocates nothing.
@@ -56,15 +47,15 @@ pub fn put_verbose<O: Out>(
     let mut gathered = locations.take_gathered();
     let rows = rows.rows.as_slice();
     gathered.clear();
-    let mut nodes = Nodes {
+    let mut writer = Writer {
         locations,
         gathered,
     };
-    nodes.put_tree(false, rows, out)?;
-    out.put(nodes.gathered.as_slice())
+    writer.put_tree(false, rows, out)?;
+    out.put(writer.gathered.as_slice())
 }
 
-impl Nodes {
+impl Writer {
     /// Gathers and writes the tree of the rows, below a node with these locations; after a comma, if it isn't the first
     /// in its list.
     #[cycle(put_tree)]
@@ -110,23 +101,9 @@ impl Nodes {
         ensures back { OnOk result (IsBack self.old.locations self.new.locations) }
     {
         if below.is_empty() {
-            return add_start(
-                later,
-                row,
-                false,
-                &mut self.locations,
-                &mut self.gathered,
-                out,
-            );
+            return self.add_start(later, row, false, out);
         }
-        add_start(
-            later,
-            row,
-            true,
-            &mut self.locations,
-            &mut self.gathered,
-            out,
-        )?;
+        self.add_start(later, row, true, out)?;
         self.put_trees(below, out)?;
         add_back(row, &self.locations, &mut self.gathered, out)
     }
@@ -204,25 +181,27 @@ fn put_back<O: Out>(row: &RelativeRow, locations: &Locations, out: &mut O) -> Re
     locations.put_end(valid, out)
 }
 
-/// Writes the beginning of a node, up to the end of its absolute location, without the closing quotation mark. What
-/// stands before its token is kept for the next node.
-#[inline(always)]
-pub(crate) fn put_opening<O: Out>(
-    later: bool,
-    row: &RelativeRow,
-    locations: &mut Locations,
-    out: &mut O,
-) -> Result<(), Stopped>
-    ensures text { (absolute : List ℕ) → IsAbsolute row.now absolute
-        → Puts (O.progress out.old) (O.progress out.new) (opening_text later absolute) result }
-    ensures back { IsBack locations.old locations.new }
-{
-    let opening = &mut locations.opening;
-    if !opening.keeps_schema(row.schema.as_bytes()) {
-        return put_whole_opening(later, row, out);
+impl Locations {
+    /// Writes the beginning of a node, up to the end of its absolute location, without the closing quotation mark. What
+    /// stands before its token is kept for the next node.
+    #[inline(always)]
+    pub(crate) fn put_opening<O: Out>(
+        &mut self,
+        later: bool,
+        row: &RelativeRow,
+        out: &mut O,
+    ) -> Result<(), Stopped>
+        ensures text { (absolute : List ℕ) → IsAbsolute row.now absolute
+            → Puts (O.progress out.old) (O.progress out.new) (opening_text later absolute) result }
+        ensures back { IsBack self.old self.new }
+    {
+        let opening = &mut self.opening;
+        if !opening.keeps_schema(row.schema.as_bytes()) {
+            return put_whole_opening(later, row, out);
+        }
+        opening.put_kept(later, row.absolute_slash, out)?;
+        out.put(row.absolute)
     }
-    opening.put_kept(later, row.absolute_slash, out)?;
-    out.put(row.absolute)
 }
 
 /// The same, of any schema.

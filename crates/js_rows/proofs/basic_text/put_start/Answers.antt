@@ -42,7 +42,7 @@ returns-clause-text g c =
     λ k a i at abs.
     let o = g.O.Out.progress in
     let x = c.args.row.now in
-    let there = still_at c.args.locations.now c.put_opening.new.locations k i at c.in_ok-put_opening.ensures.back in
+    let there = still_at c.args.locations.now c.put_opening.new.self k i at c.in_ok-put_opening.ensures.back in
     let r = c.put_rest.result in
     subst (λ b. Puts (o c.args.out.now) (o c.put_rest.new.out) (start_text b c.args.later x k a i) r) (sym c.if-has_children.false)
     (subst (λ l. Puts (o c.args.out.now) (o c.put_rest.new.out) l r) (unit_pieces c.args.later (unit_there x k a i))

@@ -6,7 +6,7 @@ use Rattle.js_tree.specs.Result.{ResultTree}
 use Rattle.js_tree.proofs.ChildTexts.{rest_of}
 use Rattle.js_tree.proofs.FlatRows.{shorter}
 use Rattle.js_rows.specs.Locations.{HasRoom}
-use Rattle.js_rows.specs.Relative.{escaped_tree, placed}
+use Rattle.js_rows.specs.Relative.{escaped_tree}
 use Rattle.js_rows.specs.RelativeState.{relative_row}
 use Rattle.js_rows.proofs.AddedRows.{fewer_left, still_there}
 use Rattle.js_rows.proofs.EscapedRows.{are_trees, next_tree, still_at}

@@ -1,10 +1,10 @@
 use Rattle.std.proofs.Common.{◌-◌, ◌++◌, length, slice_index_or, ap, ap₂, sym, subst, ◌∙◌}
 use borrow.Rule.Slice.PartMut.{put_mid}
-use Rattle.js_tree.specs.Forest.{forest_of, ◌⊹◌}
+use Rattle.js_tree.specs.Forest.{forest_of}
 use Rattle.js_tree.specs.Seen.{note_of}
 use Rattle.js_tree.proofs.ChildTexts.{rest_of}
 use Rattle.js_rows.specs.Locations.{HasRoom}
-use Rattle.js_rows.specs.Relative.{escaped_tree, placed}
+use Rattle.js_rows.specs.Relative.{escaped_tree}
 use Rattle.js_rows.proofs.PlacedRows.{rows_under, still_entered, with_head}
 use Rattle.js_rows.proofs.RelativeTexts.{unit_is_there}
 use Rattle.js_rows.proofs.RoomLeft.{room_below, some_row}

@@ -2,7 +2,7 @@ use Rattle.std.proofs.Common.{◌∷◌}
 use Rattle.js_tree.specs.Seen.{note_of}
 use Rattle.js_tree.specs.NodeText.{annotation_part, end_text}
 use Rattle.js_tree.proofs.Pieces.{then_puts, stops_in}
-use Rattle.js_rows.proofs.basic_text.put_annotation_rest.Goals as goal
+use Rattle.js_rows.proofs.locations.Locations.put_annotation_rest.Goals as goal
 
 pub returns-in_err-put_closed_annotation : goal.returns-in_err-put_closed_annotation
 returns-in_err-put_closed_annotation g c =

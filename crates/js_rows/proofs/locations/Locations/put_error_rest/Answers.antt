@@ -3,7 +3,7 @@ use Rattle.json.specs.Print.{escape}
 use Rattle.js_doc.specs.BytesOut.{Goes, Stops}
 use Rattle.js_tree.specs.NodeText.{end_text}
 use Rattle.js_tree.proofs.Pieces.{then_puts, stops_in}
-use Rattle.js_rows.proofs.basic_text.put_error_rest.Goals as goal
+use Rattle.js_rows.proofs.locations.Locations.put_error_rest.Goals as goal
 
 pub returns-in_err-put : goal.returns-in_err-put
 returns-in_err-put g c =

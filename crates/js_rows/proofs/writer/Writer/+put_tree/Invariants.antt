@@ -7,7 +7,7 @@ use Rattle.js_rows.specs.Relative.{placed}
 use Rattle.js_rows.specs.code.Listing.{values_text}
 use Rattle.js_rows.specs.code.RelativeText.{AreRowsOfTrees}
 use Rattle.js_rows.proofs.Gathering.{LeftToPass}
-use Rattle.js_rows.proofs.verbose_text.Nodes.+put_tree.Given as goal
+use Rattle.js_rows.proofs.writer.Writer.+put_tree.Given as goal
 
 abbrev pub decreases-put_tree : goal.decreases-put_tree
 decreases-put_tree g l = 3 * length l.rows.now

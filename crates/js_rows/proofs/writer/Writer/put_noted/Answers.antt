@@ -3,7 +3,7 @@ use Rattle.js_tree.specs.Form.{node_value}
 use Rattle.js_rows.specs.code.Listing.{AllListed, AreListed}
 use Rattle.js_rows.specs.code.RelativeText.{unit_there}
 use Rattle.js_rows.proofs.ListedRows.{its_note, listed_err, one_listed, one_stops}
-use Rattle.js_rows.proofs.basic_text.put_noted.Goals as goal
+use Rattle.js_rows.proofs.writer.Writer.put_noted.Goals as goal
 
 pub returns-in_err-put_unit-clause-listed : goal.returns-in_err-put_unit-clause-listed
 returns-in_err-put_unit-clause-listed g c =

@@ -3,7 +3,7 @@ use Rattle.js_doc.specs.BytesOut.{Puts}
 use Rattle.js_tree.specs.Seen.{note_of}
 use Rattle.js_tree.specs.NodeText.{end_text}
 use Rattle.js_rows.proofs.QuotedParts.{rest_of_error, rest_of_other}
-use Rattle.js_rows.proofs.basic_text.put_rest.Goals as goal
+use Rattle.js_rows.proofs.locations.Locations.put_rest.Goals as goal
 
 pub returns-in-Some : goal.returns-in-Some
 returns-in-Some g c =

@@ -9,7 +9,7 @@ use Rattle.js_rows.specs.code.RelativeText.{unit_there}
 use Rattle.js_rows.proofs.EscapedRows.{are_trees, entered, next_tree, no_trees, still_at}
 use Rattle.js_rows.proofs.Gathering.{all_passed, none_passed, one_passed, pass_stops, same_to_pass, stopped_last}
 use Rattle.js_rows.proofs.RelativeTexts.{back_again, gathers_whole, root_there, room_for_part, stays_there, stops_in_children, stops_in_front, tree_next, without_trees}
-use Rattle.js_rows.proofs.verbose_text.Nodes.+put_tree.Goals as goal
+use Rattle.js_rows.proofs.writer.Writer.+put_tree.Goals as goal
 
 pub put_tree-returns-in_err-put_node-clause-text : goal.put_tree-returns-in_err-put_node-clause-text
 put_tree-returns-in_err-put_node-clause-text g t c =
@@ -33,7 +33,7 @@ put_node-returns-then-is_empty-clause-text g t c =
     λ f k a i at abs e.
     let o = g.O.Out.progress in
     let p = c.args.self.now.gathered.text.items in
-    let q = c.add_start.new.gathered.text.items in
+    let q = c.add_start.new.self.gathered.text.items in
     let below = c.args.below.now in
     let none : length below ≡ 0 = is_none (length below) c.if-is_empty.ensures in
     subst (λ l. GathersOrStops (o c.args.out.now) (o c.add_start.new.out) p q l c.add_start.result) (without_trees c.args.later (unit_there c.args.row.now k a i) k i below f none e) (c.add_start.ensures.text k a i at abs)
@@ -43,24 +43,24 @@ put_node-returns-in_err-add_start-clause-text g t c =
     λ f k a i at abs e.
     let o = g.O.Out.progress in
     let some = not_none (length c.args.below.now) c.if-is_empty.ensures in
-    stops_in_front c.args.later c.args.row.now k a i c.args.below.now f e some (o c.args.out.now) (o c.add_start-2.new.out) c.args.self.now.gathered.text.items c.add_start-2.new.gathered.text.items c.from_residual.result c.from_residual.ensures.0 (c.in_err-add_start.ensures.text k a i at abs)
+    stops_in_front c.args.later c.args.row.now k a i c.args.below.now f e some (o c.args.out.now) (o c.add_start-2.new.out) c.args.self.now.gathered.text.items c.add_start-2.new.self.gathered.text.items c.from_residual.result c.from_residual.ensures.0 (c.in_err-add_start.ensures.text k a i at abs)
 
 pub put_node-returns-in_err-put_trees-clause-text : goal.put_node-returns-in_err-put_trees-clause-text
 put_node-returns-in_err-put_trees-clause-text g t c =
     λ f k a i at abs e.
     let o = g.O.Out.progress in
     let some = not_none (length c.args.below.now) c.if-is_empty.ensures in
-    stops_in_children c.args.later c.args.row.now k a i c.args.below.now f e some (o c.args.out.now) (o c.add_start-2.new.out) (o c.put_trees.new.out) c.args.self.now.gathered.text.items c.add_start-2.new.gathered.text.items c.put_trees.new.self.gathered.text.items c.from_residual-in_err-put_trees.result (c.in_ok-add_start.ensures.text k a i at abs)
-    c.from_residual-in_err-put_trees.ensures.0 (c.in_err-put_trees.ensures.text f k i (still_at c.args.self.now.locations c.add_start-2.new.locations k i at c.in_ok-add_start.ensures.back) e)
+    stops_in_children c.args.later c.args.row.now k a i c.args.below.now f e some (o c.args.out.now) (o c.add_start-2.new.out) (o c.put_trees.new.out) c.args.self.now.gathered.text.items c.add_start-2.new.self.gathered.text.items c.put_trees.new.self.gathered.text.items c.from_residual-in_err-put_trees.result (c.in_ok-add_start.ensures.text k a i at abs)
+    c.from_residual-in_err-put_trees.ensures.0 (c.in_err-put_trees.ensures.text f k i (still_at c.args.self.now.locations c.add_start-2.new.self.locations k i at c.in_ok-add_start.ensures.back) e)
 
 pub put_node-returns-clause-text : goal.put_node-returns-clause-text
 put_node-returns-clause-text g t c =
     λ f k a i at abs e.
     let o = g.O.Out.progress in
     let some = not_none (length c.args.below.now) c.if-is_empty.ensures in
-    let there = still_at c.args.self.now.locations c.add_start-2.new.locations k i at c.in_ok-add_start.ensures.back in
-    let last = still_at c.add_start-2.new.locations c.put_trees.new.self.locations k i there c.in_ok-put_trees.ensures.back in
-    gathers_whole c.args.later c.args.row.now k a i c.args.below.now f e some (o c.args.out.now) (o c.add_start-2.new.out) (o c.put_trees.new.out) (o c.add_back.new.out) c.args.self.now.gathered.text.items c.add_start-2.new.gathered.text.items c.put_trees.new.self.gathered.text.items c.add_back.new.gathered.text.items c.add_back.result
+    let there = still_at c.args.self.now.locations c.add_start-2.new.self.locations k i at c.in_ok-add_start.ensures.back in
+    let last = still_at c.add_start-2.new.self.locations c.put_trees.new.self.locations k i there c.in_ok-put_trees.ensures.back in
+    gathers_whole c.args.later c.args.row.now k a i c.args.below.now f e some (o c.args.out.now) (o c.add_start-2.new.out) (o c.put_trees.new.out) (o c.add_back.new.out) c.args.self.now.gathered.text.items c.add_start-2.new.self.gathered.text.items c.put_trees.new.self.gathered.text.items c.add_back.new.gathered.text.items c.add_back.result
     (c.in_ok-add_start.ensures.text k a i at abs) (c.in_ok-put_trees.ensures.text f k i there e) (c.add_back.ensures k i last)
 
 pub put_trees-loop-next-init : goal.put_trees-loop-next-init

@@ -2,7 +2,7 @@ use Rattle.std.proofs.Common.{subst}
 use Rattle.js_doc.specs.BytesOut.{Puts}
 use Rattle.js_tree.proofs.Pieces.{then_puts, stops_in}
 use Rattle.js_rows.proofs.OpeningKept.{front_then}
-use Rattle.js_rows.proofs.verbose_text.put_opening.Goals as goal
+use Rattle.js_rows.proofs.locations.Locations.put_opening.Goals as goal
 
 pub returns-in_err-put_kept-clause-text : goal.returns-in_err-put_kept-clause-text
 returns-in_err-put_kept-clause-text g c =
