@@ -219,8 +219,8 @@ pub trait World {
     ) -> Result<(), Memory>
         ensures { OnOk result (trail.new ≡ at_name trail.old (keyword_of keyword)) };
 
-    /// Moves both trails to an application: from the keyword to the schema that it applies, and from the keyword's value
-    /// to the value that the schema is applied to.
+    /// Moves both trails to an application: from the keyword to the schema that it applies, and from the keyword's
+    /// value to the value that the schema is applied to.
     fn go_to_application<H: PointerText + Drop>(
         &self,
         application: Self::Application,
