@@ -14,7 +14,7 @@ use crate::searching::searchers::Searchers;
 use js_bundle::{Place, Schemas, Step};
 use js_doc::{Doc, Memory};
 use js_walk::{
-    Applied, Instance, Keyword, KeywordAt, Keywords, Kind, Others, PointerText, Scope, Tally,
+    Applied, Instance, Keyword, KeywordAt, Keywords, Kind, Others, PointerText, ScopedPath, Tally,
     Trail, World, is_written_as_it_is, names_at,
 };
 use std::alloc::Global;
@@ -125,7 +125,7 @@ impl<'a> World for Here<'a> {
     fn asking(
         &self,
         alloc: Global,
-        scope: Scope,
+        scope: ScopedPath,
         place: Place,
         schema: &'a Doc,
         value: Instance<'a>,

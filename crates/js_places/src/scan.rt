@@ -26,7 +26,7 @@ const MOST_SITES: usize = 100_001;
 
 /// Where a schema stands.
 #[derive(Clone, Copy)]
-struct Place<'p> {
+struct Position<'p> {
     document: usize,
     /// The scope that it is in.
     above: &'p Arc<Scope>,
@@ -38,7 +38,7 @@ struct Place<'p> {
 // Lists one place, and answers the scope of what stands below it.
 fn add_site<'a>(
     out: &mut Vec<Site<'a>>,
-    at: Place<'_>,
+    at: Position<'_>,
     schema: &'a Doc,
 ) -> Result<Arc<Scope>, Memory>
     ensures added { OnOk result (map site_of out.new.items ≡ map site_of out.old.items
@@ -69,7 +69,7 @@ fn add_site<'a>(
 }
 
 #[cycle(scan)]
-fn scan_schema<'a>(out: &mut Vec<Site<'a>>, at: Place<'_>, schema: &'a Doc) -> Result<(), Memory>
+fn scan_schema<'a>(out: &mut Vec<Site<'a>>, at: Position<'_>, schema: &'a Doc) -> Result<(), Memory>
     ensures { OnOk result (SameFront (map site_of out.new.items) (map site_of out.old.items
         ++ sites_at at.entry.document at.entry.above.now.value at.entry.pointer.now.value (value_of schema.now))) }
 {
@@ -79,7 +79,7 @@ fn scan_schema<'a>(out: &mut Vec<Site<'a>>, at: Place<'_>, schema: &'a Doc) -> R
     let below = add_site(out, at, schema)?;
     match schema {
         Doc::Members(members) => {
-            let inside = Place {
+            let inside = Position {
                 above: &below,
                 ..at
             };
@@ -92,7 +92,7 @@ fn scan_schema<'a>(out: &mut Vec<Site<'a>>, at: Place<'_>, schema: &'a Doc) -> R
 #[cycle(scan)]
 fn scan_members<'a>(
     out: &mut Vec<Site<'a>>,
-    at: Place<'_>,
+    at: Position<'_>,
     role: Role,
     members: &'a Members,
 ) -> Result<(), Memory>
@@ -102,7 +102,7 @@ fn scan_members<'a>(
 {
     let mut rank = 0_u32;
     for (name, value) in members.pairs() {
-        scan_member(out, Place { rank, ..at }, role, name.as_str(), value)?;
+        scan_member(out, Position { rank, ..at }, role, name.as_str(), value)?;
         rank = rank.saturating_add(1);
     }
     Ok(())
@@ -112,7 +112,7 @@ fn scan_members<'a>(
 #[cycle(scan)]
 fn scan_member<'a>(
     out: &mut Vec<Site<'a>>,
-    at: Place<'_>,
+    at: Position<'_>,
     role: Role,
     name: &str,
     value: &'a Doc,
@@ -127,7 +127,7 @@ fn scan_member<'a>(
         return Ok(());
     }
     let pointer = shared_further(*out.allocator(), at.pointer, name)?;
-    let below = Place {
+    let below = Position {
         pointer: &pointer,
         ..at
     };
@@ -140,7 +140,11 @@ fn scan_member<'a>(
 }
 
 #[cycle(scan)]
-fn scan_items<'a>(out: &mut Vec<Site<'a>>, at: Place<'_>, schemas: &'a [Doc]) -> Result<(), Memory>
+fn scan_items<'a>(
+    out: &mut Vec<Site<'a>>,
+    at: Position<'_>,
+    schemas: &'a [Doc],
+) -> Result<(), Memory>
     ensures { OnOk result (SameFront (map site_of out.new.items) (map site_of out.old.items
         ++ sites_of_items at.entry.document at.entry.above.now.value at.entry.pointer.now.value 0
         (spec.items (map value_of schemas.now)))) }
@@ -148,7 +152,7 @@ fn scan_items<'a>(out: &mut Vec<Site<'a>>, at: Place<'_>, schemas: &'a [Doc]) ->
     let mut digits = itoa::Buffer::new();
     for i in 0..schemas.len() {
         let pointer = shared_further(*out.allocator(), at.pointer, digits.format(i))?;
-        let item = Place {
+        let item = Position {
             pointer: &pointer,
             rank: 0,
             ..at
@@ -169,7 +173,7 @@ fn scan_document<'a>(
 {
     let above = Scope::new(Pointer::new(alloc), document.uri.clone()?, alloc)?;
     let pointer = Arc::new(alloc, Pointer::new(alloc))?;
-    let root = Place {
+    let root = Position {
         document: number,
         above: &above,
         pointer: &pointer,

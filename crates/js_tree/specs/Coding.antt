@@ -15,9 +15,9 @@ Reading A = Forest A × List (Forest A)
 
 module _ {A : Type 0} where
   -- a label opens a node, and None closes it
-  abbrev written : Forest A → List (Option A) → List (Option A)
-  written empty rest = rest
-  written (tree a below after) rest = Some a ∷ written below (None ∷ written after rest)
+  abbrev bracketed : Forest A → List (Option A) → List (Option A)
+  bracketed empty rest = rest
+  bracketed (tree a below after) rest = Some a ∷ bracketed below (None ∷ bracketed after rest)
 
   abbrev at_opening : A → Reading A → Reading A
   at_opening a (below, []) = (below, [])
@@ -31,15 +31,15 @@ module _ {A : Type 0} where
   read (None ∷ xs) = at_closing (read xs)
   read (Some a ∷ xs) = at_opening a (read xs)
 
-  pub read-written : (f : Forest A) (rest : List (Option A)) (waiting : List (Forest A)) → read rest ≡ (empty, waiting) → read (written f rest) ≡ (f, waiting)
-  read-written empty rest waiting e = e
-  read-written (tree a below after) rest waiting e =
-      ap (at_opening a) (read-written below (None ∷ written after rest) (after ∷ waiting) (ap at_closing (read-written after rest waiting e)))
+  pub read-bracketed : (f : Forest A) (rest : List (Option A)) (waiting : List (Forest A)) → read rest ≡ (empty, waiting) → read (bracketed f rest) ≡ (f, waiting)
+  read-bracketed empty rest waiting e = e
+  read-bracketed (tree a below after) rest waiting e =
+      ap (at_opening a) (read-bracketed below (None ∷ bracketed after rest) (after ∷ waiting) (ap at_closing (read-bracketed after rest waiting e)))
 
   abbrev pub forest_code : Coded A → Coded (Forest A)
   forest_code c =
-      code_by (List (Option A)) (coded_list (coded_option c)) (λ f. written f []) (λ xs. (read xs).0)
-      (λ f. ap (λ p. p.0) (read-written f [] [] refl))
+      code_by (List (Option A)) (coded_list (coded_option c)) (λ f. bracketed f []) (λ xs. (read xs).0)
+      (λ f. ap (λ p. p.0) (read-bracketed f [] [] refl))
 
   abbrev pub rose_code : Coded A → Coded (Rose A)
   rose_code c =

@@ -18,7 +18,7 @@ mod way;
 mod world;
 
 pub use fault::WalkFault;
-pub use path::{Path, Scope};
+pub use path::{Path, ScopedPath};
 pub use pointer_text::{HeldText, PointerText, UnseenText};
 pub use reporter::Reporter;
 pub use start::walk_from;

@@ -9,7 +9,7 @@ use crate::cursors::list_cursor::ListCursor;
 use crate::cursors::member_cursor::MemberCursor;
 use crate::cursors::name_cursor::NameCursor;
 use crate::cursors::pattern_cursor::PatternCursor;
-use crate::searching::searchers::{Search, Searchers};
+use crate::searching::searchers::{PatternSearch, Searchers};
 use js_bundle::{Place, Schemas, Step};
 use js_doc::{Doc, Memory};
 use js_walk::{Applied, Instance};
@@ -77,18 +77,18 @@ pub(crate) fn next_asked<'a>(
     ensures applied { IfOk result (λ o. MatchOption o (Unit {0}) (λ a. IsApplied schemas.now a)) }
     ensures is { IfOk result (λ _. IsAsking schemas.now asking.new) }
 {
-    let search = Search {
+    let search = PatternSearch {
         alloc,
         schemas,
         searchers,
     };
     match asking {
         Asking::One(one) => Ok(next_alone(schemas, one)),
-        Asking::List(list) => Ok(list.next_application(schemas)),
-        Asking::Names(names) => Ok(names.next_application(schemas)),
-        Asking::Items(items) => Ok(items.next_application(schemas)),
-        Asking::Members(members) => members.next_application(&search),
-        Asking::Patterns(patterns) => patterns.next_application(&search),
+        Asking::List(list) => Ok(list.next_in_list(schemas)),
+        Asking::Names(names) => Ok(names.next_of_names(schemas)),
+        Asking::Items(items) => Ok(items.next_on_item(schemas)),
+        Asking::Members(members) => members.next_on_member(&search),
+        Asking::Patterns(patterns) => patterns.next_matching(&search),
     }
 }
 

@@ -25,7 +25,7 @@ pub(crate) struct ItemCursor<'a> {
 
 impl<'a> ItemCursor<'a> {
     /// The next application, or None after the last.
-    pub fn next_application(&mut self, schemas: &'a Schemas) -> Option<Applied<'a>>
+    pub fn next_on_item(&mut self, schemas: &'a Schemas) -> Option<Applied<'a>>
         requires { IsHeld schemas.now self.old.held }
         ensures next { IsNext schemas.now (items_asked schemas.now self.old) result (items_asked schemas.now self.new) }
         ensures is { MatchOption result (Unit {0}) (λ a. IsApplied schemas.now a) }

@@ -20,7 +20,7 @@ pub(crate) struct ListCursor<'a> {
 
 impl<'a> ListCursor<'a> {
     /// The next application, or None after the last.
-    pub fn next_application(&mut self, schemas: &Schemas) -> Option<Applied<'a>>
+    pub fn next_in_list(&mut self, schemas: &Schemas) -> Option<Applied<'a>>
         requires { IsList schemas.now self.old }
         ensures next { IsNext schemas.now (list_asked schemas.now self.old) result (list_asked schemas.now self.new) }
         ensures applied { MatchOption result (Unit {0}) (λ a. IsApplied schemas.now a) }

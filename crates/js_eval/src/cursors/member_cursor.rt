@@ -13,7 +13,7 @@ ghost use Rattle.js_walk.specs.code.Terms.{entries, value_of};
 use crate::cursors::application::{Held, To, apply_to_part};
 use crate::schema::argument_in;
 use crate::searching::name_set::is_in;
-use crate::searching::searchers::{NamedPattern, Search};
+use crate::searching::searchers::{NamedPattern, PatternSearch};
 use js_bundle::{Place, Schemas, Step};
 use js_doc::{Doc, Members, Memory, Pairs};
 use js_walk::{Applied, object_in};
@@ -63,9 +63,9 @@ impl<'a> MemberCursor<'a> {
     ///
     /// # Errors
     /// `Memory` if an allocation fails; a search with a pattern may need one.
-    pub fn next_application(
+    pub fn next_on_member(
         &mut self,
-        search: &Search<'_, 'a>,
+        search: &PatternSearch<'_, 'a>,
     ) -> Result<Option<Applied<'a>>, Memory>
         requires { IsHeld search.now.schemas.now self.old.held }
         ensures next { IfOk result (λ o. IsNext search.now.schemas.now
@@ -85,7 +85,7 @@ impl<'a> MemberCursor<'a> {
 
 // The next chosen member.
 fn next_member<'a>(
-    search: &Search<'_, 'a>,
+    search: &PatternSearch<'_, 'a>,
     choice: &Choice<'a>,
     members: &mut Pairs<'a>,
 ) -> Result<Option<(&'a str, &'a Doc)>, Memory>
@@ -102,7 +102,11 @@ fn next_member<'a>(
     Ok(None)
 }
 
-fn is_chosen<'a>(search: &Search<'_, 'a>, choice: &Choice<'a>, name: &str) -> Result<bool, Memory>
+fn is_chosen<'a>(
+    search: &PatternSearch<'_, 'a>,
+    choice: &Choice<'a>,
+    name: &str,
+) -> Result<bool, Memory>
     ensures { IfOk result (λ b. b ≡ is_chosen choice.now name.now) }
 {
     match choice {
@@ -133,7 +137,7 @@ fn is_named(properties: Option<&Members>, name: &str) -> bool
 
 // Whether one of the patterns of `patternProperties` at the place matches the name, as stored or by searches.
 fn matches_any<'a>(
-    search: &Search<'_, 'a>,
+    search: &PatternSearch<'_, 'a>,
     place: Place,
     patterns: &'a Members,
     name: &str,

@@ -58,7 +58,7 @@ impl<'a> NameCursor<'a> {
     }
 
     /// The next application, or None after the last.
-    pub fn next_application(&mut self, schemas: &Schemas) -> Option<Applied<'a>>
+    pub fn next_of_names(&mut self, schemas: &Schemas) -> Option<Applied<'a>>
         requires { IsNames schemas.now self.old }
         ensures next { IsNext schemas.now (names_asked schemas.now self.old) result (names_asked schemas.now self.new) }
         ensures applied { MatchOption result (Unit {0}) (λ a. IsApplied schemas.now a) }

@@ -11,7 +11,7 @@ ghost use Rattle.js_walk.specs.code.Terms.{Documents, IsSchemaAt, pair_of, value
 
 use crate::cursors::member_cursor::pattern_of;
 use crate::schema::argument_in;
-use crate::searching::searchers::{NamedPattern, Search};
+use crate::searching::searchers::{NamedPattern, PatternSearch};
 use js_bundle::{Place, Step};
 use js_doc::{Doc, Members, Memory, Pairs};
 use js_walk::{Applied, Instance, KeywordAt, subschema_at};
@@ -65,9 +65,9 @@ impl<'a> PatternCursor<'a> {
     ///
     /// # Errors
     /// `Memory` if an allocation fails; a search with a pattern may need one.
-    pub fn next_application(
+    pub fn next_matching(
         &mut self,
-        search: &Search<'_, 'a>,
+        search: &PatternSearch<'_, 'a>,
     ) -> Result<Option<Applied<'a>>, Memory>
         requires { ArePatterns search.now.schemas.now self.old }
         ensures next { IfOk result (λ o. IsNext search.now.schemas.now
@@ -95,7 +95,7 @@ impl<'a> PatternCursor<'a> {
 
 // The next member that a pattern matches. That pattern is then the present one.
 fn next_match<'a>(
-    search: &Search<'_, 'a>,
+    search: &PatternSearch<'_, 'a>,
     cursor: &mut PatternCursor<'a>,
 ) -> Result<Option<(&'a str, &'a Doc)>, Memory>
     requires { ArePatterns search.now.schemas.now cursor.old }
@@ -123,7 +123,7 @@ fn next_match<'a>(
 
 // Makes a pattern the present one.
 fn begin<'a>(
-    search: &Search<'_, 'a>,
+    search: &PatternSearch<'_, 'a>,
     cursor: &mut PatternCursor<'a>,
     name: &'a str,
 ) -> Result<NamedPattern<'a>, Memory>
@@ -147,7 +147,7 @@ fn begin<'a>(
 
 // The next member whose name the pattern matches.
 fn next_member<'a>(
-    search: &Search<'_, 'a>,
+    search: &PatternSearch<'_, 'a>,
     pattern: NamedPattern<'a>,
     is_kept: bool,
     members: &mut Pairs<'a>,
@@ -168,7 +168,7 @@ fn next_member<'a>(
 }
 
 fn is_match<'a>(
-    search: &Search<'_, 'a>,
+    search: &PatternSearch<'_, 'a>,
     pattern: NamedPattern<'a>,
     is_kept: bool,
     name: &str,

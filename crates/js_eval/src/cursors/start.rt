@@ -9,16 +9,16 @@ use std::alloc::Global;
 
 /// A keyword of finished schemas, and the value that it is evaluated on.
 #[derive(Drop)]
-pub(crate) struct Start<'s, 'a> {
+pub(crate) struct CursorStart<'s, 'a> {
     pub alloc: Global,
     pub schemas: &'a Schemas,
     pub at: &'s KeywordAt<'a>,
     pub value: Instance<'a>,
 }
 
-impl<'a> Start<'_, 'a> {
+impl<'a> CursorStart<'_, 'a> {
     /// The members of the keyword's argument, if it is an object.
-    pub fn named(&self) -> Option<&'a Members>
+    pub fn argument_members(&self) -> Option<&'a Members>
         ensures { MatchOption result (entries (value_of self.now.at.now.keyword.argument.now) ≡ [])
             (λ ms. ms.now ≡ entries (value_of self.now.at.now.keyword.argument.now)) }
     {

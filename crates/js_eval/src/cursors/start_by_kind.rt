@@ -10,7 +10,7 @@ ghost use Rattle.js_walk.specs.code.Terms.{numbered_site, resource_of, schemas_o
 ghost use Rattle.js_walk.specs.SchemaSet as spec;
 
 use crate::cursors::asking::{Asking, alone};
-use crate::cursors::start::Start;
+use crate::cursors::start::CursorStart;
 use crate::cursors::{start_items, start_members};
 use js_bundle::{Place, Schemas};
 use js_doc::{Doc, Memory};
@@ -65,7 +65,7 @@ pub(crate) fn asking_of_keyword<'a>(
 {
     let Scene { path, scope, value } = scene;
     let condition = facts.condition;
-    let start = Start {
+    let start = CursorStart {
         alloc,
         schemas,
         at,
@@ -145,7 +145,7 @@ fn referred_dynamically<'a>(
 }
 
 // The keyword's schema, applied to the value itself.
-fn held<'a>(start: &Start<'_, 'a>) -> Asking<'a>
+fn held<'a>(start: &CursorStart<'_, 'a>) -> Asking<'a>
     requires { HoldsOne start.now.schemas.now start.now.at.now }
     ensures asked { asked start.now.schemas.now result ≡ by_keyword start.now.schemas.now start.now.at.now
         spec.Alone spec.Alone (instance_of start.now.value) ∷ [] }
@@ -157,7 +157,7 @@ fn held<'a>(start: &Start<'_, 'a>) -> Asking<'a>
 
 // The keyword's schema, applied to the value itself if the adjacent `if` has the wanted verdict. `condition`: its
 // verdict, or None without an `if`.
-fn held_if<'a>(start: &Start<'_, 'a>, condition: Option<bool>, wanted: bool) -> Asking<'a>
+fn held_if<'a>(start: &CursorStart<'_, 'a>, condition: Option<bool>, wanted: bool) -> Asking<'a>
     requires { HoldsOne start.now.schemas.now start.now.at.now }
     ensures asked { asked start.now.schemas.now result ≡ applied_if wanted condition
         (by_keyword start.now.schemas.now start.now.at.now spec.Alone spec.Alone (instance_of start.now.value) ∷ []) }

@@ -13,14 +13,14 @@ use crate::cursors::application::{Held, To};
 use crate::cursors::asking::Asking;
 use crate::cursors::item_cursor::ItemCursor;
 use crate::cursors::list_cursor::ListCursor;
-use crate::cursors::start::Start;
+use crate::cursors::start::CursorStart;
 use crate::schema::argument_in;
 use js_doc::{Doc, Memory};
 use js_walk::{KeywordAt, array_in, held_below};
 use std::alloc::Global;
 
 /// Each schema of a keyword's list, applied to the value itself.
-pub(crate) fn each_in_list<'a>(start: &Start<'_, 'a>) -> Asking<'a>
+pub(crate) fn each_in_list<'a>(start: &CursorStart<'_, 'a>) -> Asking<'a>
     requires { HoldsBy is_index start.now.at.now }
     ensures asked { (documents : Documents) → asked documents result
         ≡ map (λ e. by_keyword documents start.now.at.now (spec.Index e.0) spec.Alone (instance_of start.now.value))
@@ -42,7 +42,7 @@ pub(crate) fn each_in_list<'a>(start: &Start<'_, 'a>) -> Asking<'a>
 }
 
 /// Each schema of `prefixItems`, applied to the item at the same index.
-pub(crate) fn prefix<'a>(start: &Start<'_, 'a>) -> Asking<'a>
+pub(crate) fn prefix<'a>(start: &CursorStart<'_, 'a>) -> Asking<'a>
     requires { IsAtPlace start.now.schemas.now start.now.at.now }
     ensures asked { asked start.now.schemas.now result
         ≡ map (λ e. by_keyword start.now.schemas.now start.now.at.now (spec.Index e.0) (spec.Index e.0) e.1)
@@ -74,7 +74,7 @@ fn first_of(items: &[Doc], count: usize) -> &[Doc]
 }
 
 /// The schema of `items`, applied to each item after those that the adjacent `prefixItems` has schemas for.
-pub(crate) fn following<'a>(start: &Start<'_, 'a>) -> Asking<'a>
+pub(crate) fn following<'a>(start: &CursorStart<'_, 'a>) -> Asking<'a>
     requires { HoldsOne start.now.schemas.now start.now.at.now }
     ensures asked { asked start.now.schemas.now result ≡ on_items start.now.schemas.now start.now.at.now
         (filter (λ e. nat_le (prefix_length (entries (value_of start.now.at.now.schema.now))) e.0)
@@ -87,7 +87,7 @@ pub(crate) fn following<'a>(start: &Start<'_, 'a>) -> Asking<'a>
 }
 
 /// The schema of `contains`, applied to each item.
-pub(crate) fn every<'a>(start: &Start<'_, 'a>) -> Asking<'a>
+pub(crate) fn every<'a>(start: &CursorStart<'_, 'a>) -> Asking<'a>
     requires { HoldsOne start.now.schemas.now start.now.at.now }
     ensures asked { asked start.now.schemas.now result
         ≡ on_items start.now.schemas.now start.now.at.now (indexed (instance_of start.now.value)) }
@@ -96,7 +96,7 @@ pub(crate) fn every<'a>(start: &Start<'_, 'a>) -> Asking<'a>
     from_index(start, 0)
 }
 
-fn from_index<'a>(start: &Start<'_, 'a>, first: usize) -> Asking<'a>
+fn from_index<'a>(start: &CursorStart<'_, 'a>, first: usize) -> Asking<'a>
     requires { HoldsOne start.now.schemas.now start.now.at.now }
     ensures asked { asked start.now.schemas.now result ≡ on_items start.now.schemas.now start.now.at.now
         (filter (λ e. nat_le first e.0) (indexed (instance_of start.now.value))) }
@@ -127,7 +127,7 @@ fn prefix_length_in(schema: &Doc) -> usize
 /// # Errors
 /// `Memory` if an allocation fails.
 pub(crate) fn unevaluated_items<'a>(
-    start: &Start<'_, 'a>,
+    start: &CursorStart<'_, 'a>,
     indexes: &[usize],
 ) -> Result<Asking<'a>, Memory>
     requires { HoldsOne start.now.schemas.now start.now.at.now }

@@ -20,7 +20,7 @@ use crate::cursors::asking::{Asking, in_box};
 use crate::cursors::member_cursor::{Adjacent, Choice, MemberCursor, object_at};
 use crate::cursors::name_cursor::{Among, NameCursor};
 use crate::cursors::pattern_cursor::PatternCursor;
-use crate::cursors::start::Start;
+use crate::cursors::start::CursorStart;
 use crate::searching::name_set::set_of;
 use js_doc::{Members, Memory};
 use js_walk::{KeywordAt, held_below, names_ascend};
@@ -40,7 +40,7 @@ const PER_NAME: usize = 2;
 ///
 /// # Errors
 /// `Memory` if an allocation fails.
-pub(crate) fn dependent<'a>(start: &Start<'_, 'a>) -> Result<Asking<'a>, Memory>
+pub(crate) fn dependent<'a>(start: &CursorStart<'_, 'a>) -> Result<Asking<'a>, Memory>
     requires { IsAtPlace start.now.schemas.now start.now.at.now }
     ensures asked { IfOk result (λ a. asked start.now.schemas.now a
         ≡ map (λ m. by_keyword start.now.schemas.now start.now.at.now (spec.Name m.0) spec.Alone
@@ -49,7 +49,7 @@ pub(crate) fn dependent<'a>(start: &Start<'_, 'a>) -> Result<Asking<'a>, Memory>
         (entries (value_of start.now.at.now.keyword.argument.now)))) }
     ensures is { IfOk result (λ a. IsAsking start.now.schemas.now a) }
 {
-    let Some(named) = start.named() else {
+    let Some(named) = start.argument_members() else {
         return Ok(Asking::One(None));
     };
     match start.value.object() {
@@ -72,7 +72,7 @@ pub(crate) fn dependent<'a>(start: &Start<'_, 'a>) -> Result<Asking<'a>, Memory>
 ///
 /// # Errors
 /// `Memory` if an allocation fails.
-pub(crate) fn properties<'a>(start: &Start<'_, 'a>) -> Result<Asking<'a>, Memory>
+pub(crate) fn properties<'a>(start: &CursorStart<'_, 'a>) -> Result<Asking<'a>, Memory>
     requires { HoldsBy is_name start.now.at.now }
     ensures asked { IfOk result (λ a. (documents : Documents) → asked documents a
         ≡ on_namesakes documents start.now.at.now
@@ -81,7 +81,7 @@ pub(crate) fn properties<'a>(start: &Start<'_, 'a>) -> Result<Asking<'a>, Memory
     ensures is { IfOk result (λ a. (documents : Documents) → IsAtPlace documents start.now.at.now
         → IsAsking documents a) }
 {
-    let Some(named) = start.named() else {
+    let Some(named) = start.argument_members() else {
         return Ok(Asking::One(None));
     };
     match start.value.object() {
@@ -132,7 +132,7 @@ fn among_members<'a>(named: &'a Members, members: &'a Members) -> Among<'a>
 ///
 /// # Errors
 /// `Memory` if an allocation fails.
-pub(crate) fn patterns<'a>(start: &Start<'_, 'a>) -> Result<Asking<'a>, Memory>
+pub(crate) fn patterns<'a>(start: &CursorStart<'_, 'a>) -> Result<Asking<'a>, Memory>
     requires { IsAtPlace start.now.schemas.now start.now.at.now }
     ensures asked { IfOk result (λ a. asked start.now.schemas.now a
         ≡ flat_map (λ p. map (λ m. by_keyword start.now.schemas.now start.now.at.now (spec.Name p.0) (spec.Name m.0)
@@ -140,7 +140,7 @@ pub(crate) fn patterns<'a>(start: &Start<'_, 'a>) -> Result<Asking<'a>, Memory>
         (entries (value_of start.now.at.now.keyword.argument.now))) }
     ensures is { IfOk result (λ a. IsAsking start.now.schemas.now a) }
 {
-    let Some(patterns) = start.named() else {
+    let Some(patterns) = start.argument_members() else {
         return Ok(Asking::One(None));
     };
     match start.value.object() {
@@ -156,7 +156,7 @@ pub(crate) fn patterns<'a>(start: &Start<'_, 'a>) -> Result<Asking<'a>, Memory>
 ///
 /// # Errors
 /// `Memory` if an allocation fails.
-pub(crate) fn additional<'a>(start: &Start<'_, 'a>) -> Result<Asking<'a>, Memory>
+pub(crate) fn additional<'a>(start: &CursorStart<'_, 'a>) -> Result<Asking<'a>, Memory>
     requires { HoldsOne start.now.schemas.now start.now.at.now }
     ensures asked { IfOk result (λ a. asked start.now.schemas.now a
         ≡ on_members start.now.schemas.now start.now.at.now
@@ -185,7 +185,7 @@ pub(crate) fn additional<'a>(start: &Start<'_, 'a>) -> Result<Asking<'a>, Memory
 ///
 /// # Errors
 /// `Memory` if an allocation fails.
-pub(crate) fn property_names<'a>(start: &Start<'_, 'a>) -> Result<Asking<'a>, Memory>
+pub(crate) fn property_names<'a>(start: &CursorStart<'_, 'a>) -> Result<Asking<'a>, Memory>
     requires { HoldsOne start.now.schemas.now start.now.at.now }
     ensures asked { IfOk result (λ a. asked start.now.schemas.now a
         ≡ map (λ m. by_keyword start.now.schemas.now start.now.at.now spec.Alone (spec.Name m.0) (text m.0))
@@ -204,7 +204,7 @@ pub(crate) fn property_names<'a>(start: &Start<'_, 'a>) -> Result<Asking<'a>, Me
 /// # Errors
 /// `Memory` if an allocation fails.
 pub(crate) fn unevaluated_properties<'a>(
-    start: &Start<'_, 'a>,
+    start: &CursorStart<'_, 'a>,
     evaluated: &[&'a str],
 ) -> Result<Asking<'a>, Memory>
     requires { HoldsOne start.now.schemas.now start.now.at.now }
@@ -224,7 +224,7 @@ pub(crate) fn unevaluated_properties<'a>(
 // The keyword's schema, applied to each chosen member, or to its name.
 #[inline(always)]
 fn on_chosen<'a>(
-    start: &Start<'_, 'a>,
+    start: &CursorStart<'_, 'a>,
     to: To<'a>,
     members: &'a Members,
     choice: Choice<'a>,

@@ -27,7 +27,7 @@ pub(crate) struct NamedPattern<'p> {
 
 /// What a search with a pattern of finished schemas takes.
 #[derive(Drop)]
-pub(crate) struct Search<'s, 'p> {
+pub(crate) struct PatternSearch<'s, 'p> {
     pub alloc: Global,
     pub schemas: &'p Schemas,
     pub searchers: &'s Searchers<'p>,

@@ -4,8 +4,8 @@ use Rattle.std.proofs.lemmas.Bool.{and_parts, eqb-true}
 use Rattle.std.proofs.lemmas.List.{length-drop, take-append-drop, take-take}
 use Rattle.js_doc.specs.Pointer.{Tokens, token_text}
 use Rattle.js_doc.proofs.Named.{is_text-sound}
-use Rattle.js_places.specs.declared.index.text_prefix.Representation.{Representation}
-use Rattle.js_places.specs.declared.index.text_prefix.Representation.TheVariants.{Plain, Fragment}
+use Rattle.js_places.specs.declared.index.text_prefix.Notation.{Notation}
+use Rattle.js_places.specs.declared.index.text_prefix.Notation.TheVariants.{Plain, Fragment}
 use Rattle.js_places.specs.declared.index.text_prefix.TextPrefix.{TextPrefix}
 use Rattle.js_places.specs.code.TextPrefix.{tokens_alike, text_of_tokens, BeginsWithTokens, BeginsKey, BeginsLocation, IsExtended}
 use Rattle.js_places.specs.code.KeptLocation.{repeated}
@@ -53,16 +53,16 @@ shared_ends q p i e = by_lists (drop i q) (drop i p) (length-drop i q) (length-d
 -- ---- the texts of one place
 
 -- the first n tokens are those of another text with the same head
-goes_on : (head : List ℕ) (form : Representation) (p q : Tokens) (b : TextPrefix) → BeginsWithTokens head form p b → take b.tokens p ≡ take b.tokens q → BeginsWithTokens head form q b
+goes_on : (head : List ℕ) (form : Notation) (p q : Tokens) (b : TextPrefix) → BeginsWithTokens head form p b → take b.tokens p ≡ take b.tokens q → BeginsWithTokens head form q b
 goes_on head form p q b h same = record { text = h.text ∙ ap (λ ts. head ++ text_of_tokens form ts) same }
 
-further : (head : List ℕ) (form : Representation) (p q : Tokens) → (head ++ text_of_tokens form p) ++ text_of_tokens form q ≡ head ++ text_of_tokens form (p ++ q)
+further : (head : List ℕ) (form : Notation) (p q : Tokens) → (head ++ text_of_tokens form p) ++ text_of_tokens form q ≡ head ++ text_of_tokens form (p ++ q)
 further head form p q = append_assoc head (text_of_tokens form p) (text_of_tokens form q) ∙ ap (λ x. head ++ x) (sym (written_append form p q))
 
 front_and_rest : (n m : ℕ) (p : Tokens) → n ≤ m → take n p ++ drop n (take m p) ≡ take m p
 front_and_rest n m p h = ap (λ f. f ++ drop n (take m p)) (sym (take-take n m p h)) ∙ take-append-drop n (take m p)
 
-pub extended_begins : (head : List ℕ) (form : Representation) (p q : Tokens) (count : ℕ) (old new : TextPrefix) (text : List ℕ) → q ≡ p → BeginsWithTokens head form p old → old.tokens ≤ count
+pub extended_begins : (head : List ℕ) (form : Notation) (p q : Tokens) (count : ℕ) (old new : TextPrefix) (text : List ℕ) → q ≡ p → BeginsWithTokens head form p old → old.tokens ≤ count
     → IsExtended form q count old new text → BeginsWithTokens head form p new
 extended_begins head form p q count old new text same h low e =
     let more = drop old.tokens (take count p) in
@@ -71,7 +71,7 @@ extended_begins head form p q count old new text same h low e =
           ∙ ap (λ ts. head ++ text_of_tokens form ts) (front_and_rest old.tokens count p low) ∙ ap (λ n. head ++ text_of_tokens form (take n p)) (sym e.reached);
     }
 
-pub extended_whole : (head : List ℕ) (form : Representation) (p q : Tokens) (count : ℕ) (old new : TextPrefix) (text : List ℕ) → q ≡ p → BeginsWithTokens head form p old → old.tokens ≤ count
+pub extended_whole : (head : List ℕ) (form : Notation) (p q : Tokens) (count : ℕ) (old new : TextPrefix) (text : List ℕ) → q ≡ p → BeginsWithTokens head form p old → old.tokens ≤ count
     → IsExtended form q count old new text → text ≡ head ++ text_of_tokens form p
 extended_whole head form p q count old new text same h low e =
     let begun = extended_begins head form p q count old new text same h low e in

@@ -4,15 +4,15 @@ use Rattle.std.proofs.lemmas.List.{drop_more}
 use Rattle.std.proofs.lemmas.List.Concat.{flat_map-append}
 use Rattle.js_doc.specs.Fragment.{fragment_byte, fragment_text}
 use Rattle.js_doc.specs.Pointer.{Tokens, pointer_text, token_text}
-use Rattle.js_places.specs.declared.index.text_prefix.Representation.{Representation}
-use Rattle.js_places.specs.declared.index.text_prefix.Representation.TheVariants.{Plain, Fragment}
+use Rattle.js_places.specs.declared.index.text_prefix.Notation.{Notation}
+use Rattle.js_places.specs.declared.index.text_prefix.Notation.TheVariants.{Plain, Fragment}
 use Rattle.js_places.specs.code.TextPrefix.{token_written, text_of_tokens}
 
-written_first : (form : Representation) (t : List ℕ) (p : Tokens) → text_of_tokens form (t ∷ p) ≡ token_written form t ++ text_of_tokens form p
+written_first : (form : Notation) (t : List ℕ) (p : Tokens) → text_of_tokens form (t ∷ p) ≡ token_written form t ++ text_of_tokens form p
 written_first Plain t p = refl
 written_first Fragment t p = flat_map-append fragment_byte (token_text t) (pointer_text p)
 
-pub written_append : (form : Representation) (p q : Tokens) → text_of_tokens form (p ++ q) ≡ text_of_tokens form p ++ text_of_tokens form q
+pub written_append : (form : Notation) (p q : Tokens) → text_of_tokens form (p ++ q) ≡ text_of_tokens form p ++ text_of_tokens form q
 written_append Plain [] q = refl
 written_append Fragment [] q = refl
 written_append form (t ∷ p) q =
@@ -20,7 +20,7 @@ written_append form (t ∷ p) q =
     ∙ ap (λ x. x ++ text_of_tokens form q) (sym (written_first form t p))
 
 -- a token more is written
-pub written_next : (form : Representation) (tokens : Tokens) (i : ℕ) (token k : List ℕ) (before after whole : List ℕ) → i < length tokens → token ≡ get_or tokens i token → k ≡ token
+pub written_next : (form : Notation) (tokens : Tokens) (i : ℕ) (token k : List ℕ) (before after whole : List ℕ) → i < length tokens → token ≡ get_or tokens i token → k ≡ token
     → after ≡ before ++ token_written form k → before ++ text_of_tokens form (drop i tokens) ≡ whole → after ++ text_of_tokens form (drop (i + 1) tokens) ≡ whole
 written_next form tokens i token k before after whole low is same pushed h =
     ap (λ x. x ++ text_of_tokens form (drop (i + 1) tokens)) (pushed ∙ ap (λ x. before ++ token_written form x) same)

@@ -5,7 +5,7 @@ ghost use Rattle.js_places.specs.code.TextPrefix.{BeginsKey, shared_with};
 ghost use Rattle.js_places.specs.code.Index.{place_key, name_key};
 ghost use Rattle.js_places.specs.code.Scan.{site_of};
 
-use crate::index::text_prefix::{Representation, Step, TextPrefix, push_tokens, room_for};
+use crate::index::text_prefix::{Neighbours, Notation, TextPrefix, push_tokens, room_for};
 use js_doc::{Memory, Pointer, push_token};
 use std::alloc::Global;
 
@@ -16,7 +16,7 @@ pub(crate) fn place_key(alloc: Global, document: usize, pointer: &Pointer) -> Re
     let room = room_for(pointer.tokens(), 0).saturating_add(2);
     let mut key = String::with_capacity(alloc, room)?;
     push_document(&mut key, document)?;
-    push_tokens(&mut key, Representation::Plain, pointer.tokens(), 0)?;
+    push_tokens(&mut key, Notation::Plain, pointer.tokens(), 0)?;
     Ok(key)
 }
 
@@ -32,7 +32,7 @@ pub fn name_key(
     let mut key = String::new(alloc);
     push_document(&mut key, document)?;
     push_token(&mut key, name)?;
-    push_tokens(&mut key, Representation::Plain, root.tokens(), 0)?;
+    push_tokens(&mut key, Notation::Plain, root.tokens(), 0)?;
     Ok(key)
 }
 
@@ -44,29 +44,29 @@ fn push_document(key: &mut String, document: usize) -> Result<(), Memory>
 }
 
 /// Makes the key of a place, and its prefix, from the prefix of the key before it.
-pub(crate) fn next_key(prefix: &mut TextPrefix, step: Step<'_>) -> Result<String, Memory>
-    requires before { MatchOption step.before (Unit {0}) (λ b. BeginsKey prefix.old (site_of b.now)) }
-    requires shared { step.shared ≡ shared_with (option_map (λ b. site_of b.now) step.before) (site_of step.site.now) }
-    ensures begins { OnOk result (BeginsKey prefix.new (site_of step.entry.site.now)) }
+pub(crate) fn next_key(prefix: &mut TextPrefix, pair: Neighbours<'_>) -> Result<String, Memory>
+    requires before { MatchOption pair.before (Unit {0}) (λ b. BeginsKey prefix.old (site_of b.now)) }
+    requires shared { pair.shared ≡ shared_with (option_map (λ b. site_of b.now) pair.before) (site_of pair.site.now) }
+    ensures begins { OnOk result (BeginsKey prefix.new (site_of pair.entry.site.now)) }
     ensures key { IfOk result (λ t. string_bytes t
-        ≡ place_key step.entry.site.now.document step.entry.site.now.pointer.value) }
+        ≡ place_key pair.entry.site.now.document pair.entry.site.now.pointer.value) }
 {
-    let tokens = step.site.pointer.tokens();
+    let tokens = pair.site.pointer.tokens();
     let count = tokens.len().saturating_sub(1);
-    begin_key(prefix, step, step.shared.min(count))?;
-    prefix.extend(step.alloc, Representation::Plain, tokens, count)
+    begin_key(prefix, pair, pair.shared.min(count))?;
+    prefix.extend(pair.alloc, Notation::Plain, tokens, count)
 }
 
 // Leaves the prefix as it is where it is one of the place's key too, with no more tokens than that. Else it begins
 // with no token.
-fn begin_key(prefix: &mut TextPrefix, step: Step<'_>, most: usize) -> Result<(), Memory>
-    requires before { MatchOption step.before (Unit {0}) (λ b. BeginsKey prefix.old (site_of b.now)) }
-    requires most { most ≤ shared_with (option_map (λ b. site_of b.now) step.before) (site_of step.site.now) }
-    ensures begins { OnOk result (BeginsKey prefix.new (site_of step.entry.site.now)) }
+fn begin_key(prefix: &mut TextPrefix, pair: Neighbours<'_>, most: usize) -> Result<(), Memory>
+    requires before { MatchOption pair.before (Unit {0}) (λ b. BeginsKey prefix.old (site_of b.now)) }
+    requires most { most ≤ shared_with (option_map (λ b. site_of b.now) pair.before) (site_of pair.site.now) }
+    ensures begins { OnOk result (BeginsKey prefix.new (site_of pair.entry.site.now)) }
     ensures within { OnOk result (prefix.new.tokens ≤ most) }
 {
-    let site = step.site;
-    match step.before {
+    let site = pair.site;
+    match pair.before {
         Some(before) if before.document == site.document && prefix.tokens <= most => Ok(()),
         _ => begin_key_anew(prefix, site.document),
     }

@@ -9,7 +9,7 @@ ghost use Rattle.js_places.specs.code.Scan.{site_of};
 ghost use Rattle.js_places.specs.Url.{printed};
 
 use crate::index::kept_location::{KeptLocation, is_long, repeated};
-use crate::index::text_prefix::{Representation, Step, TextPrefix, push_tokens};
+use crate::index::text_prefix::{Neighbours, Notation, TextPrefix, push_tokens};
 use crate::scan::scope::Scope;
 use crate::scan::site::Site;
 use crate::uri;
@@ -29,7 +29,7 @@ pub fn absolute_location(
     let mut text = String::new(alloc);
     push_resource_uri(&mut text, scope)?;
     let root = scope.resource.tokens().len();
-    push_tokens(&mut text, Representation::Fragment, pointer.tokens(), root)?;
+    push_tokens(&mut text, Notation::Fragment, pointer.tokens(), root)?;
     push_keyword(&mut text, keyword)?;
     Ok(text)
 }
@@ -53,18 +53,21 @@ fn push_keyword(text: &mut String, keyword: Option<&str>) -> Result<(), Memory>
 }
 
 /// Makes what is kept of the location of a place, and its prefix, from the prefix of that of the place before it.
-pub(crate) fn next_location(prefix: &mut TextPrefix, step: Step<'_>) -> Result<KeptLocation, Memory>
-    requires before { MatchOption step.before (Unit {0}) (λ b. BeginsLocation prefix.old (site_of b.now)) }
-    requires shared { step.shared ≡ shared_with (option_map (λ b. site_of b.now) step.before) (site_of step.site.now) }
-    ensures begins { OnOk result (BeginsLocation prefix.new (site_of step.entry.site.now)) }
-    ensures location { IfOk result (λ l. l ≡ kept_location (site_of step.entry.site.now)) }
+pub(crate) fn next_location(
+    prefix: &mut TextPrefix,
+    pair: Neighbours<'_>,
+) -> Result<KeptLocation, Memory>
+    requires before { MatchOption pair.before (Unit {0}) (λ b. BeginsLocation prefix.old (site_of b.now)) }
+    requires shared { pair.shared ≡ shared_with (option_map (λ b. site_of b.now) pair.before) (site_of pair.site.now) }
+    ensures begins { OnOk result (BeginsLocation prefix.new (site_of pair.entry.site.now)) }
+    ensures location { IfOk result (λ l. l ≡ kept_location (site_of pair.entry.site.now)) }
 {
-    let site = step.site;
+    let site = pair.site;
     let root = site.own.resource.tokens().len();
     let way = way_from(site.pointer.tokens(), root);
     let count = way.len().saturating_sub(1);
-    begin_location(prefix, step, step.shared.saturating_sub(root).min(count))?;
-    let text = prefix.extend(step.alloc, Representation::Fragment, way, count)?;
+    begin_location(prefix, pair, pair.shared.saturating_sub(root).min(count))?;
+    let text = prefix.extend(pair.alloc, Notation::Fragment, way, count)?;
     Ok(KeptLocation {
         text: Text::new(text),
         is_fragment: is_long(uri::printed(&site.own.base)),
@@ -83,15 +86,15 @@ fn way_from(tokens: &[Token], root: usize) -> &[Token]
 
 // Leaves the prefix as it is where it is one of the place's location too, with no more tokens than that. Else it
 // begins with no token.
-fn begin_location(prefix: &mut TextPrefix, step: Step<'_>, most: usize) -> Result<(), Memory>
-    requires before { MatchOption step.before (Unit {0}) (λ b. BeginsLocation prefix.old (site_of b.now)) }
-    requires most { most ≤ shared_with (option_map (λ b. site_of b.now) step.before) (site_of step.site.now)
-        - length step.site.now.own.value.resource }
-    ensures begins { OnOk result (BeginsLocation prefix.new (site_of step.entry.site.now)) }
+fn begin_location(prefix: &mut TextPrefix, pair: Neighbours<'_>, most: usize) -> Result<(), Memory>
+    requires before { MatchOption pair.before (Unit {0}) (λ b. BeginsLocation prefix.old (site_of b.now)) }
+    requires most { most ≤ shared_with (option_map (λ b. site_of b.now) pair.before) (site_of pair.site.now)
+        - length pair.site.now.own.value.resource }
+    ensures begins { OnOk result (BeginsLocation prefix.new (site_of pair.entry.site.now)) }
     ensures within { OnOk result (prefix.new.tokens ≤ most) }
 {
-    let site = step.site;
-    match step.before {
+    let site = pair.site;
+    match pair.before {
         Some(before) if begins_as(before, site) && prefix.tokens <= most => Ok(()),
         _ => begin_location_anew(prefix, &site.own),
     }

@@ -8,7 +8,7 @@ use crate::index::kept_location::KeptLocation;
 use crate::index::keys::next_key;
 use crate::index::location::next_location;
 use crate::index::resource_table::begins_resource;
-use crate::index::text_prefix::{Step, TextPrefix, shared_with};
+use crate::index::text_prefix::{Neighbours, TextPrefix, shared_with};
 use crate::scan::site::Site;
 use js_doc::Memory;
 use std::alloc::Global;
@@ -74,16 +74,16 @@ impl Positions {
         ensures positions { OnOk result
             (HasPositionAdded self.old (map site_of earlier.now) (site_of site.now) self.new) }
     {
-        let step = Step {
+        let pair = Neighbours {
             alloc,
             before,
             site,
             shared: shared_with(before, site),
         };
         self.roots.push(begins_resource(site))?;
-        let key = next_key(&mut prefixes.key, step)?;
+        let key = next_key(&mut prefixes.key, pair)?;
         self.index.add_place(alloc, site, earlier.len(), key)?;
-        let location = next_location(&mut prefixes.location, step)?;
+        let location = next_location(&mut prefixes.location, pair)?;
         self.locations.push(location)?;
         Ok(())
     }

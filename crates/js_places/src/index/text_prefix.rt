@@ -9,7 +9,7 @@ use std::alloc::Global;
 
 /// How tokens are written (RFC 6901, sections 5 and 6).
 #[derive(Clone, Copy)]
-pub(crate) enum Representation {
+pub(crate) enum Notation {
     /// As a pointer's text.
     Plain,
     /// As a URI's fragment.
@@ -26,7 +26,7 @@ pub(crate) struct TextPrefix {
 
 /// A place, and the one before it. Memory comes from `alloc`.
 #[derive(Clone, Copy)]
-pub(crate) struct Step<'s> {
+pub(crate) struct Neighbours<'s> {
     pub(crate) alloc: Global,
     pub(crate) before: Option<&'s Site<'s>>,
     pub(crate) site: &'s Site<'s>,
@@ -46,7 +46,7 @@ impl TextPrefix {
     pub(crate) fn extend(
         &mut self,
         alloc: Global,
-        form: Representation,
+        form: Notation,
         tokens: &[Token],
         count: usize,
     ) -> Result<String, Memory>
@@ -60,12 +60,7 @@ impl TextPrefix {
     }
 
     // Adds the first tokens to it.
-    fn continue_to(
-        &mut self,
-        form: Representation,
-        tokens: &[Token],
-        count: usize,
-    ) -> Result<(), Memory>
+    fn continue_to(&mut self, form: Notation, tokens: &[Token], count: usize) -> Result<(), Memory>
         requires { count ≤ length tokens.now }
         ensures text { OnOk result (string_bytes self.new.text
             ≡ string_bytes self.old.text ++ spec.text_of_tokens form (drop self.old.tokens (take count tokens.now))) }
@@ -93,7 +88,7 @@ impl TextPrefix {
 /// Writes the tokens after the first ones.
 pub(crate) fn push_tokens(
     text: &mut String,
-    form: Representation,
+    form: Notation,
     tokens: &[Token],
     from: usize,
 ) -> Result<(), Memory>
@@ -106,12 +101,12 @@ pub(crate) fn push_tokens(
     Ok(())
 }
 
-fn push_one(text: &mut String, form: Representation, token: &str) -> Result<(), Memory>
+fn push_one(text: &mut String, form: Notation, token: &str) -> Result<(), Memory>
     ensures { OnOk result (string_bytes text.new ≡ string_bytes text.old ++ spec.token_written form token.now) }
 {
     match form {
-        Representation::Plain => push_token(text, token),
-        Representation::Fragment => push_fragment_token(text, token),
+        Notation::Plain => push_token(text, token),
+        Notation::Fragment => push_fragment_token(text, token),
     }
 }
 

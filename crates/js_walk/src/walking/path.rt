@@ -14,7 +14,7 @@ pub struct Path {
 
 /// The dynamic scope of a keyword (Core, section 7.1).
 #[derive(Clone, Copy)]
-pub struct Scope<'p> {
+pub struct ScopedPath<'p> {
     /// The places of the schemas being applied, from the root's to that of the keyword's schema.
     pub path: &'p Path,
     /// The numbers of their schema resources, without consecutive repeats.

@@ -16,7 +16,7 @@ ghost use Rattle.js_walk.specs.declared.keywords.kind.Kind.TheVariants.{Assertio
 
 use crate::keywords::kind::Kind;
 use crate::walking::keeping::{cut_unless, keep, origins_of};
-use crate::walking::path::Scope;
+use crate::walking::path::ScopedPath;
 use crate::walking::pointer_text::PointerText;
 use crate::walking::reporter::Reporter;
 use crate::walking::tally::{Case, Judged, Judging, Others, Tally, Together};
@@ -126,7 +126,7 @@ pub(crate) fn begin_asking<W: World, H: PointerText + Drop>(
         condition (map W.text_of (drop start.names way.now.names.items)) (drop start.indexes way.now.indexes.items)) }
     ensures is { IfOk result (λ a. W.is_asking world.now a) }
 {
-    let scope = Scope {
+    let scope = ScopedPath {
         path: &way.path,
         resources: way.scope.resource_numbers(),
     };

@@ -16,7 +16,7 @@ ghost use Rattle.js_walk.specs.Walk.Told.{IsKeywordAt, asked_by, accepts_at, key
 ghost use Rattle.js_walk.specs.Walk.Told.{at_step};
 
 use crate::keywords::kind::Kind;
-use crate::walking::path::Scope;
+use crate::walking::path::ScopedPath;
 use crate::walking::pointer_text::PointerText;
 use crate::walking::tally::{Others, Tally};
 use crate::walking::trail::Trail;
@@ -137,7 +137,7 @@ pub trait World {
     fn asking(
         &self,
         alloc: Global,
-        scope: Scope,
+        scope: ScopedPath,
         place: Place,
         schema: Self::Schema,
         value: Self::Value,

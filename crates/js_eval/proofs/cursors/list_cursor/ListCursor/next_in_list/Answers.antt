@@ -4,7 +4,7 @@ use Rattle.js_assert.specs.Argument.{values}
 use Rattle.js_doc.specs.Seen.{value_of}
 use Rattle.js_walk.specs.Seen.{keyword_of}
 use Rattle.js_walk.proofs.Holding.{item_ranked}
-use Rattle.js_eval.proofs.cursors.list_cursor.ListCursor.next_application.Goals as goal
+use Rattle.js_eval.proofs.cursors.list_cursor.ListCursor.next_in_list.Goals as goal
 
 pub apply_at_rank-requires-clause-held : goal.apply_at_rank-requires-clause-held
 apply_at_rank-requires-clause-held c =

@@ -2,7 +2,7 @@ use Rattle.js_assert.specs.Argument.{entries}
 use Rattle.js_doc.specs.Seen.{value_of}
 use Rattle.js_walk.specs.Seen.{keyword_of}
 use Rattle.js_walk.proofs.Holding.{member_ranked}
-use Rattle.js_eval.proofs.cursors.name_cursor.NameCursor.next_application.Goals as goal
+use Rattle.js_eval.proofs.cursors.name_cursor.NameCursor.next_of_names.Goals as goal
 
 pub apply_at_rank-requires-clause-held : goal.apply_at_rank-requires-clause-held
 apply_at_rank-requires-clause-held c =
