@@ -2,7 +2,7 @@
 //! `c/jschema.h`.
 #![tactic(auto)]
 
-ghost use Rattle.std.specs.Prelude.{◌≡◌, ◌≢◌, None, IfSome, length};
+ghost use Rattle.std.specs.Prelude.{◌≡◌, ◌≢◌, None, IfSome, IsSomeAnd, length};
 ghost use Rattle.jschema_c.specs.Exports.{IsNew, OnHandle, SessionAdds, SessionFinishes, SessionLists, SessionEnters};
 ghost use Rattle.jschema_c.specs.Exports.{AnswersNumber, IsPut, SessionChecks, Shares, copied};
 ghost use Rattle.jschema_c.specs.Status.{code};
@@ -21,7 +21,7 @@ use std::alloc::Global;
 /// Begins anew, without documents. What the handle held is dropped.
 #[unsafe(no_mangle)]
 pub extern "C" fn jschema_new(alloc: Global, handle: &mut Handle) -> u32
-    ensures made { result ≡ code Status.Done → IfSome handle.new.value IsNew }
+    ensures made { result ≡ code Status.Done → IsSomeAnd handle.new.value IsNew }
     ensures refused { result ≢ code Status.Done
         → (result ≡ code Status.Failed) × (handle.new.value ≡ None) }
 {
